@@ -1,0 +1,4 @@
+pub mod PieceLemmas
+pub mod ScanLemmas
+pub mod PlacingLemmas
+pub mod Examples
