@@ -1,0 +1,7 @@
+pub mod Elements
+pub mod Propagates
+pub mod Tests
+pub mod Laws
+pub mod Histories
+pub mod StepLemmas
+pub mod FirstRefusals

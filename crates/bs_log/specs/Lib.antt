@@ -1,0 +1,9 @@
+pub mod History
+pub mod Propagation
+pub mod Refusal
+pub mod Kept
+pub mod Lean
+pub mod Refutation
+pub mod Steps
+pub mod FirstRefused
+pub mod LineText
