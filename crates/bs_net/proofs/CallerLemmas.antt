@@ -1,0 +1,41 @@
+-- What a caller's proof cites of the definitions.
+use Rattle.std.proofs.Common.{◌≡◌, ℕ, suc, zero, ◌<◌, ◌+◌, Bool, true, false, List, [], ◌∷◌, ◌++◌, map, length, get_or, refl, ap, sym, ◌∙◌, add-one, arith, zero-add}
+use Rattle.std.specs.List.{All, range_with_len}
+use Rattle.std.proofs.lemmas.List.{length-map}
+use Rattle.std.proofs.lemmas.List.Elements.{All-append, All-map, All-weaker, All-from_recursion}
+use Rattle.bs_net.specs.Circuit.{Circuit, next, loaded, all_bits, settled}
+
+pub length_next : (c : Circuit) (s x : List Bool) → length (next c s x) ≡ length c.flops
+unfolding next
+length_next c s x =
+    length-map c.flops (loaded (settled c s x))
+
+-- the lists of one bit more
+pub all_bits_more : (n : ℕ) → all_bits (n + 1) ≡ map (λ bs. false ∷ bs) (all_bits n) ++ map (λ bs. true ∷ bs) (all_bits n)
+unfolding all_bits
+all_bits_more n = rw add-one refl
+
+pub all_bits_zero : all_bits 0 ≡ [] ∷ []
+unfolding all_bits
+all_bits_zero = refl
+
+-- each has that length
+pub all_bits_widths : (n : ℕ) → All (λ (bs : List Bool). length bs ≡ n) (all_bits n)
+unfolding all_bits
+all_bits_widths zero = All-from_recursion (λ (bs : List Bool). length bs ≡ 0) ([] ∷ []) (refl, tt)
+all_bits_widths (suc n) =
+    let longer : (b : Bool) → All (λ (bs : List Bool). length bs ≡ suc n) (map (λ bs. b ∷ bs) (all_bits n)) =
+    λ b.
+    All-map (λ (bs : List Bool). length bs ≡ suc n) (λ bs. b ∷ bs) (all_bits n)
+    (All-weaker (λ (bs : List Bool). length bs ≡ n) (λ (bs : List Bool). length (b ∷ bs) ≡ suc n) (λ bs e. ap suc e) (all_bits n) (all_bits_widths n)) in
+    All-append (λ (bs : List Bool). length bs ≡ suc n) _ _ (longer false) (longer true)
+
+range_more : (a n : ℕ) → range_with_len a (suc n) ≡ range_with_len a n ++ (a + n) ∷ []
+range_more a zero = let e : a ≡ a + 0 = omega arith in ap (λ x. x ∷ []) e
+range_more a (suc n) =
+    let e : (a + 1) + n ≡ a + suc n = omega arith in
+    ap (λ u. a ∷ u) (range_more (a + 1) n ∙ ap (λ x. range_with_len (a + 1) n ++ x ∷ []) e)
+
+-- the numbers below one more
+pub range_push : (n : ℕ) → range_with_len 0 (n + 1) ≡ range_with_len 0 n ++ n ∷ []
+range_push n = rw add-one (range_more 0 n ∙ ap (λ x. range_with_len 0 n ++ x ∷ []) (zero-add n))

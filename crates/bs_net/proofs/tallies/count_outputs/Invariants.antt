@@ -1,0 +1,10 @@
+use Rattle.std.proofs.Common.{◌≡◌, length, drop, map}
+use Rattle.bs_net.specs.declared.net.Gate.{Gate}
+use Rattle.bs_net.specs.Tallies.{tallied}
+use Rattle.bs_net.proofs.tallies.count_outputs.Given as goal
+
+abbrev pub invariant-loop-gate : goal.invariant-loop-gate
+invariant-loop-gate l = record {
+  wide : length l.table.items ≡ length l.initial.table.items;
+  left : tallied l.table.items (map (λ (g : Gate). g.out) (drop l.gate-index l.gates)) ≡ tallied l.initial.table.items (map (λ (g : Gate). g.out) l.gates);
+}

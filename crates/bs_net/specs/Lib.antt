@@ -1,0 +1,17 @@
+-- what public contracts rest on
+pub mod Circuit
+pub mod Order
+pub mod Next
+pub mod Schedule
+pub mod Loops
+pub mod Names
+pub mod Parts
+pub mod Netlist
+pub mod Lowest
+pub mod Check
+pub mod Steps
+-- what inner functions promise each other
+pub mod NetlistSound
+pub mod Findings
+pub mod Tallies
+pub mod Search

@@ -1,0 +1,86 @@
+//! Each net has at most one driver, and each net that is read has one.
+ghost use Rattle.std.specs.Prelude.{◌≡◌, ◌<◌, ◌^◌, ◌&&◌, not, length, OnOk, IfErr, IfSome, IfNone, None};
+ghost use Rattle.bs_net.specs.Lowest.{IsLowest, NonePasses};
+ghost use Rattle.bs_net.specs.Tallies.{is_often, is_never, tally_at};
+ghost use Rattle.bs_net.specs.Check.{too_many, PassesNets, IsFault};
+
+use crate::fault::NetFault;
+use crate::net::NetId;
+use crate::raw::Raw;
+use crate::tallies::{Tally, driver_tallies, reader_tallies};
+use std::alloc::Global;
+
+/// Whether a net is named twice or more.
+fn is_often(tally: Tally) -> bool
+    ensures { result ≡ is_often tally }
+{
+    match tally {
+        Tally::Never => false,
+        Tally::Once => false,
+        Tally::Often => true,
+    }
+}
+
+/// Whether a net is not named.
+fn is_never(tally: Tally) -> bool
+    ensures { result ≡ is_never tally }
+{
+    match tally {
+        Tally::Never => true,
+        Tally::Once => false,
+        Tally::Often => false,
+    }
+}
+
+/// The lowest net that is named twice or more.
+fn first_shared(drivers: &[Tally]) -> Option<u32>
+    requires { length drivers.now < 2 ^ 32 }
+    ensures found { IfSome result (λ n. IsLowest (λ k. is_often (tally_at drivers.now k)) (length drivers.now) n) }
+    ensures none { IfNone result (NonePasses (λ k. is_often (tally_at drivers.now k)) (length drivers.now)) }
+{
+    for i in 0..drivers.len() {
+        if is_often(drivers[i]) {
+            return Some(i as u32);
+        }
+    }
+    None
+}
+
+/// Whether a net is read and is driven by nothing.
+fn is_undriven(readers: Tally, drivers: Tally) -> bool
+    ensures { result ≡ (not (is_never readers) && is_never drivers) }
+{
+    !is_never(readers) && is_never(drivers)
+}
+
+/// The lowest net that is read and is driven by nothing.
+fn first_undriven(readers: &[Tally], drivers: &[Tally]) -> Option<u32>
+    requires same { length readers.now ≡ length drivers.now }
+    requires few { length drivers.now < 2 ^ 32 }
+    ensures found { IfSome result (λ n. IsLowest (λ k. not (is_never (tally_at readers.now k)) && is_never (tally_at drivers.now k)) (length drivers.now) n) }
+    ensures none { IfNone result (NonePasses (λ k. not (is_never (tally_at readers.now k)) && is_never (tally_at drivers.now k)) (length drivers.now)) }
+{
+    for i in 0..drivers.len() {
+        if is_undriven(readers[i], drivers[i]) {
+            return Some(i as u32);
+        }
+    }
+    None
+}
+
+/// Whether each net has at most one driver, and each net that is read has one; or the first refusal of these.
+pub(crate) fn nets_pass(alloc: Global, raw: &Raw) -> Result<(), NetFault>
+    requires { too_many raw.now ≡ None }
+    ensures ok { OnOk result (PassesNets raw.now) }
+    ensures err { IfErr result (λ fault. IsFault raw.now fault) }
+{
+    let drivers = driver_tallies(alloc, raw)?;
+    if let Some(n) = first_shared(drivers.as_slice()) {
+        return Err(NetFault::SecondDriver(NetId(n)));
+    }
+    let readers = reader_tallies(alloc, raw)?;
+    match first_undriven(readers.as_slice(), drivers.as_slice()) {
+        Some(n) => Err(NetFault::Undriven(NetId(n))),
+        None => Ok(()),
+    }
+}

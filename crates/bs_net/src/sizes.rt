@@ -1,0 +1,34 @@
+//! The greatest sizes of a netlist.
+ghost use Rattle.std.specs.Prelude.{◌≡◌, ◌<◌, ◌^◌, length, All, find, nat_lt};
+ghost use Rattle.bs_net.specs.Check.{too_many, wide_gate};
+
+use crate::fault::Count;
+use crate::net::Gate;
+use crate::raw::Raw;
+
+/// The number of inputs of the first gate with more than 64.
+fn wide_gate(gates: &[Gate]) -> Option<(Count, u32)>
+    requires { All (λ g. length g.ins < 2 ^ 32) gates.now }
+    ensures { result ≡ wide_gate (find (λ g. nat_lt 64 (length g.ins)) gates.now) }
+{
+    for gate in gates {
+        let inputs = gate.ins.slice().len();
+        if inputs > 64 {
+            return Some((Count::Terminals, inputs as u32));
+        }
+    }
+    None
+}
+
+/// What there is too much of, and how many: flip-flops, then input port bits, then the inputs of a gate.
+pub(crate) fn too_many(raw: &Raw) -> Option<(Count, u32)>
+    ensures { result ≡ too_many raw.now }
+{
+    if raw.flops.len() > 4096 {
+        return Some((Count::Flops, raw.flops.len() as u32));
+    }
+    if raw.inputs.len() > 4096 {
+        return Some((Count::Inputs, raw.inputs.len() as u32));
+    }
+    wide_gate(raw.gates.slice())
+}
