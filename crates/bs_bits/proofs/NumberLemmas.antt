@@ -75,7 +75,7 @@ own : IsNumeralModel (λ ds. is_digits ds ≡ true) number_of
 own = numerals_by_fold (λ ds. is_digits ds ≡ true) is_digits_test after after_folds
 
 -- what `decimal` writes is canonical
-decimal_canonical : (n : ℕ) → n < 2 ^ 64 → is_canonical (decimal n) ≡ true
+pub decimal_canonical : (n : ℕ) → n < 2 ^ 64 → is_canonical (decimal n) ≡ true
 decimal_canonical n h = by (decimal n) refl (digits_decimal own n h) (decimal_nonempty n h)
   where
     high : (d : ℕ) (ds : List ℕ) → decimal n ≡ d ∷ ds → (length ds == 0) ≡ false → not (d == 48) ≡ true
@@ -96,6 +96,10 @@ decimal_canonical n h = by (decimal n) refl (digits_decimal own n h) (decimal_no
         either : (b : Bool) → (length ds == 0) ≡ b → (length ds == 0) || not (d == 48) ≡ true
         either true z = rw z refl
         either false z = rw z (high d ds e z)
+
+-- it stands for the number that was written
+pub number_of_decimal : (n : ℕ) → n < 2 ^ 64 → number_of (decimal n) ≡ n
+number_of_decimal n h = digits_value-decimal own n h
 
 -- a text that is not canonical is no number's form
 pub not_canonical : (text : List ℕ) → is_canonical text ≡ false → (n : ℕ) → n < 2 ^ 64 → decimal n ≢ text

@@ -15,5 +15,5 @@ pub use bits::Bits;
 pub use lines::{is_name, next_line, next_word};
 pub use list::List;
 pub use memory::NoMemory;
-pub use numbers::read_number;
+pub use numbers::{is_canonical, read_number};
 pub use writing::{end_line, push_line, push_number, push_number_line, push_piece};

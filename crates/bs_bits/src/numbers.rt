@@ -9,8 +9,8 @@ fn is_digits(text: &[u8]) -> bool
     text.iter().all(|&byte| b'0' <= byte && byte <= b'9')
 }
 
-/// Whether a text is a number in its one form.
-fn is_canonical(text: &[u8]) -> bool
+/// Whether a text is a number of any size in its one form.
+pub fn is_canonical(text: &[u8]) -> bool
     ensures { result ≡ is_canonical text.now }
 {
     let digits = is_digits(text);
