@@ -1,0 +1,26 @@
+//! The output, as the program sees it.
+ghost use Rattle.std.specs.Prelude.{ℕ, List};
+ghost use Rattle.std.specs.declared.option.Option.{Option};
+ghost use Rattle.bs_outside.specs.Putting.{Puts};
+
+/// How a put ended.
+#[derive(Clone, Copy, Debug, PartialEq, Eq)]
+pub enum Put {
+    /// All bytes went out.
+    Done,
+    /// So many bytes went out before the fault.
+    Failed(usize),
+}
+
+/// An output. Its count of faults never falls, and rises only in a call that answers `Failed`.
+pub trait Sink {
+    /// The bytes that went out, where the sink tells them.
+    ghost written: { Self → Option (List ℕ) };
+
+    /// How often a put has failed.
+    ghost faults: { Self → ℕ };
+
+    /// Writes the bytes, and takes no memory. It fails only where the count rises or stands at the greatest `u64`.
+    fn put(&mut self, bytes: &[u8]) -> Put
+        ensures { Puts (written self.old) (written self.new) (faults self.old) (faults self.new) bytes.now result };
+}
