@@ -16,3 +16,4 @@ pub mod TallyLemmas
 pub mod PlacedLemmas
 pub mod SingleLemmas
 pub mod CheckedLemmas
+pub mod RefusalLemmas

@@ -99,3 +99,7 @@ IsFault r (Loop loop) = PassesNets r × (HasOrder r.gates → ⊥) × IsLoop r.g
 IsFault r NoFlop = PassesNets r × HasOrder r.gates × (r.flops ≡ [])
 IsFault r (ClockMixed n) = PassesNets r × HasOrder r.gates × (r.flops ≢ []) × (mixed_clock r ≡ Some n)
 IsFault r NoMemory = Unit {0}
+
+-- each refusal but want of memory excludes that the netlist passes
+abbrev pub RefusedDoNotPass : Type 0
+RefusedDoNotPass = (r : Raw) (fault : NetFault) → fault ≢ NoMemory → IsFault r fault → Passes r → ⊥

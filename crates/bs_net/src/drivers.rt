@@ -38,9 +38,9 @@ fn first_shared(drivers: &[Tally]) -> Option<u32>
     ensures found { IfSome result (λ n. IsLowest (λ k. is_often (tally_at drivers.now k)) (length drivers.now) n) }
     ensures none { IfNone result (NonePasses (λ k. is_often (tally_at drivers.now k)) (length drivers.now)) }
 {
-    for i in 0..drivers.len() {
-        if is_often(drivers[i]) {
-            return Some(i as u32);
+    for net in 0..drivers.len() {
+        if is_often(drivers[net]) {
+            return Some(net as u32);
         }
     }
     None
@@ -60,9 +60,9 @@ fn first_undriven(readers: &[Tally], drivers: &[Tally]) -> Option<u32>
     ensures found { IfSome result (λ n. IsLowest (λ k. not (is_never (tally_at readers.now k)) && is_never (tally_at drivers.now k)) (length drivers.now) n) }
     ensures none { IfNone result (NonePasses (λ k. not (is_never (tally_at readers.now k)) && is_never (tally_at drivers.now k)) (length drivers.now)) }
 {
-    for i in 0..drivers.len() {
-        if is_undriven(readers[i], drivers[i]) {
-            return Some(i as u32);
+    for net in 0..readers.len() {
+        if is_undriven(readers[net], drivers[net]) {
+            return Some(net as u32);
         }
     }
     None

@@ -25,7 +25,7 @@ fn fill_table(table: &mut Vec<Option<u32>>, gates: &[Gate])
     }
 }
 
-/// The path from its newest gate up to h.
+/// The open gates from the newest one back to h.
 pub(crate) fn path_to(alloc: Global, path: &[u32], h: u32) -> Result<List<u32>, NoMemory>
     ensures { IfOk result (λ l. l ≡ up_to h (reverse path.now)) }
 {
@@ -71,7 +71,7 @@ fn from_lowest(alloc: Global, numbers: &[u32]) -> Result<List<u32>, NoMemory>
     Ok(turned)
 }
 
-/// The gates in an order, or a loop of them.
+/// What a search of all gates finds: an order of them, or a loop.
 pub(crate) enum Levelling {
     Ordered(List<u32>),
     Looped(List<u32>),

@@ -17,7 +17,7 @@ mod tallies;
 pub use fault::{Count, NetFault, Refused};
 pub use law::{
     every_schedule_settles_alike, exactly_one_valuation_fits, loops_have_no_order,
-    next_state_is_led_to,
+    next_state_is_led_to, refused_netlists_do_not_pass,
 };
 pub use names::Names;
 pub use net::{Const, Flop, Gate, Kind, NetId, Terms};
