@@ -1,0 +1,142 @@
+-- What the grammar sees of each token (docs/FORMATS.md, "Words of a netlist").
+use Rattle.std.specs.Prelude.{ℕ, ◌+◌, ◌-◌, ◌*◌, Bool, true, false, ◌&&◌, ◌==◌, if◌then◌else◌, List, [], ◌∷◌, ◌++◌, length, drop, map, min, codes, Option, Some, None, slice_index, unwrap_or}
+use Rattle.std.specs.List.{list_any, list_all}
+use Rattle.std.specs.Str.{bytes_eq}
+use Prim.Native.String.{String}
+use Rattle.bs_net.specs.declared.net.Kind.TheVariants.{And, Nand, Or, Nor, Xor, Xnor, Buf, Not}
+use Rattle.bs_net.specs.Names.{with_key, number_of}
+use Rattle.bs_lex.specs.declared.token.Token.{Token}
+use Rattle.bs_lex.specs.declared.token.TokenKind.TheVariants as kinds
+use Rattle.bs_lex.specs.Bytes.{◌∈◌, is_digit, is_base}
+use Rattle.bs_lex.specs.Tokens.{first}
+use Rattle.bs_lex.specs.Placing.{token_text}
+use Rattle.bs_lex.specs.declared.token.TokenKind.{TokenKind}
+use Rattle.bs_verilog.specs.declared.lexeme.Lexeme.{Lexeme}
+use Rattle.bs_verilog.specs.declared.lexeme.Sort.{Sort}
+use Rattle.bs_verilog.specs.declared.lexeme.Sort.TheVariants as sorts
+use Rattle.bs_verilog.specs.declared.lexeme.Word as code
+use Rattle.bs_verilog.specs.declared.lexeme.Word.TheVariants as words
+use Rattle.bs_verilog.specs.declared.lexeme.Cell as code_cell
+use Rattle.bs_verilog.specs.declared.lexeme.Cell.TheVariants.{Dff, Dffs}
+use Rattle.bs_verilog.specs.Reading.{is_name}
+
+-- the name is one of these
+abbrev pub is_one_of : List ℕ → List String → Bool
+is_one_of name these = list_any (λ word. bytes_eq name (codes word)) these
+
+abbrev pub behaviour_words : List String
+behaviour_words =
+    "always" ∷ "initial" ∷ "integer" ∷ "real" ∷ "time" ∷ "event" ∷ "task" ∷ "function" ∷ "specify" ∷ "generate" ∷ "genvar" ∷ []
+
+abbrev pub parameter_words : List String
+parameter_words = "parameter" ∷ "localparam" ∷ "defparam" ∷ []
+
+abbrev pub net_words : List String
+net_words = "tri" ∷ "uwire" ∷ "wand" ∷ "wor" ∷ "tri0" ∷ "tri1" ∷ "triand" ∷ "trior" ∷ "trireg" ∷ []
+
+abbrev pub switch_words : List String
+switch_words =
+    "bufif0" ∷ "bufif1" ∷ "notif0" ∷ "notif1" ∷ "nmos" ∷ "pmos" ∷ "cmos" ∷ "rnmos" ∷ "rpmos" ∷ "rcmos" ∷ "tran" ∷ "tranif0" ∷ "tranif1"
+    ∷ "rtran" ∷ "rtranif0" ∷ "rtranif1" ∷ "pullup" ∷ "pulldown" ∷ []
+
+abbrev pub strength_words : List String
+strength_words = "strong0" ∷ "pull0" ∷ "weak0" ∷ "highz0" ∷ "strong1" ∷ "pull1" ∷ "weak1" ∷ "highz1" ∷ []
+
+-- the keywords that the grammar tells apart
+abbrev pub own_words : List (String × code.Word)
+own_words =
+    ("module", words.Module) ∷ ("endmodule", words.Endmodule) ∷ ("input", words.Input) ∷ ("output", words.Output) ∷ ("inout", words.Inout)
+    ∷ ("wire", words.Wire) ∷ ("supply0", words.Supply0) ∷ ("supply1", words.Supply1) ∷ ("assign", words.Assign) ∷ ("reg", words.Reg)
+    ∷ ("primitive", words.Primitive) ∷ ("and", words.Gate And) ∷ ("nand", words.Gate Nand) ∷ ("or", words.Gate Or) ∷ ("nor", words.Gate Nor)
+    ∷ ("xor", words.Gate Xor) ∷ ("xnor", words.Gate Xnor) ∷ ("buf", words.Gate Buf) ∷ ("not", words.Gate Not) ∷ []
+
+abbrev pub word_among : List ℕ → List (String × code.Word) → Option code.Word
+word_among name [] = None
+word_among name (w ∷ ws) = if bytes_eq name (codes w.0) then Some w.1 else word_among name ws
+
+-- the keyword that a name is
+unfoldable pub word_of : List ℕ → Option code.Word
+word_of name =
+    if is_one_of name behaviour_words then Some words.Behaviour
+    else if is_one_of name parameter_words then Some words.Parameter
+    else if is_one_of name net_words then Some words.NetType
+    else if is_one_of name switch_words then Some words.Switch
+    else if is_one_of name strength_words then Some words.Strength
+    else word_among name own_words
+
+-- the cell of a name
+abbrev pub cell_of : List ℕ → Option code_cell.Cell
+cell_of name = if bytes_eq name (codes "dff") then Some Dff else if bytes_eq name (codes "dffs") then Some Dffs else None
+
+-- the number that digits are, after the number before them
+unfoldable pub decimal_from : ℕ → List ℕ → ℕ
+decimal_from n [] = n
+decimal_from n (c ∷ text) = decimal_from (10 * n + (c - 48)) text
+
+abbrev pub is_one_bit : List ℕ → Bool
+is_one_bit text = length text == 4 && first text ∈ "1" && slice_index text 1 ∈ "'" && is_base (slice_index text 2) && slice_index text 3 ∈ "01"
+
+abbrev pub sort_of_number : List ℕ → Sort
+sort_of_number text =
+    if list_all is_digit text then sorts.Digits (min (decimal_from 0 text) 65536)
+    else if is_one_bit text then sorts.Bit (slice_index text 3 ∈ "1")
+    else sorts.Number
+
+abbrev pub sort_of_name : List ℕ → Sort
+sort_of_name name = elim (word_of name) [ Some word ↦ sorts.Word word | None ↦ sorts.Name (cell_of name) ]
+
+abbrev pub is_escaped : TokenKind → Bool
+is_escaped kinds.Escaped = true
+is_escaped _ = false
+
+-- the text of a token, of an escaped name without its `\`
+abbrev pub spelling : List ℕ → Token → List ℕ
+spelling source t = if is_escaped t.kind then drop 1 (token_text source t) else token_text source t
+
+-- What a token of this kind and spelling is to the grammar. An escaped name is never a keyword.
+unfoldable pub sort_of : TokenKind → List ℕ → Sort
+sort_of kinds.Name text = sort_of_name text
+sort_of kinds.Escaped text = sorts.Name (cell_of text)
+sort_of kinds.System text = sorts.System
+sort_of kinds.Number text = sort_of_number text
+sort_of kinds.Text text = sorts.Text
+sort_of kinds.Directive text = sorts.Directive
+sort_of kinds.AttrOpen text = sorts.AttrOpen
+sort_of kinds.AttrClose text = sorts.AttrClose
+sort_of kinds.Sym text = sorts.Symbol (first text)
+
+abbrev pub token_sort : List ℕ → Token → Sort
+token_sort source t = sort_of t.kind (spelling source t)
+
+-- the name that a token is: what has the form of a Name is that name, escaped or not
+unfoldable pub name_text : List ℕ → Token → Option (List ℕ)
+name_text source t = if is_name (token_sort source t) then Some (spelling source t) else None
+
+-- the names after one is added, if there is one
+abbrev pub with_name : List (List ℕ) → Option (List ℕ) → List (List ℕ)
+with_name names (Some name) = with_key names name
+with_name names None = names
+
+-- the names of a text, each once, in the order in which they first occur
+unfoldable pub names_from : List (List ℕ) → List ℕ → List Token → List (List ℕ)
+names_from names source [] = names
+names_from names source (t ∷ ts) = names_from (with_name names (name_text source t)) source ts
+
+abbrev pub names_of : List ℕ → List Token → List (List ℕ)
+names_of source tokens = names_from [] source tokens
+
+-- the number of a name among the names; 0 where there is none
+abbrev pub number_in : List (List ℕ) → Option (List ℕ) → ℕ
+number_in names (Some name) = unwrap_or (number_of names name) 0
+number_in names None = 0
+
+abbrev pub lexeme_of : List (List ℕ) → List ℕ → Token → Lexeme
+lexeme_of names source t = record { sort = token_sort source t; at = t.start; name = number_in names (name_text source t) }
+
+-- the end of a text, as a lexeme
+abbrev pub end_of : List ℕ → Lexeme
+end_of source = record { sort = sorts.End; at = length source; name = 0 }
+
+-- what the grammar reads: a lexeme for each token, and the end
+unfoldable pub lexemes_of : List ℕ → List Token → List Lexeme
+lexemes_of source tokens = map (lexeme_of (names_of source tokens) source) tokens ++ end_of source ∷ []
