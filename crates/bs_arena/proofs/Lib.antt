@@ -1,0 +1,5 @@
+pub mod Compactions
+pub mod Contents
+pub mod Names
+pub mod Spellings
+pub mod Splits

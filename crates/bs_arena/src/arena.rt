@@ -1,0 +1,167 @@
+//! The arena, a list of live clauses in one vector.
+ghost use Rattle.std.specs.Prelude.{◌≡◌, ◌+◌, ◌^◌, ◌<◌, ◌≤◌, ◌==◌, not, [], ◌∷◌, ◌++◌, map, length, filter, if◌then◌else◌, zip, option_map, All, Some, IsSome, IsOk, OnOk, OnErr, IfOk};
+ghost use Rattle.bs_clause.specs.Literal.{code_of};
+ghost use Rattle.bs_arena.specs.Arena.{AreCodes, IsContent, held_at, literals_at, live_words, meaning, swapped};
+
+use crate::compaction::move_together;
+use crate::header::{HEADER, LIVE, codes_at, id_at, push_clause, size_at};
+use crate::reference::Ref;
+use crate::renaming::Renaming;
+use bs_clause::{Lit, NoMemory};
+use std::alloc::Global;
+use std::marker::Model;
+
+/// The clauses of a run, one after another in one vector of words. Contracts see the live clauses
+/// in order, each with its reference, its id and its literals, and how many words are in use and
+/// how many more there is room for.
+#[derive(Drop)]
+pub struct Arena {
+    words: Vec<u32>,
+    live: usize,
+    count: usize,
+}
+
+impl Model for Arena {
+    ghost use Rattle.std.specs.Prelude.{◌-◌, length, vec_capacity, vec_len};
+    ghost use Rattle.bs_arena.specs.Arena.{Content, clauses_of, IsArena};
+
+    ghost Value = { Content };
+
+    ghost view = { λ a. record { clauses = clauses_of a.words.items; words = vec_len a.words; spare = vec_capacity a.words - vec_len a.words } };
+
+    ghost invariant = { λ a. IsArena a.words.items a.live a.count };
+}
+
+impl Arena {
+    /// An arena without clauses.
+    pub fn new(alloc: Global) -> Arena
+        ensures clauses { result.clauses ≡ [] }
+        ensures words { result.words ≡ 0 }
+    {
+        Arena {
+            words: Vec::new(alloc),
+            live: 0,
+            count: 0,
+        }
+    }
+
+    /// Makes room for this many more words.
+    pub fn reserve(&mut self, words: usize) -> Result<(), NoMemory>
+        ensures room { OnOk result (words ≤ self.new.spare) }
+        ensures kept { self.old.spare ≤ self.new.spare }
+        ensures succeeds { words ≤ self.old.spare → IsOk result }
+        ensures clauses { self.new.clauses ≡ self.old.clauses }
+        ensures words { self.new.words ≡ self.old.words }
+        ensures err { OnErr result (self.new ≡ self.old) }
+    {
+        self.words.reserve(words)?;
+        Ok(())
+    }
+
+    /// How many more words there is room for.
+    pub fn spare(&self) -> usize
+        ensures { result ≡ self.now.spare }
+    {
+        self.words.capacity() - self.words.len()
+    }
+
+    /// The words in use, those of dead clauses among them.
+    pub fn words(&self) -> usize
+        ensures { result ≡ self.now.words }
+    {
+        self.words.len()
+    }
+
+    /// The words of the live clauses.
+    pub fn live(&self) -> usize
+        ensures { result ≡ live_words self.now.clauses }
+    {
+        self.live
+    }
+
+    /// The number of live clauses.
+    pub fn count(&self) -> usize
+        ensures { result ≡ length self.now.clauses }
+    {
+        self.count
+    }
+
+    /// Appends a clause, which takes four words and one for each literal.
+    pub fn add(&mut self, id: u64, lits: &[Lit]) -> Result<Ref, NoMemory>
+        requires { length lits.now < 2 ^ 30 }
+        ensures clauses { IfOk result (λ r. self.new.clauses ≡ self.old.clauses ++ record { ref = r; id = id; literals = lits.now } ∷ []) }
+        ensures words { OnOk result (self.new.words ≡ self.old.words + length lits.now + 4) }
+        ensures spare { self.old.spare ≤ self.new.spare + length lits.now + 4 }
+        ensures succeeds { length lits.now + 4 ≤ self.old.spare → IsOk result }
+        ensures err { OnErr result (self.new ≡ self.old) }
+    {
+        self.words.reserve(lits.len() + HEADER)?;
+        let at = self.words.len();
+        push_clause(&mut self.words, id, lits);
+        self.live += lits.len() + HEADER;
+        self.count += 1;
+        Ok(Ref::new(at))
+    }
+
+    /// The codes of a live clause's literals, lent from the vector.
+    pub fn lits(&self, r: Ref) -> &[u32]
+        requires { IsSome (held_at self.now.clauses r) }
+        ensures literals { result.now ≡ map code_of (literals_at self.now.clauses r) }
+        ensures codes { AreCodes result.now }
+    {
+        codes_at(self.words.as_slice(), r.at())
+    }
+
+    /// The id of a live clause.
+    pub fn id(&self, r: Ref) -> u64
+        requires { IsSome (held_at self.now.clauses r) }
+        ensures { option_map (λ h. h.id) (held_at self.now.clauses r) ≡ Some result }
+    {
+        id_at(self.words.as_slice(), r.at())
+    }
+
+    /// Exchanges two literals of a live clause. Their places count from 0.
+    pub fn swap(&mut self, r: Ref, i: usize, j: usize)
+        requires live { IsSome (held_at self.old.clauses r) }
+        requires first { i < length (literals_at self.old.clauses r) }
+        requires second { j < length (literals_at self.old.clauses r) }
+        ensures clauses { self.new.clauses ≡ map (λ h. if h.ref == r then swapped h i j else h) self.old.clauses }
+        ensures words { self.new.words ≡ self.old.words }
+        ensures spare { self.new.spare ≡ self.old.spare }
+    {
+        self.words.swap(r.at() + HEADER + i, r.at() + HEADER + j);
+    }
+
+    /// Takes a live clause out. Its words stay in use until the next compaction.
+    pub fn kill(&mut self, r: Ref)
+        requires { IsSome (held_at self.old.clauses r) }
+        ensures clauses { self.new.clauses ≡ filter (λ h. not (h.ref == r)) self.old.clauses }
+        ensures words { self.new.words ≡ self.old.words }
+        ensures spare { self.new.spare ≡ self.old.spare }
+    {
+        let size = size_at(self.words.as_slice(), r.at());
+        self.words[r.at() + LIVE] = 0;
+        self.live -= size;
+        self.count -= 1;
+    }
+
+    /// Moves the live clauses together, in place and in one pass, so that no dead word is left.
+    /// The renaming then gives the new reference of each clause.
+    pub fn compact(&mut self, renaming: &mut Renaming)
+        requires { length self.old.clauses ≤ renaming.old.spare }
+        ensures clauses { map meaning self.new.clauses ≡ map meaning self.old.clauses }
+        ensures names { renaming.new.names ≡ zip (map (λ h. h.ref) self.old.clauses) (map (λ h. h.ref) self.new.clauses) }
+        ensures words { self.new.words ≡ live_words self.new.clauses }
+        ensures room { self.new.words + self.new.spare ≡ self.old.words + self.old.spare }
+        ensures spare { renaming.old.spare ≤ renaming.new.spare }
+    {
+        move_together(&mut self.words, renaming);
+    }
+
+    /// What holds of every arena: references ascend, and each clause is one that can be added.
+    pub fn holds_clauses(&self)
+        ensures { IsContent self.now }
+    {
+        let _ = &self.words;
+    }
+}
