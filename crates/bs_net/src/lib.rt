@@ -13,6 +13,8 @@ mod raw;
 mod search;
 mod sizes;
 mod tallies;
+#[cfg(test)]
+mod tests;
 
 pub use fault::{Count, NetFault, Refused};
 pub use law::{
