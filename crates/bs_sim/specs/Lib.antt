@@ -1,0 +1,4 @@
+pub mod Simulation
+pub mod Work
+pub mod Events
+pub mod Played
