@@ -37,6 +37,8 @@ fn real_files(rt: HostRuntime) -> Result<(), Fail> {
         assert_eq!(rt; shelf.fetch(name, limit, &mut into), want, "{name} {limit}");
         assert_eq!(rt; into.len(), count, "{name} {limit}");
     }
+    fs::remove_file(&rt, "real.txt")?;
+    fs::remove_file(&rt, "long.txt")?;
     Ok(())
 }
 
