@@ -1,0 +1,6 @@
+use Rattle.std.proofs.Common.{◌≡◌, min, take}
+use Rattle.bs_bits.specs.Lines.{number_of}
+use Rattle.bs_stim.proofs.first_line.cycles_of.Given as goal
+
+abbrev pub invariant-digits : goal.invariant-digits
+invariant-digits l = l.cycles ≡ min 65537 (number_of (take l.digit-index l.digits))
