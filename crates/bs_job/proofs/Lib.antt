@@ -1,0 +1,5 @@
+pub mod Plans
+pub mod Walking
+pub mod Putting
+pub mod Preparing
+pub mod Clauses

@@ -1,0 +1,161 @@
+-- A plan is followed a file at a time.
+use Rattle.std.proofs.Common.{true, false, nat_lt, ◌≡◌, inl, inr, ℕ, ◌<◌, ◌≤◌, List, [], ◌++◌, length, Option, Some, None, Result, Ok, Err, codes, refl, sym, ◌∙◌, ap, subst, arith, Vec}
+use Rattle.std.proofs.lemmas.Bool.{le-ltb, lt-ltb}
+use Rattle.std.proofs.lemmas.List.{length-take}
+use Rattle.std.specs.Prelude.{IfSome, MatchResult}
+use Rattle.std.specs.Io.{StartsWith}
+use Rattle.std.specs.declared.alloc.Global.{Global}
+use Rattle.bs_outside.specs.Fetching.{FetchesAll, FetchesTooMany, CountsFaults}
+use Rattle.bs_outside.specs.declared.shelf.Fetch.TheVariants.{Done, Failed, TooLong}
+use Rattle.bs_job.specs.declared.file.File.{File}
+use Rattle.bs_job.specs.declared.walk.Refusal.{Refusal}
+use Rattle.bs_job.specs.declared.walk.Refusal.TheVariants as Q
+use Rattle.bs_job.specs.declared.walk.Stop.{Stop}
+use Rattle.bs_job.specs.declared.walk.Stop.TheVariants as S
+use Rattle.bs_job.specs.Files.{limit_of}
+use Rattle.bs_job.specs.Plan.{Tells, Counts, Wanted, Comes, IsLong, Reason, exactly, Says, Plan, end, ◌>>=◌, fetched, given, read_as, Outcome, ready, refused, faulted, Ends}
+use Rattle.bs_job.specs.Walks.{IsSame, IsLater, IsTooLong, ComesTo, FetchedTo, GivenTo, WalksTo, Walks, WalksAlone, Reads, settled}
+use Rattle.bs_job.proofs.Plans.{ends_along, ends_then, ends_refused, ends_faulted}
+
+if_some_weaker : (told : Option (List ℕ)) (P Q : List ℕ → Type 0) → ((all : List ℕ) → P all → Q all) → IfSome told P → IfSome told Q
+if_some_weaker None P Q step h = h
+if_some_weaker (Some all) P Q step h = step all h
+
+-- ---- the three answers of a fetch
+
+pub fetched_all : (told told' : Tells) (before now : Counts) (file : File) (name old new : List ℕ) (limit : ℕ) → limit ≡ limit_of file → old ≡ [] → ((other : List ℕ) → told' other ≡ told other) → FetchesAll (told name) limit old new → CountsFaults before now name Done → IsSame told told' before now × Comes told (record { file = file; name = name }) new
+fetched_all told told' before now file name old new limit is empty same all counts =
+    let new_is : new ≡ all.bytes = all.appended ∙ ap (λ (l : List ℕ). l ++ all.bytes) empty in (
+      record { told = same; counts = counts.steady (λ e. cc) },
+      record { within = omega (arith, all.within, ap length new_is); shown = subst (λ (l : List ℕ). IfSome (told name) (λ every. every ≡ l)) (sym new_is) all.told },
+    )
+
+longer : (limit : ℕ) (bytes every : List ℕ) → limit < length bytes → StartsWith every bytes → limit < length every
+longer limit bytes every beyond starts = omega (arith, beyond, ap length starts, length-take (length bytes) every)
+
+pub fetched_long : (told told' : Tells) (before now : Counts) (file : File) (name old new : List ℕ) (limit : ℕ) (result : Result (Vec ℕ Global) Stop) → limit ≡ limit_of file → IsTooLong file result → ((other : List ℕ) → told' other ≡ told other) → FetchesTooMany (told name) limit old new → CountsFaults before now name TooLong → ComesTo told told' before now (record { file = file; name = name }) result
+fetched_long told told' before now file name old new limit (Ok v) is long same many counts = absurd long
+fetched_long told told' before now file name old new limit (Err S.NoMemory) is long same many counts = record { told = same; counts = counts.steady (λ e. cc) }
+fetched_long told told' before now file name old new limit (Err (S.Faulted other)) is long same many counts = absurd long
+fetched_long told told' before now file name old new limit (Err (S.Refused other why)) is long same many counts = (
+  record { told = same; counts = counts.steady (λ e. cc) },
+  if_some_weaker (told name) (λ every. StartsWith every many.bytes) (λ every. limit_of file < length every) (λ every starts. longer (limit_of file) many.bytes every (omega (arith, many.beyond, is)) starts) many.told,
+  long.0,
+  long.1,
+)
+
+pub fetched_failed : (told told' : Tells) (before now : Counts) (file : File) (name : List ℕ) → ((other : List ℕ) → told' other ≡ told other) → CountsFaults before now name Failed → ComesTo told told' before now (record { file = file; name = name }) (Err (S.Faulted file))
+fetched_failed told told' before now file name same counts = (record { told = same; counts = counts.later }, counts.failed refl, refl)
+
+-- a fetch is the plan of one file
+fetch_to : {R : Type 0} (allows : R → List ℕ → Type 0) (told told' : Tells) (before now : Counts) (file : File) (name : List ℕ) (result : Result (Vec ℕ Global) Stop) → ComesTo told told' before now (record { file = file; name = name }) result → WalksTo allows told told' before now (fetched file name) (λ (b : Vec ℕ Global). b.items) result
+fetch_to allows told told' before now file name (Ok bytes) h = (h.0, inl (bytes.items, h.1, refl))
+fetch_to allows told told' before now file name (Err S.NoMemory) h = h
+fetch_to {R = R} allows told told' before now file name (Err (S.Faulted other)) h = (h.0, inr (inr (h.1, ap (λ f. faulted_of R f) h.2)))
+  where
+    faulted_of : (P : Type 0) → File → Outcome P (List ℕ)
+    faulted_of P f = faulted f
+fetch_to {R = R} allows told told' before now file name (Err (S.Refused other why)) h = (h.0, (exactly (codes "TooLong"), h.3, inr (inl (h.1, ap (λ f. long_of R f) h.2))))
+  where
+    long_of : (P : Type 0) → File → Outcome P (List ℕ)
+    long_of P f = refused f (exactly (codes "TooLong"))
+
+pub fetch_walks : {R : Type 0} {allows : R → List ℕ → Type 0} {told told' : Tells} {before now : Counts} {file : File} {name : List ℕ} {result : Result (Vec ℕ Global) Stop} → FetchedTo told told' before now file name result → Walks allows told told' before now (fetched file name) (λ (b : Vec ℕ Global). b.items) result
+fetch_walks {R} {allows} {told} {told'} {before} {now} {file} {name} {result} h = record { is = fetch_to allows told told' before now file name result h.is }
+
+-- ---- a text of the program's own
+
+given_to : {R : Type 0} (allows : R → List ℕ → Type 0) (told : Tells) (before : Counts) (file : File) (bytes : List ℕ) (result : Result (Unit {0}) Stop) → GivenTo file bytes result → WalksTo allows told told before before (given file bytes) (λ (u : Unit {0}). bytes) result
+given_to allows told before file bytes (Ok v) h = rw (le-ltb (limit_of file) (length bytes) h) (record { told = λ n. refl; counts = λ n. refl }, refl)
+given_to allows told before file bytes (Err S.NoMemory) h = record { told = λ n. refl; counts = λ n. refl }
+given_to allows told before file bytes (Err (S.Faulted other)) h = absurd h.1
+given_to {R = R} allows told before file bytes (Err (S.Refused other why)) h =
+    rw (lt-ltb (limit_of file) (length bytes) h.0) (record { told = λ n. refl; counts = λ n. refl }, (exactly (codes "TooLong"), h.1.1, ap (λ f. long_of R f) h.1.0))
+  where
+    long_of : (P : Type 0) → File → Outcome P (List ℕ)
+    long_of P f = refused f (exactly (codes "TooLong"))
+
+pub given_walks : {R : Type 0} {allows : R → List ℕ → Type 0} {told : Tells} {before : Counts} {result : Result (Unit {0}) Stop} (file : File) (bytes : List ℕ) → GivenTo file bytes result → Walks allows told told before before (given file bytes) (λ (u : Unit {0}). bytes) result
+given_walks {allows = allows} {told = told} {before = before} {result = result} file bytes h = record { is = given_to allows told before file bytes result h }
+
+-- ---- readers
+
+-- why the bytes are refused
+reason_of : {R V : Type 0} (r : Result V (Reason R)) (P : Reason R → Type 0) → MatchResult r (λ _. ⊥) P → (reason : Reason R) × P reason × (r ≡ Err reason)
+reason_of (Ok v) P h = absurd h
+reason_of (Err reason) P h = (reason, h, refl)
+
+reads_to : {R T V : Type 0} (allows : R → List ℕ → Type 0) (told : Tells) (before : Counts) (file : File) (wanted : Result V (Reason R)) (view : T → V) (r : Result T Refusal) → Reads allows view wanted r → WalksTo allows told told before before (read_as file wanted) view (settled file r)
+reads_to {R = R} {V = V} allows told before file wanted view (Ok v) is = (record { told = λ n. refl; counts = λ n. refl }, subst (λ (x : Result V (Reason R)). Ends told before before (read_as file x) (ready (view v))) (sym is) refl)
+reads_to allows told before file wanted view (Err Q.NoMemory) is = record { told = λ n. refl; counts = λ n. refl }
+reads_to {R = R} {V = V} allows told before file wanted view (Err (Q.Why why)) is =
+    let r = reason_of wanted (λ reason. Says allows reason why.items) is in
+    (record { told = λ n. refl; counts = λ n. refl }, (r.0, r.1, subst (λ (x : Result V (Reason R)). Ends told before before (read_as file x) (refused file r.0)) (sym r.2) refl))
+
+-- what a reader answers is a plan of its own
+pub reads_walk : {R T V : Type 0} {allows : R → List ℕ → Type 0} {told : Tells} {before : Counts} {view : T → V} {result : Result T Stop} (file : File) (wanted : Result V (Reason R)) (r : Result T Refusal) → result ≡ settled file r → Reads allows view wanted r → Walks allows told told before before (read_as file wanted) view result
+reads_walk {allows = allows} {told = told} {before = before} {view = view} file wanted r settles reads = record { is = rw settles (reads_to allows told before file wanted view r reads) }
+
+-- ---- one part, and then the next
+
+-- a stop in the first part is the whole plan's
+stops_to : {R A B T U : Type 0} (allows : R → List ℕ → Type 0) (told told' : Tells) (before now : Counts) (plan : Plan R A) (f : A → Plan R B) (view : T → A) (next_view : U → B) (stop : Stop) → WalksTo allows told told' before now plan view (Err stop) → WalksTo allows told told' before now (plan >>= f) next_view (Err stop)
+stops_to allows told told' before now plan f view next_view S.NoMemory h = h
+stops_to allows told told' before now plan f view next_view (S.Faulted file) h = (h.0, ends_faulted told before now plan f file h.1)
+stops_to allows told told' before now plan f view next_view (S.Refused file why) h = (h.0, (h.1.0, h.1.1, ends_refused told before now plan f file h.1.0 h.1.2))
+
+pub walks_stop : {R A B T U : Type 0} {allows : R → List ℕ → Type 0} {told told' : Tells} {before now : Counts} {plan : Plan R A} {view : T → A} {next_view : U → B} {stop : Stop} (f : A → Plan R B) → Walks allows told told' before now plan view (Err stop) → Walks allows told told' before now (plan >>= f) next_view (Err stop)
+walks_stop {allows = allows} {told = told} {told' = told'} {before = before} {now = now} {plan = plan} {view = view} {next_view = next_view} {stop = stop} f h = record { is = stops_to allows told told' before now plan f view next_view stop h.is }
+
+same_then : (told told' told'' : Tells) (before mid now : Counts) → IsSame told told' before mid → IsSame told' told'' mid now → IsSame told told'' before now
+same_then told told' told'' before mid now first next = record { told = λ n. next.told n ∙ first.told n; counts = λ n. next.counts n ∙ first.counts n }
+
+later_then : (told told' told'' : Tells) (before mid now : Counts) → IsSame told told' before mid → IsLater told' told'' mid now → IsLater told told'' before now
+later_then told told' told'' before mid now first next = record { told = λ n. next.told n ∙ first.told n; counts = λ n. omega (arith, first.counts n, next.counts n) }
+
+ends_on : {R A B : Type 0} (told told' : Tells) (before mid now : Counts) (plan : Plan R A) (f : A → Plan R B) (a : A) (outcome : Outcome R B) → IsSame told told' before mid → ((n : List ℕ) → mid n ≤ now n) → Ends told before mid plan (ready a) → Ends told' mid now (f a) outcome → Ends told before now (plan >>= f) outcome
+ends_on told told' before mid now plan f a outcome same later first next =
+    ends_then told before now plan f a outcome (ends_along told told before before mid now plan (ready a) (λ n. refl) (λ n. refl) later first) (ends_along told told' before mid now now (f a) outcome same.told same.counts (λ n. omega arith) next)
+
+then_to : {R A B U : Type 0} (allows : R → List ℕ → Type 0) (told told' told'' : Tells) (before mid now : Counts) (plan : Plan R A) (f : A → Plan R B) (a : A) (next_view : U → B) (result : Result U Stop) → IsSame told told' before mid × Ends told before mid plan (ready a) → WalksTo allows told' told'' mid now (f a) next_view result → WalksTo allows told told'' before now (plan >>= f) next_view result
+then_to allows told told' told'' before mid now plan f a next_view (Ok u) first h = (same_then told told' told'' before mid now first.0 h.0, ends_on told told' before mid now plan f a (ready (next_view u)) first.0 (λ n. omega (arith, h.0.counts n)) first.1 h.1)
+then_to allows told told' told'' before mid now plan f a next_view (Err S.NoMemory) first h = same_then told told' told'' before mid now first.0 h
+then_to allows told told' told'' before mid now plan f a next_view (Err (S.Faulted file)) first h = (later_then told told' told'' before mid now first.0 h.0, ends_on told told' before mid now plan f a (faulted file) first.0 h.0.counts first.1 h.1)
+then_to allows told told' told'' before mid now plan f a next_view (Err (S.Refused file why)) first h = (same_then told told' told'' before mid now first.0 h.0, (h.1.0, h.1.1, ends_on told told' before mid now plan f a (refused file h.1.0) first.0 (λ n. omega (arith, h.0.counts n)) first.1 h.1.2))
+
+-- a part that went to its end, and then the rest
+pub walks_then : {R A B T U : Type 0} {allows : R → List ℕ → Type 0} {told told' told'' : Tells} {before mid now : Counts} {plan : Plan R A} {view : T → A} {a : T} {next_view : U → B} {result : Result U Stop} (f : A → Plan R B) → Walks allows told told' before mid plan view (Ok a) → Walks allows told' told'' mid now (f (view a)) next_view result → Walks allows told told'' before now (plan >>= f) next_view result
+walks_then {allows = allows} {told = told} {told' = told'} {told'' = told''} {before = before} {mid = mid} {now = now} {plan = plan} {view = view} {a = a} {next_view = next_view} {result = result} f first h =
+    record { is = then_to allows told told' told'' before mid now plan f (view a) next_view result first.is h.is }
+
+-- the end of a plan
+pub walks_end : {R B U : Type 0} {allows : R → List ℕ → Type 0} {told : Tells} {before : Counts} {view : U → B} {u : U} → Walks allows told told before before (end (view u)) view (Ok u)
+walks_end {R} {B} {U} {allows} {told} {before} {view} {u} = record { is = (record { told = λ n. refl; counts = λ n. refl }, refl) }
+
+-- a file that is fetched and then read
+pub reads_then : {R T V : Type 0} {allows : R → List ℕ → Type 0} {told told' : Tells} {before now : Counts} {file : File} {name : List ℕ} {bytes : Vec ℕ Global} {view : T → V} {result : Result T Stop} (read : List ℕ → Result V (Reason R)) (seen : List ℕ) (r : Result T Refusal) → seen ≡ bytes.items → result ≡ settled file r → FetchedTo told told' before now file name (Ok bytes) → Reads allows view (read seen) r → Walks allows told told' before now (fetched file name >>= (λ b. read_as file (read b))) view result
+reads_then {allows = allows} {file = file} {bytes = bytes} {view = view} read seen r same settles so_far reads =
+    walks_then (λ b. read_as file (read b)) (fetch_walks so_far) (reads_walk file (read bytes.items) r settles (subst (λ (b : List ℕ). Reads allows view (read b) r) same reads))
+
+-- one whose fetch stops the job
+pub fetch_stop : {R B U : Type 0} {allows : R → List ℕ → Type 0} {told told' : Tells} {before now : Counts} {file : File} {name : List ℕ} {next_view : U → B} {stop : Stop} (f : List ℕ → Plan R B) → FetchedTo told told' before now file name (Err stop) → Walks allows told told' before now (fetched file name >>= f) next_view (Err stop)
+fetch_stop f h = walks_stop f (fetch_walks h)
+
+-- the same of a text of the program's own
+pub given_then : {R T V : Type 0} {allows : R → List ℕ → Type 0} {view : T → V} {result : Result T Stop} (file : File) (bytes : List ℕ) (u : Unit {0}) (read : List ℕ → Result V (Reason R)) (r : Result T Refusal) → result ≡ settled file r → GivenTo file bytes (Ok u) → Reads allows view (read bytes) r → WalksAlone allows (given file bytes >>= (λ b. read_as file (read b))) view result
+given_then file bytes u read r settles so_far reads =
+    record { is = λ told before. walks_then (λ b. read_as file (read b)) (given_walks file bytes so_far) (reads_walk file (read bytes) r settles reads) }
+
+pub given_stop : {R B U : Type 0} {allows : R → List ℕ → Type 0} {next_view : U → B} {stop : Stop} (file : File) (bytes : List ℕ) (f : List ℕ → Plan R B) → GivenTo file bytes (Err stop) → WalksAlone allows (given file bytes >>= f) next_view (Err stop)
+given_stop file bytes f h = record { is = λ told before. walks_stop f (given_walks file bytes h) }
+
+-- the value of a plan, seen as the work that it makes ready for
+as_to : {R A B T : Type 0} (allows : R → List ℕ → Type 0) (told told' : Tells) (before now : Counts) (plan : Plan R A) (g : A → B) (view : T → A) (result : Result T Stop) → WalksTo allows told told' before now plan view result → WalksTo allows told told' before now (plan >>= (λ v. end (g v))) (λ t. g (view t)) result
+as_to allows told told' before now plan g view (Ok t) h = (h.0, ends_then told before now plan (λ v. end (g v)) (view t) (ready (g (view t))) h.1 refl)
+as_to allows told told' before now plan g view (Err stop) h = stops_to allows told told' before now plan (λ v. end (g v)) view (λ t. g (view t)) stop h
+
+pub walks_as : {R A B T : Type 0} {allows : R → List ℕ → Type 0} {told told' : Tells} {before now : Counts} {plan : Plan R A} {view : T → A} {result : Result T Stop} (g : A → B) → Walks allows told told' before now plan view result → Walks allows told told' before now (plan >>= (λ v. end (g v))) (λ t. g (view t)) result
+walks_as {allows = allows} {told = told} {told' = told'} {before = before} {now = now} {plan = plan} {view = view} {result = result} g h = record { is = as_to allows told told' before now plan g view result h.is }
+
+pub alone_as : {R A B T : Type 0} {allows : R → List ℕ → Type 0} {plan : Plan R A} {view : T → A} {result : Result T Stop} (g : A → B) → WalksAlone allows plan view result → WalksAlone allows (plan >>= (λ v. end (g v))) (λ t. g (view t)) result
+alone_as g h = record { is = λ told before. walks_as g (h.is told before) }

@@ -1,0 +1,30 @@
+-- What stands before the first put: the status and the whole text.
+use Rattle.std.specs.Prelude.{◌≡◌, ◌≢◌, ℕ, List, codes, Bool, true, Option, Some}
+use Rattle.bs_job.specs.declared.file.Status.{Status}
+use Rattle.bs_job.specs.declared.file.Status.TheVariants.{ReadFault, WriteFault}
+use Rattle.bs_job.specs.declared.answer.Answer.{Answer}
+use Rattle.bs_job.specs.declared.walk.Stop.{Stop}
+use Rattle.bs_job.specs.declared.walk.Stop.TheVariants.{NoMemory, Faulted, Refused}
+use Rattle.bs_job.specs.Files.{refusal_status, refusal_line, is_work_status}
+use Rattle.bs_job.specs.Plan.{Tells, Counts, Plan}
+use Rattle.bs_job.specs.Answers.{CallsFor}
+
+-- the answer is one that the words call for; a count rose only where it is a read fault
+pub record Prepares {R W : Type 0} (allows : R → List ℕ → Type 0) (finishes : W → Status → List ℕ → Type 0) (told : Tells) (before now : Counts) (plan : Option (Plan R W)) (answer : Answer) : Type 0 where
+  pub calls : CallsFor allows finishes told before now plan answer.status answer.text.items
+  pub steady : answer.status ≢ ReadFault → (name : List ℕ) → now name ≡ before name
+  pub no_write : answer.status ≢ WriteFault
+
+-- the same, where no shelf is asked
+pub record PreparesAlone {R W : Type 0} (allows : R → List ℕ → Type 0) (finishes : W → Status → List ℕ → Type 0) (plan : Plan R W) (answer : Answer) : Type 0 where
+  pub is : (told : Tells) (before : Counts) → Prepares allows finishes told before before (Some plan) answer
+
+-- the answer to a stop
+abbrev pub AnswersStop : Stop → Status → List ℕ → Type 0
+AnswersStop NoMemory status text = ⊥
+AnswersStop (Faulted file) status text = (status ≡ ReadFault) × (text ≡ refusal_line file (codes "ReadFault"))
+AnswersStop (Refused file why) status text = (status ≡ refusal_status file) × (text ≡ refusal_line file why.items)
+
+-- work that is done has a status of its own kind: no fault and no refusal
+pub record IsWork {W : Type 0} (finishes : W → Status → List ℕ → Type 0) : Type 0 where
+  pub status : (work : W) (status : Status) (text : List ℕ) → finishes work status text → is_work_status status ≡ true

@@ -1,0 +1,105 @@
+//! A plan is followed a file at a time, up to the first that stops it.
+ghost use Rattle.std.specs.Prelude.{◌≡◌};
+ghost use Rattle.bs_job.specs.declared.walk.Stop.TheVariants.{NoMemory as StopNoMemory};
+ghost use Rattle.bs_job.specs.declared.walk.Refusal.TheVariants.{NoMemory as ReadNoMemory};
+ghost use Rattle.bs_job.specs.Walks.{FetchedTo, GivenTo, IsTooLong, settled};
+
+use crate::file::File;
+use bs_outside::{Fetch, Shelf};
+use std::alloc::{AllocError, Global};
+
+/// Why a job stops before it is ready.
+#[derive(Drop)]
+pub enum Stop {
+    NoMemory,
+    /// A fetch of the file failed.
+    Faulted(File),
+    /// The file is refused, for this reason.
+    Refused(File, Vec<u8>),
+}
+
+impl From<AllocError> for Stop {
+    ghost from_gives = { λ _ stop. stop ≡ StopNoMemory };
+
+    fn from(_refused: AllocError) -> Stop {
+        Stop::NoMemory
+    }
+}
+
+impl From<bs_bits::NoMemory> for Stop {
+    ghost from_gives = { λ _ stop. stop ≡ StopNoMemory };
+
+    fn from(_wanting: bs_bits::NoMemory) -> Stop {
+        Stop::NoMemory
+    }
+}
+
+/// Why a reader refuses the bytes of a file.
+#[derive(Drop)]
+pub enum Refusal {
+    NoMemory,
+    /// The words behind the file's name in the refusal line.
+    Why(Vec<u8>),
+}
+
+impl From<AllocError> for Refusal {
+    ghost from_gives = { λ _ refusal. refusal ≡ ReadNoMemory };
+
+    fn from(_refused: AllocError) -> Refusal {
+        Refusal::NoMemory
+    }
+}
+
+impl From<bs_bits::NoMemory> for Refusal {
+    ghost from_gives = { λ _ refusal. refusal ≡ ReadNoMemory };
+
+    fn from(_wanting: bs_bits::NoMemory) -> Refusal {
+        Refusal::NoMemory
+    }
+}
+
+/// What a reader's answer is to the job: a refusal is one of this file.
+pub fn settle<T>(file: File, read: Result<T, Refusal>) -> Result<T, Stop>
+    ensures { result ≡ settled file read }
+{
+    match read {
+        Ok(value) => Ok(value),
+        Err(Refusal::NoMemory) => Err(Stop::NoMemory),
+        Err(Refusal::Why(why)) => Err(Stop::Refused(file, why)),
+    }
+}
+
+/// The bytes of a file, within its limit.
+pub fn fetch_file<S: Shelf>(
+    alloc: Global,
+    shelf: &mut S,
+    file: File,
+    name: &str,
+) -> Result<Vec<u8>, Stop>
+    ensures { FetchedTo (S.held shelf.old) (S.held shelf.new) (S.faults shelf.old) (S.faults shelf.new) file name.now result }
+{
+    let mut bytes = Vec::new(alloc);
+    match shelf.fetch(name, file.limit(), &mut bytes) {
+        Fetch::Done => Ok(bytes),
+        Fetch::Failed => Err(Stop::Faulted(file)),
+        Fetch::TooLong => too_long(alloc, file),
+        Fetch::NoMemory => Err(Stop::NoMemory),
+    }
+}
+
+/// The refusal of a file that is longer than its limit.
+fn too_long<T>(alloc: Global, file: File) -> Result<T, Stop>
+    ensures { IsTooLong file result }
+{
+    Err(Stop::Refused(file, b"TooLong".to_vec(alloc)?))
+}
+
+/// A text of the program's own in place of a file: it has the file's limit.
+pub fn check_given(alloc: Global, file: File, bytes: &[u8]) -> Result<(), Stop>
+    ensures { GivenTo file bytes.now result }
+{
+    if bytes.len() as u64 > file.limit() {
+        return too_long(alloc, file);
+    }
+    Ok(())
+}
