@@ -14,7 +14,7 @@ use Rattle.bs_net.specs.declared.tallies.Tally.{Tally}
 use Rattle.bs_net.specs.declared.tallies.Tally.TheVariants.{Never, Once, Often}
 use Rattle.bs_net.specs.Check.{times_in, driver_nets, reader_nets, is_shared, is_undriven}
 use Rattle.bs_net.specs.Lowest.{IsLowest, NonePasses}
-use Rattle.bs_net.specs.Tallies.{tally_of, raised, is_often, is_never, tally_at, tallied}
+use Rattle.bs_net.specs.Tallies.{tally_of, raised, is_often, is_never, tally_at, tallied, tallies_of, often_at, undriven_at}
 
 -- ---- the table
 
@@ -101,10 +101,10 @@ not_not false = refl
 
 -- the table of a netlist's drivers, and that of its readers
 abbrev pub Drives : Raw → List Tally → Type 0
-Drives r table = table ≡ tallied (replicate (length r.names) Never) (driver_nets r)
+Drives r table = table ≡ tallies_of (length r.names) (driver_nets r)
 
 abbrev pub Reads : Raw → List Tally → Type 0
-Reads r table = table ≡ tallied (replicate (length r.names) Never) (reader_nets r)
+Reads r table = table ≡ tallies_of (length r.names) (reader_nets r)
 
 shared_is : (r : Raw) (drivers : List Tally) → Drives r drivers → (n : ℕ) → n < length r.names → is_often (tally_at drivers n) ≡ is_shared r n
 shared_is r drivers d n lt =
@@ -139,21 +139,21 @@ none_same p q j k e same l = record { each = λ i lt. sym (same i lt) ∙ l.each
 wide : (r : Raw) (drivers : List Tally) → Drives r drivers → length drivers ≡ length r.names
 wide r drivers d = ap (λ t. length t) d ∙ length-tallied_new (length r.names) (driver_nets r)
 
-pub lowest_shared : (r : Raw) (drivers : List Tally) (n : ℕ) → Drives r drivers → IsLowest (λ k. is_often (tally_at drivers k)) (length drivers) n → IsLowest (is_shared r) (length r.names) n
+pub lowest_shared : (r : Raw) (drivers : List Tally) (n : ℕ) → Drives r drivers → IsLowest (often_at drivers) (length drivers) n → IsLowest (is_shared r) (length r.names) n
 lowest_shared r drivers n d l =
-    lowest_same (λ k. is_often (tally_at drivers k)) (is_shared r) _ _ n (wide r drivers d) (shared_is r drivers d) l
+    lowest_same (often_at drivers) (is_shared r) _ _ n (wide r drivers d) (shared_is r drivers d) l
 
-pub none_shared : (r : Raw) (drivers : List Tally) → Drives r drivers → NonePasses (λ k. is_often (tally_at drivers k)) (length drivers) → NonePasses (is_shared r) (length r.names)
+pub none_shared : (r : Raw) (drivers : List Tally) → Drives r drivers → NonePasses (often_at drivers) (length drivers) → NonePasses (is_shared r) (length r.names)
 none_shared r drivers d l =
-    none_same (λ k. is_often (tally_at drivers k)) (is_shared r) _ _ (wide r drivers d) (shared_is r drivers d) l
+    none_same (often_at drivers) (is_shared r) _ _ (wide r drivers d) (shared_is r drivers d) l
 
-pub lowest_undriven : (r : Raw) (readers drivers : List Tally) (n : ℕ) → Reads r readers → Drives r drivers → IsLowest (λ k. not (is_never (tally_at readers k)) && is_never (tally_at drivers k)) (length drivers) n → IsLowest (is_undriven r) (length r.names) n
+pub lowest_undriven : (r : Raw) (readers drivers : List Tally) (n : ℕ) → Reads r readers → Drives r drivers → IsLowest (undriven_at readers drivers) (length drivers) n → IsLowest (is_undriven r) (length r.names) n
 lowest_undriven r readers drivers n e d l =
-    lowest_same (λ k. not (is_never (tally_at readers k)) && is_never (tally_at drivers k)) (is_undriven r) _ _ n (wide r drivers d) (undriven_is r readers drivers e d) l
+    lowest_same (undriven_at readers drivers) (is_undriven r) _ _ n (wide r drivers d) (undriven_is r readers drivers e d) l
 
-pub none_undriven : (r : Raw) (readers drivers : List Tally) → Reads r readers → Drives r drivers → NonePasses (λ k. not (is_never (tally_at readers k)) && is_never (tally_at drivers k)) (length drivers) → NonePasses (is_undriven r) (length r.names)
+pub none_undriven : (r : Raw) (readers drivers : List Tally) → Reads r readers → Drives r drivers → NonePasses (undriven_at readers drivers) (length drivers) → NonePasses (is_undriven r) (length r.names)
 none_undriven r readers drivers e d l =
-    none_same (λ k. not (is_never (tally_at readers k)) && is_never (tally_at drivers k)) (is_undriven r) _ _ (wide r drivers d) (undriven_is r readers drivers e d) l
+    none_same (undriven_at readers drivers) (is_undriven r) _ _ (wide r drivers d) (undriven_is r readers drivers e d) l
 
 -- a table for each name is short
 pub table_short : (r : Raw) (drivers : List Tally) → Drives r drivers → length drivers < 2 ^ 32

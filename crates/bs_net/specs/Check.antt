@@ -16,6 +16,7 @@ use Rattle.bs_net.specs.Order.{IsOrder}
 
 -- ---- too many of something
 
+-- how many inputs a gate has that has too many
 abbrev pub wide_gate : Option Gate → Option (Count × ℕ)
 wide_gate None = None
 wide_gate (Some g) = Some (Terminals, length g.ins)
@@ -53,11 +54,13 @@ is_undriven r n = nat_lt 0 (times_in (reader_nets r) n) && not (nat_lt 0 (times_
 
 -- ---- an order of the gates
 
+-- an order of the gates exists in which each reads no output of itself or a later one
 abbrev pub HasOrder : List Gate → Type 0
 HasOrder gates = (order : List ℕ) × IsOrder gates order
 
 -- ---- the clock
 
+-- the first of two that is there
 abbrev pub first_of : Option NetId → Option NetId → Option NetId
 first_of (Some n) other = Some n
 first_of None other = other

@@ -48,6 +48,8 @@ is_one b = b
 abbrev pub is_odd : List Bool → Bool
 is_odd bits = count_by is_one bits % 2 == 1
 
+-- the value of a gate on its inputs' bits: `And` is 1 where all are, `Or` where one is, `Xor` where the number of ones is odd;
+-- `Nand`, `Nor` and `Xnor` are their complements, `Buf` is its one bit and `Not` the complement of that
 abbrev pub gate_value : Kind → List Bool → Bool
 gate_value And bits = list_all is_one bits
 gate_value Nand bits = not (list_all is_one bits)

@@ -4,6 +4,7 @@ use Rattle.bs_net.specs.declared.netlist.Netlist.TheInside.{Inside}
 use Rattle.bs_net.specs.Netlist.{circuit_of}
 use Rattle.bs_net.specs.Order.{IsChecked, IsBounded, IsOrder}
 
+-- the fields beside the parts are what the parts say, the circuit is checked and within the limits, and the order is one
 pub record IsSound (n : Inside) : Type 0 where
   pub clock : n.clock ≡ (circuit_of n.raw).clock
   pub inputs : n.data_inputs ≡ (circuit_of n.raw).inputs

@@ -20,21 +20,26 @@ pub record State : Type 0 where
   pub path : List ℕ
   pub listed : List ℕ
 
+-- the mark of a gate: listed, or open on the path, or new
 abbrev pub mark_of : List ℕ → List ℕ → ℕ → Mark
 mark_of path listed g = if is_in g listed then Listed else if is_in g path then Open else New
 
 -- ---- steps
 
+-- gate h is opened
 abbrev pub entered : State → ℕ → State
 entered s h = record { marks = slice_set s.marks h Open; left = s.left; path = h ∷ s.path; listed = s.listed }
 
+-- one more input of gate g is examined
 abbrev pub advanced : State → ℕ → State
 advanced s g = record { marks = s.marks; left = slice_set s.left g (slice_index_or s.left g 0 - 1); path = s.path; listed = s.listed }
 
+-- the newest open gate is listed
 abbrev pub closed_from : State → List ℕ → State
 closed_from s [] = s
 closed_from s (g ∷ rest) = record { marks = slice_set s.marks g Listed; left = s.left; path = rest; listed = g ∷ s.listed }
 
+-- the same, for a path as it is
 abbrev pub closed : State → State
 closed s = closed_from s s.path
 
@@ -44,10 +49,12 @@ closed s = closed_from s s.path
 abbrev pub driver_at : List (Option ℕ) → ℕ → Option ℕ
 driver_at table n = slice_index_or table n None
 
+-- the table has each gate at its output, and no other
 pub record IsDriverTable (gates : List Gate) (table : List (Option ℕ)) : Type 0 where
   pub sound : (n g : ℕ) → driver_at table n ≡ Some g → (g < length gates) × ((gate_at gates g).out.0 ≡ n)
   pub complete : (g : ℕ) → g < length gates → driver_at table (gate_at gates g).out.0 ≡ Some g
 
+-- whether a driver, where there is one, is listed
 abbrev pub is_listed : List ℕ → Option ℕ → Bool
 is_listed listed None = true
 is_listed listed (Some g) = is_in g listed
@@ -71,6 +78,8 @@ abbrev pub lists_after : List Gate → List (Option ℕ) → List ℕ → Bool
 lists_after gates table [] = true
 lists_after gates table (g ∷ before) = list_all (is_ready table before) (gate_at gates g).ins && lists_after gates table before
 
+-- the marks tell path and list, no gate is on both or twice, each open gate feeds the one opened before it, all examined inputs
+-- are ready, and the list is in order
 pub record IsSearch (gates : List Gate) (table : List (Option ℕ)) (s : State) : Type 0 where
   pub marks_placed : length s.marks ≡ length gates
   pub left_placed : length s.left ≡ length gates
@@ -88,9 +97,11 @@ effort gates s = sum s.left + (length gates - length s.listed) + (length gates -
 
 -- ---- what a look finds
 
+-- the newest open gate
 abbrev pub top : State → ℕ
 top s = slice_index_or s.path 0 0
 
+-- a net with no meaning, which stands past the end of a list
 abbrev pub no_net : NetId
 no_net = record { 0 = 0 }
 
@@ -103,6 +114,7 @@ pub record ClosesLoop (gates : List Gate) (s : State) (h : ℕ) : Type 0 where
   pub open_gate : is_in h s.path ≡ true
   pub feeds_top : feeds gates h (top s) ≡ true
 
+-- what a look at the newest open gate tells
 abbrev pub Finds : List Gate → List (Option ℕ) → State → Look → Type 0
 Finds gates table s Whole = slice_index_or s.left (top s) 0 ≡ 0
 Finds gates table s Ready = (0 < slice_index_or s.left (top s) 0) × (is_ready table s.listed (next_input gates s (top s)) ≡ true)

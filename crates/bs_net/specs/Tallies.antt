@@ -1,5 +1,5 @@
 -- Tables of how often each net is named.
-use Rattle.std.specs.Prelude.{ℕ, zero, suc, Bool, true, false, List, [], ◌∷◌, slice_set, slice_index_or}
+use Rattle.std.specs.Prelude.{ℕ, zero, suc, Bool, true, false, List, [], ◌∷◌, not, ◌&&◌, replicate, slice_set, slice_index_or}
 use Rattle.bs_net.specs.declared.net.NetId.{NetId}
 use Rattle.bs_net.specs.declared.tallies.Tally.{Tally}
 use Rattle.bs_net.specs.declared.tallies.Tally.TheVariants.{Never, Once, Often}
@@ -16,11 +16,13 @@ raised Never = Once
 raised Once = Often
 raised Often = Often
 
+-- whether it is twice or more
 abbrev pub is_often : Tally → Bool
 is_often Never = false
 is_often Once = false
 is_often Often = true
 
+-- whether it is not at all
 abbrev pub is_never : Tally → Bool
 is_never Never = true
 is_never Once = false
@@ -34,3 +36,15 @@ tally_at table n = slice_index_or table n Never
 abbrev pub tallied : List Tally → List NetId → List Tally
 tallied table [] = table
 tallied table (n ∷ ns) = tallied (slice_set table n.0 (raised (tally_at table n.0))) ns
+
+-- the table of the nets below a count after a list of nets is named
+abbrev pub tallies_of : ℕ → List NetId → List Tally
+tallies_of count ns = tallied (replicate count Never) ns
+
+-- whether a net is named twice or more
+abbrev pub often_at : List Tally → ℕ → Bool
+often_at drivers n = is_often (tally_at drivers n)
+
+-- whether a net is named among the readers and not among the drivers
+abbrev pub undriven_at : List Tally → List Tally → ℕ → Bool
+undriven_at readers drivers n = not (is_never (tally_at readers n)) && is_never (tally_at drivers n)

@@ -1,7 +1,7 @@
 //! Each net has at most one driver, and each net that is read has one.
 ghost use Rattle.std.specs.Prelude.{◌≡◌, ◌<◌, ◌^◌, ◌&&◌, not, length, OnOk, IfErr, IfSome, IfNone, None};
 ghost use Rattle.bs_net.specs.Lowest.{IsLowest, NonePasses};
-ghost use Rattle.bs_net.specs.Tallies.{is_often, is_never, tally_at};
+ghost use Rattle.bs_net.specs.Tallies.{is_often, is_never, often_at, undriven_at};
 ghost use Rattle.bs_net.specs.Check.{too_many, PassesNets, IsFault};
 
 use crate::fault::NetFault;
@@ -35,8 +35,8 @@ fn is_never(tally: Tally) -> bool
 /// The lowest net that is named twice or more.
 fn first_shared(drivers: &[Tally]) -> Option<u32>
     requires { length drivers.now < 2 ^ 32 }
-    ensures found { IfSome result (λ n. IsLowest (λ k. is_often (tally_at drivers.now k)) (length drivers.now) n) }
-    ensures none { IfNone result (NonePasses (λ k. is_often (tally_at drivers.now k)) (length drivers.now)) }
+    ensures found { IfSome result (λ n. IsLowest (often_at drivers.now) (length drivers.now) n) }
+    ensures none { IfNone result (NonePasses (often_at drivers.now) (length drivers.now)) }
 {
     for net in 0..drivers.len() {
         if is_often(drivers[net]) {
@@ -57,8 +57,8 @@ fn is_undriven(readers: Tally, drivers: Tally) -> bool
 fn first_undriven(readers: &[Tally], drivers: &[Tally]) -> Option<u32>
     requires same { length readers.now ≡ length drivers.now }
     requires few { length drivers.now < 2 ^ 32 }
-    ensures found { IfSome result (λ n. IsLowest (λ k. not (is_never (tally_at readers.now k)) && is_never (tally_at drivers.now k)) (length drivers.now) n) }
-    ensures none { IfNone result (NonePasses (λ k. not (is_never (tally_at readers.now k)) && is_never (tally_at drivers.now k)) (length drivers.now)) }
+    ensures found { IfSome result (λ n. IsLowest (undriven_at readers.now drivers.now) (length drivers.now) n) }
+    ensures none { IfNone result (NonePasses (undriven_at readers.now drivers.now) (length drivers.now)) }
 {
     for net in 0..readers.len() {
         if is_undriven(readers[net], drivers[net]) {

@@ -25,8 +25,8 @@ fn fill_table(table: &mut Vec<Option<u32>>, gates: &[Gate])
     }
 }
 
-/// The open gates from the newest one back to h.
-pub(crate) fn path_to(alloc: Global, path: &[u32], h: u32) -> Result<List<u32>, NoMemory>
+/// The end of a path, from its newest gate back to gate h.
+fn path_to(alloc: Global, path: &[u32], h: u32) -> Result<List<u32>, NoMemory>
     ensures { IfOk result (λ l. l ≡ up_to h (reverse path.now)) }
 {
     let mut part = List::new(alloc);
@@ -72,7 +72,7 @@ fn from_lowest(alloc: Global, numbers: &[u32]) -> Result<List<u32>, NoMemory>
 }
 
 /// What a search of all gates finds: an order of them, or a loop.
-pub(crate) enum Levelling {
+enum Levelling {
     Ordered(List<u32>),
     Looped(List<u32>),
 }
@@ -97,7 +97,7 @@ fn list_of(alloc: Global, numbers: &[u32]) -> Result<List<u32>, NoMemory>
 }
 
 /// An order in which each gate reads no output of itself or a later one, or else a loop.
-pub(crate) fn levelize(alloc: Global, gates: &[Gate], nets: usize) -> Result<Levelling, NoMemory>
+fn levelize(alloc: Global, gates: &[Gate], nets: usize) -> Result<Levelling, NoMemory>
     requires outs { All (λ g. g.out.0 < nets) gates.now }
     requires ins { All (λ g. All (λ n. n.0 < nets) g.ins) gates.now }
     requires narrow { All (λ g. length g.ins < 2 ^ 32) gates.now }

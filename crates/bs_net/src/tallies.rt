@@ -1,7 +1,7 @@
 //! Tables of how often each net is named, up to twice.
 ghost use Rattle.std.specs.Prelude.{◌≡◌, ◌<◌, length, replicate, map, All, IfOk, slice_set};
 ghost use Rattle.std.specs.List.{flat_map};
-ghost use Rattle.bs_net.specs.Tallies.{raised, tallied, tally_at};
+ghost use Rattle.bs_net.specs.Tallies.{raised, tallied, tallies_of, tally_at};
 ghost use Rattle.bs_net.specs.Check.{driver_nets, reader_nets};
 
 use crate::net::{Const, Flop, Gate, NetId};
@@ -124,7 +124,7 @@ fn unnamed(alloc: Global, count: usize) -> Result<Vec<Tally>, NoMemory>
 
 /// How many drivers each net has.
 pub(crate) fn driver_tallies(alloc: Global, raw: &Raw) -> Result<Vec<Tally>, NoMemory>
-    ensures { IfOk result (λ t. t.items ≡ tallied (replicate (length raw.now.names) Tally.Never) (driver_nets raw.now)) }
+    ensures { IfOk result (λ t. t.items ≡ tallies_of (length raw.now.names) (driver_nets raw.now)) }
 {
     let mut table = unnamed(alloc, raw.names.len() as usize)?;
     count_nets(&mut table, raw.inputs.slice());
@@ -136,7 +136,7 @@ pub(crate) fn driver_tallies(alloc: Global, raw: &Raw) -> Result<Vec<Tally>, NoM
 
 /// How many readers each net has.
 pub(crate) fn reader_tallies(alloc: Global, raw: &Raw) -> Result<Vec<Tally>, NoMemory>
-    ensures { IfOk result (λ t. t.items ≡ tallied (replicate (length raw.now.names) Tally.Never) (reader_nets raw.now)) }
+    ensures { IfOk result (λ t. t.items ≡ tallies_of (length raw.now.names) (reader_nets raw.now)) }
 {
     let mut table = unnamed(alloc, raw.names.len() as usize)?;
     count_inputs(&mut table, raw.gates.slice());
