@@ -1,0 +1,9 @@
+pub mod MomentLemmas
+pub mod SignatureLemmas
+pub mod DumpLemmas
+pub mod WorkedRows
+pub mod ChainLemmas
+pub mod WordLemmas
+pub mod FlopLemmas
+pub mod ItemLemmas
+pub mod RegisterLemmas

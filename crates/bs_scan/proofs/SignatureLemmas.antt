@@ -1,0 +1,82 @@
+-- The moment one cycle earlier is a predecessor that agrees with the stored signatures.
+use Rattle.std.proofs.Common.{◌≡◌, ℕ, suc, zero, ◌<◌, Bool, true, false, cond, List, [], ◌∷◌, map, length, take, get_or, refl, ap, subst, sym, ◌∙◌, ◌⊎◌, inl, inr, ⊎_elim}
+use Rattle.std.specs.Prelude.{filter, ◌&&◌, ◌||◌, IsTrue}
+use Rattle.std.specs.List.{list_any}
+use Rattle.std.proofs.lemmas.Bool.{true≢false}
+use Rattle.std.proofs.lemmas.List.{length-map}
+use Rattle.bs_bits.specs.Bits.{bits_eq}
+use Rattle.bs_net.specs.declared.net.Flop.{Flop}
+use Rattle.bs_net.specs.Circuit.{Circuit, next, all_bits}
+use Rattle.bs_net.proofs.CallerLemmas.{length_next}
+use Rattle.bs_net.proofs.NextLemmas.{Member, all_bits_member, bits_eq_Decides}
+use Rattle.bs_scan.specs.Choice.{Chosen, depth_of}
+use Rattle.bs_scan.specs.Moments.{Run, state_at, is_listed}
+use Rattle.bs_scan.specs.Signature.{signature, stored_at, agrees, some_input_leads, predecessors}
+
+pub bits_same : (s : List Bool) → bits_eq s s ≡ true
+bits_same s = (bits_eq_Decides s s).1 refl
+
+pub bits_same_is : (s t : List Bool) → bits_eq s t ≡ true → s ≡ t
+bits_same_is s t e = (bits_eq_Decides s t).0 e
+
+-- one member passes
+pub any_member : {X : Type 0} (p : X → Bool) (x : X) (xs : List X) → Member x xs → p x ≡ true → list_any p xs ≡ true
+any_member p x [] h t = absurd h
+any_member {X} p x (y ∷ ys) h t = by (p y) refl h (λ k. any_member p x ys k t)
+  where
+    by : (b : Bool) → p y ≡ b → (x ≡ y) ⊎ Member x ys → (Member x ys → list_any p ys ≡ true) → (b || list_any p ys) ≡ true
+    by true e h rest = refl
+    by false e (inl same) rest = absurd (true≢false (sym t ∙ (ap p same ∙ e)))
+    by false e (inr k) rest = rest k
+
+-- a member that passes is a member of what passes
+pub member_filter : {X : Type 0} (q : X → Bool) (x : X) (xs : List X) → Member x xs → q x ≡ true → Member x (filter q xs)
+member_filter q x [] h t = absurd h
+member_filter {X} q x (y ∷ ys) h t = by (q y) refl h (λ k. member_filter q x ys k t)
+  where
+    by : (b : Bool) → q y ≡ b → (x ≡ y) ⊎ Member x ys → (Member x ys → Member x (filter q ys)) → Member x (cond b (y ∷ filter q ys) (filter q ys))
+    by true e (inl same) rest = inl same
+    by true e (inr k) rest = inr (rest k)
+    by false e (inl same) rest = absurd (true≢false (sym t ∙ (ap q same ∙ e)))
+    by false e (inr k) rest = rest k
+
+pub length_state : (c : Circuit) (run : Run) (k : ℕ) → length (state_at c run k) ≡ length c.flops
+unfolding state_at
+length_state c run zero = length-map c.flops (λ (f : Flop). f.reset)
+length_state c run (suc k) = length_next c (state_at c run k) (get_or run k [])
+
+pub some_input : (c : Circuit) (s x : List Bool) → length x ≡ length c.inputs → some_input_leads c s (next c s x) ≡ true
+some_input c s x e =
+    let P : ℕ → Type 0 = λ n. Member x (all_bits n) in
+    any_member (λ y. bits_eq (next c s y) (next c s x)) x (all_bits (length c.inputs)) (subst P e (all_bits_member x)) (bits_same (next c s x))
+
+both : (a b : Bool) → a ≡ true → b ≡ true → (a && b) ≡ true
+both a b e f = rw (e, f) refl
+
+pub came_from : (c : Circuit) (choice : Chosen) (run : Run) (k : ℕ) → length (get_or run k []) ≡ length c.inputs →
+    is_listed (predecessors c choice (state_at c run (suc k)) (stored_at c choice run (suc k))) (state_at c run k) ≡ true
+unfolding predecessors state_at
+came_from c choice run k e =
+    let s : List Bool = state_at c run k in
+    let P : ℕ → Type 0 = λ n. Member s (all_bits n) in
+    any_member (bits_eq s) s (predecessors c choice (state_at c run (suc k)) (stored_at c choice run (suc k)))
+    (member_filter (λ s. agrees c choice (stored_at c choice run (suc k)) s && some_input_leads c s (state_at c run (suc k))) s (all_bits (length c.flops))
+    (subst P (length_state c run k) (all_bits_member s))
+    (both _ _ (bits_same (signature choice s)) (some_input c s (get_or run k []) e)))
+    (bits_same s)
+
+-- a state with the signatures that an input leads to p is a predecessor
+pub is_predecessor : (c : Circuit) (choice : Chosen) (p : List Bool) (stored : List (List Bool)) (s x : List Bool) → length s ≡ length c.flops → length x ≡ length c.inputs →
+    agrees c choice stored s ≡ true → next c s x ≡ p → is_listed (predecessors c choice p stored) s ≡ true
+unfolding predecessors
+is_predecessor c choice p stored s x ls lx ag e =
+    let P : ℕ → Type 0 = λ n. Member s (all_bits n) in
+    let leads : some_input_leads c s p ≡ true = subst (λ (p : List Bool). some_input_leads c s p ≡ true) e (some_input c s x lx) in
+    any_member (bits_eq s) s (predecessors c choice p stored)
+    (member_filter (λ s. agrees c choice stored s && some_input_leads c s p) s (all_bits (length c.flops)) (subst P ls (all_bits_member s)) (both _ _ ag leads))
+    (bits_same s)
+
+-- one clock edge later the register holds the signature of the state before it, and then what it held, as far as its depth goes
+pub stored_after : (c : Circuit) (choice : Chosen) (run : Run) (k : ℕ) →
+    stored_at c choice run (suc k) ≡ take (depth_of choice) (signature choice (state_at c run k) ∷ stored_at c choice run k)
+stored_after c choice run k = refl

@@ -1,0 +1,22 @@
+-- What a signature is taken of (docs/DEFINITIONS.md, "Signature").
+use Rattle.std.specs.Prelude.{ℕ, ◌<◌, ◌≤◌, List, All, length}
+use Rattle.std.specs.List.{sum_by}
+
+-- the number of flip-flops, and the items: the flip-flops of each, by number
+pub record Chosen : Type 0 where
+  pub width : ℕ
+  pub items : List (List ℕ)
+
+-- how many signatures the register keeps
+abbrev pub depth_of : Chosen → ℕ
+depth_of choice = 1
+
+-- how many flip-flop numbers the items have in all
+abbrev pub numbers_of : List (List ℕ) → ℕ
+numbers_of items = sum_by (λ item. length item) items
+
+-- the flip-flop numbers are below the width, and there are not too many items and numbers
+pub record IsChoice (choice : Chosen) : Type 0 where
+  pub in_range : All (λ item. All (λ flop. flop < choice.width) item) choice.items
+  pub few_items : length choice.items ≤ 256
+  pub few_numbers : numbers_of choice.items ≤ 1048576

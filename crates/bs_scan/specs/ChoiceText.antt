@@ -1,0 +1,73 @@
+-- The text of what a signature is taken of (docs/FORMATS.md, "Signature"): each line is `bit NAME`, or `xor NAME ..` with one name or more.
+use Rattle.std.specs.Prelude.{◌≡◌, ◌⊎◌, ℕ, ◌+◌, ◌==◌, nat_le, nat_lt, Bool, ◌&&◌, ◌||◌, List, [], ◌∷◌, length, codes, Option, Some, None, Result, Ok, Err, MatchResult, if◌then◌else◌, option_and_then}
+use Rattle.std.specs.List.{list_all, position}
+use Rattle.std.specs.Str.{bytes_eq}
+use Rattle.bs_bits.specs.Lines.{words_of, is_name}
+use Rattle.bs_net.specs.declared.net.Flop.{Flop}
+use Rattle.bs_net.specs.Names.{number_of}
+use Rattle.bs_net.specs.Netlist.{Checked}
+use Rattle.bs_scan.specs.declared.fault.ChoiceFault.{ChoiceFault}
+use Rattle.bs_scan.specs.declared.fault.ChoiceFault.TheVariants.{Line, TooMany, UnknownFlop, NoMemory}
+use Rattle.bs_scan.specs.Choice.{Chosen}
+
+infixl 10 ◌>>=◌
+abbrev pub ◌>>=◌ : {A B : Type 0} → Result A ChoiceFault → (A → Result B ChoiceFault) → Result B ChoiceFault
+(Ok x) >>= f = f x
+(Err e) >>= f = Err e
+
+-- the flip-flop whose output is a net
+abbrev pub flop_of_net : List Flop → ℕ → Option ℕ
+flop_of_net flops n = position (λ flop. flop.q.0 == n) flops
+
+-- the flip-flop with a name: the key of its output net
+abbrev pub flop_named : Checked → List ℕ → Option ℕ
+flop_named net name = option_and_then (flop_of_net net.raw.flops) (number_of net.raw.names name)
+
+-- whether a line's first word and its other words are an item
+abbrev pub is_item : List ℕ → List (List ℕ) → Bool
+is_item word names =
+    list_all is_name names
+    && ((bytes_eq word (codes "xor") && nat_le 1 (length names)) || (bytes_eq word (codes "bit") && (length names == 1)))
+
+-- the names that a line's words list, where they are an item
+abbrev pub names_of : List (List ℕ) → Option (List (List ℕ))
+names_of [] = None
+names_of (word ∷ names) = if is_item word names then Some names else None
+
+-- the flip-flop of a name in the line with this number
+abbrev pub known : ℕ → Option ℕ → Result ℕ ChoiceFault
+known number None = Err (UnknownFlop number)
+known number (Some flop) = Ok flop
+
+-- the flip-flops of the names, in order
+unfoldable pub flops_of : Checked → ℕ → List (List ℕ) → Result (List ℕ) ChoiceFault
+flops_of net number [] = Ok []
+flops_of net number (name ∷ names) = do
+  flop ← known number (flop_named net name)
+  flops ← flops_of net number names
+  Ok (flop ∷ flops)
+
+-- the item of the line with this number, which is the number of the item too
+abbrev pub item_of : Checked → ℕ → Option (List (List ℕ)) → Result (List ℕ) ChoiceFault
+item_of net number None = Err (Line number)
+item_of net number (Some names) = if nat_lt 256 number then Err (TooMany number) else flops_of net number names
+
+-- the items of the lines from this number on, or the first fault
+unfoldable pub items_of : Checked → ℕ → List (List ℕ) → Result (List (List ℕ)) ChoiceFault
+items_of net number [] = Ok []
+items_of net number (text ∷ texts) = do
+  item ← item_of net number (names_of (words_of text))
+  items ← items_of net (number + 1) texts
+  Ok (item ∷ items)
+
+abbrev pub chosen : ℕ → List (List ℕ) → Chosen
+chosen width items = record { width = width; items = items }
+
+-- what the lines of a signature file say
+abbrev pub choice_of : Checked → List (List ℕ) → Result Chosen ChoiceFault
+choice_of net texts = items_of net 1 texts >>= λ items. Ok (chosen (length net.raw.flops) items)
+
+-- what is answered is the expected value or the expected fault, unless memory ran out
+abbrev pub Answers : {A B : Type 0} → (A → B) → Result A ChoiceFault → Result B ChoiceFault → Type 0
+Answers f result expected =
+    MatchResult result (λ value. expected ≡ Ok (f value)) (λ fault. (fault ≡ NoMemory) ⊎ (expected ≡ Err fault))

@@ -1,0 +1,40 @@
+-- Signatures, and the predecessors that agree with them (docs/DEFINITIONS.md, "Signature" and "Predecessors").
+use Rattle.std.specs.Prelude.{ℕ, zero, suc, Bool, false, ◌&&◌, List, [], ◌∷◌, map, filter, length}
+use Rattle.std.specs.List.{list_any}
+use Rattle.bs_bits.specs.Bits.{bits_eq}
+use Rattle.bs_net.specs.Circuit.{Circuit, next, all_bits, is_odd, bit_at}
+use Rattle.bs_scan.specs.Choice.{Chosen, depth_of}
+use Rattle.bs_scan.specs.Moments.{Run, state_at}
+
+-- the parity of the bits of some flip-flops in a state: one that is named twice counts twice
+abbrev pub parity_of : List Bool → List ℕ → Bool
+parity_of s item = is_odd (map (λ flop. bit_at s flop) item)
+
+-- the signature of a state: the parity of each item
+abbrev pub signature : Chosen → List Bool → List Bool
+signature choice s = map (parity_of s) choice.items
+
+-- the signatures of so many states before a cycle, the last one first, as far as the run goes back
+abbrev pub signatures_before : Circuit → Chosen → Run → ℕ → ℕ → List (List Bool)
+signatures_before c choice run zero cycle = []
+signatures_before c choice run (suc count) zero = []
+signatures_before c choice run (suc count) (suc cycle) =
+    signature choice (state_at c run cycle) ∷ signatures_before c choice run count cycle
+
+-- what the register holds at a moment: none at reset
+abbrev pub stored_at : Circuit → Chosen → Run → ℕ → List (List Bool)
+stored_at c choice run cycle = signatures_before c choice run (depth_of choice) cycle
+
+-- whether some input leads from s to p
+abbrev pub some_input_leads : Circuit → List Bool → List Bool → Bool
+some_input_leads c s p = list_any (λ x. bits_eq (next c s x) p) (all_bits (length c.inputs))
+
+-- whether a state of the circuit may stand directly before a moment at which the register holds these signatures
+abbrev pub agrees : Circuit → Chosen → List (List Bool) → List Bool → Bool
+agrees c choice [] s = false
+agrees c choice (last ∷ older) s = bits_eq (signature choice s) last
+
+-- the predecessors of p that agree with the stored signatures, ascending
+unfoldable pub predecessors : Circuit → Chosen → List Bool → List (List Bool) → List (List Bool)
+predecessors c choice p stored =
+    filter (λ s. agrees c choice stored s && some_input_leads c s p) (all_bits (length c.flops))

@@ -1,0 +1,92 @@
+//! What a signature is taken of.
+ghost use Rattle.std.specs.Prelude.{◌≡◌, ◌<◌, ◌≤◌, ◌^◌, length, Some, slice_get, All, IfOk};
+ghost use Rattle.bs_bits.specs.Lines.{lines_of};
+ghost use Rattle.bs_scan.specs.Choice.{IsChoice};
+ghost use Rattle.bs_scan.specs.ChoiceText.{choice_of, Answers};
+ghost use Rattle.bs_scan.specs.Signature.{parity_of, signature};
+
+use crate::choice_text::read_items;
+use crate::fault::ChoiceFault;
+use crate::flops::FlopNames;
+use bs_bits::{Bits, List, NoMemory};
+use bs_net::Netlist;
+use std::alloc::Global;
+use std::marker::Model;
+
+/// The items of a signature, each a list of flip-flop numbers: at most 256 items, and 1,048,576 numbers in all.
+#[derive(Drop)]
+pub struct Choice {
+    width: usize,
+    items: List<List<u32>>,
+}
+
+impl Model for Choice {
+    ghost use Rattle.bs_scan.specs.Choice.{Chosen, IsChoice};
+
+    ghost Value = { Chosen };
+
+    ghost view = { λ choice. record { width = choice.width; items = choice.items } };
+
+    ghost invariant = { λ choice. IsChoice (record { width = choice.width; items = choice.items }) };
+}
+
+/// The parity of an item's flip-flops in a state. A flip-flop that is named twice counts twice.
+pub(crate) fn parity(item: &[u32], state: &Bits) -> bool
+    requires { All (λ flop. flop < length state.now) item.now }
+    ensures { result ≡ parity_of state.now item.now }
+{
+    let ones = item.iter().filter(|flop| state.get(**flop as usize));
+    ones.count() % 2 == 1
+}
+
+impl Choice {
+    /// The items that a signature file names, by the keys of the flip-flops' output nets
+    /// (docs/FORMATS.md, "Signature").
+    pub fn read(alloc: Global, bytes: &[u8], net: &Netlist) -> Result<Choice, ChoiceFault>
+        requires { length bytes.now ≤ 2 ^ 20 }
+        ensures { Answers (λ choice. choice) result (choice_of net.now (lines_of bytes.now)) }
+    {
+        let flops = FlopNames::new(alloc, net)?;
+        let items = read_items(alloc, bytes, &flops)?;
+        Ok(Choice {
+            width: net.width(),
+            items,
+        })
+    }
+
+    /// The number of flip-flops of the netlist.
+    pub fn width(&self) -> usize
+        ensures { result ≡ self.now.width }
+    {
+        self.width
+    }
+
+    /// The number of items.
+    pub fn items(&self) -> usize
+        ensures count { result ≡ length self.now.items }
+        ensures sound { IsChoice self.now }
+    {
+        self.items.len()
+    }
+
+    /// The flip-flop numbers of an item. Items and flip-flops are numbered from 0.
+    pub fn item(&self, i: usize) -> &List<u32>
+        requires { i < length self.now.items }
+        ensures lookup { slice_get self.now.items i ≡ Some result.now }
+        ensures range { All (λ flop. flop < self.now.width) result.now }
+    {
+        self.items.get(i)
+    }
+
+    /// The signature of a state: a bit for each item.
+    pub fn of(&self, alloc: Global, state: &Bits) -> Result<Bits, NoMemory>
+        requires { length state.now ≡ self.now.width }
+        ensures { IfOk result (λ bits. bits ≡ signature self.now state.now) }
+    {
+        let mut bits = Bits::new(alloc);
+        'items: for i in 0..self.items() {
+            bits.push(parity(self.item(i).slice(), state))?;
+        }
+        Ok(bits)
+    }
+}

@@ -1,0 +1,81 @@
+//! The text of a signature file, read line by line.
+ghost use Rattle.std.specs.Prelude.{◌≡◌, ◌<◌, ◌≤◌, ◌^◌, length, All, IsTrue, IfOk, option_map};
+ghost use Rattle.std.specs.List.{list_all};
+ghost use Rattle.bs_bits.specs.Lines.{lines_of, words_of, is_name as is_name_text};
+ghost use Rattle.bs_scan.specs.Choice.{IsChoice};
+ghost use Rattle.bs_scan.specs.ChoiceText.{names_of, flops_of, item_of, items_of, chosen, Answers};
+
+use crate::fault::ChoiceFault;
+use crate::flops::FlopNames;
+use crate::words::{item_names, split_word};
+use bs_bits::{List, next_line};
+use std::alloc::Global;
+
+/// The flip-flops of the names in the line with this number.
+fn read_flops(
+    alloc: Global,
+    names: &[u8],
+    number: u32,
+    flops: &FlopNames<'_>,
+) -> Result<List<u32>, ChoiceFault>
+    requires { IsTrue (list_all is_name_text (words_of names.now)) }
+    ensures reads { Answers (λ item. item) result (flops_of flops.now number (words_of names.now)) }
+    ensures range { IfOk result (λ item. All (λ flop. flop < length flops.now.raw.flops) item) }
+    ensures count { IfOk result (λ item. length item ≡ length (words_of names.now)) }
+{
+    let mut item = List::new(alloc);
+    let mut behind = Some(names);
+    'names: while let Some(rest) = behind {
+        let (name, more) = split_word(rest);
+        match flops.number(name) {
+            Some(flop) => item.push(flop)?,
+            None => return Err(ChoiceFault::UnknownFlop(number)),
+        }
+        behind = more;
+    }
+    Ok(item)
+}
+
+/// The item of the line with this number.
+fn read_item(
+    alloc: Global,
+    line: &[u8],
+    number: u32,
+    flops: &FlopNames<'_>,
+) -> Result<List<u32>, ChoiceFault>
+    ensures reads { Answers (λ item. item) result (item_of flops.now number (names_of (words_of line.now))) }
+    ensures range { IfOk result (λ item. All (λ flop. flop < length flops.now.raw.flops) item) }
+    ensures short { IfOk result (λ item. length item ≤ length line.now) }
+    ensures few { IfOk result (λ _. number ≤ 256) }
+{
+    match item_names(line) {
+        None => Err(ChoiceFault::Line(number)),
+        Some(names) => {
+            if number > 256 {
+                return Err(ChoiceFault::TooMany(number));
+            }
+            read_flops(alloc, names, number, flops)
+        }
+    }
+}
+
+/// The items of a text.
+pub fn read_items(
+    alloc: Global,
+    bytes: &[u8],
+    flops: &FlopNames<'_>,
+) -> Result<List<List<u32>>, ChoiceFault>
+    requires { length bytes.now ≤ 2 ^ 20 }
+    ensures reads { Answers (λ items. items) result (items_of flops.now 1 (lines_of bytes.now)) }
+    ensures sound { IfOk result (λ items. IsChoice (chosen (length flops.now.raw.flops) items)) }
+{
+    let mut items = List::new(alloc);
+    let mut rest = bytes;
+    let mut number = 1u32;
+    'lines: while let Some((line, behind)) = next_line(rest) {
+        items.push(read_item(alloc, line, number, flops)?)?;
+        number += 1;
+        rest = behind;
+    }
+    Ok(items)
+}

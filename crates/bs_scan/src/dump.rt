@@ -1,0 +1,69 @@
+//! What is dumped of a chip: a state, and the signature that its register holds.
+ghost use Rattle.std.specs.Prelude.{◌≡◌, ◌++◌, length, OnOk, OnErr};
+ghost use Rattle.bs_net.specs.Netlist.{circuit};
+ghost use Rattle.bs_net.specs.Circuit.{reset_state};
+ghost use Rattle.bs_scan.specs.DumpText.{dump_of, dump_text, at_reset as dump_at_reset, Answers};
+ghost use Rattle.bs_bits.specs.Lines.{lines_of};
+
+use crate::choice::Choice;
+use crate::dump_text::{bits_line, end_line, first_line, push_lines, stored_line};
+use crate::fault::DumpFault;
+use bs_bits::{Bits, NoMemory};
+use bs_net::Netlist;
+use std::alloc::Global;
+
+/// A dump: the state of the flip-flops in scan order, and the signature that the register holds, if it holds one.
+#[derive(Drop)]
+pub struct Dump {
+    pub state: Bits,
+    pub stored: Option<Bits>,
+}
+
+/// The dump, where it has a signature or is the reset state.
+fn at_reset(reset: &Bits, state: Bits, stored: Option<Bits>) -> Result<Dump, DumpFault>
+    ensures { result ≡ dump_at_reset reset.now state stored }
+{
+    if stored.is_none() {
+        if !state.equals(reset) {
+            return Err(DumpFault::NotReset);
+        }
+    }
+    Ok(Dump { state, stored })
+}
+
+impl Dump {
+    /// The dump that a text stands for, of a netlist and what its signatures are taken of (docs/FORMATS.md, "Dump").
+    #[tactic(auto, unfolding(crate::specs::DumpText::dump_of))]
+    pub fn read(
+        alloc: Global,
+        bytes: &[u8],
+        net: &Netlist,
+        choice: &Choice,
+    ) -> Result<Dump, DumpFault>
+        ensures { Answers (λ dump. dump) result (dump_of (reset_state (circuit net.now)) (length choice.now.items) (lines_of bytes.now)) }
+    {
+        let (line, rest) = first_line(bytes);
+        let state = bits_line(alloc, b"state ", 1, net.width(), line)?;
+        let (line, rest) = first_line(rest);
+        let stored = stored_line(alloc, choice.items(), line)?;
+        match end_line(rest) {
+            Ok(()) => at_reset(net.reset(), state, stored),
+            Err(fault) => Err(fault),
+        }
+    }
+
+    /// Appends the one text of the dump.
+    pub fn text(&self, into: &mut Vec<u8>) -> Result<(), NoMemory>
+        ensures ok { OnOk result (into.new.items ≡ into.old.items ++ dump_text self.now) }
+        ensures err { OnErr result (into.new.items ≡ into.old.items) }
+    {
+        let mark = into.len();
+        match push_lines(&self.state, &self.stored, into) {
+            Ok(()) => Ok(()),
+            Err(refused) => {
+                into.truncate(mark);
+                Err(refused)
+            }
+        }
+    }
+}

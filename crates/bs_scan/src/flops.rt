@@ -1,0 +1,102 @@
+//! Flip-flops by their names.
+ghost use Rattle.std.specs.Prelude.{◌≡◌, ◌<◌, None, option_map, replicate, length, IsTrue, IfOk, IfSome};
+ghost use Rattle.bs_bits.specs.Lines.{is_name as is_name_text};
+ghost use Rattle.bs_net.specs.Names.{number_of};
+ghost use Rattle.bs_scan.specs.ChoiceText.{flop_named};
+ghost use Rattle.bs_scan.specs.Reading.{IsTable, noted};
+
+use bs_bits::NoMemory;
+use bs_net::{NetId, Netlist};
+use std::alloc::Global;
+use std::marker::Model;
+
+/// The flip-flops of a netlist by the keys of their output nets: a look-up takes the time of one in a hash map.
+#[derive(Drop)]
+pub struct FlopNames<'a> {
+    net: &'a Netlist,
+    by_net: Vec<Option<u32>>,
+}
+
+impl<'a> Model for FlopNames<'a> {
+    ghost use Rattle.bs_net.specs.Netlist.{Checked};
+    ghost use Rattle.bs_scan.specs.Reading.{IsTable};
+
+    ghost Value = { Checked };
+
+    ghost view = { λ names. names.net.now };
+
+    ghost invariant = { λ names. IsTable names.net.now names.by_net.items };
+}
+
+/// As many places without a flip-flop.
+fn no_flops(alloc: Global, count: usize) -> Result<Vec<Option<u32>>, NoMemory>
+    ensures { IfOk result (λ table. table.items ≡ replicate count None) }
+{
+    Ok(vec![in alloc; None; count]?)
+}
+
+/// Notes a flip-flop at its output net, unless there is one already.
+fn note(table: &mut Vec<Option<u32>>, net: NetId, flop: u32)
+    requires { net.0 < length table.old.items }
+    ensures { table.new.items ≡ noted table.old.items net.0 flop }
+{
+    let place = net.0 as usize;
+    if table[place].is_none() {
+        table[place] = Some(flop);
+    }
+}
+
+/// For each net the flip-flop whose output it is.
+fn flops_by_net(alloc: Global, net: &Netlist) -> Result<Vec<Option<u32>>, NoMemory>
+    ensures { IfOk result (λ table. IsTable net.now table.items) }
+{
+    let raw = net.raw();
+    let flops = raw.flops.slice();
+    let mut table = no_flops(alloc, raw.names.len() as usize)?;
+    'flops: for i in 0..flops.len() {
+        note(&mut table, flops[i].q, i as u32);
+    }
+    Ok(table)
+}
+
+/// A name as a text.
+fn name_text(name: &[u8]) -> &str
+    requires { IsTrue (is_name_text name.now) }
+    ensures { result.now ≡ name.now }
+{
+    match str::from_utf8(name) {
+        Ok(text) => text,
+        Err(_) => unreachable!(),
+    }
+}
+
+/// The net with a name.
+fn net_named(net: &Netlist, name: &[u8]) -> Option<NetId>
+    requires { IsTrue (is_name_text name.now) }
+    ensures value { option_map (λ n. n.0) result ≡ number_of net.now.raw.names name.now }
+    ensures within { IfSome result (λ n. n.0 < length net.now.raw.names) }
+{
+    net.raw().names.number(name_text(name))
+}
+
+impl<'a> FlopNames<'a> {
+    /// The names of a netlist's flip-flops.
+    pub fn new(alloc: Global, net: &'a Netlist) -> Result<FlopNames<'a>, NoMemory>
+        ensures { IfOk result (λ names. names ≡ net.now) }
+    {
+        let by_net = flops_by_net(alloc, net)?;
+        Ok(FlopNames { net, by_net })
+    }
+
+    /// The number of the flip-flop with a name.
+    pub fn number(&self, name: &[u8]) -> Option<u32>
+        requires { IsTrue (is_name_text name.now) }
+        ensures value { result ≡ flop_named self.now name.now }
+        ensures within { IfSome result (λ flop. flop < length self.now.raw.flops) }
+    {
+        match net_named(self.net, name) {
+            Some(n) => self.by_net[n.0 as usize],
+            None => None,
+        }
+    }
+}
