@@ -1,3 +1,8 @@
+pub mod Keeping
+pub mod Reading
+pub mod WordLemmas
+pub mod RoundTrip
+pub mod Examples
 pub mod Elements
 pub mod Propagates
 pub mod Tests

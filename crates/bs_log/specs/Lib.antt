@@ -7,3 +7,6 @@ pub mod Refutation
 pub mod Steps
 pub mod FirstRefused
 pub mod LineText
+pub mod Writing
+pub mod LineReading
+pub mod LineForms

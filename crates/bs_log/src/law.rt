@@ -1,5 +1,6 @@
 //! What an accepted log proves, and that a log has one verdict.
 ghost use Rattle.bs_log.specs.Refutation.{AddedClausesHold, FinishedStepsAreRefuted};
+ghost use Rattle.bs_log.specs.LineForms.{LinesReadBack, TextsAreLines};
 ghost use Rattle.bs_log.specs.FirstRefused.{NoneIsRefusedInAccepted, TheFirstIsRefused};
 
 /// An accepted log refutes what is not listed, over every list of clauses and steps. Take an assignment that meets the
@@ -15,4 +16,11 @@ pub fn accepted_logs_refute()
 pub fn the_first_refused_line_is_exact()
     ensures accepted { NoneIsRefusedInAccepted }
     ensures refused { TheFirstIsRefused }
+{}
+
+/// Reading and writing of lines are each other's inverse: a line with a text is read back from it, and a text is read as
+/// the line that has it, if there is one.
+pub fn reading_inverts_writing()
+    ensures back { LinesReadBack }
+    ensures exact { TextsAreLines }
 {}

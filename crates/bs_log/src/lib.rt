@@ -3,12 +3,17 @@
 
 mod law;
 mod line;
+mod line_reading;
+mod line_text;
 mod log;
 mod origin;
 mod phase;
+#[cfg(test)]
+mod samples;
 mod why;
+mod words;
 
-pub use law::{accepted_logs_refute, the_first_refused_line_is_exact};
+pub use law::{accepted_logs_refute, reading_inverts_writing, the_first_refused_line_is_exact};
 pub use line::Line;
 pub use log::Log;
 pub use origin::Origin;

@@ -1,0 +1,109 @@
+//! The texts of the lines of a log.
+ghost use Rattle.std.specs.Prelude.{◌≡◌, ◌++◌, OnErr, OnOk};
+ghost use Rattle.std.specs.List.{flat_map};
+ghost use Rattle.bs_log.specs.Writing.{Keeps};
+ghost use Rattle.bs_log.specs.LineText.{id_text, line_text, literal_text};
+
+use crate::line::Line;
+use bs_bits::{NoMemory, push_number, push_piece};
+use bs_clause::Lit;
+
+impl Line {
+    #[tactic(auto, using(crate::proofs::Keeping::cut_back))]
+    /// Appends the one text of the line (docs/FORMATS.md, "The log"), without a line feed.
+    pub fn text(&self, into: &mut Vec<u8>) -> Result<(), NoMemory>
+        ensures ok { OnOk result (into.new.items ≡ into.old.items ++ line_text self.now) }
+        ensures err { OnErr result (into.new.items ≡ into.old.items) }
+    {
+        let start = into.len();
+        let whole = push_line(into, self);
+        if whole.is_err() {
+            into.truncate(start);
+        }
+        whole
+    }
+}
+
+/// Appends a literal and a space.
+#[tactic(auto, using(crate::proofs::Keeping::keeps_after, crate::proofs::Keeping::keeps_same, crate::proofs::Keeping::keeps_piece))]
+fn push_literal(text: &mut Vec<u8>, literal: Lit) -> Result<(), NoMemory>
+    ensures ok { OnOk result (text.new.items ≡ text.old.items ++ literal_text literal) }
+    ensures err { OnErr result (Keeps text.old.items text.new.items) }
+{
+    if !literal.positive() {
+        push_piece(text, b"-")?;
+    }
+    push_number(text, u64::from(literal.var().0))?;
+    push_piece(text, b" ")
+}
+
+/// Appends an id and a space.
+#[tactic(auto, using(crate::proofs::Keeping::keeps_after, crate::proofs::Keeping::keeps_same, crate::proofs::Keeping::keeps_piece))]
+fn push_id(text: &mut Vec<u8>, id: u64) -> Result<(), NoMemory>
+    ensures ok { OnOk result (text.new.items ≡ text.old.items ++ id_text id) }
+    ensures err { OnErr result (Keeps text.old.items text.new.items) }
+{
+    push_number(text, id)?;
+    push_piece(text, b" ")
+}
+
+/// Appends literals, each with a space.
+#[tactic(auto, using(crate::proofs::Keeping::keeps_after, crate::proofs::Keeping::keeps_same, crate::proofs::Keeping::keeps_piece))]
+fn push_literals(text: &mut Vec<u8>, literals: &[Lit]) -> Result<(), NoMemory>
+    ensures ok { OnOk result (text.new.items ≡ text.old.items ++ flat_map literal_text literals.now) }
+    ensures err { OnErr result (Keeps text.old.items text.new.items) }
+{
+    for literal in literals {
+        push_literal(text, *literal)?;
+    }
+    Ok(())
+}
+
+/// Appends ids, each with a space.
+#[tactic(auto, using(crate::proofs::Keeping::keeps_after, crate::proofs::Keeping::keeps_same, crate::proofs::Keeping::keeps_piece))]
+fn push_ids(text: &mut Vec<u8>, ids: &[u64]) -> Result<(), NoMemory>
+    ensures ok { OnOk result (text.new.items ≡ text.old.items ++ flat_map id_text ids.now) }
+    ensures err { OnErr result (Keeps text.old.items text.new.items) }
+{
+    for id in ids {
+        push_id(text, *id)?;
+    }
+    Ok(())
+}
+
+/// Appends the text of a line; where memory runs out, a part of it may stand behind the old bytes.
+#[tactic(auto, using(crate::proofs::Keeping::keeps_after, crate::proofs::Keeping::keeps_same, crate::proofs::Keeping::keeps_piece))]
+fn push_line(text: &mut Vec<u8>, line: &Line) -> Result<(), NoMemory>
+    ensures ok { OnOk result (text.new.items ≡ text.old.items ++ line_text line.now) }
+    ensures err { OnErr result (Keeps text.old.items text.new.items) }
+{
+    match line {
+        Line::Solve => push_piece(text, b"s"),
+        Line::Lemma { id, lits, hints } => {
+            push_id(text, *id)?;
+            push_literals(text, lits.slice())?;
+            push_piece(text, b"0 ")?;
+            push_ids(text, hints.slice())?;
+            push_piece(text, b"0")
+        }
+        Line::Block { id, lits } => {
+            push_piece(text, b"b ")?;
+            push_id(text, *id)?;
+            push_literals(text, lits.slice())?;
+            push_piece(text, b"0")
+        }
+        Line::Finish { id } => {
+            push_piece(text, b"e ")?;
+            push_number(text, *id)
+        }
+        Line::Retire { id } => {
+            push_piece(text, b"r ")?;
+            push_number(text, *id)
+        }
+        Line::Delete { ids } => {
+            push_piece(text, b"d ")?;
+            push_ids(text, ids.slice())?;
+            push_piece(text, b"0")
+        }
+    }
+}
