@@ -11,6 +11,7 @@ mod parts;
 mod reading;
 mod syntax;
 mod terms;
+mod unsupported;
 mod words;
 
 pub use fault::{VerilogFault, What};

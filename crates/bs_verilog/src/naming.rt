@@ -1,5 +1,5 @@
 //! The lexemes of a text, and the table of its names.
-ghost use Rattle.std.specs.Prelude.{◌≡◌, ◌≤◌, ◌+◌, ◌<◌, [], ◌∷◌, ◌++◌, length, Some, None, IfOk, IfErr, OnOk, Ok, slice_index_or};
+ghost use Rattle.std.specs.Prelude.{◌≡◌, ◌≤◌, ◌<◌, [], length, Some, None, IfOk, IfErr, OnOk, Ok, slice_index_or};
 ghost use Rattle.std.specs.Str.{IsAscii};
 ghost use Rattle.bs_net.specs.Names.{with_key, number_of};
 ghost use Rattle.bs_lex.specs.Placing.{token_text, ArePlaced, IsAsciiName, IsPlaced};

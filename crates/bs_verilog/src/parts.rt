@@ -91,6 +91,7 @@ impl Reader<Part> for GateReader {
     }
 }
 
+/// Whether a lexeme is a drive strength.
 fn is_strength(sort: Sort) -> bool
     ensures { result ≡ parts.is_strength sort }
 {
