@@ -1,0 +1,97 @@
+-- Which words are a job, and which job they are (docs/FORMATS.md, "Command words").
+use Rattle.std.specs.Prelude.{ℕ, ◌^◌, ◌-◌, Bool, true, false, List, [], ◌∷◌, codes, Option, Some, None, if◌then◌else◌}
+use Rattle.std.specs.Option.{option_map, option_and_then, unwrap_or}
+use Rattle.std.specs.Str.{bytes_eq}
+use Rattle.bs_words.specs.Options.{number_between}
+use Rattle.bs_words.specs.Line.{Line, read_all, start}
+
+-- the files and budgets of `run`
+pub record RunJob : Type 0 where
+  pub netlist : List ℕ
+  pub signature : List ℕ
+  pub stimulus : List ℕ
+  pub dump : List ℕ
+  pub steps : ℕ
+  pub candidates : ℕ
+  pub conflicts : ℕ
+
+-- the files of `audit`
+pub record AuditJob : Type 0 where
+  pub netlist : List ℕ
+  pub signature : List ℕ
+  pub stimulus : List ℕ
+  pub dump : List ℕ
+  pub report : List ℕ
+
+-- the files and the moment of `dump`
+pub record DumpJob : Type 0 where
+  pub netlist : List ℕ
+  pub signature : List ℕ
+  pub stimulus : List ℕ
+  pub run : ℕ
+  pub cycle : ℕ
+
+pub data Job : Type 0 where
+  Run : RunJob → Job
+  Audit : AuditJob → Job
+  Dump : DumpJob → Job
+  Demo : ℕ → Job
+
+-- `run` has four file names, and a budget that is not given has its default
+abbrev pub run_at : Line → List (List ℕ) → Option Job
+run_at line (netlist ∷ signature ∷ stimulus ∷ dump ∷ []) = Some (Run record {
+  netlist = netlist;
+  signature = signature;
+  stimulus = stimulus;
+  dump = dump;
+  steps = unwrap_or line.steps 64;
+  candidates = unwrap_or line.candidates 256;
+  conflicts = unwrap_or line.conflicts 100000;
+})
+run_at line _ = None
+
+abbrev pub run_job : Line → Option Job
+run_job line = run_at line line.positions
+
+-- `audit` has five file names
+abbrev pub audit_at : List (List ℕ) → Option Job
+audit_at (netlist ∷ signature ∷ stimulus ∷ dump ∷ report ∷ []) = Some (Audit record { netlist = netlist; signature = signature; stimulus = stimulus; dump = dump; report = report })
+audit_at _ = None
+
+abbrev pub audit_job : Line → Option Job
+audit_job line = audit_at line.positions
+
+abbrev pub dump_of : List ℕ → List ℕ → List ℕ → Option ℕ → Option ℕ → Option Job
+dump_of netlist signature stimulus (Some run) (Some cycle) = Some (Dump record { netlist = netlist; signature = signature; stimulus = stimulus; run = run; cycle = cycle })
+dump_of netlist signature stimulus (Some run) None = None
+dump_of netlist signature stimulus None cycle = None
+
+-- `dump` has three file names, a run from 1 to 256 and a cycle from 0 to 65,536
+abbrev pub dump_at : List (List ℕ) → Option Job
+dump_at (netlist ∷ signature ∷ stimulus ∷ run ∷ cycle ∷ []) = dump_of netlist signature stimulus (number_between 1 256 run) (number_between 0 65536 cycle)
+dump_at _ = None
+
+abbrev pub dump_job : Line → Option Job
+dump_job line = dump_at line.positions
+
+-- `demo` has one number below 2 ^ 64
+abbrev pub demo_at : List (List ℕ) → Option Job
+demo_at (number ∷ []) = option_map (λ (n : ℕ). Demo n) (number_between 0 (2 ^ 64 - 1) number)
+demo_at _ = None
+
+abbrev pub demo_job : Line → Option Job
+demo_job line = demo_at line.positions
+
+-- the job of a command and what stands behind it
+abbrev pub command_job : List ℕ → Line → Option Job
+command_job command line =
+    if bytes_eq command (codes "run") then run_job line
+    else (if bytes_eq command (codes "audit") then audit_job line
+    else (if bytes_eq command (codes "dump") then dump_job line
+    else (if bytes_eq command (codes "demo") then demo_job line
+    else None)))
+
+-- the job that words are: the first is the command, and options belong to `run` alone
+abbrev pub job_of : List (List ℕ) → Option Job
+job_of [] = None
+job_of (command ∷ words) = option_and_then (command_job command) (read_all (bytes_eq command (codes "run")) words start)

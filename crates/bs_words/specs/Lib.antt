@@ -1,0 +1,4 @@
+pub mod Options
+pub mod Line
+pub mod Job
+pub mod Shown

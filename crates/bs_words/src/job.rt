@@ -1,0 +1,155 @@
+//! The job that words are: a command, its files and its numbers.
+ghost use Rattle.std.specs.Prelude.{◌≡◌, map, string_bytes, IfOk};
+ghost use Rattle.bs_words.specs.Job.{audit_job, command_job, demo_job, dump_job, job_of, run_job};
+ghost use Rattle.bs_words.specs.Shown.{line_in, shown_job};
+
+use crate::line::{Line, read_line};
+use crate::options::number_between;
+use std::alloc::{AllocError, Global};
+
+/// `run`: the names of its files, and its budgets.
+#[derive(Clone, Copy)]
+pub struct RunJob<'a> {
+    pub netlist: &'a str,
+    pub signature: &'a str,
+    pub stimulus: &'a str,
+    pub dump: &'a str,
+    pub steps: u64,
+    pub candidates: u64,
+    pub conflicts: u64,
+}
+
+/// `audit`: the names of its files.
+#[derive(Clone, Copy)]
+pub struct AuditJob<'a> {
+    pub netlist: &'a str,
+    pub signature: &'a str,
+    pub stimulus: &'a str,
+    pub dump: &'a str,
+    pub report: &'a str,
+}
+
+/// `dump`: the names of its files, and a moment. A run counts from 1, a cycle from 0.
+#[derive(Clone, Copy)]
+pub struct DumpJob<'a> {
+    pub netlist: &'a str,
+    pub signature: &'a str,
+    pub stimulus: &'a str,
+    pub run: u64,
+    pub cycle: u64,
+}
+
+/// What a command line asks for.
+#[derive(Clone, Copy)]
+pub enum Job<'a> {
+    Run(RunJob<'a>),
+    Audit(AuditJob<'a>),
+    Dump(DumpJob<'a>),
+    /// `demo`, with its number.
+    Demo(u64),
+}
+
+/// The run of four file names and the budgets that are given.
+fn run_job<'a>(line: &Line<'a>) -> Option<Job<'a>>
+    ensures { shown_job result ≡ run_job (line_in line.now) }
+{
+    match line.positions.as_slice() {
+        [netlist, signature, stimulus, dump] => Some(Job::Run(RunJob {
+            netlist,
+            signature,
+            stimulus,
+            dump,
+            steps: line.steps.unwrap_or(64),
+            candidates: line.candidates.unwrap_or(256),
+            conflicts: line.conflicts.unwrap_or(100_000),
+        })),
+        _ => None,
+    }
+}
+
+/// The audit of five file names.
+fn audit_job<'a>(line: &Line<'a>) -> Option<Job<'a>>
+    ensures { shown_job result ≡ audit_job (line_in line.now) }
+{
+    match line.positions.as_slice() {
+        [netlist, signature, stimulus, dump, report] => Some(Job::Audit(AuditJob {
+            netlist,
+            signature,
+            stimulus,
+            dump,
+            report,
+        })),
+        _ => None,
+    }
+}
+
+/// The dump of three file names, a run and a cycle.
+fn dump_job<'a>(line: &Line<'a>) -> Option<Job<'a>>
+    ensures { shown_job result ≡ dump_job (line_in line.now) }
+{
+    match line.positions.as_slice() {
+        [netlist, signature, stimulus, run, cycle] => {
+            match (
+                number_between(1, 256, run),
+                number_between(0, 65_536, cycle),
+            ) {
+                (Some(run), Some(cycle)) => Some(Job::Dump(DumpJob {
+                    netlist,
+                    signature,
+                    stimulus,
+                    run,
+                    cycle,
+                })),
+                _ => None,
+            }
+        }
+        _ => None,
+    }
+}
+
+/// The demo of a number.
+fn demo_job<'a>(line: &Line<'a>) -> Option<Job<'a>>
+    ensures { shown_job result ≡ demo_job (line_in line.now) }
+{
+    match line.positions.as_slice() {
+        [number] => match number_between(0, u64::MAX, number) {
+            Some(number) => Some(Job::Demo(number)),
+            None => None,
+        },
+        _ => None,
+    }
+}
+
+/// The job that the words of a command line are, without the program's name, if they are one. The first word is the
+/// command; options belong to `run` alone.
+pub fn read_words(alloc: Global, words: &[String]) -> Result<Option<Job<'_>>, AllocError>
+    ensures { IfOk result (λ job. shown_job job ≡ job_of (map string_bytes words.now)) }
+{
+    let [command, rest @ ..] = words else {
+        return Ok(None);
+    };
+    let command = command.as_str();
+    let Some(line) = read_line(alloc, command == "run", rest)? else {
+        return Ok(None);
+    };
+    Ok(job_in(command, &line))
+}
+
+/// The job of a command and what stands behind it.
+fn job_in<'a>(command: &str, line: &Line<'a>) -> Option<Job<'a>>
+    ensures { shown_job result ≡ command_job command.now (line_in line.now) }
+{
+    if command == "run" {
+        return run_job(line);
+    }
+    if command == "audit" {
+        return audit_job(line);
+    }
+    if command == "dump" {
+        return dump_job(line);
+    }
+    if command == "demo" {
+        return demo_job(line);
+    }
+    None
+}
