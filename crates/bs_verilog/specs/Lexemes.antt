@@ -24,21 +24,26 @@ use Rattle.bs_verilog.specs.Reading.{is_name}
 abbrev pub is_one_of : List ℕ → List String → Bool
 is_one_of name these = list_any (λ word. bytes_eq name (codes word)) these
 
+-- the keywords of behaviour, `reg` apart
 abbrev pub behaviour_words : List String
 behaviour_words =
     "always" ∷ "initial" ∷ "integer" ∷ "real" ∷ "time" ∷ "event" ∷ "task" ∷ "function" ∷ "specify" ∷ "generate" ∷ "genvar" ∷ []
 
+-- the keywords of parameters
 abbrev pub parameter_words : List String
 parameter_words = "parameter" ∷ "localparam" ∷ "defparam" ∷ []
 
+-- the net types that are left out
 abbrev pub net_words : List String
 net_words = "tri" ∷ "uwire" ∷ "wand" ∷ "wor" ∷ "tri0" ∷ "tri1" ∷ "triand" ∷ "trior" ∷ "trireg" ∷ []
 
+-- the primitives that are left out
 abbrev pub switch_words : List String
 switch_words =
     "bufif0" ∷ "bufif1" ∷ "notif0" ∷ "notif1" ∷ "nmos" ∷ "pmos" ∷ "cmos" ∷ "rnmos" ∷ "rpmos" ∷ "rcmos" ∷ "tran" ∷ "tranif0" ∷ "tranif1"
     ∷ "rtran" ∷ "rtranif0" ∷ "rtranif1" ∷ "pullup" ∷ "pulldown" ∷ []
 
+-- the strengths that are keywords of nothing else
 abbrev pub strength_words : List String
 strength_words = "strong0" ∷ "pull0" ∷ "weak0" ∷ "highz0" ∷ "strong1" ∷ "pull1" ∷ "weak1" ∷ "highz1" ∷ []
 
@@ -50,6 +55,7 @@ own_words =
     ∷ ("primitive", words.Primitive) ∷ ("and", words.Gate And) ∷ ("nand", words.Gate Nand) ∷ ("or", words.Gate Or) ∷ ("nor", words.Gate Nor)
     ∷ ("xor", words.Gate Xor) ∷ ("xnor", words.Gate Xnor) ∷ ("buf", words.Gate Buf) ∷ ("not", words.Gate Not) ∷ []
 
+-- the keyword of this text in a list
 abbrev pub word_among : List ℕ → List (String × code.Word) → Option code.Word
 word_among name [] = None
 word_among name (w ∷ ws) = if bytes_eq name (codes w.0) then Some w.1 else word_among name ws
@@ -73,18 +79,22 @@ unfoldable pub decimal_from : ℕ → List ℕ → ℕ
 decimal_from n [] = n
 decimal_from n (c ∷ text) = decimal_from (10 * n + (c - 48)) text
 
+-- four bytes: `1`, a `'`, a base, and `0` or `1`
 abbrev pub is_one_bit : List ℕ → Bool
 is_one_bit text = length text == 4 && first text ∈ "1" && slice_index text 1 ∈ "'" && is_base (slice_index text 2) && slice_index text 3 ∈ "01"
 
+-- digits alone, one bit, or another number
 abbrev pub sort_of_number : List ℕ → Sort
 sort_of_number text =
     if list_all is_digit text then sorts.Digits (min (decimal_from 0 text) 65536)
     else if is_one_bit text then sorts.Bit (slice_index text 3 ∈ "1")
     else sorts.Number
 
+-- a keyword, or a name
 abbrev pub sort_of_name : List ℕ → Sort
 sort_of_name name = elim (word_of name) [ Some word ↦ sorts.Word word | None ↦ sorts.Name (cell_of name) ]
 
+-- an escaped name
 abbrev pub is_escaped : TokenKind → Bool
 is_escaped kinds.Escaped = true
 is_escaped _ = false
@@ -105,6 +115,7 @@ sort_of kinds.AttrOpen text = sorts.AttrOpen
 sort_of kinds.AttrClose text = sorts.AttrClose
 sort_of kinds.Sym text = sorts.Symbol (first text)
 
+-- what a token is to the grammar
 abbrev pub token_sort : List ℕ → Token → Sort
 token_sort source t = sort_of t.kind (spelling source t)
 
@@ -122,6 +133,7 @@ unfoldable pub names_from : List (List ℕ) → List ℕ → List Token → List
 names_from names source [] = names
 names_from names source (t ∷ ts) = names_from (with_name names (name_text source t)) source ts
 
+-- the names of all tokens
 abbrev pub names_of : List ℕ → List Token → List (List ℕ)
 names_of source tokens = names_from [] source tokens
 
@@ -130,6 +142,7 @@ abbrev pub number_in : List (List ℕ) → Option (List ℕ) → ℕ
 number_in names (Some name) = unwrap_or (number_of names name) 0
 number_in names None = 0
 
+-- the lexeme of a token, among these names
 abbrev pub lexeme_of : List (List ℕ) → List ℕ → Token → Lexeme
 lexeme_of names source t = record { sort = token_sort source t; at = t.start; name = number_in names (name_text source t) }
 
