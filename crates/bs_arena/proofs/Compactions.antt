@@ -208,7 +208,7 @@ all_words at (c ∷ cs) =
       | false ↦ rest
     ]
 
-clauses_back : (at : ℕ) (cs : List Stored) → map (λ p. p.clause) (placed_from at cs) ≡ cs
+pub clauses_back : (at : ℕ) (cs : List Stored) → map (λ p. p.clause) (placed_from at cs) ≡ cs
 clauses_back at [] = refl
 clauses_back at (c ∷ cs) = ap (λ r. c ∷ r) (clauses_back (at + size c) cs)
 

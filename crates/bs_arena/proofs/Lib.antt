@@ -1,5 +1,6 @@
 pub mod Compactions
 pub mod Contents
+pub mod Lookups
 pub mod Names
 pub mod Spellings
 pub mod Splits

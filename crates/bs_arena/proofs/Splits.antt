@@ -76,7 +76,7 @@ parts words r s =
     ap (λ b. front words r s ++ (cond b (held (record { place = r; clause = s.clause }) ∷ []) [] ++ back words r s)) s.live
 
 -- no other clause has the reference
-misses : (at r : ℕ) (cs : List Stored) → (r < at) ⊎ (at + length (spelling_of cs) ≤ r) → AllByRecursion (λ (h : Held). eqb h.ref r ≡ false) (live_in (placed_from at cs))
+pub misses : (at r : ℕ) (cs : List Stored) → (r < at) ⊎ (at + length (spelling_of cs) ≤ r) → AllByRecursion (λ (h : Held). eqb h.ref r ≡ false) (live_in (placed_from at cs))
 misses at r [] apart = tt
 misses at r (c ∷ cs) apart =
     let long : length (spelling c ++ spelling_of cs) ≡ size c + length (spelling_of cs) = omega (arith, length-append (spelling c) (spelling_of cs)) in

@@ -1,5 +1,5 @@
 -- What an arena holds.
-use Rattle.std.specs.Prelude.{◌≡◌, ℕ, ◌+◌, ◌/◌, ◌%◌, ◌==◌, ◌<◌, ◌≤◌, ◌^◌, List, [], length, map, Option, sum_by, swap, option_map, All, AllPairs}
+use Rattle.std.specs.Prelude.{◌≡◌, ◌≢◌, IsSome, ℕ, ◌+◌, ◌/◌, ◌%◌, ◌==◌, ◌<◌, ◌≤◌, ◌^◌, List, [], length, map, Option, sum_by, swap, option_map, All, AllPairs}
 use Rattle.std.specs.List.{find, filter}
 use Rattle.std.specs.Option.{unwrap_or}
 use Rattle.bs_clause.specs.Literal.{Literal, IsVariable}
@@ -36,6 +36,14 @@ swapped h i j = record { ref = h.ref; id = h.id; literals = swap h.literals i j 
 -- a clause without its reference
 abbrev pub meaning : Held → ℕ × List Literal
 meaning h = (h.id, h.literals)
+
+-- each clause that was live is still as it was
+pub record Keeps (old new : List Held) : Type 0 where
+  pub kept : (r : ℕ) → IsSome (held_at old r) → held_at new r ≡ held_at old r
+
+-- each reference but this one names what it named before
+pub record KeepsOthers (old new : List Held) (r : ℕ) : Type 0 where
+  pub kept : (q : ℕ) → q ≢ r → held_at new q ≡ held_at old q
 
 -- a clause that can be added: its id has 64 bits, its literals have codes, and there are fewer than 2 ^ 30 of them
 pub record IsHeld (h : Held) : Type 0 where

@@ -1,5 +1,6 @@
 -- What a renaming holds.
-use Rattle.std.specs.Prelude.{ℕ, ◌<◌, ◌≤◌, ◌==◌, List, length, find, Option, option_map, slice_index_or}
+use Rattle.std.specs.Prelude.{◌≡◌, ℕ, ◌<◌, ◌≤◌, ◌==◌, List, length, find, Option, Some, is_some, option_map, slice_index_or}
+use Rattle.bs_arena.specs.Arena.{Held, held_at, meaning}
 
 -- the old and the new reference of each clause, and how many such pairs there is room for
 pub record Names : Type 0 where
@@ -9,6 +10,11 @@ pub record Names : Type 0 where
 -- the new reference of an old one, if it has one
 abbrev pub new_name : List (ℕ × ℕ) → ℕ → Option ℕ
 new_name names r = option_map (λ name. name.1) (find (λ name. name.0 == r) names)
+
+-- a reference has a new one exactly where it was live, and that names a clause of the same meaning
+pub record IsRenaming (old new : List Held) (names : List (ℕ × ℕ)) : Type 0 where
+  pub named : (r : ℕ) → is_some (new_name names r) ≡ is_some (held_at old r)
+  pub same : (r s : ℕ) → new_name names r ≡ Some s → option_map meaning (held_at new s) ≡ option_map meaning (held_at old r)
 
 -- the old references ascend
 pub record IsAscending (names : List (ℕ × ℕ)) : Type 0 where

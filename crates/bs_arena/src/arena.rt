@@ -1,7 +1,8 @@
 //! The arena, a list of live clauses in one vector.
-ghost use Rattle.std.specs.Prelude.{◌≡◌, ◌+◌, ◌^◌, ◌<◌, ◌≤◌, ◌==◌, not, [], ◌∷◌, ◌++◌, map, length, filter, if◌then◌else◌, zip, option_map, All, Some, IsSome, IsOk, OnOk, OnErr, IfOk};
+ghost use Rattle.std.specs.Prelude.{◌≡◌, ◌+◌, ◌^◌, ◌<◌, ◌≤◌, ◌==◌, not, [], ◌∷◌, ◌++◌, map, length, filter, if◌then◌else◌, zip, option_map, Some, None, IsSome, IsOk, OnOk, OnErr, IfOk};
 ghost use Rattle.bs_clause.specs.Literal.{code_of};
-ghost use Rattle.bs_arena.specs.Arena.{AreCodes, IsContent, held_at, literals_at, live_words, meaning, swapped};
+ghost use Rattle.bs_arena.specs.Arena.{AreCodes, IsContent, Keeps, KeepsOthers, held_at, literals_at, live_words, meaning, swapped};
+ghost use Rattle.bs_arena.specs.Renaming.{IsRenaming};
 
 use crate::compaction::move_together;
 use crate::header::{HEADER, LIVE, codes_at, id_at, push_clause, size_at};
@@ -90,6 +91,9 @@ impl Arena {
     pub fn add(&mut self, id: u64, lits: &[Lit]) -> Result<Ref, NoMemory>
         requires { length lits.now < 2 ^ 30 }
         ensures clauses { IfOk result (λ r. self.new.clauses ≡ self.old.clauses ++ record { ref = r; id = id; literals = lits.now } ∷ []) }
+        ensures found { IfOk result (λ r. held_at self.new.clauses r ≡ Some (record { ref = r; id = id; literals = lits.now })) }
+        ensures fresh { IfOk result (λ r. held_at self.old.clauses r ≡ None) }
+        ensures keeps { Keeps self.old.clauses self.new.clauses }
         ensures words { OnOk result (self.new.words ≡ self.old.words + length lits.now + 4) }
         ensures spare { self.old.spare ≤ self.new.spare + length lits.now + 4 }
         ensures succeeds { length lits.now + 4 ≤ self.old.spare → IsOk result }
@@ -126,6 +130,8 @@ impl Arena {
         requires first { i < length (literals_at self.old.clauses r) }
         requires second { j < length (literals_at self.old.clauses r) }
         ensures clauses { self.new.clauses ≡ map (λ h. if h.ref == r then swapped h i j else h) self.old.clauses }
+        ensures found { held_at self.new.clauses r ≡ option_map (λ h. swapped h i j) (held_at self.old.clauses r) }
+        ensures others { KeepsOthers self.old.clauses self.new.clauses r }
         ensures words { self.new.words ≡ self.old.words }
         ensures spare { self.new.spare ≡ self.old.spare }
     {
@@ -136,6 +142,8 @@ impl Arena {
     pub fn kill(&mut self, r: Ref)
         requires { IsSome (held_at self.old.clauses r) }
         ensures clauses { self.new.clauses ≡ filter (λ h. not (h.ref == r)) self.old.clauses }
+        ensures gone { held_at self.new.clauses r ≡ None }
+        ensures others { KeepsOthers self.old.clauses self.new.clauses r }
         ensures words { self.new.words ≡ self.old.words }
         ensures spare { self.new.spare ≡ self.old.spare }
     {
@@ -151,6 +159,7 @@ impl Arena {
         requires { length self.old.clauses ≤ renaming.old.spare }
         ensures clauses { map meaning self.new.clauses ≡ map meaning self.old.clauses }
         ensures names { renaming.new.names ≡ zip (map (λ h. h.ref) self.old.clauses) (map (λ h. h.ref) self.new.clauses) }
+        ensures renames { IsRenaming self.old.clauses self.new.clauses renaming.new.names }
         ensures words { self.new.words ≡ live_words self.new.clauses }
         ensures room { self.new.words + self.new.spare ≡ self.old.words + self.old.spare }
         ensures spare { renaming.old.spare ≤ renaming.new.spare }

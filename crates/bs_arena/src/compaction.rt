@@ -2,6 +2,7 @@
 ghost use Rattle.std.specs.Prelude.{◌≡◌, ◌≤◌, length, map, zip, vec_capacity};
 ghost use Rattle.bs_arena.specs.Words.{spelling_of};
 ghost use Rattle.bs_arena.specs.Arena.{IsWellFormed, clauses_of, kept_in};
+ghost use Rattle.bs_arena.specs.Renaming.{IsRenaming};
 
 use crate::header::{is_live_at, size_at};
 use crate::reference::Ref;
@@ -14,6 +15,7 @@ pub fn move_together(words: &mut Vec<u32>, renaming: &mut Renaming)
     ensures words { words.new.items ≡ spelling_of (kept_in words.old.items) }
     ensures capacity { vec_capacity words.new ≡ vec_capacity words.old }
     ensures names { renaming.new.names ≡ zip (map (λ h. h.ref) (clauses_of words.old.items)) (map (λ h. h.ref) (clauses_of words.new.items)) }
+    ensures renames { IsRenaming (clauses_of words.old.items) (clauses_of words.new.items) renaming.new.names }
     ensures spare { renaming.old.spare ≤ renaming.new.spare }
 {
     renaming.clear();

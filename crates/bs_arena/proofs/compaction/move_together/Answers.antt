@@ -1,10 +1,11 @@
 use Rattle.std.proofs.Common.{◌≡◌, ℕ, List, [], ◌∷◌, ◌++◌, ◌+◌, length, get_or, true, eqb, sym, ap, subst, ◌∙◌, refl, arith, rules}
 use Rattle.std.specs.List.{copy_within}
 use Rattle.std.specs.Prelude.{vec_capacity}
-use Rattle.bs_arena.specs.Words.{size}
-use Rattle.bs_arena.specs.Arena.{stored_in}
-use Rattle.bs_arena.proofs.Spellings.{live_word}
-use Rattle.bs_arena.proofs.Compactions.{Compacting, Next, begins, next, skips, moves, ends, Ended, refs_are, names_left, spelled_by, order, same_far, listed_number}
+use Rattle.bs_arena.specs.Words.{size, placed_from}
+use Rattle.bs_arena.specs.Arena.{stored_in, clauses_of, live_in}
+use Rattle.bs_arena.proofs.Spellings.{live_word, read_back}
+use Rattle.bs_arena.proofs.Lookups.{renaming_of}
+use Rattle.bs_arena.proofs.Compactions.{kept, Compacting, Next, begins, next, skips, moves, ends, Ended, refs_are, names_left, spelled_by, order, same_far, listed_number}
 use Rattle.bs_arena.proofs.compaction.move_together.Goals.{then-is_live_at, else-is_live_at}
 use Rattle.bs_arena.proofs.compaction.move_together.Goals as goal
 
@@ -121,3 +122,12 @@ returns-clause-names c =
     let e : Ended (stored_in c.args.words.now.items) c.clauses.words.items c.clauses.to c.clauses.renaming.names =
     ends (stored_in c.args.words.now.items) c.clauses.words.items c.clauses.from c.clauses.to c.clauses.renaming.names c.clauses.invariant.far (omega (arith, c.clauses-test.false, c.len.ensures)) in
     e.names_are ∙ refs_are c.args.words.now.items c.truncate.new.self.items (stored_in c.args.words.now.items) (spelled_by c.args.words.now.items c.requires.form) (c.truncate.ensures.items ∙ e.words_are)
+
+pub returns-clause-renames : goal.returns-clause-renames
+returns-clause-renames c =
+    let stored = stored_in c.args.words.now.items in
+    let e : Ended (stored_in c.args.words.now.items) c.clauses.words.items c.clauses.to c.clauses.renaming.names =
+    ends (stored_in c.args.words.now.items) c.clauses.words.items c.clauses.from c.clauses.to c.clauses.renaming.names c.clauses.invariant.far (omega (arith, c.clauses-test.false, c.len.ensures)) in
+    renaming_of stored (clauses_of c.args.words.now.items) (clauses_of c.truncate.new.self.items) c.clauses.renaming.names
+    (ap clauses_of (spelled_by c.args.words.now.items c.requires.form) ∙ ap live_in (read_back 0 stored))
+    (ap clauses_of (c.truncate.ensures.items ∙ e.words_are) ∙ ap live_in (read_back 0 (kept stored))) e.names_are

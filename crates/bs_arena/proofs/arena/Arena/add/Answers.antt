@@ -1,4 +1,4 @@
-use Rattle.std.proofs.Common.{◌≡◌, ◌+◌, ◌≤◌, ◌<◌, ◌^◌, ◌++◌, ◌∷◌, [], map, length, refl, sym, ap, subst, ◌∙◌, true, arith}
+use Rattle.std.proofs.Common.{◌≡◌, ℕ, List, ◌+◌, ◌≤◌, ◌<◌, ◌^◌, ◌++◌, ◌∷◌, [], map, length, refl, sym, ap, subst, ◌∙◌, true, arith}
 use Rattle.std.proofs.lemmas.List.{length-map}
 use Rattle.std.proofs.lemmas.List.Elements.{All-map}
 use Rattle.bs_clause.specs.Literal.{code_of}
@@ -6,6 +6,7 @@ use Rattle.bs_arena.specs.Words.{Stored, spelling}
 use Rattle.bs_arena.specs.Arena.{IsArena, clauses_of, Held, held, IsStored}
 use Rattle.bs_arena.proofs.Spellings.{clauses_of-push, literals_of-codes}
 use Rattle.bs_arena.proofs.Contents.{arena_push, live_fits, number_fits}
+use Rattle.bs_arena.proofs.Lookups.{added_is_found, added_is_fresh, keeps_more}
 use Rattle.bs_arena.proofs.arena.Arena.add.Goals as goal
 
 pub invariant_of-self-2 : goal.invariant_of-self-2
@@ -37,3 +38,20 @@ overflow_add-self-2 c =
 pub overflow_add-self-3 : goal.overflow_add-self-3
 overflow_add-self-3 c =
     omega (arith, c.self.invariant.count_is, number_fits c.self.inside.words.items c.self.invariant.form, c.push_clause.ensures.len, c.in_ok-reserve.ensures.len, c.push_clause.new.words.small)
+
+pub returns-clause-found : goal.returns-clause-found
+returns-clause-found c =
+    let words : List ℕ = c.self.inside.words.items in
+    let place : c.new.result ≡ length words = omega (arith, c.new.ensures, c.len-at.ensures, c.in_ok-reserve.ensures.len) in
+    added_is_found words c.self.invariant.form c.args.self.now.clauses (clauses_of c.push_clause.new.words.items) (record { ref = c.new.result; id = c.args.id; literals = c.args.lits.now })
+    (ap (λ v. v.clauses) c.self.view_is) (returns-clause-clauses c) place
+
+pub returns-clause-fresh : goal.returns-clause-fresh
+returns-clause-fresh c =
+    let words : List ℕ = c.self.inside.words.items in
+    let place : c.new.result ≡ length words = omega (arith, c.new.ensures, c.len-at.ensures, c.in_ok-reserve.ensures.len) in
+    added_is_fresh words c.self.invariant.form c.args.self.now.clauses c.new.result (ap (λ v. v.clauses) c.self.view_is) place
+
+pub returns-clause-keeps : goal.returns-clause-keeps
+returns-clause-keeps c =
+    keeps_more c.args.self.now.clauses (clauses_of c.push_clause.new.words.items) (record { ref = c.new.result; id = c.args.id; literals = c.args.lits.now } ∷ []) (returns-clause-clauses c)

@@ -1,6 +1,7 @@
 use Rattle.std.proofs.Common.{◌≡◌, ℕ, ◌+◌, ◌-◌, List, length, set, get_or, not, filter, eqb, sym, ap, subst, ◌∙◌, arith}
 use Rattle.bs_arena.specs.Arena.{Held, IsArena, clauses_of}
 use Rattle.bs_arena.proofs.Splits.{Split, split_of, Header, header_of, others, killed, arena_kill, fits_kill}
+use Rattle.bs_arena.proofs.Lookups.{gone, others_of_kill}
 use Rattle.bs_arena.proofs.arena.Arena.kill.Goals as goal
 
 pub size_at-size-requires : goal.size_at-size-requires
@@ -52,3 +53,9 @@ returns-clause-clauses c =
     let s : Split words c.args.r = split_of words c.args.self.now.clauses c.args.r c.self.invariant.form old c.requires in
     ap (λ r. clauses_of (set words (r + 3) 0)) c.at-2.ensures ∙ killed words c.args.r s ∙ sym (others words c.args.r s) ∙
     ap (filter (λ (h : Held). not (eqb h.ref c.args.r))) old
+
+pub returns-clause-gone : goal.returns-clause-gone
+returns-clause-gone c = gone c.args.self.now.clauses (clauses_of (set c.self.inside.words.items (c.at-2.result + 3) 0)) c.args.r (returns-clause-clauses c)
+
+pub returns-clause-others : goal.returns-clause-others
+returns-clause-others c = others_of_kill c.args.self.now.clauses (clauses_of (set c.self.inside.words.items (c.at-2.result + 3) 0)) c.args.r (returns-clause-clauses c)

@@ -1,6 +1,7 @@
 use Rattle.std.proofs.Common.{◌≡◌, ℕ, ◌+◌, ◌<◌, List, length, swap, map, cond, eqb, sym, ap, subst, ◌∙◌, arith}
 use Rattle.bs_arena.specs.Arena.{Held, IsArena, clauses_of, literals_at, swapped}
 use Rattle.bs_arena.proofs.Splits.{Split, split_of, Header, header_of, place_of, changed, swapped_are, arena_swap}
+use Rattle.bs_arena.proofs.Lookups.{swapped_is_found, others_of_swap}
 use Rattle.bs_arena.proofs.arena.Arena.swap.Goals as goal
 
 pub overflow_add-at : goal.overflow_add-at
@@ -76,3 +77,9 @@ returns-clause-clauses c =
     swapped_are words c.args.r c.args.i c.args.j s i j ∙
     sym (changed words c.args.r s (λ (h : Held). swapped h c.args.i c.args.j)) ∙
     ap (map (λ (h : Held). cond (eqb h.ref c.args.r) (swapped h c.args.i c.args.j) h)) old
+
+pub returns-clause-found : goal.returns-clause-found
+returns-clause-found c = swapped_is_found c.args.self.now.clauses (clauses_of c.swap.new.self.items) c.args.r c.args.i c.args.j (returns-clause-clauses c)
+
+pub returns-clause-others : goal.returns-clause-others
+returns-clause-others c = others_of_swap c.args.self.now.clauses (clauses_of c.swap.new.self.items) c.args.r c.args.i c.args.j (returns-clause-clauses c)
