@@ -39,6 +39,12 @@ fn compared(
 #[test]
 fn bit_texts_and_orders(rt: HostRuntime) -> Result<(), Fail> {
     let alloc = rt.alloc();
+    let mut pushed = Bits::new(alloc);
+    pushed.push(true)?;
+    pushed.push(false)?;
+    let mut text = Vec::new(alloc);
+    pushed.text(&mut text)?;
+    assert_eq!(rt; text.as_slice(), b"10".as_slice());
     for (text, want) in [
         ("011", Some("010")),
         (".", Some(".")),
