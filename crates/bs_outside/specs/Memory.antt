@@ -1,5 +1,5 @@
 -- What the shelves and the sink in memory tell.
-use Rattle.std.specs.Prelude.{◌+◌, ◌-◌, ◌^◌, ◌≡◌, ℕ, List, length, min, Option, Contains, if◌then◌else◌}
+use Rattle.std.specs.Prelude.{◌+◌, ◌-◌, ◌^◌, ℕ, List, length, min, Option, Contains, if◌then◌else◌}
 use Rattle.std.specs.Option.{option_eq}
 use Rattle.std.specs.Prelude.{nat_eq}
 use Rattle.bs_outside.specs.declared.sink.Put.{Put}
