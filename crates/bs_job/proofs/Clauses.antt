@@ -1,8 +1,7 @@
 -- The clauses of a call that does a job, from the answer that was prepared and what was delivered.
-use Rattle.std.proofs.Common.{◌≡◌, ◌≢◌, ◌↔◌, ℕ, Bool, true, false, refl, List, Option, Some, None, sym, ◌∙◌, ap, subst, codes}
+use Rattle.std.proofs.Common.{◌≡◌, ◌≢◌, ◌↔◌, ℕ, true, refl, List, Option, Some, None, sym, ◌∙◌, ap, subst, codes}
 use Rattle.std.specs.Prelude.{IfSome}
 use Rattle.std.specs.Io.KnownBytes.{Appends}
-use Rattle.bs_outside.specs.Faults.{Rose}
 use Rattle.bs_job.specs.declared.file.File.{File}
 use Rattle.bs_job.specs.declared.file.File.TheVariants.{Netlist, Signature, Stimulus, Dump, Report}
 use Rattle.bs_job.specs.declared.file.Status.{Status}
@@ -10,10 +9,10 @@ use Rattle.bs_job.specs.declared.file.Status.TheVariants.{Words, ReadFault, Writ
 use Rattle.bs_job.specs.declared.answer.Answer.{Answer}
 use Rattle.bs_job.specs.Files.{refusal_line, refusal_status, refused_file, is_work_status}
 use Rattle.bs_job.specs.Plan.{Tells, Counts, Reason, Plan, Outcome, ready, refused, faulted, Ends, told_end}
-use Rattle.bs_job.specs.Answers.{Answers, Serves, CallsFor, CallsByTold}
+use Rattle.bs_job.specs.Answers.{Answers, CallsFor, CallsByTold}
 use Rattle.bs_job.specs.Prepared.{Prepares, IsWork}
 use Rattle.bs_job.specs.Delivery.{Delivers}
-use Rattle.bs_job.specs.Clauses.{Answered, AnsweredAsTold, FailedToRead, ReadFaultOf, IsCalm, IsWordsOnlyFor, Refuses, RefusesFirst, RefusesFirstOf}
+use Rattle.bs_job.specs.Clauses.{Answered, AnsweredAsTold, FailedToRead, ReadFaultOf, IsCalm, IsWordsOnlyFor, Refuses, RefusesFirstOf}
 use Rattle.bs_job.proofs.Plans.{ready_in, refused_in, faulted_in, ends_as_told, ends_by_fault}
 use Rattle.bs_job.proofs.Preparing.{IsPlain, work_plain, refusal_plain, refused_again}
 use Rattle.std.specs.Option.{option_map}

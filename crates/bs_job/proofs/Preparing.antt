@@ -1,5 +1,5 @@
 -- From the end of a plan to the answer of the job.
-use Rattle.std.proofs.Common.{◌≡◌, ◌≢◌, ℕ, Bool, true, false, List, Option, Some, None, Result, Ok, Err, refl, sym, ◌∙◌, ap, subst, codes}
+use Rattle.std.proofs.Common.{◌≡◌, ◌≢◌, ℕ, true, false, List, Some, None, Result, Ok, Err, refl, sym, ◌∙◌, ap}
 use Rattle.std.specs.Prelude.{IfOk}
 use Rattle.bs_outside.specs.declared.shelf.NoMemory.{NoMemory}
 use Rattle.bs_job.specs.declared.file.File.{File}
@@ -10,9 +10,9 @@ use Rattle.bs_job.specs.declared.answer.Answer.{Answer}
 use Rattle.bs_job.specs.declared.walk.Stop.{Stop}
 use Rattle.bs_job.specs.declared.walk.Stop.TheVariants as S
 use Rattle.bs_job.specs.Files.{refusal_status, refused_file, is_work_status}
-use Rattle.bs_job.specs.Plan.{Tells, Counts, Reason, Plan, Outcome, ready, refused, faulted, Ends}
+use Rattle.bs_job.specs.Plan.{Tells, Counts, Plan, ready, refused, faulted}
 use Rattle.bs_job.specs.Walks.{WalksTo, Walks, WalksAlone}
-use Rattle.bs_job.specs.Answers.{Answers, RefusesWords}
+use Rattle.bs_job.specs.Answers.{RefusesWords}
 use Rattle.bs_job.specs.Prepared.{Prepares, PreparesAlone, AnswersStop, IsWork}
 
 -- a status of a refusal is of no other kind

@@ -1,10 +1,15 @@
 -- A plan is followed a file at a time.
-use Rattle.std.proofs.Common.{true, false, nat_lt, ◌≡◌, inl, inr, ℕ, ◌<◌, ◌≤◌, List, [], ◌++◌, length, Option, Some, None, Result, Ok, Err, codes, refl, sym, ◌∙◌, ap, subst, arith, Vec}
-use Rattle.std.proofs.lemmas.Bool.{le-ltb, lt-ltb}
+use Rattle.std.proofs.Common.{◌≡◌, inl, inr, ℕ, ◌<◌, ◌≤◌, List, [], ◌++◌, length, Option, Some, None, Result, Ok, Err, codes, refl, sym, ◌∙◌, ap, subst, arith, Vec}
+use Rattle.std.proofs.lemmas.Bool.{le-ltb, lt-ltb, false≢true}
 use Rattle.std.proofs.lemmas.List.{length-take}
-use Rattle.std.specs.Prelude.{IfSome, MatchResult}
+use Rattle.std.specs.Prelude.{IfSome, IsSome, MatchResult}
 use Rattle.std.specs.Io.{StartsWith}
 use Rattle.std.specs.declared.alloc.Global.{Global}
+use Rattle.bs_outside.specs.Faults.{Rose}
+use Rattle.std.specs.Option.{option_and_then}
+use Rattle.bs_outside.specs.declared.sure.SureShelf.{SureShelf}
+use Rattle.bs_outside.specs.Files.{sure_count}
+use Rattle.bs_outside.specs.Memory.{sure_held, sure_faults}
 use Rattle.bs_outside.specs.Fetching.{FetchesAll, FetchesTooMany, CountsFaults}
 use Rattle.bs_outside.specs.declared.shelf.Fetch.TheVariants.{Done, Failed, TooLong}
 use Rattle.bs_job.specs.declared.file.File.{File}
@@ -13,7 +18,7 @@ use Rattle.bs_job.specs.declared.walk.Refusal.TheVariants as Q
 use Rattle.bs_job.specs.declared.walk.Stop.{Stop}
 use Rattle.bs_job.specs.declared.walk.Stop.TheVariants as S
 use Rattle.bs_job.specs.Files.{limit_of}
-use Rattle.bs_job.specs.Plan.{Tells, Counts, Wanted, Comes, IsLong, Reason, exactly, Says, Plan, end, ◌>>=◌, fetched, given, read_as, Outcome, ready, refused, faulted, Ends}
+use Rattle.bs_job.specs.Plan.{Tells, Counts, Comes, Reason, exactly, Says, Plan, fetch, refuse, end, ◌>>=◌, fetched, given, given_next, with_texts, AllTold, read_as, Outcome, ready, refused, faulted, Ends}
 use Rattle.bs_job.specs.Walks.{IsSame, IsLater, IsTooLong, ComesTo, FetchedTo, GivenTo, WalksTo, Walks, WalksAlone, Reads, settled}
 use Rattle.bs_job.proofs.Plans.{ends_along, ends_then, ends_refused, ends_faulted}
 
@@ -159,3 +164,75 @@ walks_as {allows = allows} {told = told} {told' = told'} {before = before} {now 
 
 pub alone_as : {R A B T : Type 0} {allows : R → List ℕ → Type 0} {plan : Plan R A} {view : T → A} {result : Result T Stop} (g : A → B) → WalksAlone allows plan view result → WalksAlone allows (plan >>= (λ v. end (g v))) (λ t. g (view t)) result
 alone_as g h = record { is = λ told before. walks_as g (h.is told before) }
+
+-- ---- texts of the program's own, walked over a shelf that tells them and does not fail
+
+pub told_then : {R A B : Type 0} (told : Tells) (plan : Plan R A) (f : A → Plan R B) → AllTold told plan → ((a : A) → AllTold told (f a)) → AllTold told (plan >>= f)
+told_then told (end v) f h k = k v
+told_then told (refuse file why) f h k = tt
+told_then told (fetch w next) f h k = (h.0, λ bytes. told_then told (next bytes) f (h.1 bytes) k)
+
+pub told_fetched : (R : Type 0) (told : Tells) (file : File) (name : List ℕ) → IsSome (told name) → AllTold {R = R} told (fetched file name)
+told_fetched R told file name h = (h, λ bytes. tt)
+
+pub told_read : {R V : Type 0} (told : Tells) (file : File) (r : Result V (Reason R)) → AllTold told (read_as file r)
+told_read told file (Ok v) = tt
+told_read told file (Err why) = tt
+
+-- a plan ends over the texts as over a shelf that tells them, without a fault
+ends_with_texts : {R V : Type 0} (told told' : Tells) (before now before' : Counts) (plan : Plan R V) (outcome : Outcome R V) → AllTold told plan → ((name : List ℕ) → IsSome (told name) → Rose (before name) (now name) → ⊥) → Ends told before now plan outcome → Ends told' before' before' (with_texts told plan) outcome
+ends_with_texts told told' before now before' (end v) outcome all calm h = h
+ends_with_texts told told' before now before' (refuse file why) outcome all calm h = h
+ends_with_texts {R} {V} told told' before now before' (fetch w next) outcome all calm (inl (bytes, comes, rest)) =
+    by (told w.name) all.0 comes.shown (ends_with_texts told told' before now before' (next bytes) outcome (all.1 bytes) calm rest)
+  where
+    by : (t : Option (List ℕ)) → IsSome t → IfSome t (λ every. every ≡ bytes) → Ends told' before' before' (with_texts told (next bytes)) outcome → Ends told' before' before' (given_next w t (λ b. with_texts told (next b))) outcome
+    by None is shown so = absurd (false≢true is)
+    by (Some every) is shown so = rw (shown, le-ltb (limit_of w.file) (length bytes) comes.within) so
+ends_with_texts {R} {V} told told' before now before' (fetch w next) outcome all calm (inr (inl (over, ended))) = by (told w.name) all.0 over
+  where
+    by : (t : Option (List ℕ)) → IsSome t → IfSome t (λ every. limit_of w.file < length every) → Ends told' before' before' (given_next w t (λ b. with_texts told (next b))) outcome
+    by None is long = absurd (false≢true is)
+    by (Some every) is long = rw (lt-ltb (limit_of w.file) (length every) long) ended
+ends_with_texts told told' before now before' (fetch w next) outcome all calm (inr (inr (rose, ended))) = absurd (calm w.name all.0 rose)
+
+same_here : (told : Tells) (before : Counts) → IsSame told told before before
+same_here told before = record { told = λ n. refl; counts = λ n. refl }
+
+later_here : (told : Tells) (before : Counts) → IsLater told told before before
+later_here told before = record { told = λ n. refl; counts = λ n. omega arith }
+
+-- no fault is counted of a name that the shelf tells, before and now
+abbrev pub IsSure : (told told' : Tells) (before now : Counts) → Type 0
+IsSure told told' before now = (name : List ℕ) → IsSome (told name) → IsSome (told' name) → Rose (before name) (now name) → ⊥
+
+sure_now : (told told' : Tells) (before now : Counts) → IsSure told told' before now → ((name : List ℕ) → told' name ≡ told name) → (name : List ℕ) → IsSome (told name) → Rose (before name) (now name) → ⊥
+sure_now told told' before now sure same name some rose = sure name some (subst (λ (t : Option (List ℕ)). IsSome t) (sym (same name)) some) rose
+
+alone_to : {R T V : Type 0} (allows : R → List ℕ → Type 0) (told told' told2 : Tells) (before now before2 : Counts) (plan : Plan R V) (view : T → V) (result : Result T Stop) → AllTold told plan → IsSure told told' before now → WalksTo allows told told' before now plan view result → WalksTo allows told2 told2 before2 before2 (with_texts told plan) view result
+alone_to allows told told' told2 before now before2 plan view (Ok v) all sure h =
+    (same_here told2 before2, ends_with_texts told told2 before now before2 plan (ready (view v)) all (sure_now told told' before now sure h.0.told) h.1)
+alone_to allows told told' told2 before now before2 plan view (Err S.NoMemory) all sure h = same_here told2 before2
+alone_to allows told told' told2 before now before2 plan view (Err (S.Faulted file)) all sure h =
+    (later_here told2 before2, ends_with_texts told told2 before now before2 plan (faulted file) all (sure_now told told' before now sure h.0.told) h.1)
+alone_to allows told told' told2 before now before2 plan view (Err (S.Refused file why)) all sure h =
+    (same_here told2 before2, (h.1.0, h.1.1, ends_with_texts told told2 before now before2 plan (refused file h.1.0) all (sure_now told told' before now sure h.0.told) h.1.2))
+
+-- a walk over such a shelf is one over the texts alone
+pub walks_alone : {R T V : Type 0} {allows : R → List ℕ → Type 0} {told told' : Tells} {before now : Counts} {plan : Plan R V} {view : T → V} {result : Result T Stop} → AllTold told plan → IsSure told told' before now → Walks allows told told' before now plan view result → WalksAlone allows (with_texts told plan) view result
+walks_alone {allows = allows} {told = told} {told' = told'} {before = before} {now = now} {plan = plan} {view = view} {result = result} all sure h =
+    record { is = λ told2 before2. record { is = alone_to allows told told' told2 before now before2 plan view result all sure h.is } }
+
+-- a `SureShelf` is such a shelf
+zero_faults : (place : Option ℕ) (f : ℕ → Option (List ℕ)) → IsSome (option_and_then f place) → sure_count place ≡ 0
+zero_faults None f h = absurd (false≢true h)
+zero_faults (Some at) f h = refl
+
+none_rose : (a b : ℕ) → a ≡ 0 → b ≡ 0 → Rose a b → ⊥
+none_rose a b za zb rose = none (subst (λ (x : ℕ). Rose x 0) za (subst (λ (y : ℕ). Rose a y) zb rose))
+  where
+    none : Rose 0 0 → ⊥
+    none h = absurd (omega (arith, h))
+
+pub sure_shelf : (before now : SureShelf) → IsSure (sure_held before) (sure_held now) (sure_faults before) (sure_faults now)
+sure_shelf before now name told told' rose = none_rose (sure_faults before name) (sure_faults now name) (zero_faults _ _ told) (zero_faults _ _ told') rose

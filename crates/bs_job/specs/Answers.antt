@@ -3,7 +3,7 @@ use Rattle.std.specs.Prelude.{◌≡◌, ℕ, List, codes, Option, Some, None, I
 use Rattle.bs_job.specs.declared.file.Status.{Status}
 use Rattle.bs_job.specs.declared.file.Status.TheVariants.{Words, ReadFault}
 use Rattle.bs_job.specs.Files.{refusal_status, refusal_line}
-use Rattle.bs_job.specs.Plan.{Tells, Counts, Reason, Says, Plan, Outcome, ready, refused, faulted, Ends, told_end}
+use Rattle.bs_job.specs.Plan.{Tells, Counts, Says, Plan, Outcome, ready, refused, faulted, Ends, told_end}
 
 -- the status and whole text that an outcome calls for, where `finishes` says them of work that is done
 abbrev pub Answers : {R W : Type 0} → (R → List ℕ → Type 0) → (W → Status → List ℕ → Type 0) → Outcome R W → Status → List ℕ → Type 0

@@ -1,5 +1,5 @@
 -- A plan of a job: which file comes next, after what the earlier ones held, and where it ends.
-use Rattle.std.specs.Prelude.{◌≡◌, ◌⊎◌, ◌<◌, ◌≤◌, ℕ, List, length, codes, nat_lt, if◌then◌else◌, Option, Some, None, IfSome, Result, Ok, Err}
+use Rattle.std.specs.Prelude.{◌≡◌, ◌⊎◌, ◌<◌, ◌≤◌, ℕ, List, length, codes, nat_lt, if◌then◌else◌, Option, Some, None, IfSome, IsSome, Result, Ok, Err}
 use Rattle.bs_outside.specs.Faults.{Rose}
 use Rattle.bs_job.specs.declared.file.File.{File}
 use Rattle.bs_job.specs.Files.{limit_of}
@@ -46,6 +46,23 @@ fetched file name = fetch record { file = file; name = name } (λ bytes. end byt
 -- a text of the program's own in place of a file, with the file's limit
 abbrev pub given : {R : Type 0} → File → List ℕ → Plan R (List ℕ)
 given file bytes = if nat_lt (limit_of file) (length bytes) then refuse file (exactly (codes "TooLong")) else end bytes
+
+-- a text of the program's own in place of one file of a plan, where there is one
+abbrev pub given_next : {R V : Type 0} → Wanted → Option (List ℕ) → (List ℕ → Plan R V) → Plan R V
+given_next w None next = fetch w next
+given_next w (Some bytes) next = if nat_lt (limit_of w.file) (length bytes) then refuse w.file (exactly (codes "TooLong")) else next bytes
+
+-- a plan whose files are texts of the program's own, as far as these names have one
+abbrev pub with_texts : {R V : Type 0} → Tells → Plan R V → Plan R V
+with_texts texts (end v) = end v
+with_texts texts (refuse file why) = refuse file why
+with_texts texts (fetch w next) = given_next w (texts w.name) (λ bytes. with_texts texts (next bytes))
+
+-- each file that the plan can come to is told
+abbrev pub AllTold : {R V : Type 0} → Tells → Plan R V → Type 0
+AllTold told (end v) = Unit {0}
+AllTold told (refuse file why) = Unit {0}
+AllTold told (fetch w next) = IsSome (told w.name) × ((bytes : List ℕ) → AllTold told (next bytes))
 
 -- what a reader makes of the bytes: a value, or why they are refused
 abbrev pub read_as : {R V : Type 0} → File → Result V (Reason R) → Plan R V

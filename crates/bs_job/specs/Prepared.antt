@@ -1,5 +1,5 @@
 -- What stands before the first put: the status and the whole text.
-use Rattle.std.specs.Prelude.{◌≡◌, ◌≢◌, ℕ, List, codes, Bool, true, Option, Some}
+use Rattle.std.specs.Prelude.{◌≡◌, ◌≢◌, ℕ, List, codes, true, Option, Some}
 use Rattle.bs_job.specs.declared.file.Status.{Status}
 use Rattle.bs_job.specs.declared.file.Status.TheVariants.{ReadFault, WriteFault}
 use Rattle.bs_job.specs.declared.answer.Answer.{Answer}
