@@ -1,7 +1,7 @@
 -- A netlist that passes is checked.
-use Rattle.std.proofs.Common.{◌≡◌, ◌≢◌, ℕ, suc, zero, ◌<◌, ◌≤◌, ◌+◌, Bool, true, false, not, cond, ◌||◌, List, [], ◌∷◌, ◌++◌, map, length, get_or, refl, arith, subst, ap, sym, ◌∙◌, ◌⊎◌, ⊎_elim, nat_eq, nat_lt, Option, None, Some}
+use Rattle.std.proofs.Common.{◌≡◌, ◌≢◌, ℕ, ◌<◌, ◌≤◌, Bool, true, false, not, cond, ◌||◌, List, [], ◌∷◌, ◌++◌, map, length, refl, arith, subst, ap, sym, ◌∙◌, ⊎_elim, nat_eq, nat_lt, Option, None, Some}
 use Rattle.std.specs.Prelude.{find}
-use Rattle.std.specs.List.{AllByRecursion, All, IsDistinct, list_any, count_by, filter}
+use Rattle.std.specs.List.{AllByRecursion, All, IsDistinct, list_any}
 use Rattle.std.proofs.lemmas.Bool.{false≢true, eqb-true, eqb-false, ne_eqb, ltb-false, or_cases}
 use Rattle.std.proofs.lemmas.List.{map-append}
 use Rattle.std.proofs.lemmas.List.Elements.{All-from_recursion, recursion_from_All}
@@ -12,10 +12,9 @@ use Rattle.bs_net.specs.declared.net.Gate.{Gate}
 use Rattle.bs_net.specs.declared.net.Flop.{Flop}
 use Rattle.bs_net.specs.declared.net.Const.{Const}
 use Rattle.bs_net.specs.declared.raw.Raw.{Raw}
-use Rattle.bs_net.specs.declared.fault.Count.{Count}
 use Rattle.bs_net.specs.declared.fault.Count.TheVariants.{Flops, Inputs}
 use Rattle.bs_net.specs.Circuit.{number, drivers}
-use Rattle.bs_net.specs.Order.{IsChecked, IsBounded, IsOrder}
+use Rattle.bs_net.specs.Order.{IsChecked, IsBounded}
 use Rattle.bs_net.specs.Loops.{is_in}
 use Rattle.bs_net.specs.Check.{Passes, too_many, wide_gate, mixed_clock}
 use Rattle.bs_net.specs.Netlist.{circuit_of, clock_of, without}

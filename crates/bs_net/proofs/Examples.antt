@@ -1,6 +1,5 @@
 -- Small circuits, computed by the definitions.
-use Rattle.std.proofs.Common.{◌≡◌, ℕ, true, false, [], ◌∷◌, refl, Some, None, map}
-use Rattle.bs_net.specs.declared.net.NetId.{NetId}
+use Rattle.std.proofs.Common.{◌≡◌, true, false, [], ◌∷◌, refl, Some, None, map}
 use Rattle.bs_net.specs.declared.net.Kind.TheVariants.{And, Nand, Or, Nor, Xor, Xnor, Buf, Not}
 use Rattle.bs_net.specs.Circuit.{Circuit, next, settled, all_bits, gate_value}
 use Rattle.bs_net.specs.Loops.{feeds_round}

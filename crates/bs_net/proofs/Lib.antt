@@ -17,3 +17,4 @@ pub mod PlacedLemmas
 pub mod SingleLemmas
 pub mod CheckedLemmas
 pub mod RefusalLemmas
+pub mod ClockLemmas

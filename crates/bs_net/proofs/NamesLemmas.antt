@@ -1,6 +1,6 @@
 -- A set of texts as the list of their bytes.
-use Rattle.std.proofs.Common.{◌≡◌, ℕ, suc, zero, ◌<◌, ◌≤◌, ◌+◌, Bool, true, false, not, cond, ◌||◌, List, [], ◌∷◌, ◌++◌, map, length, get_or, refl, arith, ap, sym, ◌∙◌, eqb, nat_lt, Option, Some, None, String, Global, eq-eqb, ◌⊎◌, ⊎_elim}
-use Rattle.std.specs.Prelude.{slice_get, position, if◌then◌else◌, IsSome}
+use Rattle.std.proofs.Common.{◌≡◌, ℕ, suc, ◌<◌, ◌≤◌, ◌+◌, Bool, true, false, not, cond, ◌||◌, List, [], ◌∷◌, ◌++◌, map, length, refl, arith, ap, sym, ◌∙◌, nat_lt, Option, Some, None, String, Global, eq-eqb, ◌⊎◌, ⊎_elim}
+use Rattle.std.specs.Prelude.{position, if◌then◌else◌, IsSome}
 use Rattle.std.specs.List.{list_any, position_or_len}
 use Rattle.std.specs.Option.{option_map}
 use Rattle.std.specs.Str.{bytes_eq}

@@ -1,12 +1,11 @@
 -- A refused netlist does not pass.
 use Rattle.std.proofs.Common.{◌≡◌, ◌≢◌, ℕ, Bool, Option, Some, None, refl, sym, ◌∙◌}
 use Rattle.std.proofs.lemmas.Bool.{true≢false}
-use Rattle.bs_net.specs.declared.net.NetId.{NetId}
 use Rattle.bs_net.specs.declared.raw.Raw.{Raw}
 use Rattle.bs_net.specs.declared.fault.NetFault.{NetFault}
 use Rattle.bs_net.specs.declared.fault.NetFault.TheVariants.{TooMany, SecondDriver, Undriven, Loop, NoFlop, ClockMixed, NoMemory}
 use Rattle.bs_net.specs.Lowest.{IsLowest, NonePasses}
-use Rattle.bs_net.specs.Check.{IsFault, Passes, is_shared, is_undriven}
+use Rattle.bs_net.specs.Check.{IsFault, Passes}
 
 some_none : {X : Type 0} (o : Option X) (x : X) → o ≡ Some x → o ≡ None → ⊥
 some_none None x e n = absurd cc

@@ -1,5 +1,5 @@
 -- Nets with at most one driver each are distinct.
-use Rattle.std.proofs.Common.{◌≡◌, ℕ, suc, ◌<◌, ◌≤◌, ◌+◌, Bool, true, false, cond, List, [], ◌∷◌, ◌++◌, map, length, refl, arith, ap, sym, ◌∙◌, ⊎_elim, nat_eq, nat_lt, eq-eqb, ne_eqb, subst, zero-add}
+use Rattle.std.proofs.Common.{◌≡◌, ℕ, ◌<◌, ◌≤◌, ◌+◌, Bool, true, false, cond, List, [], ◌∷◌, ◌++◌, map, length, refl, arith, ap, sym, ◌∙◌, ⊎_elim, nat_eq, eq-eqb, ne_eqb, subst, zero-add}
 use Rattle.std.specs.List.{AllByRecursion, IsDistinct}
 use Rattle.std.proofs.lemmas.Bool.{cases_lt, ltb-false}
 use Rattle.std.proofs.lemmas.Map.Keys.{IsDistinct-tail}

@@ -1,17 +1,15 @@
 -- A table of tallies tells how often each net stands in a list.
-use Rattle.std.proofs.Common.{◌≡◌, ℕ, suc, zero, ◌<◌, ◌≤◌, ◌+◌, ◌^◌, Bool, true, false, not, cond, ◌&&◌, List, [], ◌∷◌, ◌++◌, map, length, get_or, set, replicate, refl, arith, subst, ap, sym, ◌∙◌, ⊎_elim, nat_eq, nat_lt, eq-eqb, ne_eqb, length-set, get_or-set_same, get_or-set_other, zero-add, drop}
-use Rattle.std.specs.List.{count_by, flat_map}
+use Rattle.std.proofs.Common.{◌≡◌, ℕ, suc, zero, ◌<◌, ◌+◌, ◌^◌, Bool, true, false, not, cond, ◌&&◌, List, [], ◌∷◌, ◌++◌, length, get_or, set, replicate, refl, arith, subst, ap, sym, ◌∙◌, ⊎_elim, nat_eq, nat_lt, eq-eqb, ne_eqb, length-set, get_or-set_same, get_or-set_other, zero-add, drop}
+use Rattle.std.specs.List.{flat_map}
 use Rattle.std.proofs.lemmas.Bool.{cases_eq}
 use Rattle.std.proofs.lemmas.Bool.Decides.{nat_tests}
 use Rattle.std.proofs.lemmas.List.{length-replicate, get_or-replicate, drop_more}
 use Rattle.std.proofs.lemmas.List.Sums.{sum_by-cons}
 use Rattle.bs_net.specs.declared.net.NetId.{NetId}
 use Rattle.bs_net.specs.declared.net.Gate.{Gate}
-use Rattle.bs_net.specs.declared.net.Flop.{Flop}
-use Rattle.bs_net.specs.declared.net.Const.{Const}
 use Rattle.bs_net.specs.declared.raw.Raw.{Raw}
 use Rattle.bs_net.specs.declared.tallies.Tally.{Tally}
-use Rattle.bs_net.specs.declared.tallies.Tally.TheVariants.{Never, Once, Often}
+use Rattle.bs_net.specs.declared.tallies.Tally.TheVariants.{Never}
 use Rattle.bs_net.specs.Check.{times_in, driver_nets, reader_nets, is_shared, is_undriven}
 use Rattle.bs_net.specs.Lowest.{IsLowest, NonePasses}
 use Rattle.bs_net.specs.Tallies.{tally_of, raised, is_often, is_never, tally_at, tallied, tallies_of, often_at, undriven_at}

@@ -69,13 +69,21 @@ first_of None other = other
 abbrev pub is_data : Raw → NetId → Bool
 is_data r n = list_any (λ g. list_any (λ m. n.0 == m.0) g.ins) r.gates || list_any (λ f. n.0 == f.d.0) r.flops
 
+-- the first clock of a flip-flop that is another net
+abbrev pub other_clock : Raw → Option NetId
+other_clock r = option_map (λ f. f.ck) (find (λ f. not (f.ck.0 == (clock_of r.flops).0)) r.flops)
+
+-- the clock, where it is read as data
+abbrev pub data_clock : Raw → Option NetId
+data_clock r = if is_data r (clock_of r.flops) then Some (clock_of r.flops) else None
+
 -- the clock of the first flip-flop, where it is no input port bit; or else the first other clock; or else the clock, where it
 -- is read as data
 abbrev pub mixed_clock : Raw → Option NetId
 mixed_clock r =
     if not (list_any (λ m. (clock_of r.flops).0 == m.0) r.inputs)
     then Some (clock_of r.flops)
-    else first_of (option_map (λ f. f.ck) (find (λ f. not (f.ck.0 == (clock_of r.flops).0)) r.flops)) (if is_data r (clock_of r.flops) then Some (clock_of r.flops) else None)
+    else first_of (other_clock r) (data_clock r)
 
 -- ---- the first that holds
 

@@ -132,7 +132,12 @@ impl Draft {
 
     /// Whether each net has a name, and each gate the inputs that its kind takes.
     fn is_whole(&self) -> bool
-        ensures { OnTrue result (ArePlaced (length self.now.names) self.now.inputs × ArePlaced (length self.now.names) self.now.outputs × ConstantsArePlaced (length self.now.names) self.now.consts × GatesArePlaced (length self.now.names) self.now.gates × FlopsArePlaced (length self.now.names) self.now.flops × (length self.now.names ≤ 100000)) }
+        ensures few { OnTrue result (length self.now.names ≤ 100000) }
+        ensures inputs { OnTrue result (ArePlaced (length self.now.names) self.now.inputs) }
+        ensures outputs { OnTrue result (ArePlaced (length self.now.names) self.now.outputs) }
+        ensures consts { OnTrue result (ConstantsArePlaced (length self.now.names) self.now.consts) }
+        ensures gates { OnTrue result (GatesArePlaced (length self.now.names) self.now.gates) }
+        ensures flops { OnTrue result (FlopsArePlaced (length self.now.names) self.now.flops) }
     {
         let count = self.names.len();
         if !are_placed(count, self.inputs.slice()) {

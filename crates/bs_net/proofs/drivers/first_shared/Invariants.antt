@@ -1,5 +1,5 @@
-use Rattle.std.proofs.Common.{◌≡◌, ◌<◌, ℕ, false, ◌&&◌, not}
-use Rattle.bs_net.specs.Tallies.{often_at, undriven_at}
+use Rattle.std.proofs.Common.{◌≡◌, ◌<◌, ℕ, false}
+use Rattle.bs_net.specs.Tallies.{often_at}
 use Rattle.bs_net.proofs.drivers.first_shared.Given as goal
 
 abbrev pub invariant-loop-net : goal.invariant-loop-net

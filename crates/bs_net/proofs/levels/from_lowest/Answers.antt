@@ -1,4 +1,4 @@
-use Rattle.std.proofs.Common.{◌≡◌, ◌∙◌, sym, ap, arith, ◌<◌, ◌≤◌, subst, length, ◌++◌, List, ℕ, take, drop}
+use Rattle.std.proofs.Common.{◌≡◌, ◌∙◌, sym, ap, arith, subst, ◌++◌, List, ℕ, take, drop}
 use Rattle.bs_net.specs.Loops.{IsLeastFirst}
 use Rattle.bs_net.proofs.LevelLemmas.{least_first}
 use Rattle.bs_net.proofs.levels.from_lowest.Goals as goal

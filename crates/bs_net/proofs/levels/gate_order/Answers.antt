@@ -1,7 +1,6 @@
 use Rattle.std.proofs.Common.{subst, List}
 use Rattle.bs_net.specs.declared.net.Gate.{Gate}
 use Rattle.bs_net.specs.declared.levels.Levelling.{Levelling}
-use Rattle.bs_net.specs.declared.levels.Levelling.TheVariants.{Looped}
 use Rattle.bs_net.specs.Loops.{IsLoop}
 use Rattle.bs_net.specs.Search.{IsLevelling}
 use Rattle.bs_net.proofs.LoopLemmas.{loops_have_no_order}

@@ -1,9 +1,9 @@
-use Rattle.std.proofs.Common.{◌≡◌, ◌∙◌, sym, ap, arith, ◌<◌, subst, length, true, List, ℕ, Option, Some, None, replicate, IfNone, IfSome, reverse, [], ◌++◌, take, drop}
+use Rattle.std.proofs.Common.{◌≡◌, ◌∙◌, sym, ap, ◌<◌, subst, length, true, List, ℕ, Option, None, replicate, IfNone, IfSome, [], ◌++◌, take, drop}
 use Rattle.std.specs.List.{All}
-use Rattle.std.proofs.lemmas.List.{length-replicate, reverse-reverse}
-use Rattle.bs_net.specs.Loops.{is_in, up_to, IsLeastFirst}
+use Rattle.std.proofs.lemmas.List.{length-replicate}
+use Rattle.bs_net.specs.Loops.{is_in, up_to}
 use Rattle.bs_net.specs.Order.{IsOrder}
-use Rattle.bs_net.specs.Search.{State, filled, start, IsSearch, IsDriverTable, ClosesLoop, CoversInputs}
+use Rattle.bs_net.specs.Search.{State, filled, IsSearch, IsDriverTable, ClosesLoop}
 use Rattle.bs_net.proofs.LevelLemmas.{search_orders}
 use Rattle.bs_net.proofs.TableLemmas.{table_is, start_searches, length-filled, loop_found}
 use Rattle.bs_net.proofs.levels.levelize.Goals as goal

@@ -1,6 +1,5 @@
-use Rattle.std.proofs.Common.{◌≡◌, ◌<◌, ◌≤◌, length, take, ℕ}
+use Rattle.std.proofs.Common.{◌<◌, ◌≤◌, length, ℕ}
 use Rattle.std.specs.Prelude.{slice_index_or}
-use Rattle.std.specs.List.{All}
 use Rattle.bs_net.proofs.levels.lowest.Given as goal
 
 abbrev pub invariant-loop-i : goal.invariant-loop-i

@@ -1,4 +1,4 @@
-use Rattle.std.proofs.Common.{◌≡◌, ◌++◌, reverse, take, length, ◌-◌}
+use Rattle.std.proofs.Common.{◌≡◌, ◌++◌, reverse, take}
 use Rattle.bs_net.specs.Loops.{up_to}
 use Rattle.bs_net.proofs.levels.path_to.Given as goal
 

@@ -1,4 +1,4 @@
-use Rattle.std.proofs.Common.{◌≡◌, length, drop, map}
+use Rattle.std.proofs.Common.{◌≡◌, length, drop}
 use Rattle.bs_net.specs.Tallies.{tallied}
 use Rattle.bs_net.proofs.tallies.count_nets.Given as goal
 
