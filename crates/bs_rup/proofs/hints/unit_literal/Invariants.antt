@@ -1,0 +1,7 @@
+use Rattle.std.proofs.Common.{◌≡◌, take}
+use Rattle.std.specs.Option.{option_to_list}
+use Rattle.bs_log.specs.Propagation.{open_literals}
+use Rattle.bs_rup.proofs.hints.unit_literal.Given as goal
+
+abbrev pub invariant-loop-l : goal.invariant-loop-l
+invariant-loop-l l = open_literals l.trail (take l.l-index l.clause) ≡ option_to_list l.found

@@ -1,0 +1,8 @@
+pub mod LiveClauses
+pub mod Problem
+pub mod Rules
+pub mod Follows
+pub mod Verdict
+pub mod Retired
+pub mod Marks
+pub mod Trail

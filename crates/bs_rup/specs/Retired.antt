@@ -1,0 +1,11 @@
+-- The units of retired guards.
+use Rattle.std.specs.Prelude.{ℕ, zero, suc, ◌+◌, List, [], ◌∷◌, ◌++◌, false}
+use Rattle.bs_clause.specs.Literal.{Literal, Clause}
+
+abbrev pub retired_unit : ℕ → ℕ → Literal
+retired_unit vars step = record { variable = vars + step; positive = false }
+
+-- the negations of the guards of this many steps, in order
+abbrev pub retired_units : ℕ → ℕ → Clause
+retired_units vars zero = []
+retired_units vars (suc n) = retired_units vars n ++ retired_unit vars (suc n) ∷ []
