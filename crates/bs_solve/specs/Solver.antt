@@ -1,0 +1,67 @@
+-- A solver between two calls.
+use Rattle.std.specs.Prelude.{◌≡◌, ◌⊎◌, ℕ, ◌+◌, ◌<◌, ◌^◌, Bool, true, false, [], ◌∷◌, ◌++◌, length, Option, Some, None, All}
+use Rattle.bs_clause.specs.Literal.{Clause, negation}
+use Rattle.bs_log.specs.declared.line.Line.TheVariants.{Block, Finish, Retire}
+use Rattle.bs_log.specs.History.{step_of, guard_of}
+use Rattle.bs_log.specs.Refusal.{has_distinct_variables}
+use Rattle.bs_solve.specs.declared.stage.Stage.{Stage}
+use Rattle.bs_solve.specs.declared.stage.Stage.TheVariants.{Idle, Begun, Blocked}
+use Rattle.bs_solve.specs.declared.search.Answer.{Answer}
+use Rattle.bs_solve.specs.Scan.{HasVariables}
+use Rattle.bs_solve.specs.Book.{Book, standing, with_line}
+use Rattle.bs_solve.specs.Search.{assumed}
+use Rattle.bs_solve.specs.Ending.{Ends}
+use Rattle.bs_solve.specs.Stages.{Fits, is_begun, stage_of, begun_book}
+
+-- its book, the number of variables in use, where it stands, and whether memory ran out
+pub record SolverState : Type 0 where
+  pub book : Book
+  pub vars : ℕ
+  pub stage : Stage
+  pub failed : Bool
+
+-- while memory has not run out, the clauses are over the variables in use, and the log is as the stage says
+pub record IsReady (s : SolverState) : Type 0 where
+  pub bound : s.vars < 2 ^ 30
+  pub range : s.failed ≡ false → All (HasVariables s.vars) (standing s.book)
+  pub distinct : s.failed ≡ false → All (λ c. has_distinct_variables c ≡ true) (standing s.book)
+  pub fits : s.failed ≡ false → Fits s.stage s.book s.vars
+
+-- a solve is the first of its step, or a block came since the last one and the assumptions are the step's
+pub record MaySolve (s : SolverState) (assumptions : Clause) : Type 0 where
+  pub stage : s.failed ≡ false → (s.stage ≡ Begun) ⊎ (s.stage ≡ Blocked)
+  pub again : s.stage ≡ Blocked → assumed s.book ≡ assumptions
+
+-- the search went on from the line of the solve, and ended as the answer says
+pub record HasSolved (old new : SolverState) (assumptions : Clause) (limit : ℕ) (answer : Answer) : Type 0 where
+  pub was_well : old.failed ≡ false
+  pub stands : standing (begun_book (is_begun old.stage) old.book assumptions) ≡ standing old.book
+  pub assumed_is : assumed (begun_book (is_begun old.stage) old.book assumptions) ≡ assumptions
+  pub ends : Ends (begun_book (is_begun old.stage) old.book assumptions) new.book old.vars limit answer
+  pub vars : new.vars ≡ old.vars
+  pub stage : new.stage ≡ stage_of answer
+  pub well : new.failed ≡ false
+
+-- the book has the block, which the guard's negation begins
+pub record HasBlocked (old new : SolverState) (lits : Clause) (id : ℕ) : Type 0 where
+  pub was_well : old.failed ≡ false
+  pub next : id ≡ length (standing old.book) + 1
+  pub book : new.book ≡ with_line old.book (Block id (negation (guard_of old.book.problem (step_of old.book.history)) ∷ lits))
+  pub stands : standing new.book ≡ standing old.book ++ (negation (guard_of old.book.problem (step_of old.book.history)) ∷ lits) ∷ []
+  pub vars : new.vars ≡ old.vars
+  pub stage : new.stage ≡ Blocked
+  pub well : new.failed ≡ false
+
+-- the book with the line of the lemma that ends the step
+abbrev pub finished : Book → Option ℕ → Book
+finished b None = b
+finished b (Some id) = with_line b (Finish id)
+
+-- the book has the lines of the step's end, and the unit of the negated guard stands
+pub record HasEnded (old new : SolverState) (end : Option ℕ) : Type 0 where
+  pub was_well : old.failed ≡ false
+  pub book : new.book ≡ with_line (finished old.book end) (Retire (length (standing old.book) + 1))
+  pub stands : standing new.book ≡ standing old.book ++ (negation (guard_of old.book.problem (step_of old.book.history)) ∷ []) ∷ []
+  pub vars : new.vars ≡ old.vars
+  pub stage : new.stage ≡ Idle
+  pub well : new.failed ≡ false

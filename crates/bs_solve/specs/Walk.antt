@@ -1,0 +1,50 @@
+-- Conflict analysis: a false clause is resolved with reasons, back along the trail.
+use Rattle.std.specs.Prelude.{◌≡◌, ◌≢◌, ◌⊎◌, ◌↔◌, ℕ, ◌+◌, ◌<◌, ◌≤◌, Bool, true, List, [], ◌∷◌, ◌++◌, map, reverse, take, length, Option, Some, None, All, Any, Contains, slice_get, slice_index_or, IsTrue}
+use Rattle.bs_clause.specs.Literal.{Literal, Clause, negation}
+use Rattle.bs_log.specs.Refusal.{has_distinct_variables}
+use Rattle.bs_log.specs.Propagation.{hints_are_unit, last_is_false}
+use Rattle.bs_log.specs.Lean.{IsResolventOf}
+use Rattle.bs_solve.specs.declared.place.Place.{Place}
+use Rattle.bs_solve.specs.Trail.{IsTrueOn, IsFalseOn, IsOpenOn, IsQuiet}
+use Rattle.bs_solve.specs.Chain.{Link, hints_of}
+use Rattle.bs_solve.specs.Derives.{Derives}
+use Rattle.bs_solve.specs.Places.{literals_of}
+
+-- the clauses at these places
+abbrev pub clauses_at : List Clause → List ℕ → List Clause
+clauses_at clauses places = map (λ r. slice_index_or clauses r []) places
+
+-- the lemma is the resolvent of the clauses at these places of the list, and right by them as hints; the last hint
+-- comes first here
+pub record IsLearnt (clauses : List Clause) (lemma : Clause) (hints : List ℕ) : Type 0 where
+  pub named : All (λ r. r < length clauses) hints
+  pub distinct : has_distinct_variables lemma ≡ true
+  pub unit : IsTrue (hints_are_unit lemma (clauses_at clauses (reverse hints)))
+  pub last : IsTrue (last_is_false lemma (clauses_at clauses (reverse hints)))
+  pub resolvent : IsResolventOf lemma (clauses_at clauses (reverse hints))
+
+-- each link's literal is denied in the clause of a later one, or in the last clause
+abbrev pub AreUsed : List Link → Clause → Type 0
+AreUsed [] last = Unit {0}
+AreUsed (k ∷ ks) last = Any (λ c. Contains c (negation k.literal)) (hints_of ks last) × AreUsed ks last
+
+-- the literal stands in one of the clauses, and no link makes its variable true
+pub record IsLeft (links : List Link) (last : Clause) (l : Literal) : Type 0 where
+  pub stands : Any (λ c. Contains c l) (hints_of links last)
+  pub apart : All (λ k. k.literal.variable ≢ l.variable) links
+
+-- the places down to one of the trail have been looked at: the literals that are left, with the clauses that were
+-- resolved, the false one first
+pub record IsWalk (clauses : List Clause) (trail : List Place) (down : ℕ) (left : Clause) (hints : List ℕ) : Type 0 where
+  pub links : List Link
+  pub last : Clause
+  pub named : clauses_at clauses (reverse hints) ≡ hints_of links last
+  pub in_range : All (λ r. r < length clauses) hints
+  pub derives : Derives left links last
+  pub distinct : has_distinct_variables left ≡ true
+  pub false_now : All (IsFalseOn (literals_of trail)) left
+  pub ahead : All (λ k. IsOpenOn (literals_of (take down trail)) k.literal) links
+  pub links_apart : has_distinct_variables (map (λ k. k.literal) links) ≡ true
+  pub apart : All (λ k. All (λ l. k.literal.variable ≢ l.variable) left) links
+  pub is_left : (l : Literal) → Contains left l ↔ IsLeft links last l
+  pub used : AreUsed links last

@@ -1,0 +1,208 @@
+//! An incremental solver that logs what it learns: clauses stay from one step to the next.
+ghost use Rattle.std.specs.Prelude.{◌≡◌, ◌+◌, ◌^◌, ◌<◌, ◌≤◌, [], ◌∷◌, true, false, All, IfOk, IfErr, IfSome, OnOk};
+ghost use Rattle.bs_log.specs.History.{step_of, guard_of};
+ghost use Rattle.bs_log.specs.Refusal.{has_distinct_variables, history_of, NoneRefused, IsAccepted};
+ghost use Rattle.bs_log.specs.Lean.{LemmasAreLean};
+ghost use Rattle.bs_solve.specs.declared.stage.Stage.TheVariants.{Idle, Begun, Solved, Ended};
+ghost use Rattle.bs_solve.specs.Scan.{HasVariables};
+ghost use Rattle.bs_solve.specs.Book.{standing};
+ghost use Rattle.bs_solve.specs.Stages.{MayBegin, EndsStep, begun_book, is_solved};
+ghost use Rattle.bs_solve.specs.Solver.{MaySolve, HasSolved, HasBlocked, HasEnded, finished};
+
+use crate::recording::Recording;
+use crate::search::{Answer, search};
+use crate::stage::{Stage, is_begun, stage_after};
+use bs_bits::List;
+use bs_clause::{Clauses, Lit, Lits, NoMemory, Var};
+use bs_log::Log;
+use std::alloc::Global;
+use std::marker::Model;
+
+/// A solver. Contracts see its log with what it is about, the number of variables in use, where it stands, and whether
+/// a call has answered want of memory; each later call that can answers it again.
+#[derive(Drop)]
+pub struct Solver {
+    book: Recording,
+    vars: u32,
+    stage: Stage,
+    failed: bool,
+}
+
+impl Model for Solver {
+    ghost use Rattle.bs_solve.specs.Solver.{SolverState, IsReady};
+
+    ghost Value = { SolverState };
+
+    ghost view = { λ s. record { book = s.book; vars = s.vars; stage = s.stage; failed = s.failed } };
+
+    ghost invariant = { λ s. IsReady (record { book = s.book; vars = s.vars; stage = s.stage; failed = s.failed }) };
+}
+
+impl Solver {
+    /// A solver over the variables 1 to `vars`, with these clauses under the ids 1, 2, 3 and so on.
+    pub fn new(alloc: Global, vars: u32, axioms: &Clauses) -> Result<Solver, NoMemory>
+        requires range { All (HasVariables vars) axioms.now }
+        requires distinct { All (λ c. has_distinct_variables c ≡ true) axioms.now }
+        requires vars { vars < 2 ^ 30 }
+        ensures { IfOk result (λ s. s ≡ record {
+          book = record { problem = record { vars = vars; clauses = axioms.now; steps = [] }; history = [] };
+          vars = vars;
+          stage = Idle;
+          failed = false;
+        }) }
+    {
+        let book = Recording::new(alloc, vars, axioms)?;
+        Ok(Solver {
+            book,
+            vars,
+            stage: Stage::Idle,
+            failed: false,
+        })
+    }
+
+    /// Begins a step, and gives its guard, a new variable.
+    pub fn begin_step(&mut self) -> Result<Lit, NoMemory>
+        requires stage { self.old.failed ≡ false → self.old.stage ≡ Idle }
+        requires room { self.old.vars + 1 < 2 ^ 30 }
+        ensures guard { IfOk result (λ guard. guard ≡ guard_of self.old.book.problem (step_of self.old.book.history)) }
+        ensures ok { IfOk result (λ _. self.new ≡ record { book = self.old.book; vars = self.old.vars + 1; stage = Begun; failed = false }) }
+        ensures err { IfErr result (λ _. (self.old.failed ≡ true) × (self.new ≡ self.old)) }
+    {
+        if self.failed {
+            return Err(NoMemory);
+        }
+        self.vars += 1;
+        self.stage = Stage::Begun;
+        Ok(Lit::new(Var(self.vars), true))
+    }
+
+    /// Searches for values under which the standing clauses and the assumptions are true, and logs at most `limit`
+    /// lemmas.
+    pub fn solve(
+        &mut self,
+        alloc: Global,
+        assumptions: &Lits,
+        limit: u64,
+    ) -> Result<Answer, NoMemory>
+        requires stage { MaySolve self.old assumptions.now }
+        requires range { HasVariables self.old.vars assumptions.now }
+        requires distinct { has_distinct_variables assumptions.now ≡ true }
+        requires limit { 1 ≤ limit }
+        ensures ok { IfOk result (HasSolved self.old self.new assumptions.now limit) }
+        ensures err { IfErr result (λ _. self.new.failed ≡ true) }
+    {
+        if self.failed {
+            return Err(NoMemory);
+        }
+        self.failed = true;
+        begin_solve(alloc, &mut self.book, is_begun(self.stage), assumptions)?;
+        let answer = search(alloc, &mut self.book, assumptions.slice(), self.vars, limit)?;
+        self.stage = stage_after(&answer);
+        self.failed = false;
+        Ok(answer)
+    }
+
+    /// Keeps a solution from coming again in this step: adds the clause of the negated guard and these literals. It
+    /// answers the clause's id.
+    pub fn block(&mut self, alloc: Global, lits: &Lits) -> Result<u64, NoMemory>
+        requires stage { self.old.failed ≡ false → self.old.stage ≡ Solved }
+        requires range { HasVariables self.old.book.problem.vars lits.now }
+        requires distinct { has_distinct_variables lits.now ≡ true }
+        ensures ok { IfOk result (HasBlocked self.old self.new lits.now) }
+        ensures err { IfErr result (λ _. self.new.failed ≡ true) }
+    {
+        if self.failed {
+            return Err(NoMemory);
+        }
+        self.failed = true;
+        let clause = guarded(alloc, Lit::new(Var(self.vars), false), lits.slice())?;
+        let id = self.book.log_block(alloc, clause)?;
+        self.stage = Stage::Blocked;
+        self.failed = false;
+        Ok(id)
+    }
+
+    /// Ends the step: logs the lemma that ends it, if there is one, and that its guard is retired.
+    pub fn end_step(&mut self, alloc: Global, end: Option<u64>) -> Result<(), NoMemory>
+        requires stage { self.old.failed ≡ false → is_solved self.old.stage ≡ true }
+        requires end { IfSome end (λ id. self.old.failed ≡ false → self.old.stage ≡ Ended id) }
+        ensures ok { IfOk result (λ _. HasEnded self.old self.new end) }
+        ensures err { IfErr result (λ _. self.new.failed ≡ true) }
+    {
+        if self.failed {
+            return Err(NoMemory);
+        }
+        self.failed = true;
+        finish(&mut self.book, end)?;
+        self.book.log_retire(alloc, Lit::new(Var(self.vars), true))?;
+        self.stage = Stage::Idle;
+        self.failed = false;
+        Ok(())
+    }
+
+    /// The assumptions of each step that has had a solve, in order.
+    pub fn steps(&self) -> &List<Lits>
+        ensures { result.now ≡ self.now.book.problem.steps }
+    {
+        self.book.steps()
+    }
+
+    /// The log. No line of it is refused for `steps`, and its lemmas are lean. Between two steps it is accepted, while
+    /// no call has answered want of memory.
+    pub fn log(&self) -> &Log
+        ensures lines { history_of result.now ≡ self.now.book.history }
+        ensures right { NoneRefused self.now.book.problem (history_of result.now) }
+        ensures lean { LemmasAreLean self.now.book.problem (history_of result.now) }
+        ensures accepted { self.now.failed ≡ false → self.now.stage ≡ Idle → IsAccepted self.now.book.problem result.now }
+    {
+        self.book.log()
+    }
+
+    /// The number of variables in use: those of `new` and the guards given so far.
+    pub fn vars(&self) -> u32
+        ensures { result ≡ self.now.vars }
+    {
+        self.vars
+    }
+}
+
+// The line of the lemma that ends a step, if there is one.
+fn finish(book: &mut Recording, end: Option<u64>) -> Result<(), NoMemory>
+    requires { IfSome end (EndsStep book.old) }
+    ensures ok { OnOk result (book.new ≡ finished book.old end) }
+{
+    match end {
+        Some(id) => book.log_finish(id),
+        None => Ok(()),
+    }
+}
+
+// A literal before others.
+fn guarded(alloc: Global, first: Lit, rest: &[Lit]) -> Result<Lits, NoMemory>
+    ensures { IfOk result (λ clause. clause ≡ first ∷ rest.now) }
+{
+    let mut clause = Lits::new(alloc);
+    clause.push(first)?;
+    for literal in rest {
+        clause.push(*literal)?;
+    }
+    Ok(clause)
+}
+
+// The line of a solve, after the assumptions of a step that begins.
+fn begin_solve(
+    alloc: Global,
+    book: &mut Recording,
+    first: bool,
+    assumptions: &Lits,
+) -> Result<(), NoMemory>
+    requires stage { MayBegin book.old first }
+    ensures ok { OnOk result (book.new ≡ begun_book first book.old assumptions.now) }
+    ensures stands { OnOk result (standing book.new ≡ standing book.old) }
+{
+    if first {
+        let member = Lits::copy(alloc, assumptions.slice())?;
+        book.add_step(member)?;
+    }
+    book.log_solve()
+}
