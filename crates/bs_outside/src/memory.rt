@@ -2,7 +2,7 @@
 ghost use Rattle.std.specs.Prelude.{◌≡◌, ◌≢◌, ◌≤◌, length, Some, IfOk, [], vec_len, vec_capacity};
 ghost use Rattle.bs_outside.specs.Cuts.{cut_of};
 ghost use Rattle.bs_outside.specs.Fetching.{Fetches};
-ghost use Rattle.bs_outside.specs.Files.{held_in, place_of};
+ghost use Rattle.bs_outside.specs.Files.{place_of};
 
 use crate::shelf::{Fetch, NoMemory, Shelf};
 use crate::sink::{Put, Sink};
