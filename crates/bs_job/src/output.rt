@@ -1,5 +1,5 @@
 //! The finished text goes out, each line in a put of its own.
-ghost use Rattle.std.specs.Prelude.{◌≡◌, ◌≢◌, ◌<◌, ◌≤◌, length};
+ghost use Rattle.std.specs.Prelude.{◌≢◌, ◌<◌, ◌≤◌, length};
 ghost use Rattle.bs_outside.specs.Putting.{Puts};
 ghost use Rattle.bs_job.specs.Delivery.{Delivers};
 
