@@ -1,5 +1,5 @@
 //! The words behind the command, one after another: words by position, and options among them.
-ghost use Rattle.std.specs.Prelude.{◌≡◌, Bool, map, string_bytes, IfOk};
+ghost use Rattle.std.specs.Prelude.{◌≡◌, map, string_bytes, IfOk};
 ghost use Rattle.bs_words.specs.Line.{plain_step, read_all, set_by, set_to, start, step};
 ghost use Rattle.bs_words.specs.Shown.{line_in, shown, state_in, Takes};
 
