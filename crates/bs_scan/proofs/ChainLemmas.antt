@@ -67,7 +67,7 @@ as_many chain [] (o ∷ os) after h = absurd h
 as_many chain (i ∷ is) [] after h = absurd h
 as_many chain (i ∷ is) (o ∷ os) after h = ap suc (as_many h.0 is os after h.2)
 
-parts : (a b c d : List Bool) → length a ≡ length c → a ++ b ≡ c ++ d → (c ≡ a) × (d ≡ b)
+pub parts : (a b c d : List Bool) → length a ≡ length c → a ++ b ≡ c ++ d → (c ≡ a) × (d ≡ b)
 parts [] b [] d n e = (refl, sym e)
 parts [] b (x ∷ c) d n e = absurd (omega (arith, n))
 parts (x ∷ a) b [] d n e = absurd (omega (arith, n))

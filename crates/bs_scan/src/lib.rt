@@ -10,6 +10,8 @@ mod fault;
 mod flops;
 mod law;
 mod register;
+#[cfg(test)]
+mod tests;
 mod words;
 
 pub use chain::Chain;

@@ -1,0 +1,4 @@
+-- what public contracts rest on
+pub mod Chip
+-- what inner functions promise each other
+pub mod Replay
