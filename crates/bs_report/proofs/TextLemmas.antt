@@ -1,0 +1,59 @@
+-- Pieces that are appended one after another.
+use Rattle.std.proofs.Common.{◌≡◌, ℕ, suc, zero, ◌<◌, ◌+◌, List, [], ◌∷◌, ◌++◌, length, take, get_or, ap, sym, ◌∙◌, arith, append_assoc, add-one}
+use Rattle.std.specs.Prelude.{Result, Ok, Err, OnOk}
+use Rattle.std.specs.List.{flat_map, range_with_len}
+use Rattle.std.proofs.lemmas.List.{take_more, append-nil, length-take-le}
+use Rattle.bs_report.specs.declared.report.Step.{Step}
+use Rattle.bs_report.specs.Text.{step_text, steps_text}
+
+steps_text_append : (n : ℕ) (steps : List Step) (step : Step) → steps_text n (steps ++ step ∷ []) ≡ steps_text n steps ++ step_text (n + length steps) step
+steps_text_append n [] step =
+    append-nil (step_text n step) ∙ ap (λ (k : ℕ). step_text k step) (let e : n ≡ n + 0 = omega arith in e)
+steps_text_append n (s ∷ ss) step =
+    let place : n + 1 + length ss ≡ n + suc (length ss) = omega arith in
+    ap (λ (rest : List ℕ). step_text n s ++ rest) (steps_text_append (n + 1) ss step)
+    ∙ (sym (append_assoc (step_text n s) (steps_text (n + 1) ss) (step_text (n + 1 + length ss) step))
+    ∙ ap (λ (k : ℕ). (step_text n s ++ steps_text (n + 1) ss) ++ step_text k step) place)
+
+-- one step more
+pub steps_text_more : (steps : List Step) (i number : ℕ) (step : Step) → i < length steps → step ≡ get_or steps i step → number ≡ i + 1 → steps_text 1 (take (i + 1) steps) ≡ steps_text 1 (take i steps) ++ step_text number step
+steps_text_more steps i number step lt e n =
+    let more : take (i + 1) steps ≡ take i steps ++ step ∷ [] = take_more steps i step lt ∙ ap (λ (s : Step). take i steps ++ s ∷ []) (sym e) in
+    let long : 1 + length (take i steps) ≡ number = omega (arith, length-take-le i steps (omega arith)) in
+    ap (steps_text 1) more ∙ (steps_text_append 1 (take i steps) step ∙ ap (λ (k : ℕ). steps_text 1 (take i steps) ++ step_text k step) long)
+
+-- what a step appends
+pub steps_step : (old before after : List ℕ) (steps : List Step) (i number : ℕ) (step : Step) → before ≡ old ++ steps_text 1 (take i steps) →
+    after ≡ before ++ step_text number step → i < length steps → step ≡ get_or steps i step → number ≡ i + 1 → after ≡ old ++ steps_text 1 (take (i + 1) steps)
+steps_step old before after steps i number step e f lt is n =
+    f ∙ (ap (λ (t : List ℕ). t ++ step_text number step) e
+    ∙ (append_assoc old (steps_text 1 (take i steps)) (step_text number step)
+    ∙ ap (λ (t : List ℕ). old ++ t) (sym (steps_text_more steps i number step lt is n))))
+
+range_more : (f : ℕ → List ℕ) (a n : ℕ) → flat_map f (range_with_len a (suc n)) ≡ flat_map f (range_with_len a n) ++ f (a + n)
+range_more f a zero = append-nil (f a) ∙ ap f (let e : a ≡ a + 0 = omega arith in e)
+range_more f a (suc n) =
+    let place : a + 1 + n ≡ a + suc n = omega arith in
+    ap (λ (rest : List ℕ). f a ++ rest) (range_more f (a + 1) n)
+    ∙ (sym (append_assoc (f a) (flat_map f (range_with_len (a + 1) n)) (f (a + 1 + n)))
+    ∙ ap (λ (k : ℕ). (f a ++ flat_map f (range_with_len (a + 1) n)) ++ f k) place)
+
+-- one place more
+pub places_more : (f : ℕ → List ℕ) (n : ℕ) → flat_map f (range_with_len 0 (n + 1)) ≡ flat_map f (range_with_len 0 n) ++ f n
+places_more f n =
+    ap (λ (k : ℕ). flat_map f (range_with_len 0 k)) (add-one n) ∙ (range_more f 0 n ∙ ap (λ (k : ℕ). flat_map f (range_with_len 0 n) ++ f k) (let e : 0 + n ≡ n = omega arith in e))
+
+-- what a place appends
+pub places_step : (f : ℕ → List ℕ) (old before after : List ℕ) (n : ℕ) → before ≡ old ++ flat_map f (range_with_len 0 n) → after ≡ before ++ f n → after ≡ old ++ flat_map f (range_with_len 0 (n + 1))
+places_step f old before after n e g =
+    g ∙ (ap (λ (t : List ℕ). t ++ f n) e ∙ (append_assoc old (flat_map f (range_with_len 0 n)) (f n) ∙ ap (λ (t : List ℕ). old ++ t) (sym (places_more f n))))
+
+four : (old a b c new p q r s : List ℕ) → a ≡ old ++ p → b ≡ a ++ q → c ≡ b ++ r → new ≡ c ++ s → new ≡ old ++ (p ++ (q ++ (r ++ s)))
+four old a b c new p q r s e f g h =
+    h ∙ (ap (λ (t : List ℕ). t ++ s) (g ∙ (ap (λ (t : List ℕ). t ++ r) (f ∙ ap (λ (t : List ℕ). t ++ q) e)))
+    ∙ (append_assoc ((old ++ p) ++ q) r s ∙ (append_assoc (old ++ p) q (r ++ s) ∙ append_assoc old p (q ++ (r ++ s)))))
+
+-- four pieces, of which the last may fail
+pub four_ok : {A E : Type 0} (x : Result A E) (old a b c new p q r s : List ℕ) → a ≡ old ++ p → b ≡ a ++ q → c ≡ b ++ r → OnOk x (new ≡ c ++ s) → OnOk x (new ≡ old ++ (p ++ (q ++ (r ++ s))))
+four_ok (Ok u) old a b c new p q r s e f g h = four old a b c new p q r s e f g h
+four_ok (Err u) old a b c new p q r s e f g h = h

@@ -1,0 +1,16 @@
+//! A backtrace's report: what it says, when it is good, its one text, and when it is valid.
+#![tactic(auto)]
+
+mod law;
+mod part;
+mod report;
+#[cfg(test)]
+mod tests;
+mod text;
+
+pub use law::{
+    a_trace_ends_an_execution, a_valid_report_is_good, finished_lists_reach_reset,
+    later_hits_are_earlier,
+};
+pub use part::Part;
+pub use report::{Budgets, Cand, HitLine, ListEnd, Report, Step, Stop};

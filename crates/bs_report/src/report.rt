@@ -1,0 +1,78 @@
+//! What a backtrace found: its steps, the cause of its stop, the trace, and the log of its search.
+
+use bs_bits::{Bits, List};
+use bs_log::Log;
+
+/// Why a backtrace stopped (docs/DEFINITIONS.md, "Stop").
+#[derive(Clone, Copy, Debug, PartialEq, Eq)]
+pub enum Stop {
+    /// The last present state has no stored signature.
+    Reset,
+    /// As many steps are made as were asked for.
+    Length,
+    /// No moment of a run is in the last list, which is finished and not empty.
+    Nohit,
+    /// The last list is finished and empty.
+    Empty,
+    /// No moment of a run is in the last list, which met its budget of candidates.
+    Candidates,
+    /// No moment of a run is in the last list, which met its budget of lemmas.
+    Conflicts,
+}
+
+/// A state that may stand before the present one, and an input that leads from it to the present one.
+#[derive(Drop)]
+pub struct Cand {
+    pub state: Bits,
+    pub input: Bits,
+}
+
+/// How a list of candidates ended.
+#[derive(Clone, Copy, Debug, PartialEq, Eq)]
+pub enum ListEnd {
+    /// There is no further candidate; the number is that of the lemma that refutes one, or 0 where no log is kept.
+    Finished(u64),
+    /// As many candidates are listed as were asked for.
+    Candidates,
+    /// The last solve logged as many lemmas as were asked for.
+    Conflicts,
+}
+
+/// The moment at which a run came into a listed state. Runs count from 1, cycles from 0.
+#[derive(Drop)]
+pub struct HitLine {
+    pub run: u32,
+    pub cycle: u32,
+    pub state: Bits,
+}
+
+/// One step back: the present state with its stored signature, the candidates in ascending order, how their list ended, and
+/// the first moment of a run in a listed state.
+#[derive(Drop)]
+pub struct Step {
+    pub present: Bits,
+    pub stored: Bits,
+    pub cands: List<Cand>,
+    pub end: ListEnd,
+    pub hit: Option<HitLine>,
+}
+
+/// The budgets of a backtrace: so many steps, so many candidates in a step, so many lemmas in a solve.
+#[derive(Clone, Copy, Debug, PartialEq, Eq)]
+pub struct Budgets {
+    pub steps: u64,
+    pub candidates: u64,
+    pub conflicts: u64,
+}
+
+/// The whole backtrace. `states` and `inputs` are the trace: the states hit, from the last step back to the first, then the
+/// dumped state; and between two states the input that leads from one to the next.
+#[derive(Drop)]
+pub struct Report {
+    pub budgets: Budgets,
+    pub steps: List<Step>,
+    pub stop: Stop,
+    pub states: List<Bits>,
+    pub inputs: List<Bits>,
+    pub log: Log,
+}

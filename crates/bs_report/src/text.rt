@@ -1,0 +1,199 @@
+//! The one text of a report.
+ghost use Rattle.std.specs.Prelude.{◌≡◌, ◌+◌, ◌<◌, ◌≤◌, ◌^◌, ◌++◌, decimal, length, codes, OnOk, OnErr, Option, option_map};
+ghost use Rattle.std.specs.List.{flat_map, range_with_len};
+ghost use Rattle.bs_bits.specs.Lines.{line};
+ghost use Rattle.bs_bits.specs.Text.{bits_text};
+ghost use Rattle.bs_log.specs.LineText.{line_text};
+ghost use Rattle.bs_report.specs.Text.{cand_text, end_word, hit_text, step_text, steps_text, stop_word, state_text, move_text, trace_text, budgets_text, head_text, tail_text, report_text};
+
+use crate::report::{Budgets, Cand, HitLine, ListEnd, Report, Step, Stop};
+use bs_bits::{Bits, NoMemory, end_line, push_line, push_number, push_number_line, push_piece};
+use bs_log::Line;
+
+/// Appends a line of a word and bits.
+fn push_bits_line(text: &mut Vec<u8>, word: &[u8], bits: &Bits) -> Result<(), NoMemory>
+    ensures { OnOk result (text.new.items ≡ text.old.items ++ line (word.now ++ bits_text bits.now)) }
+{
+    push_piece(text, word)?;
+    bits.text(text)?;
+    end_line(text)
+}
+
+/// Appends the line of a candidate.
+fn push_cand(text: &mut Vec<u8>, cand: &Cand) -> Result<(), NoMemory>
+    ensures { OnOk result (text.new.items ≡ text.old.items ++ cand_text cand.now) }
+{
+    push_piece(text, b"cand ")?;
+    cand.state.text(text)?;
+    push_bits_line(text, b" input ", &cand.input)
+}
+
+/// Appends the lines of candidates.
+fn push_cands(text: &mut Vec<u8>, cands: &[Cand]) -> Result<(), NoMemory>
+    ensures { OnOk result (text.new.items ≡ text.old.items ++ flat_map cand_text cands.now) }
+{
+    for cand in cands {
+        push_cand(text, cand)?;
+    }
+    Ok(())
+}
+
+/// Appends the line that says how a list ended.
+fn push_end(text: &mut Vec<u8>, end: ListEnd) -> Result<(), NoMemory>
+    ensures { OnOk result (text.new.items ≡ text.old.items ++ line (codes "list " ++ end_word end)) }
+{
+    match end {
+        ListEnd::Finished(id) => push_number_line(text, b"list finished ", id),
+        ListEnd::Candidates => push_line(text, b"list candidates"),
+        ListEnd::Conflicts => push_line(text, b"list conflicts"),
+    }
+}
+
+/// Appends the line of a hit.
+fn push_hit_line(text: &mut Vec<u8>, hit: &HitLine) -> Result<(), NoMemory>
+    ensures { OnOk result (text.new.items ≡ text.old.items ++ line (codes "hit " ++ (decimal hit.now.run ++ (codes " " ++ (decimal hit.now.cycle ++ (codes " " ++ bits_text hit.now.state)))))) }
+{
+    push_piece(text, b"hit ")?;
+    push_number(text, u64::from(hit.run))?;
+    push_piece(text, b" ")?;
+    push_number(text, u64::from(hit.cycle))?;
+    push_bits_line(text, b" ", &hit.state)
+}
+
+/// Appends the line of a hit, or that there is none.
+fn push_hit(text: &mut Vec<u8>, hit: &Option<HitLine>) -> Result<(), NoMemory>
+    ensures { OnOk result (text.new.items ≡ text.old.items ++ hit_text hit.now) }
+{
+    match hit {
+        Some(hit) => push_hit_line(text, hit),
+        None => push_line(text, b"nohit"),
+    }
+}
+
+/// Appends the lines of a step.
+fn push_step(text: &mut Vec<u8>, number: u64, step: &Step) -> Result<(), NoMemory>
+    ensures { OnOk result (text.new.items ≡ text.old.items ++ step_text number step.now) }
+{
+    push_number_line(text, b"step ", number)?;
+    push_bits_line(text, b"present ", &step.present)?;
+    push_bits_line(text, b"stored ", &step.stored)?;
+    push_cands(text, step.cands.slice())?;
+    push_end(text, step.end)?;
+    push_hit(text, &step.hit)
+}
+
+/// Appends the lines of the steps.
+fn push_steps(text: &mut Vec<u8>, steps: &[Step]) -> Result<(), NoMemory>
+    ensures { OnOk result (text.new.items ≡ text.old.items ++ steps_text 1 steps.now) }
+{
+    for (i, step) in steps.iter().enumerate() {
+        push_step(text, i as u64 + 1, step)?;
+    }
+    Ok(())
+}
+
+/// Appends the line of the cause.
+fn push_stop(text: &mut Vec<u8>, stop: Stop) -> Result<(), NoMemory>
+    ensures { OnOk result (text.new.items ≡ text.old.items ++ line (codes "stop " ++ stop_word stop)) }
+{
+    match stop {
+        Stop::Reset => push_line(text, b"stop reset"),
+        Stop::Length => push_line(text, b"stop length"),
+        Stop::Nohit => push_line(text, b"stop nohit"),
+        Stop::Empty => push_line(text, b"stop empty"),
+        Stop::Candidates => push_line(text, b"stop candidates"),
+        Stop::Conflicts => push_line(text, b"stop conflicts"),
+    }
+}
+
+/// Appends an input of the trace, and the state behind it.
+#[tactic(auto, using(std::proofs::lemmas::List::get_or_read))]
+fn push_move(text: &mut Vec<u8>, report: &Report, i: usize) -> Result<(), NoMemory>
+    requires small { i + 1 < 2 ^ 64 }
+    requires state { i + 1 < length report.now.states }
+    requires input { i < length report.now.inputs }
+    ensures { OnOk result (text.new.items ≡ text.old.items ++ move_text report.now i) }
+{
+    push_bits_line(text, b"input ", report.inputs.get(i))?;
+    push_bits_line(text, b"state ", report.states.get(i + 1))
+}
+
+/// Appends the lines of the trace.
+fn push_trace(text: &mut Vec<u8>, report: &Report) -> Result<(), NoMemory>
+    requires { length report.now.states ≡ length report.now.inputs + 1 }
+    ensures { OnOk result (text.new.items ≡ text.old.items ++ trace_text report.now) }
+{
+    push_number_line(text, b"trace ", report.inputs.len() as u64)?;
+    push_bits_line(text, b"state ", report.states.get(0))?;
+    for i in 0..report.inputs.len() {
+        push_move(text, report, i)?;
+    }
+    Ok(())
+}
+
+/// Appends lines of the log.
+fn push_log(text: &mut Vec<u8>, lines: &[Line]) -> Result<(), NoMemory>
+    ensures { OnOk result (text.new.items ≡ text.old.items ++ flat_map (λ log_line. line (line_text log_line)) lines.now) }
+{
+    for log_line in lines {
+        log_line.text(text)?;
+        end_line(text)?;
+    }
+    Ok(())
+}
+
+/// Appends the line of the budgets.
+fn push_budgets(text: &mut Vec<u8>, budgets: &Budgets) -> Result<(), NoMemory>
+    ensures { OnOk result (text.new.items ≡ text.old.items ++ budgets_text budgets.now) }
+{
+    push_piece(text, b"asked ")?;
+    push_number(text, budgets.steps)?;
+    push_piece(text, b" candidates ")?;
+    push_number(text, budgets.candidates)?;
+    push_number_line(text, b" conflicts ", budgets.conflicts)
+}
+
+/// Appends the lines up to the cause.
+#[tactic(auto, unfolding(crate::specs::Text::head_text))]
+fn push_head(text: &mut Vec<u8>, report: &Report) -> Result<(), NoMemory>
+    ensures { OnOk result (text.new.items ≡ text.old.items ++ head_text report.now) }
+{
+    push_line(text, b"backspace 1")?;
+    push_budgets(text, &report.budgets)?;
+    push_steps(text, report.steps.slice())?;
+    push_stop(text, report.stop)
+}
+
+/// Appends the lines from the trace on.
+#[tactic(auto, unfolding(crate::specs::Text::tail_text))]
+fn push_tail(text: &mut Vec<u8>, report: &Report) -> Result<(), NoMemory>
+    requires { length report.now.states ≡ length report.now.inputs + 1 }
+    ensures { OnOk result (text.new.items ≡ text.old.items ++ tail_text report.now) }
+{
+    push_trace(text, report)?;
+    push_number_line(text, b"log ", report.log.len() as u64)?;
+    push_log(text, report.log.slice())?;
+    push_line(text, b"end")
+}
+
+/// Appends the whole text.
+fn push_report(text: &mut Vec<u8>, report: &Report) -> Result<(), NoMemory>
+    requires { length report.now.states ≡ length report.now.inputs + 1 }
+    ensures { OnOk result (text.new.items ≡ text.old.items ++ report_text report.now) }
+{
+    push_head(text, report)?;
+    push_tail(text, report)
+}
+
+impl Report {
+    /// Appends the text of the report: there is one state more than inputs.
+    pub fn text(&self, into: &mut Vec<u8>) -> Result<(), NoMemory>
+        requires { length self.now.states ≡ length self.now.inputs + 1 }
+        ensures ok { OnOk result (into.new.items ≡ into.old.items ++ report_text self.now) }
+        ensures err { OnErr result (into.new.items ≡ into.old.items) }
+    {
+        let mut text = Vec::new(*into.allocator());
+        push_report(&mut text, self)?;
+        push_piece(into, text.as_slice())
+    }
+}
