@@ -1,5 +1,5 @@
 -- The units of retired guards.
-use Rattle.std.specs.Prelude.{ℕ, zero, suc, ◌+◌, List, [], ◌∷◌, ◌++◌, false}
+use Rattle.std.specs.Prelude.{ℕ, zero, suc, ◌+◌, [], ◌∷◌, ◌++◌, false}
 use Rattle.bs_clause.specs.Literal.{Literal, Clause}
 
 abbrev pub retired_unit : ℕ → ℕ → Literal

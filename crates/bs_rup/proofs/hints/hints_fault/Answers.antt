@@ -1,6 +1,5 @@
-use Rattle.std.proofs.Common.{◌≡◌, ◌+◌, ◌-◌, ◌<◌, length, drop, ap, ◌∙◌, sym, refl, arith, Option, Some, None, List, ◌∷◌, cond}
+use Rattle.std.proofs.Common.{◌≡◌, ◌+◌, ◌<◌, length, drop, ap, ◌∙◌, sym, arith, Some, None, ◌∷◌, cond}
 use Rattle.std.specs.Prelude.{option_and_then, is_some}
-use Rattle.bs_clause.specs.Literal.{Literal}
 use Rattle.bs_log.specs.Propagation.{after_hints, ends_false_after}
 use Rattle.bs_log.specs.Refusal.{clauses_of}
 use Rattle.bs_log.specs.declared.why.Why.TheVariants.{NotUnit, NotFalse}

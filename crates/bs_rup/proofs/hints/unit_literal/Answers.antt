@@ -1,5 +1,4 @@
-use Rattle.std.proofs.Common.{◌≡◌, false, sym, ◌∙◌, ap, rules}
-use Rattle.std.proofs.lemmas.Bool.{not-true}
+use Rattle.std.proofs.Common.{sym, ◌∙◌}
 use Rattle.bs_rup.proofs.Lists.{two_open}
 use Rattle.bs_rup.proofs.hints.unit_literal.Goals as goal
 

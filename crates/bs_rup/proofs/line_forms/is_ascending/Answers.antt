@@ -1,4 +1,4 @@
-use Rattle.std.proofs.Common.{◌≡◌, ◌≤◌, ◌-◌, length, drop, sym, ◌∙◌, arith}
+use Rattle.std.proofs.Common.{◌-◌, drop, sym, ◌∙◌, arith}
 use Rattle.std.proofs.lemmas.List.{length-drop}
 use Rattle.bs_rup.proofs.Lists.{short_ascending}
 use Rattle.bs_rup.proofs.line_forms.is_ascending.Goals as goal

@@ -1,4 +1,4 @@
-use Rattle.std.proofs.Common.{◌≡◌, ◌+◌, ◌++◌, ◌∷◌, [], length, true, refl, ap, ◌∙◌, arith, List, Ok}
+use Rattle.std.proofs.Common.{◌+◌, length, refl, ap, ◌∙◌, arith}
 use Rattle.bs_rup.specs.LiveClauses.{live_from}
 use Rattle.bs_rup.proofs.Stores.{live_from-push}
 use Rattle.bs_rup.proofs.live_clauses.add.Goals as goal

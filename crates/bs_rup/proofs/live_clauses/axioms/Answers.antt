@@ -1,8 +1,7 @@
-use Rattle.std.proofs.Common.{◌≡◌, ℕ, ◌+◌, ◌++◌, ◌∷◌, [], List, length, take, get_or, sym, ap, ◌∙◌, arith}
+use Rattle.std.proofs.Common.{◌≡◌, ℕ, ◌+◌, ◌++◌, ◌∷◌, [], length, take, get_or, sym, ap, ◌∙◌}
 use Rattle.bs_clause.specs.Literal.{Clause}
 use Rattle.bs_log.specs.declared.origin.Origin.TheVariants.{Axiom}
 use Rattle.bs_log.specs.History.{Entry, axioms_from}
-use Rattle.bs_rup.specs.LiveClauses.{live_from}
 use Rattle.bs_rup.proofs.Stores.{axioms_more}
 use Rattle.bs_rup.proofs.live_clauses.axioms.Goals as goal
 

@@ -1,5 +1,5 @@
-use Rattle.std.proofs.Common.{◌≡◌, ◌+◌, ◌-◌, ap, ◌∙◌, sym, refl, arith, Option, Some, None, cond}
-use Rattle.std.specs.Prelude.{slice_get, option_and_then}
+use Rattle.std.proofs.Common.{◌-◌, ap, ◌∙◌, refl, arith, Some, None, cond}
+use Rattle.std.specs.Prelude.{option_and_then}
 use Rattle.std.proofs.lemmas.Option.{slice_get_past, slice_get_read}
 use Rattle.bs_log.specs.Refusal.{entry_of}
 use Rattle.bs_rup.specs.LiveClauses.{live_from, entry_from}

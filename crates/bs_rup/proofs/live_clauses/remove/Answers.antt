@@ -1,6 +1,6 @@
-use Rattle.std.proofs.Common.{◌≡◌, ◌≤◌, length, arith, refl, ◌∙◌}
+use Rattle.std.proofs.Common.{refl, ◌∙◌}
 use Rattle.bs_rup.specs.LiveClauses.{live_from}
-use Rattle.bs_rup.proofs.Stores.{keep_all, one_more_gone, all_gone, each_at}
+use Rattle.bs_rup.proofs.Stores.{keep_all, one_more_gone, all_gone}
 use Rattle.bs_rup.proofs.live_clauses.remove.Goals as goal
 
 pub loop-id-init : goal.loop-id-init

@@ -1,6 +1,4 @@
-use Rattle.std.proofs.Common.{◌≡◌, ◌-◌, not, refl, sym, ap, ◌∙◌, arith, eqb}
-use Rattle.std.specs.List.{filter}
-use Rattle.bs_rup.specs.LiveClauses.{live_from}
+use Rattle.std.proofs.Common.{◌-◌, refl, sym, arith}
 use Rattle.bs_rup.proofs.Stores.{live_from-kill, others_stay}
 use Rattle.bs_rup.proofs.live_clauses.remove_one.Goals as goal
 

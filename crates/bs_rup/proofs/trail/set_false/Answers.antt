@@ -1,4 +1,4 @@
-use Rattle.std.proofs.Common.{◌≡◌, ◌+◌, ◌-◌, ◌<◌, ◌∷◌, not, ◌&&◌, ap, sym, ◌∙◌, arith, drop, map, eqb}
+use Rattle.std.proofs.Common.{◌≡◌, ◌+◌, ◌-◌, ◌∷◌, not, ◌&&◌, ap, sym, ◌∙◌, arith, drop, map, eqb}
 use Rattle.std.specs.List.{list_any}
 use Rattle.std.proofs.lemmas.List.{drop_more}
 use Rattle.bs_clause.specs.Literal.{Literal, Clause, negation}

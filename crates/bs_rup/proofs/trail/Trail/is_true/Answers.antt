@@ -1,4 +1,4 @@
-use Rattle.std.proofs.Common.{◌≡◌, ap, sym, ◌∙◌}
+use Rattle.std.proofs.Common.{ap, sym, ◌∙◌}
 use Rattle.bs_clause.specs.Literal.{has_literal, same_literal}
 use Rattle.bs_rup.specs.Marks.{is_marked}
 use Rattle.bs_rup.proofs.Lists.{list_any-reverse}
