@@ -1,10 +1,7 @@
 //! The state of the checker between two lines, and the rules that a line is tried by.
-ghost use Rattle.std.specs.Prelude.{◌≡◌, ◌+◌, ◌<◌, ◌≤◌, ◌^◌, ◌-◌, [], ◌∷◌, length, is_some, unwrap_or, slice_get, IfOk, OnOk, IsSome, Some, option_map, false};
-ghost use Rattle.std.specs.List.{list_all};
-ghost use Rattle.bs_clause.specs.Literal.{negation};
-ghost use Rattle.bs_log.specs.History.{Entry, State, state_of, guard_of};
-ghost use Rattle.bs_log.specs.Propagation.{hints_are_unit, last_is_false};
-ghost use Rattle.bs_log.specs.Refusal.{clauses_of, first_failing, has_distinct_variables, is_block_of, denies, assumptions_of, in_order, is_complete, refusal, is_between_steps, entry_of, is_lemma, is_lemma_or_block, passes};
+ghost use Rattle.std.specs.Prelude.{◌≡◌, ◌+◌, ◌<◌, ◌≤◌, ◌^◌, ◌-◌, [], ◌∷◌, length, unwrap_or, slice_get, IfOk, OnOk, IsSome, Some, option_map, false};
+ghost use Rattle.bs_log.specs.History.{State, state_of};
+ghost use Rattle.bs_log.specs.Refusal.{is_block_of, assumptions_of, in_order, is_complete, refusal, is_between_steps};
 ghost use Rattle.bs_rup.specs.LiveClauses.{live_from};
 ghost use Rattle.bs_rup.specs.Problem.{meaning};
 ghost use Rattle.bs_rup.specs.Retired.{retired_unit};

@@ -1,8 +1,7 @@
 //! Reverse unit propagation along the hints of a lemma.
-ghost use Rattle.std.specs.Prelude.{◌≡◌, ◌∷◌, [], is_some, IfOk, IsTrue};
-ghost use Rattle.std.specs.List.{list_all};
-ghost use Rattle.bs_log.specs.Propagation.{after_hints, ends_false_after, is_false, unit_literal};
-ghost use Rattle.bs_log.specs.Refusal.{entry_of, clauses_of, first_failing};
+ghost use Rattle.std.specs.Prelude.{◌≡◌, IfOk, IsTrue};
+ghost use Rattle.bs_log.specs.Propagation.{is_false, unit_literal};
+ghost use Rattle.bs_log.specs.Refusal.{clauses_of};
 ghost use Rattle.bs_rup.specs.LiveClauses.{live_from};
 ghost use Rattle.bs_rup.specs.Rules.{all_stand, hints_refusal};
 

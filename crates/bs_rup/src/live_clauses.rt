@@ -1,6 +1,6 @@
 //! The clauses of a log, each at the place of its id, so that an id is found in constant time.
-ghost use Rattle.std.specs.Prelude.{◌≡◌, ◌==◌, ◌+◌, ◌≤◌, ◌∷◌, [], ◌++◌, length, not, option_map, IfOk, OnOk, IsSome};
-ghost use Rattle.std.specs.List.{filter, list_any, AllByRecursion};
+ghost use Rattle.std.specs.Prelude.{◌≡◌, ◌==◌, ◌+◌, ◌≤◌, length, not, option_map, IfOk, OnOk, IsSome};
+ghost use Rattle.std.specs.List.{filter, AllByRecursion};
 ghost use Rattle.std.specs.Option.{option_copied};
 ghost use Rattle.bs_log.specs.History.{axioms_from};
 ghost use Rattle.bs_log.specs.Refusal.{entry_of};

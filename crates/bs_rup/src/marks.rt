@@ -1,6 +1,5 @@
 //! Sets of literals by their codes: a mark for each usual one, and a search tree for the others.
-ghost use Rattle.std.specs.Prelude.{◌≡◌, ◌==◌, ◌<◌, ◌^◌, ◌||◌, ◌&&◌, false, not, ℕ, IfOk, OnOk, OnErr, replicate};
-ghost use Rattle.bs_clause.specs.Literal.{Literal, code_of, has_literal};
+ghost use Rattle.std.specs.Prelude.{◌≡◌, ◌<◌, false, ℕ, IfOk, OnOk, OnErr, replicate};
 ghost use Rattle.bs_rup.specs.Marks.{is_marked, Adds, IsSameSet, Unmarks, UnmarksAll};
 
 use bs_bits::NoMemory;

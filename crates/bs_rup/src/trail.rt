@@ -1,8 +1,6 @@
 //! The literals that are true, of which any is found in constant time.
 ghost use Rattle.std.specs.Prelude.{◌≡◌, [], ◌∷◌, ◌||◌, ◌≤◌, ◌^◌, IfOk, OnOk, OnErr};
 ghost use Rattle.bs_clause.specs.Literal.{Literal, negation, has_literal};
-ghost use Rattle.bs_log.specs.Propagation.{start_of};
-ghost use Rattle.bs_log.specs.Refusal.{has_distinct_variables};
 ghost use Rattle.bs_rup.specs.Trail.{IsSetFalse};
 
 use crate::marks::Marks;
