@@ -5,3 +5,9 @@ pub mod BodyLemmas
 pub mod CellLemmas
 pub mod DigitLemmas
 pub mod NamingLemmas
+pub mod TableLemmas
+pub mod NumberLemmas
+pub mod PlaceLemmas
+pub mod DeclaringLemmas
+pub mod PlacementLemmas
+pub mod Examples

@@ -1,0 +1,6 @@
+use Rattle.std.proofs.Common.{◌≡◌, ◌<◌, ◌≤◌, ◌-◌, ◌+◌, ℕ, ◌++◌, [], ◌∷◌, length, Ok, None, map, filter, not, take, drop}
+use Rattle.bs_verilog.proofs.building.add_single_gates.Given as goal
+
+abbrev pub invariant-outputs : goal.invariant-outputs
+invariant-outputs l =
+    l.gates ≡ l.initial.gates ++ map (λ out. record { kind = l.kind; out = out; ins = l.input ∷ [] }) (take l.out-index l.outputs)

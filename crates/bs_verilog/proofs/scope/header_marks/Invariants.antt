@@ -1,0 +1,10 @@
+use Rattle.std.proofs.Common.{◌≡◌, ◌<◌, ◌≤◌, ◌-◌, ◌+◌, ℕ, ◌++◌, [], ◌∷◌, length, Ok, None, map, filter, not, take, drop}
+use Rattle.bs_verilog.specs.Declaring.{first_after, stands_before}
+use Rattle.bs_verilog.proofs.TableLemmas.{IsBounded, IsMarked}
+use Rattle.bs_verilog.proofs.scope.header_marks.Given as goal
+
+abbrev pub invariant-names : goal.invariant-names
+invariant-names l =
+    IsBounded (length l.seen.items) l.header
+    × IsMarked l.seen.items (take l.name-index l.header)
+    × (first_after stands_before (take l.name-index l.header) (drop l.name-index l.header) ≡ first_after stands_before [] l.header)

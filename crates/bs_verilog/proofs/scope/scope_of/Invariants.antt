@@ -1,0 +1,10 @@
+use Rattle.std.proofs.Common.{◌≡◌, ◌<◌, ◌≤◌, ◌-◌, ◌+◌, ℕ, ◌++◌, [], ◌∷◌, length, Ok, None, map, filter, not, take, drop}
+use Rattle.bs_verilog.specs.Declaring.{first_after, is_redeclared}
+use Rattle.bs_verilog.proofs.TableLemmas.{AreBounded, IsSaid}
+use Rattle.bs_verilog.proofs.scope.scope_of.Given as goal
+
+abbrev pub invariant-declared : goal.invariant-declared
+invariant-declared l =
+    AreBounded (length l.scope.items) l.declared
+    × IsSaid l.scope.items (take l.d-index l.declared)
+    × (first_after is_redeclared (take l.d-index l.declared) (drop l.d-index l.declared) ≡ first_after is_redeclared [] l.declared)

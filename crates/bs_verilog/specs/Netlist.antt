@@ -1,0 +1,122 @@
+-- The netlist of a text: its value, or the first fault of the earliest pass.
+use Rattle.std.specs.Prelude.{ℕ, Bool, true, false, List, [], ◌∷◌, map, if◌then◌else◌, Option, Some, None, Result, Ok, Err}
+use Rattle.std.specs.List.{flat_map}
+use Rattle.bs_net.specs.declared.net.NetId.{NetId}
+use Rattle.bs_net.specs.declared.net.Gate.{Gate}
+use Rattle.bs_net.specs.declared.net.Flop.{Flop}
+use Rattle.bs_net.specs.declared.net.Const.{Const}
+use Rattle.bs_net.specs.declared.raw.Raw.{Raw}
+use Rattle.bs_net.specs.Names.{with_key}
+use Rattle.bs_lex.specs.declared.token.Token.{Token}
+use Rattle.bs_lex.specs.Tokens.{tokens_of}
+use Rattle.bs_verilog.specs.declared.syntax.Name.{Name}
+use Rattle.bs_verilog.specs.declared.syntax.Says.{Says}
+use Rattle.bs_verilog.specs.declared.syntax.Module.{Module}
+use Rattle.bs_verilog.specs.declared.syntax.Part.{Part}
+use Rattle.bs_verilog.specs.declared.syntax.Declared.{Declared}
+use Rattle.bs_verilog.specs.declared.syntax.Direction.TheVariants as directions
+use Rattle.bs_verilog.specs.declared.syntax.Direction as code
+use Rattle.bs_verilog.specs.declared.syntax.Net as code_net
+use Rattle.bs_verilog.specs.declared.syntax.Net.TheVariants.{Supply0, Supply1}
+use Rattle.bs_verilog.specs.declared.numbering.Known.{Known}
+use Rattle.bs_verilog.specs.declared.building.Built.{Built}
+use Rattle.bs_verilog.specs.declared.fault.VerilogFault.{VerilogFault}
+use Rattle.bs_verilog.specs.declared.fault.VerilogFault.TheVariants.{Syntax}
+use Rattle.bs_verilog.specs.Lexemes.{lexemes_of, names_of}
+use Rattle.bs_verilog.specs.Reading.{◌>>=◌}
+use Rattle.bs_verilog.specs.Modules.{syntax_of}
+use Rattle.bs_verilog.specs.Keys.{keys, text}
+use Rattle.bs_verilog.specs.Declaring.{said, direction_of, declaring_fault, known, known_nets, keys_of}
+use Rattle.bs_verilog.specs.Building.{net_of, with_parts}
+
+-- the parts of a netlist
+pub record Netlist : Type 0 where
+  pub names : List (List ℕ)
+  pub inputs : List NetId
+  pub outputs : List NetId
+  pub consts : List Const
+  pub gates : List Gate
+  pub flops : List Flop
+
+abbrev pub netlist_of : Raw → Netlist
+netlist_of r = record { names = r.names; inputs = r.inputs; outputs = r.outputs; consts = r.consts; gates = r.gates; flops = r.flops }
+
+-- the names after these keys: each new one takes the next number
+unfoldable pub with_keys : List (List ℕ) → List (List ℕ) → List (List ℕ)
+with_keys names [] = names
+with_keys names (key ∷ keys) = with_keys (with_key names key) keys
+
+-- the names of declared nets, a vector's bits from the left bound to the right
+abbrev pub numbered : List (List ℕ) → List Known → List (List ℕ)
+numbered table nets = with_keys [] (flat_map (keys_of table) nets)
+
+-- the direction is this one
+abbrev pub is_towards : code.Direction → Option code.Direction → Bool
+is_towards directions.Input (Some directions.Input) = true
+is_towards directions.Output (Some directions.Output) = true
+is_towards _ _ = false
+
+abbrev pub nets_of : List (List ℕ) → List (List ℕ) → List NetId
+nets_of names keys = map (net_of names) keys
+
+-- the bits of a port, where it has this direction
+unfoldable pub port_bits : code.Direction → List (List ℕ) → (ℕ → Option Says) → List (List ℕ) → Name → List NetId
+port_bits direction table scope names n =
+    if is_towards direction (direction_of (scope n.id)) then nets_of names (keys_of table (known scope n)) else []
+
+-- the port bits of one direction, in header order
+abbrev pub port_nets : code.Direction → List (List ℕ) → (ℕ → Option Says) → List (List ℕ) → List Name → List NetId
+port_nets direction table scope names header = flat_map (port_bits direction table scope names) header
+
+-- the bit that a supply shows
+abbrev pub supplied : Option code_net.Net → Option Bool
+supplied (Some Supply0) = Some false
+supplied (Some Supply1) = Some true
+supplied _ = None
+
+abbrev pub consts_of : Bool → List NetId → List Const
+consts_of b nets = map (λ net. record { net = net; value = b }) nets
+
+-- the constants that a declared name is, if it is a supply
+unfoldable pub supply_consts : List (List ℕ) → List (List ℕ) → Declared → List Const
+supply_consts table names d =
+    elim (supplied d.says.net) [
+      | Some b ↦ consts_of b (nets_of names (keys (text table d.name) d.says.range))
+      | None ↦ []
+    ]
+
+-- the parts of what is built, with the port bits
+abbrev pub parts_of : Built → List NetId → List NetId → Netlist
+parts_of b inputs outputs =
+    record { names = b.made.names; inputs = inputs; outputs = outputs; consts = b.made.consts; gates = b.gates; flops = b.flops }
+
+-- what stands before the first part: the declared nets and the supplies
+abbrev pub start_of : List (List ℕ) → Module → Built
+start_of table m =
+    let names = numbered table (known_nets m) in
+    record { made = record { names = names; consts = flat_map (supply_consts table names) m.declared }; gates = []; flops = [] }
+
+-- what parts build in file order after what stands before them, with the ports by the names that stand before
+abbrev pub finished_of : List (List ℕ) → (ℕ → Option Says) → List Name → List Part → Built → Result Netlist VerilogFault
+finished_of table scope header parts start =
+    with_parts table scope start parts >>= λ b.
+    Ok (parts_of b (port_nets directions.Input table scope start.made.names header) (port_nets directions.Output table scope start.made.names header))
+
+-- what a module builds whose declarations are in order
+unfoldable pub built_of : List (List ℕ) → Module → Result Netlist VerilogFault
+built_of table m = finished_of table (said m.declared) m.header m.parts (start_of table m)
+
+-- the third pass, and the fourth
+unfoldable pub meaning_of : List (List ℕ) → Module → Result Netlist VerilogFault
+meaning_of table m = elim (declaring_fault table m) [ Some fault ↦ Err fault | None ↦ built_of table m ]
+
+-- the lexer's fault is a fault of syntax
+abbrev pub tokenised : List ℕ → Result (List Token) VerilogFault
+tokenised source = elim (tokens_of source) [ Ok tokens ↦ Ok tokens | Err at ↦ Err (Syntax at) ]
+
+-- the netlist that a text is
+unfoldable pub netlist_text : List ℕ → Result Netlist VerilogFault
+netlist_text source = do
+  tokens ← tokenised source
+  m ← syntax_of (lexemes_of source tokens)
+  meaning_of (names_of source tokens) m

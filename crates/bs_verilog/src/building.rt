@@ -1,0 +1,206 @@
+//! The fourth pass: gates, flip-flops and constants.
+ghost use Rattle.std.specs.Prelude.{◌≡◌, ◌<◌, ◌≤◌, ◌-◌, ◌++◌, [], ◌∷◌, length, Ok, map, take, drop};
+ghost use Rattle.bs_verilog.specs.Reading.{Gives};
+ghost use Rattle.bs_verilog.specs.Checking.{Makes, looked};
+ghost use Rattle.bs_verilog.specs.Building as spec;
+
+use crate::fault::VerilogFault;
+use crate::lexeme::Cell;
+use crate::naming::Table;
+use crate::placing::{Made, connection_nets};
+use crate::syntax::{Connection, Part, Says, Shape};
+use crate::terminals::{Pins, cell_pins, is_assignment, is_gate, is_single};
+use bs_bits::List;
+use bs_net::{Flop, Gate, Kind, NetId, Terms};
+use std::alloc::Global;
+
+/// What the parts so far have built.
+#[derive(Drop)]
+pub struct Built {
+    pub made: Made,
+    pub gates: List<Gate>,
+    pub flops: List<Flop>,
+}
+
+fn net_at(nets: &[NetId], place: usize) -> NetId
+    ensures { result ≡ spec.net_at nets.now place }
+{
+    nets.get(place).copied().unwrap_or(NetId(0))
+}
+
+fn one_term(alloc: Global, net: NetId) -> Result<Terms, VerilogFault>
+    ensures { Gives (λ t. t) result (Ok (net ∷ [])) }
+{
+    let mut terms = Terms::new(alloc);
+    terms.push(net)?;
+    Ok(terms)
+}
+
+fn terms_of(alloc: Global, nets: &[NetId]) -> Result<Terms, VerilogFault>
+    ensures { Gives (λ t. t) result (Ok nets.now) }
+{
+    let mut terms = Terms::new(alloc);
+    'nets: for net in nets {
+        terms.push(*net)?;
+    }
+    Ok(terms)
+}
+
+/// Adds one gate per output, each with the same input.
+fn add_single_gates(
+    alloc: Global,
+    gates: &mut List<Gate>,
+    kind: Kind,
+    outputs: &[NetId],
+    input: NetId,
+) -> Result<(), VerilogFault>
+    ensures { Makes result (λ _. gates.new) (Ok (gates.old ++ map (λ out. record { kind = kind; out = out; ins = input ∷ [] }) outputs.now)) }
+{
+    'outputs: for out in outputs {
+        let ins = one_term(alloc, input)?;
+        gates.push(Gate {
+            kind,
+            out: *out,
+            ins,
+        })?;
+    }
+    Ok(())
+}
+
+/// The nets but the last.
+fn all_but_last(nets: &[NetId]) -> &[NetId]
+    ensures { result.now ≡ take (length nets.now - 1) nets.now }
+{
+    &nets[..nets.len().saturating_sub(1)]
+}
+
+/// The nets but the first.
+fn all_but_first(nets: &[NetId]) -> &[NetId]
+    ensures { result.now ≡ drop 1 nets.now }
+{
+    &nets[nets.len().min(1)..]
+}
+
+/// Adds the gates of a gate's nets.
+#[tactic(auto, unfolding(crate::specs::Building::gates_of))]
+fn add_gates(
+    alloc: Global,
+    gates: &mut List<Gate>,
+    kind: Kind,
+    nets: &[NetId],
+) -> Result<(), VerilogFault>
+    ensures { Makes result (λ _. gates.new) (Ok (gates.old ++ spec.gates_of kind nets.now)) }
+{
+    if is_single(kind) {
+        let input = net_at(nets, nets.len().saturating_sub(1));
+        return add_single_gates(alloc, gates, kind, all_but_last(nets), input);
+    }
+    let ins = terms_of(alloc, all_but_first(nets))?;
+    gates.push(Gate {
+        kind,
+        out: net_at(nets, 0),
+        ins,
+    })?;
+    Ok(())
+}
+
+fn starts_as_one(cell: Cell) -> bool
+    ensures { result ≡ spec.starts_as_one cell }
+{
+    match cell {
+        Cell::Dff => false,
+        Cell::Dffs => true,
+    }
+}
+
+fn flop_of(cell: Cell, pins: Pins, nets: &[NetId]) -> Flop
+    ensures { result ≡ spec.flop_of cell pins nets.now }
+{
+    Flop {
+        q: net_at(nets, pins.output),
+        d: net_at(nets, pins.input),
+        ck: net_at(nets, pins.clock),
+        reset: starts_as_one(cell),
+    }
+}
+
+fn with_gates(
+    alloc: Global,
+    built: &mut Built,
+    table: &Table,
+    scope: &[Option<Says>],
+    kind: Kind,
+    cs: &[Connection],
+) -> Result<(), VerilogFault>
+    ensures { Makes result (λ _. built.new) (spec.with_gates table.now (looked scope.now) kind built.old cs.now) }
+{
+    let nets = connection_nets(alloc, &mut built.made, table, scope, cs)?;
+    add_gates(alloc, &mut built.gates, kind, &nets)?;
+    Ok(())
+}
+
+fn with_flop(
+    alloc: Global,
+    built: &mut Built,
+    table: &Table,
+    scope: &[Option<Says>],
+    cell: Cell,
+    pins: Pins,
+    cs: &[Connection],
+) -> Result<(), VerilogFault>
+    ensures { Makes result (λ _. built.new) (spec.with_flop table.now (looked scope.now) cell pins built.old cs.now) }
+{
+    let nets = connection_nets(alloc, &mut built.made, table, scope, cs)?;
+    built.flops.push(flop_of(cell, pins, &nets))?;
+    Ok(())
+}
+
+/// Adds a gate, a cell or an assignment.
+#[tactic(auto, unfolding(crate::specs::Building::with_part))]
+fn with_part(
+    alloc: Global,
+    built: &mut Built,
+    table: &Table,
+    scope: &[Option<Says>],
+    part: &Part,
+) -> Result<(), VerilogFault>
+    ensures { Makes result (λ _. built.new) (spec.with_part table.now (looked scope.now) built.old part.now) }
+{
+    let cs = part.connections.slice();
+    match part.shape {
+        Shape::Gate(kind) => {
+            if is_gate(kind, cs) {
+                with_gates(alloc, built, table, scope, kind, cs)
+            } else {
+                Err(VerilogFault::Terminals(part.at))
+            }
+        }
+        Shape::Cell(cell) => match cell_pins(table, cs) {
+            Some(pins) => with_flop(alloc, built, table, scope, cell, pins, cs),
+            None => Err(VerilogFault::Terminals(part.at)),
+        },
+        Shape::Assign => {
+            if is_assignment(cs) {
+                with_gates(alloc, built, table, scope, Kind::Buf, cs)
+            } else {
+                Err(VerilogFault::Terminals(part.at))
+            }
+        }
+    }
+}
+
+/// Adds the parts in file order.
+pub fn with_parts(
+    alloc: Global,
+    built: &mut Built,
+    table: &Table,
+    scope: &[Option<Says>],
+    parts: &[Part],
+) -> Result<(), VerilogFault>
+    ensures { Makes result (λ _. built.new) (spec.with_parts table.now (looked scope.now) built.old parts.now) }
+{
+    'parts: for part in parts {
+        with_part(alloc, built, table, scope, part)?;
+    }
+    Ok(())
+}

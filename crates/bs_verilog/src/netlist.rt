@@ -1,0 +1,144 @@
+//! The parts of a netlist, from what a module says.
+ghost use Rattle.std.specs.Prelude.{◌≡◌, ◌<◌, ◌≤◌, ◌^◌, ℕ, [], length, Ok, None, MatchResult};
+ghost use Rattle.bs_verilog.specs.Reading.{Gives};
+ghost use Rattle.bs_verilog.specs.Checking.{looked};
+ghost use Rattle.bs_verilog.specs.Placement.{AreShort, IsFinished, WillFinish};
+ghost use Rattle.bs_verilog.specs.Declaring as declaring_spec;
+ghost use Rattle.bs_verilog.specs.Netlist as spec;
+ghost use Rattle.bs_verilog.specs.declared.fault.VerilogFault.TheVariants.{NoMemory as OutOfMemory};
+
+use crate::building::{Built, with_parts};
+use crate::declaring::declare;
+use crate::fault::VerilogFault;
+use crate::naming::Table;
+use crate::numbering::{Known, numbered};
+use crate::placing::Made;
+use crate::ports::{port_nets, supplies};
+use crate::syntax::{Direction, Module, Name, Part, Says};
+use bs_bits::List;
+use bs_net::{NetId, Raw};
+use std::alloc::Global;
+
+/// A list of 2^32 members and more is past the memory that a text of 16 MiB can ask for.
+fn short(count: usize) -> Result<(), VerilogFault>
+    ensures { MatchResult result (λ _. count < 2 ^ 32) (λ fault. fault ≡ OutOfMemory) }
+{
+    if count <= 4294967295 {
+        Ok(())
+    } else {
+        Err(VerilogFault::NoMemory)
+    }
+}
+
+/// Each part has fewer than 2^32 connections.
+fn short_parts(parts: &[Part]) -> Result<(), VerilogFault>
+    ensures { MatchResult result (λ _. AreShort parts.now) (λ fault. fault ≡ OutOfMemory) }
+{
+    'parts: for part in parts {
+        short(part.connections.len())?;
+    }
+    Ok(())
+}
+
+/// The parts of a netlist.
+fn raw_of(built: Built, inputs: List<NetId>, outputs: List<NetId>) -> Result<Raw, VerilogFault>
+    requires { IsFinished built inputs outputs }
+    ensures { Gives spec.netlist_of result (Ok (spec.parts_of built inputs outputs)) }
+{
+    short(inputs.len())?;
+    short(outputs.len())?;
+    short(built.made.consts.len())?;
+    short(built.gates.len())?;
+    short(built.flops.len())?;
+    Ok(Raw {
+        names: built.made.names,
+        inputs,
+        outputs,
+        consts: built.made.consts,
+        gates: built.gates,
+        flops: built.flops,
+    })
+}
+
+/// What stands before the first part: the declared nets and the supplies.
+fn start(alloc: Global, table: &Table, top: &Module, nets: &[Known]) -> Result<Built, VerilogFault>
+    requires nets { nets.now ≡ declaring_spec.known_nets top.now }
+    requires few { declaring_spec.first_over table.now 0 nets.now ≡ None }
+    ensures { Gives (λ b. b) result (Ok (spec.start_of table.now top.now)) }
+{
+    let names = numbered(alloc, table, nets)?;
+    let consts = supplies(alloc, table, &names, top.declared.slice())?;
+    Ok(Built {
+        made: Made { names, consts },
+        gates: List::new(alloc),
+        flops: List::new(alloc),
+    })
+}
+
+/// What the parts build after what stands before them.
+fn finished(
+    alloc: Global,
+    table: &Table,
+    scope: &[Option<Says>],
+    header: &[Name],
+    parts: &[Part],
+    start: Built,
+) -> Result<Raw, VerilogFault>
+    requires { WillFinish table.now (looked scope.now) header.now parts.now start }
+    ensures { Gives spec.netlist_of result (spec.finished_of table.now (looked scope.now) header.now parts.now start) }
+{
+    let inputs = port_nets(
+        alloc,
+        Direction::Input,
+        table,
+        scope,
+        &start.made.names,
+        header,
+    )?;
+    let outputs = port_nets(
+        alloc,
+        Direction::Output,
+        table,
+        scope,
+        &start.made.names,
+        header,
+    )?;
+    let mut built = start;
+    with_parts(alloc, &mut built, table, scope, parts)?;
+    raw_of(built, inputs, outputs)
+}
+
+/// What a module builds whose declarations are in order.
+fn built(
+    alloc: Global,
+    table: &Table,
+    top: &Module,
+    scope: &[Option<Says>],
+    nets: &[Known],
+) -> Result<Raw, VerilogFault>
+    requires scope { looked scope.now ≡ declaring_spec.said top.now.declared }
+    requires nets { nets.now ≡ declaring_spec.known_nets top.now }
+    requires few { declaring_spec.many_fault table.now nets.now ≡ None }
+    ensures { Gives spec.netlist_of result (spec.built_of table.now top.now) }
+{
+    let header = top.header.slice();
+    let parts = top.parts.slice();
+    short_parts(parts)?;
+    let before = start(alloc, table, top, nets)?;
+    finished(alloc, table, scope, header, parts, before)
+}
+
+/// The third pass, and the fourth.
+#[tactic(auto, unfolding(crate::specs::Netlist::meaning_of))]
+pub fn meaning(alloc: Global, table: &Table, top: &Module) -> Result<Raw, VerilogFault>
+    ensures { Gives spec.netlist_of result (spec.meaning_of table.now top.now) }
+{
+    let declarations = declare(alloc, table, top)?;
+    built(
+        alloc,
+        table,
+        top,
+        &declarations.scope,
+        declarations.nets.slice(),
+    )
+}
