@@ -1,22 +1,22 @@
 -- A book with one more line.
-use Rattle.std.proofs.Common.{◌≡◌, ◌≢◌, ℕ, zero, suc, ◌+◌, ◌-◌, ◌<◌, ◌≤◌, arith, Bool, true, false, not, ◌&&◌, cond, List, [], ◌∷◌, ◌++◌, map, reverse, take, length, get_or, refl, sym, ap, subst, ◌∙◌, inl, inr, ◌⊎◌, Option, Some, None, eqb}
-use Rattle.std.specs.Prelude.{All, slice_get, is_some, option_map, filter_map, IsTrue}
-use Rattle.std.specs.List.{list_all, find, cons_option}
+use Rattle.std.proofs.Common.{◌≡◌, ℕ, zero, suc, ◌+◌, ◌-◌, ◌<◌, arith, true, cond, List, [], ◌∷◌, ◌++◌, map, reverse, take, length, get_or, refl, sym, ap, subst, ◌∙◌, Some, eqb}
+use Rattle.std.specs.Prelude.{All, slice_get, is_some, option_map}
+use Rattle.std.specs.List.{list_all, filter, cons_option}
 use Rattle.std.proofs.lemmas.Bool.{eq-eqb, ne_eqb, and_from}
 use Rattle.std.proofs.lemmas.List.{map-append, reverse-append, take-append-le, length_push, length-map, length-reverse, get_or-reverse}
-use Rattle.std.proofs.lemmas.Option.{get_or_from_slice_get}
+use Rattle.std.proofs.lemmas.List.Elements.{filter-append}
 use Rattle.bs_clause.specs.Literal.{Clause}
 use Rattle.bs_log.specs.declared.line.Line.{Line}
-use Rattle.bs_log.specs.declared.line.Line.TheVariants.{Solve, Lemma, Block, Finish, Retire, Delete}
+use Rattle.bs_log.specs.declared.line.Line.TheVariants.{Lemma}
 use Rattle.bs_log.specs.declared.origin.Origin.TheVariants.{Learnt}
-use Rattle.bs_log.specs.History.{Problem, History, Entry, State, state_of, live, added, last_id, phase_of, step_of}
-use Rattle.bs_log.specs.Refusal.{NoneRefused, refusal, entry_of, clauses_of, in_solve}
+use Rattle.bs_log.specs.History.{Entry, state_of, live, last_id, phase_of}
+use Rattle.bs_log.specs.Refusal.{is_lemma, entry_of, clauses_of, in_solve}
 use Rattle.bs_log.specs.Propagation.{hints_are_unit, last_is_false}
-use Rattle.bs_log.specs.Lean.{IsNew, LemmasAreLean, IsResolventOf}
+use Rattle.bs_log.specs.Lean.{IsNew, IsResolventOf}
 use Rattle.bs_log.proofs.Tests.{IsRight, none_from_right}
 use Rattle.bs_log.proofs.Histories.{live-push}
 use Rattle.bs_solve.specs.Walk.{IsLearnt, clauses_at}
-use Rattle.bs_solve.specs.Book.{Book, standing, AreNumbered, IsKept, IsRecorded, with_lemma, ids_of}
+use Rattle.bs_solve.specs.Book.{Book, standing, lemma_ids, AreNumbered, IsKept, IsRecorded, with_lemma, ids_of}
 use Rattle.bs_solve.proofs.Lists.{none_is_not_some, same_some, get_last}
 
 -- ---- ids are places
@@ -110,18 +110,26 @@ kept_with_lemma b id lits hints k is phase learnt new =
 
 -- ---- the record with one more lemma
 
-pub record Recorded (axioms : ℕ) (clauses : List Clause) (old new : Book) (lits : Clause) : Type 0 where
-  pub recorded : IsRecorded axioms clauses new
+-- the lemma's id comes last
+ids_with_lemma : (b : Book) (id : ℕ) (lits : Clause) (hints : List ℕ) → IsKept b → id ≡ last_id b.problem b.history + 1 → lemma_ids (with_lemma b id lits hints) ≡ lemma_ids b ++ id ∷ []
+ids_with_lemma b id lits hints k is =
+    let entries : List Entry = live b.problem b.history in
+    let e : Entry = record { id = id; origin = Learnt; literals = lits } in
+    ap (λ es. map (λ (x : Entry). x.id) (filter is_lemma es)) (live_with_lemma b id lits hints k is) ∙ ap (map (λ (x : Entry). x.id)) (filter-append is_lemma entries (e ∷ [])) ∙
+    map-append (λ (x : Entry). x.id) (filter is_lemma entries) (e ∷ [])
+
+pub record Recorded (axioms : ℕ) (clauses : List Clause) (ids : List ℕ) (old new : Book) (lits : Clause) : Type 0 where
+  pub recorded : IsRecorded axioms clauses ids new
   pub stands : standing new ≡ standing old ++ lits ∷ []
   pub entry : (id : ℕ) → id ≡ length clauses → entry_of (live new.problem new.history) id ≡ Some (record { id = id; origin = Learnt; literals = lits })
 
-pub recorded_lemma : (axioms vars : ℕ) (steps clauses : List Clause) (log : List Line) (more : List Clause) (longer : List Line) (id : ℕ) (lits : Clause) (hints : List ℕ) (now : Book) →
+pub recorded_lemma : (axioms vars : ℕ) (ids more_ids : List ℕ) (steps clauses : List Clause) (log : List Line) (more : List Clause) (longer : List Line) (id : ℕ) (lits : Clause) (hints : List ℕ) (now : Book) →
     record { problem = record { vars = vars; clauses = take axioms clauses; steps = steps }; history = reverse log } ≡ now →
-    IsRecorded axioms clauses (record { problem = record { vars = vars; clauses = take axioms clauses; steps = steps }; history = reverse log }) →
-    more ≡ clauses ++ lits ∷ [] → longer ≡ log ++ Lemma id lits (ids_of (reverse hints)) ∷ [] → id ≡ length clauses + 1 →
+    IsRecorded axioms clauses ids (record { problem = record { vars = vars; clauses = take axioms clauses; steps = steps }; history = reverse log }) →
+    more ≡ clauses ++ lits ∷ [] → longer ≡ log ++ Lemma id lits (ids_of (reverse hints)) ∷ [] → id ≡ length clauses + 1 → more_ids ≡ ids ++ id ∷ [] →
     in_solve (phase_of now.history) ≡ true → IsLearnt (standing now) lits hints → IsNew now.problem now.history lits →
-    Recorded axioms more now (record { problem = record { vars = vars; clauses = take axioms more; steps = steps }; history = reverse longer }) lits
-recorded_lemma axioms vars steps clauses log more longer id lits hints now view_is r is_more is_longer is_id phase learnt new =
+    Recorded axioms more more_ids now (record { problem = record { vars = vars; clauses = take axioms more; steps = steps }; history = reverse longer }) lits
+recorded_lemma axioms vars ids more_ids steps clauses log more longer id lits hints now view_is r is_more is_longer is_id is_ids phase learnt new =
     let old : Book = record { problem = record { vars = vars; clauses = take axioms clauses; steps = steps }; history = reverse log } in
     let first : take axioms more ≡ take axioms clauses = ap (take axioms) is_more ∙ take-append-le axioms clauses (lits ∷ []) r.first in
     let newest : reverse longer ≡ Lemma id lits (ids_of (reverse hints)) ∷ reverse log = ap reverse is_longer ∙ reverse-append log (Lemma id lits (ids_of (reverse hints)) ∷ []) in
@@ -134,10 +142,12 @@ recorded_lemma axioms vars steps clauses log more longer id lits hints now view_
     let stands : standing (with_lemma old id lits (ids_of (reverse hints))) ≡ standing old ++ lits ∷ [] =
     standing_with_lemma old id lits (ids_of (reverse hints)) r.kept (omega (arith, next, length-map (live old.problem old.history) (λ (e : Entry). e.literals), r.kept.last)) in
     record {
-      recorded = subst (IsRecorded axioms more) (sym is_new) (record {
+      recorded = subst (IsRecorded axioms more more_ids) (sym is_new) (record {
         kept = kept;
         same = is_more ∙ ap (λ cs. cs ++ lits ∷ []) r.same ∙ sym stands;
         first = omega (arith, r.first, ap length is_more, length_push clauses lits);
+        lemmas = is_ids ∙ ap (λ xs. xs ++ id ∷ []) r.lemmas ∙ sym (ids_with_lemma old id lits (ids_of (reverse hints)) r.kept
+            (omega (arith, next, length-map (live old.problem old.history) (λ (e : Entry). e.literals), r.kept.last)));
       });
       stands = ap standing is_new ∙ stands ∙ ap (λ b. standing b ++ lits ∷ []) view_is;
       entry = λ n is_n.

@@ -1,15 +1,14 @@
 -- A chain of reasons makes a right lemma.
-use Rattle.std.proofs.Common.{◌≡◌, ◌≢◌, ℕ, Bool, true, false, not, ◌&&◌, ◌||◌, cond, List, [], ◌∷◌, ◌++◌, map, refl, sym, ap, subst, ◌∙◌, inl, inr, ◌⊎◌, Option, Some, None, eqb}
+use Rattle.std.proofs.Common.{◌≡◌, true, false, not, cond, List, [], ◌∷◌, ◌++◌, map, refl, sym, ap, ◌∙◌, inl, inr, ◌⊎◌, Some, None, eqb}
 use Rattle.std.specs.Prelude.{option_and_then, is_some}
-use Rattle.std.specs.List.{AllByRecursion, list_any, list_all, filter}
-use Rattle.std.specs.Bool.{beq}
+use Rattle.std.specs.List.{AllByRecursion, list_any}
 use Rattle.std.proofs.lemmas.Bool.{and_parts, or_parts, or_cases, not-true, both_ways, false≢true, and_from, eq-eqb}
 use Rattle.bs_clause.specs.Literal.{Literal, Clause, negation, same_literal, has_literal}
 use Rattle.bs_clause.proofs.Literals.{same_literal-true}
 use Rattle.bs_log.specs.Refusal.{has_distinct_variables}
-use Rattle.bs_log.specs.Propagation.{open_literals, sole_unassigned, unit_literal, is_false, after_hints, ends_false, ends_false_after, start_of, hints_are_unit, last_is_false}
+use Rattle.bs_log.specs.Propagation.{open_literals, sole_unassigned, unit_literal, is_false, after_hints, ends_false, ends_false_after, start_of}
 use Rattle.bs_log.specs.Lean.{implied_by}
-use Rattle.bs_solve.specs.Chain.{Link, IsDenied, IsChain, hints_of, ChainsAreRight}
+use Rattle.bs_solve.specs.Chain.{Link, IsChain, hints_of, ChainsAreRight}
 
 Denied : List Literal → Literal → Type 0
 Denied trues l = has_literal trues (negation l) ≡ true

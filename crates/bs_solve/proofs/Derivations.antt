@@ -1,14 +1,14 @@
 -- Conflict analysis makes chains.
-use Rattle.std.proofs.Common.{◌≡◌, ℕ, ◌<◌, Bool, true, false, not, ◌||◌, List, [], ◌∷◌, ◌++◌, map, length, get_or, refl, sym, ap, subst, ◌∙◌, inl, inr, ◌⊎◌}
-use Rattle.std.specs.Prelude.{All, Contains}
-use Rattle.std.specs.List.{AllByRecursion, list_any}
-use Rattle.std.proofs.lemmas.Bool.{or_left, or_right, or_cases}
+use Rattle.std.proofs.Common.{◌≡◌, Bool, true, false, not, List, [], ◌∷◌, ◌++◌, get_or, refl, sym, ap, subst, ◌∙◌, inl, inr, ◌⊎◌}
+use Rattle.std.specs.Prelude.{All}
+use Rattle.std.specs.List.{AllByRecursion}
+use Rattle.std.proofs.lemmas.Bool.{or_left, or_right}
 use Rattle.std.proofs.lemmas.List.Elements.{recursion_from_All, All-contains, All-from_recursion}
 use Rattle.bs_clause.specs.Literal.{Literal, Clause, negation, same_literal, has_literal}
 use Rattle.bs_clause.proofs.Literals.{literal_from_parts}
 use Rattle.bs_log.specs.Propagation.{start_of}
-use Rattle.bs_solve.specs.Chain.{Link, IsDenied, IsChain}
-use Rattle.bs_solve.specs.Derives.{AreFresh, Derives, DerivesAtConflict, DerivesBackwards, DerivesLemma}
+use Rattle.bs_solve.specs.Chain.{IsDenied}
+use Rattle.bs_solve.specs.Derives.{DerivesAtConflict, DerivesBackwards, DerivesLemma}
 use Rattle.bs_solve.proofs.Quiet.{same_literal-refl}
 
 not-not : (b : Bool) → not (not b) ≡ b

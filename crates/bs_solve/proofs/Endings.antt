@@ -1,16 +1,16 @@
 -- A search from its first propagation to its end.
-use Rattle.std.proofs.Common.{◌≡◌, ◌≢◌, ℕ, zero, suc, ◌+◌, ◌-◌, ◌<◌, ◌≤◌, ◌^◌, arith, Bool, true, false, not, ◌&&◌, ◌||◌, List, [], ◌∷◌, ◌++◌, map, length, take, drop, get_or, refl, sym, ap, subst, ◌∙◌, inl, inr, ◌⊎◌, Option, Some, None, eqb}
-use Rattle.std.specs.Prelude.{All, Any, Contains, slice_get, is_some, unwrap_or, AllPairs}
+use Rattle.std.proofs.Common.{◌≡◌, ◌≢◌, ℕ, zero, suc, ◌+◌, ◌-◌, ◌<◌, ◌≤◌, ◌^◌, arith, Bool, true, false, not, List, [], ◌∷◌, ◌++◌, map, length, take, drop, get_or, refl, sym, ap, subst, ◌∙◌, inl, inr, ◌⊎◌, Option, Some, None, eqb}
+use Rattle.std.specs.Prelude.{All, Contains, slice_get, unwrap_or, AllPairs}
 use Rattle.std.specs.Bool.{beq}
-use Rattle.std.specs.List.{AllByRecursion, IsDistinct, list_any, list_all}
-use Rattle.std.proofs.lemmas.Bool.{or_cases, eq-eqb, eqb-true, ne_eqb, cases_Bool, false≢true, true≢false, both_ways, or_left, or_right, and_from, cases_lt}
-use Rattle.std.proofs.lemmas.List.{length-take, get_or-map, take_all, take-append-le, take-append-drop, length_push, length-map, length-take-le, length-append, drop_at}
-use Rattle.std.proofs.lemmas.List.Elements.{All-push, All-contains, All-weaker, Contains-get_or, Contains-append_left}
+use Rattle.std.specs.List.{AllByRecursion, IsDistinct, list_any}
+use Rattle.std.proofs.lemmas.Bool.{or_cases, eq-eqb, eqb-true, ne_eqb, cases_Bool, false≢true, or_left, or_right}
+use Rattle.std.proofs.lemmas.List.{length-take, get_or-map, take_all, take-append-le, take-append-drop, length_push, length-map, length-take-le}
+use Rattle.std.proofs.lemmas.List.Elements.{All-push, All-contains}
 use Rattle.std.proofs.lemmas.Option.{slice_get-get_or}
 use Rattle.std.specs.Cmp.{nat_eq_equiv}
 use Rattle.std.proofs.lemmas.Map.Keys.{IsDistinct-from_apart}
 use Rattle.std.proofs.lemmas.Map.Made.{length-le_from_is_member}
-use Rattle.bs_clause.specs.Literal.{Literal, Clause, negation, has_literal, literal_value, Meets, value_at}
+use Rattle.bs_clause.specs.Literal.{Literal, Clause, negation, has_literal, literal_value, Meets}
 use Rattle.bs_clause.specs.UnitRun.{IsUnitRun}
 use Rattle.bs_log.specs.declared.line.Line.{Line}
 use Rattle.bs_log.specs.declared.line.Line.TheVariants.{Solve, Lemma, Block, Finish, Retire, Delete}
@@ -19,25 +19,25 @@ use Rattle.bs_log.specs.Refusal.{has_distinct_variables, in_solve, denies}
 use Rattle.bs_log.specs.Steps.{is_lemma_line}
 use Rattle.bs_solve.specs.declared.place.Place.{Place}
 use Rattle.bs_solve.specs.declared.propagation.Outcome.{Outcome}
-use Rattle.bs_solve.specs.declared.propagation.Outcome.TheVariants.{Quiet, Conflict}
-use Rattle.bs_solve.specs.Trail.{IsTrueOn, IsFalseOn, IsOpenOn, IsConflict, IsUnit, IsQuiet}
+use Rattle.bs_solve.specs.declared.propagation.Outcome.TheVariants.{Quiet}
+use Rattle.bs_solve.specs.Trail.{IsTrueOn, IsFalseOn, IsOpenOn, IsConflict, IsQuiet}
 use Rattle.bs_solve.specs.Bound.{number}
-use Rattle.bs_solve.specs.Places.{TrailState, literals_of, IsPlaced, IsSound, IsUnassigned}
+use Rattle.bs_solve.specs.Places.{TrailState, literals_of, IsSound, IsUnassigned}
 use Rattle.bs_solve.specs.Grown.{Grows}
 use Rattle.bs_solve.specs.Scan.{IsWithin, HasVariables, Propagates}
 use Rattle.bs_solve.specs.Learning.{digits}
-use Rattle.bs_solve.specs.Book.{Book, standing, with_lemma}
+use Rattle.bs_solve.specs.Book.{Book, standing}
 use Rattle.bs_solve.specs.Search.{assumed, assumption_places, HasLemma, HasLearnt, HasRefuted}
 use Rattle.bs_solve.specs.Values.{positive, AreAssigned, HasValues, value_of, IsSolution}
-use Rattle.bs_solve.specs.Ending.{is_open_lemma, HasLemmas, SomeLemmas, IsRefuted, IsSpent, IsFound}
+use Rattle.bs_solve.specs.Ending.{is_open_lemma, HasLemmas, SomeLemmas, IsSpent, IsFound}
 use Rattle.bs_solve.specs.Turn.{InSearch}
-use Rattle.bs_solve.proofs.Lists.{none_is_not_some, same_some, get_take, take_get, get_from_Contains, Contains_from_get, get_map_cases, get_within, get_map}
-use Rattle.bs_solve.proofs.Quiet.{has-from_Contains, Contains-from_has, absent, unit_runs_are_on_quiet_trails}
+use Rattle.bs_solve.proofs.Lists.{none_is_not_some, Contains_from_get, get_map_cases, get_within}
+use Rattle.bs_solve.proofs.Quiet.{has-from_Contains, Contains-from_has, unit_runs_are_on_quiet_trails}
 use Rattle.bs_solve.proofs.Numbers.{number_bounded}
 use Rattle.bs_solve.proofs.Places.{sound_push, sound_grows}
-use Rattle.bs_solve.proofs.Clauses.{nothing_in, cons_contains, contains_first, contains_cases, all_from, distinct_parts, map_cases, map_contains}
+use Rattle.bs_solve.proofs.Clauses.{nothing_in, cons_contains, contains_first, contains_cases, all_from, distinct_parts}
 use Rattle.bs_solve.proofs.Lessons.{consistent, growing_lowers_nothing}
-use Rattle.bs_solve.proofs.Walks.{true_at_end, place_of}
+use Rattle.bs_solve.proofs.Walks.{true_at_end}
 
 -- ---- the assumptions on the trail
 

@@ -1,10 +1,9 @@
 -- What a learnt clause leaves of the trail, and how the trail's number rises.
-use Rattle.std.proofs.Common.{◌≡◌, ◌≢◌, ℕ, zero, suc, ◌+◌, ◌-◌, ◌<◌, ◌≤◌, arith, Bool, true, false, not, ◌&&◌, ◌||◌, cond, List, [], ◌∷◌, ◌++◌, map, length, take, drop, get_or, refl, sym, ap, subst, ◌∙◌, inl, inr, ◌⊎◌, Option, Some, None}
-use Rattle.std.specs.Prelude.{All, Any, Contains, slice_get, is_some, IsTrue}
-use Rattle.std.specs.List.{list_all}
-use Rattle.std.proofs.lemmas.Bool.{cases_Bool, false≢true, true≢false, and_from, and_parts, both_ways, or_parts, or_cases, or_left, or_right, cases_lt}
-use Rattle.std.proofs.lemmas.List.{length-drop, map-append, length-take-le, length-map, drop-append-le, take-take, length_push, length-append}
-use Rattle.std.proofs.lemmas.List.Elements.{All-contains, Contains-get_or, Contains-append_left}
+use Rattle.std.proofs.Common.{◌≡◌, ◌≢◌, ℕ, zero, suc, ◌+◌, ◌-◌, ◌<◌, ◌≤◌, arith, Bool, true, false, not, ◌&&◌, ◌||◌, List, [], ◌∷◌, ◌++◌, length, take, drop, refl, sym, ap, subst, ◌∙◌, inl, inr, ◌⊎◌, Some, None}
+use Rattle.std.specs.Prelude.{All, Contains, slice_get, is_some}
+use Rattle.std.proofs.lemmas.Bool.{cases_Bool, false≢true, true≢false, and_from, and_parts, or_cases, or_left, or_right, cases_lt}
+use Rattle.std.proofs.lemmas.List.{length-drop, map-append, length-take-le, length-map, drop-append-le, take-take}
+use Rattle.std.proofs.lemmas.List.Elements.{All-contains}
 use Rattle.bs_clause.specs.Literal.{Literal, Clause, negation, same_literal, has_literal}
 use Rattle.bs_clause.proofs.Literals.{same_literal-true}
 use Rattle.bs_log.specs.Refusal.{denies}
@@ -12,15 +11,14 @@ use Rattle.bs_log.specs.Lean.{IsContained}
 use Rattle.bs_solve.specs.declared.place.Place.{Place}
 use Rattle.bs_solve.specs.Trail.{IsTrueOn, IsFalseOn, IsOpenOn, Forces, IsQuiet}
 use Rattle.bs_solve.specs.Bound.{number}
-use Rattle.bs_solve.specs.Places.{literals_of, IsPlaced, IsSound}
-use Rattle.bs_solve.specs.Grown.{IsForced, Grows}
-use Rattle.bs_solve.specs.Point.{is_alone_at, IsDecisionAt, IsPoint, IsCut, IsUnforced, AreForced}
+use Rattle.bs_solve.specs.Places.{literals_of, IsSound}
+use Rattle.bs_solve.specs.Point.{is_alone_at, IsDecisionAt, IsCut, IsUnforced, AreForced}
 use Rattle.bs_solve.specs.Learning.{digits, after_learning}
-use Rattle.bs_solve.proofs.Lists.{none_is_not_some, same_some, get_take, take_get, get_from_Contains, Contains_from_get, get_map_cases, get_within, get_map, get_last}
+use Rattle.bs_solve.proofs.Lists.{none_is_not_some, same_some, get_take, get_within, get_last}
 use Rattle.bs_solve.proofs.Quiet.{same_literal-refl, has-from_Contains, Contains-from_has, absent, learnt_clauses_are_new, learnt_clauses_keep_quiet}
 use Rattle.bs_solve.proofs.Numbers.{number_rises, number_grows}
 use Rattle.bs_solve.proofs.Places.{one_place, sound_take, sound_clause, sound_push, placed_from_forced}
-use Rattle.bs_solve.proofs.Clauses.{nothing_in, cons_contains, contains_first, contains_cases, all_from, same_or_not, not_same}
+use Rattle.bs_solve.proofs.Clauses.{nothing_in, cons_contains, contains_first, contains_cases, all_from, not_same}
 use Rattle.bs_solve.proofs.Derivations.{negation-negation}
 use Rattle.bs_solve.proofs.Walks.{true_later, true_at_end, open_earlier, place_of}
 

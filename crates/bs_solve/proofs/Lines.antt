@@ -1,24 +1,24 @@
 -- A book with a line of each kind, or with one more step.
-use Rattle.std.proofs.Common.{◌≡◌, ℕ, zero, suc, ◌+◌, ◌-◌, ◌<◌, ◌≤◌, arith, Bool, true, false, not, ◌&&◌, ◌||◌, cond, List, [], ◌∷◌, ◌++◌, map, reverse, take, length, refl, sym, ap, subst, ◌∙◌, inl, inr, ◌⊎◌, Option, Some, None, eqb}
-use Rattle.std.specs.Prelude.{All, slice_get, unwrap_or, IsTrue}
+use Rattle.std.proofs.Common.{◌≡◌, ℕ, zero, suc, ◌+◌, ◌-◌, ◌<◌, ◌≤◌, arith, true, false, not, cond, List, [], ◌∷◌, ◌++◌, map, reverse, take, length, refl, sym, ap, subst, ◌∙◌, inl, inr, eqb}
+use Rattle.std.specs.Prelude.{All, slice_get, unwrap_or}
 use Rattle.std.specs.List.{filter}
 use Rattle.std.proofs.lemmas.Bool.{eq-eqb, and_from, and_parts, false≢true}
-use Rattle.std.proofs.lemmas.List.{take_all, map-append, reverse-append, take-append-le, length_push, length-map, length-append}
+use Rattle.std.proofs.lemmas.List.{append-nil, take_all, map-append, reverse-append, take-append-le, length_push, length-map}
+use Rattle.std.proofs.lemmas.List.Elements.{filter-append}
 use Rattle.bs_clause.specs.Literal.{Clause, negation}
 use Rattle.bs_log.specs.declared.line.Line.{Line}
 use Rattle.bs_log.specs.declared.line.Line.TheVariants.{Solve, Lemma, Block, Finish, Retire, Delete}
 use Rattle.bs_log.specs.declared.phase.Phase.{Phase}
 use Rattle.bs_log.specs.declared.phase.Phase.TheVariants.{BetweenSteps, InSolve, AfterBlock, AfterFinish, AfterRetire}
-use Rattle.bs_log.specs.declared.origin.Origin.TheVariants.{Axiom, Learnt, Blocked, Retired}
-use Rattle.bs_log.specs.History.{Problem, History, Entry, State, state_of, live, added, last_id, phase_of, step_of, guard_of, axioms_from, is_deleted}
-use Rattle.bs_log.specs.Refusal.{NoneRefused, refusal, entry_of, in_order, in_solve, is_after_block, is_between_steps, has_distinct_variables, is_block_of, passes, is_lemma, denies, assumptions_of}
+use Rattle.bs_log.specs.declared.origin.Origin.TheVariants.{Learnt, Blocked, Retired}
+use Rattle.bs_log.specs.History.{Problem, History, Entry, state_of, live, added, last_id, phase_of, step_of, guard_of, axioms_from, is_deleted}
+use Rattle.bs_log.specs.Refusal.{NoneRefused, entry_of, in_order, in_solve, is_after_block, is_between_steps, has_distinct_variables, is_block_of, passes, is_lemma, denies, assumptions_of}
 use Rattle.bs_log.specs.Lean.{IsNew, LemmasAreLean, IsResolventOf, IsContained}
 use Rattle.bs_log.specs.Refusal.{clauses_of}
-use Rattle.bs_log.proofs.Tests.{IsRight, none_from_right, right_from_none}
+use Rattle.bs_log.proofs.Tests.{none_from_right, right_from_none}
 use Rattle.bs_log.proofs.Histories.{live-push, in_range, NoneRefused-with_step, with_step}
 use Rattle.bs_log.proofs.Laws.{step_of-positive}
-use Rattle.bs_solve.specs.Book.{Book, standing, AreNumbered, IsKept, IsRecorded, with_line, with_member}
-use Rattle.bs_solve.proofs.Lists.{none_is_not_some}
+use Rattle.bs_solve.specs.Book.{Book, standing, lemma_ids, AreNumbered, IsKept, IsRecorded, with_line, with_member}
 use Rattle.bs_solve.proofs.Books.{numbered_push}
 
 -- ---- a line that adds no clause
@@ -199,67 +199,97 @@ kept_with_step b member k = (
   ap (map (λ (e : Entry). e.literals)) (same_live b.problem member b.history),
 )
 
+-- ---- the ids of the lemmas
+
+no_lemma : (n : ℕ) (cs : List Clause) → map (λ (e : Entry). e.id) (filter is_lemma (filter (λ (e : Entry). true) (axioms_from n cs))) ≡ []
+no_lemma n [] = refl
+no_lemma n (c ∷ cs) = no_lemma (n + 1) cs
+
+ids_with_member : (b : Book) (member : Clause) → lemma_ids (with_member b member) ≡ lemma_ids b
+ids_with_member b member = ap (λ es. map (λ (e : Entry). e.id) (filter is_lemma es)) (same_live b.problem member b.history)
+
+-- one more entry that is no lemma
+ids_same : (entries more : List Entry) (e : Entry) → more ≡ entries ++ e ∷ [] → is_lemma e ≡ false → map (λ (x : Entry). x.id) (filter is_lemma more) ≡ map (λ (x : Entry). x.id) (filter is_lemma entries)
+ids_same entries more e is other =
+    ap (λ es. map (λ (x : Entry). x.id) (filter is_lemma es)) is ∙ ap (map (λ (x : Entry). x.id)) (filter-append is_lemma entries (e ∷ []) ∙
+    ap (λ b. filter is_lemma entries ++ cond b (e ∷ []) []) other ∙ append-nil (filter is_lemma entries))
+
+pub ids_with_block : (b : Book) (id : ℕ) (lits : Clause) → IsKept b → id ≡ length (standing b) + 1 → lemma_ids (with_line b (Block id lits)) ≡ lemma_ids b
+ids_with_block b id lits k is =
+    let entries : List Entry = live b.problem b.history in
+    let e : Entry = record { id = id; origin = Blocked; literals = lits } in
+    let next : id ≡ last_id b.problem b.history + 1 = omega (arith, is, length-map entries (λ (x : Entry). x.literals), k.last) in
+    ids_same entries (live b.problem (Block id lits ∷ b.history)) e (live-push b.problem b.history e k.right next) refl
+
+pub ids_with_retire : (b : Book) (id : ℕ) → IsKept b → id ≡ length (standing b) + 1 → lemma_ids (with_line b (Retire id)) ≡ lemma_ids b
+ids_with_retire b id k is =
+    let entries : List Entry = live b.problem b.history in
+    let e : Entry = record { id = id; origin = Retired; literals = negation (guard_of b.problem (step_of b.history)) ∷ [] } in
+    let next : id ≡ last_id b.problem b.history + 1 = omega (arith, is, length-map entries (λ (x : Entry). x.literals), k.last) in
+    ids_same entries (live b.problem (Retire id ∷ b.history)) e (live-push b.problem b.history e k.right next) refl
+
 -- ---- the fields of a recording
 
 -- a line that adds a clause
-pub recorded_clause : (axioms vars : ℕ) (steps clauses : List Clause) (log : List Line) (more : List Clause) (longer : List Line) (line : Line) (lits : Clause) (now : Book) →
+pub recorded_clause : (axioms vars : ℕ) (ids : List ℕ) (steps clauses : List Clause) (log : List Line) (more : List Clause) (longer : List Line) (line : Line) (lits : Clause) (now : Book) →
     record { problem = record { vars = vars; clauses = take axioms clauses; steps = steps }; history = reverse log } ≡ now →
-    IsRecorded axioms clauses (record { problem = record { vars = vars; clauses = take axioms clauses; steps = steps }; history = reverse log }) →
-    more ≡ clauses ++ lits ∷ [] → longer ≡ log ++ line ∷ [] → IsKept (with_line now line) → standing (with_line now line) ≡ standing now ++ lits ∷ [] →
-    IsRecorded axioms more (record { problem = record { vars = vars; clauses = take axioms more; steps = steps }; history = reverse longer }) ×
+    IsRecorded axioms clauses ids (record { problem = record { vars = vars; clauses = take axioms clauses; steps = steps }; history = reverse log }) →
+    more ≡ clauses ++ lits ∷ [] → longer ≡ log ++ line ∷ [] → IsKept (with_line now line) → standing (with_line now line) ≡ standing now ++ lits ∷ [] → lemma_ids (with_line now line) ≡ lemma_ids now →
+    IsRecorded axioms more ids (record { problem = record { vars = vars; clauses = take axioms more; steps = steps }; history = reverse longer }) ×
     (record { problem = record { vars = vars; clauses = take axioms more; steps = steps }; history = reverse longer } ≡ with_line now line)
-recorded_clause axioms vars steps clauses log more longer line lits now view_is r is_more is_longer kept stands =
+recorded_clause axioms vars ids steps clauses log more longer line lits now view_is r is_more is_longer kept stands same_ids =
     let first : take axioms more ≡ take axioms clauses = ap (take axioms) is_more ∙ take-append-le axioms clauses (lits ∷ []) r.first in
     let newest : reverse longer ≡ line ∷ reverse log = ap reverse is_longer ∙ reverse-append log (line ∷ []) in
     let is_old : record { problem = record { vars = vars; clauses = take axioms more; steps = steps }; history = reverse longer } ≡
     with_line (record { problem = record { vars = vars; clauses = take axioms clauses; steps = steps }; history = reverse log }) line =
     λ i. record { problem = record { vars = vars; clauses = first i; steps = steps }; history = newest i } in
     let is_new : record { problem = record { vars = vars; clauses = take axioms more; steps = steps }; history = reverse longer } ≡ with_line now line = is_old ∙ ap (λ b. with_line b line) view_is in (
-      subst (IsRecorded axioms more) (sym is_new) (record {
+      subst (IsRecorded axioms more ids) (sym is_new) (record {
         kept = kept;
         same = is_more ∙ ap (λ cs. cs ++ lits ∷ []) (r.same ∙ ap standing view_is) ∙ sym stands;
         first = omega (arith, r.first, ap length is_more, length_push clauses lits);
+        lemmas = r.lemmas ∙ ap lemma_ids view_is ∙ sym same_ids;
       }),
       is_new,
     )
 
 -- a line that adds none
-pub recorded_line : (axioms vars : ℕ) (steps clauses : List Clause) (log longer : List Line) (line : Line) (now : Book) →
+pub recorded_line : (axioms vars : ℕ) (ids : List ℕ) (steps clauses : List Clause) (log longer : List Line) (line : Line) (now : Book) →
     record { problem = record { vars = vars; clauses = take axioms clauses; steps = steps }; history = reverse log } ≡ now →
-    IsRecorded axioms clauses (record { problem = record { vars = vars; clauses = take axioms clauses; steps = steps }; history = reverse log }) →
-    longer ≡ log ++ line ∷ [] → IsKept (with_line now line) → standing (with_line now line) ≡ standing now →
-    IsRecorded axioms clauses (record { problem = record { vars = vars; clauses = take axioms clauses; steps = steps }; history = reverse longer }) ×
+    IsRecorded axioms clauses ids (record { problem = record { vars = vars; clauses = take axioms clauses; steps = steps }; history = reverse log }) →
+    longer ≡ log ++ line ∷ [] → IsKept (with_line now line) → standing (with_line now line) ≡ standing now → lemma_ids (with_line now line) ≡ lemma_ids now →
+    IsRecorded axioms clauses ids (record { problem = record { vars = vars; clauses = take axioms clauses; steps = steps }; history = reverse longer }) ×
     (record { problem = record { vars = vars; clauses = take axioms clauses; steps = steps }; history = reverse longer } ≡ with_line now line)
-recorded_line axioms vars steps clauses log longer line now view_is r is_longer kept stands =
+recorded_line axioms vars ids steps clauses log longer line now view_is r is_longer kept stands same_ids =
     let newest : reverse longer ≡ line ∷ reverse log = ap reverse is_longer ∙ reverse-append log (line ∷ []) in
     let is_old : record { problem = record { vars = vars; clauses = take axioms clauses; steps = steps }; history = reverse longer } ≡
     with_line (record { problem = record { vars = vars; clauses = take axioms clauses; steps = steps }; history = reverse log }) line =
     λ i. record { problem = record { vars = vars; clauses = take axioms clauses; steps = steps }; history = newest i } in
     let is_new : record { problem = record { vars = vars; clauses = take axioms clauses; steps = steps }; history = reverse longer } ≡ with_line now line = is_old ∙ ap (λ b. with_line b line) view_is in (
-      subst (IsRecorded axioms clauses) (sym is_new) (record { kept = kept; same = r.same ∙ ap standing view_is ∙ sym stands; first = r.first }),
+      subst (IsRecorded axioms clauses ids) (sym is_new) (record { kept = kept; same = r.same ∙ ap standing view_is ∙ sym stands; first = r.first; lemmas = r.lemmas ∙ ap lemma_ids view_is ∙ sym same_ids }),
       is_new,
     )
 
 -- one more step
-pub recorded_step : (axioms vars : ℕ) (steps more clauses : List Clause) (log : List Line) (member : Clause) (now : Book) →
+pub recorded_step : (axioms vars : ℕ) (ids : List ℕ) (steps more clauses : List Clause) (log : List Line) (member : Clause) (now : Book) →
     record { problem = record { vars = vars; clauses = take axioms clauses; steps = steps }; history = reverse log } ≡ now →
-    IsRecorded axioms clauses (record { problem = record { vars = vars; clauses = take axioms clauses; steps = steps }; history = reverse log }) → more ≡ steps ++ member ∷ [] →
-    IsRecorded axioms clauses (record { problem = record { vars = vars; clauses = take axioms clauses; steps = more }; history = reverse log }) ×
+    IsRecorded axioms clauses ids (record { problem = record { vars = vars; clauses = take axioms clauses; steps = steps }; history = reverse log }) → more ≡ steps ++ member ∷ [] →
+    IsRecorded axioms clauses ids (record { problem = record { vars = vars; clauses = take axioms clauses; steps = more }; history = reverse log }) ×
     (record { problem = record { vars = vars; clauses = take axioms clauses; steps = more }; history = reverse log } ≡ with_member now member)
-recorded_step axioms vars steps more clauses log member now view_is r is_more =
+recorded_step axioms vars ids steps more clauses log member now view_is r is_more =
     let old : Book = record { problem = record { vars = vars; clauses = take axioms clauses; steps = steps }; history = reverse log } in
     let is_old : record { problem = record { vars = vars; clauses = take axioms clauses; steps = more }; history = reverse log } ≡ with_member old member =
     λ i. record { problem = record { vars = vars; clauses = take axioms clauses; steps = is_more i }; history = reverse log } in
     let kept = kept_with_step old member r.kept in (
-      subst (IsRecorded axioms clauses) (sym is_old) (record { kept = kept.0; same = r.same ∙ sym kept.1; first = r.first }),
+      subst (IsRecorded axioms clauses ids) (sym is_old) (record { kept = kept.0; same = r.same ∙ sym kept.1; first = r.first; lemmas = r.lemmas ∙ sym (ids_with_member old member) }),
       is_old ∙ ap (λ b. with_member b member) view_is,
     )
 
 -- the first lines are none
-pub recorded_first : (axioms vars : ℕ) (steps clauses : List Clause) (log : List Line) → axioms ≡ length clauses → log ≡ [] →
-    IsRecorded axioms clauses (record { problem = record { vars = vars; clauses = take axioms clauses; steps = steps }; history = reverse log })
-recorded_first axioms vars steps clauses log count none =
+pub recorded_first : (axioms vars : ℕ) (ids : List ℕ) (steps clauses : List Clause) (log : List Line) → axioms ≡ length clauses → log ≡ [] → ids ≡ [] →
+    IsRecorded axioms clauses ids (record { problem = record { vars = vars; clauses = take axioms clauses; steps = steps }; history = reverse log })
+recorded_first axioms vars ids steps clauses log count none no_ids =
     let kept = kept_at_first (record { vars = vars; clauses = take axioms clauses; steps = steps }) in
     let whole : take axioms clauses ≡ clauses = take_all axioms clauses (omega (arith, count)) in
-    subst (λ ls. IsRecorded axioms clauses (record { problem = record { vars = vars; clauses = take axioms clauses; steps = steps }; history = reverse ls })) (sym none)
-    (record { kept = kept.0; same = sym (kept.1 ∙ whole); first = omega (arith, count) })
+    subst (λ ls. IsRecorded axioms clauses ids (record { problem = record { vars = vars; clauses = take axioms clauses; steps = steps }; history = reverse ls })) (sym none)
+    (record { kept = kept.0; same = sym (kept.1 ∙ whole); first = omega (arith, count); lemmas = no_ids ∙ sym (no_lemma 1 (take axioms clauses)) })

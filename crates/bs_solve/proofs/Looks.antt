@@ -1,16 +1,16 @@
 -- A clause under a trail, by its literals that are not false.
-use Rattle.std.proofs.Common.{◌≡◌, ◌≢◌, ℕ, zero, suc, ◌+◌, ◌<◌, ◌≤◌, arith, Bool, true, false, not, ◌&&◌, cond, List, [], ◌∷◌, ◌++◌, map, length, take, get_or, refl, sym, ap, subst, ◌∙◌, inl, inr, ◌⊎◌, Option, Some, None}
+use Rattle.std.proofs.Common.{◌≡◌, ℕ, zero, suc, ◌<◌, arith, Bool, true, false, not, cond, List, [], ◌∷◌, length, take, get_or, refl, sym, ap, subst, ◌∙◌, inl, inr, ◌⊎◌, Option, Some, None}
 use Rattle.std.specs.Prelude.{All, Contains, is_some}
 use Rattle.std.specs.Option.{option_to_list}
-use Rattle.std.specs.List.{AllByRecursion, list_any, list_all, filter}
-use Rattle.std.proofs.lemmas.Bool.{cases_Bool, false≢true, and_from, and_parts, both_ways, or_parts, or_cases, true≢false, not-true}
-use Rattle.std.proofs.lemmas.List.Elements.{recursion_from_All, All-from_recursion, All-cons, All-contains, All-weaker, Contains-get_or, Contains-append_left, filter_more}
+use Rattle.std.specs.List.{AllByRecursion}
+use Rattle.std.proofs.lemmas.Bool.{false≢true}
+use Rattle.std.proofs.lemmas.List.Elements.{recursion_from_All, All-from_recursion, All-cons, All-contains, All-weaker}
 use Rattle.bs_clause.specs.Literal.{Literal, Clause, negation, has_literal}
 use Rattle.bs_log.specs.Refusal.{has_distinct_variables}
-use Rattle.bs_log.specs.Propagation.{open_literals, sole_unassigned, unit_literal, is_false}
-use Rattle.bs_solve.specs.Trail.{IsTrueOn, IsFalseOn, IsOpenOn, IsConflict, IsUnit, Forces}
+use Rattle.bs_log.specs.Propagation.{open_literals, sole_unassigned, unit_literal}
+use Rattle.bs_solve.specs.Trail.{IsFalseOn, IsConflict, IsUnit, Forces}
 use Rattle.bs_solve.specs.Grown.{IsSettled}
-use Rattle.bs_solve.proofs.Lists.{none_is_not_some, same_some}
+use Rattle.bs_solve.proofs.Lists.{none_is_not_some}
 use Rattle.bs_solve.proofs.Quiet.{Contains-from_has, has-from_Contains, absent}
 use Rattle.bs_solve.proofs.Chains.{unit_at}
 

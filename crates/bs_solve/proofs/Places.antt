@@ -1,14 +1,14 @@
 -- Sound trails: what a push, a cut and one more clause leave of them.
-use Rattle.std.proofs.Common.{◌≡◌, ◌≢◌, ℕ, zero, suc, ◌+◌, ◌-◌, ◌<◌, ◌≤◌, arith, Bool, true, false, not, List, [], ◌∷◌, ◌++◌, map, length, take, refl, sym, ap, subst, ◌∙◌, inl, inr, ◌⊎◌, Option, Some, None}
-use Rattle.std.specs.Prelude.{All, Contains, slice_get}
+use Rattle.std.proofs.Common.{◌≡◌, ℕ, ◌<◌, ◌≤◌, arith, List, [], ◌∷◌, ◌++◌, length, take, sym, ap, subst, ◌∙◌, inl, inr, Some, None}
+use Rattle.std.specs.Prelude.{slice_get}
 use Rattle.std.proofs.lemmas.Bool.{cases_lt, cases_eq}
-use Rattle.std.proofs.lemmas.List.{take-append-le, take-take, take_all, length-take-le, length_push, length-take, take_at}
-use Rattle.bs_clause.specs.Literal.{Literal, Clause, negation}
+use Rattle.std.proofs.lemmas.List.{take-append-le, take-take, take_all, length-take-le, length_push, take_at}
+use Rattle.bs_clause.specs.Literal.{Literal, Clause}
 use Rattle.bs_solve.specs.declared.place.Place.{Place}
-use Rattle.bs_solve.specs.Trail.{IsTrueOn, IsFalseOn, IsOpenOn, IsQuiet, Forces}
+use Rattle.bs_solve.specs.Trail.{IsQuiet}
 use Rattle.bs_solve.specs.Places.{literals_of, IsPlaced, IsSound}
 use Rattle.bs_solve.specs.Grown.{IsForced, Grows}
-use Rattle.bs_solve.proofs.Lists.{none_is_not_some, same_some, get_left, get_last, get_push_cases, get_take, take_get, get_from_Contains, Contains_from_get, get_map_cases, get_within, get_map}
+use Rattle.bs_solve.proofs.Lists.{none_is_not_some, same_some, get_left, get_push_cases, get_take, take_get, get_within}
 use Rattle.bs_solve.proofs.Positions.{open_apart}
 
 -- the empty trail

@@ -1,24 +1,23 @@
 -- Conflict analysis on the trail: the walk to the first unique implication point, and the walk to what no clause forced.
-use Rattle.std.proofs.Common.{◌≡◌, ◌≢◌, ℕ, zero, suc, ◌+◌, ◌-◌, ◌<◌, ◌≤◌, arith, Bool, true, false, not, List, [], ◌∷◌, ◌++◌, map, reverse, length, take, get_or, refl, sym, ap, subst, ◌∙◌, inl, inr, ◌⊎◌, Option, Some, None}
-use Rattle.std.specs.Prelude.{All, Any, Contains, slice_get, is_some}
-use Rattle.std.proofs.lemmas.Bool.{cases_Bool, false≢true, both_ways, cases_lt}
+use Rattle.std.proofs.Common.{◌≡◌, ◌≢◌, ℕ, suc, ◌-◌, ◌<◌, ◌≤◌, arith, true, false, List, [], ◌∷◌, ◌++◌, reverse, length, take, get_or, sym, ap, subst, ◌∙◌, inl, inr, ◌⊎◌, Some, None}
+use Rattle.std.specs.Prelude.{All, Any, Contains, slice_get}
+use Rattle.std.proofs.lemmas.Bool.{cases_Bool, both_ways, cases_lt}
 use Rattle.std.proofs.lemmas.List.{take_all, length-reverse, get_or-reverse}
 use Rattle.std.proofs.lemmas.List.Elements.{All-contains, Contains-get_or}
 use Rattle.std.proofs.lemmas.Option.{get_or_from_slice_get}
-use Rattle.bs_clause.specs.Literal.{Literal, Clause, negation, has_literal}
+use Rattle.bs_clause.specs.Literal.{Literal, Clause, negation}
 use Rattle.bs_clause.specs.Resolvent.{resolvent}
 use Rattle.bs_log.specs.Refusal.{has_distinct_variables}
 use Rattle.bs_solve.specs.declared.place.Place.{Place}
-use Rattle.bs_solve.specs.Trail.{IsTrueOn, IsFalseOn, IsOpenOn, Forces, IsConflict, IsQuiet}
-use Rattle.bs_solve.specs.Chain.{Link, hints_of}
-use Rattle.bs_solve.specs.Places.{literals_of, IsPlaced, IsSound, SomeSound}
-use Rattle.bs_solve.specs.Scan.{IsWithin, HasVariables, IsConflictAt}
-use Rattle.bs_solve.specs.Walk.{clauses_at, IsLearnt, IsWalk}
-use Rattle.bs_solve.specs.Point.{is_alone_at, IsDecisionAt, IsLastDecision, IsPoint, IsCut, IsUnforced, IsReasonAt}
-use Rattle.bs_solve.proofs.Lists.{none_is_not_some, same_some, get_take, take_get, get_from_Contains, Contains_from_get, get_map_cases, get_within, get_map}
+use Rattle.bs_solve.specs.Trail.{IsTrueOn, IsFalseOn, IsConflict, IsQuiet}
+use Rattle.bs_solve.specs.Places.{literals_of, IsSound}
+use Rattle.bs_solve.specs.Scan.{IsWithin, HasVariables}
+use Rattle.bs_solve.specs.Walk.{clauses_at, IsWalk}
+use Rattle.bs_solve.specs.Point.{is_alone_at, IsUnforced, IsReasonAt}
+use Rattle.bs_solve.proofs.Lists.{same_some, get_take, take_get, get_from_Contains, Contains_from_get, get_map_cases, get_within, get_map}
 use Rattle.bs_solve.proofs.Clauses.{same_or_not, not_same, all_from, map_cases, resolvent_cases, resolvent_left}
 use Rattle.bs_solve.proofs.Derivations.{negation-negation}
-use Rattle.bs_solve.proofs.Walks.{true_later, walk_start, walk_past, walk_step, walk_end}
+use Rattle.bs_solve.proofs.Walks.{true_later, walk_start, walk_past, walk_step}
 use Rattle.bs_solve.proofs.Lessons.{others_from_alone, alone_from_others}
 
 -- ---- true at a place or before it

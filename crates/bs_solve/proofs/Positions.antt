@@ -1,18 +1,18 @@
 -- The places of a trail by their variables.
-use Rattle.std.proofs.Common.{◌≡◌, ◌≢◌, ℕ, zero, suc, ◌+◌, ◌-◌, ◌<◌, ◌≤◌, arith, Bool, true, false, not, ◌&&◌, ◌||◌, List, [], ◌∷◌, ◌++◌, map, length, get_or, set, take, replicate, refl, sym, ap, subst, ◌∙◌, inl, inr, ◌⊎◌, Option, Some, None, eqb, ltb}
-use Rattle.std.specs.Prelude.{All, Contains, is_some, slice_get}
+use Rattle.std.proofs.Common.{◌≡◌, ◌≢◌, ℕ, zero, suc, ◌-◌, ◌<◌, ◌≤◌, arith, Bool, true, false, not, List, [], ◌∷◌, ◌++◌, map, length, get_or, set, take, replicate, refl, sym, ap, subst, ◌∙◌, inl, inr, ◌⊎◌, Option, Some, None, eqb}
+use Rattle.std.specs.Prelude.{Contains, slice_get}
 use Rattle.std.specs.Bool.{beq}
 use Rattle.std.specs.List.{list_any, IsDistinct}
-use Rattle.std.proofs.lemmas.Bool.{cases_eq, cases_lt, cases_Bool, ne_eqb, eqb-true, or_cases, or_from, false≢true, false_from_ne_true, and_from, and_parts, both_ways}
-use Rattle.std.proofs.lemmas.List.{get_or-set_same, get_or-set_other, length-set, length-map, get_or-replicate, get_or_past, length-replicate, get_or-map, take_all}
-use Rattle.std.proofs.lemmas.Option.{slice_get-get_or, get_or_from_slice_get}
-use Rattle.std.proofs.lemmas.Map.Keys.{IsDistinct-from_apart, any_passes_from_place}
+use Rattle.std.proofs.lemmas.Bool.{cases_eq, cases_lt, ne_eqb, eqb-true, or_cases, false≢true}
+use Rattle.std.proofs.lemmas.List.{get_or-set_same, get_or-set_other, length-set, length-map, get_or-replicate, get_or_past, length-replicate}
+use Rattle.std.proofs.lemmas.Option.{get_or_from_slice_get}
+use Rattle.std.proofs.lemmas.Map.Keys.{IsDistinct-from_apart}
 use Rattle.std.proofs.lemmas.Map.Steps.{length-le_from_distinct_below}
 use Rattle.bs_clause.specs.Literal.{Literal, negation, has_literal}
 use Rattle.bs_clause.proofs.Literals.{literal_from_parts}
 use Rattle.bs_solve.specs.declared.place.Place.{Place}
-use Rattle.bs_solve.specs.Trail.{IsTrueOn, IsFalseOn, IsOpenOn}
-use Rattle.bs_solve.specs.Places.{HasPositions, literals_of, IsUnassigned, TrailState}
+use Rattle.bs_solve.specs.Trail.{IsTrueOn, IsOpenOn}
+use Rattle.bs_solve.specs.Places.{HasPositions, literals_of}
 use Rattle.bs_solve.proofs.Lists.{none_is_not_some, same_some, get_left, get_last, get_push_cases, get_take, take_get, get_from_Contains, Contains_from_get, get_map_cases, get_within, get_map}
 use Rattle.bs_solve.proofs.Quiet.{Contains-from_has, has-from_Contains}
 

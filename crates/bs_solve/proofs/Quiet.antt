@@ -1,13 +1,11 @@
 -- Laws of quiet trails.
-use Rattle.std.proofs.Common.{◌≡◌, ◌≢◌, ℕ, ◌<◌, Bool, true, false, List, [], ◌∷◌, ◌++◌, length, get_or, refl, sym, ap, subst, ◌∙◌, inl, inr, ◌⊎◌, eqb}
-use Rattle.std.specs.Prelude.{All, Contains, Any}
-use Rattle.std.specs.List.{AllByRecursion, list_any}
-use Rattle.std.specs.Bool.{beq}
-use Rattle.std.proofs.lemmas.Bool.{cases_Bool, false≢true, and_from, eq-eqb}
+use Rattle.std.proofs.Common.{◌≡◌, false, List, [], ◌∷◌, get_or, sym, subst, ◌∙◌, inl, inr, ◌⊎◌}
+use Rattle.std.specs.Prelude.{All, Contains}
+use Rattle.std.specs.List.{AllByRecursion}
+use Rattle.std.proofs.lemmas.Bool.{cases_Bool, false≢true}
 use Rattle.std.proofs.lemmas.List.Elements.{All-contains, All-nil, All-cons, All-from_recursion, All-push, Contains-get_or}
-use Rattle.std.proofs.lemmas.List.Folds.{Any-from_list_any, list_any_at}
-use Rattle.bs_clause.specs.Literal.{Literal, Clause, negation, same_literal, has_literal}
-use Rattle.bs_clause.specs.UnitRun.{IsUnitRun, RunsFrom, IsImplied}
+use Rattle.bs_clause.specs.Literal.{Literal, Clause, negation, has_literal}
+use Rattle.bs_clause.specs.UnitRun.{RunsFrom, IsImplied}
 pub use Rattle.bs_clause.proofs.Literals.{same_literal-refl, Contains-from_has, has-from_Contains}
 use Rattle.bs_log.specs.Lean.{IsContained}
 use Rattle.bs_solve.specs.Trail.{IsTrueOn, IsFalseOn, IsOpenOn, IsConflict, IsUnit, IsQuiet}

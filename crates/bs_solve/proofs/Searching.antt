@@ -1,23 +1,22 @@
 -- A learnt clause in the book and on the trail.
-use Rattle.std.proofs.Common.{◌≡◌, ◌≢◌, ℕ, zero, suc, ◌+◌, ◌-◌, ◌<◌, ◌≤◌, arith, Bool, true, false, not, List, [], ◌∷◌, ◌++◌, map, reverse, length, take, drop, get_or, refl, sym, ap, subst, ◌∙◌, inl, inr, ◌⊎◌, Option, Some, None}
-use Rattle.std.specs.Prelude.{All, Any, Contains, slice_get, is_some}
-use Rattle.std.proofs.lemmas.List.{take_at, take-take, length-take-le, length_push, length-reverse, get_or-reverse, take-append-le}
+use Rattle.std.proofs.Common.{◌≡◌, ℕ, ◌+◌, ◌-◌, ◌<◌, ◌≤◌, arith, true, List, [], ◌∷◌, ◌++◌, reverse, length, take, get_or, refl, sym, ap, subst, ◌∙◌, inr, Some}
+use Rattle.std.specs.Prelude.{All, Any, Contains, slice_get}
+use Rattle.std.proofs.lemmas.List.{take-take, length-take-le, length_push, length-reverse, get_or-reverse, take-append-le}
 use Rattle.std.proofs.lemmas.List.Elements.{All-contains, Contains-get_or}
 use Rattle.bs_clause.specs.Literal.{Literal, Clause, negation}
 use Rattle.bs_log.specs.declared.origin.Origin.TheVariants.{Learnt}
-use Rattle.bs_log.specs.History.{Problem, History, Entry, live, step_of}
-use Rattle.bs_log.specs.Refusal.{entry_of, assumptions_of, has_distinct_variables, denies}
+use Rattle.bs_log.specs.History.{Entry, live}
+use Rattle.bs_log.specs.Refusal.{entry_of, denies}
 use Rattle.bs_log.specs.Lean.{IsContained, IsNew}
 use Rattle.bs_solve.specs.declared.place.Place.{Place}
 use Rattle.bs_solve.specs.Trail.{IsTrueOn, IsOpenOn, IsQuiet}
-use Rattle.bs_solve.specs.Bound.{number}
-use Rattle.bs_solve.specs.Places.{TrailState, literals_of, IsSound, IsUnassigned}
-use Rattle.bs_solve.specs.Scan.{IsWithin, HasVariables, IsConflictAt}
+use Rattle.bs_solve.specs.Places.{literals_of, IsSound, IsUnassigned}
+use Rattle.bs_solve.specs.Scan.{IsWithin, HasVariables}
 use Rattle.bs_solve.specs.Walk.{clauses_at, IsLearnt}
-use Rattle.bs_solve.specs.Point.{IsDecisionAt, IsLastDecision, IsPoint, IsCut, IsUnforced, AreForced}
-use Rattle.bs_solve.specs.Learning.{digits, after_learning}
+use Rattle.bs_solve.specs.Point.{IsDecisionAt, IsPoint, IsCut, IsUnforced, AreForced}
+use Rattle.bs_solve.specs.Learning.{after_learning}
 use Rattle.bs_solve.specs.Book.{Book, standing, with_lemma, ids_of}
-use Rattle.bs_solve.specs.Search.{assumed, HasLemma, HasLearnt, HasRefuted}
+use Rattle.bs_solve.specs.Search.{assumed, HasLearnt}
 use Rattle.bs_solve.proofs.Lists.{get_within, same_some}
 use Rattle.bs_solve.proofs.Clauses.{all_from, map_cases, map_contains}
 use Rattle.bs_solve.proofs.Lessons.{Learns, learns, not_denying, denies_from_unforced, learning_rises}

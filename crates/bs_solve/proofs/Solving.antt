@@ -1,16 +1,14 @@
 -- A solver from one call to the next.
-use Rattle.std.proofs.Common.{◌≡◌, ◌≢◌, ℕ, zero, suc, ◌+◌, ◌-◌, ◌<◌, ◌≤◌, ◌^◌, arith, Bool, true, false, not, ◌&&◌, ◌||◌, List, [], ◌∷◌, ◌++◌, map, length, refl, sym, ap, subst, ◌∙◌, inl, inr, ◌⊎◌, Option, Some, None, leb}
-use Rattle.std.specs.Prelude.{All, IfSome, slice_get, unwrap_or}
+use Rattle.std.proofs.Common.{◌≡◌, ℕ, suc, ◌+◌, ◌-◌, ◌<◌, ◌^◌, arith, Bool, true, false, ◌&&◌, List, [], ◌∷◌, ◌++◌, length, refl, sym, ap, subst, ◌∙◌, inl, inr, ◌⊎◌, Option, Some, None, Result, Ok, Err, leb}
+use Rattle.std.specs.Prelude.{All, IfSome, OnOk, OnErr, slice_get, unwrap_or}
 use Rattle.std.specs.List.{AllByRecursion}
 use Rattle.std.proofs.lemmas.Bool.{or_left, or_right, and_from, le-leb, true≢false, false≢true}
-use Rattle.std.proofs.lemmas.List.{length_push}
+use Rattle.std.proofs.lemmas.List.{append_assoc, length_push}
 use Rattle.std.specs.List.{list_all}
 use Rattle.std.proofs.lemmas.List.Elements.{All-contains, All-cons, All-nil, All-push, All-weaker}
 use Rattle.bs_clause.specs.Literal.{Literal, Clause, negation, same_literal}
 use Rattle.bs_clause.proofs.Literals.{same_literal-refl}
 use Rattle.bs_log.proofs.Laws.{step_of-positive}
-use Rattle.bs_log.specs.declared.phase.Phase.{Phase}
-use Rattle.bs_log.specs.declared.phase.Phase.TheVariants.{BetweenSteps, InSolve, AfterBlock, AfterFinish, AfterRetire}
 use Rattle.bs_log.specs.declared.line.Line.{Line}
 use Rattle.bs_log.specs.declared.line.Line.TheVariants.{Solve, Lemma, Block, Finish, Retire, Delete}
 use Rattle.bs_log.specs.History.{Problem, History, Entry, step_of, phase_of, live, state_of, guard_of}
@@ -25,7 +23,7 @@ use Rattle.bs_solve.specs.Search.{assumed, HasRefuted}
 use Rattle.bs_solve.specs.Ending.{SomeLemmas, Ends}
 use Rattle.bs_solve.specs.Scan.{IsWithin, HasVariables}
 use Rattle.bs_solve.specs.Stages.{is_begun, is_solved, stage_of, IsIdle, IsBegun, IsInside, IsSearched, IsBlocked, IsEnded, Fits, EndsStep, begun_book, MayBegin}
-use Rattle.bs_solve.specs.Solver.{SolverState, IsReady, MaySolve, HasSolved, HasEnded, finished}
+use Rattle.bs_solve.specs.Solver.{SolverState, IsReady, MaySolve, HasSolved, HasBlocked, HasEnded, Follows, finished}
 use Rattle.bs_solve.proofs.Lists.{get_last}
 use Rattle.bs_solve.proofs.Clauses.{distinct_cons}
 use Rattle.bs_solve.proofs.Lines.{standing_with_member, solve_is_inside, block_is_inside}
@@ -119,6 +117,11 @@ searched_after begun new vars l inside phase =
       inside = record { vars_is = omega (arith, same_step, same_vars, inside.vars_is); steps = omega (arith, same_step, same_steps, inside.steps) };
       phase = ap (λ h. in_solve (phase_of h)) l.history ∙ phase_of_lemmas l.lines begun.history l.lemmas phase;
     }
+
+-- lemmas leave the step's assumptions
+pub assumed_after : (begun new : Book) → SomeLemmas begun new → assumed new ≡ assumed begun
+assumed_after begun new l =
+    ap (λ p. assumptions_of p (step_of new.history)) l.problem ∙ ap (assumptions_of begun.problem) (ap step_of l.history ∙ step_of_lemmas l.lines begun.history l.lemmas)
 
 refuted_ends : (old new : Book) (id : ℕ) → HasRefuted old new id →
     (passes is_lemma (entry_of (live new.problem new.history) id) ≡ true) × (passes (λ e. denies (assumed new) e.literals) (entry_of (live new.problem new.history) id) ≡ true)
@@ -292,17 +295,69 @@ ready_after_solve inside a first begun new limit answer stage ready may well is_
     }
 
 pub has_solved : (inside now : SolverState) (a : Clause) (first : Bool) (begun new : Book) (limit : ℕ) (answer : Answer) (stage : Stage) → inside ≡ now → IsReady inside → MaySolve inside a → inside.failed ≡ false →
-    first ≡ is_begun inside.stage → begun ≡ begun_book first inside.book a → Ends begun new inside.vars limit answer → stage ≡ stage_of answer →
+    first ≡ is_begun inside.stage → begun ≡ begun_book first inside.book a → Ends begun new inside.vars limit answer → SomeLemmas begun new → stage ≡ stage_of answer →
     HasSolved now (record { book = new; vars = inside.vars; stage = stage; failed = false }) a limit answer
-has_solved inside now a first begun new limit answer stage is ready may well is_first is_begun_first ends is_stage =
+has_solved inside now a first begun new limit answer stage is ready may well is_first is_begun_first ends lemmas is_stage =
     let is_begun_book : begun ≡ begun_book (is_begun inside.stage) inside.book a = is_begun_first ∙ ap (λ f. begun_book f inside.book a) is_first in
     let solved : HasSolved inside (record { book = new; vars = inside.vars; stage = stage; failed = false }) a limit answer = record {
       was_well = well;
       stands = begun_stands inside.book (is_begun inside.stage) a;
       assumed_is = begun_assumptions inside a ready may well;
       ends = subst (λ b. Ends b new inside.vars limit answer) is_begun_book ends;
+      step = assumed_after begun new lemmas ∙ ap assumed is_begun_book ∙ begun_assumptions inside a ready may well;
       vars = refl;
       stage = is_stage;
       well = refl;
     } in
     subst (λ s. HasSolved s (record { book = new; vars = inside.vars; stage = stage; failed = false }) a limit answer) is solved
+
+pub has_blocked : (inside now : SolverState) (new : Book) (lits clause : Clause) (id : ℕ) → inside ≡ now → inside.failed ≡ false → IsInside inside.book inside.vars →
+    clause ≡ record { variable = inside.vars; positive = false } ∷ lits → id ≡ length (standing inside.book) + 1 → new ≡ with_line inside.book (Block id clause) →
+    standing new ≡ standing inside.book ++ clause ∷ [] → HasBlocked now (record { book = new; vars = inside.vars; stage = Blocked; failed = false }) lits id
+has_blocked inside now new lits clause id is well here is_clause next line stands =
+    let b : Book = inside.book in
+    let is_guard : record { variable = inside.vars; positive = false } ≡ negation (guard_of b.problem (step_of b.history)) = λ i. record { variable = here.vars_is i; positive = false } in
+    let clause_is : clause ≡ negation (guard_of b.problem (step_of b.history)) ∷ lits = is_clause ∙ ap (λ l. l ∷ lits) is_guard in
+    let blocked : HasBlocked inside (record { book = new; vars = inside.vars; stage = Blocked; failed = false }) lits id = record {
+      was_well = well;
+      next = next;
+      book = line ∙ ap (λ c. with_line b (Block id c)) clause_is;
+      stands = stands ∙ ap (λ c. standing b ++ c ∷ []) clause_is;
+      step = ap assumed line;
+      vars = refl;
+      stage = refl;
+      well = refl;
+    } in
+    subst (λ s. HasBlocked s (record { book = new; vars = inside.vars; stage = Blocked; failed = false }) lits id) is blocked
+
+-- ---- what is logged, whatever the answer
+
+pub follows_same : (b : Book) (a : Clause) → Follows b b a
+follows_same b a = record { lines = []; history = refl; vars = refl; clauses = refl; steps = inl refl }
+
+pub follows_member : (b new : Book) (a : Clause) → new ≡ with_member b a → Follows b new a
+follows_member b new a is = subst (λ x. Follows b x a) (sym is) (record { lines = []; history = refl; vars = refl; clauses = refl; steps = inr refl })
+
+pub follows_begun : (b new : Book) (first : Bool) (a : Clause) → new ≡ begun_book first b a → Follows b new a
+follows_begun b new true a is = subst (λ x. Follows b x a) (sym is) (record { lines = Solve ∷ []; history = refl; vars = refl; clauses = refl; steps = inr refl })
+follows_begun b new false a is = subst (λ x. Follows b x a) (sym is) (record { lines = Solve ∷ []; history = refl; vars = refl; clauses = refl; steps = inl refl })
+
+pub follows_lemmas : (b begun new : Book) (a : Clause) → Follows b begun a → SomeLemmas begun new → Follows b new a
+follows_lemmas b begun new a f l = record {
+  lines = l.lines ++ f.lines;
+  history = l.history ∙ ap (λ h. l.lines ++ h) f.history ∙ sym (append_assoc l.lines f.lines b.history);
+  vars = ap (λ (p : Problem). p.vars) l.problem ∙ f.vars;
+  clauses = ap (λ (p : Problem). p.clauses) l.problem ∙ f.clauses;
+  steps = elim (f.steps) [
+    | inl same ↦ inl (ap (λ (p : Problem). p.steps) l.problem ∙ same)
+    | inr more ↦ inr (ap (λ (p : Problem). p.steps) l.problem ∙ more)
+  ];
+}
+
+follows_line : (b new : Book) (a : Clause) (line : Line) → Follows b new a → Follows b (with_line new line) a
+follows_line b new a line f = record { lines = line ∷ f.lines; history = ap (λ h. line ∷ h) f.history; vars = f.vars; clauses = f.clauses; steps = f.steps }
+
+-- a line that was logged, if there was memory
+pub follows_log : {T E : Type 0} (r : Result T E) (b middle new : Book) (a : Clause) (line : Line) → OnOk r (new ≡ with_line middle line) → OnErr r (new ≡ middle) → Follows b middle a → Follows b new a
+follows_log (Ok x) b middle new a line ok err f = subst (λ n. Follows b n a) (sym ok) (follows_line b middle a line f)
+follows_log (Err e) b middle new a line ok err f = subst (λ n. Follows b n a) (sym err) f

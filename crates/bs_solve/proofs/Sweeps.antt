@@ -1,6 +1,6 @@
 -- A walk over the clauses, one after another.
-use Rattle.std.proofs.Common.{◌≡◌, ℕ, suc, ◌+◌, ◌<◌, ◌≤◌, arith, Bool, true, false, List, [], ◌∷◌, ◌++◌, length, take, get_or, refl, sym, ap, subst, ◌∙◌, Option, Some, None}
-use Rattle.std.specs.Prelude.{All, slice_get}
+use Rattle.std.proofs.Common.{◌≡◌, ℕ, ◌+◌, ◌<◌, arith, true, false, List, [], ◌∷◌, ◌++◌, length, take, get_or, refl, sym, subst, ◌∙◌, Some}
+use Rattle.std.specs.Prelude.{All}
 use Rattle.std.proofs.lemmas.Bool.{false≢true, true≢false}
 use Rattle.std.proofs.lemmas.List.{take_all, length_push}
 use Rattle.std.proofs.lemmas.List.Elements.{All-more, All-weaker}
@@ -9,9 +9,9 @@ use Rattle.bs_clause.specs.Literal.{Literal, Clause}
 use Rattle.bs_solve.specs.declared.place.Place.{Place}
 use Rattle.bs_solve.specs.Trail.{Forces, IsConflict, IsUnit, IsQuiet}
 use Rattle.bs_solve.specs.Places.{literals_of}
-use Rattle.bs_solve.specs.Grown.{IsForced, Grows, IsSettled}
-use Rattle.bs_solve.specs.Scan.{Visits, IsConflictAt}
-use Rattle.bs_solve.proofs.Places.{grows_none, grows_push, grows_trans}
+use Rattle.bs_solve.specs.Grown.{Grows, IsSettled}
+use Rattle.bs_solve.specs.Scan.{Visits}
+use Rattle.bs_solve.proofs.Places.{grows_none, grows_push}
 
 pub visit_settled : (clauses : List Clause) (places : List Place) (at : ℕ) → IsSettled (literals_of places) (get_or clauses at []) → Visits clauses places places at false
 visit_settled clauses places at s = record { grows = grows_none clauses places; settled = λ _ _. s; conflict = λ e. absurd (false≢true e) }

@@ -1,27 +1,26 @@
 -- Conflict analysis, step by step.
-use Rattle.std.proofs.Common.{◌≡◌, ◌≢◌, ℕ, zero, suc, ◌+◌, ◌<◌, ◌≤◌, arith, Bool, true, false, not, ◌&&◌, ◌||◌, cond, List, [], ◌∷◌, ◌++◌, map, reverse, length, take, drop, get_or, refl, sym, ap, subst, ◌∙◌, inl, inr, ◌⊎◌, Option, Some, None, eqb}
+use Rattle.std.proofs.Common.{◌≡◌, ◌≢◌, ℕ, zero, suc, ◌+◌, ◌<◌, ◌≤◌, arith, true, not, List, [], ◌∷◌, ◌++◌, map, reverse, length, take, drop, get_or, refl, sym, ap, subst, ◌∙◌, inl, inr, ◌⊎◌, Some}
 use Rattle.std.specs.Prelude.{All, Any, Contains, slice_get, IsTrue}
-use Rattle.std.specs.List.{filter}
-use Rattle.std.proofs.lemmas.Bool.{and_from, both_ways, not-true}
-use Rattle.std.proofs.lemmas.List.{reverse-append, take_all}
-use Rattle.std.proofs.lemmas.List.Elements.{All-contains, All-cons, All-head, All-tail, All-push, All-nil, Contains-get_or, Contains-append_cases}
+use Rattle.std.proofs.lemmas.Bool.{both_ways, not-true}
+use Rattle.std.proofs.lemmas.List.{reverse-append}
+use Rattle.std.proofs.lemmas.List.Elements.{All-contains, All-cons, All-head, All-tail, All-push, All-nil}
 use Rattle.std.proofs.lemmas.Option.{get_or_from_slice_get}
 use Rattle.bs_clause.specs.Literal.{Literal, Clause, negation, same_literal, has_literal}
 use Rattle.bs_clause.specs.Resolvent.{resolvent, without, once, news}
 use Rattle.bs_log.specs.Refusal.{has_distinct_variables}
 use Rattle.bs_log.specs.Propagation.{start_of, hints_are_unit, last_is_false}
-use Rattle.bs_log.specs.Lean.{IsResolventOf, implied_by}
+use Rattle.bs_log.specs.Lean.{IsResolventOf}
 use Rattle.bs_solve.specs.declared.place.Place.{Place}
 use Rattle.bs_solve.specs.Trail.{IsTrueOn, IsFalseOn, IsOpenOn, Forces, IsConflict}
 use Rattle.bs_solve.specs.Chain.{Link, hints_of, IsChain}
-use Rattle.bs_solve.specs.Derives.{Derives, AreFresh}
+use Rattle.bs_solve.specs.Derives.{AreFresh}
 use Rattle.bs_solve.specs.Places.{literals_of, IsPlaced, IsSound}
-use Rattle.bs_solve.specs.Walk.{clauses_at, IsLearnt, AreUsed, IsLeft, IsWalk}
+use Rattle.bs_solve.specs.Walk.{clauses_at, IsLearnt, AreUsed, IsWalk}
 use Rattle.bs_solve.proofs.Lists.{none_is_not_some, same_some, get_take, take_get, get_from_Contains, Contains_from_get, get_map_cases, get_within, get_map}
-use Rattle.bs_solve.proofs.Quiet.{has-from_Contains, Contains-from_has}
+use Rattle.bs_solve.proofs.Quiet.{has-from_Contains}
 use Rattle.bs_solve.proofs.Positions.{open_apart}
 use Rattle.bs_solve.proofs.Places.{one_place}
-use Rattle.bs_solve.proofs.Clauses.{nothing_in, cons_contains, contains_first, contains_cases, all_from, any_cases, any_first, any_later, filter_cases, filter_from, same_or_not, not_same, resolvent_cases, news_cases, distinct_once, resolvent_reason, resolvent_left, distinct_cons, distinct_filter, distinct_append, distinct_parts, has_none, map_cases, map_contains, not-false}
+use Rattle.bs_solve.proofs.Clauses.{cons_contains, contains_first, contains_cases, all_from, any_cases, any_first, any_later, filter_cases, same_or_not, not_same, resolvent_cases, news_cases, distinct_once, resolvent_reason, resolvent_left, distinct_cons, distinct_filter, distinct_append, distinct_parts, has_none, map_cases, map_contains}
 use Rattle.bs_solve.proofs.Derivations.{derives_at_conflict, derives_backwards, derives_lemma, negation-negation}
 use Rattle.bs_solve.proofs.Chains.{chains_are_right}
 

@@ -1,10 +1,11 @@
 -- The book of a search: what its log is about, and the lines so far.
 use Rattle.std.specs.Prelude.{◌≡◌, ℕ, ◌≤◌, List, [], ◌∷◌, ◌++◌, map, length, suc}
+use Rattle.std.specs.List.{filter}
 use Rattle.bs_clause.specs.Literal.{Clause}
 use Rattle.bs_log.specs.declared.line.Line.{Line}
 use Rattle.bs_log.specs.declared.line.Line.TheVariants.{Lemma}
 use Rattle.bs_log.specs.History.{Problem, History, Entry, live, last_id}
-use Rattle.bs_log.specs.Refusal.{NoneRefused}
+use Rattle.bs_log.specs.Refusal.{NoneRefused, is_lemma}
 use Rattle.bs_log.specs.Lean.{LemmasAreLean}
 
 -- the lines stand newest first
@@ -28,11 +29,16 @@ pub record IsKept (b : Book) : Type 0 where
   pub numbered : AreNumbered 1 (live b.problem b.history)
   pub last : last_id b.problem b.history ≡ length (live b.problem b.history)
 
--- the clauses are those that stand, those of the problem first
-pub record IsRecorded (axioms : ℕ) (clauses : List Clause) (b : Book) : Type 0 where
+-- the ids of the lemmas that stand
+abbrev pub lemma_ids : Book → List ℕ
+lemma_ids b = map (λ e. e.id) (filter is_lemma (live b.problem b.history))
+
+-- the clauses are those that stand, those of the problem first, and the ids are those of the lemmas
+pub record IsRecorded (axioms : ℕ) (clauses : List Clause) (ids : List ℕ) (b : Book) : Type 0 where
   pub kept : IsKept b
   pub same : clauses ≡ standing b
   pub first : axioms ≤ length clauses
+  pub lemmas : ids ≡ lemma_ids b
 
 -- one more line
 abbrev pub with_line : Book → Line → Book

@@ -1,6 +1,6 @@
 -- How propagation makes a trail longer.
-use Rattle.std.specs.Prelude.{◌≡◌, ℕ, ◌+◌, ◌≤◌, Bool, List, take, length, map, Option, Some, None, slice_get, All}
-use Rattle.bs_clause.specs.Literal.{Literal, Clause, has_literal}
+use Rattle.std.specs.Prelude.{◌≡◌, ℕ, ◌≤◌, List, take, length, Some, slice_get}
+use Rattle.bs_clause.specs.Literal.{Literal, Clause}
 use Rattle.bs_solve.specs.declared.place.Place.{Place}
 use Rattle.bs_solve.specs.Trail.{Forces, IsConflict, IsUnit}
 use Rattle.bs_solve.specs.Places.{literals_of}

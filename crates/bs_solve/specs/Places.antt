@@ -1,6 +1,6 @@
 -- The trail with its reasons: the literals that are true, the oldest first.
-use Rattle.std.specs.Prelude.{◌≡◌, ◌≢◌, ℕ, ◌-◌, ◌<◌, ◌≤◌, List, map, take, length, Option, Some, None, Contains, slice_get, slice_index_or}
-use Rattle.bs_clause.specs.Literal.{Literal, Clause, negation}
+use Rattle.std.specs.Prelude.{◌≡◌, ℕ, ◌-◌, ◌<◌, ◌≤◌, List, map, take, length, Option, Some, None, Contains, slice_get, slice_index_or}
+use Rattle.bs_clause.specs.Literal.{Literal, Clause}
 use Rattle.bs_solve.specs.declared.place.Place.{Place}
 use Rattle.bs_solve.specs.Trail.{IsOpenOn, Forces, IsQuiet}
 

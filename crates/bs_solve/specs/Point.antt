@@ -1,9 +1,8 @@
 -- Where conflict analysis stops, and where the trail goes back to.
-use Rattle.std.specs.Prelude.{◌≡◌, ◌≢◌, ◌⊎◌, ℕ, ◌<◌, ◌≤◌, Bool, true, false, ◌||◌, List, [], take, length, Option, Some, None, is_some, All, Contains, slice_get, slice_index_or}
+use Rattle.std.specs.Prelude.{◌≡◌, ℕ, ◌<◌, ◌≤◌, Bool, true, false, ◌||◌, List, [], take, length, Some, None, is_some, Contains, slice_get, slice_index_or}
 use Rattle.std.specs.List.{list_all}
 use Rattle.bs_clause.specs.Literal.{Literal, Clause, negation, same_literal, has_literal}
 use Rattle.bs_solve.specs.declared.place.Place.{Place}
-use Rattle.bs_solve.specs.Trail.{IsFalseOn}
 use Rattle.bs_solve.specs.Places.{literals_of}
 
 -- each literal of the clause is this one, or was false when the trail had so many places

@@ -8,7 +8,7 @@ use Rattle.bs_solve.specs.declared.propagation.Sweep.{Sweep}
 use Rattle.bs_solve.specs.declared.propagation.Sweep.TheVariants.{Quiet as SweptQuiet, More, Conflict as SweptConflict}
 use Rattle.bs_solve.specs.declared.propagation.Outcome.{Outcome}
 use Rattle.bs_solve.specs.declared.propagation.Outcome.TheVariants.{Quiet, Conflict}
-use Rattle.bs_solve.specs.Trail.{IsConflict, IsUnit, IsQuiet, Forces}
+use Rattle.bs_solve.specs.Trail.{IsConflict, IsQuiet, Forces}
 use Rattle.bs_solve.specs.Places.{literals_of}
 use Rattle.bs_solve.specs.Grown.{IsSettled, Grows}
 

@@ -1,6 +1,7 @@
 -- A solver between two calls.
-use Rattle.std.specs.Prelude.{◌≡◌, ◌⊎◌, ℕ, ◌+◌, ◌<◌, ◌^◌, Bool, true, false, [], ◌∷◌, ◌++◌, length, Option, Some, None, All}
+use Rattle.std.specs.Prelude.{◌≡◌, ◌⊎◌, ℕ, ◌+◌, ◌<◌, ◌^◌, Bool, true, false, List, [], ◌∷◌, ◌++◌, length, Option, Some, None, All}
 use Rattle.bs_clause.specs.Literal.{Clause, negation}
+use Rattle.bs_log.specs.declared.line.Line.{Line}
 use Rattle.bs_log.specs.declared.line.Line.TheVariants.{Block, Finish, Retire}
 use Rattle.bs_log.specs.History.{step_of, guard_of}
 use Rattle.bs_log.specs.Refusal.{has_distinct_variables}
@@ -27,6 +28,14 @@ pub record IsReady (s : SolverState) : Type 0 where
   pub distinct : s.failed ≡ false → All (λ c. has_distinct_variables c ≡ true) (standing s.book)
   pub fits : s.failed ≡ false → Fits s.stage s.book s.vars
 
+-- further lines were logged, and the assumptions of the step under way may have been added
+pub record Follows (old new : Book) (assumptions : Clause) : Type 0 where
+  pub lines : List Line
+  pub history : new.history ≡ lines ++ old.history
+  pub vars : new.problem.vars ≡ old.problem.vars
+  pub clauses : new.problem.clauses ≡ old.problem.clauses
+  pub steps : (new.problem.steps ≡ old.problem.steps) ⊎ (new.problem.steps ≡ old.problem.steps ++ assumptions ∷ [])
+
 -- a solve is the first of its step, or a block came since the last one and the assumptions are the step's
 pub record MaySolve (s : SolverState) (assumptions : Clause) : Type 0 where
   pub stage : s.failed ≡ false → (s.stage ≡ Begun) ⊎ (s.stage ≡ Blocked)
@@ -38,6 +47,7 @@ pub record HasSolved (old new : SolverState) (assumptions : Clause) (limit : ℕ
   pub stands : standing (begun_book (is_begun old.stage) old.book assumptions) ≡ standing old.book
   pub assumed_is : assumed (begun_book (is_begun old.stage) old.book assumptions) ≡ assumptions
   pub ends : Ends (begun_book (is_begun old.stage) old.book assumptions) new.book old.vars limit answer
+  pub step : assumed new.book ≡ assumptions
   pub vars : new.vars ≡ old.vars
   pub stage : new.stage ≡ stage_of answer
   pub well : new.failed ≡ false
@@ -48,6 +58,7 @@ pub record HasBlocked (old new : SolverState) (lits : Clause) (id : ℕ) : Type 
   pub next : id ≡ length (standing old.book) + 1
   pub book : new.book ≡ with_line old.book (Block id (negation (guard_of old.book.problem (step_of old.book.history)) ∷ lits))
   pub stands : standing new.book ≡ standing old.book ++ (negation (guard_of old.book.problem (step_of old.book.history)) ∷ lits) ∷ []
+  pub step : assumed new.book ≡ assumed old.book
   pub vars : new.vars ≡ old.vars
   pub stage : new.stage ≡ Blocked
   pub well : new.failed ≡ false

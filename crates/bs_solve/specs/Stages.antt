@@ -1,5 +1,5 @@
 -- Where a solver stands between two calls, and what its log then looks like.
-use Rattle.std.specs.Prelude.{◌≡◌, ℕ, ◌+◌, Bool, true, false, List, length}
+use Rattle.std.specs.Prelude.{◌≡◌, ℕ, ◌+◌, Bool, true, false, length}
 use Rattle.bs_clause.specs.Literal.{Clause}
 use Rattle.bs_log.specs.History.{step_of, phase_of, live}
 use Rattle.bs_log.specs.Refusal.{in_solve, is_after_block, is_between_steps, passes, is_lemma, entry_of, denies}
@@ -8,7 +8,7 @@ use Rattle.bs_solve.specs.declared.stage.Stage.{Stage}
 use Rattle.bs_solve.specs.declared.stage.Stage.TheVariants.{Idle, Begun, Solved, Blocked, Ended, Stopped}
 use Rattle.bs_solve.specs.declared.search.Answer.{Answer}
 use Rattle.bs_solve.specs.declared.search.Answer.TheVariants.{Found, Refuted, Spent}
-use Rattle.bs_solve.specs.Book.{Book, standing, with_line, with_member}
+use Rattle.bs_solve.specs.Book.{Book, with_line, with_member}
 use Rattle.bs_solve.specs.Search.{assumed}
 
 abbrev pub is_begun : Stage → Bool

@@ -1,5 +1,5 @@
 -- The values that a trail gives to the variables.
-use Rattle.std.specs.Prelude.{◌≡◌, ◌⊎◌, ℕ, ◌+◌, ◌-◌, ◌≤◌, ◌<◌, Bool, true, false, List, length, Option, Some, None, slice_index_or, unwrap_or, All}
+use Rattle.std.specs.Prelude.{◌≡◌, ◌⊎◌, ℕ, ◌-◌, ◌≤◌, Bool, true, false, List, length, Option, Some, None, slice_index_or, unwrap_or, All}
 use Rattle.bs_clause.specs.Literal.{Literal, Clause, negation, has_literal, literal_value, Meets, value_at}
 
 -- the literal of a variable

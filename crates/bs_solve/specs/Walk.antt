@@ -1,11 +1,11 @@
 -- Conflict analysis: a false clause is resolved with reasons, back along the trail.
-use Rattle.std.specs.Prelude.{◌≡◌, ◌≢◌, ◌⊎◌, ◌↔◌, ℕ, ◌+◌, ◌<◌, ◌≤◌, Bool, true, List, [], ◌∷◌, ◌++◌, map, reverse, take, length, Option, Some, None, All, Any, Contains, slice_get, slice_index_or, IsTrue}
+use Rattle.std.specs.Prelude.{◌≡◌, ◌≢◌, ◌↔◌, ℕ, ◌<◌, true, List, [], ◌∷◌, map, reverse, take, length, All, Any, Contains, slice_index_or, IsTrue}
 use Rattle.bs_clause.specs.Literal.{Literal, Clause, negation}
 use Rattle.bs_log.specs.Refusal.{has_distinct_variables}
 use Rattle.bs_log.specs.Propagation.{hints_are_unit, last_is_false}
 use Rattle.bs_log.specs.Lean.{IsResolventOf}
 use Rattle.bs_solve.specs.declared.place.Place.{Place}
-use Rattle.bs_solve.specs.Trail.{IsTrueOn, IsFalseOn, IsOpenOn, IsQuiet}
+use Rattle.bs_solve.specs.Trail.{IsFalseOn, IsOpenOn}
 use Rattle.bs_solve.specs.Chain.{Link, hints_of}
 use Rattle.bs_solve.specs.Derives.{Derives}
 use Rattle.bs_solve.specs.Places.{literals_of}

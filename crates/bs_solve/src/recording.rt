@@ -7,7 +7,7 @@ ghost use Rattle.bs_log.specs.History.{phase_of, state_of, step_of, guard_of, li
 ghost use Rattle.bs_log.specs.Refusal.{in_order, in_solve, is_between_steps, has_distinct_variables, is_block_of, passes, is_lemma, entry_of, denies, history_of, NoneRefused};
 ghost use Rattle.bs_log.specs.Lean.{IsNew, LemmasAreLean};
 ghost use Rattle.bs_solve.specs.Walk.{IsLearnt};
-ghost use Rattle.bs_solve.specs.Book.{standing, with_line, with_lemma, with_member, ids_of};
+ghost use Rattle.bs_solve.specs.Book.{standing, lemma_ids, with_line, with_lemma, with_member, ids_of};
 ghost use Rattle.bs_solve.specs.Search.{assumed};
 
 use bs_bits::List;
@@ -23,6 +23,7 @@ pub struct Recording {
     vars: u32,
     axioms: usize,
     clauses: Vec<Lits>,
+    lemmas: Vec<u64>,
     steps: List<Lits>,
     log: Log,
 }
@@ -35,7 +36,7 @@ impl Model for Recording {
 
     ghost view = { λ r. record { problem = record { vars = r.vars; clauses = take r.axioms r.clauses.items; steps = r.steps }; history = reverse r.log } };
 
-    ghost invariant = { λ r. IsRecorded r.axioms r.clauses.items (record { problem = record { vars = r.vars; clauses = take r.axioms r.clauses.items; steps = r.steps }; history = reverse r.log }) };
+    ghost invariant = { λ r. IsRecorded r.axioms r.clauses.items r.lemmas.items (record { problem = record { vars = r.vars; clauses = take r.axioms r.clauses.items; steps = r.steps }; history = reverse r.log }) };
 }
 
 impl Recording {
@@ -48,6 +49,7 @@ impl Recording {
             vars,
             axioms: clauses.len(),
             clauses,
+            lemmas: Vec::new(alloc),
             steps: List::new(alloc),
             log: Log::new(alloc),
         })
@@ -152,6 +154,13 @@ impl Recording {
         }
     }
 
+    /// The ids of the lemmas that stand, in ascending order.
+    pub fn lemma_ids(&self) -> &[u64]
+        ensures { result.now ≡ lemma_ids self.now }
+    {
+        self.lemmas.as_slice()
+    }
+
     /// The clauses that stand. The clause at a place has the next number as its id.
     pub fn clauses(&self) -> &[Lits]
         ensures { result.now ≡ standing self.now }
@@ -174,6 +183,7 @@ impl Recording {
         let clause = Lits::copy(alloc, lits.slice())?;
         let ids = ids_of_places(alloc, hints, self.clauses.len())?;
         self.clauses.reserve(1)?;
+        self.lemmas.reserve(1)?;
         let logged = self.log.push(Line::Lemma {
             id,
             lits,
@@ -182,6 +192,7 @@ impl Recording {
         match logged {
             Ok(()) => {
                 push_clause(&mut self.clauses, clause);
+                push_id(&mut self.lemmas, id);
                 Ok(id)
             }
             Err(_) => Err(NoMemory),
@@ -242,4 +253,12 @@ fn push_clause(clauses: &mut Vec<Lits>, clause: Lits)
     ensures { clauses.new.items ≡ clauses.old.items ++ clause ∷ [] }
 {
     let _ = clauses.push(clause);
+}
+
+// One more id where there is room.
+fn push_id(ids: &mut Vec<u64>, id: u64)
+    requires { vec_len ids.old < vec_capacity ids.old }
+    ensures { ids.new.items ≡ ids.old.items ++ id ∷ [] }
+{
+    let _ = ids.push(id);
 }

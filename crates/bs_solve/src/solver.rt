@@ -5,9 +5,9 @@ ghost use Rattle.bs_log.specs.Refusal.{has_distinct_variables, history_of, NoneR
 ghost use Rattle.bs_log.specs.Lean.{LemmasAreLean};
 ghost use Rattle.bs_solve.specs.declared.stage.Stage.TheVariants.{Idle, Begun, Solved, Ended};
 ghost use Rattle.bs_solve.specs.Scan.{HasVariables};
-ghost use Rattle.bs_solve.specs.Book.{standing};
+ghost use Rattle.bs_solve.specs.Book.{standing, lemma_ids};
 ghost use Rattle.bs_solve.specs.Stages.{MayBegin, EndsStep, begun_book, is_solved};
-ghost use Rattle.bs_solve.specs.Solver.{MaySolve, HasSolved, HasBlocked, HasEnded, finished};
+ghost use Rattle.bs_solve.specs.Solver.{MaySolve, HasSolved, HasBlocked, HasEnded, Follows, finished};
 
 use crate::recording::Recording;
 use crate::search::{Answer, search};
@@ -89,6 +89,7 @@ impl Solver {
         requires distinct { has_distinct_variables assumptions.now ≡ true }
         requires limit { 1 ≤ limit }
         ensures ok { IfOk result (HasSolved self.old self.new assumptions.now limit) }
+        ensures lines { Follows self.old.book self.new.book assumptions.now }
         ensures err { IfErr result (λ _. self.new.failed ≡ true) }
     {
         if self.failed {
@@ -109,7 +110,7 @@ impl Solver {
         requires range { HasVariables self.old.book.problem.vars lits.now }
         requires distinct { has_distinct_variables lits.now ≡ true }
         ensures ok { IfOk result (HasBlocked self.old self.new lits.now) }
-        ensures err { IfErr result (λ _. self.new.failed ≡ true) }
+        ensures err { IfErr result (λ _. (self.new.failed ≡ true) × (self.new.book ≡ self.old.book)) }
     {
         if self.failed {
             return Err(NoMemory);
@@ -158,6 +159,13 @@ impl Solver {
         self.book.log()
     }
 
+    /// The ids of the lemmas that stand, in ascending order.
+    pub fn lemma_ids(&self) -> &[u64]
+        ensures { result.now ≡ lemma_ids self.now.book }
+    {
+        self.book.lemma_ids()
+    }
+
     /// The number of variables in use: those of `new` and the guards given so far.
     pub fn vars(&self) -> u32
         ensures { result ≡ self.now.vars }
@@ -199,10 +207,22 @@ fn begin_solve(
     requires stage { MayBegin book.old first }
     ensures ok { OnOk result (book.new ≡ begun_book first book.old assumptions.now) }
     ensures stands { OnOk result (standing book.new ≡ standing book.old) }
+    ensures lines { Follows book.old book.new assumptions.now }
 {
     if first {
-        let member = Lits::copy(alloc, assumptions.slice())?;
-        book.add_step(member)?;
+        return begin_first(alloc, book, assumptions);
     }
+    book.log_solve()
+}
+
+// The assumptions of a step, and the line of its first solve.
+fn begin_first(alloc: Global, book: &mut Recording, assumptions: &Lits) -> Result<(), NoMemory>
+    requires stage { MayBegin book.old true }
+    ensures ok { OnOk result (book.new ≡ begun_book true book.old assumptions.now) }
+    ensures stands { OnOk result (standing book.new ≡ standing book.old) }
+    ensures lines { Follows book.old book.new assumptions.now }
+{
+    let member = Lits::copy(alloc, assumptions.slice())?;
+    book.add_step(member)?;
     book.log_solve()
 }

@@ -1,7 +1,5 @@
-use Rattle.std.proofs.Common.{◌≡◌, ◌-◌, ◌<◌, ◌≤◌, ap, ◌∙◌, sym, subst, arith, inl, inr, ◌⊎◌, false, ℕ}
+use Rattle.std.proofs.Common.{◌-◌, ◌∙◌, sym, arith, inl, inr}
 use Rattle.std.proofs.lemmas.Bool.{cases_lt}
-use Rattle.bs_clause.specs.Literal.{Literal, Clause, negation}
-use Rattle.bs_solve.specs.Point.{is_alone_at, IsCut}
 use Rattle.bs_solve.proofs.Points.{not_alone_earlier}
 use Rattle.bs_solve.proofs.analysis.cut_place.Goals as goal
 

@@ -1,4 +1,4 @@
-use Rattle.std.proofs.Common.{◌≡◌, ◌-◌, ◌<◌, ◌≤◌, ◌++◌, ◌∷◌, [], suc, length, take, ap, ◌∙◌, sym, subst, arith, List, inl, inr, ◌⊎◌, true, false, get_or, ℕ}
+use Rattle.std.proofs.Common.{◌≡◌, ◌-◌, ◌<◌, ◌≤◌, ◌++◌, ◌∷◌, [], take, ap, ◌∙◌, sym, subst, arith, List, inl, inr, true, false}
 use Rattle.std.specs.Prelude.{All, Contains, is_some}
 use Rattle.std.proofs.lemmas.Bool.{both_ways, cases_lt, false≢true}
 use Rattle.std.proofs.lemmas.List.Elements.{All-contains}
@@ -11,7 +11,7 @@ use Rattle.bs_solve.specs.Scan.{HasVariables}
 use Rattle.bs_solve.specs.Point.{is_alone_at}
 use Rattle.bs_solve.proofs.Lists.{get_within, Contains_from_get}
 use Rattle.bs_solve.proofs.Walks.{walk_end}
-use Rattle.bs_solve.proofs.Points.{PointWalk, point_start, point_past, point_step, alone_at_start, reason_at, walk_range}
+use Rattle.bs_solve.proofs.Points.{point_start, point_past, point_step, alone_at_start, reason_at, walk_range}
 use Rattle.bs_solve.proofs.analysis.first_point.Goals as goal
 
 pub loop-down-init : goal.loop-down-init

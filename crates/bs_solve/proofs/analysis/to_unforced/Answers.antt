@@ -1,17 +1,13 @@
-use Rattle.std.proofs.Common.{◌≡◌, ◌-◌, ◌<◌, ◌≤◌, ◌++◌, ◌∷◌, [], suc, length, take, ap, ◌∙◌, sym, subst, arith, List, inl, inr, ◌⊎◌, true, false, get_or, ℕ}
-use Rattle.std.specs.Prelude.{All, Contains, is_some}
-use Rattle.std.proofs.lemmas.Bool.{both_ways, cases_lt, false≢true}
+use Rattle.std.proofs.Common.{◌≡◌, ◌-◌, ◌<◌, ◌≤◌, ◌++◌, ◌∷◌, [], ap, ◌∙◌, sym, subst, arith, List, inl, inr, true}
+use Rattle.std.specs.Prelude.{Contains}
+use Rattle.std.proofs.lemmas.Bool.{both_ways}
 use Rattle.std.proofs.lemmas.List.Elements.{All-contains}
 use Rattle.std.proofs.lemmas.Option.{get_or_from_slice_get}
 use Rattle.bs_clause.specs.Literal.{Literal, Clause, negation}
 use Rattle.bs_log.specs.Refusal.{has_distinct_variables}
-use Rattle.bs_solve.specs.Trail.{IsFalseOn}
-use Rattle.bs_solve.specs.Places.{literals_of}
-use Rattle.bs_solve.specs.Scan.{HasVariables}
-use Rattle.bs_solve.specs.Point.{is_alone_at}
-use Rattle.bs_solve.proofs.Lists.{get_within, Contains_from_get}
+use Rattle.bs_solve.proofs.Lists.{Contains_from_get}
 use Rattle.bs_solve.proofs.Walks.{walk_end}
-use Rattle.bs_solve.proofs.Points.{FinalWalk, final_start, final_past, final_step, final_end, reason_at}
+use Rattle.bs_solve.proofs.Points.{final_start, final_past, final_step, final_end, reason_at}
 use Rattle.bs_solve.proofs.analysis.to_unforced.Goals as goal
 
 pub loop-down-init : goal.loop-down-init

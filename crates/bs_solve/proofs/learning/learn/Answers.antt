@@ -1,6 +1,5 @@
-use Rattle.std.proofs.Common.{◌≡◌, ◌≤◌, ◌<◌, ◌++◌, ◌∷◌, [], length, take, reverse, ap, ◌∙◌, sym, subst, arith, List, Some, ℕ}
-use Rattle.bs_clause.specs.Literal.{Literal, Clause, negation}
-use Rattle.bs_solve.specs.declared.place.Place.{Place}
+use Rattle.std.proofs.Common.{◌≡◌, ◌++◌, ◌∷◌, [], length, take, reverse, ap, ◌∙◌, sym, subst, Some}
+use Rattle.bs_clause.specs.Literal.{Clause}
 use Rattle.bs_solve.specs.Trail.{IsQuiet}
 use Rattle.bs_solve.specs.Places.{TrailState, literals_of, IsUnassigned}
 use Rattle.bs_solve.specs.Scan.{HasVariables}

@@ -1,6 +1,4 @@
-use Rattle.std.proofs.Common.{◌≡◌, ap, ◌∙◌, sym, subst, inl, true, reverse}
-use Rattle.bs_log.specs.Refusal.{denies}
-use Rattle.bs_solve.specs.Search.{assumed}
+use Rattle.std.proofs.Common.{subst, inl, reverse}
 use Rattle.bs_solve.specs.Book.{standing, ids_of}
 use Rattle.bs_solve.specs.Walk.{IsLearnt}
 use Rattle.bs_solve.proofs.Searching.{ending_lemma, learnt_range}

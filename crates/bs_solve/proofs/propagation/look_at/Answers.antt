@@ -1,8 +1,8 @@
-use Rattle.std.proofs.Common.{◌≡◌, ◌≤◌, length, take, ap, ◌∙◌, sym, arith, List, Some, None, [], ◌∷◌}
+use Rattle.std.proofs.Common.{◌≡◌, ap, ◌∙◌, sym, arith, [], ◌∷◌}
 use Rattle.std.specs.Option.{option_to_list}
 use Rattle.std.proofs.lemmas.List.{take_all}
 use Rattle.std.proofs.lemmas.List.Elements.{All-contains}
-use Rattle.bs_clause.specs.Literal.{Literal, has_literal, negation}
+use Rattle.bs_clause.specs.Literal.{has_literal}
 use Rattle.bs_log.specs.Propagation.{open_literals}
 use Rattle.bs_solve.specs.Places.{literals_of}
 use Rattle.bs_solve.specs.Scan.{IsWithin}

@@ -1,4 +1,4 @@
-use Rattle.std.proofs.Common.{◌≡◌, ◌∙◌}
+use Rattle.std.proofs.Common.{◌∙◌}
 use Rattle.bs_solve.proofs.Places.{grows_trans}
 use Rattle.bs_solve.proofs.propagation.propagate.Goals as goal
 

@@ -1,6 +1,6 @@
-use Rattle.std.proofs.Common.{◌≡◌, [], length, get_or, ap, ◌∙◌, sym, subst, List, true, false}
+use Rattle.std.proofs.Common.{◌≡◌, [], get_or, ◌∙◌, sym, subst, false}
 use Rattle.std.proofs.lemmas.List.{get_or_default}
-use Rattle.bs_clause.specs.Literal.{Literal, Clause}
+use Rattle.bs_clause.specs.Literal.{Clause}
 use Rattle.bs_solve.specs.Trail.{Forces, IsConflict}
 use Rattle.bs_solve.specs.Places.{TrailState, literals_of}
 use Rattle.bs_solve.specs.Scan.{Says, Visits}

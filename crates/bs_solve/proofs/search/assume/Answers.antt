@@ -1,4 +1,4 @@
-use Rattle.std.proofs.Common.{◌≡◌, length, take, sym, subst, refl}
+use Rattle.std.proofs.Common.{length, sym, subst, refl}
 use Rattle.std.proofs.lemmas.Option.{slice_get_read}
 use Rattle.bs_solve.specs.Places.{TrailState, IsUnassigned}
 use Rattle.bs_solve.proofs.Endings.{assumed_next}

@@ -1,5 +1,4 @@
-use Rattle.std.proofs.Common.{◌≡◌, ◌≤◌, length, ap, ◌∙◌, sym, subst, arith, List}
-use Rattle.bs_clause.specs.Literal.{Clause}
+use Rattle.std.proofs.Common.{sym, subst, arith}
 use Rattle.bs_solve.specs.Trail.{IsQuiet}
 use Rattle.bs_solve.specs.Places.{TrailState, IsSound, literals_of}
 use Rattle.bs_solve.specs.Grown.{Grows}

@@ -1,7 +1,6 @@
-use Rattle.std.proofs.Common.{◌≡◌, ◌≤◌, ◌+◌, ◌++◌, ◌∷◌, [], length, ap, ◌∙◌, sym, subst, arith, List, None, true}
+use Rattle.std.proofs.Common.{◌≡◌, ◌≤◌, ◌++◌, ◌∷◌, [], length, ap, ◌∙◌, sym, subst, None, true}
 use Rattle.std.specs.Prelude.{All}
 use Rattle.bs_log.specs.Refusal.{has_distinct_variables}
-use Rattle.bs_solve.specs.declared.propagation.Outcome.TheVariants.{Quiet}
 use Rattle.bs_solve.specs.Places.{TrailState}
 use Rattle.bs_solve.specs.Grown.{Grows}
 use Rattle.bs_solve.specs.Scan.{HasVariables, Propagates}

@@ -3,7 +3,7 @@ use Rattle.bs_clause.specs.Literal.{Clause, Literal, negation}
 use Rattle.bs_log.specs.declared.line.Line.TheVariants.{Retire}
 use Rattle.bs_log.specs.History.{guard_of, step_of}
 use Rattle.bs_solve.specs.Book.{standing, with_line, IsKept}
-use Rattle.bs_solve.proofs.Lines.{kept_with_retire, recorded_clause}
+use Rattle.bs_solve.proofs.Lines.{kept_with_retire, ids_with_retire, recorded_clause}
 use Rattle.bs_solve.proofs.recording.Recording.log_retire.Goals as goal
 
 pub invariant_of-self-in-Ok : goal.invariant_of-self-in-Ok
@@ -17,8 +17,9 @@ invariant_of-self-in-Ok c =
     let next : c.in_ok-id.id ≡ length (standing now) + 1 =
     omega (arith, c.in_ok-id.ensures, c.len.ensures, inside.clauses.ok.0, ap length (c.self.invariant.same ∙ ap standing c.self.view_is)) in
     let kept = kept_with_retire now c.in_ok-id.id (subst IsKept c.self.view_is c.self.invariant.kept) next c.requires.phase in
-    let recorded = recorded_clause inside.axioms inside.vars inside.steps inside.clauses.items inside.log c.push_clause.new.clauses.items c.push.new.self (Retire c.in_ok-id.id) retired now
-    c.self.view_is c.self.invariant is_more c.in-Ok.ensures.ok kept.0 kept.1 in
+    let recorded = recorded_clause inside.axioms inside.vars inside.lemmas.items inside.steps inside.clauses.items inside.log c.push_clause.new.clauses.items c.push.new.self (Retire c.in_ok-id.id) retired now
+    c.self.view_is c.self.invariant is_more c.in-Ok.ensures.ok kept.0 kept.1
+    (ids_with_retire now c.in_ok-id.id (subst IsKept c.self.view_is c.self.invariant.kept) next) in
     recorded.0
 
 pub returns-in-Ok-clause-line : goal.returns-in-Ok-clause-line
@@ -32,8 +33,9 @@ returns-in-Ok-clause-line c =
     let next : c.in_ok-id.id ≡ length (standing now) + 1 =
     omega (arith, c.in_ok-id.ensures, c.len.ensures, inside.clauses.ok.0, ap length (c.self.invariant.same ∙ ap standing c.self.view_is)) in
     let kept = kept_with_retire now c.in_ok-id.id (subst IsKept c.self.view_is c.self.invariant.kept) next c.requires.phase in
-    let recorded = recorded_clause inside.axioms inside.vars inside.steps inside.clauses.items inside.log c.push_clause.new.clauses.items c.push.new.self (Retire c.in_ok-id.id) retired now
-    c.self.view_is c.self.invariant is_more c.in-Ok.ensures.ok kept.0 kept.1 in
+    let recorded = recorded_clause inside.axioms inside.vars inside.lemmas.items inside.steps inside.clauses.items inside.log c.push_clause.new.clauses.items c.push.new.self (Retire c.in_ok-id.id) retired now
+    c.self.view_is c.self.invariant is_more c.in-Ok.ensures.ok kept.0 kept.1
+    (ids_with_retire now c.in_ok-id.id (subst IsKept c.self.view_is c.self.invariant.kept) next) in
     recorded.1 ∙ ap (λ n. with_line now (Retire n)) next
 
 pub returns-in-Ok-clause-stands : goal.returns-in-Ok-clause-stands
@@ -47,6 +49,7 @@ returns-in-Ok-clause-stands c =
     let next : c.in_ok-id.id ≡ length (standing now) + 1 =
     omega (arith, c.in_ok-id.ensures, c.len.ensures, inside.clauses.ok.0, ap length (c.self.invariant.same ∙ ap standing c.self.view_is)) in
     let kept = kept_with_retire now c.in_ok-id.id (subst IsKept c.self.view_is c.self.invariant.kept) next c.requires.phase in
-    let recorded = recorded_clause inside.axioms inside.vars inside.steps inside.clauses.items inside.log c.push_clause.new.clauses.items c.push.new.self (Retire c.in_ok-id.id) retired now
-    c.self.view_is c.self.invariant is_more c.in-Ok.ensures.ok kept.0 kept.1 in
+    let recorded = recorded_clause inside.axioms inside.vars inside.lemmas.items inside.steps inside.clauses.items inside.log c.push_clause.new.clauses.items c.push.new.self (Retire c.in_ok-id.id) retired now
+    c.self.view_is c.self.invariant is_more c.in-Ok.ensures.ok kept.0 kept.1
+    (ids_with_retire now c.in_ok-id.id (subst IsKept c.self.view_is c.self.invariant.kept) next) in
     ap standing recorded.1 ∙ kept.1 ∙ ap (λ (g : Literal). standing now ++ (negation g ∷ []) ∷ []) (sym c.requires.guard)

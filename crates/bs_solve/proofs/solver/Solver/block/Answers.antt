@@ -1,11 +1,9 @@
-use Rattle.std.proofs.Common.{◌≡◌, ◌≤◌, ◌<◌, ◌∷◌, ap, ◌∙◌, sym, subst, arith, true, false}
-use Rattle.bs_clause.specs.Literal.{Literal, Clause}
+use Rattle.std.proofs.Common.{◌≡◌, ◌∷◌, ap, ◌∙◌, sym, subst, arith, false}
 use Rattle.bs_log.specs.Refusal.{has_distinct_variables, is_block_of}
 use Rattle.bs_log.specs.History.{step_of}
 use Rattle.bs_solve.specs.Scan.{HasVariables}
-use Rattle.bs_solve.specs.Stages.{IsSearched}
 use Rattle.bs_solve.specs.Solver.{SolverState}
-use Rattle.bs_solve.proofs.Solving.{solved_inside, guard_is_new, block_distinct, block_fits, block_range, ready_blocked}
+use Rattle.bs_solve.proofs.Solving.{solved_inside, guard_is_new, block_distinct, block_fits, block_range, ready_blocked, has_blocked}
 use Rattle.bs_solve.proofs.solver.Solver.block.Goals as goal
 
 pub new-requires : goal.new-requires
@@ -42,3 +40,11 @@ invariant_of-self-2 c =
     c.in_ok-id.ensures.line c.in_ok-id.ensures.stands
     (subst (HasVariables inside.vars) (sym clause_is) (block_range inside.book.problem.vars inside.vars c.args.lits.now above range))
     (ap has_distinct_variables clause_is ∙ block_distinct inside.book.problem.vars inside.vars c.args.lits.now above range c.requires.distinct)
+
+pub returns-clause-ok : goal.returns-clause-ok
+returns-clause-ok c =
+    let inside : SolverState = record { book = c.self.inside.book; vars = c.self.inside.vars; stage = c.self.inside.stage; failed = c.self.inside.failed } in
+    let searched = solved_inside inside _ c.self.view_is c.self.invariant c.if-self.false c.requires.stage in
+    has_blocked inside c.args.self.now c.log_block.new.self c.args.lits.now c.in_ok-clause.clause c.in_ok-id.id c.self.view_is c.if-self.false searched.inside
+    (c.in_ok-clause.ensures ∙ ap (λ l. l ∷ c.slice.result.now) c.new.ensures ∙ ap (λ xs. record { variable = c.self.inside.vars; positive = false } ∷ xs) c.slice.ensures)
+    c.in_ok-id.ensures.id c.in_ok-id.ensures.line c.in_ok-id.ensures.stands

@@ -1,4 +1,4 @@
-use Rattle.std.proofs.Common.{◌≡◌, ◌≤◌, ◌<◌, ap, ◌∙◌, sym, arith}
+use Rattle.std.proofs.Common.{◌∙◌, arith}
 use Rattle.bs_solve.specs.Solver.{SolverState}
 use Rattle.bs_solve.proofs.Solving.{step_facts, ends_step, guard_is_new, finished_phase, guard_is, ready_after_end, has_ended}
 use Rattle.bs_solve.proofs.solver.Solver.end_step.Goals as goal

@@ -1,7 +1,5 @@
-use Rattle.std.proofs.Common.{◌≡◌, ◌≤◌, ◌<◌, ◌-◌, ◌++◌, ◌∷◌, [], length, set, ap, ◌∙◌, arith, vec_len, Some, sym, subst}
-use Rattle.std.specs.Prelude.{vec_capacity}
+use Rattle.std.proofs.Common.{◌≡◌, ◌≤◌, ◌-◌, ◌++◌, ◌∷◌, [], length, set, ap, ◌∙◌, arith, Some, sym, subst}
 use Rattle.std.proofs.lemmas.List.{length-set, length_push}
-use Rattle.bs_clause.specs.Literal.{Literal}
 use Rattle.bs_solve.specs.Trail.{IsOpenOn}
 use Rattle.bs_solve.specs.declared.place.Place.{Place}
 use Rattle.bs_solve.specs.Places.{TrailState, HasPositions, literals_of}

@@ -1,10 +1,10 @@
-use Rattle.std.proofs.Common.{◌≡◌, ◌≤◌, ◌<◌, ◌-◌, length, ap, ◌∙◌, sym, subst, arith, None, Some, Option, ℕ, get_or, take}
+use Rattle.std.proofs.Common.{◌≡◌, ◌≤◌, ◌-◌, length, ap, ◌∙◌, sym, subst, arith, None, Some, get_or, take}
 use Rattle.std.specs.Prelude.{slice_get}
 use Rattle.std.proofs.lemmas.Bool.{le-ltb}
 use Rattle.std.proofs.lemmas.List.{get_or_default}
 use Rattle.std.proofs.lemmas.Option.{slice_get_read}
 use Rattle.std.specs.Bool.{beq}
-use Rattle.bs_clause.specs.Literal.{Literal, has_literal}
+use Rattle.bs_clause.specs.Literal.{has_literal}
 use Rattle.bs_solve.specs.Places.{TrailState, literals_of}
 use Rattle.bs_solve.proofs.Positions.{none_before, past_end, before_end, at_within}
 use Rattle.bs_solve.proofs.trail.Trail.is_true_before.Goals as goal

@@ -1,4 +1,4 @@
-use Rattle.std.proofs.Common.{◌≡◌, ◌≤◌, length, subst}
+use Rattle.std.proofs.Common.{◌≤◌, length, subst}
 use Rattle.bs_solve.specs.Places.{TrailState}
 use Rattle.bs_solve.proofs.Positions.{at_most}
 use Rattle.bs_solve.proofs.trail.Trail.len.Goals as goal

@@ -1,7 +1,6 @@
-use Rattle.std.proofs.Common.{◌≡◌, ◌≤◌, ◌-◌, ◌++◌, ◌∷◌, [], length, ap, ◌∙◌, sym, subst, arith, None, List}
+use Rattle.std.proofs.Common.{◌≡◌, ◌-◌, ◌++◌, ◌∷◌, [], length, ap, ◌∙◌, sym, subst, arith, None}
 use Rattle.std.specs.Option.{option_to_list}
 use Rattle.std.proofs.lemmas.List.{length-set}
-use Rattle.bs_solve.specs.declared.place.Place.{Place}
 use Rattle.bs_solve.specs.Places.{HasPositions}
 use Rattle.bs_solve.proofs.Positions.{positions_pop}
 use Rattle.bs_solve.proofs.trail.Trail.undo.Goals as goal
