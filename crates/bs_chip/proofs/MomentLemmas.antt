@@ -1,6 +1,6 @@
 -- The least moment, run by run.
-use Rattle.std.proofs.Common.{◌≡◌, ℕ, suc, zero, ◌<◌, ◌≤◌, ◌+◌, Bool, true, false, List, [], length, refl, arith, ap, sym, subst, ◌∙◌, ◌⊎◌, inl, inr, ⊎_elim, Option, Some, None, min}
-use Rattle.std.specs.Prelude.{MatchOption, IfSome, IsTrue}
+use Rattle.std.proofs.Common.{◌≡◌, ℕ, suc, zero, ◌<◌, ◌≤◌, ◌+◌, Bool, true, List, length, refl, arith, ap, sym, subst, ◌∙◌, ◌⊎◌, inl, inr, ⊎_elim, Option, Some, None, min}
+use Rattle.std.specs.Prelude.{MatchOption, IfSome}
 use Rattle.std.proofs.lemmas.Bool.{true≢false}
 use Rattle.std.proofs.Math.Nat.{eq-or-lt_of_le}
 use Rattle.bs_net.specs.Circuit.{Circuit}
@@ -10,7 +10,7 @@ use Rattle.bs_scan.proofs.MomentLemmas.{first_is_least}
 use Rattle.std.proofs.lemmas.List.{length-map}
 use Rattle.bs_stim.specs.Runs.{Recorded, Stimulus, run_at, inputs_of}
 use Rattle.bs_chip.proofs.ReplayLemmas.{run_inputs}
-use Rattle.bs_chip.specs.Replay.{lists, NoneListed, IsFirstCycle, IsLeast, IsBest, moment}
+use Rattle.bs_chip.specs.Replay.{lists, NoneListed, IsFirstCycle, IsBest, moment}
 
 order_cases : (a b : ℕ) → a ≤ b → (a ≡ b) ⊎ (a < b)
 order_cases a b le = eq-or-lt_of_le le

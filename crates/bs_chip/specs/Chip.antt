@@ -1,5 +1,5 @@
 -- The chip: a netlist that replays recorded runs, with a signature register and a scan chain.
-use Rattle.std.specs.Prelude.{◌≡◌, List, Bool, length}
+use Rattle.std.specs.Prelude.{◌≡◌, List, length}
 use Rattle.bs_net.specs.Circuit.{Circuit}
 use Rattle.bs_net.specs.Netlist.{Checked, circuit}
 use Rattle.bs_stim.specs.Runs.{Stimulus, inputs_of}

@@ -2,3 +2,4 @@
 pub mod Chip
 -- what inner functions promise each other
 pub mod Replay
+pub mod Listed

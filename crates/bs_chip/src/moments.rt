@@ -2,10 +2,11 @@
 ghost use Rattle.std.specs.Prelude.{◌≡◌, ◌<◌, ◌≤◌, ◌+◌, length, option_map, min, MatchOption, IfOk, IfSome};
 ghost use Rattle.bs_net.specs.Netlist.{circuit};
 ghost use Rattle.bs_stim.specs.Runs.{run_at, inputs_of};
-ghost use Rattle.bs_scan.specs.Moments.{state_at, is_listed as is_listed_in, first_moment as first_moment_of};
+ghost use Rattle.bs_scan.specs.Moments.{state_at, first_moment as first_moment_of};
 ghost use Rattle.bs_scan.specs.Signature.{stored_at};
 ghost use Rattle.bs_chip.specs.Replay.{NoneListed, IsFirstCycle, IsBest, IsPlaced, moment};
 
+use crate::listed::Listed;
 use bs_bits::{Bits, NoMemory};
 use bs_net::Netlist;
 use bs_scan::{Chain, SigReg};
@@ -53,13 +54,6 @@ pub fn unload(alloc: Global, state: Bits) -> Result<Bits, NoMemory>
     Ok(bits)
 }
 
-/// Whether a state stands in a list.
-fn is_listed(list: &[Bits], state: &Bits) -> bool
-    ensures { result ≡ is_listed_in list.now state.now }
-{
-    list.iter().any(|listed| state.equals(listed))
-}
-
 /// The first cycle below a limit at which the state of a run is listed.
 fn first_cycle(
     sim: &mut Sim<'_>,
@@ -67,7 +61,7 @@ fn first_cycle(
     runs: &Runs,
     run: u32,
     limit: u32,
-    list: &[Bits],
+    list: &Listed<'_>,
 ) -> Option<u32>
     requires net { sim.old.net ≡ net.now }
     requires inputs { runs.now.width ≡ length (circuit net.now).inputs }
@@ -79,12 +73,12 @@ fn first_cycle(
     ensures first { MatchOption result (NoneListed (circuit net.now) (run_at runs.now run).inputs list.now limit) (IsFirstCycle (circuit net.now) (run_at runs.now run).inputs list.now limit) }
 {
     sim.load(net.reset());
-    if is_listed(list, sim.state()) {
+    if list.has(sim.state()) {
         return Some(0);
     }
     'cycles: for cycle in 1..limit {
         sim.step(runs.input(run, cycle - 1));
-        if is_listed(list, sim.state()) {
+        if list.has(sim.state()) {
             return Some(cycle);
         }
     }
@@ -115,7 +109,7 @@ fn nearer(
     net: &Netlist,
     runs: &Runs,
     run: u32,
-    list: &[Bits],
+    list: &Listed<'_>,
     best: Option<(u32, u32)>,
 ) -> Option<(u32, u32)>
     requires net { sim.old.net ≡ net.now }
@@ -141,7 +135,7 @@ pub fn first_moment(
     sim: &mut Sim<'_>,
     net: &Netlist,
     runs: &Runs,
-    list: &[Bits],
+    list: &Listed<'_>,
 ) -> Option<(u32, u32)>
     requires net { sim.old.net ≡ net.now }
     requires inputs { runs.now.width ≡ length (circuit net.now).inputs }

@@ -6,6 +6,7 @@ ghost use Rattle.bs_scan.specs.Moments.{first_moment as first_moment_of};
 ghost use Rattle.bs_chip.specs.Chip.{Chipped, IsFitting, IsDumpOf, circuit_in, runs_in, moment_of};
 ghost use Rattle.bs_chip.specs.Replay.{moment};
 
+use crate::listed::Listed;
 use crate::moments::{first_moment, replay, unload};
 use bs_bits::{Bits, NoMemory};
 use bs_net::Netlist;
@@ -110,7 +111,8 @@ impl<'a> Chip<'a> {
         ensures choice { self.new.choice ≡ self.old.choice }
         ensures runs { self.new.runs ≡ self.old.runs }
     {
-        match first_moment(&mut self.sim, self.net, self.runs, list) {
+        let listed = Listed::new(alloc, list)?;
+        match first_moment(&mut self.sim, self.net, self.runs, &listed) {
             Some((run, cycle)) => {
                 let dump = self.dump_at(alloc, run, cycle)?;
                 Ok(Some(Hit { run, cycle, dump }))

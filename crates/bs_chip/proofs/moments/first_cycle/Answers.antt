@@ -5,12 +5,12 @@ use Rattle.bs_scan.specs.Moments.{state_at}
 use Rattle.bs_chip.proofs.ReplayLemmas.{state_first, state_to, listed_at, none_below, unlisted_more}
 use Rattle.bs_chip.proofs.moments.first_cycle.Goals as goal
 
-pub returns-then-is_listed-clause-first : goal.returns-then-is_listed-clause-first
-returns-then-is_listed-clause-first c =
+pub returns-then-has-clause-first : goal.returns-then-has-clause-first
+returns-then-has-clause-first c =
     let here = c.load.ensures.state ∙ (c.reset.ensures ∙ sym (state_first (circuit c.args.net.now) (run_at c.args.runs.now c.args.run).inputs)) in
     record {
       within = c.requires.some;
-      listed = listed_at (circuit c.args.net.now) (run_at c.args.runs.now c.args.run).inputs c.args.list.now 0 c.state.result.now c.is_listed.result true (c.state.ensures ∙ here) c.is_listed.ensures c.if-is_listed.true;
+      listed = listed_at (circuit c.args.net.now) (run_at c.args.runs.now c.args.run).inputs c.args.list.now 0 c.state.result.now c.has.result true (c.state.ensures ∙ here) c.has.ensures c.if-has.true;
       before = none_below (circuit c.args.net.now) (run_at c.args.runs.now c.args.run).inputs c.args.list.now;
     }
 
@@ -22,18 +22,18 @@ cycles-init c =
       state = here;
       unlisted =
           unlisted_more (circuit c.args.net.now) (run_at c.args.runs.now c.args.run).inputs c.args.list.now 0 (none_below (circuit c.args.net.now) (run_at c.args.runs.now c.args.run).inputs c.args.list.now)
-          (listed_at (circuit c.args.net.now) (run_at c.args.runs.now c.args.run).inputs c.args.list.now 0 c.state.result.now c.is_listed.result false (c.state.ensures ∙ here) c.is_listed.ensures c.if-is_listed.false);
+          (listed_at (circuit c.args.net.now) (run_at c.args.runs.now c.args.run).inputs c.args.list.now 0 c.state.result.now c.has.result false (c.state.ensures ∙ here) c.has.ensures c.if-has.false);
     }
 
-pub returns-then-is_listed-2-clause-first : goal.returns-then-is_listed-2-clause-first
-returns-then-is_listed-2-clause-first c =
+pub returns-then-has-2-clause-first : goal.returns-then-has-2-clause-first
+returns-then-has-2-clause-first c =
     let here =
     (rw c.cycles.invariant.net at c.step.ensures.state)
     ∙ state_to (circuit c.args.net.now) (run_at c.args.runs.now c.args.run).inputs c.cycles.cycle c.cycles.sim.state c.input.result.now c.cycles.auto.cycle c.cycles.invariant.state c.input.ensures.value in
     record {
       within = c.cycles-test.true;
-      listed = listed_at (circuit c.args.net.now) (run_at c.args.runs.now c.args.run).inputs c.args.list.now c.cycles.cycle c.state-in-cycles.result.now c.is_listed-in-cycles.result true (c.state-in-cycles.ensures ∙ here)
-          c.is_listed-in-cycles.ensures c.if-is_listed-2.true;
+      listed = listed_at (circuit c.args.net.now) (run_at c.args.runs.now c.args.run).inputs c.args.list.now c.cycles.cycle c.state-in-cycles.result.now c.has-in-cycles.result true (c.state-in-cycles.ensures ∙ here)
+          c.has-in-cycles.ensures c.if-has-2.true;
       before = c.cycles.invariant.unlisted;
     }
 
@@ -48,6 +48,6 @@ cycles-preserved c =
       state = here ∙ ap (state_at (circuit c.args.net.now) (run_at c.args.runs.now c.args.run).inputs) back;
       unlisted =
           unlisted_more (circuit c.args.net.now) (run_at c.args.runs.now c.args.run).inputs c.args.list.now c.cycles.cycle c.cycles.invariant.unlisted
-          (listed_at (circuit c.args.net.now) (run_at c.args.runs.now c.args.run).inputs c.args.list.now c.cycles.cycle c.state-in-cycles.result.now c.is_listed-in-cycles.result false (c.state-in-cycles.ensures ∙ here)
-          c.is_listed-in-cycles.ensures c.if-is_listed-2.false);
+          (listed_at (circuit c.args.net.now) (run_at c.args.runs.now c.args.run).inputs c.args.list.now c.cycles.cycle c.state-in-cycles.result.now c.has-in-cycles.result false (c.state-in-cycles.ensures ∙ here)
+          c.has-in-cycles.ensures c.if-has-2.false);
     }
