@@ -1,0 +1,83 @@
+-- The clauses of small circuits, computed by the definitions.
+use Rattle.std.proofs.Common.{◌≡◌, ℕ, true, false, List, [], ◌∷◌, length, refl}
+use Rattle.bs_net.specs.declared.net.NetId.{NetId}
+use Rattle.bs_net.specs.declared.net.Kind.TheVariants.{And, Nand, Or, Nor, Not, Xnor}
+use Rattle.bs_net.specs.declared.net.Kind.{Kind}
+use Rattle.bs_net.specs.declared.net.Gate.{Gate}
+use Rattle.bs_net.specs.declared.net.Flop.{Flop}
+use Rattle.bs_net.specs.Circuit.{Circuit}
+use Rattle.bs_encode.specs.Tables.{lit}
+use Rattle.bs_encode.specs.Transition.{transition_clauses, variables}
+
+abbrev net : ℕ → NetId
+net n = record { 0 = n }
+
+-- the inverter of q drives d: nets ck, d, q
+abbrev toggle : Circuit
+toggle =
+    record {
+      nets = 3;
+      clock = net 0;
+      inputs = [];
+      flops = record { q = net 2; d = net 1; ck = net 0; reset = false } ∷ [];
+      gates = record { kind = Not; out = net 1; ins = net 2 ∷ [] } ∷ [];
+      constants = [];
+    }
+
+toggle_clauses : transition_clauses toggle [] ≡
+    (lit 2 false ∷ lit 3 false ∷ []) ∷ (lit 2 true ∷ lit 3 true ∷ []) ∷ (lit 1 false ∷ []) ∷ (lit 4 false ∷ lit 2 true ∷ []) ∷ (lit 4 true ∷ lit 2 false ∷ []) ∷ []
+toggle_clauses = refl
+
+toggle_variables : variables toggle [] ≡ 4
+toggle_variables = refl
+
+-- a flip-flop that is named twice in an item makes two tautologies, which take no id
+twice_clauses : transition_clauses toggle ((0 ∷ 0 ∷ []) ∷ []) ≡
+    (lit 2 false ∷ lit 3 false ∷ []) ∷ (lit 2 true ∷ lit 3 true ∷ []) ∷ (lit 1 false ∷ []) ∷ (lit 4 false ∷ lit 2 true ∷ []) ∷ (lit 4 true ∷ lit 2 false ∷ [])
+    ∷ (lit 5 false ∷ lit 3 true ∷ []) ∷ (lit 5 false ∷ lit 3 false ∷ []) ∷ []
+twice_clauses = refl
+
+-- s27 (GND VDD CK G0 G1 G17 G2 G3 G5 G10 G6 G11 G7 G13 G14 G8 G15 G12 G16 G9), with the item of G5
+abbrev gate : Kind → ℕ → List NetId → Gate
+gate k z ins = record { kind = k; out = net z; ins = ins }
+
+abbrev flop : ℕ → ℕ → Flop
+flop q d = record { q = net q; d = net d; ck = net 2; reset = false }
+
+abbrev s27 : Circuit
+s27 =
+    record {
+      nets = 20;
+      clock = net 2;
+      inputs = net 0 ∷ net 1 ∷ net 3 ∷ net 4 ∷ net 6 ∷ net 7 ∷ [];
+      flops = flop 8 9 ∷ flop 10 11 ∷ flop 12 13 ∷ [];
+      gates =
+          gate Not 14 (net 3 ∷ []) ∷ gate Not 5 (net 11 ∷ []) ∷ gate And 15 (net 14 ∷ net 10 ∷ []) ∷ gate Or 16 (net 17 ∷ net 15 ∷ [])
+          ∷ gate Or 18 (net 7 ∷ net 15 ∷ []) ∷ gate Nand 19 (net 18 ∷ net 16 ∷ []) ∷ gate Nor 9 (net 14 ∷ net 11 ∷ [])
+          ∷ gate Nor 11 (net 8 ∷ net 19 ∷ []) ∷ gate Nor 17 (net 4 ∷ net 12 ∷ []) ∷ gate Nor 13 (net 6 ∷ net 17 ∷ []) ∷ [];
+      constants = [];
+    }
+
+s27_variables : variables s27 ((0 ∷ []) ∷ []) ≡ 24
+s27_variables = refl
+
+s27_clauses : length (transition_clauses s27 ((0 ∷ []) ∷ [])) ≡ 37
+s27_clauses = refl
+
+-- an xnor of three inputs, one of them the constant 0: nets ck, q0, q1, d0, d1, 1'b0
+abbrev xnor_of_three : Circuit
+xnor_of_three =
+    record {
+      nets = 6;
+      clock = net 0;
+      inputs = [];
+      flops = record { q = net 1; d = net 3; ck = net 0; reset = false } ∷ record { q = net 2; d = net 4; ck = net 0; reset = false } ∷ [];
+      gates = gate Xnor 3 (net 1 ∷ net 2 ∷ net 5 ∷ []) ∷ gate Nand 4 (net 1 ∷ []) ∷ [];
+      constants = record { net = net 5; value = false } ∷ [];
+    }
+
+xnor_variables : variables xnor_of_three [] ≡ 9
+xnor_variables = refl
+
+xnor_clauses : length (transition_clauses xnor_of_three []) ≡ 16
+xnor_clauses = refl

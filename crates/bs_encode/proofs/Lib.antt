@@ -1,0 +1,7 @@
+pub mod TidyLemmas
+pub mod TableLemmas
+pub mod PartLemmas
+pub mod LawLemmas
+pub mod UnitLemmas
+pub mod Examples
+pub mod RoomLemmas

@@ -1,0 +1,32 @@
+-- What a contract sees of an encoding.
+use Rattle.std.specs.Prelude.{ℕ, true, List, map, length}
+use Rattle.std.specs.List.{range_with_len}
+use Rattle.bs_clause.specs.Literal.{Literal, Clause}
+use Rattle.bs_net.specs.Circuit.{Circuit}
+use Rattle.bs_encode.specs.Tables.{lit}
+use Rattle.bs_encode.specs.Transition.{transition_clauses, variables, net_var, state_vars, first_next, first_item, item_vars}
+
+-- the clauses, the number of variables, and the literals of the state, the next state, the signature and the inputs
+pub record Encoded : Type 0 where
+  pub clauses : List Clause
+  pub variables : ℕ
+  pub states : List Literal
+  pub next : List Literal
+  pub signatures : List Literal
+  pub inputs : List Literal
+
+-- the literals of some variables
+abbrev pub literals : List ℕ → List Literal
+literals vs = map (λ v. lit v true) vs
+
+-- the encoding of a circuit and of what its signature is taken of
+abbrev pub encoding_of : Circuit → List (List ℕ) → Encoded
+encoding_of c items =
+    record {
+      clauses = transition_clauses c items;
+      variables = variables c items;
+      next = literals (range_with_len (first_next c) (length c.flops));
+      states = literals (state_vars c);
+      signatures = literals (item_vars (first_item c) items);
+      inputs = literals (map net_var c.inputs);
+    }

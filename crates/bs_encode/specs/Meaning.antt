@@ -1,0 +1,41 @@
+-- What the transition clauses say: exactly the valuations that fit, with their next states and signatures.
+use Rattle.std.specs.Prelude.{◌≡◌, ℕ, ◌+◌, ◌<◌, Bool, List, length, map, All}
+use Rattle.std.specs.List.{range_with_len}
+use Rattle.bs_clause.specs.Literal.{Meets}
+use Rattle.bs_net.specs.Circuit.{Circuit, Fits, shown, state_nets, next_state}
+use Rattle.bs_scan.specs.Signature.{parity_of}
+use Rattle.bs_encode.specs.Transition.{transition_clauses, first_next, first_item, item_vars}
+
+-- every net of the circuit, and every flip-flop of the items, is there
+pub record IsPlaced (c : Circuit) (items : List (List ℕ)) : Type 0 where
+  pub outs : All (λ g. g.out.0 < c.nets) c.gates
+  pub ins : All (λ g. All (λ n. n.0 < c.nets) g.ins) c.gates
+  pub inputs : All (λ n. n.0 < c.nets) c.inputs
+  pub loads : All (λ f. f.d.0 < c.nets) c.flops
+  pub states : All (λ f. f.q.0 < c.nets) c.flops
+  pub constants : All (λ k. k.net.0 < c.nets) c.constants
+  pub items_placed : All (λ item. All (λ i. i < length c.flops) item) items
+
+-- the bits that an assignment shows on the nets, on the next variables, and on the signature variables
+abbrev pub nets_of : Circuit → (ℕ → Bool) → List Bool
+nets_of c a = map (λ n. a (n + 1)) (range_with_len 0 c.nets)
+
+abbrev pub next_of : Circuit → (ℕ → Bool) → List Bool
+next_of c a = map a (range_with_len (first_next c) (length c.flops))
+
+abbrev pub signature_of : Circuit → List (List ℕ) → (ℕ → Bool) → List Bool
+signature_of c items a = map a (item_vars (first_item c) items)
+
+-- the assignment shows a valuation that fits the state and the input, its next state, and the state's signature
+pub record ShowsStep (c : Circuit) (items : List (List ℕ)) (s x v : List Bool) (a : ℕ → Bool) : Type 0 where
+  pub valuation : nets_of c a ≡ v
+  pub fits : Fits c s x v
+  pub next : next_of c a ≡ next_state c v
+  pub signature : signature_of c items a ≡ map (parity_of s) items
+
+-- clauses equal gates: every valuation that fits extends to an assignment that meets the clauses, and every assignment
+-- that meets them shows a valuation that fits its own state and input
+pub record ClausesEqualGates (c : Circuit) (items : List (List ℕ)) : Type 0 where
+  pub extends : (s x v : List Bool) → Fits c s x v → (a : ℕ → Bool) × All (Meets a) (transition_clauses c items) × ShowsStep c items s x v a
+  pub fits : (a : ℕ → Bool) → All (Meets a) (transition_clauses c items) →
+      ShowsStep c items (shown (nets_of c a) (state_nets c)) (shown (nets_of c a) c.inputs) (nets_of c a) a

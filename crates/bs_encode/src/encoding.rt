@@ -1,0 +1,202 @@
+//! The encoding of a netlist and what its signature is taken of.
+ghost use Rattle.std.specs.Prelude.{◌≡◌, ◌<◌, ◌≤◌, ◌+◌, ◌^◌, ◌++◌, true, length, map, All, IfOk, OnOk, Some, slice_get};
+ghost use Rattle.std.specs.List.{range_with_len};
+ghost use Rattle.bs_clause.specs.Literal.{IsVariable};
+ghost use Rattle.bs_net.specs.Netlist.{circuit};
+ghost use Rattle.bs_encode.specs.Tables.{lit};
+ghost use Rattle.bs_encode.specs.Transition.{table_clauses, state_vars, net_var, item_vars, first_item, first_next, variables};
+ghost use Rattle.bs_encode.specs.Encoded.{literals, encoding_of};
+
+use crate::parts::{add_gates, add_items, add_next, variable};
+use crate::tidy::tidy;
+use crate::units::{add_units, constant_table, zero_nets};
+use bs_clause::{Clauses, Lit, Lits, NoMemory, Var};
+use bs_net::{Flop, NetId, Netlist};
+use bs_scan::Choice;
+use std::alloc::Global;
+use std::marker::Model;
+
+/// The variables that show the state.
+fn state_variables(alloc: Global, flops: &[Flop]) -> Result<Vec<u32>, NoMemory>
+    requires { All (λ f. f.q.0 < 100000) flops.now }
+    ensures value { IfOk result (λ l. l.items ≡ map (λ f. net_var f.q) flops.now) }
+    ensures range { IfOk result (λ l. All IsVariable l.items) }
+{
+    let mut states = Vec::new(alloc);
+    for flop in flops {
+        states.push(variable(flop.q))?;
+    }
+    Ok(states)
+}
+
+/// The clauses as the tables give them, the first next variable, and the first variable after all.
+#[derive(Drop)]
+struct Laid {
+    clauses: Clauses,
+    next: u32,
+    end: u32,
+}
+
+/// The clauses of the tables; the literals of the items go into `own`.
+fn lay(
+    alloc: Global,
+    net: &Netlist,
+    states: &[u32],
+    choice: &Choice,
+    own: &mut Lits,
+) -> Result<Laid, NoMemory>
+    requires states { states.now ≡ state_vars (circuit net.now) }
+    requires range { All IsVariable states.now }
+    requires width { choice.now.width ≡ length states.now }
+    requires few { All (λ item. length item < 2 ^ 30) choice.now.items }
+    requires room { variables (circuit net.now) choice.now.items < 2 ^ 30 }
+    ensures clauses { IfOk result (λ l. l.clauses ≡ table_clauses (circuit net.now) choice.now.items) }
+    ensures next { IfOk result (λ l. l.next ≡ first_next (circuit net.now)) }
+    ensures end { IfOk result (λ l. l.end ≡ variables (circuit net.now) choice.now.items + 1) }
+    ensures own { OnOk result (own.new ≡ own.old ++ map (λ u. lit u true) (item_vars (first_item (circuit net.now)) choice.now.items)) }
+{
+    let _order = net.order();
+    let raw = net.raw();
+    let zero = zero_nets(alloc, net)?;
+    let values = constant_table(alloc, raw.names.len() as usize, raw.consts.slice())?;
+    let mut into = Clauses::new(alloc);
+    let next = add_gates(alloc, &mut into, raw.names.len() + 1, raw.gates.slice())?;
+    add_units(alloc, &mut into, zero.as_slice(), values.as_slice())?;
+    add_next(alloc, &mut into, next, raw.flops.slice())?;
+    let item = next + raw.flops.len() as u32;
+    let end = add_items(alloc, &mut into, own, states, item, choice)?;
+    Ok(Laid {
+        clauses: into,
+        next,
+        end,
+    })
+}
+
+/// The positive literals of variables.
+fn literals_of(alloc: Global, variables: &[u32]) -> Result<Lits, NoMemory>
+    requires { All IsVariable variables.now }
+    ensures { IfOk result (λ l. l ≡ literals variables.now) }
+{
+    let mut all = Lits::new(alloc);
+    for &v in variables {
+        all.push(Lit::new(Var(v), true))?;
+    }
+    Ok(all)
+}
+
+/// The positive literals of so many variables from one on.
+fn literals_from(alloc: Global, first: u32, count: usize) -> Result<Lits, NoMemory>
+    requires { (1 ≤ first) × (first + count ≤ 2 ^ 30) }
+    ensures { IfOk result (λ l. l ≡ literals (range_with_len first count)) }
+{
+    let mut all = Lits::new(alloc);
+    for i in 0..count {
+        all.push(Lit::new(Var(first + i as u32), true))?;
+    }
+    Ok(all)
+}
+
+/// The literals of nets.
+fn net_literals(alloc: Global, nets: &[NetId]) -> Result<Lits, NoMemory>
+    requires { All (λ n. n.0 < 100000) nets.now }
+    ensures { IfOk result (λ l. l ≡ literals (map net_var nets.now)) }
+{
+    let mut all = Lits::new(alloc);
+    for &net in nets {
+        all.push(Lit::new(Var(variable(net)), true))?;
+    }
+    Ok(all)
+}
+
+/// The transition relation of a netlist as clauses, with the literals of its state, its next state,
+/// its inputs and its signature.
+#[derive(Drop)]
+pub struct Encoding {
+    clauses: Clauses,
+    variables: u32,
+    states: Lits,
+    next: Lits,
+    signatures: Lits,
+    inputs: Lits,
+}
+
+impl Model for Encoding {
+    ghost use Rattle.bs_encode.specs.Encoded.{Encoded};
+
+    ghost Value = { Encoded };
+
+    ghost view = { λ e. record { clauses = e.clauses; variables = e.variables; states = e.states; next = e.next; signatures = e.signatures; inputs = e.inputs } };
+}
+
+impl Encoding {
+    /// The encoding of a netlist and of what its signature is taken of
+    /// (docs/FORMATS.md, "Clauses of the transition relation").
+    pub fn new(alloc: Global, net: &Netlist, choice: &Choice) -> Result<Encoding, NoMemory>
+        requires { choice.now.width ≡ length (circuit net.now).flops }
+        ensures { IfOk result (λ e. e ≡ encoding_of (circuit net.now) choice.now.items) }
+    {
+        let raw = net.raw();
+        let _items = choice.items();
+        let states = state_variables(alloc, raw.flops.slice())?;
+        let mut signatures = Lits::new(alloc);
+        let laid = lay(alloc, net, states.as_slice(), choice, &mut signatures)?;
+        let clauses = tidy(alloc, &laid.clauses)?;
+        let next = literals_from(alloc, laid.next, raw.flops.len())?;
+        let inputs = net_literals(alloc, net.data_inputs().slice())?;
+        let states = literals_of(alloc, states.as_slice())?;
+        Ok(Encoding {
+            clauses,
+            variables: laid.end - 1,
+            states,
+            next,
+            signatures,
+            inputs,
+        })
+    }
+
+    /// The clauses; clause number i, from 1, has the id i.
+    pub fn clauses(&self) -> &Clauses
+        ensures { result.now ≡ self.now.clauses }
+    {
+        &self.clauses
+    }
+
+    /// The number of variables.
+    pub fn vars(&self) -> u32
+        ensures { result ≡ self.now.variables }
+    {
+        self.variables
+    }
+
+    /// The literal of a flip-flop's present bit.
+    pub fn state_lit(&self, i: usize) -> Lit
+        requires { i < length self.now.states }
+        ensures { slice_get self.now.states i ≡ Some result }
+    {
+        *self.states.get(i)
+    }
+
+    /// The literal of a flip-flop's next bit.
+    pub fn next_lit(&self, i: usize) -> Lit
+        requires { i < length self.now.next }
+        ensures { slice_get self.now.next i ≡ Some result }
+    {
+        *self.next.get(i)
+    }
+
+    /// The literal of an item's bit of the signature.
+    pub fn sig_lit(&self, i: usize) -> Lit
+        requires { i < length self.now.signatures }
+        ensures { slice_get self.now.signatures i ≡ Some result }
+    {
+        *self.signatures.get(i)
+    }
+
+    /// The literal of a data input's bit.
+    pub fn input_lit(&self, i: usize) -> Lit
+        requires { i < length self.now.inputs }
+        ensures { slice_get self.now.inputs i ≡ Some result }
+    {
+        *self.inputs.get(i)
+    }
+}
