@@ -1,0 +1,12 @@
+use Rattle.std.proofs.Common.{◌≡◌, ap, sym, ◌∙◌, inl}
+use Rattle.std.proofs.lemmas.Bool.{true≢false}
+use Rattle.bs_solve.specs.declared.stage.Stage.{Stage}
+use Rattle.bs_solve.specs.declared.stage.Stage.TheVariants.{Begun}
+use Rattle.bs_solve.specs.Stages.{is_begun}
+use Rattle.bs_solve.specs.Solver.{SolverState}
+use Rattle.bs_solve.proofs.tests.ending.Goals as goal
+
+pub solve-requires-clause-stage : goal.solve-requires-clause-stage
+solve-requires-clause-stage c =
+    let begun = ap (λ (s : SolverState). s.stage) c.in_ok-begin_step.ensures.ok in
+    record { stage = λ _. inl begun; again = λ e. absurd (true≢false (ap is_begun (sym begun ∙ e))) }

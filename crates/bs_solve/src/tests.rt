@@ -1,0 +1,140 @@
+//! Rows from outside, and each call that takes memory.
+ghost use Rattle.std.specs.Prelude.{◌≡◌, ◌==◌, true, All};
+ghost use Rattle.std.specs.Bool.{OnTrue};
+ghost use Rattle.std.specs.List.{list_any};
+ghost use Rattle.bs_log.specs.Refusal.{has_distinct_variables};
+ghost use Rattle.bs_solve.specs.Scan.{HasVariables};
+
+use crate::{Answer, Solver};
+use bs_clause::{Clauses, Lit, Lits, Var};
+use std::alloc::Global;
+use std::test::Fail;
+
+// A literal as a whole number, negative for a negation.
+fn lit(number: i32) -> Lit {
+    let variable = number.unsigned_abs();
+    if 1 <= variable && variable < 1 << 30 {
+        Lit::new(Var(variable), number > 0)
+    } else {
+        Lit::new(Var(1), true)
+    }
+}
+
+fn clause(alloc: Global, numbers: &[i32]) -> Result<Lits, Fail> {
+    let mut literals = Lits::new(alloc);
+    for number in numbers {
+        literals.push(lit(*number))?;
+    }
+    Ok(literals)
+}
+
+fn clauses(alloc: Global, rows: &[&[i32]]) -> Result<Clauses, Fail> {
+    let mut all = Clauses::new(alloc);
+    for row in rows {
+        all.push(clause(alloc, row)?)?;
+    }
+    Ok(all)
+}
+
+// Whether the clause is over the variables 1 to a number.
+fn is_over(vars: u32, clause: &[Lit]) -> bool
+    ensures { OnTrue result (HasVariables vars clause.now) }
+{
+    for l in clause {
+        if vars < l.var().0 {
+            return false;
+        }
+    }
+    true
+}
+
+// Whether a literal of the variable stands in the clause.
+fn has_variable(clause: &[Lit], variable: u32) -> bool
+    ensures { result ≡ list_any (λ m. m.variable == variable) clause.now }
+{
+    for m in clause {
+        if m.var().0 == variable {
+            return true;
+        }
+    }
+    false
+}
+
+// Whether no variable stands in the clause twice.
+fn is_distinct(clause: &[Lit]) -> bool
+    ensures { OnTrue result (has_distinct_variables clause.now ≡ true) }
+{
+    for i in 0..clause.len() {
+        if has_variable(&clause[i + 1..], clause[i].var().0) {
+            return false;
+        }
+    }
+    true
+}
+
+// Whether a solver may begin with these clauses.
+fn are_fit(vars: u32, clauses: &[Lits]) -> bool
+    ensures range { OnTrue result (All (HasVariables vars) clauses.now) }
+    ensures distinct { OnTrue result (All (λ c. has_distinct_variables c ≡ true) clauses.now) }
+{
+    for c in clauses {
+        if !is_over(vars, c.slice()) {
+            return false;
+        }
+        if !is_distinct(c.slice()) {
+            return false;
+        }
+    }
+    true
+}
+
+// The answer as a word.
+fn word(answer: &Answer) -> &'static str {
+    match answer {
+        Answer::Found(_) => "found",
+        Answer::Refuted(_) => "refuted",
+        Answer::Spent => "spent",
+    }
+}
+
+// How the first solve of these clauses ends, and the length of the log.
+fn ending(
+    alloc: Global,
+    rows: &[&[i32]],
+    vars: u32,
+    assumptions: &[i32],
+    limit: u64,
+) -> Result<(&'static str, usize), Fail> {
+    let all = clauses(alloc, rows)?;
+    let given = clause(alloc, assumptions)?;
+    if 1000 < vars || limit < 1 {
+        return Ok(("unfit", 0));
+    }
+    if !are_fit(vars, all.slice()) {
+        return Ok(("unfit", 0));
+    }
+    let mut solver = Solver::new(alloc, vars, &all)?;
+    let _ = solver.begin_step()?;
+    if !is_over(solver.vars(), given.slice()) {
+        return Ok(("unfit", 0));
+    }
+    if !is_distinct(given.slice()) {
+        return Ok(("unfit", 0));
+    }
+    let answer = solver.solve(alloc, &given, limit)?;
+    Ok((word(&answer), solver.log().len()))
+}
+
+#[test]
+fn solves_end_as_the_rows_say(rt: HostRuntime) -> Result<(), Fail> {
+    let alloc = rt.alloc();
+    let four: &[&[i32]] = &[&[-1, 2, 3], &[-1, 2, -3], &[-1, -2, 3], &[-1, -2, -3]];
+    assert_eq!(rt;
+        ending(alloc, &[&[-1, 2]], 2, &[3, 1, -2], 1)?,
+        ("refuted", 2)
+    );
+    assert_eq!(rt; ending(alloc, four, 3, &[4, 1], 1)?, ("spent", 2));
+    assert_eq!(rt; ending(alloc, four, 3, &[4, 1], 4)?, ("refuted", 3));
+    assert_eq!(rt; ending(alloc, four, 3, &[4, -1], 1)?, ("found", 1));
+    Ok(())
+}
