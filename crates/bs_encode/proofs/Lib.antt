@@ -1,3 +1,4 @@
+pub mod OnceLemmas
 pub mod TidyLemmas
 pub mod TableLemmas
 pub mod PartLemmas
