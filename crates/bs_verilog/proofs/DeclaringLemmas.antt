@@ -1,5 +1,5 @@
 -- The faults of declarations, in their order.
-use Rattle.std.proofs.Common.{◌≡◌, ℕ, Bool, List, Option, Some, None, refl, sym, ap, ◌∙◌, inl, inr, ◌⊎◌}
+use Rattle.std.proofs.Common.{◌≡◌, ℕ, Bool, List, Option, Some, None, refl, sym, ◌∙◌, inl, inr, ◌⊎◌}
 use Rattle.bs_verilog.specs.declared.syntax.Name.{Name}
 use Rattle.bs_verilog.specs.declared.syntax.Says.{Says}
 use Rattle.bs_verilog.specs.declared.syntax.Declared.{Declared}

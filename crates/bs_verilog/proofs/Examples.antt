@@ -1,5 +1,5 @@
 -- Worked texts.
-use Rattle.std.proofs.Common.{◌≡◌, ℕ, List, [], ◌∷◌, Ok, Err, false, true, refl, length, Result}
+use Rattle.std.proofs.Common.{◌≡◌, ℕ, [], ◌∷◌, Ok, Err, false, true, refl, length, Result}
 use Rattle.bs_net.specs.declared.net.NetId.{NetId}
 use Rattle.bs_net.specs.declared.net.Kind.TheVariants.{Not, Buf}
 use Rattle.std.specs.Prelude.{codes}

@@ -1,7 +1,7 @@
 -- Every net of what is built has a name.
-use Rattle.std.proofs.Common.{◌≡◌, ℕ, zero, suc, ◌+◌, ◌-◌, ◌<◌, ◌≤◌, Bool, true, false, cond, List, [], ◌∷◌, ◌++◌, map, length, get_or, take, drop, Option, Some, None, Ok, Err, Result, refl, sym, ap, ◌∙◌, inl, inr, ◌⊎◌, arith}
-use Rattle.std.specs.Prelude.{IsTrue, not, ◌&&◌, nat_le, nat_lt, is_some, unwrap_or, ◌^◌, ◌==◌}
-use Rattle.std.specs.List.{All, list_any, list_all, flat_map, position, filter}
+use Rattle.std.proofs.Common.{◌≡◌, ℕ, zero, suc, ◌+◌, ◌-◌, ◌<◌, ◌≤◌, Bool, true, false, cond, List, [], ◌∷◌, ◌++◌, map, length, get_or, take, drop, Option, Some, None, Ok, Err, Result, refl, ap, ◌∙◌, inl, inr, ◌⊎◌, arith}
+use Rattle.std.specs.Prelude.{IsTrue, not, ◌&&◌, nat_le, is_some, unwrap_or, ◌==◌}
+use Rattle.std.specs.List.{All, list_any, list_all, flat_map, filter}
 use Rattle.std.specs.Str.{bytes_eq}
 use Rattle.std.proofs.lemmas.Bool.{leb-false, leb-true, lt-ltb, eqb-true}
 use Rattle.std.proofs.lemmas.List.{length-append, length-map, take_all}
@@ -44,7 +44,7 @@ use Rattle.bs_verilog.specs.declared.syntax.Direction.TheVariants as directions
 use Rattle.bs_verilog.specs.declared.numbering.Known.{Known}
 use Rattle.bs_verilog.specs.Declaring.{said, is_in, known, known_nets, keys_of, first_over, direction_of}
 use Rattle.bs_verilog.specs.Netlist.{with_keys, numbered, nets_of, is_towards, port_bits, port_nets, supplied, consts_of, supply_consts, start_of, parts_of, finished_of, built_of}
-use Rattle.bs_verilog.proofs.NumberLemmas.{with_key-room, with_keys-room, with_keys-append, IsFew, few_step, keys-length, one_bit}
+use Rattle.bs_verilog.proofs.NumberLemmas.{with_key-room, with_keys-room, with_keys-append, few_step, keys-length, one_bit}
 
 -- Names and their numbers.
 

@@ -1,7 +1,7 @@
 -- Tables by the number of a name.
 use Rattle.std.proofs.Common.{zero, suc, Ok, Result, replicate, arith, ◌≡◌, ℕ, ◌+◌, ◌<◌, ◌==◌, ◌||◌, Bool, true, false, cond, List, [], ◌∷◌, ◌++◌, length, ◌≤◌, get_or, set, take, drop, Option, Some, None, refl, sym, ap, ◌∙◌, inl, inr}
 use Rattle.std.specs.List.{All, list_any}
-use Rattle.std.proofs.lemmas.List.{get_or-set_other, take_more, drop_more, drop_all, take_all, length-set, get_or-replicate, get_or_default}
+use Rattle.std.proofs.lemmas.List.{get_or-set_other, take_more, drop_more, drop_all, take_all, length-set, get_or_default}
 use Rattle.std.proofs.lemmas.Grind.{get_or-set_at}
 use Rattle.std.proofs.lemmas.List.Elements.{All-more, All-weaker}
 use Rattle.std.proofs.lemmas.List.Folds.{list_any_more}
@@ -11,7 +11,7 @@ use Rattle.bs_verilog.specs.declared.syntax.Says.{Says}
 use Rattle.bs_verilog.specs.declared.syntax.Declared.{Declared}
 use Rattle.bs_verilog.specs.declared.fault.VerilogFault.{VerilogFault}
 use Rattle.bs_verilog.specs.Checking.{looked, marked}
-use Rattle.bs_verilog.specs.Declaring.{first_after, stands_before, is_redeclared, is_in, said, says_of, together, or_later}
+use Rattle.bs_verilog.specs.Declaring.{first_after, is_in, said, says_of, together, or_later}
 
 -- every name has an entry
 abbrev pub IsBounded : ℕ → List Name → Type 0

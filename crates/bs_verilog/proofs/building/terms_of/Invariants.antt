@@ -1,4 +1,4 @@
-use Rattle.std.proofs.Common.{◌≡◌, ◌<◌, ◌≤◌, ◌-◌, ◌+◌, ℕ, ◌++◌, [], ◌∷◌, length, Ok, None, map, filter, not, take, drop}
+use Rattle.std.proofs.Common.{◌≡◌, take}
 use Rattle.bs_verilog.proofs.building.terms_of.Given as goal
 
 abbrev pub invariant-nets : goal.invariant-nets

@@ -1,4 +1,4 @@
-use Rattle.std.proofs.Common.{◌≡◌, ◌<◌, ◌≤◌, ◌-◌, ◌+◌, ℕ, ◌++◌, [], ◌∷◌, length, Ok, None, map, filter, not, take, drop}
+use Rattle.std.proofs.Common.{◌≡◌, drop}
 use Rattle.bs_verilog.specs.Checking.{looked}
 use Rattle.bs_verilog.specs.Building.{each, with_part, with_parts}
 use Rattle.bs_verilog.proofs.building.with_parts.Given as goal

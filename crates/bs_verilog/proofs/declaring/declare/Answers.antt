@@ -1,4 +1,4 @@
-use Rattle.std.proofs.Common.{◌∙◌, sym, ap, refl}
+use Rattle.std.proofs.Common.{◌∙◌, ap, refl}
 use Rattle.std.proofs.lemmas.Result.{err_from_is_err_and}
 use Rattle.bs_verilog.specs.Checking.{looked, marked}
 use Rattle.bs_verilog.specs.Declaring.{repeated_fault, redeclared_fault, naming_fault, said}

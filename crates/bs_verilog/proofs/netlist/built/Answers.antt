@@ -1,8 +1,5 @@
-use Rattle.std.proofs.Common.{sym, ap, ◌∙◌}
+use Rattle.std.proofs.Common.{sym}
 use Rattle.bs_verilog.specs.Checking.{looked}
-use Rattle.bs_verilog.specs.Reading.{Gives}
-use Rattle.bs_verilog.specs.Netlist.{netlist_of}
-use Rattle.bs_verilog.specs.Declaring.{first_over}
 use Rattle.bs_verilog.proofs.TableLemmas.{ok_of}
 use Rattle.bs_verilog.proofs.DeclaringLemmas.{none_over}
 use Rattle.bs_verilog.proofs.PlacementLemmas.{will_finish, finished_as}

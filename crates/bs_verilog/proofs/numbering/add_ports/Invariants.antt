@@ -1,4 +1,4 @@
-use Rattle.std.proofs.Common.{◌≡◌, ◌<◌, ◌≤◌, ◌-◌, ◌+◌, ℕ, ◌++◌, [], ◌∷◌, length, Ok, None, map, filter, not, take, drop}
+use Rattle.std.proofs.Common.{◌≡◌, ◌++◌, map, take}
 use Rattle.bs_verilog.specs.Checking.{looked}
 use Rattle.bs_verilog.specs.Declaring.{known}
 use Rattle.bs_verilog.proofs.numbering.add_ports.Given as goal

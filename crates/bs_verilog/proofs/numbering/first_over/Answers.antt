@@ -1,4 +1,4 @@
-use Rattle.std.proofs.Common.{◌∙◌, sym, ap, ◌+◌, None, arith, get_or}
+use Rattle.std.proofs.Common.{ap, ◌+◌, None, arith, get_or}
 use Rattle.bs_verilog.specs.Keys.{text}
 use Rattle.bs_verilog.specs.declared.numbering.Known.{Known}
 use Rattle.bs_verilog.proofs.NumberLemmas.{over_here, over_later, over_end}

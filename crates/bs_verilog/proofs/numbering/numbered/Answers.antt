@@ -1,10 +1,10 @@
-use Rattle.std.proofs.Common.{◌∙◌, sym, ap, Ok, arith, None, length, get_or, refl, ◌≡◌}
+use Rattle.std.proofs.Common.{◌∙◌, sym, ap, Ok, None, length, get_or, ◌≡◌}
 use Rattle.bs_verilog.specs.declared.numbering.Known.{Known}
 use Rattle.bs_verilog.specs.Declaring.{keys_of}
 use Rattle.bs_verilog.specs.Keys.{keys}
 use Rattle.bs_verilog.specs.Netlist.{with_keys}
 use Rattle.bs_verilog.proofs.TableLemmas.{ok_of}
-use Rattle.bs_verilog.proofs.NumberLemmas.{IsFew, few_here, few_later, numbered_net, numbered_end, with_keys-room}
+use Rattle.bs_verilog.proofs.NumberLemmas.{few_here, few_later, numbered_net, numbered_end, with_keys-room}
 use Rattle.bs_verilog.proofs.numbering.numbered.Goals as goal
 
 abbrev nothing : Known

@@ -1,4 +1,4 @@
-use Rattle.std.proofs.Common.{◌≡◌, ◌<◌, ◌≤◌, ◌-◌, ◌+◌, ℕ, ◌++◌, [], ◌∷◌, length, Ok, None, map, filter, not, take, drop}
+use Rattle.std.proofs.Common.{◌≡◌, [], length, drop}
 use Rattle.std.specs.List.{flat_map}
 use Rattle.bs_verilog.specs.Declaring.{keys_of}
 use Rattle.bs_verilog.specs.Netlist.{with_keys}

@@ -1,4 +1,4 @@
-use Rattle.std.proofs.Common.{◌≡◌, ◌<◌, ◌≤◌, ◌-◌, ◌+◌, ℕ, ◌++◌, [], ◌∷◌, length, Ok, None, map, filter, not, take, drop}
+use Rattle.std.proofs.Common.{◌≡◌, drop}
 use Rattle.bs_verilog.specs.Checking.{looked}
 use Rattle.bs_verilog.specs.Building.{each, with_connection, connection_nets}
 use Rattle.bs_verilog.proofs.placing.connection_nets.Given as goal

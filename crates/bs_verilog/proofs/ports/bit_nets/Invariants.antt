@@ -1,4 +1,4 @@
-use Rattle.std.proofs.Common.{◌≡◌, ◌<◌, ◌≤◌, ◌-◌, ◌+◌, ℕ, ◌++◌, [], ◌∷◌, length, Ok, None, map, filter, not, take, drop}
+use Rattle.std.proofs.Common.{◌≡◌}
 use Rattle.bs_verilog.specs.Netlist.{nets_of}
 use Rattle.bs_verilog.proofs.NumberLemmas.{keys_to}
 use Rattle.bs_verilog.proofs.ports.bit_nets.Given as goal

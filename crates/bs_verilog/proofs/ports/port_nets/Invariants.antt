@@ -1,4 +1,4 @@
-use Rattle.std.proofs.Common.{◌≡◌, ◌<◌, ◌≤◌, ◌-◌, ◌+◌, ℕ, ◌++◌, [], ◌∷◌, length, Ok, None, map, filter, not, take, drop}
+use Rattle.std.proofs.Common.{◌≡◌, ◌++◌, drop}
 use Rattle.bs_verilog.specs.Checking.{looked}
 use Rattle.bs_verilog.specs.Netlist.{port_nets}
 use Rattle.bs_verilog.proofs.ports.port_nets.Given as goal

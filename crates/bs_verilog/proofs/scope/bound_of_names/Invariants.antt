@@ -1,4 +1,4 @@
-use Rattle.std.proofs.Common.{◌≡◌, ◌<◌, ◌≤◌, ◌-◌, ◌+◌, ℕ, ◌++◌, [], ◌∷◌, length, Ok, None, map, filter, not, take, drop}
+use Rattle.std.proofs.Common.{◌<◌, take}
 use Rattle.std.specs.List.{All}
 use Rattle.bs_verilog.proofs.scope.bound_of_names.Given as goal
 

@@ -1,6 +1,5 @@
-use Rattle.std.proofs.Common.{◌≡◌, ◌<◌, ◌∙◌, sym, ap, inr, get_or, length, Option, true, false}
+use Rattle.std.proofs.Common.{◌∙◌, sym, ap, inr, get_or}
 use Rattle.bs_verilog.specs.declared.syntax.Name.{Name}
-use Rattle.bs_verilog.specs.declared.fault.VerilogFault.{VerilogFault}
 use Rattle.bs_verilog.specs.declared.fault.VerilogFault.TheVariants.{Redeclared}
 use Rattle.bs_verilog.specs.Declaring.{stands_before, fault}
 use Rattle.bs_verilog.proofs.TableLemmas.{marks_more, marks_bounded, mark_read, first_here, first_later, first_none, all_marked}

@@ -1,4 +1,4 @@
-use Rattle.std.proofs.Common.{◌≡◌, ◌<◌, ◌≤◌, ◌-◌, ◌+◌, ℕ, ◌++◌, [], ◌∷◌, length, Ok, None, map, filter, not, take, drop}
+use Rattle.std.proofs.Common.{◌≡◌, [], length, take, drop}
 use Rattle.bs_verilog.specs.Declaring.{first_after, stands_before}
 use Rattle.bs_verilog.proofs.TableLemmas.{IsBounded, IsMarked}
 use Rattle.bs_verilog.proofs.scope.header_marks.Given as goal

@@ -1,6 +1,5 @@
-use Rattle.std.proofs.Common.{◌≡◌, ◌<◌, ◌∙◌, sym, ap, inr, get_or, length, Option, None, Some, true, false, refl}
+use Rattle.std.proofs.Common.{◌∙◌, sym, ap, inr, get_or, None, Some, refl}
 use Rattle.bs_verilog.specs.declared.syntax.Declared.{Declared}
-use Rattle.bs_verilog.specs.declared.syntax.Says.{Says}
 use Rattle.bs_verilog.specs.declared.fault.VerilogFault.TheVariants.{Redeclared}
 use Rattle.bs_verilog.specs.Declaring.{is_redeclared, fault, clashes, together}
 use Rattle.bs_verilog.proofs.TableLemmas.{scope_start, scope_start_bounded, ok_of, said_more, scope_bounded, entry_read, first_here, first_later, first_none, all_said}

@@ -1,4 +1,4 @@
-use Rattle.std.proofs.Common.{◌≡◌, ◌<◌, ◌≤◌, ◌-◌, ◌+◌, ℕ, ◌++◌, [], ◌∷◌, length, Ok, None, map, filter, not, take, drop}
+use Rattle.std.proofs.Common.{◌≡◌, [], length, take, drop}
 use Rattle.bs_verilog.specs.Declaring.{first_after, is_redeclared}
 use Rattle.bs_verilog.proofs.TableLemmas.{AreBounded, IsSaid}
 use Rattle.bs_verilog.proofs.scope.scope_of.Given as goal
