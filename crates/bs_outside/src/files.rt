@@ -1,22 +1,34 @@
 //! Real files, at the trusted edge: the runtime's answers are all that is known of them.
-ghost use Rattle.std.specs.Prelude.{None};
+ghost use Rattle.std.specs.Prelude.{◌≡◌, None};
 ghost use Rattle.bs_outside.specs.Fetching.{Fetches};
 
 use crate::shelf::{Fetch, Shelf};
 use std::fs::File;
 use std::io::Read;
+use std::marker::Model;
 use std::rt::Files;
 
-/// The files of the file system. It doesn't tell what it holds, and one count of faults stands for every name.
+/// The files of the file system. It doesn't tell what it holds, and one count of faults stands for every name. Contracts see
+/// that count.
 #[derive(Drop)]
 pub struct FileShelf<'a, R: Files> {
     rt: &'a R,
     faults: u64,
 }
 
+impl<'a, R: Files> Model for FileShelf<'a, R> {
+    ghost use Rattle.std.specs.Prelude.{ℕ};
+
+    ghost Value = { ℕ };
+
+    ghost view = { λ shelf. shelf.faults };
+}
+
 impl<'a, R: Files> FileShelf<'a, R> {
     /// The files that the runtime reaches, with no fault counted.
-    pub fn new(rt: &'a R) -> FileShelf<'a, R> {
+    pub fn new(rt: &'a R) -> FileShelf<'a, R>
+        ensures { result ≡ 0 }
+    {
         FileShelf { rt, faults: 0 }
     }
 }
@@ -52,7 +64,7 @@ impl<'a, R: Files> Shelf for FileShelf<'a, R> {
     ghost held = { λ _ _. None };
 
     // One count stands for every name.
-    ghost faults = { λ shelf _. shelf.faults };
+    ghost faults = { λ shelf _. shelf };
 
     fn fetch(&mut self, name: &str, limit: u64, into: &mut Vec<u8>) -> Fetch {
         let answer = read_file(self.rt, name, limit, into);

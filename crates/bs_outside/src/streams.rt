@@ -1,18 +1,29 @@
 //! Standard output, at the trusted edge.
-ghost use Rattle.std.specs.Prelude.{None};
+ghost use Rattle.std.specs.Prelude.{◌≡◌, None};
 
 use crate::sink::{Put, Sink};
+use std::marker::Model;
 
-/// Standard output. It doesn't tell what was written.
+/// Standard output. It doesn't tell what was written. Contracts see its count of faults.
 #[derive(Drop)]
 pub struct StdSink<'a, R: Print> {
     rt: &'a R,
     faults: u64,
 }
 
+impl<'a, R: Print> Model for StdSink<'a, R> {
+    ghost use Rattle.std.specs.Prelude.{ℕ};
+
+    ghost Value = { ℕ };
+
+    ghost view = { λ sink. sink.faults };
+}
+
 impl<'a, R: Print> StdSink<'a, R> {
     /// The output of the runtime, with no fault counted.
-    pub fn new(rt: &'a R) -> StdSink<'a, R> {
+    pub fn new(rt: &'a R) -> StdSink<'a, R>
+        ensures { result ≡ 0 }
+    {
         StdSink { rt, faults: 0 }
     }
 }
@@ -20,7 +31,7 @@ impl<'a, R: Print> StdSink<'a, R> {
 impl<'a, R: Print> Sink for StdSink<'a, R> {
     ghost written = { λ _. None };
 
-    ghost faults = { λ sink. sink.faults };
+    ghost faults = { λ sink. sink };
 
     fn put(&mut self, bytes: &[u8]) -> Put {
         let mut at = 0;

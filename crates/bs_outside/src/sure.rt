@@ -52,6 +52,7 @@ impl Shelf for SureShelf {
 pub struct SureSink;
 
 impl SureSink {
+    /// The sink; there is one value of it, whose count of faults is always 0.
     pub fn new() -> SureSink {
         SureSink
     }
