@@ -1,5 +1,5 @@
 //! An incremental solver that logs what it learns: clauses stay from one step to the next.
-ghost use Rattle.std.specs.Prelude.{◌≡◌, ◌+◌, ◌^◌, ◌<◌, ◌≤◌, [], ◌∷◌, true, false, All, IfOk, IfErr, IfSome, OnOk};
+ghost use Rattle.std.specs.Prelude.{◌≡◌, ◌⊎◌, ◌+◌, ◌^◌, ◌<◌, ◌≤◌, [], ◌∷◌, true, false, All, IfOk, IfErr, IfSome, OnOk, OnErr};
 ghost use Rattle.bs_log.specs.History.{step_of, guard_of};
 ghost use Rattle.bs_log.specs.Refusal.{has_distinct_variables, history_of, NoneRefused, IsAccepted};
 ghost use Rattle.bs_log.specs.Lean.{LemmasAreLean};
@@ -129,6 +129,7 @@ impl Solver {
         requires end { IfSome end (λ id. self.old.failed ≡ false → self.old.stage ≡ Ended id) }
         ensures ok { IfOk result (λ _. HasEnded self.old self.new end) }
         ensures err { IfErr result (λ _. self.new.failed ≡ true) }
+        ensures lines { IfErr result (λ _. (self.new.book ≡ self.old.book) ⊎ (self.new.book ≡ finished self.old.book end)) }
     {
         if self.failed {
             return Err(NoMemory);
@@ -178,6 +179,7 @@ impl Solver {
 fn finish(book: &mut Recording, end: Option<u64>) -> Result<(), NoMemory>
     requires { IfSome end (EndsStep book.old) }
     ensures ok { OnOk result (book.new ≡ finished book.old end) }
+    ensures err { OnErr result (book.new ≡ book.old) }
 {
     match end {
         Some(id) => book.log_finish(id),

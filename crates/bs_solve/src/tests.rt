@@ -125,6 +125,49 @@ fn ending(
     Ok((word(&answer), solver.log().len()))
 }
 
+// A solve, a block of what it found, another solve and the step's end: the block's id, how the second solve ends, and the
+// length of the log.
+fn again(
+    alloc: Global,
+    rows: &[&[i32]],
+    vars: u32,
+    assumptions: &[i32],
+    blocked: &[i32],
+) -> Result<(u64, &'static str, usize), Fail> {
+    let all = clauses(alloc, rows)?;
+    let given = clause(alloc, assumptions)?;
+    let block = clause(alloc, blocked)?;
+    if 1000 < vars {
+        return Ok((0, "unfit", 0));
+    }
+    if !are_fit(vars, all.slice()) {
+        return Ok((0, "unfit", 0));
+    }
+    let mut solver = Solver::new(alloc, vars, &all)?;
+    let _ = solver.begin_step()?;
+    if !is_over(solver.vars(), given.slice()) {
+        return Ok((0, "unfit", 0));
+    }
+    if !is_distinct(given.slice()) {
+        return Ok((0, "unfit", 0));
+    }
+    if !is_over(vars, block.slice()) {
+        return Ok((0, "unfit", 0));
+    }
+    if !is_distinct(block.slice()) {
+        return Ok((0, "unfit", 0));
+    }
+    match solver.solve(alloc, &given, 1)? {
+        Answer::Found(_) => {}
+        _ => return Ok((0, "unfit", 0)),
+    }
+    let id = solver.block(alloc, &block)?;
+    let second = solver.solve(alloc, &given, 1)?;
+    let ending = word(&second);
+    solver.end_step(alloc, None)?;
+    Ok((id, ending, solver.log().len()))
+}
+
 #[test]
 fn solves_end_as_the_rows_say(rt: HostRuntime) -> Result<(), Fail> {
     let alloc = rt.alloc();
@@ -136,5 +179,6 @@ fn solves_end_as_the_rows_say(rt: HostRuntime) -> Result<(), Fail> {
     assert_eq!(rt; ending(alloc, four, 3, &[4, 1], 1)?, ("spent", 2));
     assert_eq!(rt; ending(alloc, four, 3, &[4, 1], 4)?, ("refuted", 3));
     assert_eq!(rt; ending(alloc, four, 3, &[4, -1], 1)?, ("found", 1));
+    assert_eq!(rt; again(alloc, four, 3, &[4, -1], &[2, 3])?, (5, "found", 4));
     Ok(())
 }
