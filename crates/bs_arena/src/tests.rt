@@ -33,3 +33,32 @@ fn the_clause_between_two_is_killed(rt: HostRuntime) -> Result<(), Fail> {
     }
     Ok(())
 }
+
+#[test]
+#[tactic(auto, using(crate::proofs::Lookups::renamed_is_live))]
+fn the_first_of_two_clauses_is_killed(rt: HostRuntime) -> Result<(), Fail> {
+    let alloc = rt.alloc();
+    let (one, two, three) = (
+        Lit::new(Var(1), true),
+        Lit::new(Var(2), true),
+        Lit::new(Var(3), true),
+    );
+    let mut arena = Arena::new(alloc);
+    let first = arena.add(10, &[one, two])?;
+    let second = arena.add(11, &[one.negate(), three])?;
+    arena.kill(first);
+    let mut renaming = Renaming::new(alloc);
+    renaming.reserve(1)?;
+    if renaming.spare() < arena.count() {
+        return Ok(());
+    }
+    arena.compact(&mut renaming);
+    assert_eq!(rt; (arena.words(), arena.live(), arena.count()), (6, 6, 1));
+    assert_eq!(rt; renaming.get(first), None);
+    assert!(rt; renaming.get(second).is_some());
+    if let Some(moved) = renaming.get(second) {
+        assert_eq!(rt; arena.id(moved), 11);
+        assert_eq!(rt; arena.lits(moved), &[3, 6][..]);
+    }
+    Ok(())
+}
