@@ -66,7 +66,10 @@ fn log(alloc: Global, texts: &[&str]) -> Result<Log, NoMemory> {
 
 /// Whether a report has this text.
 fn has_text(alloc: Global, report: &Report, want: &str) -> Result<bool, NoMemory> {
-    if report.states.len() != report.inputs.len().saturating_add(1) {
+    if report.states.len() == 0 {
+        return Ok(false);
+    }
+    if report.states.len() - 1 != report.inputs.len() {
         return Ok(false);
     }
     let mut text = Vec::new(alloc);

@@ -1,0 +1,155 @@
+-- The words behind a file's name in a refusal line, for each fault of a reader and of the check (docs/FORMATS.md, "Refusal lines").
+use Rattle.std.specs.Prelude.{◌≡◌, ◌≢◌, ◌+◌, ℕ, nat_lt, Bool, List, [], ◌++◌, length, slice_index_or, codes, decimal, Result, Ok, Err}
+use Rattle.std.specs.List.{flat_map}
+use Rattle.bs_net.specs.declared.net.NetId.{NetId}
+use Rattle.bs_net.specs.declared.raw.Raw.{Raw}
+use Rattle.bs_net.specs.declared.fault.Count.{Count}
+use Rattle.bs_net.specs.declared.fault.Count.TheVariants.{Flops, Inputs, Terminals}
+use Rattle.bs_net.specs.declared.fault.NetFault.{NetFault}
+use Rattle.bs_net.specs.declared.fault.NetFault.TheVariants as net
+use Rattle.bs_net.specs.Circuit.{Circuit}
+use Rattle.bs_net.specs.Check.{IsFault}
+use Rattle.bs_net.specs.Loops.{gate_at}
+use Rattle.bs_verilog.specs.Refusals.{what_word}
+use Rattle.bs_verilog.specs.declared.fault.What.{What}
+use Rattle.bs_verilog.specs.declared.fault.VerilogFault.{VerilogFault}
+use Rattle.bs_verilog.specs.declared.fault.VerilogFault.TheVariants as verilog
+use Rattle.bs_scan.specs.declared.fault.ChoiceFault.{ChoiceFault}
+use Rattle.bs_scan.specs.declared.fault.ChoiceFault.TheVariants as choice
+use Rattle.bs_scan.specs.declared.fault.DumpFault.{DumpFault}
+use Rattle.bs_scan.specs.declared.fault.DumpFault.TheVariants as dump
+use Rattle.bs_stim.specs.declared.fault.StimFault.{StimFault}
+use Rattle.bs_stim.specs.declared.fault.StimFault.TheVariants as stimulus
+use Rattle.bs_job.specs.declared.walk.Refusal.{Refusal}
+use Rattle.bs_job.specs.declared.walk.Refusal.TheVariants as Q
+use Rattle.bs_job.specs.Plan.{Reason, exactly, any_of}
+
+-- ---- the words of a fault; want of memory is no fault of a file and has none
+
+-- what a netlist's text has that is left out, and where
+abbrev pub unsupported_words : ℕ → What → List ℕ
+unsupported_words at what = codes "Unsupported " ++ (decimal at ++ (codes " " ++ what_word what))
+
+-- a netlist's text; a place is a byte offset from 0
+abbrev pub netlist_text_words : VerilogFault → List ℕ
+netlist_text_words (verilog.Syntax at) = codes "Syntax " ++ decimal at
+netlist_text_words (verilog.Unsupported at what) = unsupported_words at what
+netlist_text_words (verilog.Port at) = codes "Port " ++ decimal at
+netlist_text_words (verilog.Redeclared at) = codes "Redeclared " ++ decimal at
+netlist_text_words (verilog.TooManyNets at) = codes "TooManyNets " ++ decimal at
+netlist_text_words (verilog.Terminals at) = codes "Terminals " ++ decimal at
+netlist_text_words (verilog.Index at) = codes "Index " ++ decimal at
+netlist_text_words verilog.NoMemory = []
+
+-- a signature; a line counts from 1
+abbrev pub signature_words : ChoiceFault → List ℕ
+signature_words (choice.Line line) = codes "Line " ++ decimal line
+signature_words (choice.TooMany line) = codes "TooMany " ++ decimal line
+signature_words (choice.UnknownFlop line) = codes "UnknownFlop " ++ decimal line
+signature_words choice.NoMemory = []
+
+-- a stimulus; a line counts from 1
+abbrev pub stimulus_words : StimFault → List ℕ
+stimulus_words stimulus.NoRun = codes "NoRun"
+stimulus_words (stimulus.Line line) = codes "Line " ++ decimal line
+stimulus_words (stimulus.Width line) = codes "Width " ++ decimal line
+stimulus_words (stimulus.Count line) = codes "Count " ++ decimal line
+stimulus_words (stimulus.TooManyRuns line) = codes "TooManyRuns " ++ decimal line
+stimulus_words (stimulus.TooManyCycles line) = codes "TooManyCycles " ++ decimal line
+stimulus_words stimulus.NoMemory = []
+
+-- a dump; a line counts from 1
+abbrev pub dump_words : DumpFault → List ℕ
+dump_words (dump.Line line) = codes "Line " ++ decimal line
+dump_words (dump.Width line) = codes "Width " ++ decimal line
+dump_words dump.NotReset = codes "NotReset"
+dump_words dump.NoMemory = []
+
+-- a moment that the runs do not have
+abbrev pub range_words : List ℕ
+range_words = codes "Range"
+
+-- ---- the check of a netlist
+
+-- the word for what there is too much of
+abbrev pub count_word : Count → List ℕ
+count_word Flops = codes "Flops"
+count_word Inputs = codes "Inputs"
+count_word Terminals = codes "Terminals"
+
+-- what there is too much of, and how much
+abbrev pub too_many_words : Count → ℕ → List ℕ
+too_many_words kind count = codes "TooMany " ++ (count_word kind ++ (codes " " ++ decimal count))
+
+-- the key of a net
+abbrev pub key_of : Raw → NetId → List ℕ
+key_of r n = slice_index_or r.names n.0 []
+
+-- the key of a gate's output net, behind a space
+abbrev pub gate_piece : Raw → ℕ → List ℕ
+gate_piece r gate = codes " " ++ key_of r (gate_at r.gates gate).out
+
+-- a fault of the check; a gate is named by its output net
+abbrev pub check_words : Raw → NetFault → List ℕ
+check_words r (net.TooMany kind count) = too_many_words kind count
+check_words r (net.SecondDriver n) = codes "SecondDriver " ++ key_of r n
+check_words r (net.Undriven n) = codes "Undriven " ++ key_of r n
+check_words r (net.Loop gates) = codes "Loop" ++ flat_map (gate_piece r) gates
+check_words r net.NoFlop = codes "NoFlop"
+check_words r (net.ClockMixed n) = codes "ClockMixed " ++ key_of r n
+check_words r net.NoMemory = []
+
+-- These words go with a netlist that the check refuses: they tell a fault that the check may tell, so any of its loops.
+pub record CheckSays (r : Raw) (why : List ℕ) : Type 0 where
+  pub fault : NetFault
+  pub told : fault ≢ net.NoMemory
+  pub is : IsFault r fault
+  pub words : why ≡ check_words r fault
+
+-- whether a netlist has more than 16 flip-flops and data inputs together
+abbrev pub is_too_wide : Circuit → Bool
+is_too_wide c = nat_lt 16 (length c.flops + length c.inputs)
+
+-- a netlist that is too wide for its states and inputs to be listed
+abbrev pub too_wide_words : List ℕ
+too_wide_words = codes "TooWide"
+
+-- ---- the same as reasons of a job, whose case of several right texts is a netlist that the check refuses
+
+abbrev pub netlist_text_reason : VerilogFault → Reason Raw
+netlist_text_reason fault = exactly (netlist_text_words fault)
+
+abbrev pub check_reason : Raw → Reason Raw
+check_reason r = any_of r
+
+abbrev pub too_wide_reason : Reason Raw
+too_wide_reason = exactly too_wide_words
+
+abbrev pub signature_reason : ChoiceFault → Reason Raw
+signature_reason fault = exactly (signature_words fault)
+
+abbrev pub stimulus_reason : StimFault → Reason Raw
+stimulus_reason fault = exactly (stimulus_words fault)
+
+abbrev pub dump_reason : DumpFault → Reason Raw
+dump_reason fault = exactly (dump_words fault)
+
+abbrev pub range_reason : Reason Raw
+range_reason = exactly range_words
+
+-- what a reader's definition wants, with a reason for its fault
+abbrev pub with_reason : {V F : Type 0} → (F → Reason Raw) → Result V F → Result V (Reason Raw)
+with_reason reason (Ok v) = Ok v
+with_reason reason (Err fault) = Err (reason fault)
+
+-- ---- what inner functions promise
+
+-- the refusal has these words, unless memory ran out
+abbrev pub HasWords : List ℕ → Refusal → Type 0
+HasWords words Q.NoMemory = Unit {0}
+HasWords words (Q.Why why) = why.items ≡ words
+
+-- the refusal has words that go with a netlist that the check refuses, unless memory ran out
+abbrev pub HasCheckWords : Raw → Refusal → Type 0
+HasCheckWords r Q.NoMemory = Unit {0}
+HasCheckWords r (Q.Why why) = CheckSays r why.items
