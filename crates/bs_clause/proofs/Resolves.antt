@@ -3,17 +3,17 @@ use Rattle.std.proofs.Common.{◌≡◌, ℕ, Bool, true, false, not, ◌||◌, 
 use Rattle.std.specs.List.{list_any, filter}
 use Rattle.std.proofs.lemmas.Bool.{cases_Bool, not-false, or_left, or_right, or_cases}
 use Rattle.std.proofs.lemmas.List.Folds.{list_any-append}
-use Rattle.bs_clause.specs.Literal.{Literal, Clause, negation, same_literal, has_literal, literal_value, Meets}
+use Rattle.bs_clause.specs.Literal.{Literal, Clause, negation, same_literal, has_literal, literal_value, Satisfies}
 use Rattle.bs_clause.specs.Resolvent.{without, once, news, resolvent}
 use Rattle.bs_clause.proofs.Literals.{same_literal-true, literal_value-negation}
-use Rattle.bs_clause.proofs.Values.{Meets-filter}
+use Rattle.bs_clause.proofs.Values.{Satisfies-filter}
 
 -- a clause is met without a literal that is false
-pub Meets-without : (v : ℕ → Bool) (l : Literal) (c : Clause) → literal_value v l ≡ false → Meets v c → Meets v (without l c)
-Meets-without v l c f h = Meets-filter v (λ m. not (same_literal l m)) (λ m gone. ap (literal_value v) (sym (same_literal-true l m (not-false (same_literal l m) gone))) ∙ f) c h
+pub Satisfies-without : (v : ℕ → Bool) (l : Literal) (c : Clause) → literal_value v l ≡ false → Satisfies v c → Satisfies v (without l c)
+Satisfies-without v l c f h = Satisfies-filter v (λ m. not (same_literal l m)) (λ m gone. ap (literal_value v) (sym (same_literal-true l m (not-false (same_literal l m) gone))) ∙ f) c h
 
 -- a true literal that stands in the clause makes it true
-has_literal-meets : (v : ℕ → Bool) (c : Clause) (l : Literal) → has_literal c l ≡ true → literal_value v l ≡ true → Meets v c
+has_literal-meets : (v : ℕ → Bool) (c : Clause) (l : Literal) → has_literal c l ≡ true → literal_value v l ≡ true → Satisfies v c
 has_literal-meets v [] l h t = h
 has_literal-meets v (m ∷ c) l h t =
     elim (same_literal l m) as (λ b. same_literal l m ≡ b → (b || has_literal c l) ≡ true → (literal_value v m || list_any (literal_value v) c) ≡ true) [
@@ -30,7 +30,7 @@ or_here true x n h = refl
 or_here false x n h = or_left x n h
 
 -- what is not added stands in the clause already
-new_or_there : (v : ℕ → Bool) (there c : Clause) → Meets v c →
+new_or_there : (v : ℕ → Bool) (there c : Clause) → Satisfies v c →
     (list_any (literal_value v) there || list_any (literal_value v) (filter (λ m. not (has_literal there m)) c)) ≡ true
 new_or_there v there [] h = or_right (list_any (literal_value v) there) false h
 new_or_there v there (m ∷ c) h =
@@ -49,19 +49,19 @@ new_or_there v there (m ∷ c) h =
     ] refl
 
 -- a clause is met where it is met with each literal once
-Meets-once : (v : ℕ → Bool) (c : Clause) → Meets v c → Meets v (once c)
-Meets-once v [] h = h
-Meets-once v (m ∷ c) h =
+Satisfies-once : (v : ℕ → Bool) (c : Clause) → Satisfies v c → Satisfies v (once c)
+Satisfies-once v [] h = h
+Satisfies-once v (m ∷ c) h =
     elim (literal_value v m) as (λ b. literal_value v m ≡ b → (b || list_any (literal_value v) c) ≡ true → (b || list_any (literal_value v) (without m (once c))) ≡ true) [
       | true ↦ λ _ _. refl
-      | false ↦ λ is later. Meets-without v m (once c) is (Meets-once v c later)
+      | false ↦ λ is later. Satisfies-without v m (once c) is (Satisfies-once v c later)
     ] refl h
 
-pub Meets-resolvent : (v : ℕ → Bool) (a b : Clause) (pivot : Literal) → Meets v a → Meets v b → Meets v (resolvent a b pivot)
-Meets-resolvent v a b pivot ha hb =
+pub Satisfies-resolvent : (v : ℕ → Bool) (a b : Clause) (pivot : Literal) → Satisfies v a → Satisfies v b → Satisfies v (resolvent a b pivot)
+Satisfies-resolvent v a b pivot ha hb =
     list_any-append (literal_value v) (without pivot a) (news (without pivot a) (without (negation pivot) b)) ∙
     (elim (cases_Bool (literal_value v pivot)) [
       | inl is ↦ new_or_there v (without pivot a) (once (without (negation pivot) b))
-          (Meets-once v (without (negation pivot) b) (Meets-without v (negation pivot) b (literal_value-negation v pivot ∙ ap not is) hb))
-      | inr is_not ↦ or_left _ _ (Meets-without v pivot a is_not ha)
+          (Satisfies-once v (without (negation pivot) b) (Satisfies-without v (negation pivot) b (literal_value-negation v pivot ∙ ap not is) hb))
+      | inr is_not ↦ or_left _ _ (Satisfies-without v pivot a is_not ha)
     ])

@@ -2,7 +2,7 @@
 use Rattle.std.proofs.Common.{◌≡◌, ℕ, Bool, true, false, not, ◌||◌, cond, List, [], ◌∷◌, refl, sym, ap, ◌∙◌, inl, inr, map}
 use Rattle.std.specs.List.{list_any, list_all, filter, AllByRecursion}
 use Rattle.std.proofs.lemmas.Bool.{both_ways, or_left, or_right, or_cases, and_parts, true≢false, false≢true}
-use Rattle.bs_clause.specs.Literal.{Literal, Clause, negation, same_literal, has_literal, literal_value, Meets}
+use Rattle.bs_clause.specs.Literal.{Literal, Clause, negation, same_literal, has_literal, literal_value, Satisfies}
 use Rattle.bs_clause.proofs.Literals.{same_literal-true, literal_value-negation}
 
 -- each literal is true
@@ -27,18 +27,18 @@ pub negated_is_true : (v : ℕ → Bool) (l : Literal) → literal_value v l ≡
 negated_is_true v l h = literal_value-negation v l ∙ ap not h
 
 -- a clause is met by its literals that pass a test, if those that fail it are false
-pub Meets-filter : (v : ℕ → Bool) (test : Literal → Bool) → ((m : Literal) → test m ≡ false → literal_value v m ≡ false) →
-    (c : Clause) → Meets v c → Meets v (filter test c)
-Meets-filter v test lost [] h = h
-Meets-filter v test lost (m ∷ c) h =
+pub Satisfies-filter : (v : ℕ → Bool) (test : Literal → Bool) → ((m : Literal) → test m ≡ false → literal_value v m ≡ false) →
+    (c : Clause) → Satisfies v c → Satisfies v (filter test c)
+Satisfies-filter v test lost [] h = h
+Satisfies-filter v test lost (m ∷ c) h =
     elim (test m) as (λ b. test m ≡ b → list_any (literal_value v) (cond b (m ∷ filter test c) (filter test c)) ≡ true) [
       | true ↦ λ _. elim (or_cases (literal_value v m) (list_any (literal_value v) c) h) [
         | inl is ↦ or_left (literal_value v m) (list_any (literal_value v) (filter test c)) is
-        | inr later ↦ or_right (literal_value v m) (list_any (literal_value v) (filter test c)) (Meets-filter v test lost c later)
+        | inr later ↦ or_right (literal_value v m) (list_any (literal_value v) (filter test c)) (Satisfies-filter v test lost c later)
       ]
       | false ↦ λ fails. elim (or_cases (literal_value v m) (list_any (literal_value v) c) h) [
         | inl is ↦ absurd (both_ways (literal_value v m) (lost m fails) is)
-        | inr later ↦ Meets-filter v test lost c later
+        | inr later ↦ Satisfies-filter v test lost c later
       ]
     ] refl
 
@@ -53,7 +53,7 @@ AllTrue-negations v (l ∷ c) h =
 
 -- a clause each of whose literals has its negation among true ones is not met
 pub denied : (v : ℕ → Bool) (trues : List Literal) (c : Clause) → AllTrue v trues →
-    list_all (λ l. has_literal trues (negation l)) c ≡ true → Meets v c → ⊥
+    list_all (λ l. has_literal trues (negation l)) c ≡ true → Satisfies v c → ⊥
 denied v trues [] all none h = false≢true h
 denied v trues (l ∷ c) all none h =
     let parts = and_parts (has_literal trues (negation l)) (list_all (λ m. has_literal trues (negation m)) c) none in

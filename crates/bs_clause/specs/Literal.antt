@@ -36,8 +36,8 @@ abbrev pub literal_value : (ℕ → Bool) → Literal → Bool
 literal_value v l = beq (v l.variable) l.positive
 
 -- one of the clause's literals is true
-abbrev pub Meets : (ℕ → Bool) → Clause → Type 0
-Meets v c = IsTrue (list_any (literal_value v) c)
+abbrev pub Satisfies : (ℕ → Bool) → Clause → Type 0
+Satisfies v c = IsTrue (list_any (literal_value v) c)
 
 -- no variable stands in the clause twice
 abbrev pub HasDistinctVariables : Clause → Type 0

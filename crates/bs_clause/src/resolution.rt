@@ -1,6 +1,6 @@
 //! Resolution, by which two clauses give a third that follows from them.
 ghost use Rattle.std.specs.Prelude.{◌≡◌, ℕ, Bool, ◌++◌, Contains, IfOk, OnOk};
-ghost use Rattle.bs_clause.specs.Literal.{negation, Meets};
+ghost use Rattle.bs_clause.specs.Literal.{negation, Satisfies};
 ghost use Rattle.bs_clause.specs.Resolvent.{without, news, resolvent};
 
 use crate::lists::Lits;
@@ -40,7 +40,7 @@ pub fn resolve(alloc: Global, a: &Lits, b: &Lits, pivot: Lit) -> Result<Lits, No
     requires right { Contains b.now (negation pivot) }
     ensures value { IfOk result (λ r. r ≡ resolvent a.now b.now pivot) }
     // what meets both clauses meets the resolvent
-    ensures meaning { IfOk result (λ r. (v : ℕ → Bool) → Meets v a.now → Meets v b.now → Meets v r) }
+    ensures meaning { IfOk result (λ r. (v : ℕ → Bool) → Satisfies v a.now → Satisfies v b.now → Satisfies v r) }
 {
     let right = others(alloc, b.slice(), pivot.negate())?;
     let mut result = others(alloc, a.slice(), pivot)?;

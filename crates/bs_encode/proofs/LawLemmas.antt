@@ -4,7 +4,7 @@ use Rattle.std.specs.List.{AllByRecursion, All, range_with_len, flat_map}
 use Rattle.std.proofs.lemmas.List.{length-map, get_or_append_left}
 use Rattle.std.proofs.lemmas.List.Elements.{All-from_recursion, recursion_from_All}
 use Rattle.std.proofs.lemmas.List.FromFn.{fill_by_all, get_or-map-range_with_len, length-map-range_with_len}
-use Rattle.bs_clause.specs.Literal.{Clause, Meets}
+use Rattle.bs_clause.specs.Literal.{Clause, Satisfies}
 use Rattle.bs_net.specs.declared.net.NetId.{NetId}
 use Rattle.bs_net.specs.declared.net.Gate.{Gate}
 use Rattle.bs_net.specs.declared.net.Flop.{Flop}
@@ -22,11 +22,11 @@ use Rattle.bs_encode.proofs.PartLemmas.{OnNets, GatePlaced, FlopPlaced, ItemPlac
 
 -- ---- each clause is met, and all are
 
-pub all_met : (a : ℕ → Bool) (cs : List Clause) → AllByRecursion (Meets a) cs → meets_all a cs ≡ true
+pub all_met : (a : ℕ → Bool) (cs : List Clause) → AllByRecursion (Satisfies a) cs → meets_all a cs ≡ true
 all_met a [] h = refl
 all_met a (c ∷ cs) h = ap (λ b. b && meets_all a cs) h.0 ∙ all_met a cs h.1
 
-pub each_met : (a : ℕ → Bool) (cs : List Clause) → meets_all a cs ≡ true → AllByRecursion (Meets a) cs
+pub each_met : (a : ℕ → Bool) (cs : List Clause) → meets_all a cs ≡ true → AllByRecursion (Satisfies a) cs
 each_met a [] h = tt
 each_met a (c ∷ cs) h = let parts : (meets a c ≡ true) × (meets_all a cs ≡ true) = and_true _ _ h in (parts.0, each_met a cs parts.1)
 
@@ -67,7 +67,7 @@ constants_met c a v on [] p h = tt
 constants_met c a v on (k ∷ ks) p h =
     (sym (on k.net.0 p.0) ∙ (h k.net.0 p.0).0 refl, constants_met c a v on ks p.1 (λ n lt. (h n lt).1))
 
-meeting_fits : (c : Circuit) (items : List (List ℕ)) (a : ℕ → Bool) → IsPlaced c items → All (Meets a) (transition_clauses c items) →
+meeting_fits : (c : Circuit) (items : List (List ℕ)) (a : ℕ → Bool) → IsPlaced c items → All (Satisfies a) (transition_clauses c items) →
     ShowsStep c items (shown (nets_of c a) (state_nets c)) (shown (nets_of c a) c.inputs) (nets_of c a) a
 meeting_fits c items a p m =
     let v = nets_of c a in
@@ -75,7 +75,7 @@ meeting_fits c items a p m =
     let nexts = next_clauses (first_next c) c.flops in
     let rest = items_clauses (state_vars c) (first_item c) items in
     let whole : meets_all a (table_clauses c items) ≡ true =
-    sym (meets-tidied a (table_clauses c items)) ∙ all_met a (transition_clauses c items) (recursion_from_All (Meets a) (transition_clauses c items) m) in
+    sym (meets-tidied a (table_clauses c items)) ∙ all_met a (transition_clauses c items) (recursion_from_All (Satisfies a) (transition_clauses c items) m) in
     let one : (meets_all a (gates_clauses (first_helper c) c.gates) ≡ true) × (meets_all a (units ++ (nexts ++ rest)) ≡ true) =
     and_true _ _ (sym (meets_all-append a (gates_clauses (first_helper c) c.gates) (units ++ (nexts ++ rest))) ∙ whole) in
     let two : (meets_all a units ≡ true) × (meets_all a (nexts ++ rest) ≡ true) =
@@ -126,7 +126,7 @@ abbrev every_bit : Circuit → List (List ℕ) → List Bool → List Bool → L
 every_bit c items s v = v ++ (gates_bits v c.gates ++ (map (loaded v) c.flops ++ items_bits s items))
 
 fitting_extends : (c : Circuit) (items : List (List ℕ)) (s x v : List Bool) → IsPlaced c items → Fits c s x v →
-    (a : ℕ → Bool) × All (Meets a) (transition_clauses c items) × ShowsStep c items s x v a
+    (a : ℕ → Bool) × All (Satisfies a) (transition_clauses c items) × ShowsStep c items s x v a
 fitting_extends c items s x v p f =
     let gate_part = gates_bits v c.gates in
     let next_part = map (loaded v) c.flops in
@@ -179,7 +179,7 @@ fitting_extends c items s x v p f =
     ∙ (meets_all-append a nexts rest ∙ (ap (λ b. b && meets_all a rest) next_met ∙ items_met.0))))) in
     let tidy : meets_all a (transition_clauses c items) ≡ true = meets-tidied a (table_clauses c items) ∙ whole in (
       a,
-      All-from_recursion (Meets a) (transition_clauses c items) (each_met a (transition_clauses c items) tidy),
+      All-from_recursion (Satisfies a) (transition_clauses c items) (each_met a (transition_clauses c items) tidy),
       record {
         valuation = sym (fill_by_all (λ n. a (n + 1)) v c.nets false f.every_net (λ k lt. sym (on k lt)));
         fits = f;

@@ -1,7 +1,7 @@
 -- What the transition clauses say: exactly the valuations that fit, with their next states and signatures.
 use Rattle.std.specs.Prelude.{◌≡◌, ℕ, ◌+◌, ◌<◌, Bool, List, length, map, All}
 use Rattle.std.specs.List.{range_with_len}
-use Rattle.bs_clause.specs.Literal.{Meets}
+use Rattle.bs_clause.specs.Literal.{Satisfies}
 use Rattle.bs_net.specs.Circuit.{Circuit, Fits, shown, state_nets, next_state}
 use Rattle.bs_scan.specs.Signature.{parity_of}
 use Rattle.bs_encode.specs.Transition.{transition_clauses, first_next, first_item, item_vars}
@@ -36,6 +36,6 @@ pub record ShowsStep (c : Circuit) (items : List (List ℕ)) (s x v : List Bool)
 -- clauses equal gates: every valuation that fits extends to an assignment that meets the clauses, and every assignment
 -- that meets them shows a valuation that fits its own state and input
 pub record ClausesEqualGates (c : Circuit) (items : List (List ℕ)) : Type 0 where
-  pub extends : (s x v : List Bool) → Fits c s x v → (a : ℕ → Bool) × All (Meets a) (transition_clauses c items) × ShowsStep c items s x v a
-  pub fits : (a : ℕ → Bool) → All (Meets a) (transition_clauses c items) →
+  pub extends : (s x v : List Bool) → Fits c s x v → (a : ℕ → Bool) × All (Satisfies a) (transition_clauses c items) × ShowsStep c items s x v a
+  pub fits : (a : ℕ → Bool) → All (Satisfies a) (transition_clauses c items) →
       ShowsStep c items (shown (nets_of c a) (state_nets c)) (shown (nets_of c a) c.inputs) (nets_of c a) a

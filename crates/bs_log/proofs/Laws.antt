@@ -5,7 +5,7 @@ use Rattle.std.specs.List.{list_any, list_all, cons_option, AllByRecursion}
 use Rattle.std.proofs.lemmas.Bool.{and_parts, eq-eqb, false≢true, cases_eq, or_left}
 use Rattle.std.proofs.lemmas.List.Elements.{recursion_from_All, All-from_recursion}
 use Rattle.std.proofs.lemmas.List.{reverse-append, append_assoc}
-use Rattle.bs_clause.specs.Literal.{Clause, negation, same_literal, literal_value, Meets}
+use Rattle.bs_clause.specs.Literal.{Clause, negation, same_literal, literal_value, Satisfies}
 use Rattle.bs_clause.proofs.Literals.{same_literal-true, literal_value-negation}
 use Rattle.bs_log.specs.declared.line.Line.{Line}
 use Rattle.bs_log.specs.declared.line.Line.TheVariants.{Solve, Lemma, Block, Finish, Retire, Delete}
@@ -14,22 +14,22 @@ use Rattle.bs_log.specs.Refusal.{NoneRefused, IsAccepted, history_of, entry_of, 
 use Rattle.bs_log.specs.Refutation.{Suits, blocks_of, AddedClausesHold, FinishedStepsAreRefuted}
 use Rattle.bs_clause.proofs.Values.{AllTrue, denied}
 use Rattle.bs_log.proofs.Elements.{AllByRecursion-find, AllByRecursion-filter}
-use Rattle.bs_log.proofs.Propagates.{Meets-lemma}
+use Rattle.bs_log.proofs.Propagates.{Satisfies-lemma}
 use Rattle.bs_log.proofs.Tests.{right_from_none, IsRight}
 
 -- the assignment meets the clause of the entry
 abbrev Holds : (ℕ → Bool) → Entry → Type 0
-Holds v e = Meets v e.literals
+Holds v e = Satisfies v e.literals
 
-axioms_hold : (v : ℕ → Bool) (n : ℕ) (cs : List Clause) → AllByRecursion (Meets v) cs → AllByRecursion (Holds v) (axioms_from n cs)
+axioms_hold : (v : ℕ → Bool) (n : ℕ) (cs : List Clause) → AllByRecursion (Satisfies v) cs → AllByRecursion (Holds v) (axioms_from n cs)
 axioms_hold v n [] all = tt
 axioms_hold v n (c ∷ cs) all = (all.0, axioms_hold v (n + 1) cs all.1)
 
-hints_hold : (v : ℕ → Bool) (entries : List Entry) (ids : List ℕ) → AllByRecursion (Holds v) entries → AllByRecursion (Meets v) (clauses_of entries ids)
+hints_hold : (v : ℕ → Bool) (entries : List Entry) (ids : List ℕ) → AllByRecursion (Holds v) entries → AllByRecursion (Satisfies v) (clauses_of entries ids)
 hints_hold v entries [] all = tt
 hints_hold v entries (id ∷ ids) all =
     elim (entry_of entries id) as (λ o. entry_of entries id ≡ o →
-    AllByRecursion (Meets v) (cons_option (option_map (λ (e : Entry). e.literals) o) (clauses_of entries ids))) [
+    AllByRecursion (Satisfies v) (cons_option (option_map (λ (e : Entry). e.literals) o) (clauses_of entries ids))) [
       | None ↦ λ _. hints_hold v entries ids all
       | Some e ↦ λ found. (AllByRecursion-find (Holds v) (λ x. eqb x.id id) entries e all found, hints_hold v entries ids all)
     ] refl
@@ -61,7 +61,7 @@ retired_is_true p step v h g before other =
     elim (v (p.vars + step_of h)) as (λ b. b ≡ false → not (literal_value (λ _. b) (guard_of p (step_of h))) ≡ true) [ true ↦ λ e. sym e | false ↦ λ _. refl ] lost
 
 block_holds : (p : Problem) (step : ℕ) (v : ℕ → Bool) (h : History) (lits : Clause) → Guards p step v → step_of h ≤ step → step_of h ≢ step →
-    is_block_of p (step_of h) lits ≡ true → Meets v lits
+    is_block_of p (step_of h) lits ≡ true → Satisfies v lits
 block_holds p step v h [] g before other fits = absurd (false≢true fits)
 block_holds p step v h (first ∷ rest) g before other fits =
     let parts = and_parts (same_literal first (negation (guard_of p (step_of h)))) (list_all (λ l. nat_le l.variable p.vars) rest) fits in
@@ -69,7 +69,7 @@ block_holds p step v h (first ∷ rest) g before other fits =
     (ap (literal_value v) (same_literal-true first (negation (guard_of p (step_of h))) parts.0) ∙ retired_is_true p step v h g before other)
 
 added_holds : (p : Problem) (step : ℕ) (v : ℕ → Bool) (h : History) → NoneRefused p h → step_of h ≤ step → Guards p step v →
-    AllByRecursion (Meets v) p.clauses → AllByRecursion (Meets v) (blocks_of h step) → AllByRecursion (Holds v) (added p h)
+    AllByRecursion (Satisfies v) p.clauses → AllByRecursion (Satisfies v) (blocks_of h step) → AllByRecursion (Holds v) (added p h)
 added_holds p step v [] right before g axioms blocks = axioms_hold v 1 p.clauses axioms
 added_holds p step v (Solve ∷ h) right before g axioms blocks = added_holds p step v h right.1 before g axioms blocks
 added_holds p step v (Finish id ∷ h) right before g axioms blocks = added_holds p step v h right.1 before g axioms blocks
@@ -78,18 +78,18 @@ added_holds p step v (Lemma id lits hints ∷ h) right before g axioms blocks =
     let earlier : AllByRecursion (Holds v) (added p h) = added_holds p step v h right.1 before g axioms blocks in
     let is_right : IsRight p (state_of p h) (Lemma id lits hints) = right_from_none p (state_of p h) (Lemma id lits hints) right.0 in
     push_holds (Holds v) (added p h) _ earlier
-    (Meets-lemma v lits (clauses_of (live p h) hints) is_right.last
+    (Satisfies-lemma v lits (clauses_of (live p h) hints) is_right.last
     (hints_hold v (live p h) hints (AllByRecursion-filter (Holds v) (λ x. not (is_deleted h x.id)) (added p h) earlier)))
 added_holds p step v (Block id lits ∷ h) right before g axioms blocks =
     let is_right : IsRight p (state_of p h) (Block id lits) = right_from_none p (state_of p h) (Block id lits) right.0 in
     elim (cases_eq (step_of h) step) [
       | inl here ↦
-          let both : AllByRecursion (Meets v) (lits ∷ blocks_of h step) =
-          subst (λ (t : Bool). AllByRecursion (Meets v) (cond t (lits ∷ blocks_of h step) (blocks_of h step))) (eq-eqb (step_of h) step here) blocks in
+          let both : AllByRecursion (Satisfies v) (lits ∷ blocks_of h step) =
+          subst (λ (t : Bool). AllByRecursion (Satisfies v) (cond t (lits ∷ blocks_of h step) (blocks_of h step))) (eq-eqb (step_of h) step here) blocks in
           push_holds (Holds v) (added p h) _ (added_holds p step v h right.1 before g axioms both.1) both.0
       | inr other ↦
-          let rest : AllByRecursion (Meets v) (blocks_of h step) =
-          elim (eqb (step_of h) step) as (λ t. AllByRecursion (Meets v) (cond t (lits ∷ blocks_of h step) (blocks_of h step)) → AllByRecursion (Meets v) (blocks_of h step)) [
+          let rest : AllByRecursion (Satisfies v) (blocks_of h step) =
+          elim (eqb (step_of h) step) as (λ t. AllByRecursion (Satisfies v) (cond t (lits ∷ blocks_of h step) (blocks_of h step)) → AllByRecursion (Satisfies v) (blocks_of h step)) [
             | true ↦ λ x. x.1
             | false ↦ λ x. x
           ] blocks in
@@ -118,7 +118,7 @@ pub added_clauses_hold : AddedClausesHold
 added_clauses_hold p log before after step v ok e early s =
     All-from_recursion (Holds v) (added p (history_of before))
     (added_holds p step v (history_of before) (front_is_right p log before after ok e) early (guards_of p (history_of before) step v s)
-    (recursion_from_All (Meets v) p.clauses s.clauses) (recursion_from_All (Meets v) (blocks_of (history_of before) step) s.blocks))
+    (recursion_from_All (Satisfies v) p.clauses s.clauses) (recursion_from_All (Satisfies v) (blocks_of (history_of before) step) s.blocks))
 
 -- no assignment makes all assumptions true where it meets a named clause that denies them
 named_denied : (v : ℕ → Bool) (assumptions : Clause) (entries : List Entry) (id : ℕ) →
@@ -139,6 +139,6 @@ finished_steps_are_refuted p log before after id v ok e s true_ones =
     let all_hold : AllByRecursion (Holds v) (live p h) =
     AllByRecursion-filter (Holds v) (λ x. not (is_deleted h x.id)) (added p h)
     (added_holds p (step_of h) v h right.1 (omega arith) (guards_of p h (step_of h) v s)
-    (recursion_from_All (Meets v) p.clauses s.clauses) (recursion_from_All (Meets v) (blocks_of h (step_of h)) s.blocks)) in
+    (recursion_from_All (Satisfies v) p.clauses s.clauses) (recursion_from_All (Satisfies v) (blocks_of h (step_of h)) s.blocks)) in
     named_denied v (assumptions_of p (step_of h)) (live p h) id is_right.finish all_hold
     (recursion_from_All (λ l. literal_value v l ≡ true) (assumptions_of p (step_of h)) true_ones)

@@ -4,6 +4,7 @@ pub mod Refusal
 pub mod Kept
 pub mod Lean
 pub mod Refutation
+pub mod Shown
 pub mod Steps
 pub mod FirstRefused
 pub mod LineText

@@ -1,6 +1,6 @@
 -- What an accepted log refutes.
 use Rattle.std.specs.Prelude.{◌≡◌, ◌≢◌, ℕ, ◌+◌, ◌≤◌, ◌==◌, Bool, true, false, cond, List, [], ◌∷◌, ◌++◌, length, All, IsTrue}
-use Rattle.bs_clause.specs.Literal.{Clause, literal_value, Meets}
+use Rattle.bs_clause.specs.Literal.{Clause, literal_value, Satisfies}
 use Rattle.bs_log.specs.declared.line.Line.{Line}
 use Rattle.bs_log.specs.declared.line.Line.TheVariants.{Block, Finish}
 use Rattle.bs_log.specs.History.{Problem, History, step_of, added}
@@ -15,8 +15,8 @@ blocks_of (line ∷ earlier) step = blocks_of earlier step
 -- The assignment meets the clauses and the blocks of the step so far, and of all guards the step's alone is true.
 pub record Suits (p : Problem) (history : History) (step : ℕ) (v : ℕ → Bool) : Type 0 where
   pub in_range : step ≤ length p.steps
-  pub clauses : All (Meets v) p.clauses
-  pub blocks : All (Meets v) (blocks_of history step)
+  pub clauses : All (Satisfies v) p.clauses
+  pub blocks : All (Satisfies v) (blocks_of history step)
   pub guard : v (p.vars + step) ≡ true
   pub other_guards : (other : ℕ) → 1 ≤ other → other ≤ length p.steps → other ≢ step → v (p.vars + other) ≡ false
 
@@ -25,7 +25,7 @@ abbrev pub AddedClausesHold : Type 0
 AddedClausesHold =
     (p : Problem) (log before after : List Line) (step : ℕ) (v : ℕ → Bool) →
     IsAccepted p log → log ≡ before ++ after → step_of (history_of before) ≤ step →
-    Suits p (history_of before) step v → All (λ e. Meets v e.literals) (added p (history_of before))
+    Suits p (history_of before) step v → All (λ e. Satisfies v e.literals) (added p (history_of before))
 
 -- So where an accepted log finishes a step, no such assignment meets the step's assumptions.
 abbrev pub FinishedStepsAreRefuted : Type 0

@@ -9,7 +9,7 @@ use Rattle.std.proofs.lemmas.Bool.{true≢false, false≢true}
 use Rattle.std.proofs.lemmas.Bool.Decides.{Decides-eqb, Decides-and}
 use Rattle.std.proofs.lemmas.List.Elements.{All-from_recursion, recursion_from_All}
 use Rattle.bs_bits.specs.Bits.{bits_eq}
-use Rattle.bs_clause.specs.Literal.{Literal, Clause, negation, same_literal, Meets}
+use Rattle.bs_clause.specs.Literal.{Literal, Clause, negation, same_literal, Satisfies}
 use Rattle.bs_log.specs.History.{Problem, guard_of}
 use Rattle.bs_log.specs.Refusal.{history_of, assumptions_of}
 use Rattle.bs_log.specs.Refutation.{Suits}
@@ -34,7 +34,8 @@ use Rattle.bs_report.specs.declared.report.Report.{Report}
 use Rattle.bs_report.specs.Crash.{Crash}
 use Rattle.bs_report.specs.Step.{stored_of, listed}
 use Rattle.bs_report.specs.Valid.{Encoded, has_clause, blocks_due, are_right_blocks, is_right_finish, lines_at}
-use Rattle.bs_report.specs.ValidLaw.{IsEncoded, Shown}
+use Rattle.bs_log.specs.Shown.{Shown}
+use Rattle.bs_report.specs.ValidLaw.{IsEncoded}
 use Rattle.bs_report.proofs.ValidLemmas.{AllIsRight, cand_is, state_at_place, holds, both}
 
 literal_decides : (a b : Literal) → Decides (same_literal a b) (a ≡ b)
@@ -72,7 +73,7 @@ pub refuted : (crash : Crash) (encoded : Encoded) (r : Report) → IsEncoded cra
     (s x : List Bool) → length s ≡ length crash.circuit.flops → length x ≡ length crash.circuit.inputs →
     agrees crash.circuit crash.choice (stored_of step) s ≡ true → next crash.circuit s x ≡ step.present → is_listed (listed step.cands) s ≡ false → ⊥
 refuted crash encoded r enc h k step id e fin s x ls lx ag nx out =
-    let shown : Shown crash encoded (k + 1) s = enc.shown k step s x e ls lx ag nx in
+    let shown : Shown encoded.problem encoded.block (length crash.circuit.flops) (k + 1) s = enc.shown k step s x e ls lx ag nx in
     let v : ℕ → Bool = shown.value in
     let p : Problem = encoded.problem in
     let f : List Bool → Clause = λ t. negation (guard_of p (k + 1)) ∷ encoded.block t in
@@ -82,11 +83,11 @@ refuted crash encoded r enc h k step id e fin s x ls lx ag nx out =
     let test = holds (are_right_blocks (blocks_due encoded k step) (filter_map block_of_line (lines_at r k))) (parts.Blocks (k + 1)) (h.logs k step e).0 in
     let first = both _ (list_all (has_clause (filter_map block_of_line (lines_at r k))) (blocks_due encoded k step)) test in
     let second = both _ (list_all (has_clause (blocks_due encoded k step)) (filter_map block_of_line (lines_at r k))) first.0 in
-    let blocks : Each (Meets v) (filter_map block_of_line (lines_at r k)) =
-    each_pass (Meets v) (has_clause (blocks_due encoded k step))
+    let blocks : Each (Satisfies v) (filter_map block_of_line (lines_at r k)) =
+    each_pass (Satisfies v) (has_clause (blocks_due encoded k step))
     (λ b t.
     let one = block_is f (listed step.cands) b t in
-    subst (Meets v) (sym one.is)
+    subst (Satisfies v) (sym one.is)
     (shown.blocks one.state (each_member (λ (t : List Bool). length t ≡ length crash.circuit.flops) one.state (listed step.cands) widths one.member)
     (λ (same : one.state ≡ s).
     true≢false (sym (any_member (bits_eq s) one.state (listed step.cands) one.member (ap (bits_eq s) same ∙ bits_same s)) ∙ out))))
@@ -95,11 +96,11 @@ refuted crash encoded r enc h k step id e fin s x ls lx ag nx out =
     let named : filter_map finish_of_line (lines_at r k) ≡ id ∷ [] =
     (pointwise_decides Decides-eqb (filter_map finish_of_line (lines_at r k)) (id ∷ [])).0
     (subst (λ (x : ListEnd). is_right_finish encoded r k x (filter_map finish_of_line (lines_at r k)) ≡ true) fin finish) in
-    let spot = finish_at (Meets v) id r.log [] k (k + 1) (omega arith) named blocks tt in
+    let spot = finish_at (Satisfies v) id r.log [] k (k + 1) (omega arith) named blocks tt in
     let suits : Suits p (history_of spot.before) (k + 1) v = record {
       in_range = omega (arith, enc.each_step, below r.steps k step e);
       clauses = shown.clauses;
-      blocks = All-from_recursion (Meets v) _ spot.blocks;
+      blocks = All-from_recursion (Satisfies v) _ spot.blocks;
       guard = shown.guard;
       other_guards = shown.other_guards;
     } in

@@ -10,7 +10,7 @@ use Rattle.std.proofs.lemmas.Option.{slice_get-get_or}
 use Rattle.std.specs.Cmp.{nat_eq_equiv}
 use Rattle.std.proofs.lemmas.Map.Keys.{IsDistinct-from_apart}
 use Rattle.std.proofs.lemmas.Map.Made.{length-le_from_is_member}
-use Rattle.bs_clause.specs.Literal.{Literal, Clause, negation, has_literal, literal_value, Meets}
+use Rattle.bs_clause.specs.Literal.{Literal, Clause, negation, has_literal, literal_value, Satisfies}
 use Rattle.bs_clause.specs.UnitRun.{IsUnitRun}
 use Rattle.bs_log.specs.declared.line.Line.{Line}
 use Rattle.bs_log.specs.declared.line.Line.TheVariants.{Solve, Lemma, Block, Finish, Retire, Delete}
@@ -155,7 +155,7 @@ solution trail vars clauses a values quiet all consistent range range_a given ha
   total = λ v low high.
       let is = has.given v low high in
       slice_get-get_or values (v - 1) None (omega (arith, low, high, has.length_is)) ∙ ap Some (is ∙ ap (λ o. Some (unwrap_or o false)) (sym is));
-  clauses_met = all_from (Meets (value_of values)) clauses (λ c there.
+  clauses_met = all_from (Satisfies (value_of values)) clauses (λ c there.
       let t = true_literal trail vars c all (range c there) (All-contains (λ x. ¬ IsConflict trail x) clauses c quiet.no_conflict there) in
       meets_from (value_of values) c t.0 t.1 (value_is t.0 (range c there t.0 t.1) t.2));
   assumptions_met = all_from (λ l. literal_value (value_of values) l ≡ true) a (λ l there. value_is l (range_a l there) (All-contains (IsTrueOn trail) a l given there));

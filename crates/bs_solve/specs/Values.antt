@@ -1,6 +1,6 @@
 -- The values that a trail gives to the variables.
 use Rattle.std.specs.Prelude.{◌≡◌, ◌⊎◌, ℕ, ◌-◌, ◌≤◌, Bool, true, false, List, length, Option, Some, None, slice_index_or, unwrap_or, All}
-use Rattle.bs_clause.specs.Literal.{Literal, Clause, negation, has_literal, literal_value, Meets, value_at}
+use Rattle.bs_clause.specs.Literal.{Literal, Clause, negation, has_literal, literal_value, Satisfies, value_at}
 
 -- the literal of a variable
 abbrev pub positive : ℕ → Literal
@@ -23,5 +23,5 @@ value_of values v = unwrap_or (slice_index_or values (v - 1) None) false
 pub record IsSolution (vars : ℕ) (clauses : List Clause) (assumptions : Clause) (values : List (Option Bool)) : Type 0 where
   pub length_is : length values ≡ vars
   pub total : (v : ℕ) → 1 ≤ v → v ≤ vars → value_at values v ≡ Some (Some (value_of values v))
-  pub clauses_met : All (Meets (value_of values)) clauses
+  pub clauses_met : All (Satisfies (value_of values)) clauses
   pub assumptions_met : All (λ l. literal_value (value_of values) l ≡ true) assumptions
