@@ -15,7 +15,8 @@ use Rattle.bs_report.specs.declared.report.Stop.TheVariants as stops
 use Rattle.bs_report.specs.declared.report.Report.{Report}
 use Rattle.bs_report.specs.Crash.{Crash, IsCrash}
 use Rattle.bs_report.specs.Step.{listed, IsRightStep}
-use Rattle.bs_report.specs.Chain.{Present, present_of_hit, present_of_dump, present_after, last_present}
+use Rattle.bs_scan.specs.Present.{Present}
+use Rattle.bs_report.specs.Chain.{present_of_hit, present_of_dump, present_after, last_present}
 use Rattle.bs_report.specs.Stop.{IsFinished, StopsFor}
 use Rattle.bs_report.specs.Good.{IsGood}
 use Rattle.bs_report.specs.Law.{UnhitIsFirst, FinishedReachReset}

@@ -17,7 +17,8 @@ use Rattle.bs_report.specs.declared.report.Report.{Report}
 use Rattle.bs_report.specs.Crash.{Crash}
 use Rattle.bs_report.specs.declared.report.Step.{Step}
 use Rattle.bs_report.specs.Trace.{trace_states, trace_inputs}
-use Rattle.bs_report.specs.Valid.{Encoded, first_failing, first_of_all, each_step, step_parts, cause_of}
+use Rattle.bs_log.specs.Shown.{Basis}
+use Rattle.bs_report.specs.Valid.{first_failing, first_of_all, each_step, step_parts, cause_of}
 use Rattle.bs_report.specs.Text.{report_text, head_text, tail_text}
 
 abbrev net : ℕ → NetId
@@ -50,8 +51,8 @@ yes v = record { variable = v; positive = true }
 abbrev not_ : ℕ → Literal
 not_ v = record { variable = v; positive = false }
 
-abbrev encoded : Encoded
-encoded =
+abbrev basis : Basis
+basis =
     record {
       problem = record {
         vars = 4;
@@ -82,20 +83,20 @@ report =
       log = lines.Solve ∷ lines.Block 6 (not_ 5 ∷ yes 3 ∷ []) ∷ lines.Solve ∷ lines.Lemma 7 (not_ 5 ∷ not_ 4 ∷ []) (4 ∷ 1 ∷ 6 ∷ []) ∷ lines.Finish 7 ∷ lines.Retire 8 ∷ lines.Delete (6 ∷ 7 ∷ []) ∷ [];
     }
 
-is_valid : first_failing crash encoded report ≡ None
+is_valid : first_failing crash basis report ≡ None
 unfolding first_failing predecessors first_moment state_at next settled all_bits
 is_valid = refl
 
 -- another cause, another trace and another end are each refused
-other_cause : first_failing crash encoded (record report { stop = stops.Length }) ≡ Some parts.Stop
+other_cause : first_failing crash basis (record report { stop = stops.Length }) ≡ Some parts.Stop
 unfolding first_failing predecessors first_moment state_at next settled all_bits
 other_cause = refl
 
-other_trace : first_failing crash encoded (record report { inputs = [] }) ≡ Some parts.Trace
+other_trace : first_failing crash basis (record report { inputs = [] }) ≡ Some parts.Trace
 unfolding first_failing predecessors first_moment state_at next settled all_bits
 other_trace = refl
 
-no_retire : first_failing crash encoded (record report { log = lines.Solve ∷ [] }) ≡ Some (parts.Log 2 order)
+no_retire : first_failing crash basis (record report { log = lines.Solve ∷ [] }) ≡ Some (parts.Log 2 order)
 unfolding first_failing predecessors first_moment state_at next settled all_bits
 no_retire = refl
 

@@ -18,8 +18,9 @@ use Rattle.bs_report.specs.declared.report.HitLine.{HitLine}
 use Rattle.bs_report.specs.declared.report.Step.{Step}
 use Rattle.bs_report.specs.declared.report.Report.{Report}
 use Rattle.bs_report.specs.Crash.{Crash}
-use Rattle.bs_report.specs.Step.{listed, IsRightStep, IsCandidate}
-use Rattle.bs_report.specs.Chain.{Present, present_of, present_of_hit, present_of_dump, present_after, Follow}
+use Rattle.bs_report.specs.Step.{stored_of, listed, IsRightStep, IsCandidate}
+use Rattle.bs_scan.specs.Present.{Present}
+use Rattle.bs_report.specs.Chain.{present_of, present_of_hit, present_of_dump, present_after, Follow}
 use Rattle.bs_report.specs.Trace.{hit_state, input_for}
 use Rattle.bs_report.specs.Good.{IsGood}
 use Rattle.bs_report.specs.Law.{continued, EndsExecution, TracesEndExecutions}
@@ -112,7 +113,7 @@ record InputFor (crash : Crash) (step : Step) (s : List Bool) : Type 0 where
 input_of : (crash : Crash) → IsChecked crash.circuit → (step : Step) (hit : HitLine) → IsRightStep crash step → step.hit ≡ Some hit → InputFor crash step hit.state
 input_of crash checked step hit right e =
     let reached : is_listed (listed step.cands) hit.state ≡ true = (hit_at crash step hit (sym e ∙ right.hit)).reached in
-    let f = cand_for (IsCandidate crash step) step.cands hit.state (recursion_from_All (IsCandidate crash step) step.cands right.candidates) reached in
+    let f = cand_for (IsCandidate crash.circuit crash.choice step.present (stored_of step)) step.cands hit.state (recursion_from_All (IsCandidate crash.circuit crash.choice step.present (stored_of step)) step.cands right.candidates) reached in
     record {
       input = f.cand.input;
       is = ap (option_map (λ (c : Cand). c.input)) f.first;

@@ -20,7 +20,7 @@ use Rattle.bs_report.specs.declared.report.Report.{Report}
 use Rattle.bs_report.specs.Crash.{Crash, IsCrash}
 use Rattle.bs_report.specs.Step.{stored_of, listed, asked_of, IsCandidate}
 use Rattle.bs_report.specs.Stop.{IsFinished}
-use Rattle.bs_report.specs.Valid.{Encoded}
+use Rattle.bs_log.specs.Shown.{Basis}
 use Rattle.bs_report.specs.ValidLaw.{IsEncoded, ValidIsGood}
 use Rattle.bs_report.proofs.SortedLemmas.{asc_of_pairs, asc_filter, asc_all_bits, same_lists}
 use Rattle.bs_report.proofs.ValidLemmas.{AllIsRight, all_is_right, right_step, FinishedAreWhole, good_where_whole, both}
@@ -59,7 +59,7 @@ filter_member q s (x ∷ xs) m = by (q x) refl m (filter_member q s xs)
 all_bits_length : (n : ℕ) (s : List Bool) → Member s (all_bits n) → length s ≡ n
 all_bits_length n s m = each_member (λ (s : List Bool). length s ≡ n) s (all_bits n) (recursion_from_All (λ (s : List Bool). length s ≡ n) (all_bits n) (all_bits_widths n)) m
 
-each_predecessor : (crash : Crash) (step : Step) (cands : List Cand) → Each (IsCandidate crash step) cands → Each (λ (s : List Bool). is_listed (asked_of crash step) s ≡ true) (listed cands)
+each_predecessor : (crash : Crash) (step : Step) (cands : List Cand) → Each (IsCandidate crash.circuit crash.choice step.present (stored_of step)) cands → Each (λ (s : List Bool). is_listed (asked_of crash step) s ≡ true) (listed cands)
 each_predecessor crash step [] h = tt
 each_predecessor crash step (c ∷ cs) h = (h.0.predecessor, each_predecessor crash step cs h.1)
 
@@ -68,9 +68,9 @@ finished_id (Finished id) h = (id, refl)
 finished_id Candidates h = absurd h
 finished_id Conflicts h = absurd h
 
-whole : (crash : Crash) (encoded : Encoded) (r : Report) → IsCrash crash → IsEncoded crash encoded r.steps → AllIsRight crash encoded r → FinishedAreWhole crash r
+whole : (crash : Crash) (basis : Basis) (r : Report) → IsCrash crash → IsEncoded crash basis r.steps → AllIsRight crash basis r → FinishedAreWhole crash r
 unfolding predecessors
-whole crash encoded r is enc h k step e fin =
+whole crash basis r is enc h k step e fin =
     let right = right_step crash is r k step (h.steps k step e) in
     let q : List Bool → Bool = λ s. agrees crash.circuit crash.choice (stored_of step) s && some_input_leads crash.circuit s step.present in
     let id = finished_id step.end fin in
@@ -79,13 +79,13 @@ whole crash encoded r is enc h k step e fin =
     (λ s m.
     listed_member s (asked_of crash step)
     (each_member (λ (s : List Bool). is_listed (asked_of crash step) s ≡ true) s (listed step.cands)
-    (each_predecessor crash step step.cands (recursion_from_All (IsCandidate crash step) step.cands right.candidates)) m))
+    (each_predecessor crash step step.cands (recursion_from_All (IsCandidate crash.circuit crash.choice step.present (stored_of step)) step.cands right.candidates)) m))
     (λ s m.
     let found = filter_member q s (all_bits (length crash.circuit.flops)) m in
     let tests = both (agrees crash.circuit crash.choice (stored_of step) s) (some_input_leads crash.circuit s step.present) found.0 in
     let x = passing (λ (x : List Bool). bits_eq (next crash.circuit s x) step.present) (all_bits (length crash.circuit.inputs)) tests.1 in
     by s (is_listed (listed step.cands) s) refl
-    (refuted crash encoded r enc h k step id.0 e id.1 s x.item (all_bits_length (length crash.circuit.flops) s found.1) (all_bits_length (length crash.circuit.inputs) x.item x.member)
+    (refuted crash basis r enc h k step id.0 e id.1 s x.item (all_bits_length (length crash.circuit.flops) s found.1) (all_bits_length (length crash.circuit.inputs) x.item x.member)
     tests.0 (bits_same_is (next crash.circuit s x.item) step.present x.passes)))
   where
     by : (s : List Bool) (b : Bool) → is_listed (listed step.cands) s ≡ b → (is_listed (listed step.cands) s ≡ false → ⊥) → Member s (listed step.cands)
@@ -93,4 +93,4 @@ whole crash encoded r is enc h k step e fin =
     by s false e out = absurd (out e)
 
 pub valid_is_good : ValidIsGood
-valid_is_good crash encoded r is enc valid = good_where_whole crash encoded r is valid (whole crash encoded r is enc (all_is_right crash encoded r valid))
+valid_is_good crash basis r is enc valid = good_where_whole crash basis r is valid (whole crash basis r is enc (all_is_right crash basis r valid))

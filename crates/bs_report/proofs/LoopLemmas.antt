@@ -7,7 +7,8 @@ use Rattle.std.proofs.lemmas.List.Elements.{filter_map-append}
 use Rattle.bs_report.specs.declared.report.HitLine.{HitLine}
 use Rattle.bs_report.specs.declared.report.Step.{Step}
 use Rattle.bs_report.specs.Crash.{Crash}
-use Rattle.bs_report.specs.Chain.{Present, present_of, present_after, last_present, Follow}
+use Rattle.bs_scan.specs.Present.{Present}
+use Rattle.bs_report.specs.Chain.{present_of, present_after, last_present, Follow}
 use Rattle.bs_report.specs.Trace.{hit_state, input_for, trace_states, trace_inputs}
 
 pub follow_more : (crash : Crash) (now : Option Present) (steps : List Step) (step : Step) → Follow crash now steps → last_present crash now steps ≡ Some (present_of step) → Follow crash now (steps ++ step ∷ [])

@@ -18,7 +18,8 @@ use Rattle.bs_report.specs.declared.report.Step.{Step}
 use Rattle.bs_report.specs.declared.report.Budgets.{Budgets}
 use Rattle.bs_report.specs.Crash.{Crash, IsCrash}
 use Rattle.bs_report.specs.Step.{stored_of, listed, asked_of, hit_of, IsRightStep, IsRightEnd}
-use Rattle.bs_report.specs.Chain.{Present, present_of, present_of_hit, present_after, Follow}
+use Rattle.bs_scan.specs.Present.{Present}
+use Rattle.bs_report.specs.Chain.{present_of, present_of_hit, present_after, Follow}
 use Rattle.bs_report.specs.Stop.{IsFinished}
 use Rattle.bs_report.specs.Law.{HitsEarlier, LaterHitsAreEarlier}
 
@@ -42,7 +43,7 @@ follow_next crash now (a ∷ b ∷ bs) zero earlier later f e h =
     ap (present_after crash) (sym first) ∙ (f.1.0 ∙ ap (λ (s : Step). Some (present_of s)) second)
 follow_next crash now (a ∷ b ∷ bs) (suc i) earlier later f e h = follow_next crash (present_after crash a) (b ∷ bs) i earlier later f.1 e h
 
-finished_list : (crash : Crash) (budgets : Budgets) (lines : List Line) (step : Step) (e : ListEnd) → IsFinished e → IsRightEnd crash budgets lines step e → listed step.cands ≡ asked_of crash step
+finished_list : (crash : Crash) (budgets : Budgets) (lines : List Line) (step : Step) (e : ListEnd) → IsFinished e → IsRightEnd (asked_of crash step) budgets.candidates budgets.conflicts lines step.cands e → listed step.cands ≡ asked_of crash step
 finished_list crash budgets lines step (Finished id) f h = h.0
 finished_list crash budgets lines step Candidates f h = absurd f
 finished_list crash budgets lines step Conflicts f h = absurd f

@@ -44,10 +44,12 @@ use Rattle.bs_report.specs.declared.report.Report.{Report}
 use Rattle.bs_report.specs.Crash.{Crash, IsCrash}
 use Rattle.bs_report.specs.Step.{stored_of, listed, hit_of, asked_of, Ascend, IsCandidate, IsRightStep, IsRightEnd}
 use Rattle.bs_report.specs.Good.{IsGood}
-use Rattle.bs_report.specs.Chain.{Present, present_of, present_of_hit, present_of_dump, present_after, last_present, Follow, IsChain}
+use Rattle.bs_scan.specs.Present.{Present}
+use Rattle.bs_report.specs.Chain.{present_of, present_of_hit, present_of_dump, present_after, last_present, Follow, IsChain}
 use Rattle.bs_report.specs.Stop.{StopsFor, IsFinished}
 use Rattle.bs_report.specs.Trace.{IsTrace, trace_states, trace_inputs}
-use Rattle.bs_report.specs.Valid.{unless, all_bits_eq, due_at, has_state, has_stored, is_right_cand, is_right_count, same_hit, step_parts, log_parts, each_step, parts_of, first_of_all, first_failing, is_cause, cause_of, cause_at, cause_after, cause_of_end, stop_number, Encoded, IsValid, cand_at, no_cand, is_right_finish, is_spent, lines_at}
+use Rattle.bs_log.specs.Shown.{Basis}
+use Rattle.bs_report.specs.Valid.{unless, all_bits_eq, due_at, has_state, has_stored, is_right_cand, is_right_count, same_hit, step_parts, log_parts, each_step, parts_of, first_of_all, first_failing, is_cause, cause_of, cause_at, cause_after, cause_of_end, stop_number, IsValid, cand_at, no_cand, is_right_finish, is_spent, lines_at}
 
 abbrev IsRight : Option Part → Type 0
 IsRight part = part ≡ None
@@ -120,29 +122,29 @@ step_is_right crash r i step h =
     }
 
 -- what is right of the whole report
-pub record AllIsRight (crash : Crash) (encoded : Encoded) (r : Report) : Type 0 where
+pub record AllIsRight (crash : Crash) (basis : Basis) (r : Report) : Type 0 where
   pub steps : (k : ℕ) (step : Step) → slice_get r.steps k ≡ Some step → StepIsRight crash r k step
   pub few : nat_le (length r.steps) r.budgets.steps ≡ true
   pub cause : is_cause r.stop (cause_of crash r.budgets r.steps) ≡ true
   pub states : all_bits_eq r.states (trace_states crash.dump.state r.steps) ≡ true
   pub inputs : all_bits_eq r.inputs (trace_inputs r.steps) ≡ true
-  pub log : first_refused encoded.problem r.log ≡ None
-  pub logs : (k : ℕ) (step : Step) → slice_get r.steps k ≡ Some step → Each IsRight (log_parts encoded r k step)
+  pub log : first_refused basis.problem r.log ≡ None
+  pub logs : (k : ℕ) (step : Step) → slice_get r.steps k ≡ Some step → Each IsRight (log_parts basis r k step)
 
 no_part : (o : Option (ℕ × Why)) → option_map (λ (x : ℕ × Why). parts.Log x.0 x.1) o ≡ None → o ≡ None
 no_part None e = refl
 no_part (Some x) e = cc
 
-pub all_is_right : (crash : Crash) (encoded : Encoded) (r : Report) → IsValid crash encoded r → AllIsRight crash encoded r
+pub all_is_right : (crash : Crash) (basis : Basis) (r : Report) → IsValid crash basis r → AllIsRight crash basis r
 unfolding first_failing
-all_is_right crash encoded r valid =
-    let all : Each IsRight (parts_of crash encoded r) = none_fails (parts_of crash encoded r) valid in
+all_is_right crash basis r valid =
+    let all : Each IsRight (parts_of crash basis r) = none_fails (parts_of crash basis r) valid in
     let steps : List (Option Part) = each_step (step_parts crash r) 0 r.steps in
     let others : List (Option Part) =
     unless (nat_le (length r.steps) r.budgets.steps && is_cause r.stop (cause_of crash r.budgets r.steps)) parts.Stop ∷
     unless (all_bits_eq r.states (trace_states crash.dump.state r.steps) && all_bits_eq r.inputs (trace_inputs r.steps)) parts.Trace ∷
-    option_map (λ refused. parts.Log refused.0 refused.1) (first_refused encoded.problem r.log) ∷
-    each_step (log_parts encoded r) 0 r.steps in
+    option_map (λ refused. parts.Log refused.0 refused.1) (first_refused basis.problem r.log) ∷
+    each_step (log_parts basis r) 0 r.steps in
     let front : Each IsRight steps = each_left IsRight steps others all in
     let back : Each IsRight others = each_right IsRight steps others all in
     let stop = both (nat_le (length r.steps) r.budgets.steps) (is_cause r.stop (cause_of crash r.budgets r.steps)) (holds (nat_le (length r.steps) r.budgets.steps && is_cause r.stop (cause_of crash r.budgets r.steps)) parts.Stop back.0) in
@@ -153,8 +155,8 @@ all_is_right crash encoded r valid =
       cause = stop.1;
       states = trace.0;
       inputs = trace.1;
-      log = no_part (first_refused encoded.problem r.log) back.1.1.0;
-      logs = λ k step e. at_step (log_parts encoded r) 0 r.steps back.1.1.1 k k step e (omega arith);
+      log = no_part (first_refused basis.problem r.log) back.1.1.0;
+      logs = λ k step e. at_step (log_parts basis r) 0 r.steps back.1.1.1 k k step e (omega arith);
     }
 
 -- ---- the chain
@@ -174,15 +176,15 @@ follow_from : (crash : Crash) (now : Option Present) (steps : List Step) →
 follow_from crash now [] h = tt
 follow_from crash now (s ∷ ss) h = (h 0 s refl, follow_from crash (present_after crash s) ss (λ k step e. h (suc k) step e))
 
-pub chain_is : (crash : Crash) (encoded : Encoded) (r : Report) → AllIsRight crash encoded r → IsChain crash r.budgets r.steps
-chain_is crash encoded r h =
+pub chain_is : (crash : Crash) (basis : Basis) (r : Report) → AllIsRight crash basis r → IsChain crash r.budgets r.steps
+chain_is crash basis r h =
     record {
       few = leb-true (length r.steps) r.budgets.steps h.few;
       follow = follow_from crash (Some (present_of_dump crash)) r.steps (λ k step e. due_is (due_at crash r.steps k) step (h.steps k step e).state (h.steps k step e).stored);
     }
 
-pub trace_is : (crash : Crash) (encoded : Encoded) (r : Report) → AllIsRight crash encoded r → IsTrace crash r
-trace_is crash encoded r h = record { states = all_same_is r.states (trace_states crash.dump.state r.steps) h.states; inputs = all_same_is r.inputs (trace_inputs r.steps) h.inputs }
+pub trace_is : (crash : Crash) (basis : Basis) (r : Report) → AllIsRight crash basis r → IsTrace crash r
+trace_is crash basis r h = record { states = all_same_is r.states (trace_states crash.dump.state r.steps) h.states; inputs = all_same_is r.inputs (trace_inputs r.steps) h.inputs }
 
 -- ---- the stop
 
@@ -322,12 +324,12 @@ cand_is crash budgets step j e =
       within = ltb-true _ _ a.1;
     }
 
-pub cands_are : (crash : Crash) → IsCrash crash → (budgets : Budgets) (step : Step) → ((j : ℕ) → j < length step.cands → is_right_cand crash budgets step j ≡ true) → All (IsCandidate crash step) step.cands
+pub cands_are : (crash : Crash) → IsCrash crash → (budgets : Budgets) (step : Step) → ((j : ℕ) → j < length step.cands → is_right_cand crash budgets step j ≡ true) → All (IsCandidate crash.circuit crash.choice step.present (stored_of step)) step.cands
 cands_are crash is budgets step h k d lt =
     let right = cand_is crash budgets step k (h k lt) in
     let s : List Bool = (cand_at step k).state in
     let x : List Bool = (cand_at step k).input in
-    subst (IsCandidate crash step) (get_or_default step.cands k no_cand d lt)
+    subst (IsCandidate crash.circuit crash.choice step.present (stored_of step)) (get_or_default step.cands k no_cand d lt)
     (record {
       predecessor = is_predecessor crash.circuit crash.choice step.present (stored_of step) s x right.state right.input right.agree right.leads;
       leads = (next_is_led crash.circuit s x step.present is.checked right.state right.input).1 (sym right.leads);
@@ -400,30 +402,30 @@ all_pass {X} p (x ∷ xs) e = by (p x) refl e (all_pass p xs)
     by true t e rest = ap (λ (l : List X). x ∷ l) (rest e)
     by false t e rest = absurd (false≢true e)
 
-spent_is : (budgets : Budgets) (assumptions : Clause) (o : Option (List Line)) → is_spent budgets assumptions o ≡ true → option_map (count_by is_lemma_line) o ≡ Some budgets.conflicts
-spent_is budgets assumptions None e = absurd (false≢true e)
-spent_is budgets assumptions (Some lines) e =
+spent_is : (b : ℕ) (assumptions : Clause) (o : Option (List Line)) → is_spent b assumptions o ≡ true → option_map (count_by is_lemma_line) o ≡ Some b
+spent_is b assumptions None e = absurd (false≢true e)
+spent_is b assumptions (Some lines) e =
     let h = both _ (not (list_any (denies assumptions) (filter_map lemma_of_line lines))) e in
-    let k = both (length lines == budgets.conflicts) (list_all is_lemma_line lines) h.0 in
-    ap Some (sym (length-filter is_lemma_line lines) ∙ (ap length (all_pass is_lemma_line lines k.1) ∙ eqb-true (length lines) budgets.conflicts k.0))
+    let k = both (length lines == b) (list_all is_lemma_line lines) h.0 in
+    ap Some (sym (length-filter is_lemma_line lines) ∙ (ap length (all_pass is_lemma_line lines k.1) ∙ eqb-true (length lines) b k.0))
 
 -- where a finished list is whole, its end is right
-pub right_end : (crash : Crash) (encoded : Encoded) (r : Report) (i : ℕ) (step : Step) → StepIsRight crash r i step → Each IsRight (log_parts encoded r i step) →
-    (IsFinished step.end → listed step.cands ≡ asked_of crash step) → (e : ListEnd) → step.end ≡ e → IsRightEnd crash r.budgets (lines_at r i) step e
-right_end crash encoded r i step h l whole (Finished id) e = (
+pub right_end : (crash : Crash) (basis : Basis) (r : Report) (i : ℕ) (step : Step) → StepIsRight crash r i step → Each IsRight (log_parts basis r i step) →
+    (IsFinished step.end → listed step.cands ≡ asked_of crash step) → (e : ListEnd) → step.end ≡ e → IsRightEnd (asked_of crash step) r.budgets.candidates r.budgets.conflicts (lines_at r i) step.cands e
+right_end crash basis r i step h l whole (Finished id) e = (
   whole (subst IsFinished (sym e) tt),
   not_met (length step.cands) r.budgets.candidates (within_budget crash r.budgets step (length step.cands) refl h.cands)
       (subst (λ (x : ListEnd). is_right_count r.budgets x (length step.cands) ≡ true) e h.count),
 )
-right_end crash encoded r i step h l whole Candidates e =
+right_end crash basis r i step h l whole Candidates e =
     eqb-true (length step.cands) r.budgets.candidates (subst (λ (x : ListEnd). is_right_count r.budgets x (length step.cands) ≡ true) e h.count)
-right_end crash encoded r i step h l whole Conflicts e =
-    let finish = holds (is_right_finish encoded r i step.end (filter_map finish_of_line (lines_at r i))) (parts.Ended (i + 1)) l.1.0 in
-    let spent = both _ (is_spent r.budgets (assumptions_of encoded.problem (i + 1)) (last_solve (lines_at r i)))
-    (subst (λ (x : ListEnd). is_right_finish encoded r i x (filter_map finish_of_line (lines_at r i)) ≡ true) e finish) in (
+right_end crash basis r i step h l whole Conflicts e =
+    let finish = holds (is_right_finish r.budgets.conflicts (assumptions_of basis.problem (i + 1)) (lines_at r i) step.end (filter_map finish_of_line (lines_at r i))) (parts.Ended (i + 1)) l.1.0 in
+    let spent = both _ (is_spent r.budgets.conflicts (assumptions_of basis.problem (i + 1)) (last_solve (lines_at r i)))
+    (subst (λ (x : ListEnd). is_right_finish r.budgets.conflicts (assumptions_of basis.problem (i + 1)) (lines_at r i) x (filter_map finish_of_line (lines_at r i)) ≡ true) e finish) in (
       not_met (length step.cands) r.budgets.candidates (within_budget crash r.budgets step (length step.cands) refl h.cands)
           (subst (λ (x : ListEnd). is_right_count r.budgets x (length step.cands) ≡ true) e h.count),
-      spent_is r.budgets (assumptions_of encoded.problem (i + 1)) (last_solve (lines_at r i)) spent.1,
+      spent_is r.budgets.conflicts (assumptions_of basis.problem (i + 1)) (last_solve (lines_at r i)) spent.1,
     )
 
 -- each finished list is whole
@@ -435,13 +437,13 @@ each_place : (P : Step → Type 0) (steps : List Step) → ((k : ℕ) (step : St
 each_place P [] h = tt
 each_place P (s ∷ ss) h = (h 0 s refl, each_place P ss (λ k step e. h (suc k) step e))
 
-pub good_where_whole : (crash : Crash) (encoded : Encoded) (r : Report) → IsCrash crash → IsValid crash encoded r → FinishedAreWhole crash r → IsGood crash r
-good_where_whole crash encoded r is valid whole =
-    let h = all_is_right crash encoded r valid in
+pub good_where_whole : (crash : Crash) (basis : Basis) (r : Report) → IsCrash crash → IsValid crash basis r → FinishedAreWhole crash r → IsGood crash r
+good_where_whole crash basis r is valid whole =
+    let h = all_is_right crash basis r valid in
     record {
       steps = All-from_recursion (IsRightStep crash) r.steps (each_place (IsRightStep crash) r.steps (λ k step e. right_step crash is r k step (h.steps k step e)));
-      ends = λ i step e. right_end crash encoded r i step (h.steps i step e) (h.logs i step e) (whole i step e) step.end refl;
-      chain = chain_is crash encoded r h;
+      ends = λ i step e. right_end crash basis r i step (h.steps i step e) (h.logs i step e) (whole i step e) step.end refl;
+      chain = chain_is crash basis r h;
       stop = stop_is crash r.budgets r.steps r.stop (cause_is r.stop (cause_of crash r.budgets r.steps) h.cause);
-      trace = trace_is crash encoded r h;
+      trace = trace_is crash basis r h;
     }

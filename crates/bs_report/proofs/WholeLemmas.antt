@@ -33,8 +33,8 @@ use Rattle.bs_report.specs.declared.report.Step.{Step}
 use Rattle.bs_report.specs.declared.report.Report.{Report}
 use Rattle.bs_report.specs.Crash.{Crash}
 use Rattle.bs_report.specs.Step.{stored_of, listed}
-use Rattle.bs_report.specs.Valid.{Encoded, has_clause, blocks_due, are_right_blocks, is_right_finish, lines_at}
-use Rattle.bs_log.specs.Shown.{Shown}
+use Rattle.bs_report.specs.Valid.{has_clause, blocks_due, are_right_blocks, is_right_finish, lines_at}
+use Rattle.bs_log.specs.Shown.{Basis, Shown}
 use Rattle.bs_report.specs.ValidLaw.{IsEncoded}
 use Rattle.bs_report.proofs.ValidLemmas.{AllIsRight, cand_is, state_at_place, holds, both}
 
@@ -68,23 +68,23 @@ below [] k step e = cc
 below (s ∷ ss) zero step e = omega arith
 below (s ∷ ss) (suc k) step e = omega (arith, below ss k step e)
 
-pub refuted : (crash : Crash) (encoded : Encoded) (r : Report) → IsEncoded crash encoded r.steps → AllIsRight crash encoded r →
+pub refuted : (crash : Crash) (basis : Basis) (r : Report) → IsEncoded crash basis r.steps → AllIsRight crash basis r →
     (k : ℕ) (step : Step) (id : ℕ) → slice_get r.steps k ≡ Some step → step.end ≡ Finished id →
     (s x : List Bool) → length s ≡ length crash.circuit.flops → length x ≡ length crash.circuit.inputs →
     agrees crash.circuit crash.choice (stored_of step) s ≡ true → next crash.circuit s x ≡ step.present → is_listed (listed step.cands) s ≡ false → ⊥
-refuted crash encoded r enc h k step id e fin s x ls lx ag nx out =
-    let shown : Shown encoded.problem encoded.block (length crash.circuit.flops) (k + 1) s = enc.shown k step s x e ls lx ag nx in
+refuted crash basis r enc h k step id e fin s x ls lx ag nx out =
+    let shown : Shown basis (length crash.circuit.flops) (k + 1) s = enc.shown k step s x e ls lx ag nx in
     let v : ℕ → Bool = shown.value in
-    let p : Problem = encoded.problem in
-    let f : List Bool → Clause = λ t. negation (guard_of p (k + 1)) ∷ encoded.block t in
+    let p : Problem = basis.problem in
+    let f : List Bool → Clause = λ t. negation (guard_of p (k + 1)) ∷ basis.block t in
     let widths : Each (λ (t : List Bool). length t ≡ length crash.circuit.flops) (listed step.cands) =
     recursion_from_All (λ (t : List Bool). length t ≡ length crash.circuit.flops) (listed step.cands)
     (λ j d lt. ap length (state_at_place step.cands j d lt) ∙ (cand_is crash r.budgets step j ((h.steps k step e).cands j (omega (arith, lt, length-map step.cands (λ (c : Cand). c.state))))).state) in
-    let test = holds (are_right_blocks (blocks_due encoded k step) (filter_map block_of_line (lines_at r k))) (parts.Blocks (k + 1)) (h.logs k step e).0 in
-    let first = both _ (list_all (has_clause (filter_map block_of_line (lines_at r k))) (blocks_due encoded k step)) test in
-    let second = both _ (list_all (has_clause (blocks_due encoded k step)) (filter_map block_of_line (lines_at r k))) first.0 in
+    let test = holds (are_right_blocks (blocks_due (guard_of p (k + 1)) basis.block step.cands) (filter_map block_of_line (lines_at r k))) (parts.Blocks (k + 1)) (h.logs k step e).0 in
+    let first = both _ (list_all (has_clause (filter_map block_of_line (lines_at r k))) (blocks_due (guard_of p (k + 1)) basis.block step.cands)) test in
+    let second = both _ (list_all (has_clause (blocks_due (guard_of p (k + 1)) basis.block step.cands)) (filter_map block_of_line (lines_at r k))) first.0 in
     let blocks : Each (Satisfies v) (filter_map block_of_line (lines_at r k)) =
-    each_pass (Satisfies v) (has_clause (blocks_due encoded k step))
+    each_pass (Satisfies v) (has_clause (blocks_due (guard_of p (k + 1)) basis.block step.cands))
     (λ b t.
     let one = block_is f (listed step.cands) b t in
     subst (Satisfies v) (sym one.is)
@@ -92,10 +92,10 @@ refuted crash encoded r enc h k step id e fin s x ls lx ag nx out =
     (λ (same : one.state ≡ s).
     true≢false (sym (any_member (bits_eq s) one.state (listed step.cands) one.member (ap (bits_eq s) same ∙ bits_same s)) ∙ out))))
     (filter_map block_of_line (lines_at r k)) second.1 in
-    let finish = holds (is_right_finish encoded r k step.end (filter_map finish_of_line (lines_at r k))) (parts.Ended (k + 1)) (h.logs k step e).1.0 in
+    let finish = holds (is_right_finish r.budgets.conflicts (assumptions_of p (k + 1)) (lines_at r k) step.end (filter_map finish_of_line (lines_at r k))) (parts.Ended (k + 1)) (h.logs k step e).1.0 in
     let named : filter_map finish_of_line (lines_at r k) ≡ id ∷ [] =
     (pointwise_decides Decides-eqb (filter_map finish_of_line (lines_at r k)) (id ∷ [])).0
-    (subst (λ (x : ListEnd). is_right_finish encoded r k x (filter_map finish_of_line (lines_at r k)) ≡ true) fin finish) in
+    (subst (λ (x : ListEnd). is_right_finish r.budgets.conflicts (assumptions_of p (k + 1)) (lines_at r k) x (filter_map finish_of_line (lines_at r k)) ≡ true) fin finish) in
     let spot = finish_at (Satisfies v) id r.log [] k (k + 1) (omega arith) named blocks tt in
     let suits : Suits p (history_of spot.before) (k + 1) v = record {
       in_range = omega (arith, enc.each_step, below r.steps k step e);

@@ -7,11 +7,12 @@ use Rattle.std.specs.List.{list_all, list_any, range_with_len, last_or}
 use Rattle.bs_bits.specs.Bits.{bits_eq}
 use Rattle.bs_net.specs.Circuit.{next}
 use Rattle.bs_scan.specs.Signature.{agrees}
-use Rattle.bs_clause.specs.Literal.{Clause, negation, same_literal}
+use Rattle.bs_clause.specs.Literal.{Literal, Clause, negation, same_literal}
 use Rattle.bs_log.specs.declared.line.Line.{Line}
 use Rattle.bs_log.specs.History.{Problem, guard_of}
 use Rattle.bs_log.specs.Refusal.{assumptions_of, denies}
 use Rattle.bs_log.specs.FirstRefused.{first_refused}
+use Rattle.bs_log.specs.Shown.{Basis}
 use Rattle.bs_log.specs.Steps.{steps_of, last_solve, is_lemma_line, block_of_line, lemma_of_line, finish_of_line}
 use Rattle.bs_report.specs.declared.report.Cand.{Cand}
 use Rattle.bs_report.specs.declared.report.HitLine.{HitLine}
@@ -26,13 +27,9 @@ use Rattle.bs_report.specs.declared.part.Part.{Part}
 use Rattle.bs_report.specs.declared.part.Part.TheVariants as parts
 use Rattle.bs_report.specs.Crash.{Crash}
 use Rattle.bs_report.specs.Step.{stored_of, listed, hit_of}
-use Rattle.bs_report.specs.Chain.{Present, present_of_dump, present_after, last_present}
+use Rattle.bs_scan.specs.Present.{Present}
+use Rattle.bs_report.specs.Chain.{present_of_dump, present_after, last_present}
 use Rattle.bs_report.specs.Trace.{trace_states, trace_inputs}
-
--- what a log is checked against: the transition clauses with the steps' assumptions, and the block of each state
-pub record Encoded : Type 0 where
-  pub problem : Problem
-  pub block : List Bool → Clause
 
 -- a part, where its test fails
 abbrev pub unless : Bool → Part → Option Part
@@ -129,32 +126,40 @@ has_clause clauses c = list_any (pointwise same_literal c) clauses
 abbrev pub lines_at : Report → ℕ → List Line
 lines_at r i = slice_index_or (steps_of r.log) i []
 
--- the block lines that a step owes: for each candidate the negated guard and the state's block
-abbrev pub blocks_due : Encoded → ℕ → Step → List Clause
-blocks_due encoded i step = map (λ s. negation (guard_of encoded.problem (i + 1)) ∷ encoded.block s) (listed step.cands)
+-- the blocks that a list owes: for each candidate the negated guard and the state's block
+abbrev pub blocks_due : Literal → (List Bool → Clause) → List Cand → List Clause
+blocks_due guard block cands = map (λ s. negation guard ∷ block s) (listed cands)
 
 abbrev pub are_right_blocks : List Clause → List Clause → Bool
 are_right_blocks due blocks =
     (length blocks == length due) && list_all (has_clause due) blocks && list_all (has_clause blocks) due
 
 -- exactly the budget of lemmas, none of which ends the step
-abbrev pub is_spent : Budgets → Clause → Option (List Line) → Bool
-is_spent budgets assumptions None = false
-is_spent budgets assumptions (Some lines) =
-    (length lines == budgets.conflicts)
+abbrev pub is_spent : ℕ → Clause → Option (List Line) → Bool
+is_spent b assumptions None = false
+is_spent b assumptions (Some lines) =
+    (length lines == b)
     && list_all is_lemma_line lines
     && not (list_any (denies assumptions) (filter_map lemma_of_line lines))
 
-abbrev pub is_right_finish : Encoded → Report → ℕ → ListEnd → List ℕ → Bool
-is_right_finish encoded r i (Finished id) named = pointwise nat_eq named (id ∷ [])
-is_right_finish encoded r i ByCandidates named = length named == 0
-is_right_finish encoded r i ByConflicts named =
-    (length named == 0) && is_spent r.budgets (assumptions_of encoded.problem (i + 1)) (last_solve (lines_at r i))
+-- the step's finish lines name these lemmas: the one that ends a finished list, and none beside; b is the budget of lemmas
+abbrev pub is_right_finish : ℕ → Clause → List Line → ListEnd → List ℕ → Bool
+is_right_finish b assumptions lines (Finished id) named = pointwise nat_eq named (id ∷ [])
+is_right_finish b assumptions lines ByCandidates named = length named == 0
+is_right_finish b assumptions lines ByConflicts named = (length named == 0) && is_spent b assumptions (last_solve lines)
 
-abbrev pub log_parts : Encoded → Report → ℕ → Step → List (Option Part)
-log_parts encoded r i step =
-    unless (are_right_blocks (blocks_due encoded i step) (filter_map block_of_line (lines_at r i))) (parts.Blocks (i + 1)) ∷
-    unless (is_right_finish encoded r i step.end (filter_map finish_of_line (lines_at r i))) (parts.Ended (i + 1)) ∷ []
+-- the clauses that block lines add
+abbrev pub blocks_in : List Line → List Clause
+blocks_in lines = filter_map block_of_line lines
+
+-- the lemmas that finish lines name
+abbrev pub finishes_in : List Line → List ℕ
+finishes_in lines = filter_map finish_of_line lines
+
+abbrev pub log_parts : Basis → Report → ℕ → Step → List (Option Part)
+log_parts basis r i step =
+    unless (are_right_blocks (blocks_due (guard_of basis.problem (i + 1)) basis.block step.cands) (blocks_in (lines_at r i))) (parts.Blocks (i + 1)) ∷
+    unless (is_right_finish r.budgets.conflicts (assumptions_of basis.problem (i + 1)) (lines_at r i) step.end (finishes_in (lines_at r i))) (parts.Ended (i + 1)) ∷ []
 
 -- ---- the whole report
 
@@ -163,22 +168,22 @@ abbrev pub each_step : (ℕ → Step → List (Option Part)) → ℕ → List St
 each_step rule i [] = []
 each_step rule i (step ∷ steps) = rule i step ++ each_step rule (i + 1) steps
 
-abbrev pub parts_of : Crash → Encoded → Report → List (Option Part)
-parts_of crash encoded r =
+abbrev pub parts_of : Crash → Basis → Report → List (Option Part)
+parts_of crash basis r =
     each_step (step_parts crash r) 0 r.steps
     ++ (unless (nat_le (length r.steps) r.budgets.steps && is_cause r.stop (cause_of crash r.budgets r.steps)) parts.Stop ∷
     unless (all_bits_eq r.states (trace_states crash.dump.state r.steps) && all_bits_eq r.inputs (trace_inputs r.steps)) parts.Trace ∷
-    option_map (λ refused. parts.Log refused.0 refused.1) (first_refused encoded.problem r.log) ∷
-    each_step (log_parts encoded r) 0 r.steps)
+    option_map (λ refused. parts.Log refused.0 refused.1) (first_refused basis.problem r.log) ∷
+    each_step (log_parts basis r) 0 r.steps)
 
 -- the first that is there
 abbrev pub first_of_all : List (Option Part) → Option Part
 first_of_all [] = None
 first_of_all (part ∷ others) = option_or part (first_of_all others)
 
-unfoldable pub first_failing : Crash → Encoded → Report → Option Part
-first_failing crash encoded r = first_of_all (parts_of crash encoded r)
+unfoldable pub first_failing : Crash → Basis → Report → Option Part
+first_failing crash basis r = first_of_all (parts_of crash basis r)
 
 -- no part fails
-abbrev pub IsValid : Crash → Encoded → Report → Type 0
-IsValid crash encoded r = first_failing crash encoded r ≡ None
+abbrev pub IsValid : Crash → Basis → Report → Type 0
+IsValid crash basis r = first_failing crash basis r ≡ None

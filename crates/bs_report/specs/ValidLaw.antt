@@ -2,22 +2,22 @@
 use Rattle.std.specs.Prelude.{◌≡◌, ℕ, ◌+◌, true, Bool, List, length, Some, slice_get}
 use Rattle.bs_net.specs.Circuit.{next}
 use Rattle.bs_scan.specs.Signature.{agrees}
-use Rattle.bs_log.specs.Shown.{Shown}
+use Rattle.bs_log.specs.Shown.{Basis, Shown}
 use Rattle.bs_report.specs.declared.report.Step.{Step}
 use Rattle.bs_report.specs.declared.report.Report.{Report}
 use Rattle.bs_report.specs.Crash.{Crash, IsCrash}
 use Rattle.bs_report.specs.Step.{stored_of}
 use Rattle.bs_report.specs.Good.{IsGood}
-use Rattle.bs_report.specs.Valid.{Encoded, IsValid}
+use Rattle.bs_report.specs.Valid.{IsValid}
 
 -- The clauses and the steps' assumptions are those of the netlist: each predecessor is shown.
-pub record IsEncoded (crash : Crash) (encoded : Encoded) (steps : List Step) : Type 0 where
-  pub each_step : length encoded.problem.steps ≡ length steps
+pub record IsEncoded (crash : Crash) (basis : Basis) (steps : List Step) : Type 0 where
+  pub each_step : length basis.problem.steps ≡ length steps
   pub shown : (i : ℕ) (step : Step) (s x : List Bool) → slice_get steps i ≡ Some step →
       length s ≡ length crash.circuit.flops → length x ≡ length crash.circuit.inputs →
       agrees crash.circuit crash.choice (stored_of step) s ≡ true → next crash.circuit s x ≡ step.present →
-      Shown encoded.problem encoded.block (length crash.circuit.flops) (i + 1) s
+      Shown basis (length crash.circuit.flops) (i + 1) s
 
 abbrev pub ValidIsGood : Type 0
 ValidIsGood =
-    (crash : Crash) (encoded : Encoded) (r : Report) → IsCrash crash → IsEncoded crash encoded r.steps → IsValid crash encoded r → IsGood crash r
+    (crash : Crash) (basis : Basis) (r : Report) → IsCrash crash → IsEncoded crash basis r.steps → IsValid crash basis r → IsGood crash r

@@ -10,3 +10,4 @@ pub mod DumpText
 pub mod Law
 -- what inner functions promise each other
 pub mod Reading
+pub mod Present
