@@ -80,11 +80,16 @@ ends_at c before (x ∷ xs) s e =
 
 -- ---- the input of a hit
 
-leads_next : (c : Circuit) (s x p : List Bool) → IsChecked c → Leads c s x p → next c s x ≡ p
+pub led_widths : (c : Circuit) (s x p : List Bool) → Leads c s x p → (length s ≡ length c.flops) × (length x ≡ length c.inputs)
+led_widths c s x p led = (
+  ap length (sym led.1.state) ∙ (length-map (state_nets c) (λ (n : NetId). bit_at led.0 n.0) ∙ length-map c.flops (λ (f : Flop). f.q)),
+  ap length (sym led.1.input) ∙ length-map c.inputs (λ (n : NetId). bit_at led.0 n.0),
+)
+
+pub leads_next : (c : Circuit) (s x p : List Bool) → IsChecked c → Leads c s x p → next c s x ≡ p
 leads_next c s x p checked led =
-    let ls : length s ≡ length c.flops = ap length (sym led.1.state) ∙ (length-map (state_nets c) (λ (n : NetId). bit_at led.0 n.0) ∙ length-map c.flops (λ (f : Flop). f.q)) in
-    let lx : length x ≡ length c.inputs = ap length (sym led.1.input) ∙ length-map c.inputs (λ (n : NetId). bit_at led.0 n.0) in
-    sym ((next_is_led c s x p checked ls lx).0 led)
+    let widths = led_widths c s x p led in
+    sym ((next_is_led c s x p checked widths.0 widths.1).0 led)
 
 record CandFor (P : Cand → Type 0) (cands : List Cand) (s : List Bool) : Type 0 where
   cand : Cand

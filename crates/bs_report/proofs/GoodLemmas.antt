@@ -26,7 +26,7 @@ use Rattle.bs_report.proofs.SortedLemmas.{asc_of_pairs, asc_filter, asc_all_bits
 use Rattle.bs_report.proofs.ValidLemmas.{AllIsRight, all_is_right, right_step, FinishedAreWhole, good_where_whole, both}
 use Rattle.bs_report.proofs.WholeLemmas.{refuted}
 
-listed_member : (s : List Bool) (xs : List (List Bool)) → is_listed xs s ≡ true → Member s xs
+pub listed_member : (s : List Bool) (xs : List (List Bool)) → is_listed xs s ≡ true → Member s xs
 listed_member s [] e = absurd (false≢true e)
 listed_member s (x ∷ xs) e = by (bits_eq s x) refl e (listed_member s xs)
   where
@@ -47,7 +47,7 @@ passing {X} p (x ∷ xs) e = by (p x) refl e (passing p xs)
     by true b e rest = record { item = x; member = inl refl; passes = b }
     by false b e rest = let r = rest e in record { item = r.item; member = inr r.member; passes = r.passes }
 
-filter_member : (q : List Bool → Bool) (s : List Bool) (xs : List (List Bool)) → Member s (filter q xs) → (q s ≡ true) × Member s xs
+pub filter_member : (q : List Bool → Bool) (s : List Bool) (xs : List (List Bool)) → Member s (filter q xs) → (q s ≡ true) × Member s xs
 filter_member q s [] m = absurd m
 filter_member q s (x ∷ xs) m = by (q x) refl m (filter_member q s xs)
   where

@@ -51,7 +51,7 @@ use Rattle.bs_report.specs.Trace.{IsTrace, trace_states, trace_inputs}
 use Rattle.bs_log.specs.Shown.{Basis}
 use Rattle.bs_report.specs.Valid.{unless, all_bits_eq, due_at, has_state, has_stored, is_right_cand, is_right_count, same_hit, step_parts, log_parts, each_step, parts_of, first_of_all, first_failing, is_cause, cause_of, cause_at, cause_after, cause_of_end, stop_number, IsValid, cand_at, no_cand, is_right_finish, is_spent, lines_at}
 
-abbrev IsRight : Option Part → Type 0
+abbrev pub IsRight : Option Part → Type 0
 IsRight part = part ≡ None
 
 none_fails : (parts : List (Option Part)) → first_of_all parts ≡ None → Each IsRight parts
@@ -219,12 +219,12 @@ some_length : {X : Type 0} (xs : List X) → (length xs == 0) ≡ false → xs �
 some_length [] e h = absurd (true≢false e)
 some_length (x ∷ xs) e h = cc
 
-record LastStep (crash : Crash) (o : Option Step) (now : Option Present) : Type 0 where
-  last : Step
-  is : o ≡ Some last
-  present : now ≡ present_after crash last
+pub record LastStep (crash : Crash) (o : Option Step) (now : Option Present) : Type 0 where
+  pub last : Step
+  pub is : o ≡ Some last
+  pub present : now ≡ present_after crash last
 
-last_step : (crash : Crash) (now : Option Present) (s : Step) (steps : List Step) → LastStep crash (last_or (Some s) steps) (last_present crash (present_after crash s) steps)
+pub last_step : (crash : Crash) (now : Option Present) (s : Step) (steps : List Step) → LastStep crash (last_or (Some s) steps) (last_present crash (present_after crash s) steps)
 last_step crash now s [] = record { last = s; is = refl; present = refl }
 last_step crash now s (t ∷ ts) = last_step crash now t ts
 

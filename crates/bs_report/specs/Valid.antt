@@ -1,5 +1,5 @@
 -- When a report is valid: a test by replay of the runs and by the check of its log.
-use Rattle.std.specs.Prelude.{◌≡◌, ℕ, ◌+◌, ◌-◌, ◌==◌, nat_eq, nat_le, nat_lt, Bool, true, false, not, ◌&&◌, ◌||◌, List, [], ◌∷◌, ◌++◌, length, map, filter_map, Option, Some, None, option_map, if◌then◌else◌, slice_index_or}
+use Rattle.std.specs.Prelude.{◌≡◌, ℕ, ◌+◌, ◌-◌, ◌==◌, nat_eq, nat_le, nat_lt, Bool, true, false, not, ◌&&◌, ◌||◌, List, [], ◌∷◌, ◌++◌, length, map, filter_map, Option, Some, None, option_map, if◌then◌else◌, slice_get, slice_index_or}
 use Rattle.std.specs.Option.{option_or}
 use Rattle.std.specs.Ordering.{is_lt, bool_cmp}
 use Rattle.std.specs.Cmp.Lexicographic.{pointwise, slice_cmp}
@@ -10,7 +10,7 @@ use Rattle.bs_scan.specs.Signature.{agrees}
 use Rattle.bs_clause.specs.Literal.{Literal, Clause, negation, same_literal}
 use Rattle.bs_log.specs.declared.line.Line.{Line}
 use Rattle.bs_log.specs.History.{Problem, guard_of}
-use Rattle.bs_log.specs.Refusal.{assumptions_of, denies}
+use Rattle.bs_log.specs.Refusal.{assumptions_of, denies, IsAccepted}
 use Rattle.bs_log.specs.FirstRefused.{first_refused}
 use Rattle.bs_log.specs.Shown.{Basis}
 use Rattle.bs_log.specs.Steps.{steps_of, last_solve, is_lemma_line, block_of_line, lemma_of_line, finish_of_line}
@@ -187,3 +187,11 @@ first_failing crash basis r = first_of_all (parts_of crash basis r)
 -- no part fails
 abbrev pub IsValid : Crash → Basis → Report → Type 0
 IsValid crash basis r = first_failing crash basis r ≡ None
+
+-- The log is accepted, and to each step it has the blocks and the finish lines that the step's list owes.
+pub record IsLogged (basis : Basis) (r : Report) : Type 0 where
+  pub accepted : IsAccepted basis.problem r.log
+  pub blocks : (i : ℕ) (step : Step) → slice_get r.steps i ≡ Some step →
+      are_right_blocks (blocks_due (guard_of basis.problem (i + 1)) basis.block step.cands) (blocks_in (lines_at r i)) ≡ true
+  pub finish : (i : ℕ) (step : Step) → slice_get r.steps i ≡ Some step →
+      is_right_finish r.budgets.conflicts (assumptions_of basis.problem (i + 1)) (lines_at r i) step.end (finishes_in (lines_at r i)) ≡ true

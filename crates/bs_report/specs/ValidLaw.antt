@@ -1,4 +1,4 @@
--- A valid report is good: what this rests on.
+-- A valid report is good, and a good one valid: what this rests on.
 use Rattle.std.specs.Prelude.{◌≡◌, ℕ, ◌+◌, true, Bool, List, length, Some, slice_get}
 use Rattle.bs_net.specs.Circuit.{next}
 use Rattle.bs_scan.specs.Signature.{agrees}
@@ -8,7 +8,7 @@ use Rattle.bs_report.specs.declared.report.Report.{Report}
 use Rattle.bs_report.specs.Crash.{Crash, IsCrash}
 use Rattle.bs_report.specs.Step.{stored_of}
 use Rattle.bs_report.specs.Good.{IsGood}
-use Rattle.bs_report.specs.Valid.{IsValid}
+use Rattle.bs_report.specs.Valid.{IsLogged, IsValid}
 
 -- The clauses and the steps' assumptions are those of the netlist: each predecessor is shown.
 pub record IsEncoded (crash : Crash) (basis : Basis) (steps : List Step) : Type 0 where
@@ -21,3 +21,7 @@ pub record IsEncoded (crash : Crash) (basis : Basis) (steps : List Step) : Type 
 abbrev pub ValidIsGood : Type 0
 ValidIsGood =
     (crash : Crash) (basis : Basis) (r : Report) → IsCrash crash → IsEncoded crash basis r.steps → IsValid crash basis r → IsGood crash r
+
+abbrev pub GoodIsValid : Type 0
+GoodIsValid =
+    (crash : Crash) (basis : Basis) (r : Report) → IsCrash crash → IsGood crash r → IsLogged basis r → IsValid crash basis r
