@@ -80,6 +80,21 @@ impl<'a> Chip<'a> {
         })
     }
 
+    /// The netlist.
+    pub fn net(&self) -> &Netlist
+        ensures net { result.now ≡ self.now.net }
+        ensures fitting { IsFitting self.now }
+    {
+        self.net
+    }
+
+    /// The recorded runs.
+    pub fn runs(&self) -> &Runs
+        ensures { result.now ≡ self.now.runs }
+    {
+        self.runs
+    }
+
     /// The dump of a moment: its state, unloaded through the scan chain, and its stored signature. Runs are numbered
     /// from 1, and cycles from 0.
     pub fn dump_at(&mut self, alloc: Global, run: u32, cycle: u32) -> Result<Dump, NoMemory>
