@@ -1,2 +1,0 @@
--- what inner functions promise each other
-pub mod Trace
