@@ -64,6 +64,15 @@ impl Recording {
         &self.log
     }
 
+    /// The log, without what was recorded beside it.
+    pub fn into_log(self) -> Log
+        ensures lines { history_of result ≡ self.history }
+        ensures right { NoneRefused self.problem (history_of result) }
+        ensures lean { LemmasAreLean self.problem (history_of result) }
+    {
+        self.log
+    }
+
     /// The assumptions of each step that has had a solve, in order.
     pub fn steps(&self) -> &List<Lits>
         ensures { result.now ≡ self.now.problem.steps }

@@ -160,6 +160,16 @@ impl Solver {
         self.book.log()
     }
 
+    /// The log, when the solver is done with. It is as `log` says.
+    pub fn into_log(self) -> Log
+        ensures lines { history_of result ≡ self.book.history }
+        ensures right { NoneRefused self.book.problem (history_of result) }
+        ensures lean { LemmasAreLean self.book.problem (history_of result) }
+        ensures accepted { self.failed ≡ false → self.stage ≡ Idle → IsAccepted self.book.problem result }
+    {
+        self.book.into_log()
+    }
+
     /// The ids of the lemmas that stand, in ascending order.
     pub fn lemma_ids(&self) -> &[u64]
         ensures { result.now ≡ lemma_ids self.now.book }
