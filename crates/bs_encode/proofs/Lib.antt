@@ -6,3 +6,4 @@ pub mod LawLemmas
 pub mod UnitLemmas
 pub mod Examples
 pub mod RoomLemmas
+pub mod SignLemmas

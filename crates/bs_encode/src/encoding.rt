@@ -1,15 +1,18 @@
 //! The encoding of a netlist and what its signature is taken of.
-ghost use Rattle.std.specs.Prelude.{◌≡◌, ◌<◌, ◌≤◌, ◌+◌, ◌^◌, ◌++◌, true, length, map, All, IfOk, OnOk, Some, slice_get};
+ghost use Rattle.std.specs.Prelude.{◌≡◌, ◌<◌, ◌≤◌, ◌+◌, ◌^◌, [], ◌∷◌, ◌++◌, true, length, map, All, IfOk, OnOk, Some, slice_get};
 ghost use Rattle.std.specs.List.{range_with_len};
 ghost use Rattle.bs_clause.specs.Literal.{IsVariable};
 ghost use Rattle.bs_net.specs.Netlist.{circuit};
 ghost use Rattle.bs_encode.specs.Tables.{lit};
 ghost use Rattle.bs_encode.specs.Transition.{table_clauses, state_vars, net_var, item_vars, first_item, first_next, variables};
 ghost use Rattle.bs_encode.specs.Encoded.{literals, encoding_of};
+ghost use Rattle.bs_encode.specs.Assuming.{assumptions_for, block_for};
 
 use crate::parts::{add_gates, add_items, add_next, variable};
+use crate::signs::{push_denied, push_signed};
 use crate::tidy::tidy;
 use crate::units::{add_units, constant_table, zero_nets};
+use bs_bits::Bits;
 use bs_clause::{Clauses, Lit, Lits, NoMemory, Var};
 use bs_net::{Flop, NetId, Netlist};
 use bs_scan::Choice;
@@ -198,5 +201,35 @@ impl Encoding {
         ensures { slice_get self.now.inputs i ≡ Some result }
     {
         *self.inputs.get(i)
+    }
+
+    /// What a step assumes: its guard, the next literals with the signs of the present state, and the signature literals
+    /// with the signs of the stored signature.
+    pub fn assumptions(
+        &self,
+        alloc: Global,
+        guard: Lit,
+        present: &Bits,
+        stored: &Bits,
+    ) -> Result<Lits, NoMemory>
+        requires state { length present.now ≡ length self.now.next }
+        requires signature { length stored.now ≡ length self.now.signatures }
+        ensures { IfOk result (λ l. l ≡ assumptions_for self.now guard (record { state = present.now; stored = stored.now ∷ [] })) }
+    {
+        let mut all = Lits::new(alloc);
+        all.push(guard)?;
+        push_signed(&mut all, self.next.slice(), present)?;
+        push_signed(&mut all, self.signatures.slice(), stored)?;
+        Ok(all)
+    }
+
+    /// The clause that a state alone does not meet: each state literal with the sign that the state makes false.
+    pub fn block(&self, alloc: Global, state: &Bits) -> Result<Lits, NoMemory>
+        requires { length state.now ≡ length self.now.states }
+        ensures { IfOk result (λ c. c ≡ block_for self.now state.now) }
+    {
+        let mut clause = Lits::new(alloc);
+        push_denied(&mut clause, self.states.slice(), state)?;
+        Ok(clause)
     }
 }
