@@ -1,0 +1,4 @@
+pub mod DrawLemmas
+pub mod EachLemmas
+pub mod LineLemmas
+pub mod Examples

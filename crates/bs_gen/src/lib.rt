@@ -1,0 +1,13 @@
+//! The generated job of a number: a netlist, a signature and a stimulus, drawn from one generator.
+#![tactic(auto)]
+
+mod draws;
+mod flops;
+mod gates;
+mod job;
+mod names;
+mod stimulus;
+#[cfg(test)]
+mod tests;
+
+pub use job::{Job, make};
