@@ -1,7 +1,7 @@
 -- A trace ends an execution from reset.
 use Rattle.std.proofs.Common.{◌≡◌, ℕ, suc, zero, ◌<◌, ◌+◌, Bool, true, false, cond, List, [], ◌∷◌, ◌++◌, map, reverse, take, length, get_or, refl, ap, subst, sym, ◌∙◌, ◌⊎◌, inl, inr, ⊎_elim, Option, Some, None, arith, add-one, append_assoc}
 use Rattle.std.specs.Prelude.{option_map, option_and_then, filter_map, find, ◌||◌}
-use Rattle.std.specs.List.{AllByRecursion as Each, range_with_len, cons_option}
+use Rattle.std.specs.List.{AllByRecursion as Each, range_with_len, cons_option, last_or}
 use Rattle.std.proofs.lemmas.Bool.{true≢false, false≢true}
 use Rattle.std.proofs.lemmas.List.{length-map, length-append, length-take-le, get_or-take, get_or_append_left, get_or_at, reverse-append, append-nil}
 use Rattle.std.proofs.lemmas.List.Elements.{recursion_from_All}
@@ -23,7 +23,7 @@ use Rattle.bs_scan.specs.Present.{Present}
 use Rattle.bs_report.specs.Chain.{present_of, present_of_hit, present_of_dump, present_after, Follow}
 use Rattle.bs_report.specs.Trace.{hit_state, input_for}
 use Rattle.bs_report.specs.Good.{IsGood}
-use Rattle.bs_report.specs.Law.{continued, EndsExecution, TracesEndExecutions}
+use Rattle.bs_report.specs.Law.{continued, moment_of, last_hit, EndsExecution, TracesEndExecutions}
 use Rattle.bs_report.proofs.ProgressLemmas.{hit_at}
 
 -- ---- executions
@@ -204,30 +204,63 @@ traced crash checked (step ∷ steps) now tail f right = by step.hit refl f.1 (�
         (ap (final crash.circuit (last_state hit.state steps)) (reverse_first x.input (hit_inputs steps) tail)
         ∙ (before.ends ∙ ap (λ (s : List Bool). final crash.circuit s tail) to_now))
 
+abbrev hits : List Step → List HitLine
+hits steps = filter_map (λ step. step.hit) steps
+
+hits_by : (step : Step) (steps : List Step) (o : Option HitLine) → step.hit ≡ o → hits (step ∷ steps) ≡ cons_option o (hits steps)
+hits_by step steps o e = ap (λ (o : Option HitLine). cons_option o (hits steps)) e
+
+-- the last of a list, whatever stands before it
+last_still : (before : Option HitLine) (all : List HitLine) (hit : HitLine) → last_or None all ≡ Some hit → last_or before all ≡ Some hit
+last_still before [] hit e = cc
+last_still before (h ∷ hs) hit e = e
+
 -- the last hit is at a moment
 record LastHit (crash : Crash) (s : List Bool) (steps : List Step) : Type 0 where
-  moment : Moment
-  recorded : IsMoment crash.runs moment
-  state : state_of crash.circuit crash.runs moment ≡ last_state s steps
+  hit : HitLine
+  last : last_or None (hits steps) ≡ Some hit
+  recorded : IsMoment crash.runs (moment_of hit)
+  state : state_of crash.circuit crash.runs (moment_of hit) ≡ last_state s steps
 
-abbrev NoHit : List Bool → List Step → Type 0
-NoHit s steps = (hit_inputs steps ≡ []) × (last_state s steps ≡ s)
+record NoHit (s : List Bool) (steps : List Step) : Type 0 where
+  none : hits steps ≡ []
+  inputs : hit_inputs steps ≡ []
+  state : last_state s steps ≡ s
 
-last_hit : (crash : Crash) (steps : List Step) (now : Option Present) (s : List Bool) → Follow crash now steps → Each (IsRightStep crash) steps → NoHit s steps ⊎ LastHit crash s steps
-last_hit crash [] now s f right = inl (refl, refl)
-last_hit crash (step ∷ steps) now s f right = by step.hit refl f.1 (λ s. last_hit crash steps (present_after crash step) s f.1 right.1)
+hit_or_none : (crash : Crash) (steps : List Step) (now : Option Present) (s : List Bool) → Follow crash now steps → Each (IsRightStep crash) steps → NoHit s steps ⊎ LastHit crash s steps
+hit_or_none crash [] now s f right = inl (record { none = refl; inputs = refl; state = refl })
+hit_or_none crash (step ∷ steps) now s f right = by step.hit refl f.1 (λ s. hit_or_none crash steps (present_after crash step) s f.1 right.1)
   where
     by : (o : Option HitLine) → step.hit ≡ o → Follow crash (present_after crash step) steps → ((s : List Bool) → NoHit s steps ⊎ LastHit crash s steps) → NoHit s (step ∷ steps) ⊎ LastHit crash s (step ∷ steps)
     by None e follow rest =
         let none = no_more crash steps (subst (λ (o : Option HitLine). Follow crash (option_map (present_of_hit crash) o) steps) e follow) in
-        inl (inputs_by step steps None e ∙ ap hit_inputs none, last_by s step steps None e)
+        inl
+        (record {
+          none = hits_by step steps None e ∙ ap (λ (l : List Step). hits l) none;
+          inputs = inputs_by step steps None e ∙ ap hit_inputs none;
+          state = last_by s step steps None e;
+        })
     by (Some hit) e follow rest =
         let here = hit_at crash step hit (sym e ∙ right.0.hit) in
         let same = last_by s step steps (Some hit) e in
+        let all = hits_by step steps (Some hit) e in
         ⊎_elim
         (λ (n : NoHit hit.state steps).
-        inr (record { moment = record { run = hit.run; cycle = hit.cycle }; recorded = here.run_cycle; state = here.state ∙ (sym n.1 ∙ sym same) }))
-        (λ (l : LastHit crash hit.state steps). inr (record { moment = l.moment; recorded = l.recorded; state = l.state ∙ sym same }))
+        inr
+        (record {
+          hit = hit;
+          last = ap (last_or None) all ∙ ap (last_or (Some hit)) n.none;
+          recorded = here.run_cycle;
+          state = here.state ∙ (sym n.state ∙ sym same);
+        }))
+        (λ (l : LastHit crash hit.state steps).
+        inr
+        (record {
+          hit = l.hit;
+          last = ap (last_or None) all ∙ last_still (Some hit) (hits steps) l.hit l.last;
+          recorded = l.recorded;
+          state = l.state ∙ sym same;
+        }))
         (rest hit.state)
 
 -- ---- from reset
@@ -241,12 +274,12 @@ at_front c runs m xs h =
     get_or_append_left (take m.cycle (run_of runs m.run)) xs [] j (omega (arith, long)) ∙ get_or-take m.cycle (run_of runs m.run) j [] lt)
 
 from_reset : (crash : Crash) (r : Report) → IsGood crash r → (l : LastHit crash crash.dump.state r.steps) →
-    length (take l.moment.cycle (run_of crash.runs l.moment.run)) ≡ l.moment.cycle →
-    state_at crash.circuit (continued crash.runs l.moment r.inputs) l.moment.cycle ≡ last_state crash.dump.state r.steps →
+    length (take l.hit.cycle (run_of crash.runs l.hit.run)) ≡ l.hit.cycle →
+    state_at crash.circuit (continued crash.runs (moment_of l.hit) r.inputs) l.hit.cycle ≡ last_state crash.dump.state r.steps →
     Traced crash r.steps crash.dump.state [] → EndsExecution crash r
 from_reset crash r good l long front way =
     let c : Circuit = crash.circuit in
-    let m : Moment = l.moment in
+    let m : Moment = moment_of l.hit in
     let before : Run = take m.cycle (run_of crash.runs m.run) in
     let last : List Bool = last_state crash.dump.state r.steps in
     let start : state_at c (before ++ r.inputs) (length before) ≡ last = ap (state_at c (before ++ r.inputs)) long ∙ front in
@@ -256,6 +289,7 @@ from_reset crash r good l long front way =
     let place : m.cycle + length r.inputs ≡ length before + length r.inputs = omega (arith, long) in
     record {
       reached = m;
+      last = ap (option_map moment_of) l.last;
       recorded = l.recorded;
       states =
           good.trace.states
@@ -273,8 +307,8 @@ executed crash r is good some =
     let right = recursion_from_All (IsRightStep crash) r.steps good.steps in
     let way = traced crash is.checked r.steps (present_of_dump crash) [] good.chain.follow right in
     ⊎_elim
-    (λ (n : NoHit crash.dump.state r.steps). absurd (some (good.trace.inputs ∙ ap reverse n.0)))
+    (λ (n : NoHit crash.dump.state r.steps). absurd (some (good.trace.inputs ∙ ap reverse n.inputs)))
     (λ (l : LastHit crash crash.dump.state r.steps).
-    let long : length (take l.moment.cycle (run_of crash.runs l.moment.run)) ≡ l.moment.cycle = length-take-le l.moment.cycle (run_of crash.runs l.moment.run) l.recorded.lasts in
-    from_reset crash r good l long (at_front crash.circuit crash.runs l.moment r.inputs l.recorded ∙ l.state) way)
-    (last_hit crash r.steps (Some (present_of_dump crash)) crash.dump.state good.chain.follow right)
+    let long : length (take l.hit.cycle (run_of crash.runs l.hit.run)) ≡ l.hit.cycle = length-take-le l.hit.cycle (run_of crash.runs l.hit.run) l.recorded.lasts in
+    from_reset crash r good l long (at_front crash.circuit crash.runs (moment_of l.hit) r.inputs l.recorded ∙ l.state) way)
+    (hit_or_none crash r.steps (Some (present_of_dump crash)) crash.dump.state good.chain.follow right)

@@ -1,6 +1,6 @@
 -- Laws of good reports.
-use Rattle.std.specs.Prelude.{◌≡◌, ◌≢◌, ℕ, ◌+◌, ◌<◌, ◌≤◌, Bool, List, [], ◌++◌, length, take, map, Some, None, slice_get, All}
-use Rattle.std.specs.List.{range_with_len}
+use Rattle.std.specs.Prelude.{◌≡◌, ◌≢◌, ℕ, ◌+◌, ◌<◌, ◌≤◌, Bool, List, [], ◌++◌, length, take, map, filter_map, Option, Some, None, option_map, slice_get, All}
+use Rattle.std.specs.List.{range_with_len, last_or}
 use Rattle.bs_scan.specs.Moments.{Run, Moment, IsMoment, run_of, state_at}
 use Rattle.bs_report.specs.declared.report.Step.{Step}
 use Rattle.bs_report.specs.declared.report.HitLine.{HitLine}
@@ -32,10 +32,18 @@ LaterHitsAreEarlier =
 abbrev pub continued : List Run → Moment → List (List Bool) → Run
 continued runs m inputs = take m.cycle (run_of runs m.run) ++ inputs
 
--- An execution from reset goes under a supplied run's inputs to a moment, and from there under the trace's inputs through
--- the trace's states, of which the last is the dumped one.
+-- the hit of the last step that has one
+abbrev pub last_hit : List Step → Option HitLine
+last_hit steps = last_or None (filter_map (λ step. step.hit) steps)
+
+abbrev pub moment_of : HitLine → Moment
+moment_of hit = record { run = hit.run; cycle = hit.cycle }
+
+-- An execution from reset goes under a supplied run's inputs to the moment of the last hit, and from there under the trace's
+-- inputs through the trace's states, of which the last is the dumped one.
 pub record EndsExecution (crash : Crash) (r : Report) : Type 0 where
   pub reached : Moment
+  pub last : option_map moment_of (last_hit r.steps) ≡ Some reached
   pub recorded : IsMoment crash.runs reached
   pub states : r.states ≡ map (state_at crash.circuit (continued crash.runs reached r.inputs)) (range_with_len reached.cycle (length r.inputs + 1))
   pub ends : state_at crash.circuit (continued crash.runs reached r.inputs) (reached.cycle + length r.inputs) ≡ crash.dump.state

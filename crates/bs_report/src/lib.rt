@@ -9,8 +9,8 @@ mod tests;
 mod text;
 
 pub use law::{
-    a_trace_ends_an_execution, a_valid_report_is_good, finished_lists_reach_reset,
-    later_hits_are_earlier,
+    a_good_report_is_valid, a_trace_ends_an_execution, a_valid_report_is_good,
+    finished_lists_reach_reset, later_hits_are_earlier,
 };
 pub use part::Part;
 pub use report::{Budgets, Cand, HitLine, ListEnd, Report, Step, Stop};
