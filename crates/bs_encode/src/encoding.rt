@@ -171,6 +171,20 @@ impl Encoding {
         self.variables
     }
 
+    /// The literals of the present state, in the order of the flip-flops.
+    pub fn states(&self) -> &[Lit]
+        ensures { result.now ≡ self.now.states }
+    {
+        self.states.slice()
+    }
+
+    /// The literals of the data inputs, in their order.
+    pub fn inputs(&self) -> &[Lit]
+        ensures { result.now ≡ self.now.inputs }
+    {
+        self.inputs.slice()
+    }
+
     /// The literal of a flip-flop's present bit.
     pub fn state_lit(&self, i: usize) -> Lit
         requires { i < length self.now.states }

@@ -1,0 +1,61 @@
+-- What the lists of candidates need of an encoding.
+use Rattle.std.specs.Prelude.{◌≡◌, ℕ, ◌+◌, ◌<◌, ◌^◌, Bool, true, List, [], length, map, All, IsTrue, Some, slice_get, slice_index_or}
+use Rattle.bs_clause.specs.Literal.{Literal, literal_value, Satisfies}
+use Rattle.bs_clause.specs.Range.{HasVariables}
+use Rattle.bs_log.specs.History.{Problem, guard_of}
+use Rattle.bs_log.specs.Refusal.{has_distinct_variables}
+use Rattle.bs_log.specs.Shown.{Shown}
+use Rattle.bs_net.specs.Circuit.{Circuit, Leads, next}
+use Rattle.bs_scan.specs.Choice.{Chosen}
+use Rattle.bs_scan.specs.Present.{Present}
+use Rattle.bs_scan.specs.Signature.{agrees}
+use Rattle.bs_encode.specs.Encoded.{Encoded}
+use Rattle.bs_encode.specs.Assuming.{assumptions_for, block_for}
+
+-- Every literal is one of the encoding's variables, below which there is room for the guards of 65,536 steps. No variable
+-- stands twice in a clause, in what a step assumes under a guard above the variables, or in a block.
+pub record IsTidy (c : Circuit) (items : List (List ℕ)) (e : Encoded) : Type 0 where
+  pub room : e.variables + 65536 < 2 ^ 30
+  pub states_width : length e.states ≡ length c.flops
+  pub next_width : length e.next ≡ length c.flops
+  pub signatures_width : length e.signatures ≡ length items
+  pub inputs_width : length e.inputs ≡ length c.inputs
+  pub clauses_range : All (HasVariables e.variables) e.clauses
+  pub states_range : HasVariables e.variables e.states
+  pub next_range : HasVariables e.variables e.next
+  pub signatures_range : HasVariables e.variables e.signatures
+  pub inputs_range : HasVariables e.variables e.inputs
+  pub assumptions_range : (guard : Literal) (q : Present) → e.variables < guard.variable → HasVariables guard.variable (assumptions_for e guard q)
+  pub block_range : (state : List Bool) → HasVariables e.variables (block_for e state)
+  pub clauses_distinct : All (λ d. has_distinct_variables d ≡ true) e.clauses
+  pub assumptions_distinct : (guard : Literal) (q : Present) → e.variables < guard.variable → has_distinct_variables (assumptions_for e guard q) ≡ true
+  pub block_distinct : (state : List Bool) → has_distinct_variables (block_for e state) ≡ true
+
+-- In every problem over the encoding whose step number i, from 0, is that of a present, each state that agrees with what
+-- the register holds there and leads to it is shown in this step.
+abbrev pub PredecessorsAreShown : Circuit → Chosen → Encoded → Type 0
+PredecessorsAreShown c choice e =
+    (p : Problem) (i : ℕ) (q : Present) (s x : List Bool) → p.vars ≡ e.variables → p.clauses ≡ e.clauses →
+    slice_get p.steps i ≡ Some (assumptions_for e (guard_of p (i + 1)) q) →
+    length s ≡ length c.flops → length x ≡ length c.inputs → agrees c choice q.stored s ≡ true → next c s x ≡ q.state →
+    Shown (record { problem = p; block = block_for e }) (length c.flops) (i + 1) s
+
+-- the values of literals
+abbrev pub values_of : (ℕ → Bool) → List Literal → List Bool
+values_of value ls = map (literal_value value) ls
+
+-- the state agrees with what the register holds at the present and leads to it under the input
+pub record IsPredecessor (c : Circuit) (choice : Chosen) (q : Present) (s x : List Bool) : Type 0 where
+  pub state_width : length s ≡ length c.flops
+  pub input_width : length x ≡ length c.inputs
+  pub agrees : agrees c choice q.stored s ≡ true
+  pub next : next c s x ≡ q.state
+  pub leads : Leads c s x q.state
+
+-- Every assignment that meets the clauses and what a step assumes of a present shows such a state and such an input.
+abbrev pub SolutionsArePredecessors : Circuit → Chosen → Encoded → Type 0
+SolutionsArePredecessors c choice e =
+    (value : ℕ → Bool) (guard : Literal) (q : Present) → length q.state ≡ length c.flops → 0 < length q.stored →
+    length (slice_index_or q.stored 0 []) ≡ length choice.items →
+    All (Satisfies value) e.clauses → All (λ l. IsTrue (literal_value value l)) (assumptions_for e guard q) →
+    IsPredecessor c choice q (values_of value e.states) (values_of value e.inputs)
