@@ -1,0 +1,135 @@
+-- What report a text is, or the first fault of a text that is none (docs/FORMATS.md, "The report").
+use Rattle.std.specs.Prelude.{◌≡◌, ◌⊎◌, ℕ, ◌+◌, ◌-◌, ◌==◌, Bool, true, false, List, [], ◌∷◌, ◌++◌, length, codes, Option, Some, None, option_map, Result, Ok, Err, MatchResult, if◌then◌else◌}
+use Rattle.std.specs.Str.{bytes_eq}
+use Rattle.bs_log.specs.LineReading.{line_in}
+use Rattle.bs_report.specs.declared.fault.ReportFault.{ReportFault}
+use Rattle.bs_report.specs.declared.fault.ReportFault.TheVariants as faults
+use Rattle.bs_report.specs.declared.place.Place.{Place}
+use Rattle.bs_report.specs.declared.place.Place.TheVariants as places
+use Rattle.bs_report.specs.declared.report.HitLine.{HitLine}
+use Rattle.bs_report.specs.declared.report.ListEnd.{ListEnd}
+use Rattle.bs_report.specs.declared.report.Stop.{Stop}
+use Rattle.bs_report.specs.declared.report.Stop.TheVariants as stops
+use Rattle.bs_report.specs.declared.report.Cand.{Cand}
+use Rattle.bs_report.specs.declared.report.Step.{Step}
+use Rattle.bs_report.specs.declared.report.Report.{Report}
+use Rattle.bs_report.specs.Forms.{pieces_of, count_in, bits_in, budgets_in, cand_in, end_in, hit_in, stop_in}
+
+-- ---- a line at its place
+
+-- what is read so far, and what the next line may be
+abbrev pub Reached : Type 0
+Reached = Place × Report
+
+abbrev pub when : Bool → Reached → Option Reached
+when allowed reached = if allowed then Some reached else None
+
+-- the line that begins the step with this number
+abbrev pub begins : ℕ → Option ℕ → Bool
+begins number None = false
+begins number (Some n) = n == number
+
+-- a cause, or else the next step
+abbrev pub turned : Report → List ℕ → Option Stop → Option Reached
+turned r text None = when (begins (length r.steps + 1) (count_in (codes "step") text)) (places.Present, r)
+turned r text (Some stop) = Some (places.Trace, record r { stop = stop })
+
+-- the state of a step, and its signature
+abbrev pub present_place : List ℕ → Option Place
+present_place text = option_map (λ present. places.Stored present) (bits_in (codes "present") text)
+
+abbrev pub stored_place : List Bool → List ℕ → Option Place
+stored_place present text = option_map (λ stored. places.Listing present stored []) (bits_in (codes "stored") text)
+
+-- a candidate, or else how the list ended
+abbrev pub more_listed : List Bool → List Bool → List Cand → List ℕ → Option Cand → Option Place
+more_listed present stored cands text None = option_map (λ ended. places.Hit present stored cands ended) (end_in text)
+more_listed present stored cands text (Some cand) = Some (places.Listing present stored (cands ++ cand ∷ []))
+
+abbrev pub listed_place : List Bool → List Bool → List Cand → List ℕ → Option Place
+listed_place present stored cands text = more_listed present stored cands text (cand_in text)
+
+-- the place, where nothing but what the place says is read
+abbrev pub unchanged : Report → Option Place → Option Reached
+unchanged r next = option_map (λ place. (place, r)) next
+
+abbrev pub with_step : Report → List Bool → List Bool → List Cand → ListEnd → Option HitLine → Report
+with_step r present stored cands ended hit =
+    record r { steps = r.steps ++ (record { present = present; stored = stored; cands = cands; end = ended; hit = hit }) ∷ [] }
+
+-- behind a state of the trace, where so many inputs are left
+abbrev pub behind_state : ℕ → Place
+behind_state left = if left == 0 then places.Log else places.Input left
+
+-- where so many log lines are left
+abbrev pub log_place : ℕ → Place
+log_place left = if left == 0 then places.End else places.Lines left
+
+-- What a line gives at its place; none where it is of a form that the place does not allow. The head is two lines. Then
+-- each step has its lines `step`, `present` and `stored`, those of its candidates, `list`, and `hit` or `nohit`. Behind the
+-- line `stop` come the trace, a state and so many times an input and a state, and so many log lines, and then `end`.
+abbrev pub taken : Place → Report → List ℕ → Option Reached
+taken places.Title r text = when (bytes_eq text (codes "backspace 1")) (places.Asked, r)
+taken places.Asked r text = option_map (λ budgets. (places.Turn, record r { budgets = budgets })) (budgets_in text)
+taken places.Turn r text = turned r text (stop_in text)
+taken places.Present r text = unchanged r (present_place text)
+taken (places.Stored present) r text = unchanged r (stored_place present text)
+taken (places.Listing present stored cands) r text = unchanged r (listed_place present stored cands text)
+taken (places.Hit present stored cands ended) r text = option_map (λ hit. (places.Turn, with_step r present stored cands ended hit)) (hit_in text)
+taken places.Trace r text = unchanged r (option_map (λ n. places.State n) (count_in (codes "trace") text))
+taken (places.State left) r text = option_map (λ s. (behind_state left, record r { states = r.states ++ s ∷ [] })) (bits_in (codes "state") text)
+taken (places.Input left) r text = option_map (λ x. (places.State (left - 1), record r { inputs = r.inputs ++ x ∷ [] })) (bits_in (codes "input") text)
+taken places.Log r text = unchanged r (option_map (λ n. log_place n) (count_in (codes "log") text))
+taken (places.Lines left) r text = option_map (λ l. (log_place (left - 1), record r { log = r.log ++ l ∷ [] })) (line_in text)
+taken places.End r text = when (bytes_eq text (codes "end")) (places.Done, r)
+taken places.Done r text = None
+
+abbrev pub is_done : Place → Bool
+is_done places.Done = true
+is_done _ = false
+
+-- ---- the whole text
+
+abbrev pub line_or_fault : ℕ → Option Reached → Result Reached ReportFault
+line_or_fault number None = Err (faults.Line number)
+line_or_fault number (Some reached) = Ok reached
+
+-- what the whole line with this number gives
+abbrev pub followed : ℕ → Place → Report → List ℕ → Result Reached ReportFault
+followed number place r text = if is_done place then Err faults.Extra else line_or_fault number (taken place r text)
+
+-- what the bytes behind the last line feed give
+abbrev pub ended : Place → Report → List ℕ → Result Report ReportFault
+ended place r rest = if is_done place then (if length rest == 0 then Ok r else Err faults.Extra) else Err faults.Short
+
+abbrev pub onward : {A : Type 0} → Result Reached ReportFault → (Place → Report → Result A ReportFault) → Result A ReportFault
+onward (Ok reached) f = f reached.0 reached.1
+onward (Err fault) f = Err fault
+
+-- the pieces of a text from a place on, where the first of them has this number
+abbrev pub report_from : ℕ → Place → Report → List (List ℕ) → Result Report ReportFault
+report_from number place r [] = ended place r []
+report_from number place r (rest ∷ []) = ended place r rest
+report_from number place r (text ∷ next ∷ pieces) =
+    onward (followed number place r text) (λ place r. report_from (number + 1) place r (next ∷ pieces))
+
+-- before the first line
+abbrev pub nothing_read : Report
+nothing_read =
+    record {
+      budgets = record { steps = 0; candidates = 0; conflicts = 0 };
+      steps = [];
+      stop = stops.Reset;
+      states = [];
+      inputs = [];
+      log = [];
+    }
+
+-- the report whose text this is, or the first fault
+unfoldable pub report_in : List ℕ → Result Report ReportFault
+report_in bytes = report_from 1 places.Title nothing_read (pieces_of bytes)
+
+-- what is answered is the expected value or the expected fault, unless memory ran out
+abbrev pub Answers : {A B : Type 0} → (A → B) → Result A ReportFault → Result B ReportFault → Type 0
+Answers f result expected =
+    MatchResult result (λ value. expected ≡ Ok (f value)) (λ fault. (fault ≡ faults.NoMemory) ⊎ (expected ≡ Err fault))
