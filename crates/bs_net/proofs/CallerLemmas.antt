@@ -1,8 +1,16 @@
 -- What a caller's proof cites of the definitions.
-use Rattle.std.proofs.Common.{◌≡◌, ℕ, suc, zero, ◌+◌, Bool, true, false, List, [], ◌∷◌, ◌++◌, map, length, refl, ap, ◌∙◌, add-one, arith, zero-add}
+use Rattle.std.proofs.Common.{◌≡◌, ◌≢◌, ◌↔◌, ℕ, suc, zero, ◌+◌, Bool, true, false, List, [], ◌∷◌, ◌++◌, map, length, refl, ap, ◌∙◌, add-one, arith, zero-add}
 use Rattle.std.specs.List.{All, range_with_len}
 use Rattle.std.proofs.lemmas.List.{length-map}
 use Rattle.std.proofs.lemmas.List.Elements.{All-append, All-map, All-weaker, All-from_recursion}
+use Rattle.bs_net.specs.declared.net.Gate.{Gate}
+use Rattle.bs_net.specs.declared.fault.NetFault.{NetFault}
+use Rattle.bs_net.specs.declared.fault.NetFault.TheVariants.{NoMemory}
+use Rattle.bs_net.specs.declared.raw.Raw.{Raw}
+use Rattle.bs_net.specs.Check.{HasOrder, Passes, IsFault}
+use Rattle.bs_net.specs.Decided.{has_order, passes}
+use Rattle.bs_net.proofs.DecidedLemmas.{has_order_Decides, passes_Decides}
+use Rattle.bs_net.proofs.RefusalLemmas.{refused_do_not_pass}
 use Rattle.bs_net.specs.Circuit.{Circuit, next, loaded, all_bits, settled}
 
 pub length_next : (c : Circuit) (s x : List Bool) → length (next c s x) ≡ length c.flops
@@ -39,3 +47,19 @@ range_more a (suc n) =
 -- the numbers below one more
 pub range_push : (n : ℕ) → range_with_len 0 (n + 1) ≡ range_with_len 0 n ++ n ∷ []
 range_push n = rw add-one (range_more 0 n ∙ ap (λ x. range_with_len 0 n ++ x ∷ []) (zero-add n))
+
+-- the tests say what the check decides
+
+pub has_order_is : (gates : List Gate) → (has_order gates ≡ true) ↔ HasOrder gates
+has_order_is gates = has_order_Decides gates
+
+pub passes_is : (r : Raw) → (passes r ≡ true) ↔ Passes r
+passes_is r = passes_Decides r
+
+-- a refusal but want of memory says that the parts do not pass
+pub refused_fails : (r : Raw) (fault : NetFault) → fault ≢ NoMemory → IsFault r fault → passes r ≡ false
+refused_fails r fault other is = by (passes r) refl
+  where
+    by : (b : Bool) → passes r ≡ b → passes r ≡ false
+    by true e = absurd (refused_do_not_pass r fault other is ((passes_Decides r).0 e))
+    by false e = e

@@ -16,6 +16,7 @@ use Rattle.bs_net.specs.declared.fault.Count.TheVariants.{Flops, Inputs}
 use Rattle.bs_net.specs.Circuit.{number, drivers}
 use Rattle.bs_net.specs.Order.{IsChecked, IsBounded}
 use Rattle.bs_net.specs.Loops.{is_in}
+use Rattle.bs_net.specs.Parts.{PartsArePlaced}
 use Rattle.bs_net.specs.Check.{Passes, too_many, wide_gate, mixed_clock}
 use Rattle.bs_net.specs.Netlist.{circuit_of, clock_of, without}
 use Rattle.bs_net.proofs.PlacedLemmas.{Within, drivers_within}
@@ -100,16 +101,16 @@ drivers_are r =
     ∙ (ap (λ u. u ++ map number g) (constants_are r.consts)
     ∙ ap (λ u. map (λ (c : Const). c.net.0) r.consts ++ u) (outs_are r.gates))))
 
-pub passes_checked : (r : Raw) → Passes r → IsChecked (circuit_of r)
-passes_checked r h =
+pub passes_checked : (r : Raw) → PartsArePlaced r → Passes r → IsChecked (circuit_of r)
+passes_checked r p h =
     let clock = clock_of r.flops in
-    let distinct : IsDistinct nat_eq (map number (r.inputs ++ others r)) = single_distinct r h.nets.single in
+    let distinct : IsDistinct nat_eq (map number (r.inputs ++ others r)) = single_distinct r p h.nets.single in
     let port : list_any (λ (m : NetId). nat_eq clock.0 m.0) r.inputs ≡ true = clock_port r h.one_clock in
     let all : IsDistinct nat_eq (clock.0 ∷ map number (without clock r.inputs ++ others r)) =
     IsDistinct-cons nat_eq clock.0 _ (clock_apart clock r.inputs (others r) (any_number clock.0 r.inputs ∙ port) distinct) (distinct_without clock r.inputs (others r) distinct) in
     let P : List ℕ → Type 0 = λ ns. IsDistinct nat_eq (clock.0 ∷ ns) in
     let Q : List ℕ → Type 0 = λ ns. All (λ n. n < length r.names) ns in
-    let inputs : Within (length r.names) r.inputs = recursion_from_All (λ (n : NetId). n.0 < length r.names) r.inputs r.inputs_placed.1 in
+    let inputs : Within (length r.names) r.inputs = recursion_from_All (λ (n : NetId). n.0 < length r.names) r.inputs p.inputs.1 in
     record {
       clock_placed = any_within (length r.names) clock.0 r.inputs inputs port;
       single_driver = subst P (drivers_are r) all;
@@ -117,7 +118,7 @@ passes_checked r h =
           subst Q (drivers_are r)
           (All-from_recursion (λ n. n < length r.names) _
           (part_without (λ n. n < length r.names) clock r.inputs (others r)
-          (numbers_within (length r.names) (r.inputs ++ others r) (drivers_within r))));
+          (numbers_within (length r.names) (r.inputs ++ others r) (drivers_within r p))));
       acyclic = h.ordered;
     }
 
@@ -158,11 +159,11 @@ without_fewer : (c : NetId) (ns : List NetId) → length (without c ns) ≤ leng
 without_fewer c ns =
     omega (arith, length-filter (λ (n : NetId). not (nat_eq n.0 c.0)) ns, count_by-le-length (λ (n : NetId). not (nat_eq n.0 c.0)) ns)
 
-pub passes_bounded : (r : Raw) → Passes r → IsBounded (circuit_of r)
-passes_bounded r h =
+pub passes_bounded : (r : Raw) → PartsArePlaced r → Passes r → IsBounded (circuit_of r)
+passes_bounded r p h =
     let sizes = not_many r h.nets.few in
     record {
-      few_nets = r.few_names;
+      few_nets = p.few_names;
       some_flop = some_length r.flops h.some_flop;
       few_flops = sizes.0;
       few_inputs = omega (arith, sizes.1, without_fewer (clock_of r.flops) r.inputs);

@@ -8,6 +8,7 @@ use Rattle.bs_net.specs.declared.net.NetId.{NetId}
 use Rattle.bs_net.specs.declared.net.Flop.{Flop}
 use Rattle.bs_net.specs.declared.raw.Raw.{Raw}
 use Rattle.bs_net.specs.Netlist.{clock_of}
+use Rattle.bs_net.specs.Parts.{PartsArePlaced}
 use Rattle.bs_net.specs.Check.{mixed_clock, other_clock, data_clock, first_of, is_data}
 use Rattle.bs_net.proofs.PlacedLemmas.{clocks_in}
 
@@ -27,12 +28,12 @@ found_placed k p (f ∷ fs) n h e = by (p f) e (found_placed k p fs n h.1)
     by true e' rest = let same : f.ck ≡ n = cc in let P : NetId → Type 0 = λ m. m.0 < k in subst P same h.0
     by false e' rest = rest e'
 
-pub mixed_placed : (r : Raw) (n : NetId) → r.flops ≢ [] → mixed_clock r ≡ Some n → n.0 < length r.names
-mixed_placed r n some e =
+pub mixed_placed : (r : Raw) (n : NetId) → PartsArePlaced r → r.flops ≢ [] → mixed_clock r ≡ Some n → n.0 < length r.names
+mixed_placed r n p some e =
     by_port (list_any (λ (m : NetId). nat_eq (clock_of r.flops).0 m.0) r.inputs) e
   where
     clocks : Clocked (length r.names) r.flops
-    clocks = recursion_from_All (λ (f : Flop). f.ck.0 < length r.names) r.flops (clocks_in r (length r.names) refl)
+    clocks = recursion_from_All (λ (f : Flop). f.ck.0 < length r.names) r.flops (clocks_in r p (length r.names) refl)
 
     own : (m : NetId) → clock_of r.flops ≡ m → m.0 < length r.names
     own m same = let P : NetId → Type 0 = λ i. i.0 < length r.names in subst P same (first_placed (length r.names) r.flops some clocks)

@@ -18,3 +18,4 @@ pub mod SingleLemmas
 pub mod CheckedLemmas
 pub mod RefusalLemmas
 pub mod ClockLemmas
+pub mod DecidedLemmas

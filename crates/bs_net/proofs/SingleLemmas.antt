@@ -7,6 +7,7 @@ use Rattle.bs_net.specs.declared.net.NetId.{NetId}
 use Rattle.bs_net.specs.declared.net.Gate.{Gate}
 use Rattle.bs_net.specs.declared.raw.Raw.{Raw}
 use Rattle.bs_net.specs.Circuit.{number}
+use Rattle.bs_net.specs.Parts.{PartsArePlaced}
 use Rattle.bs_net.specs.Check.{times_in, driver_nets, is_shared}
 use Rattle.bs_net.specs.Lowest.{NonePasses}
 use Rattle.bs_net.proofs.TallyLemmas.{times_more}
@@ -44,13 +45,13 @@ none_past k n (m ∷ ns) le w =
     times_more n m ns ∙ (ap (λ b. cond b 1 0 + times_in ns n) (ne_eqb n m.0 (λ e. omega (arith, e, lt, le))) ∙ (zero-add _ ∙ none_past k n ns le w.1))
 
 -- where no net has two drivers, the driven nets are distinct
-pub single_distinct : (r : Raw) → NonePasses (is_shared r) (length r.names) → IsDistinct nat_eq (map number (driver_nets r))
-single_distinct r single =
+pub single_distinct : (r : Raw) → PartsArePlaced r → NonePasses (is_shared r) (length r.names) → IsDistinct nat_eq (map number (driver_nets r))
+single_distinct r p single =
     distinct_from_once (driver_nets r)
     (λ n.
     ⊎_elim
     (λ (lt : n < length r.names). ltb-false 1 (times_in (driver_nets r) n) (single.each n lt))
-    (λ (ge : length r.names ≤ n). omega (arith, none_past (length r.names) n (driver_nets r) ge (drivers_within r)))
+    (λ (ge : length r.names ≤ n). omega (arith, none_past (length r.names) n (driver_nets r) ge (drivers_within r p)))
     (cases_lt n (length r.names)))
 
 last_distinct : (ns ms : List NetId) → IsDistinct nat_eq (map number (ns ++ ms)) → IsDistinct nat_eq (map number ms)
@@ -62,10 +63,10 @@ outs_are [] = refl
 outs_are (g ∷ gs) = ap (λ u. g.out.0 ∷ u) (outs_are gs)
 
 -- and so are the gates' outputs
-pub outs_distinct : (r : Raw) → NonePasses (is_shared r) (length r.names) → IsDistinct nat_eq (map (λ (g : Gate). g.out.0) r.gates)
-outs_distinct r single =
+pub outs_distinct : (r : Raw) → PartsArePlaced r → NonePasses (is_shared r) (length r.names) → IsDistinct nat_eq (map (λ (g : Gate). g.out.0) r.gates)
+outs_distinct r p single =
     let P : List ℕ → Type 0 = λ ns. IsDistinct nat_eq ns in
-    let all = single_distinct r single in
+    let all = single_distinct r p single in
     let after_inputs = last_distinct r.inputs _ all in
     let after_states = last_distinct (map (λ f. f.q) r.flops) _ after_inputs in
     subst P (outs_are r.gates) (last_distinct (map (λ k. k.net) r.consts) (map (λ (g : Gate). g.out) r.gates) after_states)

@@ -10,6 +10,7 @@ use Rattle.bs_net.specs.declared.net.Gate.{Gate}
 use Rattle.bs_net.specs.declared.raw.Raw.{Raw}
 use Rattle.bs_net.specs.declared.tallies.Tally.{Tally}
 use Rattle.bs_net.specs.declared.tallies.Tally.TheVariants.{Never}
+use Rattle.bs_net.specs.Parts.{PartsArePlaced}
 use Rattle.bs_net.specs.Check.{times_in, driver_nets, reader_nets, is_shared, is_undriven}
 use Rattle.bs_net.specs.Lowest.{IsLowest, NonePasses}
 use Rattle.bs_net.specs.Tallies.{tally_of, raised, is_often, is_never, tally_at, tallied, tallies_of, often_at, undriven_at}
@@ -154,8 +155,8 @@ none_undriven r readers drivers e d l =
     none_same (undriven_at readers drivers) (is_undriven r) _ _ (wide r drivers d) (undriven_is r readers drivers e d) l
 
 -- a table for each name is short
-pub table_short : (r : Raw) (drivers : List Tally) → Drives r drivers → length drivers < 2 ^ 32
-table_short r drivers d = omega (arith, wide r drivers d, r.few_names)
+pub table_short : (r : Raw) → PartsArePlaced r → (drivers : List Tally) → Drives r drivers → length drivers < 2 ^ 32
+table_short r p drivers d = omega (arith, wide r drivers d, p.few_names)
 
 pub tables_match : (r : Raw) (readers drivers : List Tally) → Reads r readers → Drives r drivers → length readers ≡ length drivers
 tables_match r readers drivers e d = ap (λ t. length t) e ∙ (length-tallied_new (length r.names) (reader_nets r) ∙ sym (wide r drivers d))

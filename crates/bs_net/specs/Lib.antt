@@ -9,6 +9,7 @@ pub mod Parts
 pub mod Netlist
 pub mod Lowest
 pub mod Check
+pub mod Decided
 pub mod Steps
 -- what inner functions promise each other
 pub mod NetlistSound

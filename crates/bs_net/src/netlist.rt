@@ -3,6 +3,7 @@ ghost use Rattle.std.specs.Prelude.{◌≡◌, ◌≢◌, [], length, map, IfOk,
 ghost use Rattle.bs_net.specs.Circuit.{reset_state};
 ghost use Rattle.bs_net.specs.Order.{IsOrder, IsChecked, IsBounded};
 ghost use Rattle.bs_net.specs.Netlist.{circuit, clock_of, without};
+ghost use Rattle.bs_net.specs.Parts.{PartsArePlaced};
 ghost use Rattle.bs_net.specs.Check.{Passes, PassesNets, HasOrder, IsFault};
 ghost use Rattle.bs_net.specs.Findings.{Finds};
 
@@ -100,6 +101,7 @@ struct Findings {
 
 /// What the check finds; or the first refusal.
 fn examine(alloc: Global, raw: &Raw) -> Result<Findings, NetFault>
+    requires { PartsArePlaced raw.now }
     ensures ok { IfOk result (λ f. Passes raw.now × Finds raw.now f) }
     ensures err { IfErr result (λ fault. IsFault raw.now fault) }
 {
@@ -123,6 +125,7 @@ impl Netlist {
     /// The netlist of some parts; or the first refusal, with the parts as they were
     /// (docs/DEFINITIONS.md, "Refusals of the check"). It takes time linear in the parts.
     pub fn check(alloc: Global, raw: Raw) -> Result<Netlist, Refused>
+        requires { PartsArePlaced raw }
         ensures ok { IfOk result (λ n. (n.raw ≡ raw) × Passes raw) }
         ensures err { IfErr result (λ e. (e.raw ≡ raw) × IsFault raw e.fault) }
     {
@@ -148,6 +151,7 @@ impl Netlist {
     /// The parts.
     pub fn raw(&self) -> &Raw
         ensures parts { result.now ≡ self.now.raw }
+        ensures placed { PartsArePlaced self.now.raw }
         ensures checked { IsChecked (circuit self.now) }
         ensures bounded { IsBounded (circuit self.now) }
         ensures ordered { IsOrder (circuit self.now).gates self.now.order }

@@ -2,6 +2,7 @@
 ghost use Rattle.std.specs.Prelude.{◌≡◌, ◌<◌, length, replicate, map, All, IfOk, slice_set};
 ghost use Rattle.std.specs.List.{flat_map};
 ghost use Rattle.bs_net.specs.Tallies.{raised, tallied, tallies_of, tally_at};
+ghost use Rattle.bs_net.specs.Parts.{PartsArePlaced};
 ghost use Rattle.bs_net.specs.Check.{driver_nets, reader_nets};
 
 use crate::net::{Const, Flop, Gate, NetId};
@@ -124,6 +125,7 @@ fn unnamed(alloc: Global, count: usize) -> Result<Vec<Tally>, NoMemory>
 
 /// How many drivers each net has.
 pub(crate) fn driver_tallies(alloc: Global, raw: &Raw) -> Result<Vec<Tally>, NoMemory>
+    requires { PartsArePlaced raw.now }
     ensures { IfOk result (λ t. t.items ≡ tallies_of (length raw.now.names) (driver_nets raw.now)) }
 {
     let mut table = unnamed(alloc, raw.names.len() as usize)?;
@@ -136,6 +138,7 @@ pub(crate) fn driver_tallies(alloc: Global, raw: &Raw) -> Result<Vec<Tally>, NoM
 
 /// How many readers each net has.
 pub(crate) fn reader_tallies(alloc: Global, raw: &Raw) -> Result<Vec<Tally>, NoMemory>
+    requires { PartsArePlaced raw.now }
     ensures { IfOk result (λ t. t.items ≡ tallies_of (length raw.now.names) (reader_nets raw.now)) }
 {
     let mut table = unnamed(alloc, raw.names.len() as usize)?;

@@ -44,7 +44,7 @@ impl Choice {
     /// (docs/FORMATS.md, "Signature").
     pub fn read(alloc: Global, bytes: &[u8], net: &Netlist) -> Result<Choice, ChoiceFault>
         requires { length bytes.now ≤ 2 ^ 20 }
-        ensures { Answers (λ choice. choice) result (choice_of net.now (lines_of bytes.now)) }
+        ensures { Answers (λ choice. choice) result (choice_of net.now.raw (lines_of bytes.now)) }
     {
         let flops = FlopNames::new(alloc, net)?;
         let items = read_items(alloc, bytes, &flops)?;

@@ -20,7 +20,7 @@ fn read_flops(
 ) -> Result<List<u32>, ChoiceFault>
     requires { IsTrue (list_all is_name_text (words_of names.now)) }
     ensures reads { Answers (λ item. item) result (flops_of flops.now number (words_of names.now)) }
-    ensures range { IfOk result (λ item. All (λ flop. flop < length flops.now.raw.flops) item) }
+    ensures range { IfOk result (λ item. All (λ flop. flop < length flops.now.flops) item) }
     ensures count { IfOk result (λ item. length item ≡ length (words_of names.now)) }
 {
     let mut item = List::new(alloc);
@@ -44,7 +44,7 @@ fn read_item(
     flops: &FlopNames<'_>,
 ) -> Result<List<u32>, ChoiceFault>
     ensures reads { Answers (λ item. item) result (item_of flops.now number (names_of (words_of line.now))) }
-    ensures range { IfOk result (λ item. All (λ flop. flop < length flops.now.raw.flops) item) }
+    ensures range { IfOk result (λ item. All (λ flop. flop < length flops.now.flops) item) }
     ensures short { IfOk result (λ item. length item ≤ length line.now) }
     ensures few { IfOk result (λ _. number ≤ 256) }
 {
@@ -67,7 +67,7 @@ pub fn read_items(
 ) -> Result<List<List<u32>>, ChoiceFault>
     requires { length bytes.now ≤ 2 ^ 20 }
     ensures reads { Answers (λ items. items) result (items_of flops.now 1 (lines_of bytes.now)) }
-    ensures sound { IfOk result (λ items. IsChoice (chosen (length flops.now.raw.flops) items)) }
+    ensures sound { IfOk result (λ items. IsChoice (chosen (length flops.now.flops) items)) }
 {
     let mut items = List::new(alloc);
     let mut rest = bytes;

@@ -18,14 +18,14 @@ pub struct FlopNames<'a> {
 }
 
 impl<'a> Model for FlopNames<'a> {
-    ghost use Rattle.bs_net.specs.Netlist.{Checked};
+    ghost use Rattle.bs_net.specs.declared.raw.Raw.{Raw};
     ghost use Rattle.bs_scan.specs.Reading.{IsTable};
 
-    ghost Value = { Checked };
+    ghost Value = { Raw };
 
-    ghost view = { λ names. names.net.now };
+    ghost view = { λ names. names.net.now.raw };
 
-    ghost invariant = { λ names. IsTable names.net.now names.by_net.items };
+    ghost invariant = { λ names. IsTable names.net.now.raw names.by_net.items };
 }
 
 /// As many places without a flip-flop.
@@ -48,7 +48,7 @@ fn note(table: &mut Vec<Option<u32>>, net: NetId, flop: u32)
 
 /// For each net the flip-flop whose output it is.
 fn flops_by_net(alloc: Global, net: &Netlist) -> Result<Vec<Option<u32>>, NoMemory>
-    ensures { IfOk result (λ table. IsTable net.now table.items) }
+    ensures { IfOk result (λ table. IsTable net.now.raw table.items) }
 {
     let raw = net.raw();
     let flops = raw.flops.slice();
@@ -82,7 +82,7 @@ fn net_named(net: &Netlist, name: &[u8]) -> Option<NetId>
 impl<'a> FlopNames<'a> {
     /// The names of a netlist's flip-flops.
     pub fn new(alloc: Global, net: &'a Netlist) -> Result<FlopNames<'a>, NoMemory>
-        ensures { IfOk result (λ names. names ≡ net.now) }
+        ensures { IfOk result (λ names. names ≡ net.now.raw) }
     {
         let by_net = flops_by_net(alloc, net)?;
         Ok(FlopNames { net, by_net })
@@ -92,7 +92,7 @@ impl<'a> FlopNames<'a> {
     pub fn number(&self, name: &[u8]) -> Option<u32>
         requires { IsTrue (is_name_text name.now) }
         ensures value { result ≡ flop_named self.now name.now }
-        ensures within { IfSome result (λ flop. flop < length self.now.raw.flops) }
+        ensures within { IfSome result (λ flop. flop < length self.now.flops) }
     {
         match net_named(self.net, name) {
             Some(n) => self.by_net[n.0 as usize],

@@ -5,6 +5,7 @@ use Rattle.bs_net.specs.declared.net.NetId.{NetId}
 use Rattle.bs_net.specs.declared.raw.Raw.{Raw}
 use Rattle.bs_net.specs.declared.fault.NetFault.{NetFault}
 use Rattle.bs_net.specs.declared.fault.NetFault.TheVariants as net
+use Rattle.bs_net.specs.Parts.{PartsArePlaced}
 use Rattle.bs_net.specs.Check.{IsFault}
 use Rattle.bs_net.specs.Circuit.{Circuit}
 use Rattle.bs_net.specs.Order.{IsBounded}
@@ -18,8 +19,8 @@ pub key_is : (r : Raw) (n : NetId) (key : List ℕ) → slice_get r.names n.0 �
 key_is r n key e = sym (get_or_from_slice_get r.names n.0 key [] e)
 
 -- the net of a mixed clock has a name
-pub mixed_named : (r : Raw) (fault : NetFault) (n : NetId) → IsFault r fault → fault ≡ net.ClockMixed n → n.0 < length r.names
-mixed_named r fault n is e = let here : IsFault r (net.ClockMixed n) = subst (IsFault r) e is in mixed_placed r n here.2 here.3
+pub mixed_named : (r : Raw) (fault : NetFault) (n : NetId) → PartsArePlaced r → IsFault r fault → fault ≡ net.ClockMixed n → n.0 < length r.names
+mixed_named r fault n p is e = let here : IsFault r (net.ClockMixed n) = subst (IsFault r) e is in mixed_placed r n p here.2 here.3
 
 -- flip-flops and data inputs can be counted together
 pub few_bits : (c : Circuit) (flops inputs : ℕ) → IsBounded c → flops ≡ length c.flops → inputs ≡ length c.inputs → flops + inputs < 2 ^ 64

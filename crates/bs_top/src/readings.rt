@@ -14,7 +14,7 @@ use std::alloc::Global;
 /// The items of a signature.
 pub fn read_signature(alloc: Global, bytes: &[u8], net: &Netlist) -> Result<Choice, Refusal>
     requires { length bytes.now ≤ 2 ^ 20 }
-    ensures { Reads CheckSays (λ choice. choice) (signature_in net.now bytes.now) result }
+    ensures { Reads CheckSays (λ choice. choice) (signature_in net.now.raw bytes.now) result }
 {
     match Choice::read(alloc, bytes, net) {
         Ok(choice) => Ok(choice),
@@ -40,7 +40,7 @@ pub fn read_dump(
     net: &Netlist,
     choice: &Choice,
 ) -> Result<Dump, Refusal>
-    ensures { Reads CheckSays (λ dump. dump) (dump_in net.now choice.now bytes.now) result }
+    ensures { Reads CheckSays (λ dump. dump) (dump_in net.now.raw choice.now bytes.now) result }
 {
     match Dump::read(alloc, bytes, net, choice) {
         Ok(dump) => Ok(dump),

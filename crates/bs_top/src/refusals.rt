@@ -1,6 +1,7 @@
 //! The words of a refusal line, for each fault of a reader and of the check (docs/FORMATS.md, "Refusal lines").
 ghost use Rattle.std.specs.Prelude.{◌≡◌, ◌<◌, ◌++◌, length, All, codes, decimal, IfOk, IfErr};
 ghost use Rattle.std.specs.List.{flat_map};
+ghost use Rattle.bs_net.specs.Parts.{PartsArePlaced};
 ghost use Rattle.bs_net.specs.Check.{IsFault};
 ghost use Rattle.bs_net.specs.Loops.{gate_at};
 ghost use Rattle.bs_net.specs.Netlist.{circuit};
@@ -127,7 +128,8 @@ fn unsupported(alloc: Global, at: u32, what: What) -> Refusal
 /// Why the check refuses a netlist.
 #[tactic(auto, using(crate::proofs::RefusalLemmas::check_told))]
 pub fn check_refusal(alloc: Global, raw: &Raw, fault: &NetFault) -> Refusal
-    requires { IsFault raw.now fault.now }
+    requires placed { PartsArePlaced raw.now }
+    requires is { IsFault raw.now fault.now }
     ensures { HasCheckWords raw.now result }
 {
     fault_refusal(alloc, raw, fault)
@@ -136,7 +138,8 @@ pub fn check_refusal(alloc: Global, raw: &Raw, fault: &NetFault) -> Refusal
 /// The words of a fault of the check.
 #[tactic(auto, using(crate::proofs::RefusalLemmas::mixed_named))]
 fn fault_refusal(alloc: Global, raw: &Raw, fault: &NetFault) -> Refusal
-    requires { IsFault raw.now fault.now }
+    requires placed { PartsArePlaced raw.now }
+    requires is { IsFault raw.now fault.now }
     ensures why { HasWords (check_words raw.now fault.now) result }
     ensures want { fault.now ≡ CheckWant → result ≡ Want }
 {
@@ -183,7 +186,8 @@ fn too_many(alloc: Global, kind: Count, count: u32) -> Refusal
 
 /// The output net of a gate.
 fn output_of(raw: &Raw, gate: u32) -> NetId
-    requires { gate < length raw.now.gates }
+    requires placed { PartsArePlaced raw.now }
+    requires gate { gate < length raw.now.gates }
     ensures net { result ≡ (gate_at raw.now.gates gate).out }
     ensures named { result.0 < length raw.now.names }
 {
@@ -192,7 +196,8 @@ fn output_of(raw: &Raw, gate: u32) -> NetId
 
 /// The keys of the output nets of a loop of gates.
 fn loop_words(alloc: Global, raw: &Raw, gates: &[u32]) -> Result<Vec<u8>, NoMemory>
-    requires { All (λ gate. gate < length raw.now.gates) gates.now }
+    requires placed { PartsArePlaced raw.now }
+    requires gates { All (λ gate. gate < length raw.now.gates) gates.now }
     ensures { IfOk result (λ why. why.items ≡ codes "Loop" ++ flat_map (gate_piece raw.now) gates.now) }
 {
     let mut why = b"Loop".to_vec(alloc)?;
@@ -205,7 +210,8 @@ fn loop_words(alloc: Global, raw: &Raw, gates: &[u32]) -> Result<Vec<u8>, NoMemo
 
 /// The refusal of a loop.
 fn looped(alloc: Global, raw: &Raw, gates: &[u32]) -> Refusal
-    requires { All (λ gate. gate < length raw.now.gates) gates.now }
+    requires placed { PartsArePlaced raw.now }
+    requires gates { All (λ gate. gate < length raw.now.gates) gates.now }
     ensures { HasWords (codes "Loop" ++ flat_map (gate_piece raw.now) gates.now) result }
 {
     refusal(loop_words(alloc, raw, gates))

@@ -29,18 +29,6 @@ use Rattle.bs_verilog.specs.Keys.{keys, text}
 use Rattle.bs_verilog.specs.Declaring.{said, direction_of, declaring_fault, known, known_nets, keys_of}
 use Rattle.bs_verilog.specs.Building.{net_of, with_parts}
 
--- the parts of a netlist
-pub record Netlist : Type 0 where
-  pub names : List (List ℕ)
-  pub inputs : List NetId
-  pub outputs : List NetId
-  pub consts : List Const
-  pub gates : List Gate
-  pub flops : List Flop
-
-abbrev pub netlist_of : Raw → Netlist
-netlist_of r = record { names = r.names; inputs = r.inputs; outputs = r.outputs; consts = r.consts; gates = r.gates; flops = r.flops }
-
 -- the names after these keys: each new one takes the next number
 unfoldable pub with_keys : List (List ℕ) → List (List ℕ) → List (List ℕ)
 with_keys names [] = names
@@ -86,7 +74,7 @@ supply_consts table names d =
     ]
 
 -- the parts of what is built, with the port bits
-abbrev pub parts_of : Built → List NetId → List NetId → Netlist
+abbrev pub parts_of : Built → List NetId → List NetId → Raw
 parts_of b inputs outputs =
     record { names = b.made.names; inputs = inputs; outputs = outputs; consts = b.made.consts; gates = b.gates; flops = b.flops }
 
@@ -97,17 +85,17 @@ start_of table m =
     record { made = record { names = names; consts = flat_map (supply_consts table names) m.declared }; gates = []; flops = [] }
 
 -- what parts build in file order after what stands before them, with the ports by the names that stand before
-abbrev pub finished_of : List (List ℕ) → (ℕ → Option Says) → List Name → List Part → Built → Result Netlist VerilogFault
+abbrev pub finished_of : List (List ℕ) → (ℕ → Option Says) → List Name → List Part → Built → Result Raw VerilogFault
 finished_of table scope header parts start =
     with_parts table scope start parts >>= λ b.
     Ok (parts_of b (port_nets directions.Input table scope start.made.names header) (port_nets directions.Output table scope start.made.names header))
 
 -- what a module builds whose declarations are in order
-unfoldable pub built_of : List (List ℕ) → Module → Result Netlist VerilogFault
+unfoldable pub built_of : List (List ℕ) → Module → Result Raw VerilogFault
 built_of table m = finished_of table (said m.declared) m.header m.parts (start_of table m)
 
 -- the third pass, and the fourth
-unfoldable pub meaning_of : List (List ℕ) → Module → Result Netlist VerilogFault
+unfoldable pub meaning_of : List (List ℕ) → Module → Result Raw VerilogFault
 meaning_of table m = elim (declaring_fault table m) [ Some fault ↦ Err fault | None ↦ built_of table m ]
 
 -- the lexer's fault is a fault of syntax
@@ -115,7 +103,7 @@ abbrev pub tokenised : List ℕ → Result (List Token) VerilogFault
 tokenised source = elim (tokens_of source) [ Ok tokens ↦ Ok tokens | Err at ↦ Err (Syntax at) ]
 
 -- the netlist that a text is
-unfoldable pub netlist_text : List ℕ → Result Netlist VerilogFault
+unfoldable pub netlist_text : List ℕ → Result Raw VerilogFault
 netlist_text source = do
   tokens ← tokenised source
   m ← syntax_of (lexemes_of source tokens)

@@ -31,7 +31,7 @@ returns-clause-clauses c =
     c.as_slice-2.ensures.value
     ∙ (c.in_ok-values.ensures.value
     ∙ (ap (λ n. with_constants (replicate n None) c.slice.result.now) nets ∙ ap (λ (ks : List Const). with_constants (replicate (circuit c.args.net.now).nets None) ks) consts)) in
-    let placed = recursion_from_All (λ (k : Const). k.net.0 < (circuit c.args.net.now).nets) (circuit c.args.net.now).constants c.args.net.now.raw.consts_placed.1 in
+    let placed = recursion_from_All (λ (k : Const). k.net.0 < (circuit c.args.net.now).nets) (circuit c.args.net.now).constants c.raw-raw.ensures.placed.consts.1 in
     let units = units_in_tables (circuit c.args.net.now) c.as_slice.result.now c.as_slice-2.result.now zeros values (constants_apart (circuit c.args.net.now) c.order-order.ensures.checked.single_driver) placed in
     parts_joined
     (gates_clauses (first_helper (circuit c.args.net.now)) (circuit c.args.net.now).gates)

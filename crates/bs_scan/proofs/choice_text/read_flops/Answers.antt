@@ -26,7 +26,7 @@ names-preserved c =
           (flop_step (flops_of c.args.flops.now c.args.number (words_of c.args.names.now)) c.args.flops.now c.args.number c.names.item before after c.split_word.result.0.now c.in-Some-number.flop
           c.names.invariant.whole cut c.in-Some-number.ensures.value);
       named = (and_parts (is_name c.split_word.result.0.now) (list_all is_name after) (rw cut at c.names.invariant.named)).1;
-      range = rw c.in_ok-push-in-Some-number.ensures.ok (All-push (λ (flop : ℕ). flop < length c.args.flops.now.raw.flops) c.names.item _ c.names.invariant.range c.in-Some-number.ensures.within);
+      range = rw c.in_ok-push-in-Some-number.ensures.ok (All-push (λ (flop : ℕ). flop < length c.args.flops.now.flops) c.names.item _ c.names.invariant.range c.in-Some-number.ensures.within);
       count = rw (c.in_ok-push-in-Some-number.ensures.ok, length-append) (omega (arith, c.names.invariant.count, ap length cut));
     }
 

@@ -10,7 +10,7 @@ abbrev pub invariant-names : goal.invariant-names
 invariant-names l = record {
   whole : flops_of l.flops l.number (words_of l.names) ≡ with_front l.item (flops_of l.flops l.number (words_left (option_map (λ rest. rest.now) l.behind)));
   named : IsTrue (list_all is_name (words_left (option_map (λ rest. rest.now) l.behind)));
-  range : All (λ flop. flop < length l.flops.raw.flops) l.item;
+  range : All (λ flop. flop < length l.flops.flops) l.item;
   count : length l.item + length (words_left (option_map (λ rest. rest.now) l.behind)) ≡ length (words_of l.names);
 }
 

@@ -14,7 +14,7 @@ lines-init c =
       whole = front_none (items_of c.args.flops.now 1 (lines_of c.args.bytes.now));
       numbered = refl;
       few = omega arith;
-      range = All-nil (All (λ (flop : ℕ). flop < length c.args.flops.now.raw.flops));
+      range = All-nil (All (λ (flop : ℕ). flop < length c.args.flops.now.flops));
       bytes = no_numbers c.args.bytes.now;
     })
 
@@ -35,7 +35,7 @@ lines-preserved c =
           c.lines.invariant.whole c.in-Some.ensures c.in_ok-read_item.ensures.reads);
       numbered = omega (arith, more, c.lines.invariant.numbered);
       few = omega (arith, more, c.lines.invariant.numbered, c.in_ok-read_item.ensures.few);
-      range = rw c.in_ok-push.ensures.ok (All-push (All (λ (flop : ℕ). flop < length c.args.flops.now.raw.flops)) c.lines.items _ c.lines.invariant.range c.in_ok-read_item.ensures.range);
+      range = rw c.in_ok-push.ensures.ok (All-push (All (λ (flop : ℕ). flop < length c.args.flops.now.flops)) c.lines.items _ c.lines.invariant.range c.in_ok-read_item.ensures.range);
       bytes = rw c.in_ok-push.ensures.ok (bytes_step c.lines.items _ (lines_of c.lines.rest.now) c.in-Some.line.now (lines_of c.in-Some.behind.now) (length c.args.bytes.now) c.in-Some.ensures c.in_ok-read_item.ensures.short c.lines.invariant.bytes);
     }
 

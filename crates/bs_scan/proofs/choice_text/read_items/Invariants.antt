@@ -11,7 +11,7 @@ invariant-lines l = record {
   whole : items_of l.flops 1 (lines_of l.bytes) ≡ with_front l.items (items_of l.flops l.number (lines_of l.rest));
   numbered : l.number ≡ 1 + length l.items;
   few : length l.items ≤ 256;
-  range : All (λ item. All (λ flop. flop < length l.flops.raw.flops) item) l.items;
+  range : All (λ item. All (λ flop. flop < length l.flops.flops) item) l.items;
   bytes : numbers_of l.items + bytes_in (lines_of l.rest) ≤ length l.bytes;
 }
 

@@ -16,7 +16,7 @@ show_nets-requires-clause-placed c =
     let len : length c.args.values.now ≡ (circuit c.args.net.now).nets = ap length c.requires.zeros ∙ length-replicate _ false in
     let P : List NetId → Type 0 = λ ns. All (λ (n : NetId). n.0 < length c.args.values.now) ns in
     let Q : ℕ → Type 0 = λ m. All (λ (n : NetId). n.0 < m) (circuit c.args.net.now).inputs in
-    subst P (sym nets) (subst Q (sym len) (without_placed _ _ _ c.args.net.now.raw.inputs_placed.1))
+    subst P (sym nets) (subst Q (sym len) (without_placed _ _ _ c.raw-raw.ensures.placed.inputs.1))
 
 pub returns : goal.returns
 returns c =

@@ -9,8 +9,8 @@ use Rattle.bs_encode.proofs.encoding.Encoding.new.Goals as goal
 pub net_literals-requires : goal.net_literals-requires
 net_literals-requires c =
     let nets : c.slice-2.result.now ≡ (circuit c.args.net.now).inputs = c.slice-2.ensures ∙ c.data_inputs.ensures in
-    let within : All (λ (n : NetId). n.0 < length c.args.net.now.raw.names) (circuit c.args.net.now).inputs = without_placed _ _ _ c.args.net.now.raw.inputs_placed.1 in
-    let small : All (λ (n : NetId). n.0 < 100000) (circuit c.args.net.now).inputs = λ k d lt. omega (arith, within k d lt, c.args.net.now.raw.few_names) in
+    let within : All (λ (n : NetId). n.0 < length c.args.net.now.raw.names) (circuit c.args.net.now).inputs = without_placed _ _ _ c.raw-raw.ensures.placed.inputs.1 in
+    let small : All (λ (n : NetId). n.0 < 100000) (circuit c.args.net.now).inputs = λ k d lt. omega (arith, within k d lt, c.raw-raw.ensures.placed.few_names) in
     let P : List NetId → Type 0 = λ ns. All (λ (n : NetId). n.0 < 100000) ns in
     subst P (sym nets) small
 

@@ -9,7 +9,8 @@ invariant_of-result c =
       clock = found.clock;
       inputs = found.inputs;
       reset = found.reset;
-      checked = passes_checked c.args.raw passes;
-      bounded = passes_bounded c.args.raw passes;
+      placed = c.requires;
+      checked = passes_checked c.args.raw c.requires passes;
+      bounded = passes_bounded c.args.raw c.requires passes;
       ordered = found.ordered;
     }
