@@ -143,16 +143,16 @@ order_test gates order o =
 pub has_order_Decides : (gates : List Gate) → Decides (has_order gates) (HasOrder gates)
 unfolding has_order
 has_order_Decides gates = (
-      λ e.
-          let r = any_member (is_order gates) (all_lists (length gates) (length gates)) e in
-          (r.0, order_true gates r.0 (lists_length (length gates) (length gates) r.0 r.1) r.2),
-      λ h.
-          let l : length h.0 ≡ length gates = length_permutation _ _ h.1.each_once ∙ length-range_with_len 0 (length gates) in
-          let P : ℕ → Type 0 = λ n. Member h.0 (all_lists (length gates) n) in
-          any_from_member (is_order gates) h.0 (all_lists (length gates) (length gates))
-          (subst P l (lists_member (length gates) h.0 (recursion_from_All (λ i. i < length gates) h.0 (order_below gates h.0 h.1))))
-          (order_test gates h.0 h.1),
-    )
+  λ e.
+      let r = any_member (is_order gates) (all_lists (length gates) (length gates)) e in
+      (r.0, order_true gates r.0 (lists_length (length gates) (length gates) r.0 r.1) r.2),
+  λ h.
+      let l : length h.0 ≡ length gates = length_permutation _ _ h.1.each_once ∙ length-range_with_len 0 (length gates) in
+      let P : ℕ → Type 0 = λ n. Member h.0 (all_lists (length gates) n) in
+      any_from_member (is_order gates) h.0 (all_lists (length gates) (length gates))
+      (subst P l (lists_member (length gates) h.0 (recursion_from_All (λ i. i < length gates) h.0 (order_below gates h.0 h.1))))
+      (order_test gates h.0 h.1),
+)
 
 -- ---- the check
 
