@@ -16,7 +16,7 @@ mod words;
 pub use fault::ReportFault;
 pub use law::{
     a_good_report_is_valid, a_trace_ends_an_execution, a_valid_report_is_good,
-    finished_lists_reach_reset, later_hits_are_earlier,
+    finished_lists_reach_reset, later_hits_are_earlier, reports_read_back,
 };
 pub use part::Part;
 pub use report::{Budgets, Cand, HitLine, ListEnd, Report, Step, Stop};

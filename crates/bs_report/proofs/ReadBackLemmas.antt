@@ -1,0 +1,391 @@
+-- A report that has a text is read back from it.
+use Rattle.std.proofs.Common.{◌≡◌, ℕ, suc, zero, ◌<◌, ◌≤◌, ◌+◌, ◌-◌, ◌^◌, Bool, true, false, cond, List, [], ◌∷◌, ◌++◌, length, get_or, drop, refl, arith, ap, sym, subst, ◌∙◌, Option, Some, None, append_assoc}
+use Rattle.std.specs.Prelude.{◌==◌, codes, decimal, option_map, Result, Ok, Err, All}
+use Rattle.std.specs.List.{AllByRecursion as Each, flat_map, range_with_len}
+use Rattle.std.proofs.lemmas.Bool.{eq-eqb, ne_eqb}
+use Rattle.std.proofs.lemmas.List.{append-nil, length-append}
+use Rattle.std.proofs.lemmas.List.Elements.{recursion_from_All}
+use Rattle.bs_bits.specs.Text.{bits_text}
+use Rattle.bs_bits.specs.Lines.{line, onto_first}
+use Rattle.bs_log.specs.declared.line.Line.{Line}
+use Rattle.bs_log.specs.LineForms.{HasText}
+use Rattle.bs_log.specs.LineReading.{line_in}
+use Rattle.bs_log.specs.LineText.{line_text}
+use Rattle.bs_log.proofs.RoundTrip.{lines_read_back}
+use Rattle.bs_report.specs.declared.fault.ReportFault.{ReportFault}
+use Rattle.bs_report.specs.declared.place.Place.{Place}
+use Rattle.bs_report.specs.declared.place.Place.TheVariants as places
+use Rattle.bs_report.specs.declared.report.Budgets.{Budgets}
+use Rattle.bs_report.specs.declared.report.Cand.{Cand}
+use Rattle.bs_report.specs.declared.report.HitLine.{HitLine}
+use Rattle.bs_report.specs.declared.report.ListEnd.{ListEnd}
+use Rattle.bs_report.specs.declared.report.ListEnd.TheVariants.{Finished, Candidates as ByCandidates, Conflicts as ByConflicts}
+use Rattle.bs_report.specs.declared.report.Stop.{Stop}
+use Rattle.bs_report.specs.declared.report.Stop.TheVariants as stops
+use Rattle.bs_report.specs.declared.report.Step.{Step}
+use Rattle.bs_report.specs.declared.report.Report.{Report}
+use Rattle.bs_report.specs.Forms.{pieces_of, count_in, bits_in, cand_in, end_in, hit_in, stop_in, budgets_in}
+use Rattle.bs_report.specs.Reading.{Reached, begins, turned, more_listed, with_step, behind_state, log_place, taken, is_done, followed, line_or_fault, onward, ended, report_from, nothing_read, report_in}
+use Rattle.bs_report.specs.Text.{cand_text, end_word, hit_text, step_text, steps_text, stop_word, state_text, move_text, trace_text, budgets_text, head_text, tail_text, report_text, HasEndText, HasHitText, HasStepText, HasReportText}
+use Rattle.bs_report.specs.ReadingLaw.{ReportsReadBack}
+use Rattle.bs_report.proofs.FormLemmas.{Lacks, both_lack, number_lacks, bits_lack, count_again, bits_line_again, budgets_again, cand_again, end_again, hit_again, stop_again, words_of_count, words_of_bits, log_line_lacks}
+use Rattle.bs_report.proofs.ReadingLemmas.{line_from}
+
+-- ---- lines one after another
+
+-- reading goes on from one place to another
+record Goes (place : Place) (r : Report) (text : List ℕ) (next : Place) (after : Report) (rest : List ℕ) : Type 0 where
+  to : (n : ℕ) → (m : ℕ) × (report_from n place r (pieces_of text) ≡ report_from m next after (pieces_of rest))
+
+stays : (place : Place) (r : Report) (text : List ℕ) → Goes place r text place r text
+stays place r text = record { to = λ n. (n, refl) }
+
+on : {place next last : Place} {r after end : Report} {text rest behind : List ℕ} → Goes place r text next after rest → Goes next after rest last end behind → Goes place r text last end behind
+on g h = record { to = λ n. let a = g.to n in let b = h.to a.0 in (b.0, a.1 ∙ b.1) }
+
+first_piece : (a rest : List ℕ) → Lacks 10 a → pieces_of (line a ++ rest) ≡ a ∷ pieces_of rest
+first_piece [] rest h = refl
+first_piece (b ∷ bs) rest h =
+    ap (λ t. cond t ([] ∷ pieces_of (line bs ++ rest)) (onto_first b (pieces_of (line bs ++ rest)))) h.0 ∙ ap (onto_first b) (first_piece bs rest h.1)
+
+-- one line
+one : (place next : Place) (r after : Report) (a rest : List ℕ) → Lacks 10 a → is_done place ≡ false → taken place r a ≡ Some (next, after) →
+    Goes place r (line a ++ rest) next after rest
+one place next r after a rest lacks undone t =
+    record {
+      to = λ n. (
+        n + 1,
+        ap (report_from n place r) (first_piece a rest lacks)
+            ∙ (line_from n place r a rest
+            ∙ (ap (λ (b : Bool). onward (cond b (Err extra) (line_or_fault n (taken place r a))) (λ place r. report_from (n + 1) place r (pieces_of rest))) undone
+            ∙ ap (λ (o : Option Reached). onward (line_or_fault n o) (λ place r. report_from (n + 1) place r (pieces_of rest))) t)),
+      );
+    }
+  where
+    extra : ReportFault
+    extra = Rattle.bs_report.specs.declared.fault.ReportFault.TheVariants.Extra
+
+-- one line of more
+one_of : (place next : Place) (r after : Report) (a b rest : List ℕ) → Lacks 10 a → is_done place ≡ false → taken place r a ≡ Some (next, after) →
+    Goes place r ((line a ++ b) ++ rest) next after (b ++ rest)
+one_of place next r after a b rest lacks undone t =
+    subst (λ (text : List ℕ). Goes place r text next after (b ++ rest)) (sym (append_assoc (line a) b rest)) (one place next r after a (b ++ rest) lacks undone t)
+
+-- ---- a step
+
+cands_go : (p s : List Bool) (done cands : List Cand) (r : Report) (rest : List ℕ) → Goes (places.Listing p s done) r (flat_map cand_text cands ++ rest) (places.Listing p s (done ++ cands)) r rest
+cands_go p s done [] r rest = subst (λ (cs : List Cand). Goes (places.Listing p s done) r rest (places.Listing p s cs) r rest) (sym (append-nil done)) (stays (places.Listing p s done) r rest)
+cands_go p s done (c ∷ cs) r rest =
+    on
+    (one_of (places.Listing p s done) (places.Listing p s (done ++ c ∷ [])) r r
+    (codes "cand " ++ (bits_text c.state ++ (codes " input " ++ bits_text c.input))) (flat_map cand_text cs) rest lacks refl
+    (ap (λ (o : Option Cand). option_map (λ (place : Place). (place, r)) (more_listed p s done (codes "cand " ++ (bits_text c.state ++ (codes " input " ++ bits_text c.input))) o)) (cand_again c)))
+    (subst (λ (all : List Cand). Goes (places.Listing p s (done ++ c ∷ [])) r (flat_map cand_text cs ++ rest) (places.Listing p s all) r rest) (append_assoc done (c ∷ []) cs)
+    (cands_go p s (done ++ c ∷ []) cs r rest))
+  where
+    lacks : Lacks 10 (codes "cand " ++ (bits_text c.state ++ (codes " input " ++ bits_text c.input)))
+    lacks =
+        both_lack 10 (codes "cand ") _ (refl, (refl, (refl, (refl, (refl, tt)))))
+        (both_lack 10 (bits_text c.state) _ (bits_lack 10 c.state (omega arith))
+        (both_lack 10 (codes " input ") (bits_text c.input) (refl, (refl, (refl, (refl, (refl, (refl, (refl, tt))))))) (bits_lack 10 c.input (omega arith))))
+
+list_goes : (p s : List Bool) (cands : List Cand) (e : ListEnd) (r : Report) (b rest : List ℕ) → HasEndText e →
+    Goes (places.Listing p s cands) r ((line (codes "list " ++ end_word e) ++ b) ++ rest) (places.Hit p s cands e) r (b ++ rest)
+list_goes p s cands e r b rest h =
+    one_of (places.Listing p s cands) (places.Hit p s cands e) r r (codes "list " ++ end_word e) b rest (lacks e h) refl
+    (ap (λ (o : Option ListEnd). option_map (λ (place : Place). (place, r)) (option_map (λ (ended : ListEnd). places.Hit p s cands ended) o)) (end_again e h))
+  where
+    lacks : (e : ListEnd) → HasEndText e → Lacks 10 (codes "list " ++ end_word e)
+    lacks (Finished id) h = (refl, (refl, (refl, (refl, (refl, (refl, (refl, (refl, (refl, (refl, (refl, (refl, (refl, (refl, number_lacks 10 id (omega arith) h.1))))))))))))))
+    lacks ByCandidates h = (refl, (refl, (refl, (refl, (refl, (refl, (refl, (refl, (refl, (refl, (refl, (refl, (refl, (refl, (refl, tt)))))))))))))))
+    lacks ByConflicts h = (refl, (refl, (refl, (refl, (refl, (refl, (refl, (refl, (refl, (refl, (refl, (refl, (refl, (refl, tt))))))))))))))
+
+hit_goes : (p s : List Bool) (cands : List Cand) (e : ListEnd) (hit : Option HitLine) (r : Report) (rest : List ℕ) → HasHitText hit →
+    Goes (places.Hit p s cands e) r (hit_text hit ++ rest) places.Turn (with_step r p s cands e hit) rest
+hit_goes p s cands e None r rest h =
+    one (places.Hit p s cands e) places.Turn r (with_step r p s cands e None) (codes "nohit") rest (refl, (refl, (refl, (refl, (refl, tt))))) refl refl
+hit_goes p s cands e (Some hit) r rest h =
+    one (places.Hit p s cands e) places.Turn r (with_step r p s cands e (Some hit))
+    (codes "hit " ++ (decimal hit.run ++ (codes " " ++ (decimal hit.cycle ++ (codes " " ++ bits_text hit.state))))) rest lacks refl
+    (ap (option_map (λ (hit : Option HitLine). (places.Turn, with_step r p s cands e hit))) (hit_again hit h.0 h.1 h.2))
+  where
+    lacks : Lacks 10 (codes "hit " ++ (decimal hit.run ++ (codes " " ++ (decimal hit.cycle ++ (codes " " ++ bits_text hit.state)))))
+    lacks =
+        both_lack 10 (codes "hit ") _ (refl, (refl, (refl, (refl, tt))))
+        (both_lack 10 (decimal hit.run) _ (number_lacks 10 hit.run (omega arith) (let u = h.1 in omega (arith, u)))
+        (both_lack 10 (codes " ") _ (refl, tt)
+        (both_lack 10 (decimal hit.cycle) _ (number_lacks 10 hit.cycle (omega arith) (let u = h.2 in omega (arith, u)))
+        (both_lack 10 (codes " ") (bits_text hit.state) (refl, tt) (bits_lack 10 hit.state (omega arith))))))
+
+abbrev with_steps : Report → List Step → Report
+with_steps r steps = record r { steps = steps }
+
+step_goes : (r : Report) (number : ℕ) (step : Step) (rest : List ℕ) → HasStepText step → number ≡ length r.steps + 1 → number < 2 ^ 64 →
+    Goes places.Turn r (step_text number step ++ rest) places.Turn (with_steps r (r.steps ++ step ∷ [])) rest
+step_goes r number step rest h e small =
+    on
+    (one_of places.Turn places.Present r r (codes "step " ++ decimal number) rest1 rest
+    (both_lack 10 (codes "step ") (decimal number) (refl, (refl, (refl, (refl, (refl, tt))))) (number_lacks 10 number (omega arith) small)) refl begun)
+    (on
+    (one_of places.Present (places.Stored step.present) r r (codes "present " ++ bits_text step.present) rest2 rest
+    (both_lack 10 (codes "present ") (bits_text step.present) (refl, (refl, (refl, (refl, (refl, (refl, (refl, (refl, tt)))))))) (bits_lack 10 step.present (omega arith))) refl
+    (ap (λ (o : Option (List Bool)). option_map (λ (place : Place). (place, r)) (option_map (λ (s : List Bool). places.Stored s) o))
+    (bits_line_again (codes "present") (codes "present " ++ bits_text step.present) step.present (words_of_bits (codes "present") step.present refl) refl)))
+    (on
+    (one_of (places.Stored step.present) (places.Listing step.present step.stored []) r r (codes "stored " ++ bits_text step.stored) rest3 rest
+    (both_lack 10 (codes "stored ") (bits_text step.stored) (refl, (refl, (refl, (refl, (refl, (refl, (refl, tt))))))) (bits_lack 10 step.stored (omega arith))) refl
+    (ap (λ (o : Option (List Bool)). option_map (λ (place : Place). (place, r)) (option_map (λ (s : List Bool). places.Listing step.present s []) o))
+    (bits_line_again (codes "stored") (codes "stored " ++ bits_text step.stored) step.stored (words_of_bits (codes "stored") step.stored refl) refl)))
+    (on
+    (subst (λ (text : List ℕ). Goes (places.Listing step.present step.stored []) r text (places.Listing step.present step.stored step.cands) r (rest4 ++ rest))
+    (sym (append_assoc (flat_map cand_text step.cands) rest4 rest)) (cands_go step.present step.stored [] step.cands r (rest4 ++ rest)))
+    (on (list_goes step.present step.stored step.cands step.end r (hit_text step.hit) rest h.list)
+    (hit_goes step.present step.stored step.cands step.end step.hit r rest h.hit)))))
+  where
+    rest4 : List ℕ
+    rest4 = line (codes "list " ++ end_word step.end) ++ hit_text step.hit
+
+    rest3 : List ℕ
+    rest3 = flat_map cand_text step.cands ++ rest4
+
+    rest2 : List ℕ
+    rest2 = line (codes "stored " ++ bits_text step.stored) ++ rest3
+
+    rest1 : List ℕ
+    rest1 = line (codes "present " ++ bits_text step.present) ++ rest2
+
+    begun : taken places.Turn r (codes "step " ++ decimal number) ≡ Some (places.Present, r)
+    begun =
+        ap (λ (o : Option ℕ). cond {A = Option Reached} (begins (length r.steps + 1) o) (Some (places.Present, r)) None)
+        (count_again (codes "step") (codes "step " ++ decimal number) number (words_of_count (codes "step") number refl small) refl small)
+        ∙ ap (λ (b : Bool). cond {A = Option Reached} b (Some (places.Present, r)) None) (eq-eqb number (length r.steps + 1) e)
+
+steps_go : (r : Report) (number : ℕ) (steps : List Step) (rest : List ℕ) → Each HasStepText steps → number ≡ length r.steps + 1 → length r.steps + length steps < 2 ^ 64 →
+    Goes places.Turn r (steps_text number steps ++ rest) places.Turn (with_steps r (r.steps ++ steps)) rest
+steps_go r number [] rest h e few =
+    subst (λ (steps : List Step). Goes places.Turn r rest places.Turn (with_steps r steps) rest) (sym (append-nil r.steps)) (stays places.Turn r rest)
+steps_go r number (s ∷ ss) rest h e few =
+    let longer : length (r.steps ++ s ∷ []) ≡ length r.steps + 1 = length-append r.steps (s ∷ []) in
+    on
+    (subst (λ (text : List ℕ). Goes places.Turn r text places.Turn (with_steps r (r.steps ++ s ∷ [])) (steps_text (number + 1) ss ++ rest))
+    (sym (append_assoc (step_text number s) (steps_text (number + 1) ss) rest)) (step_goes r number s (steps_text (number + 1) ss ++ rest) h.0 e (omega (arith, few, e))))
+    (subst (λ (steps : List Step). Goes places.Turn (with_steps r (r.steps ++ s ∷ [])) (steps_text (number + 1) ss ++ rest) places.Turn (with_steps r steps) rest) (append_assoc r.steps (s ∷ []) ss)
+    (steps_go (with_steps r (r.steps ++ s ∷ [])) (number + 1) ss rest h.1 (omega (arith, e, longer)) (omega (arith, few, longer))))
+
+-- ---- the trace
+
+abbrev with_trace : Report → List (List Bool) → List (List Bool) → Report
+with_trace r states inputs = record r { states = states; inputs = inputs }
+
+state_goes : (r : Report) (s : List Bool) (left : ℕ) (next : Place) (rest : List ℕ) → behind_state left ≡ next →
+    Goes (places.State left) r (state_text s ++ rest) next (with_trace r (r.states ++ s ∷ []) r.inputs) rest
+state_goes r s left next rest e =
+    one (places.State left) next r (with_trace r (r.states ++ s ∷ []) r.inputs) (codes "state " ++ bits_text s) rest
+    (both_lack 10 (codes "state ") (bits_text s) (refl, (refl, (refl, (refl, (refl, (refl, tt)))))) (bits_lack 10 s (omega arith))) refl
+    (ap (option_map (λ (s : List Bool). (behind_state left, record r { states = r.states ++ s ∷ [] })))
+    (bits_line_again (codes "state") (codes "state " ++ bits_text s) s (words_of_bits (codes "state") s refl) refl)
+    ∙ ap (λ (place : Place). Some (place, with_trace r (r.states ++ s ∷ []) r.inputs)) e)
+
+input_goes : (r : Report) (x : List Bool) (left : ℕ) (b rest : List ℕ) →
+    Goes (places.Input left) r ((line (codes "input " ++ bits_text x) ++ b) ++ rest) (places.State (left - 1)) (with_trace r r.states (r.inputs ++ x ∷ [])) (b ++ rest)
+input_goes r x left b rest =
+    one_of (places.Input left) (places.State (left - 1)) r (with_trace r r.states (r.inputs ++ x ∷ [])) (codes "input " ++ bits_text x) b rest
+    (both_lack 10 (codes "input ") (bits_text x) (refl, (refl, (refl, (refl, (refl, (refl, tt)))))) (bits_lack 10 x (omega arith))) refl
+    (ap (option_map (λ (x : List Bool). (places.State (left - 1), record r { inputs = r.inputs ++ x ∷ [] })))
+    (bits_line_again (codes "input") (codes "input " ++ bits_text x) x (words_of_bits (codes "input") x refl) refl))
+
+-- the moves of a trace, over its inputs and the states behind them
+abbrev moves_text : List (List Bool) → List (List Bool) → List ℕ
+moves_text [] ss = []
+moves_text (x ∷ xs) [] = []
+moves_text (x ∷ xs) (s ∷ ss) = (line (codes "input " ++ bits_text x) ++ state_text s) ++ moves_text xs ss
+
+behind_move : (left : ℕ) → behind_state (suc left) ≡ places.Input (suc left)
+behind_move left = ap (λ (b : Bool). cond b places.Log (places.Input (suc left))) (ne_eqb (suc left) 0 (λ e. omega (arith, e)))
+
+-- from a state that is behind, with these inputs and states to come
+moves_go : (r : Report) (xs ss : List (List Bool)) (rest : List ℕ) → length ss ≡ length xs →
+    Goes (behind_state (length xs)) r (moves_text xs ss ++ rest) places.Log (with_trace r (r.states ++ ss) (r.inputs ++ xs)) rest
+moves_go r [] [] rest e =
+    subst (λ (states : List (List Bool)). Goes places.Log r rest places.Log (with_trace r states (r.inputs ++ [])) rest) (sym (append-nil r.states))
+    (subst (λ (inputs : List (List Bool)). Goes places.Log r rest places.Log (with_trace r r.states inputs) rest) (sym (append-nil r.inputs)) (stays places.Log r rest))
+moves_go r [] (s ∷ ss) rest e = absurd (omega (arith, e))
+moves_go r (x ∷ xs) [] rest e = absurd (omega (arith, e))
+moves_go r (x ∷ xs) (s ∷ ss) rest e =
+    subst (λ (place : Place). Goes place r (moves_text (x ∷ xs) (s ∷ ss) ++ rest) places.Log (with_trace r (r.states ++ s ∷ ss) (r.inputs ++ x ∷ xs)) rest) (sym (behind_move (length xs)))
+    (subst (λ (text : List ℕ). Goes (places.Input (suc (length xs))) r text places.Log (with_trace r (r.states ++ s ∷ ss) (r.inputs ++ x ∷ xs)) rest)
+    (sym (append_assoc (line (codes "input " ++ bits_text x) ++ state_text s) (moves_text xs ss) rest))
+    (on (input_goes r x (suc (length xs)) (state_text s) (moves_text xs ss ++ rest))
+    (subst (λ (left : ℕ). Goes (places.State left) (with_trace r r.states (r.inputs ++ x ∷ [])) (state_text s ++ (moves_text xs ss ++ rest)) places.Log (with_trace r (r.states ++ s ∷ ss) (r.inputs ++ x ∷ xs)) rest) fewer
+    (on (state_goes (with_trace r r.states (r.inputs ++ x ∷ [])) s (length xs) (behind_state (length xs)) (moves_text xs ss ++ rest) refl)
+    (subst (λ (states : List (List Bool)). Goes (behind_state (length xs)) (with_trace r (r.states ++ s ∷ []) (r.inputs ++ x ∷ [])) (moves_text xs ss ++ rest) places.Log (with_trace r states (r.inputs ++ x ∷ xs)) rest) (append_assoc r.states (s ∷ []) ss)
+    (subst (λ (inputs : List (List Bool)). Goes (behind_state (length xs)) (with_trace r (r.states ++ s ∷ []) (r.inputs ++ x ∷ [])) (moves_text xs ss ++ rest) places.Log (with_trace r ((r.states ++ s ∷ []) ++ ss) inputs) rest) (append_assoc r.inputs (x ∷ []) xs)
+    (moves_go (with_trace r (r.states ++ s ∷ []) (r.inputs ++ x ∷ [])) xs ss rest (omega (arith, e)))))))))
+  where
+    fewer : length xs ≡ suc (length xs) - 1
+    fewer = omega arith
+
+-- the same by places
+range_moves : (r : Report) (xs ss : List (List Bool)) (a : ℕ) → ((i : ℕ) → get_or r.inputs (a + i) [] ≡ get_or xs i []) → ((i : ℕ) → get_or r.states (a + i + 1) [] ≡ get_or ss i []) → length ss ≡ length xs →
+    flat_map (move_text r) (range_with_len a (length xs)) ≡ moves_text xs ss
+range_moves r [] ss a hx hs e = refl
+range_moves r (x ∷ xs) [] a hx hs e = absurd (omega (arith, e))
+range_moves r (x ∷ xs) (s ∷ ss) a hx hs e =
+    let at_a : a ≡ a + 0 = omega arith in
+    let input : get_or r.inputs a [] ≡ x = ap (λ (i : ℕ). get_or r.inputs i []) at_a ∙ hx 0 in
+    let state : get_or r.states (a + 1) [] ≡ s = ap (λ (i : ℕ). get_or r.states (i + 1) []) at_a ∙ hs 0 in
+    ap (λ (t : List Bool). (line (codes "input " ++ bits_text t) ++ state_text (get_or r.states (a + 1) [])) ++ flat_map (move_text r) (range_with_len (a + 1) (length xs))) input
+    ∙ (ap (λ (t : List Bool). (line (codes "input " ++ bits_text x) ++ state_text t) ++ flat_map (move_text r) (range_with_len (a + 1) (length xs))) state
+    ∙ ap (λ (t : List ℕ). (line (codes "input " ++ bits_text x) ++ state_text s) ++ t)
+    (range_moves r xs ss (a + 1)
+    (λ i. let place : a + 1 + i ≡ a + suc i = omega arith in ap (λ (k : ℕ). get_or r.inputs k []) place ∙ hx (suc i))
+    (λ i. let place : a + 1 + i + 1 ≡ a + suc i + 1 = omega arith in ap (λ (k : ℕ). get_or r.states k []) place ∙ hs (suc i))
+    (omega (arith, e))))
+
+-- ---- the log
+
+abbrev with_log : Report → List Line → Report
+with_log r log = record r { log = log }
+
+behind_line : (left : ℕ) → log_place (suc left) ≡ places.Lines (suc left)
+behind_line left = ap (λ (b : Bool). cond b places.End (places.Lines (suc left))) (ne_eqb (suc left) 0 (λ e. omega (arith, e)))
+
+log_goes : (r : Report) (log : List Line) (rest : List ℕ) → Each HasText log →
+    Goes (log_place (length log)) r (flat_map (λ l. line (line_text l)) log ++ rest) places.End (with_log r (r.log ++ log)) rest
+log_goes r [] rest h = subst (λ (log : List Line). Goes places.End r rest places.End (with_log r log) rest) (sym (append-nil r.log)) (stays places.End r rest)
+log_goes r (l ∷ ls) rest h =
+    subst (λ (place : Place). Goes place r (flat_map (λ l. line (line_text l)) (l ∷ ls) ++ rest) places.End (with_log r (r.log ++ l ∷ ls)) rest) (sym (behind_line (length ls)))
+    (on
+    (one_of (places.Lines (suc (length ls))) (log_place (length ls)) r (with_log r (r.log ++ l ∷ [])) (line_text l) (flat_map (λ l. line (line_text l)) ls) rest (log_line_lacks l h.0) refl
+    (ap (option_map (λ (l : Line). (log_place (suc (length ls) - 1), record r { log = r.log ++ l ∷ [] }))) (lines_read_back l h.0)
+    ∙ ap (λ (left : ℕ). Some (log_place left, with_log r (r.log ++ l ∷ []))) fewer))
+    (subst (λ (log : List Line). Goes (log_place (length ls)) (with_log r (r.log ++ l ∷ [])) (flat_map (λ l. line (line_text l)) ls ++ rest) places.End (with_log r log) rest) (append_assoc r.log (l ∷ []) ls)
+    (log_goes (with_log r (r.log ++ l ∷ [])) ls rest h.1)))
+  where
+    fewer : suc (length ls) - 1 ≡ length ls
+    fewer = omega arith
+
+-- ---- the whole text
+
+abbrev with_budgets : Report → Budgets → Report
+with_budgets r b = record r { budgets = b }
+
+abbrev with_stop : Report → Stop → Report
+with_stop r stop = record r { stop = stop }
+
+head_goes : (r : Report) (rest : List ℕ) → HasReportText r →
+    Goes places.Title nothing_read (head_text r ++ rest) places.Trace (with_stop (with_steps (with_budgets nothing_read r.budgets) r.steps) r.stop) rest
+unfolding head_text
+head_goes r rest h =
+    on
+    (one_of places.Title places.Asked nothing_read nothing_read (codes "backspace 1") rest1 rest
+    (refl, (refl, (refl, (refl, (refl, (refl, (refl, (refl, (refl, (refl, (refl, tt))))))))))) refl refl)
+    (on
+    (one_of places.Asked places.Turn nothing_read (with_budgets nothing_read r.budgets) asked rest2 rest asked_lacks refl
+    (ap (option_map (λ (b : Budgets). (places.Turn, with_budgets nothing_read b)))
+    (budgets_again r.budgets h.some_steps h.max_steps h.some_candidates h.max_candidates h.some_conflicts h.max_conflicts)))
+    (on
+    (subst (λ (text : List ℕ). Goes places.Turn (with_budgets nothing_read r.budgets) text places.Turn (with_steps (with_budgets nothing_read r.budgets) r.steps) (rest3 ++ rest))
+    (sym (append_assoc (steps_text 1 r.steps) rest3 rest))
+    (steps_go (with_budgets nothing_read r.budgets) 1 r.steps (rest3 ++ rest) (recursion_from_All HasStepText r.steps h.each_step) refl (omega (arith, h.few_steps))))
+    (one places.Turn places.Trace (with_steps (with_budgets nothing_read r.budgets) r.steps) (with_stop (with_steps (with_budgets nothing_read r.budgets) r.steps) r.stop)
+    (codes "stop " ++ stop_word r.stop) rest (stop_lacks r.stop) refl
+    (ap (turned (with_steps (with_budgets nothing_read r.budgets) r.steps) (codes "stop " ++ stop_word r.stop)) (stop_again r.stop)))))
+  where
+    rest3 : List ℕ
+    rest3 = line (codes "stop " ++ stop_word r.stop)
+
+    rest2 : List ℕ
+    rest2 = steps_text 1 r.steps ++ rest3
+
+    rest1 : List ℕ
+    rest1 = budgets_text r.budgets ++ rest2
+
+    asked : List ℕ
+    asked = codes "asked " ++ (decimal r.budgets.steps ++ (codes " candidates " ++ (decimal r.budgets.candidates ++ (codes " conflicts " ++ decimal r.budgets.conflicts))))
+
+    asked_lacks : Lacks 10 asked
+    asked_lacks =
+        both_lack 10 (codes "asked ") _ (refl, (refl, (refl, (refl, (refl, (refl, tt))))))
+        (both_lack 10 (decimal r.budgets.steps) _ (number_lacks 10 r.budgets.steps (omega arith) (omega (arith, h.max_steps)))
+        (both_lack 10 (codes " candidates ") _ (refl, (refl, (refl, (refl, (refl, (refl, (refl, (refl, (refl, (refl, (refl, (refl, tt))))))))))))
+        (both_lack 10 (decimal r.budgets.candidates) _ (number_lacks 10 r.budgets.candidates (omega arith) (omega (arith, h.max_candidates)))
+        (both_lack 10 (codes " conflicts ") _ (refl, (refl, (refl, (refl, (refl, (refl, (refl, (refl, (refl, (refl, (refl, tt)))))))))))
+        (number_lacks 10 r.budgets.conflicts (omega arith) (omega (arith, h.max_conflicts)))))))
+
+    stop_lacks : (stop : Stop) → Lacks 10 (codes "stop " ++ stop_word stop)
+    stop_lacks stops.Reset = (refl, (refl, (refl, (refl, (refl, (refl, (refl, (refl, (refl, (refl, tt))))))))))
+    stop_lacks stops.Length = (refl, (refl, (refl, (refl, (refl, (refl, (refl, (refl, (refl, (refl, (refl, tt)))))))))))
+    stop_lacks stops.Nohit = (refl, (refl, (refl, (refl, (refl, (refl, (refl, (refl, (refl, (refl, tt))))))))))
+    stop_lacks stops.Empty = (refl, (refl, (refl, (refl, (refl, (refl, (refl, (refl, (refl, (refl, tt))))))))))
+    stop_lacks stops.Candidates = (refl, (refl, (refl, (refl, (refl, (refl, (refl, (refl, (refl, (refl, (refl, (refl, (refl, (refl, (refl, tt)))))))))))))))
+    stop_lacks stops.Conflicts = (refl, (refl, (refl, (refl, (refl, (refl, (refl, (refl, (refl, (refl, (refl, (refl, (refl, (refl, tt))))))))))))))
+
+record FirstState (r : Report) : Type 0 where
+  first : List Bool
+  others : List (List Bool)
+  states : r.states ≡ first ∷ others
+
+first_state : (r : Report) → length r.states ≡ length r.inputs + 1 → FirstState r
+first_state r e = by r.states refl e
+  where
+    by : (states : List (List Bool)) → r.states ≡ states → length states ≡ length r.inputs + 1 → FirstState r
+    by [] same e = absurd (omega (arith, e))
+    by (s ∷ ss) same e = record { first = s; others = ss; states = same }
+
+trace_goes : (q r : Report) (rest : List ℕ) → q.states ≡ [] → q.inputs ≡ [] → length r.states ≡ length r.inputs + 1 → length r.inputs < 2 ^ 64 →
+    Goes places.Trace q (trace_text r ++ rest) places.Log (with_trace q r.states r.inputs) rest
+trace_goes q r rest no_states no_inputs e few =
+    let f = first_state r e in
+    let long : length f.others ≡ length r.inputs = omega (arith, e, ap length f.states) in
+    let n : ℕ = length r.inputs in
+    let begin : get_or r.states 0 [] ≡ f.first = ap (λ (ss : List (List Bool)). get_or ss 0 []) f.states in
+    let moves : flat_map (move_text r) (range_with_len 0 n) ≡ moves_text r.inputs f.others =
+    range_moves r r.inputs f.others 0 (λ i. let same : 0 + i ≡ i = omega arith in ap (λ (k : ℕ). get_or r.inputs k []) same)
+    (λ i. let same : 0 + i + 1 ≡ suc i = omega arith in ap (λ (k : ℕ). get_or r.states k []) same ∙ ap (λ (ss : List (List Bool)). get_or ss (suc i) []) f.states) long in
+    let text : trace_text r ≡ line (codes "trace " ++ decimal n) ++ (state_text f.first ++ moves_text r.inputs f.others) =
+    ap (λ (s : List Bool). line (codes "trace " ++ decimal n) ++ (state_text s ++ flat_map (move_text r) (range_with_len 0 n))) begin
+    ∙ ap (λ (t : List ℕ). line (codes "trace " ++ decimal n) ++ (state_text f.first ++ t)) moves in
+    let all_states : f.first ∷ f.others ≡ r.states = sym f.states in
+    let start : q.states ++ f.first ∷ [] ≡ f.first ∷ [] = ap (λ (ss : List (List Bool)). ss ++ f.first ∷ []) no_states in
+    let go : Goes (behind_state n) (with_trace q (f.first ∷ []) q.inputs) (moves_text r.inputs f.others ++ rest) places.Log (with_trace q (f.first ∷ f.others) (q.inputs ++ r.inputs)) rest =
+    moves_go (with_trace q (f.first ∷ []) q.inputs) r.inputs f.others rest long in
+    subst (λ (t : List ℕ). Goes places.Trace q (t ++ rest) places.Log (with_trace q r.states r.inputs) rest) (sym text)
+    (on
+    (one_of places.Trace (places.State n) q q (codes "trace " ++ decimal n) (state_text f.first ++ moves_text r.inputs f.others) rest
+    (both_lack 10 (codes "trace ") (decimal n) (refl, (refl, (refl, (refl, (refl, (refl, tt)))))) (number_lacks 10 n (omega arith) few)) refl
+    (ap (λ (o : Option ℕ). option_map (λ (place : Place). (place, q)) (option_map (λ (n : ℕ). places.State n) o))
+    (count_again (codes "trace") (codes "trace " ++ decimal n) n (words_of_count (codes "trace") n refl few) refl few)))
+    (subst (λ (t : List ℕ). Goes (places.State n) q t places.Log (with_trace q r.states r.inputs) rest) (sym (append_assoc (state_text f.first) (moves_text r.inputs f.others) rest))
+    (on
+    (subst (λ (ss : List (List Bool)). Goes (places.State n) q (state_text f.first ++ (moves_text r.inputs f.others ++ rest)) (behind_state n) (with_trace q ss q.inputs) (moves_text r.inputs f.others ++ rest)) start
+    (state_goes q f.first n (behind_state n) (moves_text r.inputs f.others ++ rest) refl))
+    (subst (λ (ss : List (List Bool)). Goes (behind_state n) (with_trace q (f.first ∷ []) q.inputs) (moves_text r.inputs f.others ++ rest) places.Log (with_trace q ss r.inputs) rest) all_states
+    (subst (λ (xs : List (List Bool)). Goes (behind_state n) (with_trace q (f.first ∷ []) q.inputs) (moves_text r.inputs f.others ++ rest) places.Log (with_trace q (f.first ∷ f.others) xs) rest)
+    (ap (λ (xs : List (List Bool)). xs ++ r.inputs) no_inputs) go)))))
+
+tail_goes : (q r : Report) → HasReportText r → q.states ≡ [] → q.inputs ≡ [] → q.log ≡ [] →
+    Goes places.Trace q (tail_text r) places.Done (with_log (with_trace q r.states r.inputs) r.log) []
+unfolding tail_text
+tail_goes q r h no_states no_inputs no_log =
+    let n : ℕ = length r.log in
+    on (trace_goes q r (line (codes "log " ++ decimal n) ++ (flat_map (λ l. line (line_text l)) r.log ++ line (codes "end"))) no_states no_inputs h.one_state_more h.few_inputs)
+    (on
+    (one places.Log (log_place n) (with_trace q r.states r.inputs) (with_trace q r.states r.inputs) (codes "log " ++ decimal n) (flat_map (λ l. line (line_text l)) r.log ++ line (codes "end"))
+    (both_lack 10 (codes "log ") (decimal n) (refl, (refl, (refl, (refl, tt)))) (number_lacks 10 n (omega arith) h.few_lines)) undone
+    (ap (λ (o : Option ℕ). option_map (λ (place : Place). (place, with_trace q r.states r.inputs)) (option_map (λ (n : ℕ). log_place n) o))
+    (count_again (codes "log") (codes "log " ++ decimal n) n (words_of_count (codes "log") n refl h.few_lines) refl h.few_lines)))
+    (on
+    (subst (λ (log : List Line). Goes (log_place n) (with_trace q r.states r.inputs) (flat_map (λ l. line (line_text l)) r.log ++ line (codes "end")) places.End (with_log (with_trace q r.states r.inputs) log) (line (codes "end")))
+    (ap (λ (log : List Line). log ++ r.log) no_log)
+    (log_goes (with_trace q r.states r.inputs) r.log (line (codes "end")) (recursion_from_All HasText r.log h.each_line)))
+    (one places.End places.Done (with_log (with_trace q r.states r.inputs) r.log) (with_log (with_trace q r.states r.inputs) r.log) (codes "end") [] (refl, (refl, (refl, tt))) refl refl)))
+  where
+    undone : is_done places.Log ≡ false
+    undone = refl
+
+pub read_back : ReportsReadBack
+unfolding report_in
+read_back r h =
+    let g = on (head_goes r (tail_text r) h) (tail_goes (with_stop (with_steps (with_budgets nothing_read r.budgets) r.steps) r.stop) r h refl refl refl) in
+    (g.to 1).1
