@@ -159,6 +159,17 @@ without_fewer : (c : NetId) (ns : List NetId) → length (without c ns) ≤ leng
 without_fewer c ns =
     omega (arith, length-filter (λ (n : NetId). not (nat_eq n.0 c.0)) ns, count_by-le-length (λ (n : NetId). not (nat_eq n.0 c.0)) ns)
 
+without_less : (c : NetId) (ns : List NetId) → list_any (λ (m : NetId). nat_eq c.0 m.0) ns ≡ true → length (without c ns) < length ns
+without_less c [] e = absurd (false≢true e)
+without_less c (n ∷ ns) e = by (nat_eq n.0 c.0) refl (without_less c ns)
+  where
+    by : (b : Bool) → nat_eq n.0 c.0 ≡ b → (list_any (λ (m : NetId). nat_eq c.0 m.0) ns ≡ true → length (without c ns) < length ns) → length (cond (not b) (n ∷ without c ns) (without c ns)) < length (n ∷ ns)
+    by true k rec = omega (arith, without_fewer c ns)
+    by false k rec =
+        let apart : nat_eq c.0 n.0 ≡ false = ne_eqb c.0 n.0 (λ s. eqb-false n.0 c.0 k (sym s)) in
+        let later : length (without c ns) < length ns = rec (ap (λ b. b || list_any (λ (m : NetId). nat_eq c.0 m.0) ns) (sym apart) ∙ e) in
+        omega (arith, later)
+
 pub passes_bounded : (r : Raw) → PartsArePlaced r → Passes r → IsBounded (circuit_of r)
 passes_bounded r p h =
     let sizes = not_many r h.nets.few in
@@ -166,6 +177,6 @@ passes_bounded r p h =
       few_nets = p.few_names;
       some_flop = some_length r.flops h.some_flop;
       few_flops = sizes.0;
-      few_inputs = omega (arith, sizes.1, without_fewer (clock_of r.flops) r.inputs);
+      few_inputs = omega (arith, sizes.1, without_less (clock_of r.flops) r.inputs (clock_port r h.one_clock));
       narrow = All-from_recursion (λ (g : Gate). length g.ins ≤ 64) r.gates (narrow r.gates (find_none (λ (g : Gate). nat_lt 64 (length g.ins)) r.gates sizes.2));
     }

@@ -186,7 +186,7 @@ pub holds_gates : (w : List Bool) (gs : List Gate) → AllByRecursion (IsSettled
 holds_gates w [] h = tt
 holds_gates w (g ∷ gs) h = (h.0, holds_gates w gs h.1)
 
-gates_hold : (w : List Bool) (gs : List Gate) → Holds w (map gate_write gs) → AllByRecursion (IsSettled w) gs
+pub gates_hold : (w : List Bool) (gs : List Gate) → Holds w (map gate_write gs) → AllByRecursion (IsSettled w) gs
 gates_hold w [] h = tt
 gates_hold w (g ∷ gs) h = (h.0, gates_hold w gs h.1)
 
@@ -298,3 +298,40 @@ exactly_one_fits c s x checked ls lx =
       settled_fits c s x order o checked.single_driver checked.in_range ls' lx,
       λ w f. sym (settled_unique c s x order o checked.single_driver checked.in_range ls' lx w f),
     )
+
+-- ---- the writes of the gates alone
+
+apart_last : (xs ys : List Step) → Apart (xs ++ ys) → Apart ys
+apart_last [] ys h = h
+apart_last (x ∷ xs) ys h = apart_last xs ys h.1
+
+placed_end : (m : ℕ) (xs ys : List Step) → Placed m (xs ++ ys) → Placed m ys
+placed_end m [] ys h = h
+placed_end m (x ∷ xs) ys h = placed_end m xs ys h.1
+
+module _ (c : Circuit) (order : List ℕ) (o : IsOrder c.gates order) where
+  -- some state and some input
+  abbrev some_state : List Bool
+  some_state = map (λ (n : NetId). false) (state_nets c)
+
+  abbrev some_input : List Bool
+  some_input = map (λ (n : NetId). false) c.inputs
+
+  pub gates_apart : IsDistinct nat_eq (c.clock.0 ∷ drivers c) → Apart (map gate_write (gates_in order c.gates))
+  gates_apart d =
+      let ls = length-map (state_nets c) (λ (n : NetId). false) in
+      let lx = length-map c.inputs (λ (n : NetId). false) in
+      let P : List ℕ → Type 0 = λ ts. IsDistinct nat_eq ts in
+      let all : Apart (steps c some_state some_input order) =
+      apart_from _
+      (subst P (sym (targets-steps c some_state some_input order ls lx))
+      (IsDistinct-IsPermutation nat_eq nat_eq_equiv.symm _ _ (drivers_move c order o) (IsDistinct-tail nat_eq c.clock.0 (drivers c) d))) in
+      apart_last (map constant_step c.constants) _ (apart_last (puts (state_nets c) some_state) _ (apart_last (puts c.inputs some_input) _ all))
+
+  pub gates_placed : All (λ n. n < c.nets) (drivers c) → Placed c.nets (map gate_write (gates_in order c.gates))
+  gates_placed p =
+      let ls = length-map (state_nets c) (λ (n : NetId). false) in
+      let lx = length-map c.inputs (λ (n : NetId). false) in
+      let all : Placed c.nets (steps c some_state some_input order) =
+      placed_from c.nets _ (of_targets (λ n. n < c.nets) c some_state some_input order o ls lx (recursion_from_All (λ n. n < c.nets) _ p)) in
+      placed_end c.nets (map constant_step c.constants) _ (placed_end c.nets (puts (state_nets c) some_state) _ (placed_end c.nets (puts c.inputs some_input) _ all))

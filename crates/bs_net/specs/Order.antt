@@ -31,12 +31,13 @@ pub record IsChecked (c : Circuit) : Type 0 where
   pub in_range : All (λ n. n < c.nets) (drivers c)
   pub acyclic : (order : List ℕ) × IsOrder c.gates order
 
--- the sizes that the check admits (docs/DEFINITIONS.md, "Limits")
+-- the sizes that the check admits (docs/DEFINITIONS.md, "Limits"); the clock is one of at most 4,096 input port bits and no data
+-- input
 pub record IsBounded (c : Circuit) : Type 0 where
   pub few_nets : c.nets ≤ 100000
   pub some_flop : 0 < length c.flops
   pub few_flops : length c.flops ≤ 4096
-  pub few_inputs : length c.inputs ≤ 4096
+  pub few_inputs : length c.inputs ≤ 4095
   pub narrow : All (λ g. length g.ins ≤ 64) c.gates
 
 -- in a netlist with single drivers and an order of its gates exactly one valuation fits each state and input

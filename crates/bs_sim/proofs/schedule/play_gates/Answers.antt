@@ -47,6 +47,5 @@ returns c =
           λ sub.
           quiet_answer it.gates w c.quietness.result answer
           (subst Q (sym played)
-          (order_settles it c.requires.sources.0 c.requires.sources.1 v c.args.net.now.order c.args.gates.now checked c.raw-raw.ensures.ordered
-          c.requires.numbered c.requires.sources.2 sub));
+          (order_settles it v c.args.net.now.order c.args.gates.now checked c.raw-raw.ensures.ordered c.requires.numbered c.requires.sources.2.every_net sub));
     }
