@@ -5,6 +5,7 @@ pub mod BodyLemmas
 pub mod CellLemmas
 pub mod DigitLemmas
 pub mod NamingLemmas
+pub mod ApartLemmas
 pub mod TableLemmas
 pub mod NumberLemmas
 pub mod PlaceLemmas

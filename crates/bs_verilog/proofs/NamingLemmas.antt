@@ -1,21 +1,23 @@
 -- The names of a text, numbered as they come.
-use Rattle.std.proofs.Common.{◌≡◌, ℕ, ◌+◌, ◌<◌, ◌≤◌, Bool, true, false, cond, List, [], ◌∷◌, ◌++◌, map, length, get_or, take, drop, Option, Some, None, Result, Ok, Err, refl, sym, ap, ◌∙◌, arith, nat_lt, length-append}
-use Rattle.std.specs.Prelude.{if◌then◌else◌, unwrap_or, MatchResult, IsOk}
+use Rattle.std.proofs.Common.{◌≡◌, ℕ, ◌+◌, ◌-◌, ◌<◌, ◌≤◌, Bool, true, false, cond, List, [], ◌∷◌, ◌++◌, map, length, get_or, take, drop, Option, Some, None, Result, Ok, Err, refl, sym, ap, ◌∙◌, arith, nat_lt, length-append}
+use Rattle.std.specs.Prelude.{if◌then◌else◌, unwrap_or, MatchResult, IsOk, zero, suc, nat_le, min, ◌==◌, slice_index}
 use Rattle.std.specs.List.{list_any, list_all, position_or_len}
 use Rattle.std.specs.Str.{bytes_eq, IsAscii}
-use Rattle.std.proofs.lemmas.Bool.{cond_both, ne_eqb, true≢false}
+use Rattle.std.proofs.lemmas.Bool.{cond_both, ne_eqb, true≢false, and_parts, leb-true}
 use Rattle.std.proofs.lemmas.Bool.Decides.{nat_tests}
 use Rattle.std.proofs.lemmas.List.{get_or-drop, map-append, take_more, take_all, at_drop_more, drop_all}
 use Rattle.std.proofs.lemmas.List.Folds.{position_or_len_push}
 use Rattle.bs_net.specs.Names.{with_key, number_of}
 use Rattle.bs_net.proofs.NamesLemmas.{kept, appended, appended_number, number_within, with_key-one_more}
-use Rattle.bs_lex.specs.Bytes.{is_digit}
+use Rattle.bs_lex.specs.Bytes.{◌∈◌, is_digit}
 use Rattle.bs_lex.specs.declared.token.Token.{Token}
 use Rattle.bs_lex.specs.declared.token.TokenKind.{TokenKind}
 use Rattle.bs_lex.specs.declared.token.TokenKind.TheVariants as kinds
 use Rattle.bs_lex.specs.Placing.{token_text, IsAsciiName}
 use Rattle.bs_verilog.specs.declared.lexeme.Lexeme.{Lexeme}
-use Rattle.bs_verilog.specs.Lexemes.{sort_of, sort_of_number, is_one_bit, is_escaped, spelling, token_sort, name_text, with_name, names_from, names_of, number_in, lexeme_of, lexemes_of, end_of}
+use Rattle.bs_verilog.specs.declared.lexeme.Sort.TheVariants as sorts
+use Rattle.bs_verilog.specs.declared.lexeme.Word as code
+use Rattle.bs_verilog.specs.Lexemes.{sort_of, sort_of_name, sort_of_number, word_of, cell_of, decimal_from, has_leading_zero, is_one_bit, is_escaped, spelling, token_sort, name_text, is_great, without_zeros, numbered_lexeme, with_name, names_from, names_of, number_in, lexeme_of, lexemes_of, end_of}
 use Rattle.bs_verilog.specs.Reading.{is_name}
 
 -- what is readable unless it is not UTF-8
@@ -47,6 +49,69 @@ ascii_name source t = by t.kind (token_text source t)
     by kinds.AttrClose text h e = absurd (true≢false (sym e))
     by kinds.Sym text h e = absurd (true≢false (sym e))
 
+-- ---- digits are ASCII
+
+no_digits : (name : List ℕ) → is_great (sort_of_name name) ≡ false
+no_digits name = by (word_of name)
+  where
+    by : (o : Option code.Word) → is_great (elim o [ Some word ↦ sorts.Word word | None ↦ sorts.Name (cell_of name) ]) ≡ false
+    by (Some word) = refl
+    by None = refl
+
+great_number : (text : List ℕ) → is_great (sort_of_number text) ≡ true → list_all is_digit text ≡ true
+great_number text = by (list_all is_digit text) (is_one_bit text)
+  where
+    by : (b c : Bool) → is_great (cond b (sorts.Digits (min (decimal_from 0 text) 65536)) (cond c (sorts.Bit (slice_index text 3 ∈ "1")) sorts.Number)) ≡ true → b ≡ true
+    by true c e = refl
+    by false true e = absurd (true≢false (sym e))
+    by false false e = absurd (true≢false (sym e))
+
+-- a number above 65,535 is digits alone
+pub great_is_digits : (kind : TokenKind) (text : List ℕ) → is_great (sort_of kind text) ≡ true → list_all is_digit text ≡ true
+unfolding sort_of
+great_is_digits kinds.Number text e = great_number text e
+great_is_digits kinds.Name text e = absurd (true≢false (sym e ∙ no_digits text))
+great_is_digits kinds.Escaped text e = absurd (true≢false (sym e))
+great_is_digits kinds.System text e = absurd (true≢false (sym e))
+great_is_digits kinds.Text text e = absurd (true≢false (sym e))
+great_is_digits kinds.Directive text e = absurd (true≢false (sym e))
+great_is_digits kinds.AttrOpen text e = absurd (true≢false (sym e))
+great_is_digits kinds.AttrClose text e = absurd (true≢false (sym e))
+great_is_digits kinds.Sym text e = absurd (true≢false (sym e))
+
+digit_is_ascii : (c : ℕ) → is_digit c ≡ true → c < 128
+digit_is_ascii c e = omega (arith, leb-true c 57 (and_parts (nat_le 48 c) (nat_le c 57) e).1)
+
+all_ascii : (ds : List ℕ) → list_all is_digit ds ≡ true → IsAscii ds
+all_ascii [] e i = omega arith
+all_ascii (d ∷ ds) e zero = digit_is_ascii d (and_parts (is_digit d) (list_all is_digit ds) e).0
+all_ascii (d ∷ ds) e (suc i) = all_ascii ds (and_parts (is_digit d) (list_all is_digit ds) e).1 i
+
+pub digits_are_ascii : (text : List ℕ) → list_all is_digit text ≡ true → IsAscii (without_zeros text)
+unfolding without_zeros
+digits_are_ascii [] e = all_ascii [] e
+digits_are_ascii (c ∷ text) e =
+    cond_both (c == 48) (without_zeros text) (c ∷ text) IsAscii
+    (λ _. digits_are_ascii text (and_parts (is_digit c) (list_all is_digit text) e).1) (λ _. all_ascii (c ∷ text) e)
+
+-- ---- leading zeros
+
+pub one_zero_less : (text : List ℕ) → has_leading_zero text ≡ true → without_zeros (take (length text - 1) (drop 1 text)) ≡ without_zeros text
+unfolding without_zeros
+one_zero_less [] e = refl
+one_zero_less (c ∷ text) e =
+    let whole : take (length (c ∷ text) - 1) text ≡ text = take_all (length (c ∷ text) - 1) text (omega arith) in
+    ap without_zeros whole ∙ ap (λ b. cond b (without_zeros text) (c ∷ text)) (sym e)
+
+pub no_zero_left : (text : List ℕ) → has_leading_zero text ≡ false → text ≡ without_zeros text
+unfolding without_zeros
+no_zero_left [] e = refl
+no_zero_left (c ∷ text) e = ap (λ b. cond b (without_zeros text) (c ∷ text)) (sym e)
+
+pub some_digit : (text : List ℕ) → has_leading_zero text ≡ true → 1 ≤ length text
+some_digit [] e = absurd (true≢false (sym e))
+some_digit (c ∷ text) e = omega arith
+
 -- ---- a number stays as further names are added
 
 its_place : (b : Bool) (q k : ℕ) → cond b (Some q) None ≡ Some k → q ≡ k
@@ -71,7 +136,7 @@ stays_before names key other k e =
 stays : (names : List (List ℕ)) (key other : List ℕ) (k : ℕ) → number_of names key ≡ Some k → number_of (with_key names other) key ≡ Some k
 stays names key other k e = cond_both (list_any (bytes_eq other) names) _ _ (λ ns. number_of ns key ≡ Some k) (λ _. e) (λ _. stays_before names key other k e)
 
-stays_from : (names : List (List ℕ)) (source : List ℕ) (ts : List Token) (key : List ℕ) (k : ℕ) → number_of names key ≡ Some k → number_of (names_from names source ts) key ≡ Some k
+pub stays_from : (names : List (List ℕ)) (source : List ℕ) (ts : List Token) (key : List ℕ) (k : ℕ) → number_of names key ≡ Some k → number_of (names_from names source ts) key ≡ Some k
 unfolding names_from
 stays_from names source [] key k e = e
 stays_from names source (t ∷ ts) key k e = stays_from (with_name names (name_text source t)) source ts key k (by (name_text source t))
@@ -81,7 +146,7 @@ stays_from names source (t ∷ ts) key k e = stays_from (with_name names (name_t
     by None = e
 
 -- a name that was added has a number
-numbered : (names : List (List ℕ)) (key : List ℕ) → (k : ℕ) × (number_of (with_key names key) key ≡ Some k)
+pub numbered : (names : List (List ℕ)) (key : List ℕ) → (k : ℕ) × (number_of (with_key names key) key ≡ Some k)
 numbered names key = by (number_of names key) refl
   where
     by : (o : Option ℕ) → number_of names key ≡ o → (k : ℕ) × (number_of (with_key names key) key ≡ Some k)
@@ -129,7 +194,7 @@ one_named source tokens i table after lexemes t d l h is added read so_far =
     ap (λ ns. number_in ns (name_text source t)) (sym names ∙ ap (λ ns. names_from ns source rest) added)
     ∙ (final_number table source rest (name_text source t) ∙ ap (λ ns. number_in ns (name_text source t)) (sym added)) in
     let same : l ≡ lexeme_of all source t =
-    read ∙ ap (λ n. record { sort = token_sort source t; at = t.start; name = n }) (sym number) in
+    read ∙ ap (λ n. numbered_lexeme n source t) (sym number) in
     let made : lexemes ++ l ∷ [] ≡ map (lexeme_of all source) (take (i + 1) tokens) =
     ap (λ ls. ls ++ l ∷ []) so_far.made
     ∙ (ap (λ k. map (lexeme_of all source) (take i tokens) ++ k ∷ []) (same ∙ ap (lexeme_of all source) is)

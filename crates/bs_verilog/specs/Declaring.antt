@@ -49,7 +49,7 @@ is_supply (Some Supply0) = true
 is_supply (Some Supply1) = true
 is_supply _ = false
 
--- no range differs from `[0:0]`
+-- bounds are compared as the numbers that they stand for, of any length (TellsNumbersApart); no range differs from `[0:0]`
 abbrev pub range_eq : Option Range → Option Range → Bool
 range_eq None None = true
 range_eq (Some a) (Some b) = a.left == b.left && a.right == b.right

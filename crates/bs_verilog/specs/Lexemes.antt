@@ -1,5 +1,5 @@
 -- What the grammar sees of each token (docs/FORMATS.md, "Words of a netlist").
-use Rattle.std.specs.Prelude.{ℕ, ◌+◌, ◌-◌, ◌*◌, Bool, true, false, ◌&&◌, ◌==◌, if◌then◌else◌, List, [], ◌∷◌, ◌++◌, length, drop, map, min, codes, Option, Some, None, slice_index, unwrap_or}
+use Rattle.std.specs.Prelude.{ℕ, ◌+◌, ◌-◌, ◌*◌, Bool, true, false, ◌&&◌, ◌==◌, nat_lt, if◌then◌else◌, List, [], ◌∷◌, ◌++◌, length, drop, map, min, codes, Option, Some, None, slice_index, unwrap_or}
 use Rattle.std.specs.List.{list_any, list_all}
 use Rattle.std.specs.Str.{bytes_eq}
 use Prim.Native.String.{String}
@@ -119,16 +119,34 @@ sort_of kinds.Sym text = sorts.Symbol (first text)
 abbrev pub token_sort : List ℕ → Token → Sort
 token_sort source t = sort_of t.kind (spelling source t)
 
--- the name that a token is: what has the form of a Name is that name, escaped or not
+-- a number of digits above 65,535
+abbrev pub is_great : Sort → Bool
+is_great (sorts.Digits n) = nat_lt 65535 n
+is_great _ = false
+
+-- the first digit is a zero
+abbrev pub has_leading_zero : List ℕ → Bool
+has_leading_zero [] = false
+has_leading_zero (c ∷ text) = c == 48
+
+-- digits without leading zeros, one text for each number
+unfoldable pub without_zeros : List ℕ → List ℕ
+without_zeros [] = []
+without_zeros (c ∷ text) = if c == 48 then without_zeros text else c ∷ text
+
+-- the text under which a token stands among the names: the name that it is (what has the form of a Name is that name,
+-- escaped or not), or the digits of a number above 65,535
 unfoldable pub name_text : List ℕ → Token → Option (List ℕ)
-name_text source t = if is_name (token_sort source t) then Some (spelling source t) else None
+name_text source t =
+    if is_name (token_sort source t) then Some (spelling source t)
+    else (if is_great (token_sort source t) then Some (without_zeros (spelling source t)) else None)
 
 -- the names after one is added, if there is one
 abbrev pub with_name : List (List ℕ) → Option (List ℕ) → List (List ℕ)
 with_name names (Some name) = with_key names name
 with_name names None = names
 
--- the names of a text, each once, in the order in which they first occur
+-- the names of a text and its numbers above 65,535, each once, in the order in which they first occur
 unfoldable pub names_from : List (List ℕ) → List ℕ → List Token → List (List ℕ)
 names_from names source [] = names
 names_from names source (t ∷ ts) = names_from (with_name names (name_text source t)) source ts
@@ -142,9 +160,17 @@ abbrev pub number_in : List (List ℕ) → Option (List ℕ) → ℕ
 number_in names (Some name) = unwrap_or (number_of names name) 0
 number_in names None = 0
 
+-- the sort of a token with this number among the names: numbers above 65,535 are told apart by it, and all stay above
+abbrev pub numbered_sort : ℕ → Sort → Sort
+numbered_sort number sort = if is_great sort then sorts.Digits (65536 + number) else sort
+
+-- the lexeme of a token with this number among the names
+abbrev pub numbered_lexeme : ℕ → List ℕ → Token → Lexeme
+numbered_lexeme number source t = record { sort = numbered_sort number (token_sort source t); at = t.start; name = number }
+
 -- the lexeme of a token, among these names
 abbrev pub lexeme_of : List (List ℕ) → List ℕ → Token → Lexeme
-lexeme_of names source t = record { sort = token_sort source t; at = t.start; name = number_in names (name_text source t) }
+lexeme_of names source t = numbered_lexeme (number_in names (name_text source t)) source t
 
 -- the end of a text, as a lexeme
 abbrev pub end_of : List ℕ → Lexeme

@@ -1,5 +1,6 @@
 -- The lexemes of a text, and what the second pass reads from them.
 pub mod Lexemes
+pub mod Apart
 pub mod Modules
 -- What the parts of the grammar are read as.
 pub mod Reading

@@ -6,6 +6,7 @@ mod declarations;
 mod declaring;
 mod fault;
 mod keys;
+mod law;
 mod lexeme;
 mod listing;
 mod modules;
@@ -27,4 +28,5 @@ mod unsupported;
 mod words;
 
 pub use fault::{VerilogFault, What};
+pub use law::numbers_are_told_apart;
 pub use reader::read;

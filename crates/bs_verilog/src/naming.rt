@@ -18,8 +18,8 @@ use indexmap::IndexSet;
 use std::alloc::Global;
 use std::marker::Model;
 
-/// The names of a text, each once, in the order in which they first occur. The number of a name is its place, from 0;
-/// contracts see the names' bytes.
+/// The names of a text and its numbers above 65,535, each once, in the order in which they first occur. The number of a
+/// name is its place, from 0; contracts see the names' bytes.
 #[derive(Drop)]
 pub struct Table {
     names: IndexSet<String>,
@@ -119,7 +119,40 @@ fn spelling(source: &[u8], token: Token) -> &[u8]
     }
 }
 
-/// The lexeme of a token, whose name is put into the table.
+/// Whether a number of digits is above 65,535.
+fn is_great(sort: Sort) -> bool
+    ensures { result ≡ spec.is_great sort }
+{
+    if let Sort::Digits(number) = sort {
+        number > 65535
+    } else {
+        false
+    }
+}
+
+/// Whether the first digit is a zero.
+fn has_leading_zero(digits: &[u8]) -> bool
+    ensures { result ≡ spec.has_leading_zero digits.now }
+{
+    match digits {
+        [] => false,
+        [first, ..] => *first == b'0',
+    }
+}
+
+/// Digits without leading zeros.
+#[tactic(auto, using(crate::proofs::NamingLemmas::no_zero_left, crate::proofs::NamingLemmas::some_digit))]
+fn without_zeros(digits: &[u8]) -> &[u8]
+    ensures { result.now ≡ spec.without_zeros digits.now }
+{
+    let mut rest = digits;
+    'zeros: while has_leading_zero(rest) {
+        rest = &rest[1..];
+    }
+    rest
+}
+
+/// The lexeme of a token, whose name is put into the table, as a number above 65,535 is.
 #[tactic(auto, unfolding(crate::specs::Lexemes::name_text))]
 fn lexeme(
     alloc: Global,
@@ -139,6 +172,10 @@ fn lexeme(
     let at = token.start;
     if is_name(sort) {
         let name = table.add(alloc, ascii_text(text))?;
+        Ok(Lexeme { sort, at, name })
+    } else if is_great(sort) {
+        let name = table.add(alloc, ascii_text(without_zeros(text)))?;
+        let sort = Sort::Digits(65536 + name);
         Ok(Lexeme { sort, at, name })
     } else {
         Ok(Lexeme { sort, at, name: 0 })
