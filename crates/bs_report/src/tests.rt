@@ -1,71 +1,11 @@
 //! Worked reports and their texts.
-use crate::{Budgets, Cand, HitLine, ListEnd, Report, Step, Stop};
-use bs_bits::{Bits, List, NoMemory};
-use bs_log::{Line, Log};
+use crate::{Report, ReportFault};
+use bs_bits::{NoMemory, push_piece};
 use std::alloc::Global;
 use std::test::Fail;
 
-/// The bits of a text, or no bits.
-fn bits(alloc: Global, text: &str) -> Result<Bits, NoMemory> {
-    match Bits::read_text(alloc, text.as_bytes())? {
-        Some(bits) => Ok(bits),
-        None => Ok(Bits::new(alloc)),
-    }
-}
-
-/// A list of bits for each text.
-fn all_bits(alloc: Global, texts: &[&str]) -> Result<List<Bits>, NoMemory> {
-    let mut all = List::new(alloc);
-    for text in texts {
-        all.push(bits(alloc, text)?)?;
-    }
-    Ok(all)
-}
-
-/// A step with one candidate, which is hit at this cycle of the first run if it is.
-fn step(
-    alloc: Global,
-    present: &str,
-    stored: &str,
-    cand: (&str, &str),
-    end: ListEnd,
-    cycle: Option<u32>,
-) -> Result<Step, NoMemory> {
-    let mut cands = List::new(alloc);
-    cands.push(Cand {
-        state: bits(alloc, cand.0)?,
-        input: bits(alloc, cand.1)?,
-    })?;
-    let hit = match cycle {
-        None => None,
-        Some(cycle) => Some(HitLine {
-            run: 1,
-            cycle,
-            state: bits(alloc, cand.0)?,
-        }),
-    };
-    Ok(Step {
-        present: bits(alloc, present)?,
-        stored: bits(alloc, stored)?,
-        cands,
-        end,
-        hit,
-    })
-}
-
-/// A log of these lines, as far as they are lines.
-fn log(alloc: Global, texts: &[&str]) -> Result<Log, NoMemory> {
-    let mut log = Log::new(alloc);
-    for text in texts {
-        if let Some(line) = Line::read(alloc, text.as_bytes())? {
-            log.push(line)?;
-        }
-    }
-    Ok(log)
-}
-
 /// Whether a report has this text.
-fn has_text(alloc: Global, report: &Report, want: &str) -> Result<bool, NoMemory> {
+fn has_text(alloc: Global, report: &Report, want: &[u8]) -> Result<bool, NoMemory> {
     if report.states.len() == 0 {
         return Ok(false);
     }
@@ -74,66 +14,75 @@ fn has_text(alloc: Global, report: &Report, want: &str) -> Result<bool, NoMemory
     }
     let mut text = Vec::new(alloc);
     report.text(&mut text)?;
-    Ok(text.as_slice() == want.as_bytes())
+    Ok(text.as_slice() == want)
+}
+
+/// Whether a text is read as a report that has it.
+fn read_again(alloc: Global, text: &[u8]) -> Result<bool, ReportFault> {
+    if text.len() > 1 << 29 {
+        return Ok(false);
+    }
+    let report = Report::read(alloc, text)?;
+    Ok(has_text(alloc, &report, text)?)
+}
+
+/// How a text of four parts with a step and a trace between them is read.
+fn read_parts(
+    alloc: Global,
+    asked: &str,
+    count: &str,
+    log: &str,
+    last: &str,
+) -> Result<Result<bool, ReportFault>, NoMemory> {
+    let mut text = Vec::new(alloc);
+    push_piece(&mut text, b"backspace 1\nasked ")?;
+    push_piece(&mut text, asked.as_bytes())?;
+    push_piece(
+        &mut text,
+        b" candidates 256 conflicts 100000\nstep 1\npresent 1\nstored .\ncand 0 input .\nlist finished 7\nhit 1 0 0\nstop reset\ntrace 1\nstate 0\ninput .\nstate 1\nlog ",
+    )?;
+    push_piece(&mut text, count.as_bytes())?;
+    push_piece(&mut text, b"\n")?;
+    push_piece(&mut text, log.as_bytes())?;
+    push_piece(
+        &mut text,
+        b"s\nb 6 -5 3 0\ns\n7 -5 -4 0 4 1 6 0\ne 7\nr 8\nd 6 7 0\n",
+    )?;
+    push_piece(&mut text, last.as_bytes())?;
+    Ok(read_again(alloc, text.as_slice()))
 }
 
 #[test]
-fn texts_of_worked_reports(rt: HostRuntime) -> Result<(), Fail> {
+fn copies_of_a_report_with_one_change(rt: HostRuntime) -> Result<(), Fail> {
     let alloc = rt.alloc();
-    let mut steps = List::new(alloc);
-    steps.push(step(alloc, "11", "1", ("11", "1"), ListEnd::Finished(0), Some(2))?)?;
-    steps.push(step(alloc, "11", "0", ("10", "1"), ListEnd::Candidates, Some(1))?)?;
-    steps.push(step(alloc, "10", "0", ("00", "1"), ListEnd::Conflicts, None)?)?;
-    let shift = Report {
-        budgets: Budgets {
-            steps: 64,
-            candidates: 256,
-            conflicts: 100_000,
-        },
-        steps,
-        stop: Stop::Conflicts,
-        states: all_bits(alloc, &["10", "11", "11"])?,
-        inputs: all_bits(alloc, &["1", "1"])?,
-        log: Log::new(alloc),
-    };
-    assert!(rt;
-        has_text(
-            alloc,
-            &shift,
-            "backspace 1\nasked 64 candidates 256 conflicts 100000\nstep 1\npresent 11\nstored 1\ncand 11 input 1\nlist finished 0\nhit 1 2 11\nstep 2\npresent 11\nstored 0\ncand 10 input 1\nlist candidates\nhit 1 1 10\nstep 3\npresent 10\nstored 0\ncand 00 input 1\nlist conflicts\nnohit\nstop conflicts\ntrace 2\nstate 10\ninput 1\nstate 11\ninput 1\nstate 11\nlog 0\nend\n"
-        )?
-    );
-    let mut steps = List::new(alloc);
-    steps.push(step(alloc, "1", ".", ("0", "."), ListEnd::Finished(7), Some(0))?)?;
-    let toggle = Report {
-        budgets: Budgets {
-            steps: 64,
-            candidates: 256,
-            conflicts: 100_000,
-        },
-        steps,
-        stop: Stop::Reset,
-        states: all_bits(alloc, &["0", "1"])?,
-        inputs: all_bits(alloc, &["."])?,
-        log: log(
-            alloc,
-            &[
-                "s",
-                "b 6 -5 3 0",
-                "s",
-                "7 -5 -4 0 4 1 6 0",
-                "e 7",
-                "r 8",
-                "d 6 7 0",
-            ],
-        )?,
-    };
-    assert!(rt;
-        has_text(
-            alloc,
-            &toggle,
-            "backspace 1\nasked 64 candidates 256 conflicts 100000\nstep 1\npresent 1\nstored .\ncand 0 input .\nlist finished 7\nhit 1 0 0\nstop reset\ntrace 1\nstate 0\ninput .\nstate 1\nlog 7\ns\nb 6 -5 3 0\ns\n7 -5 -4 0 4 1 6 0\ne 7\nr 8\nd 6 7 0\nend\n"
-        )?
-    );
+    for (asked, count, log, last, want) in [
+        ("64", "7", "", "end\n", Ok(true)),
+        ("64", "7", "", "end\n\n", Err(ReportFault::Extra)),
+        ("64", "7", "", "end\nx", Err(ReportFault::Extra)),
+        ("64", "7", "", "", Err(ReportFault::Short)),
+        ("64", "7", "", "end", Err(ReportFault::Short)),
+        ("64", "7", "", "x", Err(ReportFault::Short)),
+        ("0", "7", "", "end\n", Err(ReportFault::Line(2))),
+        ("064", "7", "", "end\n", Err(ReportFault::Line(2))),
+        ("65537", "7", "", "end\n", Err(ReportFault::Line(2))),
+        ("64", "07", "", "end\n", Err(ReportFault::Line(14))),
+        ("64", "7", "s\n", "end\n", Err(ReportFault::Line(22))),
+        ("64", "6", "", "end\n", Err(ReportFault::Line(21))),
+        ("64", "8", "", "end\n", Err(ReportFault::Line(22))),
+        (
+            "64",
+            "18446744073709551615",
+            "",
+            "",
+            Err(ReportFault::Short),
+        ),
+    ] {
+        let answer = read_parts(alloc, asked, count, log, last)?;
+        assert_eq!(rt; answer, want, "{asked} {count} {log} {last}");
+    }
+    assert_eq!(rt; read_again(alloc, b""), Err(ReportFault::Short));
+    let shift =
+        b"backspace 1\nasked 64 candidates 256 conflicts 100000\nstep 1\npresent 11\nstored 1\ncand 11 input 1\nlist finished 9\nhit 1 2 11\nstep 2\npresent 11\nstored 0\ncand 10 input 1\nlist candidates\nhit 1 1 10\nstep 3\npresent 10\nstored 0\ncand 00 input 1\nlist conflicts\nnohit\nstop conflicts\ntrace 2\nstate 10\ninput 1\nstate 11\ninput 1\nstate 11\nlog 0\nend\n";
+    assert_eq!(rt; read_again(alloc, shift), Ok(true));
     Ok(())
 }
