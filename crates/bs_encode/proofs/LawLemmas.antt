@@ -68,7 +68,7 @@ constants_met c a v on [] p h = tt
 constants_met c a v on (k ∷ ks) p h =
     (sym (on k.net.0 p.0) ∙ (h k.net.0 p.0).0 refl, constants_met c a v on ks p.1 (λ n lt. (h n lt).1))
 
-meeting_fits : (c : Circuit) (items : List (List ℕ)) (a : ℕ → Bool) → IsPlaced c items → All (Satisfies a) (transition_clauses c items) →
+pub meeting_fits : (c : Circuit) (items : List (List ℕ)) (a : ℕ → Bool) → IsPlaced c items → All (Satisfies a) (transition_clauses c items) →
     ShowsStep c items (shown (nets_of c a) (state_nets c)) (shown (nets_of c a) c.inputs) (nets_of c a) a
 meeting_fits c items a p m =
     let v = nets_of c a in
@@ -126,7 +126,7 @@ has_from f h (b ∷ bits) all =
 abbrev every_bit : Circuit → List (List ℕ) → List Bool → List Bool → List Bool
 every_bit c items s v = v ++ (gates_bits v c.gates ++ (map (loaded v) c.flops ++ items_bits s items))
 
-fitting_extends : (c : Circuit) (items : List (List ℕ)) (s x v : List Bool) → IsPlaced c items → Fits c s x v →
+pub fitting_extends : (c : Circuit) (items : List (List ℕ)) (s x v : List Bool) → IsPlaced c items → Fits c s x v →
     (a : ℕ → Bool) × All (Satisfies a) (transition_clauses c items) × ShowsStep c items s x v a
 fitting_extends c items s x v p f =
     let gate_part = gates_bits v c.gates in

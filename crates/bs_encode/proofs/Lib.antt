@@ -7,3 +7,6 @@ pub mod UnitLemmas
 pub mod Examples
 pub mod RoomLemmas
 pub mod SignLemmas
+pub mod RangeLemmas
+pub mod DistinctLemmas
+pub mod ListingLemmas

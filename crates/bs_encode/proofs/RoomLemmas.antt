@@ -63,9 +63,13 @@ items_few [] = omega arith
 items_few (item ∷ items) =
     omega (arith, items_few items, sum_by-cons (λ (i : List ℕ). item_helpers i + 1) item items, sum_by-cons (λ (i : List ℕ). length i) item items)
 
-pub few_variables : (c : Circuit) (items : List (List ℕ)) → IsChecked c → IsBounded c → numbers_of items ≤ 1048576 → length items ≤ 256 → variables c items < 2 ^ 30
-few_variables c items checked bounded numbers count =
+-- and there is room above them for the guards of a listing
+pub room_for_guards : (c : Circuit) (items : List (List ℕ)) → IsChecked c → IsBounded c → numbers_of items ≤ 1048576 → length items ≤ 256 → variables c items + 65536 < 2 ^ 30
+room_for_guards c items checked bounded numbers count =
     omega (arith, gates_few c checked, helpers_few c.gates (recursion_from_All (λ (g : Gate). length g.ins ≤ 64) c.gates bounded.narrow), bounded.few_nets, bounded.few_flops, items_few items, numbers, count)
+
+pub few_variables : (c : Circuit) (items : List (List ℕ)) → IsChecked c → IsBounded c → numbers_of items ≤ 1048576 → length items ≤ 256 → variables c items < 2 ^ 30
+few_variables c items checked bounded numbers count = omega (arith, room_for_guards c items checked bounded numbers count)
 
 each_short : (items : List (List ℕ)) (n : ℕ) → numbers_of items ≤ n → AllByRecursion (λ (item : List ℕ). length item ≤ n) items
 each_short [] n le = tt

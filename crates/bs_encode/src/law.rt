@@ -1,6 +1,8 @@
-//! The law of the transition clauses.
+//! The laws of the transition clauses.
 ghost use Rattle.std.specs.Prelude.{◌≡◌, length};
 ghost use Rattle.bs_net.specs.Netlist.{circuit};
+ghost use Rattle.bs_encode.specs.Encoded.{encoding_of};
+ghost use Rattle.bs_encode.specs.Listing.{IsTidy, PredecessorsAreShown, SolutionsArePredecessors};
 ghost use Rattle.bs_encode.specs.Meaning.{ClausesEqualGates};
 
 use bs_net::Netlist;
@@ -11,6 +13,36 @@ use bs_scan::Choice;
 pub fn clauses_equal_gates(net: &Netlist, choice: &Choice)
     requires { choice.now.width ≡ length (circuit net.now).flops }
     ensures { ClausesEqualGates (circuit net.now) choice.now.items }
+{
+    let _items = choice.items();
+    let _raw = net.raw();
+}
+
+/// An encoding has room for the guards of a listing. Its literals are its own variables, and no variable stands twice in a
+/// clause, in what a step assumes, or in a block.
+pub fn encodings_are_tidy(net: &Netlist, choice: &Choice)
+    requires { choice.now.width ≡ length (circuit net.now).flops }
+    ensures { IsTidy (circuit net.now) choice.now.items (encoding_of (circuit net.now) choice.now.items) }
+{
+    let _items = choice.items();
+    let _raw = net.raw();
+}
+
+/// A state that agrees with the stored signature and leads to the present one is shown in the step of this present: an
+/// assignment meets the clauses, what the step assumes, and the block of every other state.
+pub fn predecessors_are_shown(net: &Netlist, choice: &Choice)
+    requires { choice.now.width ≡ length (circuit net.now).flops }
+    ensures { PredecessorsAreShown (circuit net.now) choice.now (encoding_of (circuit net.now) choice.now.items) }
+{
+    let _items = choice.items();
+    let _raw = net.raw();
+}
+
+/// An assignment that meets the clauses and what a step assumes shows a state that agrees with the stored signature, and
+/// an input under which it leads to the present state.
+pub fn solutions_are_predecessors(net: &Netlist, choice: &Choice)
+    requires { choice.now.width ≡ length (circuit net.now).flops }
+    ensures { SolutionsArePredecessors (circuit net.now) choice.now (encoding_of (circuit net.now) choice.now.items) }
 {
     let _items = choice.items();
     let _raw = net.raw();
