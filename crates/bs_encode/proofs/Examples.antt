@@ -8,6 +8,8 @@ use Rattle.bs_net.specs.declared.net.Flop.{Flop}
 use Rattle.bs_net.specs.Circuit.{Circuit}
 use Rattle.bs_encode.specs.Tables.{lit}
 use Rattle.bs_encode.specs.Transition.{transition_clauses, variables}
+use Rattle.bs_encode.specs.Encoded.{encoding_of}
+use Rattle.bs_encode.specs.Assuming.{problem_of, basis_of}
 
 abbrev net : ℕ → NetId
 net n = record { 0 = n }
@@ -30,6 +32,17 @@ toggle_clauses = refl
 
 toggle_variables : variables toggle [] ≡ 4
 toggle_variables = refl
+
+-- two steps: from the state 1, and from the state 0
+toggle_steps : (problem_of (encoding_of toggle []) (record { state = true ∷ []; stored = [] ∷ [] } ∷ record { state = false ∷ []; stored = [] ∷ [] } ∷ [])).steps ≡
+    (lit 5 true ∷ lit 4 true ∷ []) ∷ (lit 6 true ∷ lit 4 false ∷ []) ∷ []
+toggle_steps = refl
+
+toggle_block_of_0 : (basis_of toggle [] []).block (false ∷ []) ≡ lit 3 true ∷ []
+toggle_block_of_0 = refl
+
+toggle_block_of_1 : (basis_of toggle [] []).block (true ∷ []) ≡ lit 3 false ∷ []
+toggle_block_of_1 = refl
 
 -- a flip-flop that is named twice in an item makes two tautologies, which take no id
 twice_clauses : transition_clauses toggle ((0 ∷ 0 ∷ []) ∷ []) ≡
@@ -63,6 +76,14 @@ s27_variables = refl
 
 s27_clauses : length (transition_clauses s27 ((0 ∷ []) ∷ [])) ≡ 37
 s27_clauses = refl
+
+-- the state 010 after one with the signature 1: the next variables are 21 to 23, and the item's is 24
+s27_steps : (problem_of (encoding_of s27 ((0 ∷ []) ∷ [])) (record { state = false ∷ true ∷ false ∷ []; stored = (true ∷ []) ∷ [] } ∷ [])).steps ≡
+    (lit 25 true ∷ lit 21 false ∷ lit 22 true ∷ lit 23 false ∷ lit 24 true ∷ []) ∷ []
+s27_steps = refl
+
+s27_block : (basis_of s27 ((0 ∷ []) ∷ []) []).block (false ∷ true ∷ false ∷ []) ≡ lit 9 true ∷ lit 11 false ∷ lit 13 true ∷ []
+s27_block = refl
 
 -- an xnor of three inputs, one of them the constant 0: nets ck, q0, q1, d0, d1, 1'b0
 abbrev xnor_of_three : Circuit
