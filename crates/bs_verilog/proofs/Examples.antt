@@ -3,6 +3,7 @@ use Rattle.std.proofs.Common.{◌≡◌, ℕ, [], ◌∷◌, Ok, Err, false, tru
 use Rattle.bs_net.specs.declared.net.NetId.{NetId}
 use Rattle.bs_net.specs.declared.net.Kind.TheVariants.{Not, Buf}
 use Rattle.std.specs.Prelude.{codes}
+use Rattle.std.specs.Fmt.{digits}
 use Rattle.bs_lex.specs.Tokens.{piece_at, tokens_from, comment_size, quoted_size}
 use Rattle.bs_verilog.specs.Lexemes.{word_of, decimal_from, name_text, without_zeros, names_from, sort_of, lexemes_of}
 use Rattle.bs_verilog.specs.Reading.{refused, with_commas}
@@ -191,6 +192,42 @@ great_bounds_that_differ = refl
 equal_great_bounds : netlist_text (codes "module m(a); input [70000:0] a; wire [070000:0] a; endmodule") ≡ Err (Index 19)
 unfolding piece_at tokens_from comment_size quoted_size word_of decimal_from name_text without_zeros names_from sort_of lexemes_of refused with_commas index term num time delay attributes_from range port_says net_says names declared_name plain_port header_port carried ports header timed by_place gate place pin connections instance assignment gates instances assignments item items top skipped begun further cells leading syntax_of scalar_key bit_key keys known_nets first_over declaring_fault naming_fault term_net with_part supply_consts built_of said first_after is_gate is_assignment named_pins pins_of cell_pins each implicit_net declared_key constant_net named_net with_connection gates_of port_bits with_keys meaning_of netlist_text
 equal_great_bounds = refl
+
+index_past_the_range : netlist_text (codes "module m(ck); input ck; wire [1:0] a; not (b, a[2]); endmodule") ≡ Err (Index 46)
+unfolding digits piece_at tokens_from comment_size quoted_size word_of decimal_from name_text without_zeros names_from sort_of lexemes_of refused with_commas index term num time delay attributes_from range port_says net_says names declared_name plain_port header_port carried ports header timed by_place gate place pin connections instance assignment gates instances assignments item items top skipped begun further cells leading syntax_of scalar_key bit_key keys known_nets first_over declaring_fault naming_fault term_net with_part supply_consts built_of said first_after is_gate is_assignment named_pins pins_of cell_pins each implicit_net declared_key constant_net named_net with_connection gates_of port_bits with_keys meaning_of netlist_text
+index_past_the_range = refl
+
+unknown_constant : netlist_text (codes "module m(ck); input ck; and (z,1'bx,ck); endmodule") ≡ Err (Unsupported 31 what.Constant)
+unfolding piece_at tokens_from comment_size quoted_size word_of decimal_from name_text without_zeros names_from sort_of lexemes_of refused with_commas index term num time delay attributes_from range port_says net_says names declared_name plain_port header_port carried ports header timed by_place gate place pin connections instance assignment gates instances assignments item items top skipped begun further cells leading syntax_of scalar_key bit_key keys known_nets first_over declaring_fault naming_fault term_net with_part supply_consts built_of said first_after is_gate is_assignment named_pins pins_of cell_pins each implicit_net declared_key constant_net named_net with_connection gates_of port_bits with_keys meaning_of netlist_text
+unknown_constant = refl
+
+open_comment : netlist_text (codes "module m(ck); input ck; /* x") ≡ Err (Syntax 24)
+unfolding piece_at tokens_from comment_size quoted_size word_of decimal_from name_text without_zeros names_from sort_of lexemes_of refused with_commas index term num time delay attributes_from range port_says net_says names declared_name plain_port header_port carried ports header timed by_place gate place pin connections instance assignment gates instances assignments item items top skipped begun further cells leading syntax_of scalar_key bit_key keys known_nets first_over declaring_fault naming_fault term_net with_part supply_consts built_of said first_after is_gate is_assignment named_pins pins_of cell_pins each implicit_net declared_key constant_net named_net with_connection gates_of port_bits with_keys meaning_of netlist_text
+open_comment = refl
+
+port_before_terminals : netlist_text (codes "module m(ck,z); input ck; and g(z); endmodule") ≡ Err (Port 12)
+unfolding piece_at tokens_from comment_size quoted_size word_of decimal_from name_text without_zeros names_from sort_of lexemes_of refused with_commas index term num time delay attributes_from range port_says net_says names declared_name plain_port header_port carried ports header timed by_place gate place pin connections instance assignment gates instances assignments item items top skipped begun further cells leading syntax_of scalar_key bit_key keys known_nets first_over declaring_fault naming_fault term_net with_part supply_consts built_of said first_after is_gate is_assignment named_pins pins_of cell_pins each implicit_net declared_key constant_net named_net with_connection gates_of port_bits with_keys meaning_of netlist_text
+port_before_terminals = refl
+
+least_wide_bound : netlist_text (codes "module m(ck); input ck; wire [65536:0] v; endmodule") ≡ Err (Index 29)
+unfolding piece_at tokens_from comment_size quoted_size word_of decimal_from name_text without_zeros names_from sort_of lexemes_of refused with_commas index term num time delay attributes_from range port_says net_says names declared_name plain_port header_port carried ports header timed by_place gate place pin connections instance assignment gates instances assignments item items top skipped begun further cells leading syntax_of scalar_key bit_key keys known_nets first_over declaring_fault naming_fault term_net with_part supply_consts built_of said first_after is_gate is_assignment named_pins pins_of cell_pins each implicit_net declared_key constant_net named_net with_connection gates_of port_bits with_keys meaning_of netlist_text
+least_wide_bound = refl
+
+cells_alone : netlist_text (codes "module dff (CK); endmodule") ≡ Err (Syntax 26)
+unfolding piece_at tokens_from comment_size quoted_size word_of decimal_from name_text without_zeros names_from sort_of lexemes_of refused with_commas index term num time delay attributes_from range port_says net_says names declared_name plain_port header_port carried ports header timed by_place gate place pin connections instance assignment gates instances assignments item items top skipped begun further cells leading syntax_of scalar_key bit_key keys known_nets first_over declaring_fault naming_fault term_net with_part supply_consts built_of said first_after is_gate is_assignment named_pins pins_of cell_pins each implicit_net declared_key constant_net named_net with_connection gates_of port_bits with_keys meaning_of netlist_text
+cells_alone = refl
+
+unended_cell_behind_the_top : netlist_text (codes "module m(ck); input ck; endmodule module dff (CK);") ≡ Err (Syntax 50)
+unfolding piece_at tokens_from comment_size quoted_size word_of decimal_from name_text without_zeros names_from sort_of lexemes_of refused with_commas index term num time delay attributes_from range port_says net_says names declared_name plain_port header_port carried ports header timed by_place gate place pin connections instance assignment gates instances assignments item items top skipped begun further cells leading syntax_of scalar_key bit_key keys known_nets first_over declaring_fault naming_fault term_net with_part supply_consts built_of said first_after is_gate is_assignment named_pins pins_of cell_pins each implicit_net declared_key constant_net named_net with_connection gates_of port_bits with_keys meaning_of netlist_text
+unended_cell_behind_the_top = refl
+
+cells_around_the_top : shown (netlist_text (codes "module dff (D); wire endmodule module dffs 1 endmodule module m(ck); input ck; endmodule module dff endmodule")) ≡ (1, 1, 0, 0, 0)
+unfolding piece_at tokens_from comment_size quoted_size word_of decimal_from name_text without_zeros names_from sort_of lexemes_of refused with_commas index term num time delay attributes_from range port_says net_says names declared_name plain_port header_port carried ports header timed by_place gate place pin connections instance assignment gates instances assignments item items top skipped begun further cells leading syntax_of scalar_key bit_key keys known_nets first_over declaring_fault naming_fault term_net with_part supply_consts built_of said first_after is_gate is_assignment named_pins pins_of cell_pins each implicit_net declared_key constant_net named_net with_connection gates_of port_bits with_keys meaning_of netlist_text
+cells_around_the_top = refl
+
+escaped_names : shown (netlist_text (codes "module m(ck); input ck; not (\\ck ,a); not (\\a+ ,a); endmodule")) ≡ (3, 1, 0, 2, 0)
+unfolding piece_at tokens_from comment_size quoted_size word_of decimal_from name_text without_zeros names_from sort_of lexemes_of refused with_commas index term num time delay attributes_from range port_says net_says names declared_name plain_port header_port carried ports header timed by_place gate place pin connections instance assignment gates instances assignments item items top skipped begun further cells leading syntax_of scalar_key bit_key keys known_nets first_over declaring_fault naming_fault term_net with_part supply_consts built_of said first_after is_gate is_assignment named_pins pins_of cell_pins each implicit_net declared_key constant_net named_net with_connection gates_of port_bits with_keys meaning_of netlist_text
+escaped_names = refl
 
 user_primitive : netlist_text (codes "primitive p(a); endmodule") ≡ Err (Unsupported 0 what.Primitive)
 unfolding piece_at tokens_from comment_size quoted_size word_of decimal_from name_text without_zeros names_from sort_of lexemes_of refused with_commas index term num time delay attributes_from range port_says net_says names declared_name plain_port header_port carried ports header timed by_place gate place pin connections instance assignment gates instances assignments item items top skipped begun further cells leading syntax_of scalar_key bit_key keys known_nets first_over declaring_fault naming_fault term_net with_part supply_consts built_of said first_after is_gate is_assignment named_pins pins_of cell_pins each implicit_net declared_key constant_net named_net with_connection gates_of port_bits with_keys meaning_of netlist_text
