@@ -1,0 +1,294 @@
+-- What the search for candidates has found and logged, turn by turn.
+use Rattle.std.proofs.Common.{◌≡◌, ℕ, ◌+◌, ◌<◌, ◌≤◌, Bool, true, false, not, List, [], ◌∷◌, ◌++◌, length, reverse, refl, ap, subst, sym, ◌∙◌, ◌⊎◌, inl, inr, append_assoc, arith, Option, Some, None}
+use Rattle.std.specs.Prelude.{Contains, ◌||◌, ◌&&◌, ◌==◌, filter_map, unwrap_or}
+use Rattle.std.specs.List.{AllByRecursion as Each, list_any, list_all, IsDistinct}
+use Rattle.std.proofs.lemmas.Bool.{false≢true, true≢false, eq-eqb}
+use Rattle.std.proofs.lemmas.List.{map-append, reverse-append, length-reverse, length-append}
+use Rattle.std.proofs.lemmas.List.Elements.{All-push, All-weaker, recursion_from_All, All-from_recursion, All-nil, Contains-push, Contains-append_left}
+use Rattle.std.proofs.lemmas.List.Sorted.{IsPermutation-to_front, IsPermutation-sym, IsPermutation-reverse, All-permutation}
+use Rattle.std.proofs.lemmas.Map.Keys.{IsDistinct-cons, IsDistinct-IsPermutation}
+use Rattle.bs_bits.specs.Bits.{bits_eq}
+use Rattle.bs_clause.specs.Literal.{Literal, Clause, negation}
+use Rattle.bs_log.specs.declared.line.Line.{Line}
+use Rattle.bs_log.specs.declared.line.Line.TheVariants.{Solve, Lemma, Block, Finish, Retire, Delete}
+use Rattle.bs_log.specs.History.{History, step_of}
+use Rattle.bs_log.specs.Refusal.{denies}
+use Rattle.bs_log.specs.Steps.{is_lemma_line, block_of_line, lemma_of_line, last_solve}
+use Rattle.bs_net.proofs.NextLemmas.{bits_eq_Decides}
+use Rattle.bs_scan.proofs.SignatureLemmas.{bits_same_is}
+use Rattle.bs_solve.specs.declared.stage.Stage.{Stage}
+use Rattle.bs_solve.specs.declared.stage.Stage.TheVariants.{Begun, Blocked}
+use Rattle.bs_solve.specs.Book.{Book, standing}
+use Rattle.bs_solve.specs.Ending.{is_open_lemma}
+use Rattle.bs_solve.specs.Stages.{is_begun}
+use Rattle.bs_solve.specs.Scan.{HasVariables}
+use Rattle.bs_solve.specs.Solver.{SolverState, MaySolve}
+use Rattle.bs_encode.specs.Encoded.{Encoded}
+use Rattle.bs_encode.specs.Assuming.{block_for}
+use Rattle.bs_report.specs.declared.report.Cand.{Cand}
+use Rattle.bs_report.specs.declared.report.ListEnd.TheVariants.{Finished, Candidates, Conflicts}
+use Rattle.bs_report.specs.Step.{listed}
+use Rattle.bs_report.specs.Valid.{blocks_due, is_spent}
+use Rattle.bs_preimage.specs.Turn.{Extends, Keeps, HasSearched, MayTurn, HasListedOne, HasRefutedAll, HasSpent, IsShownIn, block_in, guard_in, steps_after}
+use Rattle.bs_preimage.specs.Finding.{is_inner, HasLogged, IsAgain, IsUnderWay, HasEndedSearch}
+use Rattle.bs_preimage.proofs.StandingLemmas.{lemmas_inner, inner_step, each_append}
+
+-- ---- the guard of the step
+
+same_guard : (from to : Book) → to.problem.vars ≡ from.problem.vars → step_of to.history ≡ step_of from.history → guard_in to ≡ guard_in from
+same_guard from to v n = λ i. record { variable = v i + n i; positive = true }
+
+guard_kept : (e : Encoded) (start s : SolverState) (found : List Cand) → HasLogged e start s found → guard_in s.book ≡ guard_in start.book
+guard_kept e start s found h =
+    same_guard start.book s.book h.vars (ap step_of h.history ∙ inner_step h.lines start.book.history h.inner)
+
+-- ---- the lines of a search behind those of the step
+
+-- lemmas have no block
+no_blocks : (lemmas rest : List Line) → Each (λ line. is_lemma_line line ≡ true) lemmas → filter_map block_of_line (lemmas ++ rest) ≡ filter_map block_of_line rest
+no_blocks [] rest all = refl
+no_blocks (Lemma id lits hints ∷ lemmas) rest all = no_blocks lemmas rest all.1
+no_blocks (Solve ∷ lemmas) rest all = absurd (false≢true all.0)
+no_blocks (Block id lits ∷ lemmas) rest all = absurd (false≢true all.0)
+no_blocks (Finish id ∷ lemmas) rest all = absurd (false≢true all.0)
+no_blocks (Retire id ∷ lemmas) rest all = absurd (false≢true all.0)
+no_blocks (Delete ids ∷ lemmas) rest all = absurd (false≢true all.0)
+
+-- after a search without a block
+searched_logs : (e : Encoded) (a : Clause) (start s s2 : SolverState) (found : List Cand) (lemmas : List Line) → HasLogged e start s found → HasSearched s s2 a lemmas → HasLogged e start s2 found
+searched_logs e a start s s2 found lemmas h r =
+    record {
+      guards = r.guards ∙ h.guards;
+      vars = r.vars ∙ h.vars;
+      clauses = r.clauses ∙ h.clauses;
+      lines = lemmas ++ Solve ∷ h.lines;
+      history = r.history ∙ (ap (λ (h : History). lemmas ++ Solve ∷ h) h.history ∙ sym (append_assoc lemmas (Solve ∷ h.lines) start.book.history));
+      inner = each_append (λ line. is_inner line ≡ true) lemmas (Solve ∷ h.lines) (lemmas_inner lemmas r.are_lemmas) (refl, h.inner);
+      blocks = no_blocks lemmas (Solve ∷ h.lines) r.are_lemmas ∙ h.blocks;
+      stand = λ c there. r.stand c (h.stand c there);
+    }
+
+-- ---- the steps
+
+begun_stage : (s start : SolverState) → start.stage ≡ Begun → s ≡ start → s.stage ≡ Begun
+begun_stage s start b e = ap (λ (s : SolverState). s.stage) e ∙ b
+
+steps_now : (e : Encoded) (a : Clause) (start s s2 : SolverState) (found : List Cand) (lemmas : List Line) → start.stage ≡ Begun → IsUnderWay e a start s found → HasSearched s s2 a lemmas →
+    s2.book.problem.steps ≡ start.book.problem.steps ++ a ∷ []
+steps_now e a start s s2 found lemmas b u r = by u.stage
+  where
+    by : ((s ≡ start) × (found ≡ [])) ⊎ IsAgain e a start s → s2.book.problem.steps ≡ start.book.problem.steps ++ a ∷ []
+    by (inl first) =
+        r.steps ∙ (ap (λ (t : Stage). steps_after (is_begun t) s.book.problem.steps a) (begun_stage s start b first.0)
+        ∙ ap (λ (s : SolverState). s.book.problem.steps ++ a ∷ []) first.0)
+    by (inr again) = r.steps ∙ (ap (λ (t : Stage). steps_after (is_begun t) s.book.problem.steps a) again.stage ∙ again.steps)
+
+-- ---- a candidate more
+
+block_of_middle : (e : Encoded) (start s middle : SolverState) (found : List Cand) → HasLogged e start s found → HasLogged e start middle found → (state : List Bool) →
+    negation (guard_in middle.book) ∷ block_for e state ≡ block_in e start.book state
+block_of_middle e start s middle found h m state = ap (λ (g : Literal). negation g ∷ block_for e state) (guard_kept e start middle found m)
+
+-- each state found before is another one
+others : (e : Encoded) (a : Clause) (start s s2 : SolverState) (found cands : List Cand) (cand : Cand) → IsUnderWay e a start s found → HasListedOne e a s s2 cand →
+    Each (λ c. Contains (standing s.book) (block_in e start.book c.state)) cands → Each (λ t. bits_eq cand.state t ≡ false) (listed cands)
+others e a start s s2 found [] cand u one all = tt
+others e a start s s2 found (c ∷ cands) cand u one all =
+    (by (bits_eq cand.state c.state) refl, others e a start s s2 found cands cand u one all.1)
+  where
+    by : (b : Bool) → bits_eq cand.state c.state ≡ b → bits_eq cand.state c.state ≡ false
+    by false e2 = e2
+    by true e2 =
+        absurd
+        (one.apart c.state (subst (λ (g : Literal). Contains (standing s.book) (negation g ∷ block_for e c.state)) (sym (guard_kept e start s found u.logged)) all.0)
+        (bits_same_is cand.state c.state e2))
+
+pub flips : (x y : List Bool) → bits_eq x y ≡ bits_eq y x
+flips x y = by (bits_eq x y) (bits_eq y x) refl refl
+  where
+    by : (a b : Bool) → bits_eq x y ≡ a → bits_eq y x ≡ b → bits_eq x y ≡ bits_eq y x
+    by true b e f = e ∙ sym ((bits_eq_Decides y x).1 (sym ((bits_eq_Decides x y).0 e)))
+    by false true e f = absurd (false≢true (sym e ∙ (bits_eq_Decides x y).1 (sym ((bits_eq_Decides y x).0 f))))
+    by false false e f = e ∙ sym f
+
+-- one more at the end is another one
+distinct_push : (xs : List (List Bool)) (x : List Bool) → IsDistinct bits_eq xs → Each (λ t. bits_eq x t ≡ false) xs → IsDistinct bits_eq (xs ++ x ∷ [])
+distinct_push xs x d all =
+    IsDistinct-IsPermutation bits_eq flips (x ∷ xs) (xs ++ x ∷ []) (IsPermutation-sym (xs ++ x ∷ []) (x ∷ xs) (IsPermutation-to_front xs x)) (IsDistinct-cons bits_eq x xs all d)
+
+pub one_more_cand : (e : Encoded) (a : Clause) (start s s2 : SolverState) (found : List Cand) (cand : Cand) → start.stage ≡ Begun → IsUnderWay e a start s found → HasListedOne e a s s2 cand →
+    IsUnderWay e a start s2 (found ++ cand ∷ [])
+one_more_cand e a start s s2 found cand b u one =
+    let m : HasLogged e start one.middle found = searched_logs e a start s one.middle found one.lemmas u.logged one.searched in
+    let block : Clause = negation (guard_in one.middle.book) ∷ block_for e cand.state in
+    let same : block ≡ block_in e start.book cand.state = block_of_middle e start s one.middle found u.logged m cand.state in
+    let there : Contains (standing s2.book) (block_in e start.book cand.state) =
+    subst (λ (cs : List Clause). Contains cs (block_in e start.book cand.state)) (sym one.blocked.stands)
+    (subst (Contains (standing one.middle.book ++ block ∷ [])) same (Contains-push (standing one.middle.book) block)) in
+    let keeps : Keeps one.middle.book s2.book = λ c there.
+    subst (λ (cs : List Clause). Contains cs c) (sym one.blocked.stands) (Contains-append_left (standing one.middle.book) (block ∷ []) c there) in
+    record {
+      logged = record {
+        guards = one.blocked.vars ∙ m.guards;
+        vars = ap (λ (b : Book). b.problem.vars) one.blocked.book ∙ m.vars;
+        clauses = ap (λ (b : Book). b.problem.clauses) one.blocked.book ∙ m.clauses;
+        lines = Block one.id block ∷ m.lines;
+        history = ap (λ (b : Book). b.history) one.blocked.book ∙ ap (λ (h : History). Block one.id block ∷ h) m.history;
+        inner = (refl, m.inner);
+        blocks =
+            (λ i. same i ∷ m.blocks i)
+            ∙ ap (λ (cs : List Cand). blocks_due (guard_in start.book) (block_for e) cs) (sym (reverse-append found (cand ∷ [])));
+        stand = λ c there. keeps c (m.stand c there);
+      };
+      cands = record {
+        shown = All-push (IsShownIn e a) found cand u.cands.shown one.shown;
+        apart = subst (IsDistinct bits_eq) (sym (map-append (λ (c : Cand). c.state) found (cand ∷ [])))
+            (distinct_push (listed found) cand.state u.cands.apart
+            (others e a start s s2 found found cand u one (recursion_from_All (λ (c : Cand). Contains (standing s.book) (block_in e start.book c.state)) found u.blocked)));
+      };
+      blocked = All-push (λ (c : Cand). Contains (standing s2.book) (block_in e start.book c.state)) found cand
+          (All-weaker (λ (c : Cand). Contains (standing s.book) (block_in e start.book c.state)) (λ (c : Cand). Contains (standing s2.book) (block_in e start.book c.state))
+          (λ c there. keeps (block_in e start.book c.state) (one.searched.stand (block_in e start.book c.state) there)) found u.blocked) there;
+      stage = inr (record {
+        stage = one.blocked.stage;
+        steps = ap (λ (b : Book). b.problem.steps) one.blocked.book ∙ steps_now e a start s one.middle found one.lemmas b u one.searched;
+        assumed_is = one.blocked.step ∙ one.searched.assumed_is;
+      });
+    }
+
+-- ---- the next turn
+
+blocked_is_not_begun : (t : Stage) → t ≡ Begun → t ≡ Blocked → ⊥
+blocked_is_not_begun t b k = let e : Begun ≡ Blocked = sym b ∙ k in true≢false (ap is_begun e)
+
+pub may_turn_again : (e : Encoded) (a : Clause) (start s : SolverState) (found : List Cand) → start.stage ≡ Begun → MayTurn e start a → IsUnderWay e a start s found → MayTurn e s a
+may_turn_again e a start s found b may u =
+    record {
+      may = by u.stage;
+      range = subst (λ (n : ℕ). HasVariables n a) (sym u.logged.guards) may.range;
+      distinct = may.distinct;
+      guard = subst (Contains a) (sym (guard_kept e start s found u.logged)) may.guard;
+      vars = u.logged.vars ∙ may.vars;
+      guards = subst (λ (n : ℕ). e.variables ≤ n) (sym u.logged.guards) may.guards;
+      clauses = u.logged.clauses ∙ may.clauses;
+      stand = λ c there. u.logged.stand c (may.stand c (subst (λ (cs : List Clause). Contains cs c) u.logged.clauses there));
+    }
+  where
+    by : ((s ≡ start) × (found ≡ [])) ⊎ IsAgain e a start s → MaySolve s a
+    by (inl first) =
+        let begun : s.stage ≡ Begun = begun_stage s start b first.0 in
+        record { stage = λ _. inl begun; again = λ k. absurd (blocked_is_not_begun s.stage begun k) }
+    by (inr again) = record { stage = λ _. inr again.stage; again = λ _. again.assumed_is }
+
+none_distinct : IsDistinct bits_eq []
+unfolding IsDistinct
+none_distinct = tt
+
+pub under_way_at_first : (e : Encoded) (a : Clause) (start : SolverState) → IsUnderWay e a start start []
+under_way_at_first e a start =
+    record {
+      logged = record { guards = refl; vars = refl; clauses = refl; lines = []; history = refl; inner = tt; blocks = refl; stand = λ c there. there };
+      cands = record { shown = All-nil (IsShownIn e a); apart = none_distinct };
+      blocked = All-nil (λ (c : Cand). Contains (standing start.book) (block_in e start.book c.state));
+      stage = inl (refl, refl);
+    }
+
+-- ---- the ends
+
+pub refuted_search : (e : Encoded) (a : Clause) (k limit id : ℕ) (start s s2 : SolverState) (found : List Cand) → start.stage ≡ Begun → IsUnderWay e a start s found → HasRefutedAll a s s2 id →
+    length found < k → HasEndedSearch e a k limit start s2 found (Finished id)
+refuted_search e a k limit id start s s2 found b u r under =
+    record {
+      logged = searched_logs e a start s s2 found r.lemmas u.logged r.searched;
+      cands = u.cands;
+      steps = steps_now e a start s s2 found r.lemmas b u r.searched;
+      ended = (r.ended, under);
+    }
+
+last_solve_of : (xs ys : List Line) → last_solve ys ≡ None → last_solve (xs ++ Solve ∷ ys) ≡ Some ys
+last_solve_of [] ys e = ap (λ (o : Option (List Line)). Some (unwrap_or o ys)) e
+last_solve_of (Solve ∷ xs) ys e = ap (λ (o : Option (List Line)). Some (unwrap_or o (xs ++ Solve ∷ ys))) (last_solve_of xs ys e)
+last_solve_of (Lemma id lits hints ∷ xs) ys e = last_solve_of xs ys e
+last_solve_of (Block id lits ∷ xs) ys e = last_solve_of xs ys e
+last_solve_of (Finish id ∷ xs) ys e = last_solve_of xs ys e
+last_solve_of (Retire id ∷ xs) ys e = last_solve_of xs ys e
+last_solve_of (Delete ids ∷ xs) ys e = last_solve_of xs ys e
+
+-- the lemmas of a spent solve
+pub record AreOpen (a : Clause) (lines : List Line) : Type 0 where
+  pub no_solve : last_solve lines ≡ None
+  pub are_lemmas : list_all is_lemma_line lines ≡ true
+  pub no_end : list_any (denies a) (filter_map lemma_of_line lines) ≡ false
+
+not_true : (b : Bool) → not b ≡ true → b ≡ false
+not_true false e = refl
+not_true true e = sym e
+
+open_lemmas : (a : Clause) (lines : List Line) → Each (λ line. is_open_lemma a line ≡ true) lines → AreOpen a lines
+open_lemmas a [] all = record { no_solve = refl; are_lemmas = refl; no_end = refl }
+open_lemmas a (Lemma id lits hints ∷ lines) all =
+    let rest : AreOpen a lines = open_lemmas a lines all.1 in
+    record {
+      no_solve = rest.no_solve;
+      are_lemmas = rest.are_lemmas;
+      no_end = ap (λ (b : Bool). b || list_any (denies a) (filter_map lemma_of_line lines)) (not_true (denies a lits) all.0) ∙ rest.no_end;
+    }
+open_lemmas a (Solve ∷ lines) all = absurd (false≢true all.0)
+open_lemmas a (Block id lits ∷ lines) all = absurd (false≢true all.0)
+open_lemmas a (Finish id ∷ lines) all = absurd (false≢true all.0)
+open_lemmas a (Retire id ∷ lines) all = absurd (false≢true all.0)
+open_lemmas a (Delete ids ∷ lines) all = absurd (false≢true all.0)
+
+pub each_reverse : {X : Type 0} (P : X → Type 0) (xs : List X) → Each P xs → Each P (reverse xs)
+each_reverse P xs all = recursion_from_All P (reverse xs) (All-permutation P xs (reverse xs) (IsPermutation-reverse xs) (All-from_recursion P xs all))
+
+spent_is : (a : Clause) (limit : ℕ) (lemmas before : List Line) → length lemmas ≡ limit → Each (λ line. is_open_lemma a line ≡ true) lemmas →
+    is_spent limit a (last_solve (reverse (lemmas ++ Solve ∷ before))) ≡ true
+spent_is a limit lemmas before n all =
+    let are : AreOpen a (reverse lemmas) = open_lemmas a (reverse lemmas) (each_reverse (λ line. is_open_lemma a line ≡ true) lemmas all) in
+    let order : reverse (lemmas ++ Solve ∷ before) ≡ reverse before ++ Solve ∷ reverse lemmas =
+    reverse-append lemmas (Solve ∷ before) ∙ (ap (λ (ls : List Line). ls ++ reverse lemmas) (reverse-append (Solve ∷ []) before) ∙ append_assoc (reverse before) (Solve ∷ []) (reverse lemmas)) in
+    ap (λ (ls : List Line). is_spent limit a (last_solve ls)) order
+    ∙ (ap (is_spent limit a) (last_solve_of (reverse before) (reverse lemmas) are.no_solve)
+    ∙ all_true (length (reverse lemmas) == limit) (list_all is_lemma_line (reverse lemmas)) (list_any (denies a) (filter_map lemma_of_line (reverse lemmas)))
+    (eq-eqb (length (reverse lemmas)) limit (length-reverse lemmas ∙ n)) are.are_lemmas are.no_end)
+  where
+    all_true : (x y z : Bool) → x ≡ true → y ≡ true → z ≡ false → (x && y && not z) ≡ true
+    all_true x y z e f g = rw (e, f, g) refl
+
+pub spent_search : (e : Encoded) (a : Clause) (k limit : ℕ) (start s s2 : SolverState) (found : List Cand) → start.stage ≡ Begun → IsUnderWay e a start s found → HasSpent a limit s s2 →
+    length found < k → HasEndedSearch e a k limit start s2 found Conflicts
+unfolding searched_logs
+spent_search e a k limit start s s2 found b u r under =
+    record {
+      logged = searched_logs e a start s s2 found r.lemmas u.logged r.searched;
+      cands = u.cands;
+      steps = steps_now e a start s s2 found r.lemmas b u r.searched;
+      ended = (r.stopped, under, spent_is a limit r.lemmas u.logged.lines r.all r.open_yet);
+    }
+
+pub full_search : (e : Encoded) (a : Clause) (k limit : ℕ) (start s : SolverState) (found : List Cand) → IsUnderWay e a start s found → 1 ≤ k → length found ≡ k →
+    HasEndedSearch e a k limit start s found Candidates
+full_search e a k limit start s found u some n = by u.stage
+  where
+    by : ((s ≡ start) × (found ≡ [])) ⊎ IsAgain e a start s → HasEndedSearch e a k limit start s found Candidates
+    by (inl first) = absurd (let none : length found ≡ 0 = ap length first.1 in omega (arith, n, none, some))
+    by (inr again) = record { logged = u.logged; cands = u.cands; steps = again.steps; ended = (again.stage, n) }
+
+-- ---- extensions
+
+pub logged_extends : (e : Encoded) (start s : SolverState) (found : List Cand) → HasLogged e start s found → Extends start.book s.book
+logged_extends e start s found h = record { vars = h.vars; clauses = h.clauses; more = h.lines; history = h.history }
+
+-- ---- the loop
+
+pub under_way_start : (e : Encoded) (a : Clause) (start : SolverState) (found : List Cand) (k : ℕ) → found ≡ [] → IsUnderWay e a start start found × (length found ≤ k)
+under_way_start e a start found k none =
+    (subst (IsUnderWay e a start start) (sym none) (under_way_at_first e a start), subst (λ (cs : List Cand). length cs ≤ k) (sym none) (omega arith))
+
+pub under_way_more : (e : Encoded) (a : Clause) (start s s2 : SolverState) (found : List Cand) (cand : Cand) (found2 : List Cand) (k : ℕ) → start.stage ≡ Begun → IsUnderWay e a start s found →
+    HasListedOne e a s s2 cand → found2 ≡ found ++ cand ∷ [] → length found + 1 ≤ k → IsUnderWay e a start s2 found2 × (length found2 ≤ k)
+under_way_more e a start s s2 found cand found2 k b u one pushed room = (
+  subst (IsUnderWay e a start s2) (sym pushed) (one_more_cand e a start s s2 found cand b u one),
+  omega (arith, ap length pushed, length-append found (cand ∷ []), room),
+)

@@ -1,0 +1,366 @@
+-- A step of the log is a right list.
+use Rattle.std.proofs.Common.{◌≡◌, ◌≢◌, ℕ, ◌+◌, ◌<◌, Bool, true, false, List, [], ◌∷◌, ◌++◌, map, length, reverse, get_or, refl, ap, subst, sym, ◌∙◌, inl, inr, append_assoc, arith, Option, Some, None}
+use mathlib.Core.List.{reverse_aux}
+use Rattle.std.specs.Prelude.{Contains, All, ◌||◌, ◌&&◌, filter_map, slice_get, IsTrue}
+use Rattle.std.specs.Bool.{beq}
+use Rattle.std.specs.List.{AllByRecursion as Each, list_any}
+use Rattle.std.specs.List.Sorted.{IsPermutation}
+use Rattle.std.proofs.lemmas.Bool.{false≢true, true≢false}
+use Rattle.std.proofs.lemmas.List.{length-append, reverse-reverse}
+use Rattle.std.proofs.lemmas.List.Elements.{All-weaker, All-map, All-from_recursion, recursion_from_All, Contains-append_left}
+use Rattle.std.proofs.lemmas.List.Sorted.{length_permutation, All-permutation}
+use Rattle.bs_bits.specs.Bits.{bits_eq}
+use Rattle.bs_clause.specs.Literal.{Literal, Clause, negation, literal_value, Satisfies}
+use Rattle.bs_log.specs.declared.line.Line.{Line}
+use Rattle.bs_log.specs.declared.line.Line.TheVariants.{Retire}
+use Rattle.bs_log.specs.History.{Problem, History, step_of, guard_of}
+use Rattle.bs_log.specs.Refusal.{history_of, assumptions_of, IsAccepted}
+use Rattle.bs_log.specs.Refutation.{Suits, blocks_of}
+use Rattle.bs_log.specs.Shown.{Shown}
+use Rattle.bs_log.specs.Steps.{steps_of, block_of_line, finish_of_line}
+use Rattle.bs_log.proofs.Laws.{finished_steps_are_refuted}
+use Rattle.bs_log.proofs.StepLemmas.{finish_at}
+use Rattle.bs_net.specs.Circuit.{Circuit, next, all_bits}
+use Rattle.bs_net.proofs.CallerLemmas.{all_bits_widths}
+use Rattle.bs_net.proofs.NextLemmas.{Member}
+use Rattle.bs_scan.specs.Choice.{Chosen}
+use Rattle.bs_scan.specs.Present.{Present}
+use Rattle.bs_scan.specs.Moments.{is_listed}
+use Rattle.bs_scan.specs.Signature.{agrees, some_input_leads, predecessors}
+use Rattle.bs_scan.proofs.MomentLemmas.{each_member}
+use Rattle.bs_scan.proofs.SignatureLemmas.{bits_same, bits_same_is, is_predecessor}
+use Rattle.bs_solve.specs.Book.{Book, standing}
+use Rattle.bs_solve.specs.Solver.{SolverState, finished}
+use Rattle.bs_encode.specs.Transition.{state_vars, net_var}
+use Rattle.bs_encode.specs.Encoded.{Encoded, encoding_of, literals}
+use Rattle.bs_encode.specs.Assuming.{assumptions_for, block_for}
+use Rattle.bs_encode.specs.Listing.{IsTidy, PredecessorsAreShown, SolutionsArePredecessors, IsPredecessor, values_of}
+use Rattle.bs_report.specs.declared.report.Cand.{Cand}
+use Rattle.bs_report.specs.declared.report.ListEnd.{ListEnd}
+use Rattle.bs_report.specs.declared.report.ListEnd.TheVariants.{Finished}
+use Rattle.bs_report.specs.Step.{listed, IsCandidate}
+use Rattle.bs_report.specs.Valid.{blocks_due, are_right_blocks, is_right_finish, blocks_in, finishes_in}
+use Rattle.bs_report.proofs.SortedLemmas.{asc_of_pairs, asc_filter, asc_all_bits, same_lists}
+use Rattle.bs_report.proofs.ValidLemmas.{both}
+use Rattle.bs_report.proofs.GoodLemmas.{listed_member, filter_member}
+use Rattle.bs_preimage.specs.declared.listing.Listing.{Listing}
+use Rattle.bs_preimage.specs.Preimage.{next_guard, asking}
+use Rattle.bs_preimage.specs.Rest.{IsAbout, IsAtRest, AreWholeSteps}
+use Rattle.bs_preimage.specs.Turn.{IsReadable, IsShownIn, bits_on, guard_in}
+use Rattle.bs_preimage.specs.Order.{IsInOrder}
+use Rattle.bs_preimage.specs.Step.{HasSought, HasMadeStep, assumptions_at, ending_of}
+use Rattle.bs_preimage.proofs.OrderLemmas.{in_order_ascend}
+use Rattle.bs_preimage.proofs.StepLinesLemmas.{is_in_step, finish_lines, in_step, step_kept, step_lines_are, whole_after, get_last, slice_get_last, blocks_are_due, right_blocks, one_finish, finish_is, end_is}
+
+-- all that is known after a step
+pub record Sought : Type 0 where
+  pub c : Circuit
+  pub choice : Chosen
+  pub e : Encoded
+  pub old : SolverState
+  pub new : SolverState
+  pub present : List Bool
+  pub stored : List Bool
+  pub k : ℕ
+  pub b : ℕ
+  pub found : List Cand
+  pub cands : List Cand
+  pub end : ListEnd
+  pub about : IsAbout c choice e old.book
+  pub rest : IsAtRest old
+  pub state : length present ≡ length c.flops
+  pub signature : length stored ≡ length choice.items
+  pub sought : HasSought e old new present stored k b found end
+  pub order : IsInOrder found cands
+  pub accepted : IsAccepted new.book.problem (reverse new.book.history)
+  pub shown : PredecessorsAreShown c choice e
+  pub solutions : SolutionsArePredecessors c choice e
+
+-- ---- the problem and the lines
+
+finished_problem : (b : Book) (end : Option ℕ) → (finished b end).problem ≡ b.problem
+finished_problem b None = refl
+finished_problem b (Some id) = refl
+
+finished_history : (b : Book) (end : Option ℕ) → (finished b end).history ≡ finish_lines end ++ b.history
+finished_history b None = refl
+finished_history b (Some id) = refl
+
+abbrev asked : Sought → Present
+asked t = asking t.present t.stored
+
+abbrev assumed_by : Sought → Clause
+assumed_by t = assumptions_at t.e t.old.book t.present t.stored
+
+-- the lines of the step, the newest first, without its retire line
+abbrev lines_by : Sought → List Line
+lines_by t = finish_lines (ending_of t.end) ++ t.sought.search.logged.lines
+
+-- the id of the retire line
+abbrev retired_by : Sought → ℕ
+retired_by t = length (standing t.sought.middle.book) + 1
+
+problem_is : (t : Sought) → t.new.book.problem ≡ t.sought.middle.book.problem
+problem_is t = ap (λ (b : Book). b.problem) t.sought.ended.book ∙ finished_problem t.sought.middle.book (ending_of t.end)
+
+vars_are : (t : Sought) → t.new.book.problem.vars ≡ t.old.book.problem.vars
+vars_are t = ap (λ (p : Problem). p.vars) (problem_is t) ∙ t.sought.search.logged.vars
+
+clauses_are : (t : Sought) → t.new.book.problem.clauses ≡ t.old.book.problem.clauses
+clauses_are t = ap (λ (p : Problem). p.clauses) (problem_is t) ∙ t.sought.search.logged.clauses
+
+steps_are : (t : Sought) → t.new.book.problem.steps ≡ t.old.book.problem.steps ++ assumed_by t ∷ []
+steps_are t = ap (λ (p : Problem). p.steps) (problem_is t) ∙ t.sought.search.steps
+
+history_is : (t : Sought) → t.new.book.history ≡ Retire (retired_by t) ∷ (lines_by t ++ t.old.book.history)
+history_is t =
+    ap (λ (b : Book). b.history) t.sought.ended.book
+    ∙ ap (λ (h : History). Retire (retired_by t) ∷ h)
+    (finished_history t.sought.middle.book (ending_of t.end)
+    ∙ (ap (λ (h : History). finish_lines (ending_of t.end) ++ h) t.sought.search.logged.history
+    ∙ sym (append_assoc (finish_lines (ending_of t.end)) t.sought.search.logged.lines t.old.book.history)))
+
+inside : (t : Sought) → Each (λ line. is_in_step line ≡ true) (lines_by t)
+inside t = in_step (ending_of t.end) t.sought.search.logged.lines t.sought.search.logged.inner
+
+step_lines : (t : Sought) → steps_of (reverse t.new.book.history) ≡ steps_of (reverse t.old.book.history) ++ reverse (lines_by t) ∷ []
+step_lines t =
+    ap (λ (h : History). steps_of (reverse h)) (history_is t) ∙ step_lines_are (lines_by t) t.old.book.history (retired_by t) t.rest.whole (inside t)
+
+one_longer : (t : Sought) → length t.new.book.problem.steps ≡ length t.old.book.problem.steps + 1
+one_longer t = ap length (steps_are t) ∙ length-append t.old.book.problem.steps (assumed_by t ∷ [])
+
+rests : (t : Sought) → IsAtRest t.new
+rests t =
+    record {
+      well = t.sought.ended.well;
+      idle = t.sought.ended.stage;
+      guards = omega (arith, t.sought.ended.vars, t.sought.search.logged.guards, t.rest.guards, vars_are t, one_longer t);
+      number =
+          ap step_of (history_is t)
+          ∙ (ap (λ (n : ℕ). n + 1) (step_kept (lines_by t) t.old.book.history (inside t) ∙ t.rest.number) ∙ ap (λ (n : ℕ). n + 1) (sym (one_longer t)));
+      count =
+          ap length (step_lines t)
+          ∙ (length-append (steps_of (reverse t.old.book.history)) (reverse (lines_by t) ∷ []) ∙ (ap (λ (n : ℕ). n + 1) t.rest.count ∙ sym (one_longer t)));
+      stand = λ c there.
+          subst (λ (cs : List Clause). Contains cs c) (sym t.sought.ended.stands)
+          (Contains-append_left (standing t.sought.middle.book) _ c (t.sought.search.logged.stand c (t.rest.stand c (subst (λ (cs : List Clause). Contains cs c) (clauses_are t) there))));
+      whole = subst (λ (h : History). AreWholeSteps (reverse h)) (sym (history_is t)) (whole_after (lines_by t) t.old.book.history (retired_by t) t.rest.whole (inside t));
+    }
+
+-- ---- the candidates
+
+same_bit : (b : Bool) → b ≡ beq b true
+same_bit true = refl
+same_bit false = refl
+
+bits_are_values : (v : ℕ → Bool) (vs : List ℕ) → bits_on v (literals vs) ≡ values_of v (literals vs)
+bits_are_values v [] = refl
+bits_are_values v (x ∷ vs) = λ i. same_bit (v x) i ∷ bits_are_values v vs i
+
+states_are : (t : Sought) (v : ℕ → Bool) → bits_on v t.e.states ≡ values_of v t.e.states
+states_are t v = subst (λ (e : Encoded). bits_on v e.states ≡ values_of v e.states) (sym t.about.encoding) (bits_are_values v (state_vars t.c))
+
+inputs_are : (t : Sought) (v : ℕ → Bool) → bits_on v t.e.inputs ≡ values_of v t.e.inputs
+inputs_are t v = subst (λ (e : Encoded). bits_on v e.inputs ≡ values_of v e.inputs) (sym t.about.encoding) (bits_are_values v (map net_var t.c.inputs))
+
+one_stored : (s : List Bool) → 0 < length (s ∷ [])
+one_stored s = omega arith
+
+shows : (t : Sought) (cand : Cand) → IsShownIn t.e (assumed_by t) cand → IsPredecessor t.c t.choice (asked t) cand.state cand.input
+shows t cand h =
+    let p : IsPredecessor t.c t.choice (asked t) (values_of h.value t.e.states) (values_of h.value t.e.inputs) =
+    t.solutions h.value (next_guard t.old.book.problem) (asked t) t.state (one_stored t.stored) t.signature h.clauses h.holds in
+    subst (λ (s : List Bool). IsPredecessor t.c t.choice (asked t) s cand.input) (sym (h.state ∙ states_are t h.value))
+    (subst (λ (x : List Bool). IsPredecessor t.c t.choice (asked t) (values_of h.value t.e.states) x) (sym (h.input ∙ inputs_are t h.value)) p)
+
+all_show : (t : Sought) → All (λ cand. IsPredecessor t.c t.choice (asked t) cand.state cand.input) t.cands
+all_show t =
+    All-permutation (λ (cand : Cand). IsPredecessor t.c t.choice (asked t) cand.state cand.input) t.found t.cands t.order.same
+    (All-weaker (IsShownIn t.e (assumed_by t)) (λ (cand : Cand). IsPredecessor t.c t.choice (asked t) cand.state cand.input) (shows t) t.found t.sought.search.cands.shown)
+
+candidate_of : (t : Sought) (cand : Cand) → IsPredecessor t.c t.choice (asked t) cand.state cand.input → IsCandidate t.c t.choice t.present (t.stored ∷ []) cand
+candidate_of t cand p =
+    record {
+      predecessor = is_predecessor t.c t.choice t.present (t.stored ∷ []) cand.state cand.input p.state_width p.input_width p.agrees p.next;
+      leads = p.leads;
+    }
+
+-- ---- the blocks
+
+guard_same : (t : Sought) → guard_in t.old.book ≡ next_guard t.old.book.problem
+guard_same t = ap (guard_of t.old.book.problem) t.rest.number
+
+due_blocks : (t : Sought) → IsPermutation (blocks_due (next_guard t.old.book.problem) (block_for t.e) t.cands) (blocks_in (reverse (lines_by t)))
+due_blocks t =
+    blocks_are_due (next_guard t.old.book.problem) (block_for t.e) t.found t.cands (ending_of t.end) t.sought.search.logged.lines t.order.same
+    (t.sought.search.logged.blocks ∙ ap (λ (g : Literal). blocks_due g (block_for t.e) (reverse t.found)) (guard_same t))
+
+-- ---- a finished list is whole
+
+guard_now : (t : Sought) → guard_of t.new.book.problem (length t.old.book.problem.steps + 1) ≡ next_guard t.old.book.problem
+guard_now t = λ i. record { variable = vars_are t i + (length t.old.book.problem.steps + 1); positive = true }
+
+not_listed : (cands : List Cand) (s : List Bool) → is_listed (listed cands) s ≡ false → Each (λ cand. cand.state ≢ s) cands
+not_listed [] s e = tt
+not_listed (x ∷ cands) s e = by (bits_eq s x.state) refl e (not_listed cands s)
+  where
+    by : (b : Bool) → bits_eq s x.state ≡ b → (b || is_listed (listed cands) s) ≡ false → (is_listed (listed cands) s ≡ false → Each (λ cand. cand.state ≢ s) cands) →
+        (x.state ≢ s) × Each (λ cand. cand.state ≢ s) cands
+    by true b e rest = absurd (true≢false e)
+    by false b e rest = (λ same. true≢false (sym (ap (bits_eq s) same ∙ bits_same s) ∙ b), rest e)
+
+blocks_hold : (t : Sought) (v : ℕ → Bool) (s : List Bool) → is_listed (listed t.cands) s ≡ false →
+    ((u : List Bool) → length u ≡ length t.c.flops → u ≢ s → Satisfies v (negation (next_guard t.old.book.problem) ∷ block_for t.e u)) →
+    Each (Satisfies v) (blocks_in (reverse (lines_by t)))
+blocks_hold t v s out f =
+    let g : Literal = next_guard t.old.book.problem in
+    let apart : All (λ cand. cand.state ≢ s) t.cands = All-from_recursion (λ (cand : Cand). cand.state ≢ s) t.cands (not_listed t.cands s out) in
+    let each : All (λ cand. Satisfies v (negation g ∷ block_for t.e cand.state)) t.cands = λ i d lt.
+    f (get_or t.cands i d).state (all_show t i d lt).state_width (apart i d lt) in
+    recursion_from_All (Satisfies v) (blocks_in (reverse (lines_by t)))
+    (All-permutation (Satisfies v) (blocks_due g (block_for t.e) t.cands) (blocks_in (reverse (lines_by t))) (due_blocks t)
+    (All-map (Satisfies v) (λ (s : List Bool). negation g ∷ block_for t.e s) (listed t.cands)
+    (All-map (λ (s : List Bool). Satisfies v (negation g ∷ block_for t.e s)) (λ (c : Cand). c.state) t.cands each)))
+
+named_is : (t : Sought) (id : ℕ) → t.end ≡ Finished id → finishes_in (reverse (lines_by t)) ≡ id ∷ []
+named_is t id e =
+    ap (λ (end : ListEnd). finishes_in (reverse (finish_lines (ending_of end) ++ t.sought.search.logged.lines))) e
+    ∙ one_finish id t.sought.search.logged.lines t.sought.search.logged.inner
+
+lines_now : (t : Sought) → get_or (steps_of (reverse t.new.book.history)) (length t.old.book.problem.steps) [] ≡ reverse (lines_by t)
+lines_now t =
+    ap (λ (ss : List (List Line)). get_or ss (length t.old.book.problem.steps) []) (step_lines t)
+    ∙ get_last (steps_of (reverse t.old.book.history)) (reverse (lines_by t)) (length t.old.book.problem.steps) [] (sym t.rest.count)
+
+refuted : (t : Sought) (id : ℕ) → t.end ≡ Finished id → (s x : List Bool) → length s ≡ length t.c.flops → length x ≡ length t.c.inputs →
+    agrees t.c t.choice (t.stored ∷ []) s ≡ true → next t.c s x ≡ t.present → is_listed (listed t.cands) s ≡ false → ⊥
+refuted t id fin s x ls lx ag nx out =
+    let p : Problem = t.new.book.problem in
+    let i : ℕ = length t.old.book.problem.steps in
+    let log : List Line = reverse t.new.book.history in
+    let step : slice_get p.steps i ≡ Some (assumptions_for t.e (guard_of p (i + 1)) (asked t)) =
+    ap (λ (cs : List Clause). slice_get cs i) (steps_are t)
+    ∙ (slice_get_last t.old.book.problem.steps (assumed_by t) i refl ∙ ap (λ (g : Literal). Some (assumptions_for t.e g (asked t))) (sym (guard_now t))) in
+    let shown : Shown (record { problem = p; block = block_for t.e }) (length t.c.flops) (i + 1) s =
+    t.shown p i (asked t) s x (vars_are t ∙ t.about.vars) (clauses_are t ∙ t.about.clauses) step ls lx ag nx in
+    let v : ℕ → Bool = shown.value in
+    let blocks : Each (Satisfies v) (blocks_in (reverse (lines_by t))) =
+    blocks_hold t v s out (λ u lu apart. subst (λ (g : Literal). Satisfies v (negation g ∷ block_for t.e u)) (guard_now t) (shown.blocks u lu apart)) in
+    let spot =
+    finish_at (Satisfies v) id log [] i (i + 1) (omega arith) (ap (filter_map finish_of_line) (lines_now t) ∙ named_is t id fin)
+    (subst (λ (ls : List Line). Each (Satisfies v) (filter_map block_of_line ls)) (sym (lines_now t)) blocks) tt in
+    let suits : Suits p (history_of spot.before) (i + 1) v = record {
+      in_range = omega (arith, one_longer t);
+      clauses = shown.clauses;
+      blocks = All-from_recursion (Satisfies v) (blocks_of (reverse_aux spot.before []) (i + 1)) spot.blocks;
+      guard = shown.guard;
+      other_guards = shown.other_guards;
+    } in
+    finished_steps_are_refuted p log spot.before spot.after id v t.accepted spot.parts
+    (subst (λ (n : ℕ). Suits p (history_of spot.before) n v) (sym spot.step) suits)
+    (subst (λ (n : ℕ). All (λ l. IsTrue (literal_value v l)) (assumptions_of p n)) (sym spot.step) shown.assumptions)
+
+record Passing {X : Type 0} (p : X → Bool) (xs : List X) : Type 0 where
+  item : X
+  member : Member item xs
+  passes : p item ≡ true
+
+passing : {X : Type 0} (p : X → Bool) (xs : List X) → list_any p xs ≡ true → Passing p xs
+passing p [] e = absurd (false≢true e)
+passing {X} p (x ∷ xs) e = by (p x) refl e (passing p xs)
+  where
+    by : (b : Bool) → p x ≡ b → (b || list_any p xs) ≡ true → (list_any p xs ≡ true → Passing p xs) → Passing p (x ∷ xs)
+    by true b e rest = record { item = x; member = inl refl; passes = b }
+    by false b e rest = let r = rest e in record { item = r.item; member = inr r.member; passes = r.passes }
+
+all_bits_length : (n : ℕ) (s : List Bool) → Member s (all_bits n) → length s ≡ n
+all_bits_length n s m = each_member (λ (s : List Bool). length s ≡ n) s (all_bits n) (recursion_from_All (λ (s : List Bool). length s ≡ n) (all_bits n) (all_bits_widths n)) m
+
+each_listed : (asked : List (List Bool)) (cands : List Cand) → Each (λ cand. is_listed asked cand.state ≡ true) cands → Each (λ s. is_listed asked s ≡ true) (listed cands)
+each_listed asked [] h = tt
+each_listed asked (c ∷ cs) h = (h.0, each_listed asked cs h.1)
+
+candidates : (t : Sought) → All (IsCandidate t.c t.choice t.present (t.stored ∷ [])) t.cands
+candidates t =
+    All-weaker (λ (cand : Cand). IsPredecessor t.c t.choice (asked t) cand.state cand.input) (IsCandidate t.c t.choice t.present (t.stored ∷ [])) (candidate_of t) t.cands (all_show t)
+
+whole : (t : Sought) (id : ℕ) → t.end ≡ Finished id → listed t.cands ≡ predecessors t.c t.choice t.present (t.stored ∷ [])
+unfolding predecessors
+whole t id fin =
+    let q : List Bool → Bool = λ s. agrees t.c t.choice (t.stored ∷ []) s && some_input_leads t.c s t.present in
+    let all : List (List Bool) = all_bits (length t.c.flops) in
+    let asked_for : List (List Bool) = predecessors t.c t.choice t.present (t.stored ∷ []) in
+    same_lists (listed t.cands) asked_for
+    (asc_of_pairs (listed t.cands) (in_order_ascend t.found t.cands t.order t.sought.search.cands.apart))
+    (asc_filter q all (asc_all_bits (length t.c.flops)))
+    (λ s m.
+    listed_member s asked_for
+    (each_member (λ (s : List Bool). is_listed asked_for s ≡ true) s (listed t.cands)
+    (each_listed asked_for t.cands
+    (recursion_from_All (λ (cand : Cand). is_listed asked_for cand.state ≡ true) t.cands (λ i d lt. (candidates t i d lt).predecessor))) m))
+    (λ s m.
+    let found = filter_member q s all m in
+    let tests = both (agrees t.c t.choice (t.stored ∷ []) s) (some_input_leads t.c s t.present) found.0 in
+    let x = passing (λ (x : List Bool). bits_eq (next t.c s x) t.present) (all_bits (length t.c.inputs)) tests.1 in
+    by s (is_listed (listed t.cands) s) refl
+    (refuted t id fin s x.item (all_bits_length (length t.c.flops) s found.1) (all_bits_length (length t.c.inputs) x.item x.member) tests.0
+    (bits_same_is (next t.c s x.item) t.present x.passes)))
+  where
+    by : (s : List Bool) (b : Bool) → is_listed (listed t.cands) s ≡ b → (is_listed (listed t.cands) s ≡ false → ⊥) → Member s (listed t.cands)
+    by s true e out = listed_member s (listed t.cands) e
+    by s false e out = absurd (out e)
+
+-- ---- the step
+
+pub made_step : (t : Sought) (listing : Listing) → listing ≡ record { cands = t.cands; end = t.end } → HasMadeStep t.c t.choice t.old t.new t.present t.stored t.k t.b listing
+made_step t listing e = subst (HasMadeStep t.c t.choice t.old t.new t.present t.stored t.k t.b) (sym e) (record {
+  rest = rests t;
+  count = one_longer t;
+  listed = record {
+    was_well = refl;
+    well = refl;
+    goes_on = record { circuit = refl; choice = refl; vars = vars_are t; clauses = clauses_are t; more = Retire (retired_by t) ∷ lines_by t; history = history_is t };
+    steps = steps_are t ∙ ap (λ (e : Encoded). t.old.book.problem.steps ++ assumptions_for e (next_guard t.old.book.problem) (asked t) ∷ []) t.about.encoding;
+    lines = reverse (lines_by t);
+    step_lines = step_lines t;
+    ascend = in_order_ascend t.found t.cands t.order t.sought.search.cands.apart;
+    candidates = candidates t;
+    ends = end_is (predecessors t.c t.choice t.present (t.stored ∷ [])) t.k t.b (assumed_by t) t.sought.middle t.sought.search.logged.lines (length t.found) t.cands t.end
+        (length_permutation t.found t.cands t.order.same) t.sought.search.ended (whole t);
+    blocks =
+        ap (λ (e : Encoded). are_right_blocks (blocks_due (next_guard t.old.book.problem) (block_for e) t.cands) (blocks_in (reverse (lines_by t)))) (sym t.about.encoding)
+        ∙ right_blocks (blocks_due (next_guard t.old.book.problem) (block_for t.e) t.cands) (blocks_in (reverse (lines_by t))) (due_blocks t);
+    finish =
+        ap (λ (e : Encoded). is_right_finish t.b (assumptions_for e (next_guard t.old.book.problem) (asked t)) (reverse (lines_by t)) t.end (finishes_in (reverse (lines_by t)))) (sym t.about.encoding)
+        ∙ finish_is t.k t.b (assumed_by t) t.sought.middle t.sought.search.logged.lines (length t.found) t.end t.sought.search.logged.inner t.sought.search.ended;
+  };
+})
+
+-- ---- what the laws of the encoding give
+
+pub readable_by : (c : Circuit) (items : List (List ℕ)) (e : Encoded) → e ≡ encoding_of c items → IsTidy c items (encoding_of c items) → IsReadable e
+readable_by c items e is tidy = subst IsReadable (sym is) (record {
+  room = tidy.room;
+  assumptions_range = tidy.assumptions_range;
+  assumptions_distinct = tidy.assumptions_distinct;
+  states = tidy.states_range;
+  inputs = tidy.inputs_range;
+  block_range = tidy.block_range;
+  block_distinct = tidy.block_distinct;
+})
+
+pub next_width : (c : Circuit) (items : List (List ℕ)) (e : Encoded) → e ≡ encoding_of c items → IsTidy c items (encoding_of c items) → (n : ℕ) → n ≡ length c.flops → n ≡ length e.next
+next_width c items e is tidy n w = w ∙ (sym tidy.next_width ∙ ap (λ (e : Encoded). length e.next) (sym is))
+
+pub signature_width : (c : Circuit) (items : List (List ℕ)) (e : Encoded) → e ≡ encoding_of c items → IsTidy c items (encoding_of c items) → (n : ℕ) → n ≡ length items → n ≡ length e.signatures
+signature_width c items e is tidy n w = w ∙ (sym tidy.signatures_width ∙ ap (λ (e : Encoded). length e.signatures) (sym is))
+
+pub shown_by : (c : Circuit) (choice : Chosen) (e : Encoded) → e ≡ encoding_of c choice.items → PredecessorsAreShown c choice (encoding_of c choice.items) → PredecessorsAreShown c choice e
+shown_by c choice e is h = subst (λ (e : Encoded). PredecessorsAreShown c choice e) (sym is) h
+
+pub solutions_by : (c : Circuit) (choice : Chosen) (e : Encoded) → e ≡ encoding_of c choice.items → SolutionsArePredecessors c choice (encoding_of c choice.items) → SolutionsArePredecessors c choice e
+solutions_by c choice e is h = subst (λ (e : Encoded). SolutionsArePredecessors c choice e) (sym is) h
+
+pub accepted_by : (p : Problem) (h : History) (log : List Line) → history_of log ≡ h → IsAccepted p log → IsAccepted p (reverse h)
+accepted_by p h log e ok = subst (IsAccepted p) (sym (ap reverse (sym e) ∙ reverse-reverse log)) ok

@@ -1,0 +1,210 @@
+-- What a turn does.
+use Rattle.std.proofs.Common.{◌≡◌, ◌≢◌, ℕ, Bool, true, false, not, List, [], ◌∷◌, ◌++◌, map, refl, ap, subst, sym, ◌∙◌, append_assoc}
+use Rattle.std.specs.Prelude.{Contains, All, ◌||◌, Option}
+use Rattle.std.specs.List.{AllByRecursion as Each, list_any}
+use Rattle.std.specs.Bool.{beq}
+use Rattle.std.proofs.lemmas.Bool.{false≢true, true≢false}
+use Rattle.std.proofs.lemmas.List.Elements.{All-contains}
+use Rattle.bs_clause.specs.Literal.{Literal, Clause, negation, literal_value, Satisfies}
+use Rattle.bs_log.specs.declared.line.Line.{Line}
+use Rattle.bs_log.specs.declared.line.Line.TheVariants.{Solve, Lemma, Block, Finish, Retire, Delete}
+use Rattle.bs_log.specs.History.{Problem}
+use Rattle.bs_log.specs.Steps.{is_lemma_line}
+use Rattle.bs_solve.specs.declared.search.Answer.{Answer}
+use Rattle.bs_solve.specs.declared.search.Answer.TheVariants as answers
+use Rattle.bs_solve.specs.Book.{Book, standing}
+use Rattle.bs_solve.specs.Ending.{is_open_lemma}
+use Rattle.bs_solve.specs.Stages.{is_begun, begun_book}
+use Rattle.bs_solve.specs.Solver.{SolverState, HasSolved, HasBlocked, Follows}
+use Rattle.bs_solve.specs.Values.{value_of}
+use Rattle.bs_solve.proofs.Clauses.{all_from}
+use Rattle.bs_encode.specs.Encoded.{Encoded}
+use Rattle.bs_encode.specs.Assuming.{signed, block_for}
+use Rattle.bs_report.specs.declared.report.Cand.{Cand}
+use Rattle.bs_preimage.specs.declared.turn.Turn.{Turn}
+use Rattle.bs_preimage.specs.declared.turn.Turn.TheVariants.{Listed, Refuted, Spent}
+use Rattle.bs_preimage.specs.Turn.{Extends, Keeps, HasSearched, MayTurn, TurnsTo, HasShown, HasShownCand, HasListedOne, bits_on, block_in, guard_in, steps_after}
+use Rattle.bs_preimage.proofs.StandingLemmas.{lemmas_keep}
+
+-- ---- the book as a search begins
+
+begun_history : (t : Bool) (b : Book) (a : Clause) → (begun_book t b a).history ≡ Solve ∷ b.history
+begun_history true b a = refl
+begun_history false b a = refl
+
+begun_vars : (t : Bool) (b : Book) (a : Clause) → (begun_book t b a).problem.vars ≡ b.problem.vars
+begun_vars true b a = refl
+begun_vars false b a = refl
+
+begun_clauses : (t : Bool) (b : Book) (a : Clause) → (begun_book t b a).problem.clauses ≡ b.problem.clauses
+begun_clauses true b a = refl
+begun_clauses false b a = refl
+
+begun_steps : (t : Bool) (b : Book) (a : Clause) → (begun_book t b a).problem.steps ≡ steps_after t b.problem.steps a
+begun_steps true b a = refl
+begun_steps false b a = refl
+
+-- ---- the lemmas of a search
+
+open_is_lemma : (a : Clause) (line : Line) → is_open_lemma a line ≡ true → is_lemma_line line ≡ true
+open_is_lemma a (Lemma id lits hints) e = refl
+open_is_lemma a Solve e = e
+open_is_lemma a (Block id lits) e = e
+open_is_lemma a (Finish id) e = e
+open_is_lemma a (Retire id) e = e
+open_is_lemma a (Delete ids) e = e
+
+open_are_lemmas : (a : Clause) (lines : List Line) → Each (λ line. is_open_lemma a line ≡ true) lines → Each (λ line. is_lemma_line line ≡ true) lines
+open_are_lemmas a [] all = tt
+open_are_lemmas a (line ∷ lines) all = (open_is_lemma a line all.0, open_are_lemmas a lines all.1)
+
+-- a book that goes on from another by lemmas keeps what stood
+keeps_by : (from to : Book) (lines : List Line) → to.problem ≡ from.problem → to.history ≡ lines ++ from.history → Each (λ line. is_lemma_line line ≡ true) lines → Keeps from to
+keeps_by from to lines p h all c there =
+    let same : to ≡ record { problem = from.problem; history = lines ++ from.history } = λ i. record { problem = p i; history = h i } in
+    subst (λ (b : Book). Contains (standing b) c) (sym same) (lemmas_keep from.problem lines from.history all c there)
+
+searched_by : (old new : SolverState) (a : Clause) (limit : ℕ) (answer : Answer) → HasSolved old new a limit answer → (lines : List Line) →
+    new.book.problem ≡ (begun_book (is_begun old.stage) old.book a).problem → new.book.history ≡ lines ++ (begun_book (is_begun old.stage) old.book a).history →
+    Each (λ line. is_lemma_line line ≡ true) lines → HasSearched old new a lines
+searched_by old new a limit answer s lines p h all =
+    let t : Bool = is_begun old.stage in
+    record {
+      was_well = s.was_well;
+      well = s.well;
+      vars = ap (λ (p : Problem). p.vars) p ∙ begun_vars t old.book a;
+      clauses = ap (λ (p : Problem). p.clauses) p ∙ begun_clauses t old.book a;
+      steps = ap (λ (p : Problem). p.steps) p ∙ begun_steps t old.book a;
+      history = h ∙ ap (λ (h : List Line). lines ++ h) (begun_history t old.book a);
+      are_lemmas = all;
+      stand = λ c there. keeps_by (begun_book t old.book a) new.book lines p h all c (subst (λ (cs : List Clause). Contains cs c) (sym s.stands) there);
+      assumed_is = s.step;
+      guards = s.vars;
+    }
+
+-- ---- extensions
+
+pub follows_extends : (old new : Book) (a : Clause) → Follows old new a → Extends old new
+follows_extends old new a f = record { vars = f.vars; clauses = f.clauses; more = f.lines; history = f.history }
+
+pub extends_same : (old new : Book) → new ≡ old → Extends old new
+extends_same old new e =
+    record {
+      vars = ap (λ (b : Book). b.problem.vars) e;
+      clauses = ap (λ (b : Book). b.problem.clauses) e;
+      more = [];
+      history = ap (λ (b : Book). b.history) e;
+    }
+
+pub extends_line : (old new : Book) (line : Line) → new ≡ record { problem = old.problem; history = line ∷ old.history } → Extends old new
+extends_line old new line e =
+    record {
+      vars = ap (λ (b : Book). b.problem.vars) e;
+      clauses = ap (λ (b : Book). b.problem.clauses) e;
+      more = line ∷ [];
+      history = ap (λ (b : Book). b.history) e;
+    }
+
+pub extends_trans : (a b c : Book) → Extends a b → Extends b c → Extends a c
+extends_trans a b c f g =
+    record {
+      vars = g.vars ∙ f.vars;
+      clauses = g.clauses ∙ f.clauses;
+      more = g.more ++ f.more;
+      history = g.history ∙ (ap (λ (h : List Line). g.more ++ h) f.history ∙ sym (append_assoc g.more f.more a.history));
+    }
+
+-- ---- what a solution shows
+
+not_same : (b : Bool) → beq b (not b) ≡ false
+not_same true = refl
+not_same false = refl
+
+-- no literal of a state's block is true where the state is shown
+block_is_false : (value : ℕ → Bool) (ls : List Literal) → list_any (literal_value value) (signed ls (map not (bits_on value ls))) ≡ false
+block_is_false value [] = refl
+block_is_false value (l ∷ ls) =
+    ap (λ (b : Bool). b || list_any (literal_value value) (signed ls (map not (bits_on value ls)))) (not_same (value l.variable)) ∙ block_is_false value ls
+
+negation_is_false : (value : ℕ → Bool) (l : Literal) → literal_value value l ≡ true → literal_value value (negation l) ≡ false
+negation_is_false value l e = by (value l.variable) l.positive e
+  where
+    by : (b c : Bool) → beq b c ≡ true → beq b (not c) ≡ false
+    by true true e = refl
+    by false false e = refl
+    by true false e = absurd (false≢true e)
+    by false true e = absurd (false≢true e)
+
+both_false : (a b : Bool) → a ≡ false → b ≡ false → (a || b) ≡ false
+both_false a b e f = ap (λ (z : Bool). z || b) e ∙ f
+
+-- a state that is shown where the guard is true is not blocked
+shown_is_open : (value : ℕ → Bool) (e : Encoded) (guard : Literal) (s t : List Bool) → literal_value value guard ≡ true → s ≡ bits_on value e.states →
+    Satisfies value (negation guard ∷ block_for e t) → s ≢ t
+shown_is_open value e guard s t g shows meets same =
+    let is_false : list_any (literal_value value) (negation guard ∷ block_for e t) ≡ false =
+    both_false (literal_value value (negation guard)) (list_any (literal_value value) (block_for e t)) (negation_is_false value guard g)
+    (ap (λ (t : List Bool). list_any (literal_value value) (block_for e t)) (sym same ∙ shows) ∙ block_is_false value e.states) in
+    true≢false (sym meets ∙ is_false)
+
+found_shows : (e : Encoded) (a : Clause) (old middle new : SolverState) (limit : ℕ) (values : List (Option Bool)) (cand : Cand) → MayTurn e old a →
+    HasSolved old middle a limit (answers.Found values) → HasShownCand e values middle new cand → HasListedOne e a old new cand
+found_shows e a old middle new limit values cand may s shown =
+    let found = s.ends in
+    let lines : List Line = found.lemmas.lines in
+    let searched : HasSearched old middle a lines =
+    searched_by old middle a limit (answers.Found values) s lines found.lemmas.problem found.lemmas.history (open_are_lemmas _ lines found.lemmas.open_yet) in
+    let v : ℕ → Bool = value_of values in
+    let holds : All (λ l. literal_value v l ≡ true) a = subst (λ (c : Clause). All (λ l. literal_value v l ≡ true) c) s.step found.solution.assumptions_met in
+    record {
+      middle = middle;
+      lemmas = lines;
+      searched = searched;
+      id = shown.id;
+      blocked = shown.blocked;
+      shown = record {
+        value = v;
+        clauses = all_from (Satisfies v) e.clauses
+            (λ c there. All-contains (Satisfies v) (standing middle.book) c found.solution.clauses_met
+            (searched.stand c (may.stand c (subst (λ (cs : List Clause). Contains cs c) (sym may.clauses) there))));
+        holds = holds;
+        state = shown.state;
+        input = shown.input;
+      };
+      apart = λ t there.
+          shown_is_open v e (guard_in old.book) cand.state t (All-contains (λ l. literal_value v l ≡ true) a (guard_in old.book) holds may.guard) shown.state
+          (All-contains (Satisfies v) (standing middle.book) (block_in e old.book t) found.solution.clauses_met (searched.stand (block_in e old.book t) there));
+    }
+
+pub found_turn : (e : Encoded) (a : Clause) (old middle new : SolverState) (limit : ℕ) (values : List (Option Bool)) (turn : Turn) → MayTurn e old a →
+    HasSolved old middle a limit (answers.Found values) → HasShown e values middle new turn → TurnsTo e a limit old new turn
+found_turn e a old middle new limit values (Listed cand) may s shown = found_shows e a old middle new limit values cand may s shown
+found_turn e a old middle new limit values (Refuted id) may s shown = absurd shown
+found_turn e a old middle new limit values Spent may s shown = absurd shown
+
+pub refuted_turn : (e : Encoded) (a : Clause) (old new : SolverState) (limit id : ℕ) → HasSolved old new a limit (answers.Refuted id) → TurnsTo e a limit old new (Refuted id)
+refuted_turn e a old new limit id s =
+    let r = s.ends in
+    let lines : List Line = Lemma id r.last.lemma r.last.logged.hints ∷ r.before.lines in
+    record {
+      lemmas = lines;
+      searched = searched_by old new a limit (answers.Refuted id) s lines
+          (ap (λ (b : Book). b.problem) r.last.logged.book ∙ r.before.problem)
+          (ap (λ (b : Book). b.history) r.last.logged.book ∙ ap (λ (h : List Line). Lemma id r.last.lemma r.last.logged.hints ∷ h) r.before.history)
+          (refl, open_are_lemmas _ r.before.lines r.before.open_yet);
+      ended = s.stage;
+    }
+
+pub spent_turn : (e : Encoded) (a : Clause) (old new : SolverState) (limit : ℕ) → HasSolved old new a limit answers.Spent → TurnsTo e a limit old new Spent
+spent_turn e a old new limit s =
+    let lemmas = s.ends.lemmas in
+    record {
+      lemmas = lemmas.lines;
+      searched = searched_by old new a limit answers.Spent s lemmas.lines lemmas.problem lemmas.history (open_are_lemmas _ lemmas.lines lemmas.open_yet);
+      stopped = s.stage;
+      all = lemmas.length_is;
+      open_yet = subst (λ (c : Clause). Each (λ line. is_open_lemma c line ≡ true) lemmas.lines) s.assumed_is lemmas.open_yet;
+    }
+
+pub blocked_extends : (old new : SolverState) (lits : Clause) (id : ℕ) → HasBlocked old new lits id → Extends old.book new.book
+blocked_extends old new lits id b = extends_line old.book new.book (Block id (negation (guard_in old.book) ∷ lits)) b.book

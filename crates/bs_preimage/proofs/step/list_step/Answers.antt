@@ -1,0 +1,39 @@
+use Rattle.std.proofs.Common.{refl}
+use Rattle.bs_net.specs.Netlist.{circuit}
+use Rattle.bs_preimage.proofs.ListedLemmas.{readable_by, shown_by, solutions_by, accepted_by, made_step}
+use Rattle.bs_preimage.proofs.step.list_step.Goals as goal
+
+-- src/step.rt:109:15
+pub seek-requires-clause-readable : goal.seek-requires-clause-readable
+seek-requires-clause-readable c =
+    readable_by (circuit c.args.net.now) c.args.choice.now.items c.args.encoding.now c.requires.about.encoding c.encodings_are_tidy.ensures
+
+-- src/step.rt:89:1
+pub returns-in-Ok-clause-ok : goal.returns-in-Ok-clause-ok
+returns-in-Ok-clause-ok c =
+    made_step
+    (record {
+      c = circuit c.args.net.now;
+      choice = c.args.choice.now;
+      e = c.args.encoding.now;
+      old = c.args.solver.now;
+      new = c.seek.new.solver;
+      present = c.args.asked.now.present.now;
+      stored = c.args.asked.now.stored.now;
+      k = c.args.asked.now.k;
+      b = c.args.asked.now.b;
+      found = c.seek.new.found.items;
+      cands = c.in-Ok.cands;
+      end = c.in_ok-end.end;
+      about = c.requires.about;
+      rest = c.requires.rest;
+      state = c.requires.state;
+      signature = c.requires.signature;
+      sought = c.in_ok-end.ensures.ok;
+      order = c.in-Ok.ensures;
+      accepted = accepted_by c.seek.new.solver.book.problem c.seek.new.solver.book.history c.log-log.result.now c.log-log.ensures.lines
+          (c.log-log.ensures.accepted c.in_ok-end.ensures.ok.ended.well c.in_ok-end.ensures.ok.ended.stage);
+      shown = shown_by (circuit c.args.net.now) c.args.choice.now c.args.encoding.now c.requires.about.encoding c.predecessors_are_shown.ensures;
+      solutions = solutions_by (circuit c.args.net.now) c.args.choice.now c.args.encoding.now c.requires.about.encoding c.solutions_are_predecessors.ensures;
+    })
+    _ refl

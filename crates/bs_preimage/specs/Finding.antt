@@ -1,0 +1,69 @@
+-- The search for the candidates of a step: what it has found and logged.
+use Rattle.std.specs.Prelude.{◌≡◌, ◌⊎◌, ℕ, ◌<◌, Bool, true, false, List, [], ◌∷◌, ◌++◌, length, reverse, filter_map, All, Contains}
+use Rattle.std.specs.List.{AllByRecursion, IsDistinct}
+use Rattle.bs_bits.specs.Bits.{bits_eq}
+use Rattle.bs_clause.specs.Literal.{Clause}
+use Rattle.bs_log.specs.declared.line.Line.{Line}
+use Rattle.bs_log.specs.declared.line.Line.TheVariants.{Solve, Lemma, Block}
+use Rattle.bs_log.specs.Steps.{block_of_line, last_solve}
+use Rattle.bs_encode.specs.Encoded.{Encoded}
+use Rattle.bs_encode.specs.Assuming.{block_for}
+use Rattle.bs_report.specs.declared.report.Cand.{Cand}
+use Rattle.bs_report.specs.declared.report.ListEnd.{ListEnd}
+use Rattle.bs_report.specs.declared.report.ListEnd.TheVariants.{Finished, Candidates, Conflicts}
+use Rattle.bs_report.specs.Step.{listed}
+use Rattle.bs_report.specs.Valid.{blocks_due, is_spent}
+use Rattle.bs_solve.specs.declared.stage.Stage.TheVariants.{Blocked, Ended, Stopped}
+use Rattle.bs_solve.specs.Book.{standing}
+use Rattle.bs_solve.specs.Search.{assumed}
+use Rattle.bs_solve.specs.Solver.{SolverState}
+use Rattle.bs_preimage.specs.Turn.{IsShownIn, Keeps, guard_in, block_in}
+
+-- a line inside a step
+abbrev pub is_inner : Line → Bool
+is_inner Solve = true
+is_inner (Lemma id lits hints) = true
+is_inner (Block id lits) = true
+is_inner line = false
+
+-- the lines of a step so far, the newest first, with a block for each candidate found
+pub record HasLogged (e : Encoded) (start s : SolverState) (found : List Cand) : Type 0 where
+  pub guards : s.vars ≡ start.vars
+  pub vars : s.book.problem.vars ≡ start.book.problem.vars
+  pub clauses : s.book.problem.clauses ≡ start.book.problem.clauses
+  pub lines : List Line
+  pub history : s.book.history ≡ lines ++ start.book.history
+  pub inner : AllByRecursion (λ line. is_inner line ≡ true) lines
+  pub blocks : filter_map block_of_line lines ≡ blocks_due (guard_in start.book) (block_for e) (reverse found)
+  pub stand : Keeps start.book s.book
+
+-- the candidates found are shown, and no two are the same
+pub record AreFound (e : Encoded) (assumptions : Clause) (found : List Cand) : Type 0 where
+  pub shown : All (IsShownIn e assumptions) found
+  pub apart : IsDistinct bits_eq (listed found)
+
+-- each state that was found is blocked, and the assumptions are those of the step
+pub record IsAgain (e : Encoded) (assumptions : Clause) (start s : SolverState) : Type 0 where
+  pub stage : s.stage ≡ Blocked
+  pub steps : s.book.problem.steps ≡ start.book.problem.steps ++ assumptions ∷ []
+  pub assumed_is : assumed s.book ≡ assumptions
+
+-- the step has begun and nothing was found, or the last candidate was blocked
+pub record IsUnderWay (e : Encoded) (assumptions : Clause) (start s : SolverState) (found : List Cand) : Type 0 where
+  pub logged : HasLogged e start s found
+  pub cands : AreFound e assumptions found
+  pub blocked : All (λ cand. Contains (standing s.book) (block_in e start.book cand.state)) found
+  pub stage : ((s ≡ start) × (found ≡ [])) ⊎ IsAgain e assumptions start s
+
+-- the last solve of the lines, the newest first, logged the whole limit of lemmas, none of which ends the step
+abbrev pub EndedBy : ℕ → ℕ → Clause → SolverState → List Line → ℕ → ListEnd → Type 0
+EndedBy k limit assumptions s lines count (Finished id) = (s.stage ≡ Ended id) × (count < k)
+EndedBy k limit assumptions s lines count Candidates = (s.stage ≡ Blocked) × (count ≡ k)
+EndedBy k limit assumptions s lines count Conflicts =
+    (s.stage ≡ Stopped) × (count < k) × (is_spent limit assumptions (last_solve (reverse lines)) ≡ true)
+
+pub record HasEndedSearch (e : Encoded) (assumptions : Clause) (k limit : ℕ) (start s : SolverState) (found : List Cand) (end : ListEnd) : Type 0 where
+  pub logged : HasLogged e start s found
+  pub cands : AreFound e assumptions found
+  pub steps : s.book.problem.steps ≡ start.book.problem.steps ++ assumptions ∷ []
+  pub ended : EndedBy k limit assumptions s logged.lines (length found) end

@@ -1,0 +1,9 @@
+-- what public contracts rest on
+pub mod Preimage
+pub mod Listed
+-- what inner functions promise each other
+pub mod Rest
+pub mod Turn
+pub mod Finding
+pub mod Step
+pub mod Order

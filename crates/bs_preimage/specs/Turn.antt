@@ -1,0 +1,140 @@
+-- A turn of a search for candidates: one solve, and what comes of it.
+use Rattle.std.specs.Prelude.{◌≡◌, ◌≢◌, ℕ, ◌+◌, ◌^◌, ◌<◌, ◌≤◌, Bool, true, false, cond, List, [], ◌∷◌, ◌++◌, length, map, Option, All, Contains}
+use Rattle.std.specs.List.{AllByRecursion}
+use Rattle.bs_clause.specs.Literal.{Literal, Clause, negation, literal_value, Satisfies}
+use Rattle.bs_log.specs.declared.line.Line.{Line}
+use Rattle.bs_log.specs.declared.line.Line.TheVariants.{Solve}
+use Rattle.bs_log.specs.History.{step_of, guard_of}
+use Rattle.bs_log.specs.Refusal.{has_distinct_variables}
+use Rattle.bs_log.specs.Steps.{is_lemma_line}
+use Rattle.bs_encode.specs.Encoded.{Encoded}
+use Rattle.bs_encode.specs.Assuming.{block_for, assumptions_for}
+use Rattle.bs_scan.specs.Present.{Present}
+use Rattle.bs_report.specs.declared.report.Cand.{Cand}
+use Rattle.bs_solve.specs.declared.stage.Stage.TheVariants.{Ended, Stopped}
+use Rattle.bs_solve.specs.Book.{Book, standing}
+use Rattle.bs_solve.specs.Search.{assumed}
+use Rattle.bs_solve.specs.Ending.{is_open_lemma}
+use Rattle.bs_solve.specs.Stages.{is_begun}
+use Rattle.bs_solve.specs.Solver.{SolverState, MaySolve, HasBlocked}
+use Rattle.bs_solve.specs.Scan.{HasVariables}
+use Rattle.bs_solve.specs.Values.{value_of}
+use Rattle.bs_preimage.specs.declared.turn.Turn.{Turn}
+use Rattle.bs_preimage.specs.declared.turn.Turn.TheVariants.{Listed, Refuted, Spent}
+use Rattle.bs_preimage.specs.Rest.{AxiomsStand}
+
+-- ---- what an assignment shows
+
+-- the bits that it gives to the variables of some literals
+abbrev pub bits_on : (ℕ → Bool) → List Literal → List Bool
+bits_on value literals = map (λ l. value l.variable) literals
+
+-- some assignment meets the clauses and the assumptions, and shows this state and this input
+pub record IsShownIn (e : Encoded) (assumptions : Clause) (cand : Cand) : Type 0 where
+  pub value : ℕ → Bool
+  pub clauses : All (Satisfies value) e.clauses
+  pub holds : All (λ l. literal_value value l ≡ true) assumptions
+  pub state : cand.state ≡ bits_on value e.states
+  pub input : cand.input ≡ bits_on value e.inputs
+
+-- ---- the book
+
+-- further lines were logged, about the same clauses
+pub record Extends (old new : Book) : Type 0 where
+  pub vars : new.problem.vars ≡ old.problem.vars
+  pub clauses : new.problem.clauses ≡ old.problem.clauses
+  pub more : List Line
+  pub history : new.history ≡ more ++ old.history
+
+-- what stood still stands
+abbrev pub Keeps : Book → Book → Type 0
+Keeps old new = (c : Clause) → Contains (standing old) c → Contains (standing new) c
+
+-- the guard of the step under way
+abbrev pub guard_in : Book → Literal
+guard_in b = guard_of b.problem (step_of b.history)
+
+-- what keeps a state from being found again in the step under way
+abbrev pub block_in : Encoded → Book → List Bool → Clause
+block_in e b state = negation (guard_in b) ∷ block_for e state
+
+-- the steps after a solve: the first solve of a step brings its assumptions
+abbrev pub steps_after : Bool → List Clause → Clause → List Clause
+steps_after first steps assumptions = cond first (steps ++ assumptions ∷ []) steps
+
+-- the line of a solve was logged, and then these lemmas
+pub record HasSearched (old new : SolverState) (assumptions : Clause) (lemmas : List Line) : Type 0 where
+  pub was_well : old.failed ≡ false
+  pub well : new.failed ≡ false
+  pub vars : new.book.problem.vars ≡ old.book.problem.vars
+  pub clauses : new.book.problem.clauses ≡ old.book.problem.clauses
+  pub steps : new.book.problem.steps ≡ steps_after (is_begun old.stage) old.book.problem.steps assumptions
+  pub history : new.book.history ≡ lemmas ++ Solve ∷ old.book.history
+  pub are_lemmas : AllByRecursion (λ line. is_lemma_line line ≡ true) lemmas
+  pub stand : Keeps old.book new.book
+  pub assumed_is : assumed new.book ≡ assumptions
+  pub guards : new.vars ≡ old.vars
+
+-- ---- a turn
+
+-- there is room for the guards of 65,536 steps; state, inputs and blocks are over the encoding's variables, and what a step
+-- assumes also over its guard; and no variable stands twice in a block or in what a step assumes
+pub record IsReadable (e : Encoded) : Type 0 where
+  pub room : e.variables + 65536 < 2 ^ 30
+  pub assumptions_range : (guard : Literal) (q : Present) → e.variables < guard.variable → HasVariables guard.variable (assumptions_for e guard q)
+  pub assumptions_distinct : (guard : Literal) (q : Present) → e.variables < guard.variable → has_distinct_variables (assumptions_for e guard q) ≡ true
+  pub states : HasVariables e.variables e.states
+  pub inputs : HasVariables e.variables e.inputs
+  pub block_range : (state : List Bool) → HasVariables e.variables (block_for e state)
+  pub block_distinct : (state : List Bool) → has_distinct_variables (block_for e state) ≡ true
+
+-- the step is under way, and the solver may search
+pub record MayTurn (e : Encoded) (s : SolverState) (assumptions : Clause) : Type 0 where
+  pub may : MaySolve s assumptions
+  pub range : HasVariables s.vars assumptions
+  pub distinct : has_distinct_variables assumptions ≡ true
+  pub guard : Contains assumptions (guard_in s.book)
+  pub vars : s.book.problem.vars ≡ e.variables
+  pub guards : e.variables ≤ s.vars
+  pub clauses : s.book.problem.clauses ≡ e.clauses
+  pub stand : AxiomsStand s.book
+
+-- the candidate is the one that the values show, and its state is blocked
+pub record HasShownCand (e : Encoded) (values : List (Option Bool)) (old new : SolverState) (cand : Cand) : Type 0 where
+  pub state : cand.state ≡ bits_on (value_of values) e.states
+  pub input : cand.input ≡ bits_on (value_of values) e.inputs
+  pub id : ℕ
+  pub blocked : HasBlocked old new (block_for e cand.state) id
+
+abbrev pub HasShown : Encoded → List (Option Bool) → SolverState → SolverState → Turn → Type 0
+HasShown e values old new (Listed cand) = HasShownCand e values old new cand
+HasShown e values old new other = ⊥
+
+-- the solve found a candidate whose state was not blocked, and the state is now
+pub record HasListedOne (e : Encoded) (assumptions : Clause) (old new : SolverState) (cand : Cand) : Type 0 where
+  pub middle : SolverState
+  pub lemmas : List Line
+  pub searched : HasSearched old middle assumptions lemmas
+  pub id : ℕ
+  pub blocked : HasBlocked middle new (block_for e cand.state) id
+  pub shown : IsShownIn e assumptions cand
+  pub apart : (t : List Bool) → Contains (standing old.book) (block_in e old.book t) → cand.state ≢ t
+
+-- the last lemma of the solve ends the step
+pub record HasRefutedAll (assumptions : Clause) (old new : SolverState) (id : ℕ) : Type 0 where
+  pub lemmas : List Line
+  pub searched : HasSearched old new assumptions lemmas
+  pub ended : new.stage ≡ Ended id
+
+-- the solve logged its limit of lemmas, none of which ends the step
+pub record HasSpent (assumptions : Clause) (limit : ℕ) (old new : SolverState) : Type 0 where
+  pub lemmas : List Line
+  pub searched : HasSearched old new assumptions lemmas
+  pub stopped : new.stage ≡ Stopped
+  pub all : length lemmas ≡ limit
+  pub open_yet : AllByRecursion (λ line. is_open_lemma assumptions line ≡ true) lemmas
+
+abbrev pub TurnsTo : Encoded → Clause → ℕ → SolverState → SolverState → Turn → Type 0
+TurnsTo e assumptions limit old new (Listed cand) = HasListedOne e assumptions old new cand
+TurnsTo e assumptions limit old new (Refuted id) = HasRefutedAll assumptions old new id
+TurnsTo e assumptions limit old new Spent = HasSpent assumptions limit old new

@@ -1,0 +1,42 @@
+//! The search for the candidates of a step.
+ghost use Rattle.std.specs.Prelude.{◌≡◌, ◌≤◌, [], IfOk};
+ghost use Rattle.bs_preimage.specs.Turn.{IsReadable, MayTurn, Extends};
+ghost use Rattle.bs_solve.specs.declared.stage.Stage.TheVariants.{Begun};
+ghost use Rattle.bs_preimage.specs.Finding.{HasEndedSearch};
+
+use crate::turn::{Turn, take_turn};
+use bs_clause::{Lits, NoMemory};
+use bs_encode::Encoding;
+use bs_report::{Cand, ListEnd};
+use bs_solve::Solver;
+use std::alloc::Global;
+
+/// Finds candidates, each another state, until there is no further one, or `k` are found, or a solve has logged `b` lemmas.
+/// They come in the order in which they are found.
+pub(crate) fn find(
+    alloc: Global,
+    encoding: &Encoding,
+    solver: &mut Solver,
+    assumptions: &Lits,
+    found: &mut Vec<Cand>,
+    k: u64,
+    b: u64,
+) -> Result<ListEnd, NoMemory>
+    requires readable { IsReadable encoding.now }
+    requires may { MayTurn encoding.now solver.old assumptions.now }
+    requires begun { solver.old.stage ≡ Begun }
+    requires none { found.old.items ≡ [] }
+    requires candidates { 1 ≤ k }
+    requires conflicts { 1 ≤ b }
+    ensures ok { IfOk result (HasEndedSearch encoding.now assumptions.now k b solver.old solver.new found.new.items) }
+    ensures lines { Extends solver.old.book solver.new.book }
+{
+    'turns: while (found.len() as u64) < k {
+        match take_turn(alloc, encoding, solver, assumptions, b)? {
+            Turn::Listed(cand) => found.push(cand)?,
+            Turn::Refuted(id) => return Ok(ListEnd::Finished(id)),
+            Turn::Spent => return Ok(ListEnd::Conflicts),
+        }
+    }
+    Ok(ListEnd::Candidates)
+}

@@ -1,0 +1,157 @@
+//! Lists of candidates by one solver, whose log goes on from list to list.
+ghost use Rattle.std.specs.Prelude.{◌≡◌, ◌+◌, ◌^◌, ◌<◌, ◌≤◌, true, false, length, All, IfOk, IfErr};
+ghost use Rattle.bs_net.specs.Netlist.{circuit};
+ghost use Rattle.bs_log.specs.Refusal.{has_distinct_variables, history_of, NoneRefused, IsAccepted};
+ghost use Rattle.bs_log.specs.Lean.{LemmasAreLean};
+ghost use Rattle.bs_encode.specs.Encoded.{encoding_of};
+ghost use Rattle.bs_solve.specs.Scan.{HasVariables};
+ghost use Rattle.bs_preimage.specs.Preimage.{fresh, GoesOn};
+ghost use Rattle.bs_preimage.specs.Rest.{made};
+ghost use Rattle.bs_preimage.specs.Listed.{HasListed};
+
+use crate::listing::Listing;
+use crate::step::{Question, list_step};
+use bs_bits::{Bits, NoMemory};
+use bs_encode::{Encoding, encodings_are_tidy};
+use bs_log::Log;
+use bs_net::Netlist;
+use bs_scan::Choice;
+use bs_solve::Solver;
+use std::alloc::Global;
+use std::marker::Model;
+
+/// The encoding of a netlist and its signature.
+fn encode(alloc: Global, net: &Netlist, choice: &Choice) -> Result<Encoding, NoMemory>
+    requires { choice.now.width ≡ length (circuit net.now).flops }
+    ensures { IfOk result (λ e. e ≡ encoding_of (circuit net.now) choice.now.items) }
+{
+    match Encoding::new(alloc, net, choice) {
+        Ok(encoding) => Ok(encoding),
+        Err(_) => Err(NoMemory),
+    }
+}
+
+/// A solver over the clauses of an encoding.
+fn solver_of(alloc: Global, encoding: &Encoding) -> Result<Solver, NoMemory>
+    requires range { All (HasVariables encoding.now.variables) encoding.now.clauses }
+    requires distinct { All (λ c. has_distinct_variables c ≡ true) encoding.now.clauses }
+    requires vars { encoding.now.variables < 2 ^ 30 }
+    ensures { IfOk result (λ s. s ≡ made encoding.now) }
+{
+    match Solver::new(alloc, encoding.vars(), encoding.clauses()) {
+        Ok(solver) => Ok(solver),
+        Err(_) => Err(NoMemory),
+    }
+}
+
+/// What lists candidates. Contracts see its netlist's circuit, what the signature is taken of, what its log is about, the
+/// log's lines, the newest first, how many lists were asked for, and whether memory ran out.
+#[derive(Drop)]
+pub struct Preimage<'a> {
+    net: &'a Netlist,
+    choice: &'a Choice,
+    encoding: Encoding,
+    solver: Solver,
+    calls: u64,
+    failed: bool,
+}
+
+impl<'a> Model for Preimage<'a> {
+    ghost use Rattle.bs_net.specs.Netlist.{circuit};
+    ghost use Rattle.bs_preimage.specs.Preimage.{PreimageState};
+    ghost use Rattle.bs_preimage.specs.Rest.{IsPrepared};
+
+    ghost Value = { PreimageState };
+
+    ghost view = { λ p. record { circuit = circuit p.net.now; choice = p.choice.now; problem = p.solver.book.problem; history = p.solver.book.history; calls = p.calls; failed = p.failed } };
+
+    ghost invariant = { λ p. IsPrepared (circuit p.net.now) p.choice.now p.encoding p.solver p.calls p.failed };
+}
+
+impl<'a> Preimage<'a> {
+    /// What lists candidates in a netlist by a signature of its width.
+    pub fn new(
+        alloc: Global,
+        net: &'a Netlist,
+        choice: &'a Choice,
+    ) -> Result<Preimage<'a>, NoMemory>
+        requires { choice.now.width ≡ length (circuit net.now).flops }
+        ensures { IfOk result (λ p. p ≡ fresh (circuit net.now) choice.now) }
+    {
+        encodings_are_tidy(net, choice);
+        let encoding = encode(alloc, net, choice)?;
+        let solver = solver_of(alloc, &encoding)?;
+        Ok(Preimage {
+            net,
+            choice,
+            encoding,
+            solver,
+            calls: 0,
+            failed: false,
+        })
+    }
+
+    /// Lists the states with the stored signature that lead to the present one, each with an input under which it does: all
+    /// of them, or `k` of them, or those that are found until a solve has logged `b` lemmas.
+    pub fn list(
+        &mut self,
+        alloc: Global,
+        present: &Bits,
+        stored: &Bits,
+        k: u64,
+        b: u64,
+    ) -> Result<Listing, NoMemory>
+        requires state { length present.now ≡ length self.old.circuit.flops }
+        requires signature { length stored.now ≡ length self.old.choice.items }
+        requires candidates { 1 ≤ k }
+        requires conflicts { 1 ≤ b }
+        requires calls { self.old.calls < 65536 }
+        ensures ok { IfOk result (HasListed self.old self.new present.now stored.now k b) }
+        ensures err { IfErr result (λ _. self.new.failed ≡ true) }
+        ensures goes_on { GoesOn self.old self.new }
+        ensures calls { self.new.calls ≡ self.old.calls + 1 }
+    {
+        self.calls += 1;
+        if self.failed {
+            return Err(NoMemory);
+        }
+        self.failed = true;
+        let asked = Question {
+            present,
+            stored,
+            k,
+            b,
+        };
+        match list_step(
+            alloc,
+            self.net,
+            self.choice,
+            &self.encoding,
+            &mut self.solver,
+            &asked,
+        ) {
+            Ok(listing) => {
+                self.failed = false;
+                Ok(listing)
+            }
+            Err(_) => Err(NoMemory),
+        }
+    }
+
+    /// How many lists were asked for.
+    pub fn calls(&self) -> u64
+        ensures { result ≡ self.now.calls }
+    {
+        self.calls
+    }
+
+    /// The log. No line of it is refused, its lemmas are lean, and it is accepted while memory has not run out.
+    pub fn into_log(self) -> Log
+        ensures lines { history_of result ≡ self.entry.history }
+        ensures right { NoneRefused self.entry.problem (history_of result) }
+        ensures lean { LemmasAreLean self.entry.problem (history_of result) }
+        ensures accepted { self.entry.failed ≡ false → IsAccepted self.entry.problem result }
+    {
+        self.solver.into_log()
+    }
+}

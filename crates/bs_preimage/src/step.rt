@@ -1,0 +1,106 @@
+//! A step of the log: the list of candidates for one present state.
+ghost use Rattle.std.specs.Prelude.{◌≡◌, ◌≤◌, ◌<◌, [], false, length, IfOk};
+ghost use Rattle.bs_net.specs.Netlist.{circuit};
+ghost use Rattle.bs_preimage.specs.Rest.{IsAbout, IsAtRest};
+ghost use Rattle.bs_preimage.specs.Turn.{IsReadable, Extends};
+ghost use Rattle.bs_preimage.specs.Step.{ending_of, HasSought, HasMadeStep};
+
+use crate::finding::find;
+use crate::listing::Listing;
+use crate::order::ascending;
+use bs_bits::Bits;
+use bs_clause::NoMemory;
+use bs_encode::{Encoding, encodings_are_tidy, predecessors_are_shown, solutions_are_predecessors};
+use bs_net::Netlist;
+use bs_report::{Cand, ListEnd};
+use bs_scan::Choice;
+use bs_solve::Solver;
+use std::alloc::Global;
+
+/// What is asked: which states with the stored signature lead to the present one, at most `k` of them, with at most `b`
+/// lemmas in a solve.
+#[derive(Clone, Copy)]
+pub(crate) struct Question<'a> {
+    pub(crate) present: &'a Bits,
+    pub(crate) stored: &'a Bits,
+    pub(crate) k: u64,
+    pub(crate) b: u64,
+}
+
+/// The lemma that ends a list's step, if there is one.
+fn ending(end: ListEnd) -> Option<u64>
+    ensures { result ≡ ending_of end }
+{
+    match end {
+        ListEnd::Finished(id) => Some(id),
+        ListEnd::Candidates => None,
+        ListEnd::Conflicts => None,
+    }
+}
+
+/// Makes a step of the log, and finds the candidates of the question.
+fn seek(
+    alloc: Global,
+    encoding: &Encoding,
+    solver: &mut Solver,
+    asked: &Question<'_>,
+    found: &mut Vec<Cand>,
+) -> Result<ListEnd, NoMemory>
+    requires readable { IsReadable encoding.now }
+    requires vars { solver.old.book.problem.vars ≡ encoding.now.variables }
+    requires clauses { solver.old.book.problem.clauses ≡ encoding.now.clauses }
+    requires rest { IsAtRest solver.old }
+    requires few { length solver.old.book.problem.steps < 65536 }
+    requires state { length asked.now.present.now ≡ length encoding.now.next }
+    requires signature { length asked.now.stored.now ≡ length encoding.now.signatures }
+    requires candidates { 1 ≤ asked.now.k }
+    requires conflicts { 1 ≤ asked.now.b }
+    requires none { found.old.items ≡ [] }
+    ensures ok { IfOk result (HasSought encoding.now solver.old solver.new asked.now.present.now asked.now.stored.now asked.now.k asked.now.b found.new.items) }
+    ensures lines { Extends solver.old.book solver.new.book }
+{
+    let guard = solver.begin_step()?;
+    let assumptions = encoding.assumptions(alloc, guard, asked.present, asked.stored)?;
+    let end = find(
+        alloc,
+        encoding,
+        solver,
+        &assumptions,
+        found,
+        asked.k,
+        asked.b,
+    )?;
+    solver.end_step(alloc, ending(end))?;
+    Ok(end)
+}
+
+/// The list that answers a question, as a step of the log.
+pub(crate) fn list_step(
+    alloc: Global,
+    net: &Netlist,
+    choice: &Choice,
+    encoding: &Encoding,
+    solver: &mut Solver,
+    asked: &Question<'_>,
+) -> Result<Listing, NoMemory>
+    requires about { IsAbout (circuit net.now) choice.now encoding.now solver.old.book }
+    requires rest { IsAtRest solver.old }
+    requires few { length solver.old.book.problem.steps < 65536 }
+    requires state { length asked.now.present.now ≡ length (circuit net.now).flops }
+    requires signature { length asked.now.stored.now ≡ length choice.now.items }
+    requires candidates { 1 ≤ asked.now.k }
+    requires conflicts { 1 ≤ asked.now.b }
+    ensures ok { IfOk result (HasMadeStep (circuit net.now) choice.now solver.old solver.new asked.now.present.now asked.now.stored.now asked.now.k asked.now.b) }
+    ensures lines { Extends solver.old.book solver.new.book }
+{
+    encodings_are_tidy(net, choice);
+    predecessors_are_shown(net, choice);
+    solutions_are_predecessors(net, choice);
+    let mut found = Vec::new(alloc);
+    let end = seek(alloc, encoding, solver, asked, &mut found)?;
+    let _log = solver.log();
+    match ascending(alloc, found) {
+        Ok(cands) => Ok(Listing { cands, end }),
+        Err(_) => Err(NoMemory),
+    }
+}
