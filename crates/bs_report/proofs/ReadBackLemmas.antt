@@ -195,7 +195,7 @@ input_goes r x left b rest =
     (bits_line_again (codes "input") (codes "input " ++ bits_text x) x (words_of_bits (codes "input") x refl) refl))
 
 -- the moves of a trace, over its inputs and the states behind them
-abbrev moves_text : List (List Bool) → List (List Bool) → List ℕ
+abbrev pub moves_text : List (List Bool) → List (List Bool) → List ℕ
 moves_text [] ss = []
 moves_text (x ∷ xs) [] = []
 moves_text (x ∷ xs) (s ∷ ss) = (line (codes "input " ++ bits_text x) ++ state_text s) ++ moves_text xs ss
@@ -226,7 +226,7 @@ moves_go r (x ∷ xs) (s ∷ ss) rest e =
     fewer = omega arith
 
 -- the same by places
-range_moves : (r : Report) (xs ss : List (List Bool)) (a : ℕ) → ((i : ℕ) → get_or r.inputs (a + i) [] ≡ get_or xs i []) → ((i : ℕ) → get_or r.states (a + i + 1) [] ≡ get_or ss i []) → length ss ≡ length xs →
+pub range_moves : (r : Report) (xs ss : List (List Bool)) (a : ℕ) → ((i : ℕ) → get_or r.inputs (a + i) [] ≡ get_or xs i []) → ((i : ℕ) → get_or r.states (a + i + 1) [] ≡ get_or ss i []) → length ss ≡ length xs →
     flat_map (move_text r) (range_with_len a (length xs)) ≡ moves_text xs ss
 range_moves r [] ss a hx hs e = refl
 range_moves r (x ∷ xs) [] a hx hs e = absurd (omega (arith, e))
@@ -321,12 +321,12 @@ head_goes r rest h =
     stop_lacks stops.Candidates = (refl, (refl, (refl, (refl, (refl, (refl, (refl, (refl, (refl, (refl, (refl, (refl, (refl, (refl, (refl, tt)))))))))))))))
     stop_lacks stops.Conflicts = (refl, (refl, (refl, (refl, (refl, (refl, (refl, (refl, (refl, (refl, (refl, (refl, (refl, (refl, tt))))))))))))))
 
-record FirstState (r : Report) : Type 0 where
-  first : List Bool
-  others : List (List Bool)
-  states : r.states ≡ first ∷ others
+pub record FirstState (r : Report) : Type 0 where
+  pub first : List Bool
+  pub others : List (List Bool)
+  pub states : r.states ≡ first ∷ others
 
-first_state : (r : Report) → length r.states ≡ length r.inputs + 1 → FirstState r
+pub first_state : (r : Report) → length r.states ≡ length r.inputs + 1 → FirstState r
 first_state r e = by r.states refl e
   where
     by : (states : List (List Bool)) → r.states ≡ states → length states ≡ length r.inputs + 1 → FirstState r

@@ -6,7 +6,7 @@ use Rattle.std.proofs.lemmas.List.{take_more, append-nil, length-take-le}
 use Rattle.bs_report.specs.declared.report.Step.{Step}
 use Rattle.bs_report.specs.Text.{step_text, steps_text}
 
-steps_text_append : (n : ℕ) (steps : List Step) (step : Step) → steps_text n (steps ++ step ∷ []) ≡ steps_text n steps ++ step_text (n + length steps) step
+pub steps_text_append : (n : ℕ) (steps : List Step) (step : Step) → steps_text n (steps ++ step ∷ []) ≡ steps_text n steps ++ step_text (n + length steps) step
 steps_text_append n [] step =
     append-nil (step_text n step) ∙ ap (λ (k : ℕ). step_text k step) (let e : n ≡ n + 0 = omega arith in e)
 steps_text_append n (s ∷ ss) step =

@@ -1,4 +1,4 @@
--- The forms of a report's lines (docs/FORMATS.md, "The report").
+-- The forms of a report's lines (docs/FORMATS.md, "Report").
 use Rattle.std.specs.Prelude.{ℕ, ◌==◌, ◌^◌, nat_le, Bool, ◌&&◌, List, [], ◌∷◌, length, codes, Option, Some, None, option_map, if◌then◌else◌}
 use Rattle.std.specs.Str.{bytes_eq}
 use Rattle.bs_bits.specs.Lines.{onto_first, words_of, number_in}

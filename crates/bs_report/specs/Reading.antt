@@ -1,4 +1,4 @@
--- What report a text is, or the first fault of a text that is none (docs/FORMATS.md, "The report").
+-- What report a text is, or the first fault of a text that is none (docs/FORMATS.md, "Report").
 use Rattle.std.specs.Prelude.{◌≡◌, ◌⊎◌, ℕ, ◌+◌, ◌-◌, ◌==◌, Bool, true, false, List, [], ◌∷◌, ◌++◌, length, codes, Option, Some, None, option_map, Result, Ok, Err, MatchResult, if◌then◌else◌}
 use Rattle.std.specs.Str.{bytes_eq}
 use Rattle.bs_log.specs.LineReading.{line_in}

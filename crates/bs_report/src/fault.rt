@@ -5,7 +5,7 @@ use std::error::Error;
 use std::fmt::Display;
 use thiserror::Error;
 
-/// Why a text is no report (docs/FORMATS.md, "The report"). A line counts from 1.
+/// Why a text is no report (docs/FORMATS.md, "Report"). A line counts from 1.
 #[derive(Clone, Copy, Debug, PartialEq, Eq, Error)]
 pub enum ReportFault {
     #[error("line {0} is not of a form that its place allows")]

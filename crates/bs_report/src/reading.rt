@@ -46,7 +46,7 @@ fn read_lines(alloc: Global, bytes: &[u8]) -> Result<Report, ReportFault>
 }
 
 impl Report {
-    /// The report whose text this is, or why it is none (docs/FORMATS.md, "The report"). The widths of bit texts are not
+    /// The report whose text this is, or why it is none (docs/FORMATS.md, "Report"). The widths of bit texts are not
     /// looked at.
     pub fn read(alloc: Global, bytes: &[u8]) -> Result<Report, ReportFault>
         requires { length bytes.now ≤ 2 ^ 29 }

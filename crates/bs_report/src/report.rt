@@ -30,7 +30,7 @@ pub struct Cand {
 /// How a list of candidates ended.
 #[derive(Clone, Copy, Debug, PartialEq, Eq)]
 pub enum ListEnd {
-    /// There is no further candidate; the number is that of the lemma that refutes one, or 0 where no log is kept.
+    /// There is no further candidate; the number is that of the lemma that refutes one.
     Finished(u64),
     /// As many candidates are listed as were asked for.
     Candidates,

@@ -1,0 +1,583 @@
+-- What is read of a text has that text.
+use Rattle.std.proofs.Common.{◌≡◌, ℕ, suc, zero, ◌<◌, ◌≤◌, ◌+◌, ◌-◌, ◌^◌, Bool, true, false, cond, List, [], ◌∷◌, ◌++◌, length, get_or, refl, arith, ap, sym, subst, ◌∙◌, Option, Some, None, append_assoc}
+use Rattle.std.specs.Prelude.{◌==◌, codes, decimal, option_map, Result, Ok, Err, All}
+use Rattle.std.specs.List.{AllByRecursion as Each, flat_map, range_with_len}
+use Rattle.std.specs.Str.{bytes_eq}
+use Rattle.std.proofs.lemmas.Bool.{true≢false, false≢true, eqb-true, eqb-false}
+use Rattle.std.proofs.lemmas.List.{append-nil, length-append}
+use Rattle.std.proofs.lemmas.List.Elements.{recursion_from_All, All-from_recursion}
+use Rattle.bs_bits.specs.Text.{bits_text}
+use Rattle.bs_bits.specs.Lines.{line, onto_first}
+use Rattle.bs_log.specs.declared.line.Line.{Line}
+use Rattle.bs_log.specs.LineForms.{HasText}
+use Rattle.bs_log.specs.LineReading.{line_in}
+use Rattle.bs_log.specs.LineText.{line_text}
+use Rattle.bs_report.specs.declared.fault.ReportFault.{ReportFault}
+use Rattle.bs_report.specs.declared.fault.ReportFault.TheVariants.{Extra as extra, Short as short}
+use Rattle.bs_report.specs.declared.place.Place.{Place}
+use Rattle.bs_report.specs.declared.place.Place.TheVariants as places
+use Rattle.bs_report.specs.declared.report.Budgets.{Budgets}
+use Rattle.bs_report.specs.declared.report.Cand.{Cand}
+use Rattle.bs_report.specs.declared.report.HitLine.{HitLine}
+use Rattle.bs_report.specs.declared.report.ListEnd.{ListEnd}
+use Rattle.bs_report.specs.declared.report.Stop.{Stop}
+use Rattle.bs_report.specs.declared.report.Step.{Step}
+use Rattle.bs_report.specs.declared.report.Report.{Report}
+use Rattle.bs_report.specs.Forms.{pieces_of, count_in, bits_in, cand_in, end_in, hit_in, stop_in, budgets_in}
+use Rattle.bs_report.specs.Reading.{Reached, begins, turned, more_listed, with_step, behind_state, log_place, taken, is_done, followed, line_or_fault, onward, ended, report_from, nothing_read, report_in}
+use Rattle.bs_report.specs.Text.{cand_text, end_word, hit_text, step_text, steps_text, stop_word, state_text, move_text, trace_text, budgets_text, head_text, tail_text, report_text, HasEndText, HasHitText, HasStepText, HasReportText}
+use Rattle.bs_report.specs.ReadingLaw.{TextsAreReports}
+use Rattle.bs_report.proofs.TextLemmas.{steps_text_append}
+use Rattle.bs_report.proofs.ReadBackLemmas.{moves_text, range_moves, FirstState, first_state}
+use Rattle.bs_report.proofs.ReadingLemmas.{some_piece}
+use Rattle.bs_report.proofs.SpellingLemmas.{Bound, bound, unmap, branch, same_text, count_is, bits_line_is, AreBudgets, budgets_are, cand_is, end_is, hit_is, stop_is, log_line_is}
+
+-- ---- the text so far
+
+abbrev title : List ℕ
+title = line (codes "backspace 1")
+
+-- the lines up to the last whole step
+abbrev top : Report → List ℕ
+top r = title ++ (budgets_text r.budgets ++ steps_text 1 r.steps)
+
+abbrev step_line : Report → List ℕ
+step_line r = line (codes "step " ++ decimal (length r.steps + 1))
+
+abbrev present_line : List Bool → List ℕ
+present_line s = line (codes "present " ++ bits_text s)
+
+abbrev stored_line : List Bool → List ℕ
+stored_line s = line (codes "stored " ++ bits_text s)
+
+abbrev list_line : ListEnd → List ℕ
+list_line e = line (codes "list " ++ end_word e)
+
+abbrev trace_line : ℕ → List ℕ
+trace_line n = line (codes "trace " ++ decimal n)
+
+abbrev log_line : ℕ → List ℕ
+log_line n = line (codes "log " ++ decimal n)
+
+abbrev input_text : List Bool → List ℕ
+input_text x = line (codes "input " ++ bits_text x)
+
+abbrev lines_text : List Line → List ℕ
+lines_text log = flat_map (λ l. line (line_text l)) log
+
+-- states and inputs by turns
+abbrev woven : List (List Bool) → List (List Bool) → List ℕ
+woven [] xs = []
+woven (s ∷ ss) [] = state_text s ++ woven ss []
+woven (s ∷ ss) (x ∷ xs) = state_text s ++ (input_text x ++ woven ss xs)
+
+-- the budgets are in their ranges, and each step has a text
+record HasHead (r : Report) : Type 0 where
+  budgets : AreBudgets (codes "asked " ++ (decimal r.budgets.steps ++ (codes " candidates " ++ (decimal r.budgets.candidates ++ (codes " conflicts " ++ decimal r.budgets.conflicts))))) r.budgets
+  steps : Each HasStepText r.steps
+  few : length r.steps < 2 ^ 64
+
+-- nothing is read behind the head
+record NoTail (r : Report) : Type 0 where
+  states : r.states ≡ []
+  inputs : r.inputs ≡ []
+  log : r.log ≡ []
+
+record InStep (r : Report) : Type 0 where
+  head : HasHead r
+  tail : NoTail r
+  counted : length r.steps + 1 < 2 ^ 64
+
+record InTrace (r : Report) (n : ℕ) : Type 0 where
+  head : HasHead r
+  log : r.log ≡ []
+  small : n < 2 ^ 64
+
+record BehindTrace (r : Report) : Type 0 where
+  head : HasHead r
+  small : length r.inputs < 2 ^ 64
+  more : length r.states ≡ length r.inputs + 1
+
+-- what is read, and the text of it
+abbrev Fits : Place → Report → List ℕ → Type 0
+Fits places.Title r text = (r ≡ nothing_read) × (text ≡ [])
+Fits places.Asked r text = (r ≡ nothing_read) × (text ≡ title)
+Fits places.Turn r text = HasHead r × NoTail r × (text ≡ top r)
+Fits places.Present r text = InStep r × (text ≡ top r ++ step_line r)
+Fits (places.Stored p) r text = InStep r × (text ≡ top r ++ (step_line r ++ present_line p))
+Fits (places.Listing p s cands) r text = InStep r × (text ≡ top r ++ (step_line r ++ (present_line p ++ (stored_line s ++ flat_map cand_text cands))))
+Fits (places.Hit p s cands e) r text =
+    InStep r × HasEndText e × (text ≡ top r ++ (step_line r ++ (present_line p ++ (stored_line s ++ (flat_map cand_text cands ++ list_line e)))))
+Fits places.Trace r text = HasHead r × NoTail r × (text ≡ head_text r)
+Fits (places.State left) r text =
+    InTrace r (length r.inputs + left) × (length r.states ≡ length r.inputs) × (text ≡ head_text r ++ (trace_line (length r.inputs + left) ++ woven r.states r.inputs))
+Fits (places.Input left) r text =
+    InTrace r (length r.inputs + left) × (length r.states ≡ length r.inputs + 1) × (1 ≤ left) × (text ≡ head_text r ++ (trace_line (length r.inputs + left) ++ woven r.states r.inputs))
+Fits places.Log r text = BehindTrace r × (r.log ≡ []) × (text ≡ head_text r ++ (trace_line (length r.inputs) ++ woven r.states r.inputs))
+Fits (places.Lines left) r text =
+    BehindTrace r × Each HasText r.log × (length r.log + left < 2 ^ 64) × (1 ≤ left)
+    × (text ≡ head_text r ++ (trace_line (length r.inputs) ++ (woven r.states r.inputs ++ (log_line (length r.log + left) ++ lines_text r.log))))
+Fits places.End r text =
+    BehindTrace r × Each HasText r.log × (length r.log < 2 ^ 64)
+    × (text ≡ head_text r ++ (trace_line (length r.inputs) ++ (woven r.states r.inputs ++ (log_line (length r.log) ++ lines_text r.log))))
+Fits places.Done r text =
+    BehindTrace r × Each HasText r.log × (length r.log < 2 ^ 64)
+    × (text ≡ head_text r ++ (trace_line (length r.inputs) ++ (woven r.states r.inputs ++ (log_line (length r.log) ++ (lines_text r.log ++ line (codes "end"))))))
+
+-- ---- pieces behind others
+
+two : (t p q a : List ℕ) → t ≡ p ++ q → t ++ a ≡ p ++ (q ++ a)
+two t p q a e = ap (λ t. t ++ a) e ∙ append_assoc p q a
+
+three : (t p q r a : List ℕ) → t ≡ p ++ (q ++ r) → t ++ a ≡ p ++ (q ++ (r ++ a))
+three t p q r a e = two t p (q ++ r) a e ∙ ap (λ x. p ++ x) (append_assoc q r a)
+
+four : (t p q r s a : List ℕ) → t ≡ p ++ (q ++ (r ++ s)) → t ++ a ≡ p ++ (q ++ (r ++ (s ++ a)))
+four t p q r s a e = three t p q (r ++ s) a e ∙ ap (λ x. p ++ (q ++ x)) (append_assoc r s a)
+
+five : (t p q r s u a : List ℕ) → t ≡ p ++ (q ++ (r ++ (s ++ u))) → t ++ a ≡ p ++ (q ++ (r ++ (s ++ (u ++ a))))
+five t p q r s u a e = four t p q r (s ++ u) a e ∙ ap (λ x. p ++ (q ++ (r ++ x))) (append_assoc s u a)
+
+six : (t p q r s u v a : List ℕ) → t ≡ p ++ (q ++ (r ++ (s ++ (u ++ v)))) → t ++ a ≡ p ++ (q ++ (r ++ (s ++ (u ++ (v ++ a)))))
+six t p q r s u v a e = five t p q r s (u ++ v) a e ∙ ap (λ x. p ++ (q ++ (r ++ (s ++ x)))) (append_assoc u v a)
+
+flat_more : {X : Type 0} (f : X → List ℕ) (xs : List X) (x : X) → flat_map f (xs ++ x ∷ []) ≡ flat_map f xs ++ f x
+flat_more f [] x = append-nil (f x)
+flat_more f (y ∷ ys) x = ap (λ t. f y ++ t) (flat_more f ys x) ∙ sym (append_assoc (f y) (flat_map f ys) (f x))
+
+each_more : {X : Type 0} (P : X → Type 0) (xs : List X) (x : X) → Each P xs → P x → Each P (xs ++ x ∷ [])
+each_more P [] x h p = (p, tt)
+each_more P (y ∷ ys) x h p = (h.0, each_more P ys x h.1 p)
+
+state_more : (ss xs : List (List Bool)) (s : List Bool) → length ss ≡ length xs → woven (ss ++ s ∷ []) xs ≡ woven ss xs ++ state_text s
+state_more [] [] s e = append-nil (state_text s)
+state_more [] (x ∷ xs) s e = absurd (omega (arith, e))
+state_more (t ∷ ss) [] s e = absurd (omega (arith, e))
+state_more (t ∷ ss) (x ∷ xs) s e =
+    ap (λ r. state_text t ++ (input_text x ++ r)) (state_more ss xs s (omega (arith, e)))
+    ∙ sym (three (woven (t ∷ ss) (x ∷ xs)) (state_text t) (input_text x) (woven ss xs) (state_text s) refl)
+
+input_more : (ss xs : List (List Bool)) (x : List Bool) → length ss ≡ length xs + 1 → woven ss (xs ++ x ∷ []) ≡ woven ss xs ++ input_text x
+input_more [] xs x e = absurd (omega (arith, e))
+input_more (s ∷ []) [] x e = ap (λ r. state_text s ++ r) (append-nil (input_text x)) ∙ ap (λ r. r ++ input_text x) (sym (append-nil (state_text s)))
+input_more (s ∷ t ∷ ss) [] x e = absurd (omega (arith, e))
+input_more (s ∷ ss) (y ∷ xs) x e =
+    ap (λ r. state_text s ++ (input_text y ++ r)) (input_more ss xs x (omega (arith, e)))
+    ∙ sym (three (woven (s ∷ ss) (y ∷ xs)) (state_text s) (input_text y) (woven ss xs) (input_text x) refl)
+
+-- the trace by turns is the trace by places
+woven_moves : (s : List Bool) (ss xs : List (List Bool)) → length ss ≡ length xs → woven (s ∷ ss) xs ≡ state_text s ++ moves_text xs ss
+woven_moves s [] [] e = refl
+woven_moves s [] (x ∷ xs) e = absurd (omega (arith, e))
+woven_moves s (t ∷ ss) [] e = absurd (omega (arith, e))
+woven_moves s (t ∷ ss) (x ∷ xs) e =
+    ap (λ r. state_text s ++ r) (ap (λ r. input_text x ++ r) (woven_moves t ss xs (omega (arith, e))) ∙ sym (append_assoc (input_text x) (state_text t) (moves_text xs ss)))
+
+trace_is_woven : (r : Report) → length r.states ≡ length r.inputs + 1 → trace_text r ≡ trace_line (length r.inputs) ++ woven r.states r.inputs
+trace_is_woven r e =
+    let f = first_state r e in
+    let long : length f.others ≡ length r.inputs = omega (arith, e, ap length f.states) in
+    let begin : get_or r.states 0 [] ≡ f.first = ap (λ (ss : List (List Bool)). get_or ss 0 []) f.states in
+    let moves : flat_map (move_text r) (range_with_len 0 (length r.inputs)) ≡ moves_text r.inputs f.others =
+    range_moves r r.inputs f.others 0 (λ i. let same : 0 + i ≡ i = omega arith in ap (λ (k : ℕ). get_or r.inputs k []) same)
+    (λ i. let same : 0 + i + 1 ≡ suc i = omega arith in ap (λ (k : ℕ). get_or r.states k []) same ∙ ap (λ (ss : List (List Bool)). get_or ss (suc i) []) f.states) long in
+    ap (λ (s : List Bool). trace_line (length r.inputs) ++ (state_text s ++ flat_map (move_text r) (range_with_len 0 (length r.inputs)))) begin
+    ∙ (ap (λ (t : List ℕ). trace_line (length r.inputs) ++ (state_text f.first ++ t)) moves
+    ∙ ap (λ (t : List ℕ). trace_line (length r.inputs) ++ t) (sym (woven_moves f.first f.others r.inputs long) ∙ ap (λ (ss : List (List Bool)). woven ss r.inputs) (sym f.states)))
+
+-- ---- a line at each place
+
+-- what fits behind a line
+abbrev Next : Reached → List ℕ → List ℕ → Type 0
+Next reached text a = Fits reached.0 reached.1 (text ++ line a)
+
+if_so : (b : Bool) (x y : Reached) → cond {A = Option Reached} b (Some x) None ≡ Some y → (b ≡ true) × (x ≡ y)
+if_so true x y e = (refl, cc)
+if_so false x y e = cc
+
+at_title : (r : Report) (text a : List ℕ) (y : Reached) → Fits places.Title r text → taken places.Title r a ≡ Some y → Next y text a
+at_title r text a y h e =
+    let z = if_so (bytes_eq a (codes "backspace 1")) (places.Asked, r) y e in
+    subst (λ (y : Reached). Next y text a) z.1 (h.0, ap (λ t. t ++ line a) h.1 ∙ ap line (same_text a (codes "backspace 1") z.0))
+
+at_asked : (r : Report) (text a : List ℕ) (y : Reached) → Fits places.Asked r text → taken places.Asked r a ≡ Some y → Next y text a
+at_asked r text a y h e =
+    let m = unmap (λ (budgets : Budgets). (places.Turn, record r { budgets = budgets })) (budgets_in a) y e in
+    let gives : Some (places.Turn, record r { budgets = m.value }) ≡ Some y = m.gives in
+    let same : (places.Turn, record r { budgets = m.value }) ≡ y = cc in
+    let b = budgets_are a m.value m.is in
+    let none : r ≡ nothing_read = h.0 in
+    let is_text : text ++ line a ≡ title ++ (budgets_text m.value ++ []) =
+    ap (λ t. t ++ line a) h.1 ∙ (ap (λ t. title ++ line t) b.spells ∙ ap (λ t. title ++ t) (sym (append-nil (budgets_text m.value)))) in
+    subst (λ (y : Reached). Next y text a) same
+    (subst (λ (q : Report). HasHead (record q { budgets = m.value }) × NoTail (record q { budgets = m.value }) × (text ++ line a ≡ top (record q { budgets = m.value }))) (sym none)
+    ((
+      record {
+        budgets = record {
+          spells = refl;
+          some_steps = b.some_steps;
+          max_steps = b.max_steps;
+          some_candidates = b.some_candidates;
+          max_candidates = b.max_candidates;
+          some_conflicts = b.some_conflicts;
+          max_conflicts = b.max_conflicts;
+        };
+        steps = tt;
+        few = omega arith;
+      },
+      record { states = refl; inputs = refl; log = refl },
+      is_text,
+    )))
+
+begins_is : (number : ℕ) (o : Option ℕ) → begins number o ≡ true → o ≡ Some number
+begins_is number None e = absurd (false≢true e)
+begins_is number (Some n) e = ap Some (eqb-true n number e)
+
+at_turn : (r : Report) (text a : List ℕ) (y : Reached) → Fits places.Turn r text → taken places.Turn r a ≡ Some y → Next y text a
+unfolding head_text
+at_turn r text a y h e = by (stop_in a) refl e
+  where
+    by : (o : Option Stop) → stop_in a ≡ o → turned r a o ≡ Some y → Next y text a
+    by None s e =
+        let z = if_so (begins (length r.steps + 1) (count_in (codes "step") a)) (places.Present, r) y e in
+        let c = count_is (codes "step") a (length r.steps + 1) (begins_is (length r.steps + 1) (count_in (codes "step") a) z.0) in
+        subst (λ (y : Reached). Next y text a) z.1 (record { head = h.0; tail = h.1; counted = c.1 }, ap (λ t. t ++ line a) h.2 ∙ ap (λ t. top r ++ line t) c.0)
+    by (Some stop) s e =
+        let same : (places.Trace, record r { stop = stop }) ≡ y = cc in
+        let spells : a ≡ codes "stop " ++ stop_word stop = stop_is a stop s in
+        let is_text : text ++ line a ≡ head_text (record r { stop = stop }) =
+        three text title (budgets_text r.budgets) (steps_text 1 r.steps) (line a) h.2 ∙ ap (λ t. title ++ (budgets_text r.budgets ++ (steps_text 1 r.steps ++ line t))) spells in
+        subst (λ (y : Reached). Next y text a) same
+        (record { budgets = h.0.budgets; steps = h.0.steps; few = h.0.few }, record { states = h.1.states; inputs = h.1.inputs; log = h.1.log }, is_text)
+
+at_present : (r : Report) (text a : List ℕ) (y : Reached) → Fits places.Present r text → taken places.Present r a ≡ Some y → Next y text a
+at_present r text a y h e =
+    let m = unmap (λ (place : Place). (place, r)) (option_map (λ (s : List Bool). places.Stored s) (bits_in (codes "present") a)) y e in
+    let k = unmap (λ (s : List Bool). places.Stored s) (bits_in (codes "present") a) m.value m.is in
+    let gives : Some (m.value, r) ≡ Some y = m.gives in
+    let gives_place : Some (places.Stored k.value) ≡ Some m.value = k.gives in
+    let place : places.Stored k.value ≡ m.value = cc in
+    let reached : (m.value, r) ≡ y = cc in
+    let same : (places.Stored k.value, r) ≡ y = ap (λ (p : Place). (p, r)) place ∙ reached in
+    subst (λ (y : Reached). Next y text a) same
+    (h.0, two text (top r) (step_line r) (line a) h.1 ∙ ap (λ t. top r ++ (step_line r ++ line t)) (bits_line_is (codes "present") a k.value k.is))
+
+at_stored : (p : List Bool) (r : Report) (text a : List ℕ) (y : Reached) → Fits (places.Stored p) r text → taken (places.Stored p) r a ≡ Some y → Next y text a
+at_stored p r text a y h e =
+    let m = unmap (λ (place : Place). (place, r)) (option_map (λ (s : List Bool). places.Listing p s []) (bits_in (codes "stored") a)) y e in
+    let k = unmap (λ (s : List Bool). places.Listing p s []) (bits_in (codes "stored") a) m.value m.is in
+    let gives : Some (m.value, r) ≡ Some y = m.gives in
+    let gives_place : Some (places.Listing p k.value []) ≡ Some m.value = k.gives in
+    let place : places.Listing p k.value [] ≡ m.value = cc in
+    let reached : (m.value, r) ≡ y = cc in
+    let same : (places.Listing p k.value [], r) ≡ y = ap (λ (p : Place). (p, r)) place ∙ reached in
+    let no_cands : line a ≡ stored_line k.value ++ [] = ap line (bits_line_is (codes "stored") a k.value k.is) ∙ sym (append-nil (stored_line k.value)) in
+    subst (λ (y : Reached). Next y text a) same
+    (h.0, three text (top r) (step_line r) (present_line p) (line a) h.1 ∙ ap (λ t. top r ++ (step_line r ++ (present_line p ++ t))) no_cands)
+
+at_listing : (p s : List Bool) (cands : List Cand) (r : Report) (text a : List ℕ) (y : Reached) → Fits (places.Listing p s cands) r text → taken (places.Listing p s cands) r a ≡ Some y → Next y text a
+at_listing p s cands r text a y h e = by (cand_in a) refl e
+  where
+    by : (o : Option Cand) → cand_in a ≡ o → option_map (λ (place : Place). (place, r)) (more_listed p s cands a o) ≡ Some y → Next y text a
+    by None c e =
+        let m = unmap (λ (place : Place). (place, r)) (option_map (λ (ended : ListEnd). places.Hit p s cands ended) (end_in a)) y e in
+        let k = unmap (λ (ended : ListEnd). places.Hit p s cands ended) (end_in a) m.value m.is in
+        let gives : Some (m.value, r) ≡ Some y = m.gives in
+        let gives_place : Some (places.Hit p s cands k.value) ≡ Some m.value = k.gives in
+        let place : places.Hit p s cands k.value ≡ m.value = cc in
+        let reached : (m.value, r) ≡ y = cc in
+        let same : (places.Hit p s cands k.value, r) ≡ y = ap (λ (p : Place). (p, r)) place ∙ reached in
+        let l = end_is a k.value k.is in
+        subst (λ (y : Reached). Next y text a) same (
+          h.0,
+          l.0,
+          five text (top r) (step_line r) (present_line p) (stored_line s) (flat_map cand_text cands) (line a) h.1
+              ∙ ap (λ t. top r ++ (step_line r ++ (present_line p ++ (stored_line s ++ (flat_map cand_text cands ++ line t))))) l.1,
+        )
+    by (Some cand) c e =
+        let same : (places.Listing p s (cands ++ cand ∷ []), r) ≡ y = cc in
+        subst (λ (y : Reached). Next y text a) same (
+          h.0,
+          five text (top r) (step_line r) (present_line p) (stored_line s) (flat_map cand_text cands) (line a) h.1
+              ∙ ap (λ t. top r ++ (step_line r ++ (present_line p ++ (stored_line s ++ t))))
+              (ap (λ t. flat_map cand_text cands ++ line t) (cand_is a cand c) ∙ sym (flat_more cand_text cands cand)),
+        )
+
+at_hit : (p s : List Bool) (cands : List Cand) (e : ListEnd) (r : Report) (text a : List ℕ) (y : Reached) → Fits (places.Hit p s cands e) r text → taken (places.Hit p s cands e) r a ≡ Some y → Next y text a
+at_hit p s cands e r text a y h t =
+    let m = unmap (λ (hit : Option HitLine). (places.Turn, with_step r p s cands e hit)) (hit_in a) y t in
+    let gives : Some (places.Turn, with_step r p s cands e m.value) ≡ Some y = m.gives in
+    let same : (places.Turn, with_step r p s cands e m.value) ≡ y = cc in
+    let l = hit_is a m.value m.is in
+    let step : Step = record { present = p; stored = s; cands = cands; end = e; hit = m.value } in
+    let place : 1 + length r.steps ≡ length r.steps + 1 = omega arith in
+    let steps : steps_text 1 (r.steps ++ step ∷ []) ≡ steps_text 1 r.steps ++ step_text (length r.steps + 1) step =
+    steps_text_append 1 r.steps step ∙ ap (λ (n : ℕ). steps_text 1 r.steps ++ step_text n step) place in
+    let is_text : text ++ line a ≡ top r ++ step_text (length r.steps + 1) step =
+    six text (top r) (step_line r) (present_line p) (stored_line s) (flat_map cand_text cands) (list_line e) (line a) h.2
+    ∙ ap (λ t. top r ++ (step_line r ++ (present_line p ++ (stored_line s ++ (flat_map cand_text cands ++ (list_line e ++ t)))))) l.1 in
+    let in_top : top r ++ step_text (length r.steps + 1) step ≡ top (with_step r p s cands e m.value) =
+    three (top r) title (budgets_text r.budgets) (steps_text 1 r.steps) (step_text (length r.steps + 1) step) refl ∙ ap (λ t. title ++ (budgets_text r.budgets ++ t)) (sym steps) in
+    subst (λ (y : Reached). Next y text a) same (
+      record {
+        budgets = h.0.head.budgets;
+        steps = each_more HasStepText r.steps step h.0.head.steps (record { list = h.1; hit = l.0 });
+        few = let more : length (r.steps ++ step ∷ []) ≡ length r.steps + 1 = length-append r.steps (step ∷ []) in omega (arith, more, h.0.counted);
+      },
+      record { states = h.0.tail.states; inputs = h.0.tail.inputs; log = h.0.tail.log },
+      is_text ∙ in_top,
+    )
+
+at_trace : (r : Report) (text a : List ℕ) (y : Reached) → Fits places.Trace r text → taken places.Trace r a ≡ Some y → Next y text a
+at_trace r text a y h e =
+    let m = unmap (λ (place : Place). (place, r)) (option_map (λ (n : ℕ). places.State n) (count_in (codes "trace") a)) y e in
+    let k = unmap (λ (n : ℕ). places.State n) (count_in (codes "trace") a) m.value m.is in
+    let gives : Some (m.value, r) ≡ Some y = m.gives in
+    let gives_place : Some (places.State k.value) ≡ Some m.value = k.gives in
+    let place : places.State k.value ≡ m.value = cc in
+    let reached : (m.value, r) ≡ y = cc in
+    let same : (places.State k.value, r) ≡ y = ap (λ (p : Place). (p, r)) place ∙ reached in
+    let c = count_is (codes "trace") a k.value k.is in
+    let none : length r.inputs ≡ 0 = ap length h.1.inputs in
+    let nothing : woven r.states r.inputs ≡ [] = ap (λ (ss : List (List Bool)). woven ss r.inputs) h.1.states in
+    let count : k.value ≡ length r.inputs + k.value = omega (arith, none) in
+    subst (λ (y : Reached). Next y text a) same (
+      record { head = h.0; log = h.1.log; small = omega (arith, none, c.1) },
+      ap length h.1.states ∙ sym none,
+      ap (λ t. t ++ line a) h.2
+          ∙ (ap (λ t. head_text r ++ line t) c.0
+          ∙ (ap (λ (n : ℕ). head_text r ++ trace_line n) count
+          ∙ ap (λ t. head_text r ++ t) (sym (append-nil (trace_line (length r.inputs + k.value))) ∙ ap (λ t. trace_line (length r.inputs + k.value) ++ t) (sym nothing)))),
+    )
+
+at_state : (left : ℕ) (r : Report) (text a : List ℕ) (y : Reached) → Fits (places.State left) r text → taken (places.State left) r a ≡ Some y → Next y text a
+unfolding head_text
+at_state left r text a y h e =
+    let m = unmap (λ (s : List Bool). (behind_state left, record r { states = r.states ++ s ∷ [] })) (bits_in (codes "state") a) y e in
+    let after : Report = record r { states = r.states ++ m.value ∷ [] } in
+    let gives : Some (behind_state left, after) ≡ Some y = m.gives in
+    let same : (behind_state left, after) ≡ y = cc in
+    let more : length (r.states ++ m.value ∷ []) ≡ length r.inputs + 1 = length-append r.states (m.value ∷ []) ∙ ap (λ (n : ℕ). n + 1) h.1 in
+    let is_text : text ++ line a ≡ head_text r ++ (trace_line (length r.inputs + left) ++ woven (r.states ++ m.value ∷ []) r.inputs) =
+    three text (head_text r) (trace_line (length r.inputs + left)) (woven r.states r.inputs) (line a) h.2
+    ∙ ap (λ t. head_text r ++ (trace_line (length r.inputs + left) ++ t))
+    (ap (λ t. woven r.states r.inputs ++ line t) (bits_line_is (codes "state") a m.value m.is) ∙ sym (state_more r.states r.inputs m.value h.1)) in
+    subst (λ (y : Reached). Next y text a) same (by (left == 0) refl after m.value refl more is_text)
+  where
+    by : (b : Bool) → (left == 0) ≡ b → (after : Report) (s : List Bool) → after ≡ record r { states = r.states ++ s ∷ [] } → length (r.states ++ s ∷ []) ≡ length r.inputs + 1 →
+        text ++ line a ≡ head_text r ++ (trace_line (length r.inputs + left) ++ woven (r.states ++ s ∷ []) r.inputs) → Fits (cond b places.Log (places.Input left)) after (text ++ line a)
+    by true z after s is more t =
+        let none : left ≡ 0 = eqb-true left 0 z in
+        let count : length r.inputs + left ≡ length r.inputs = omega (arith, none) in
+        subst (λ (after : Report). Fits places.Log after (text ++ line a)) (sym is) (
+          record { head = record { budgets = h.0.head.budgets; steps = h.0.head.steps; few = h.0.head.few }; small = omega (arith, none, h.0.small); more = more },
+          h.0.log,
+          t ∙ ap (λ (n : ℕ). head_text r ++ (trace_line n ++ woven (r.states ++ s ∷ []) r.inputs)) count,
+        )
+    by false z after s is more t =
+        let some : left ≡ 0 → ⊥ = eqb-false left 0 z in
+        subst (λ (after : Report). Fits (places.Input left) after (text ++ line a)) (sym is)
+        (record { head = record { budgets = h.0.head.budgets; steps = h.0.head.steps; few = h.0.head.few }; log = h.0.log; small = h.0.small }, more, omega (arith, some), t)
+
+at_input : (left : ℕ) (r : Report) (text a : List ℕ) (y : Reached) → Fits (places.Input left) r text → taken (places.Input left) r a ≡ Some y → Next y text a
+unfolding head_text
+at_input left r text a y h e =
+    let m = unmap (λ (x : List Bool). (places.State (left - 1), record r { inputs = r.inputs ++ x ∷ [] })) (bits_in (codes "input") a) y e in
+    let after : Report = record r { inputs = r.inputs ++ m.value ∷ [] } in
+    let gives : Some (places.State (left - 1), after) ≡ Some y = m.gives in
+    let same : (places.State (left - 1), after) ≡ y = cc in
+    let more : length (r.inputs ++ m.value ∷ []) ≡ length r.inputs + 1 = length-append r.inputs (m.value ∷ []) in
+    let count : length r.inputs + left ≡ length (r.inputs ++ m.value ∷ []) + (left - 1) = omega (arith, more, h.2) in
+    subst (λ (y : Reached). Next y text a) same (
+      record { head = record { budgets = h.0.head.budgets; steps = h.0.head.steps; few = h.0.head.few }; log = h.0.log; small = omega (arith, h.0.small, count) },
+      h.1 ∙ sym more,
+      three text (head_text r) (trace_line (length r.inputs + left)) (woven r.states r.inputs) (line a) h.3
+          ∙ (ap (λ t. head_text r ++ (trace_line (length r.inputs + left) ++ t))
+          (ap (λ t. woven r.states r.inputs ++ line t) (bits_line_is (codes "input") a m.value m.is) ∙ sym (input_more r.states r.inputs m.value h.1))
+          ∙ ap (λ (n : ℕ). head_text r ++ (trace_line n ++ woven r.states (r.inputs ++ m.value ∷ []))) count),
+    )
+
+-- behind the trace, where so many log lines are left
+lines_left : (left : ℕ) (r : Report) (text : List ℕ) → BehindTrace r → Each HasText r.log → length r.log + left < 2 ^ 64 →
+    text ≡ head_text r ++ (trace_line (length r.inputs) ++ (woven r.states r.inputs ++ (log_line (length r.log + left) ++ lines_text r.log))) → Fits (log_place left) r text
+lines_left left r text b each small t = by (left == 0) refl
+  where
+    by : (z : Bool) → (left == 0) ≡ z → Fits (cond z places.End (places.Lines left)) r text
+    by true z =
+        let none : left ≡ 0 = eqb-true left 0 z in
+        let count : length r.log + left ≡ length r.log = omega (arith, none) in
+        (b, each, omega (arith, small, none), t ∙ ap (λ (n : ℕ). head_text r ++ (trace_line (length r.inputs) ++ (woven r.states r.inputs ++ (log_line n ++ lines_text r.log)))) count)
+    by false z = let some : left ≡ 0 → ⊥ = eqb-false left 0 z in (b, each, small, omega (arith, some), t)
+
+at_log : (r : Report) (text a : List ℕ) (y : Reached) → Fits places.Log r text → taken places.Log r a ≡ Some y → Next y text a
+at_log r text a y h e =
+    let m = unmap (λ (place : Place). (place, r)) (option_map (λ (n : ℕ). log_place n) (count_in (codes "log") a)) y e in
+    let k = unmap (λ (n : ℕ). log_place n) (count_in (codes "log") a) m.value m.is in
+    let gives : Some (m.value, r) ≡ Some y = m.gives in
+    let gives_place : Some (log_place k.value) ≡ Some m.value = k.gives in
+    let place : log_place k.value ≡ m.value = cc in
+    let reached : (m.value, r) ≡ y = cc in
+    let same : (log_place k.value, r) ≡ y = ap (λ (p : Place). (p, r)) place ∙ reached in
+    let c = count_is (codes "log") a k.value k.is in
+    let none : length r.log ≡ 0 = ap length h.1 in
+    let nothing : lines_text r.log ≡ [] = ap lines_text h.1 in
+    let count : k.value ≡ length r.log + k.value = omega (arith, none) in
+    subst (λ (y : Reached). Next y text a) same
+    (lines_left k.value r (text ++ line a) h.0 (subst (λ (log : List Line). Each HasText log) (sym h.1) tt) (omega (arith, none, c.1))
+    (three text (head_text r) (trace_line (length r.inputs)) (woven r.states r.inputs) (line a) h.2
+    ∙ (ap (λ t. head_text r ++ (trace_line (length r.inputs) ++ (woven r.states r.inputs ++ line t))) c.0
+    ∙ (ap (λ (n : ℕ). head_text r ++ (trace_line (length r.inputs) ++ (woven r.states r.inputs ++ log_line n))) count
+    ∙ ap (λ t. head_text r ++ (trace_line (length r.inputs) ++ (woven r.states r.inputs ++ t)))
+    (sym (append-nil (log_line (length r.log + k.value))) ∙ ap (λ t. log_line (length r.log + k.value) ++ t) (sym nothing))))))
+
+at_lines : (left : ℕ) (r : Report) (text a : List ℕ) (y : Reached) → Fits (places.Lines left) r text → taken (places.Lines left) r a ≡ Some y → Next y text a
+unfolding head_text
+at_lines left r text a y h e =
+    let m = unmap (λ (l : Line). (log_place (left - 1), record r { log = r.log ++ l ∷ [] })) (line_in a) y e in
+    let after : Report = record r { log = r.log ++ m.value ∷ [] } in
+    let gives : Some (log_place (left - 1), after) ≡ Some y = m.gives in
+    let same : (log_place (left - 1), after) ≡ y = cc in
+    let l = log_line_is a m.value m.is in
+    let more : length (r.log ++ m.value ∷ []) ≡ length r.log + 1 = length-append r.log (m.value ∷ []) in
+    let count : length r.log + left ≡ length (r.log ++ m.value ∷ []) + (left - 1) = omega (arith, more, h.3) in
+    subst (λ (y : Reached). Next y text a) same
+    (lines_left (left - 1) after (text ++ line a)
+    (record { head = record { budgets = h.0.head.budgets; steps = h.0.head.steps; few = h.0.head.few }; small = h.0.small; more = h.0.more })
+    (each_more HasText r.log m.value h.1 l.0) (omega (arith, count, h.2))
+    (five text (head_text r) (trace_line (length r.inputs)) (woven r.states r.inputs) (log_line (length r.log + left)) (lines_text r.log) (line a) h.4
+    ∙ (ap (λ t. head_text r ++ (trace_line (length r.inputs) ++ (woven r.states r.inputs ++ (log_line (length r.log + left) ++ t))))
+    (ap (λ t. lines_text r.log ++ line t) (sym l.1) ∙ sym (flat_more (λ (l : Line). line (line_text l)) r.log m.value))
+    ∙ ap (λ (n : ℕ). head_text r ++ (trace_line (length r.inputs) ++ (woven r.states r.inputs ++ (log_line n ++ lines_text (r.log ++ m.value ∷ []))))) count)))
+
+at_end : (r : Report) (text a : List ℕ) (y : Reached) → Fits places.End r text → taken places.End r a ≡ Some y → Next y text a
+at_end r text a y h e =
+    let z = if_so (bytes_eq a (codes "end")) (places.Done, r) y e in
+    subst (λ (y : Reached). Next y text a) z.1 (
+      h.0,
+      h.1,
+      h.2,
+      five text (head_text r) (trace_line (length r.inputs)) (woven r.states r.inputs) (log_line (length r.log)) (lines_text r.log) (line a) h.3
+          ∙ ap (λ t. head_text r ++ (trace_line (length r.inputs) ++ (woven r.states r.inputs ++ (log_line (length r.log) ++ (lines_text r.log ++ line t))))) (same_text a (codes "end") z.0),
+    )
+
+line_fits : (place : Place) (r : Report) (text a : List ℕ) (y : Reached) → Fits place r text → taken place r a ≡ Some y → Next y text a
+line_fits places.Title r text a y h e = at_title r text a y h e
+line_fits places.Asked r text a y h e = at_asked r text a y h e
+line_fits places.Turn r text a y h e = at_turn r text a y h e
+line_fits places.Present r text a y h e = at_present r text a y h e
+line_fits (places.Stored p) r text a y h e = at_stored p r text a y h e
+line_fits (places.Listing p s cands) r text a y h e = at_listing p s cands r text a y h e
+line_fits (places.Hit p s cands l) r text a y h e = at_hit p s cands l r text a y h e
+line_fits places.Trace r text a y h e = at_trace r text a y h e
+line_fits (places.State left) r text a y h e = at_state left r text a y h e
+line_fits (places.Input left) r text a y h e = at_input left r text a y h e
+line_fits places.Log r text a y h e = at_log r text a y h e
+line_fits (places.Lines left) r text a y h e = at_lines left r text a y h e
+line_fits places.End r text a y h e = at_end r text a y h e
+line_fits places.Done r text a y h e = cc
+
+-- ---- all lines
+
+-- a text from its pieces
+abbrev glued : List (List ℕ) → List ℕ
+glued [] = []
+glued (rest ∷ []) = rest
+glued (p ∷ q ∷ ps) = line p ++ glued (q ∷ ps)
+
+glue_onto : (b : ℕ) (p : List ℕ) (ps : List (List ℕ)) → glued ((b ∷ p) ∷ ps) ≡ b ∷ glued (p ∷ ps)
+glue_onto b p [] = refl
+glue_onto b p (q ∷ qs) = refl
+
+glue_first : (b : ℕ) (ps : List (List ℕ)) → glued (onto_first b ps) ≡ b ∷ glued ps
+glue_first b [] = refl
+glue_first b (p ∷ ps) = glue_onto b p ps
+
+glue_empty : (bs : List ℕ) → glued ([] ∷ pieces_of bs) ≡ 10 ∷ glued (pieces_of bs)
+glue_empty bs = by (pieces_of bs) (some_piece bs)
+  where
+    by : (pieces : List (List ℕ)) → ((p : List ℕ) × (ps : List (List ℕ)) × (pieces ≡ p ∷ ps)) → glued ([] ∷ pieces) ≡ 10 ∷ glued pieces
+    by [] s = cc
+    by (p ∷ ps) s = refl
+
+glued_pieces : (bs : List ℕ) → glued (pieces_of bs) ≡ bs
+glued_pieces [] = refl
+glued_pieces (b ∷ bs) = by (b == 10) refl (glued_pieces bs)
+  where
+    by : (z : Bool) → (b == 10) ≡ z → glued (pieces_of bs) ≡ bs → glued (cond z ([] ∷ pieces_of bs) (onto_first b (pieces_of bs))) ≡ b ∷ bs
+    by true z rest = glue_empty bs ∙ (ap (λ t. 10 ∷ t) rest ∙ ap (λ c. c ∷ bs) (sym (eqb-true b 10 z)))
+    by false z rest = glue_first b (pieces_of bs) ∙ ap (λ t. b ∷ t) rest
+
+done_is : (place : Place) → is_done place ≡ true → place ≡ places.Done
+done_is places.Title e = absurd (false≢true e)
+done_is places.Asked e = absurd (false≢true e)
+done_is places.Turn e = absurd (false≢true e)
+done_is places.Present e = absurd (false≢true e)
+done_is (places.Stored p) e = absurd (false≢true e)
+done_is (places.Listing p s cands) e = absurd (false≢true e)
+done_is (places.Hit p s cands l) e = absurd (false≢true e)
+done_is places.Trace e = absurd (false≢true e)
+done_is (places.State left) e = absurd (false≢true e)
+done_is (places.Input left) e = absurd (false≢true e)
+done_is places.Log e = absurd (false≢true e)
+done_is (places.Lines left) e = absurd (false≢true e)
+done_is places.End e = absurd (false≢true e)
+done_is places.Done e = refl
+
+nothing_left : (rest : List ℕ) → (length rest == 0) ≡ true → rest ≡ []
+nothing_left [] e = refl
+nothing_left (b ∷ bs) e = let none : length (b ∷ bs) ≡ 0 = eqb-true _ _ e in absurd (omega arith)
+
+at_text_end : (place : Place) (r : Report) (text rest : List ℕ) (all : Report) → Fits place r text → ended place r rest ≡ Ok all → Fits places.Done all (text ++ rest)
+at_text_end place r text rest all h e = by (is_done place) refl (length rest == 0) refl e
+  where
+    by : (d : Bool) → is_done place ≡ d → (n : Bool) → (length rest == 0) ≡ n → cond {A = Result Report ReportFault} d (cond {A = Result Report ReportFault} n (Ok r) (Err extra)) (Err short) ≡ Ok all → Fits places.Done all (text ++ rest)
+    by true d true n e =
+        let same : r ≡ all = cc in
+        let no_rest : text ++ rest ≡ text = ap (λ t. text ++ t) (nothing_left rest n) ∙ append-nil text in
+        subst (λ (t : List ℕ). Fits places.Done all t) (sym no_rest)
+        (subst (λ (all : Report). Fits places.Done all text) same (subst (λ (p : Place). Fits p r text) (done_is place d) h))
+    by true d false n e = cc
+    by false d n nn e = cc
+
+pieces_fit : (pieces : List (List ℕ)) (n : ℕ) (place : Place) (r : Report) (text : List ℕ) (all : Report) → Fits place r text → report_from n place r pieces ≡ Ok all → Fits places.Done all (text ++ glued pieces)
+pieces_fit [] n place r text all h e = at_text_end place r text [] all h e
+pieces_fit (rest ∷ []) n place r text all h e = at_text_end place r text rest all h e
+pieces_fit (a ∷ q ∷ ps) n place r text all h e = by (λ y text h e. pieces_fit (q ∷ ps) (n + 1) y.0 y.1 text all h e) (is_done place) (taken place r a) refl e
+  where
+    Rest : Type 0
+    Rest = (y : Reached) (text : List ℕ) → Fits y.0 y.1 text → report_from (n + 1) y.0 y.1 (q ∷ ps) ≡ Ok all → Fits places.Done all (text ++ glued (q ∷ ps))
+
+    by : Rest → (d : Bool) (o : Option Reached) → taken place r a ≡ o →
+        onward (cond {A = Result Reached ReportFault} d (Err extra) (line_or_fault n o)) (λ place r. report_from (n + 1) place r (q ∷ ps)) ≡ Ok all → Fits places.Done all (text ++ (line a ++ glued (q ∷ ps)))
+    by rest true o t e = cc
+    by rest false None t e = cc
+    by rest false (Some y) t e =
+        subst (λ (text : List ℕ). Fits places.Done all text) (append_assoc text (line a) (glued (q ∷ ps))) (rest y (text ++ line a) (line_fits place r text a y h t) e)
+
+pub texts_are_reports : TextsAreReports
+unfolding report_in head_text tail_text
+texts_are_reports bytes r e =
+    let h = pieces_fit (pieces_of bytes) 1 places.Title nothing_read [] r (refl, refl) e in
+    let b = h.0 in
+    let text : bytes ≡ head_text r ++ (trace_line (length r.inputs) ++ (woven r.states r.inputs ++ (log_line (length r.log) ++ (lines_text r.log ++ line (codes "end"))))) =
+    sym (glued_pieces bytes) ∙ h.3 in
+    let trace : trace_text r ≡ trace_line (length r.inputs) ++ woven r.states r.inputs = trace_is_woven r b.more in
+    let tail : tail_text r ≡ trace_line (length r.inputs) ++ (woven r.states r.inputs ++ (log_line (length r.log) ++ (lines_text r.log ++ line (codes "end")))) =
+    ap (λ t. t ++ (log_line (length r.log) ++ (lines_text r.log ++ line (codes "end")))) trace
+    ∙ append_assoc (trace_line (length r.inputs)) (woven r.states r.inputs) (log_line (length r.log) ++ (lines_text r.log ++ line (codes "end"))) in (
+      record {
+        some_steps = b.head.budgets.some_steps;
+        max_steps = b.head.budgets.max_steps;
+        some_candidates = b.head.budgets.some_candidates;
+        max_candidates = b.head.budgets.max_candidates;
+        some_conflicts = b.head.budgets.some_conflicts;
+        max_conflicts = b.head.budgets.max_conflicts;
+        each_step = All-from_recursion HasStepText r.steps b.head.steps;
+        few_steps = b.head.few;
+        one_state_more = b.more;
+        few_inputs = b.small;
+        each_line = All-from_recursion HasText r.log h.1;
+        few_lines = h.2;
+      },
+      ap (λ t. head_text r ++ t) tail ∙ sym text,
+    )
