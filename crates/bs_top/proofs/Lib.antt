@@ -1,2 +1,3 @@
-pub mod RefusalLemmas
-pub mod RefusalExamples
+pub mod DumpingLemmas
+pub mod WorkLemmas
+pub mod AskedLemmas

@@ -1,2 +1,4 @@
-pub mod Refusals
-pub mod Readings
+pub mod Work
+pub mod Asked
+pub mod Words
+pub mod Finishes

@@ -1,13 +1,10 @@
-//! The top of the crates: the refusal line of each file, what each small file is to a job, and the rows that cross the crates.
+//! The top call: the words of a command line, the files that they name, and what is written for them.
 #![tactic(auto)]
 
-mod readings;
-mod refusals;
+mod dumping;
 #[cfg(test)]
 mod rows;
+mod top;
 
-pub use readings::{read_dump, read_signature, read_stimulus};
-pub use refusals::{
-    check_refusal, dump_refusal, is_too_wide, netlist_text_refusal, range_refusal,
-    signature_refusal, stimulus_refusal, too_wide_refusal,
-};
+pub use bs_job::Status;
+pub use top::backspace;

@@ -8,7 +8,7 @@ use Rattle.bs_scan.specs.declared.fault.DumpFault.TheVariants as dump
 use Rattle.bs_stim.specs.declared.fault.StimFault.TheVariants as stimulus
 use Rattle.bs_job.specs.declared.file.File.TheVariants.{Netlist, Signature, Stimulus, Dump}
 use Rattle.bs_job.specs.Files.{refusal_line}
-use Rattle.bs_top.specs.Refusals.{netlist_text_words, signature_words, stimulus_words, dump_words, range_words, too_wide_words}
+use Rattle.bs_entry.specs.Refusals.{netlist_text_words, signature_words, stimulus_words, dump_words, range_words, too_wide_words}
 
 empty_netlist : refusal_line Netlist (netlist_text_words (verilog.Syntax 0)) ≡ codes "refused netlist Syntax 0\n"
 unfolding digits

@@ -12,7 +12,7 @@ use Rattle.bs_net.specs.Order.{IsBounded}
 use Rattle.bs_net.proofs.ClockLemmas.{mixed_placed}
 use Rattle.bs_job.specs.declared.walk.Refusal.{Refusal}
 use Rattle.bs_job.specs.declared.walk.Refusal.TheVariants as Q
-use Rattle.bs_top.specs.Refusals.{key_of, check_words, HasWords, HasCheckWords}
+use Rattle.bs_entry.specs.Refusals.{key_of, check_words, HasWords, HasCheckWords}
 
 -- what stands at a net's place is its key
 pub key_is : (r : Raw) (n : NetId) (key : List ℕ) → slice_get r.names n.0 ≡ Some key → key ≡ key_of r n

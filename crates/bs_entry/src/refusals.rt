@@ -11,7 +11,7 @@ ghost use Rattle.bs_scan.specs.declared.fault.ChoiceFault.TheVariants.{NoMemory 
 ghost use Rattle.bs_scan.specs.declared.fault.DumpFault.TheVariants.{NoMemory as DumpWant};
 ghost use Rattle.bs_stim.specs.declared.fault.StimFault.TheVariants.{NoMemory as StimWant};
 ghost use Rattle.bs_job.specs.declared.walk.Refusal.TheVariants.{NoMemory as Want};
-ghost use Rattle.bs_top.specs.Refusals.{HasCheckWords, HasWords, check_words, count_word, dump_words, gate_piece, is_too_wide, key_of, netlist_text_words, range_words, signature_words, stimulus_words, too_many_words, too_wide_words, unsupported_words};
+ghost use Rattle.bs_entry.specs.Refusals.{HasCheckWords, HasWords, check_words, count_word, dump_words, gate_piece, is_too_wide, key_of, netlist_text_words, range_words, signature_words, stimulus_words, too_many_words, too_wide_words, unsupported_words};
 
 use bs_bits::{NoMemory, push_number, push_piece};
 use bs_job::Refusal;

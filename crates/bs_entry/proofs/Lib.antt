@@ -1,0 +1,6 @@
+pub mod RefusalLemmas
+pub mod RefusalExamples
+pub mod ReadingLemmas
+pub mod SignatureFits
+pub mod StimulusFits
+pub mod DumpFits

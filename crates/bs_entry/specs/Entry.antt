@@ -1,0 +1,92 @@
+-- The files of a job, one after the other, and what they make ready.
+use Rattle.std.specs.Prelude.{ℕ, List, length}
+use Rattle.bs_net.specs.Circuit.{Circuit}
+use Rattle.bs_net.specs.Netlist.{circuit_of}
+use Rattle.bs_net.specs.declared.raw.Raw.{Raw}
+use Rattle.bs_stim.specs.Runs.{Stimulus, inputs_of}
+use Rattle.bs_scan.specs.Choice.{Chosen}
+use Rattle.bs_scan.specs.Moments.{Moment, Run}
+use Rattle.bs_scan.specs.declared.dump.Dump.{Dump}
+use Rattle.bs_job.specs.declared.file.File.TheVariants as files
+use Rattle.bs_job.specs.Plan.{Plan, end, ◌>>=◌, fetched, read_as}
+use Rattle.bs_entry.specs.Readings.{netlist_in, signature_in, stimulus_in, dump_in, moment_in}
+
+-- the names of the first three files
+pub record Names : Type 0 where
+  pub netlist : List ℕ
+  pub signature : List ℕ
+  pub stimulus : List ℕ
+
+-- ---- the values
+
+-- what the first three files tell: a netlist's parts, what its signature is taken of, and the recorded runs
+pub record Setup : Type 0 where
+  pub raw : Raw
+  pub choice : Chosen
+  pub runs : Stimulus
+
+-- the netlist as a machine
+abbrev pub circuit_in : Setup → Circuit
+circuit_in setup = circuit_of setup.raw
+
+-- the inputs of the recorded runs
+abbrev pub runs_in : Setup → List Run
+runs_in setup = inputs_of setup.runs
+
+-- the same with a moment of the runs
+pub record Placed : Type 0 where
+  pub setup : Setup
+  pub moment : Moment
+
+-- the same with the dump of the crashed chip
+pub record Crashed : Type 0 where
+  pub setup : Setup
+  pub dump : Dump
+
+-- ---- the walks
+
+-- the bits of an input line
+abbrev pub input_width : Raw → ℕ
+input_width raw = length (circuit_of raw).inputs
+
+abbrev pub netlist_of : List ℕ → Plan Raw Raw
+netlist_of name = do
+  bytes ← fetched files.Netlist name
+  read_as files.Netlist (netlist_in bytes)
+
+abbrev pub signature_of : Raw → List ℕ → Plan Raw Chosen
+signature_of raw name = do
+  bytes ← fetched files.Signature name
+  read_as files.Signature (signature_in raw bytes)
+
+abbrev pub stimulus_of : Raw → List ℕ → Plan Raw Stimulus
+stimulus_of raw name = do
+  bytes ← fetched files.Stimulus name
+  read_as files.Stimulus (stimulus_in (input_width raw) bytes)
+
+abbrev pub dump_of : Setup → List ℕ → Plan Raw Dump
+dump_of setup name = do
+  bytes ← fetched files.Dump name
+  read_as files.Dump (dump_in setup.raw setup.choice bytes)
+
+-- the first three files of a job, by their names
+abbrev pub setup_of : Names → Plan Raw Setup
+setup_of names = do
+  raw ← netlist_of names.netlist
+  choice ← signature_of raw names.signature
+  runs ← stimulus_of raw names.stimulus
+  end record { raw = raw; choice = choice; runs = runs }
+
+-- three files, and last whether the runs have the moment
+abbrev pub placed_of : Names → (run cycle : ℕ) → Plan Raw Placed
+placed_of names run cycle = do
+  setup ← setup_of names
+  moment ← read_as files.Dump (moment_in setup.runs run cycle)
+  end record { setup = setup; moment = moment }
+
+-- four files
+abbrev pub crashed_of : Names → List ℕ → Plan Raw Crashed
+crashed_of names dump = do
+  setup ← setup_of names
+  dumped ← dump_of setup dump
+  end record { setup = setup; dump = dumped }

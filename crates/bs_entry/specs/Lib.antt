@@ -1,0 +1,5 @@
+pub mod Refusals
+pub mod Readings
+pub mod Entry
+pub mod Fitting
+pub mod Ready

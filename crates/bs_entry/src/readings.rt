@@ -1,0 +1,112 @@
+//! What a reader makes of the bytes of a file, with the words of its refusal.
+ghost use Rattle.std.specs.Prelude.{◌≡◌, ◌≤◌, ◌^◌, length, IfOk};
+ghost use Rattle.std.specs.Bool.{OnTrue};
+ghost use Rattle.bs_net.specs.Netlist.{circuit};
+ghost use Rattle.bs_net.specs.Parts.{PartsArePlaced};
+ghost use Rattle.bs_chip.specs.Replay.{IsPlaced};
+ghost use Rattle.bs_job.specs.Walks.{Reads};
+ghost use Rattle.bs_entry.specs.Entry.{input_width};
+ghost use Rattle.bs_entry.specs.Readings.{checked_in, dump_in, has_moment, moment_in, netlist_in, signature_in, stimulus_in};
+ghost use Rattle.bs_entry.specs.Fitting.{IsDump};
+ghost use Rattle.bs_entry.specs.Ready.{moment_of};
+ghost use Rattle.bs_entry.specs.Refusals.{CheckSays};
+
+use crate::ready::Moment;
+use crate::refusals::{
+    check_refusal, dump_refusal, netlist_text_refusal, range_refusal, signature_refusal,
+    stimulus_refusal,
+};
+use bs_job::Refusal;
+use bs_net::{Netlist, Raw};
+use bs_scan::{Choice, Dump};
+use bs_stim::Runs;
+use std::alloc::Global;
+
+/// A netlist that passes the check.
+pub fn read_netlist(alloc: Global, bytes: &[u8]) -> Result<Netlist, Refusal>
+    requires { length bytes.now ≤ 16777216 }
+    ensures { Reads CheckSays (λ net. net.raw) (netlist_in bytes.now) result }
+{
+    match bs_verilog::read(alloc, bytes) {
+        Ok(raw) => check_netlist(alloc, raw),
+        Err(fault) => Err(netlist_text_refusal(alloc, fault)),
+    }
+}
+
+/// The netlist of parts that pass the check.
+fn check_netlist(alloc: Global, raw: Raw) -> Result<Netlist, Refusal>
+    requires { PartsArePlaced raw }
+    ensures { Reads CheckSays (λ net. net.raw) (checked_in raw) result }
+{
+    match Netlist::check(alloc, raw) {
+        Ok(net) => Ok(net),
+        Err(refused) => Err(check_refusal(alloc, &refused.raw, &refused.fault)),
+    }
+}
+
+/// The items of a signature.
+pub fn read_signature(alloc: Global, bytes: &[u8], net: &Netlist) -> Result<Choice, Refusal>
+    requires { length bytes.now ≤ 2 ^ 20 }
+    ensures reads { Reads CheckSays (λ choice. choice) (signature_in net.now.raw bytes.now) result }
+    ensures width { IfOk result (λ choice. choice.width ≡ length (circuit net.now).flops) }
+{
+    match Choice::read(alloc, bytes, net) {
+        Ok(choice) => Ok(choice),
+        Err(fault) => Err(signature_refusal(alloc, fault)),
+    }
+}
+
+/// The runs of a stimulus.
+pub fn read_stimulus(alloc: Global, bytes: &[u8], net: &Netlist) -> Result<Runs, Refusal>
+    requires { length bytes.now ≤ 2 ^ 26 }
+    ensures reads { Reads CheckSays (λ runs. runs) (stimulus_in (input_width net.now.raw) bytes.now) result }
+    ensures width { IfOk result (λ runs. runs.width ≡ length (circuit net.now).inputs) }
+{
+    match bs_stim::read(alloc, bytes, net.data_inputs().len()) {
+        Ok(runs) => Ok(runs),
+        Err(fault) => Err(stimulus_refusal(alloc, fault)),
+    }
+}
+
+/// A dump.
+pub fn read_dump(
+    alloc: Global,
+    bytes: &[u8],
+    net: &Netlist,
+    choice: &Choice,
+) -> Result<Dump, Refusal>
+    ensures reads { Reads CheckSays (λ dump. dump) (dump_in net.now.raw choice.now bytes.now) result }
+    ensures fits { IfOk result (λ dump. IsDump net.now.raw choice.now dump) }
+{
+    match Dump::read(alloc, bytes, net, choice) {
+        Ok(dump) => Ok(dump),
+        Err(fault) => Err(dump_refusal(alloc, fault)),
+    }
+}
+
+/// Whether the runs have a moment.
+fn has_moment(runs: &Runs, run: u64, cycle: u64) -> bool
+    ensures is { result ≡ has_moment runs.now run cycle }
+    ensures run { OnTrue result (run ≤ 256) }
+    ensures cycle { OnTrue result (cycle ≤ 65536) }
+    ensures placed { OnTrue result (IsPlaced runs.now run cycle) }
+{
+    if run < 1 || run > u64::from(runs.count()) {
+        return false;
+    }
+    cycle <= u64::from(runs.cycles(run as u32))
+}
+
+/// A moment of the runs.
+pub fn read_moment(alloc: Global, runs: &Runs, run: u64, cycle: u64) -> Result<Moment, Refusal>
+    ensures reads { Reads CheckSays moment_of (moment_in runs.now run cycle) result }
+    ensures recorded { IfOk result (λ moment. IsPlaced runs.now moment.run moment.cycle) }
+{
+    if !has_moment(runs, run, cycle) {
+        return Err(range_refusal(alloc));
+    }
+    Ok(Moment {
+        run: run as u32,
+        cycle: cycle as u32,
+    })
+}

@@ -1,0 +1,110 @@
+//! The files of a job are fetched and read one after the other, up to the first that stops it.
+ghost use Rattle.std.specs.Prelude.{◌≡◌, ◌≤◌, length, IfOk};
+ghost use Rattle.bs_net.specs.Netlist.{circuit};
+ghost use Rattle.bs_chip.specs.Replay.{IsPlaced};
+ghost use Rattle.bs_job.specs.Walks.{Walks};
+ghost use Rattle.bs_entry.specs.Entry.{crashed_of, dump_of, netlist_of, placed_of, setup_of, signature_of, stimulus_of};
+ghost use Rattle.bs_entry.specs.Fitting.{IsDump};
+ghost use Rattle.bs_entry.specs.Ready.{crashed_in, names_in, placed_in, setup_in};
+ghost use Rattle.bs_entry.specs.Refusals.{CheckSays};
+
+use crate::readings::{read_dump, read_moment, read_netlist, read_signature, read_stimulus};
+use crate::ready::{Crashed, Names, Placed, Setup};
+use bs_job::{File, Stop, fetch_file, settle};
+use bs_net::Netlist;
+use bs_outside::Shelf;
+use bs_scan::{Choice, Dump};
+use bs_stim::Runs;
+use std::alloc::Global;
+
+/// The netlist.
+fn take_netlist<S: Shelf>(alloc: Global, shelf: &mut S, name: &str) -> Result<Netlist, Stop>
+    ensures { Walks CheckSays (S.held shelf.old) (S.held shelf.new) (S.faults shelf.old) (S.faults shelf.new) (netlist_of name.now) (λ net. net.raw) result }
+{
+    let bytes = fetch_file(alloc, shelf, File::Netlist, name)?;
+    settle(File::Netlist, read_netlist(alloc, &bytes))
+}
+
+/// What the netlist's signature is taken of.
+fn take_signature<S: Shelf>(
+    alloc: Global,
+    shelf: &mut S,
+    name: &str,
+    net: &Netlist,
+) -> Result<Choice, Stop>
+    ensures walks { Walks CheckSays (S.held shelf.old) (S.held shelf.new) (S.faults shelf.old) (S.faults shelf.new) (signature_of net.now.raw name.now) (λ choice. choice) result }
+    ensures width { IfOk result (λ choice. choice.width ≡ length (circuit net.now).flops) }
+{
+    let bytes = fetch_file(alloc, shelf, File::Signature, name)?;
+    settle(File::Signature, read_signature(alloc, &bytes, net))
+}
+
+/// The recorded runs.
+fn take_stimulus<S: Shelf>(
+    alloc: Global,
+    shelf: &mut S,
+    name: &str,
+    net: &Netlist,
+) -> Result<Runs, Stop>
+    ensures walks { Walks CheckSays (S.held shelf.old) (S.held shelf.new) (S.faults shelf.old) (S.faults shelf.new) (stimulus_of net.now.raw name.now) (λ runs. runs) result }
+    ensures width { IfOk result (λ runs. runs.width ≡ length (circuit net.now).inputs) }
+{
+    let bytes = fetch_file(alloc, shelf, File::Stimulus, name)?;
+    settle(File::Stimulus, read_stimulus(alloc, &bytes, net))
+}
+
+/// The dump of the crashed chip.
+fn take_dump<S: Shelf>(
+    alloc: Global,
+    shelf: &mut S,
+    name: &str,
+    setup: &Setup,
+) -> Result<Dump, Stop>
+    ensures walks { Walks CheckSays (S.held shelf.old) (S.held shelf.new) (S.faults shelf.old) (S.faults shelf.new) (dump_of (setup_in setup.now) name.now) (λ dump. dump) result }
+    ensures fits { IfOk result (λ dump. IsDump setup.now.net.raw setup.now.choice dump) }
+{
+    let bytes = fetch_file(alloc, shelf, File::Dump, name)?;
+    settle(
+        File::Dump,
+        read_dump(alloc, &bytes, &setup.net, &setup.choice),
+    )
+}
+
+/// The netlist, the signature and the stimulus of a job, by the names of their files.
+pub fn take_setup<S: Shelf>(alloc: Global, shelf: &mut S, names: &Names<'_>) -> Result<Setup, Stop>
+    ensures { Walks CheckSays (S.held shelf.old) (S.held shelf.new) (S.faults shelf.old) (S.faults shelf.new) (setup_of (names_in names.now)) setup_in result }
+{
+    let net = take_netlist(alloc, shelf, names.netlist)?;
+    let choice = take_signature(alloc, shelf, names.signature, &net)?;
+    let runs = take_stimulus(alloc, shelf, names.stimulus, &net)?;
+    Ok(Setup { net, choice, runs })
+}
+
+/// The same, and a moment of the runs.
+pub fn take_placed<S: Shelf>(
+    alloc: Global,
+    shelf: &mut S,
+    names: &Names<'_>,
+    run: u64,
+    cycle: u64,
+) -> Result<Placed, Stop>
+    ensures { Walks CheckSays (S.held shelf.old) (S.held shelf.new) (S.faults shelf.old) (S.faults shelf.new) (placed_of (names_in names.now) run cycle) placed_in result }
+{
+    let setup = take_setup(alloc, shelf, names)?;
+    let moment = settle(File::Dump, read_moment(alloc, &setup.runs, run, cycle))?;
+    Ok(Placed { setup, moment })
+}
+
+/// The same, and the dump.
+pub fn take_crashed<S: Shelf>(
+    alloc: Global,
+    shelf: &mut S,
+    names: &Names<'_>,
+    dump: &str,
+) -> Result<Crashed, Stop>
+    ensures { Walks CheckSays (S.held shelf.old) (S.held shelf.new) (S.faults shelf.old) (S.faults shelf.new) (crashed_of (names_in names.now) dump.now) crashed_in result }
+{
+    let setup = take_setup(alloc, shelf, names)?;
+    let dump = take_dump(alloc, shelf, dump, &setup)?;
+    Ok(Crashed { setup, dump })
+}

@@ -1,0 +1,27 @@
+-- Work that is done has a status of its own kind.
+use Rattle.std.proofs.Common.{◌≡◌, ℕ, true, List, Option, Some, None, Result, Ok, Err, refl, ap, ◌∙◌}
+use Rattle.std.specs.Prelude.{IfOk}
+use Rattle.bs_outside.specs.declared.shelf.NoMemory.{NoMemory}
+use Rattle.bs_net.specs.declared.raw.Raw.{Raw}
+use Rattle.bs_job.specs.declared.file.Status.{Status}
+use Rattle.bs_job.specs.declared.file.Status.TheVariants.{Done}
+use Rattle.bs_job.specs.declared.answer.Answer.{Answer}
+use Rattle.bs_job.specs.Files.{is_work_status}
+use Rattle.bs_job.specs.Plan.{Tells, Counts, Plan}
+use Rattle.bs_job.specs.Walks.{Walks}
+use Rattle.bs_job.specs.Prepared.{Prepares, IsWork}
+use Rattle.bs_job.proofs.Preparing.{prepares_work}
+use Rattle.bs_entry.specs.Refusals.{CheckSays}
+use Rattle.bs_top.specs.Work.{Work, to_dump}
+use Rattle.bs_top.specs.Finishes.{finishes}
+
+work_status : (work : Work) (status : Status) (text : List ℕ) → finishes work status text → is_work_status status ≡ true
+work_status (to_dump placed) status text done = ap is_work_status done.0 ∙ refl
+
+pub is_work : IsWork finishes
+is_work = record { status = work_status }
+
+-- the work that a walk made ready for, if it is done
+pub prepares_done : {T : Type 0} {told told' : Tells} {before now : Counts} {plan : Plan Raw Work} {view : T → Work} {t : T} (r : Result Answer NoMemory) → Walks CheckSays told told' before now plan view (Ok t) → IfOk r (λ answer. finishes (view t) answer.status answer.text.items) → IfOk r (Prepares CheckSays finishes told before now (Some plan))
+prepares_done (Ok answer) walks done = prepares_work is_work walks done
+prepares_done (Err want) walks done = tt

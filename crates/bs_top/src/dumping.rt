@@ -1,0 +1,64 @@
+//! The command `dump`: the dump of a moment of the recorded runs.
+ghost use Rattle.std.specs.Prelude.{◌≡◌, IfOk, Some};
+ghost use Rattle.bs_job.specs.Prepared.{Prepares};
+ghost use Rattle.bs_entry.specs.Ready.{names_in, placed_in};
+ghost use Rattle.bs_entry.specs.Refusals.{CheckSays};
+ghost use Rattle.bs_top.specs.Work.{dump_names, plan_of, to_dump};
+ghost use Rattle.bs_top.specs.Words.{dump_job};
+ghost use Rattle.bs_top.specs.Finishes.{dump_at, finishes};
+
+use bs_bits::NoMemory as WantsMemory;
+use bs_chip::Chip;
+use bs_entry::{Names, Placed, take_placed};
+use bs_job::{Answer, Status, stopped};
+use bs_outside::{NoMemory, Shelf};
+use bs_scan::Dump;
+use bs_words::DumpJob;
+use std::alloc::Global;
+
+/// The dump of a moment.
+fn dump_of(alloc: Global, placed: &Placed) -> Result<Dump, WantsMemory>
+    ensures { IfOk result (λ dump. dump ≡ dump_at (placed_in placed.now).setup (placed_in placed.now).moment) }
+{
+    let setup = &placed.setup;
+    let mut chip = Chip::new(alloc, &setup.net, &setup.choice, &setup.runs)?;
+    chip.dump_at(alloc, placed.moment.run, placed.moment.cycle)
+}
+
+/// The text of that dump.
+fn dump_text(alloc: Global, placed: &Placed) -> Result<Vec<u8>, WantsMemory>
+    ensures { IfOk result (λ text. finishes (to_dump (placed_in placed.now)) Status.Done text.items) }
+{
+    let dump = dump_of(alloc, placed)?;
+    let mut text = Vec::new(alloc);
+    dump.text(&mut text)?;
+    Ok(text)
+}
+
+/// What is written for a moment.
+fn dumped(alloc: Global, placed: &Placed) -> Result<Answer, NoMemory>
+    ensures { IfOk result (λ answer. finishes (to_dump (placed_in placed.now)) answer.status answer.text.items) }
+{
+    match dump_text(alloc, placed) {
+        Ok(text) => Ok(Answer {
+            status: Status::Done,
+            text,
+        }),
+        Err(_) => Err(NoMemory),
+    }
+}
+
+/// The answer of the command.
+pub fn dump<S: Shelf>(alloc: Global, shelf: &mut S, job: &DumpJob<'_>) -> Result<Answer, NoMemory>
+    ensures { IfOk result (Prepares CheckSays finishes (S.held shelf.old) (S.faults shelf.old) (S.faults shelf.new) (Some (plan_of (dump_job job.now)))) }
+{
+    let names = Names {
+        netlist: job.netlist,
+        signature: job.signature,
+        stimulus: job.stimulus,
+    };
+    match take_placed(alloc, shelf, &names, job.run, job.cycle) {
+        Ok(placed) => dumped(alloc, &placed),
+        Err(stop) => stopped(alloc, stop),
+    }
+}

@@ -1,0 +1,73 @@
+//! The top call. All is fetched, read and computed, and the whole text is made, before the first put.
+ghost use Rattle.std.specs.Prelude.{◌≡◌, ◌≢◌, ℕ, List, map, string_bytes, option_map, IfOk, OnErr};
+ghost use Rattle.std.specs.Io.KnownBytes.{Keeps};
+ghost use Rattle.bs_outside.specs.Faults.{Rose};
+ghost use Rattle.bs_job.specs.Clauses.{Answered, AnsweredAsTold, IsCalm, IsWordsOnlyFor, ReadFaultOf, RefusesFirstOf};
+ghost use Rattle.bs_job.specs.Prepared.{Prepares};
+ghost use Rattle.bs_entry.specs.Refusals.{CheckSays};
+ghost use Rattle.bs_top.specs.Asked.{asked};
+ghost use Rattle.bs_top.specs.Work.{plan_of};
+ghost use Rattle.bs_top.specs.Finishes.{finishes};
+
+use crate::dumping::dump;
+use bs_job::{Answer, Status, deliver, refused_words};
+use bs_outside::{NoMemory, Shelf, Sink};
+use bs_words::{Job, read_words};
+use std::alloc::Global;
+
+/// What is to be answered and written.
+fn prepare<S: Shelf>(alloc: Global, words: &[String], shelf: &mut S) -> Result<Answer, NoMemory>
+    ensures { IfOk result (Prepares CheckSays finishes (S.held shelf.old) (S.faults shelf.old) (S.faults shelf.new) (option_map plan_of (asked (map string_bytes words.now)))) }
+{
+    match read_words(alloc, words)? {
+        Some(Job::Dump(job)) => dump(alloc, shelf, &job),
+        Some(Job::Run(_)) => refused_words(alloc),
+        Some(Job::Audit(_)) => refused_words(alloc),
+        Some(Job::Demo(_)) => refused_words(alloc),
+        None => refused_words(alloc),
+    }
+}
+
+/// Does what the words of a command line ask, without the program's name, and writes what they call for
+/// (docs/FORMATS.md, "Statuses").
+pub fn backspace<S: Shelf, K: Sink>(
+    alloc: Global,
+    words: &[String],
+    shelf: &mut S,
+    out: &mut K,
+) -> Result<Status, NoMemory>
+    // Whatever the files were: what was written is what the words call for, or its front where a put failed.
+    ensures answered { IfOk result (λ status. Answered CheckSays finishes (S.held shelf.old) (S.faults shelf.old) (S.faults shelf.new)
+        (option_map plan_of (asked (map string_bytes words.now))) (K.written out.old) (K.written out.new) status) }
+    ensures words { IfOk result (λ status. status ≢ Status.WriteFault → IsWordsOnlyFor (asked (map string_bytes words.now)) status) }
+
+    // Where the shelf tells the files, they settle the answer, but for a fault.
+    ensures told { IfOk result (λ status. status ≢ Status.ReadFault → status ≢ Status.WriteFault →
+        AnsweredAsTold CheckSays finishes (S.held shelf.old) (option_map plan_of (asked (map string_bytes words.now)))
+        (K.written out.old) (K.written out.new) status) }
+
+    // The status of a file's refusal comes exactly where the first refusal of the walk is of that file.
+    ensures refusals { IfOk result (λ status. status ≢ Status.ReadFault → status ≢ Status.WriteFault →
+        RefusesFirstOf (S.held shelf.old) (S.faults shelf.old) (S.faults shelf.new) (option_map plan_of (asked (map string_bytes words.now))) status) }
+
+    // A fault is answered only where one was counted, and one that was counted is answered.
+    ensures read_fault { IfOk result (λ status. status ≡ Status.ReadFault →
+        ReadFaultOf (S.held shelf.old) (S.faults shelf.old) (S.faults shelf.new) (option_map plan_of (asked (map string_bytes words.now)))
+        (K.written out.old) (K.written out.new)) }
+    ensures read_counted { IfOk result (λ status. status ≢ Status.ReadFault → status ≢ Status.WriteFault →
+        (name : List ℕ) → S.faults shelf.new name ≡ S.faults shelf.old name) }
+    ensures write_fault { IfOk result (λ status. status ≡ Status.WriteFault → Rose (K.faults out.old) (K.faults out.new)) }
+    ensures write_counted { IfOk result (λ status. status ≢ Status.WriteFault → K.faults out.new ≡ K.faults out.old) }
+
+    // With no fault, the answer is whole.
+    ensures complete { IsCalm (S.held shelf.old) (S.faults shelf.old) (S.faults shelf.new) (option_map plan_of (asked (map string_bytes words.now)))
+        (K.faults out.old) (K.faults out.new) →
+        IfOk result (λ status. AnsweredAsTold CheckSays finishes (S.held shelf.old) (option_map plan_of (asked (map string_bytes words.now)))
+        (K.written out.old) (K.written out.new) status) }
+
+    // After want of memory nothing was written, and no fault of the sink was counted.
+    ensures no_memory { OnErr result (Keeps (K.written out.old) (K.written out.new) × (K.faults out.new ≡ K.faults out.old)) }
+{
+    let answer = prepare(alloc, words, shelf)?;
+    Ok(deliver(&answer, out))
+}
