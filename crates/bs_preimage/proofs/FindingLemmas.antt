@@ -1,6 +1,6 @@
 -- What the search for candidates has found and logged, turn by turn.
-use Rattle.std.proofs.Common.{◌≡◌, ℕ, ◌+◌, ◌<◌, ◌≤◌, Bool, true, false, not, List, [], ◌∷◌, ◌++◌, length, reverse, refl, ap, subst, sym, ◌∙◌, ◌⊎◌, inl, inr, append_assoc, arith, Option, Some, None}
-use Rattle.std.specs.Prelude.{Contains, ◌||◌, ◌&&◌, ◌==◌, filter_map, unwrap_or}
+use Rattle.std.proofs.Common.{◌≡◌, ℕ, ◌+◌, ◌-◌, ◌<◌, ◌≤◌, Bool, true, false, not, List, [], ◌∷◌, ◌++◌, length, reverse, refl, ap, subst, sym, ◌∙◌, ◌⊎◌, inl, inr, append_assoc, arith, Option, Some, None}
+use Rattle.std.specs.Prelude.{◌^◌, Contains, ◌||◌, ◌&&◌, ◌==◌, filter_map, unwrap_or}
 use Rattle.std.specs.List.{AllByRecursion as Each, list_any, list_all, IsDistinct}
 use Rattle.std.proofs.lemmas.Bool.{false≢true, true≢false, eq-eqb}
 use Rattle.std.proofs.lemmas.List.{map-append, reverse-append, length-reverse, length-append}
@@ -26,11 +26,13 @@ use Rattle.bs_solve.specs.Solver.{SolverState, MaySolve}
 use Rattle.bs_encode.specs.Encoded.{Encoded}
 use Rattle.bs_encode.specs.Assuming.{block_for}
 use Rattle.bs_report.specs.declared.report.Cand.{Cand}
+use Rattle.bs_report.specs.declared.report.ListEnd.{ListEnd}
 use Rattle.bs_report.specs.declared.report.ListEnd.TheVariants.{Finished, Candidates, Conflicts}
 use Rattle.bs_report.specs.Step.{listed}
 use Rattle.bs_report.specs.Valid.{blocks_due, is_spent}
 use Rattle.bs_preimage.specs.Turn.{Extends, Keeps, HasSearched, MayTurn, HasListedOne, HasRefutedAll, HasSpent, IsShownIn, block_in, guard_in, steps_after}
 use Rattle.bs_preimage.specs.Finding.{is_inner, HasLogged, IsAgain, IsUnderWay, HasEndedSearch}
+use Rattle.bs_preimage.proofs.BoundLemmas.{runs_over}
 use Rattle.bs_preimage.proofs.StandingLemmas.{lemmas_inner, inner_step, each_append}
 
 -- ---- the guard of the step
@@ -195,6 +197,10 @@ under_way_at_first e a start =
 
 -- ---- the ends
 
+abbrev pub is_conflicts : ListEnd → Bool
+is_conflicts Conflicts = true
+is_conflicts end = false
+
 pub refuted_search : (e : Encoded) (a : Clause) (k limit id : ℕ) (start s s2 : SolverState) (found : List Cand) → start.stage ≡ Begun → IsUnderWay e a start s found → HasRefutedAll a s s2 id →
     length found < k → HasEndedSearch e a k limit start s2 found (Finished id)
 refuted_search e a k limit id start s s2 found b u r under =
@@ -203,6 +209,7 @@ refuted_search e a k limit id start s s2 found b u r under =
       cands = u.cands;
       steps = steps_now e a start s s2 found r.lemmas b u r.searched;
       ended = (r.ended, under);
+      bound = λ e. absurd (false≢true (ap is_conflicts e));
     }
 
 last_solve_of : (xs ys : List Line) → last_solve ys ≡ None → last_solve (xs ++ Solve ∷ ys) ≡ Some ys
@@ -265,6 +272,10 @@ spent_search e a k limit start s s2 found b u r under =
       cands = u.cands;
       steps = steps_now e a start s s2 found r.lemmas b u r.searched;
       ended = (r.stopped, under, spent_is a limit r.lemmas u.logged.lines r.all r.open_yet);
+      bound = λ _ run unit.
+          subst (λ (n : ℕ). limit < 2 ^ (n - length run)) u.logged.guards
+          (r.bound run
+          (record { distinct = unit.distinct; implied = runs_over (standing start.book) (standing s.book) a [] run u.logged.stand unit.implied }));
     }
 
 pub full_search : (e : Encoded) (a : Clause) (k limit : ℕ) (start s : SolverState) (found : List Cand) → IsUnderWay e a start s found → 1 ≤ k → length found ≡ k →
@@ -273,7 +284,7 @@ full_search e a k limit start s found u some n = by u.stage
   where
     by : ((s ≡ start) × (found ≡ [])) ⊎ IsAgain e a start s → HasEndedSearch e a k limit start s found Candidates
     by (inl first) = absurd (let none : length found ≡ 0 = ap length first.1 in omega (arith, n, none, some))
-    by (inr again) = record { logged = u.logged; cands = u.cands; steps = again.steps; ended = (again.stage, n) }
+    by (inr again) = record { logged = u.logged; cands = u.cands; steps = again.steps; ended = (again.stage, n); bound = λ e. absurd (false≢true (ap is_conflicts e)) }
 
 -- ---- extensions
 

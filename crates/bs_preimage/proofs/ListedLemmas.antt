@@ -1,16 +1,18 @@
 -- A step of the log is a right list.
-use Rattle.std.proofs.Common.{◌≡◌, ◌≢◌, ℕ, ◌+◌, ◌<◌, Bool, true, false, List, [], ◌∷◌, ◌++◌, map, length, reverse, get_or, refl, ap, subst, sym, ◌∙◌, inl, inr, append_assoc, arith, Option, Some, None}
+use Rattle.std.proofs.Common.{◌≡◌, ◌≢◌, ℕ, ◌+◌, ◌-◌, ◌<◌, ◌≤◌, Bool, true, false, List, [], ◌∷◌, ◌++◌, map, length, reverse, get_or, refl, ap, subst, sym, ◌∙◌, ◌⊎◌, inl, inr, append_assoc, arith, Option, Some, None}
 use mathlib.Core.List.{reverse_aux}
-use Rattle.std.specs.Prelude.{Contains, All, ◌||◌, ◌&&◌, filter_map, slice_get, IsTrue}
+use Rattle.std.specs.Prelude.{◌^◌, Contains, All, ◌||◌, ◌&&◌, filter_map, slice_get, IsTrue}
 use Rattle.std.specs.Bool.{beq}
 use Rattle.std.specs.List.{AllByRecursion as Each, list_any}
 use Rattle.std.specs.List.Sorted.{IsPermutation}
 use Rattle.std.proofs.lemmas.Bool.{false≢true, true≢false}
 use Rattle.std.proofs.lemmas.List.{length-append, reverse-reverse}
-use Rattle.std.proofs.lemmas.List.Elements.{All-weaker, All-map, All-from_recursion, recursion_from_All, Contains-append_left}
+use Rattle.std.proofs.lemmas.List.Elements.{All-weaker, All-map, All-from_recursion, recursion_from_All, Contains-append_left, Contains-push}
 use Rattle.std.proofs.lemmas.List.Sorted.{length_permutation, All-permutation}
 use Rattle.bs_bits.specs.Bits.{bits_eq}
 use Rattle.bs_clause.specs.Literal.{Literal, Clause, negation, literal_value, Satisfies}
+use Rattle.bs_solve.specs.Scan.{HasVariables}
+use Rattle.bs_clause.specs.UnitRun.{IsUnitRun}
 use Rattle.bs_log.specs.declared.line.Line.{Line}
 use Rattle.bs_log.specs.declared.line.Line.TheVariants.{Retire}
 use Rattle.bs_log.specs.History.{Problem, History, step_of, guard_of}
@@ -37,7 +39,7 @@ use Rattle.bs_encode.specs.Assuming.{assumptions_for, block_for}
 use Rattle.bs_encode.specs.Listing.{IsTidy, PredecessorsAreShown, SolutionsArePredecessors, IsPredecessor, values_of}
 use Rattle.bs_report.specs.declared.report.Cand.{Cand}
 use Rattle.bs_report.specs.declared.report.ListEnd.{ListEnd}
-use Rattle.bs_report.specs.declared.report.ListEnd.TheVariants.{Finished}
+use Rattle.bs_report.specs.declared.report.ListEnd.TheVariants.{Finished, Conflicts}
 use Rattle.bs_report.specs.Step.{listed, IsCandidate}
 use Rattle.bs_report.specs.Valid.{blocks_due, are_right_blocks, is_right_finish, blocks_in, finishes_in}
 use Rattle.bs_report.proofs.SortedLemmas.{asc_of_pairs, asc_filter, asc_all_bits, same_lists}
@@ -49,6 +51,9 @@ use Rattle.bs_preimage.specs.Rest.{IsAbout, IsAtRest, AreWholeSteps}
 use Rattle.bs_preimage.specs.Turn.{IsReadable, IsShownIn, bits_on, guard_in}
 use Rattle.bs_preimage.specs.Order.{IsInOrder}
 use Rattle.bs_preimage.specs.Step.{HasSought, HasMadeStep, assumptions_at, ending_of}
+use Rattle.bs_solve.proofs.Clauses.{contains_first}
+use Rattle.bs_preimage.proofs.BoundLemmas.{bound_is}
+use Rattle.std.proofs.Math.Nat.{eq-or-lt_of_le}
 use Rattle.bs_preimage.proofs.OrderLemmas.{in_order_ascend}
 use Rattle.bs_preimage.proofs.StepLinesLemmas.{is_in_step, finish_lines, in_step, step_kept, step_lines_are, whole_after, get_last, slice_get_last, blocks_are_due, right_blocks, one_finish, finish_is, end_is}
 
@@ -130,6 +135,28 @@ step_lines t =
 one_longer : (t : Sought) → length t.new.book.problem.steps ≡ length t.old.book.problem.steps + 1
 one_longer t = ap length (steps_are t) ∙ length-append t.old.book.problem.steps (assumed_by t ∷ [])
 
+retires : (t : Sought) → (n : ℕ) → 1 ≤ n → n ≤ length t.new.book.problem.steps → Contains (standing t.new.book) (negation (guard_of t.new.book.problem n) ∷ [])
+retires t n from to =
+    by (eq-or-lt_of_le (subst (λ (k : ℕ). n ≤ k) (one_longer t) to))
+  where
+    guard : (n : ℕ) → negation (guard_of t.new.book.problem n) ∷ [] ≡ negation (guard_of t.old.book.problem n) ∷ []
+    guard n = ap (λ (v : ℕ). negation (record { variable = v + n; positive = true }) ∷ []) (vars_are t)
+
+    last : negation (guard_of t.sought.middle.book.problem (step_of t.sought.middle.book.history)) ∷ [] ≡ negation (guard_of t.old.book.problem (length t.old.book.problem.steps + 1)) ∷ []
+    last = ap (λ (v : ℕ). negation (record { variable = v; positive = true }) ∷ [])
+        (λ i. t.sought.search.logged.vars i + (ap step_of t.sought.search.logged.history ∙ (step_kept t.sought.search.logged.lines t.old.book.history (in_step None t.sought.search.logged.lines t.sought.search.logged.inner) ∙ t.rest.number)) i)
+
+    by : (n ≡ length t.old.book.problem.steps + 1) ⊎ (n < length t.old.book.problem.steps + 1) → Contains (standing t.new.book) (negation (guard_of t.new.book.problem n) ∷ [])
+    by (inl same) =
+        subst (Contains (standing t.new.book)) (last ∙ (ap (λ (n : ℕ). negation (guard_of t.old.book.problem n) ∷ []) (sym same) ∙ sym (guard n)))
+        (subst (λ (cs : List Clause). Contains cs (negation (guard_of t.sought.middle.book.problem (step_of t.sought.middle.book.history)) ∷ [])) (sym t.sought.ended.stands)
+        (Contains-push (standing t.sought.middle.book) (negation (guard_of t.sought.middle.book.problem (step_of t.sought.middle.book.history)) ∷ [])))
+    by (inr before) =
+        subst (Contains (standing t.new.book)) (sym (guard n))
+        (subst (λ (cs : List Clause). Contains cs (negation (guard_of t.old.book.problem n) ∷ [])) (sym t.sought.ended.stands)
+        (Contains-append_left (standing t.sought.middle.book) _ (negation (guard_of t.old.book.problem n) ∷ [])
+        (t.sought.search.logged.stand (negation (guard_of t.old.book.problem n) ∷ []) (t.rest.retired n from (omega arith)))))
+
 rests : (t : Sought) → IsAtRest t.new
 rests t =
     record {
@@ -145,6 +172,7 @@ rests t =
       stand = λ c there.
           subst (λ (cs : List Clause). Contains cs c) (sym t.sought.ended.stands)
           (Contains-append_left (standing t.sought.middle.book) _ c (t.sought.search.logged.stand c (t.rest.stand c (subst (λ (cs : List Clause). Contains cs c) (clauses_are t) there))));
+      retired = retires t;
       whole = subst (λ (h : History). AreWholeSteps (reverse h)) (sym (history_is t)) (whole_after (lines_by t) t.old.book.history (retired_by t) t.rest.whole (inside t));
     }
 
@@ -258,8 +286,8 @@ refuted t id fin s x ls lx ag nx out =
       other_guards = shown.other_guards;
     } in
     finished_steps_are_refuted p log spot.before spot.after id v t.accepted spot.parts
-    (subst (λ (n : ℕ). Suits p (history_of spot.before) n v) (sym spot.step) suits)
-    (subst (λ (n : ℕ). All (λ l. IsTrue (literal_value v l)) (assumptions_of p n)) (sym spot.step) shown.assumptions)
+    (subst (λ (n : ℕ). Suits p (history_of spot.before) n v) (sym {a = step_of (reverse_aux spot.before [])} spot.step) suits)
+    (subst (λ (n : ℕ). All (λ l. IsTrue (literal_value v l)) (assumptions_of p n)) (sym {a = step_of (reverse_aux spot.before [])} spot.step) shown.assumptions)
 
 record Passing {X : Type 0} (p : X → Bool) (xs : List X) : Type 0 where
   item : X
@@ -313,6 +341,16 @@ whole t id fin =
 
 -- ---- the step
 
+-- ---- the bound
+
+bounded : (t : Sought) → t.end ≡ Conflicts → (run : List Literal) → HasVariables t.e.variables run → IsUnitRun t.e.clauses (assumed_by t) run → t.b < 2 ^ (t.e.variables - length run)
+bounded t ended run range unit =
+    let p : Problem = t.old.book.problem in
+    subst (λ (n : ℕ). t.b < 2 ^ (n - length run)) t.about.vars
+    (bound_is p t.e.clauses (standing t.old.book) (assumed_by t) t.b (length p.steps) (t.old.vars + 1)
+    (λ c there. t.rest.stand c (subst (λ (cs : List Clause). Contains cs c) (sym t.about.clauses) there)) t.rest.retired (contains_first (next_guard p) _) (omega (arith, t.rest.guards))
+    (t.sought.search.bound ended) run (subst (λ (n : ℕ). HasVariables n run) (sym t.about.vars) range) unit)
+
 pub made_step : (t : Sought) (listing : Listing) → listing ≡ record { cands = t.cands; end = t.end } → HasMadeStep t.c t.choice t.old t.new t.present t.stored t.k t.b listing
 made_step t listing e = subst (HasMadeStep t.c t.choice t.old t.new t.present t.stored t.k t.b) (sym e) (record {
   rest = rests t;
@@ -334,6 +372,9 @@ made_step t listing e = subst (HasMadeStep t.c t.choice t.old t.new t.present t.
     finish =
         ap (λ (e : Encoded). is_right_finish t.b (assumptions_for e (next_guard t.old.book.problem) (asked t)) (reverse (lines_by t)) t.end (finishes_in (reverse (lines_by t)))) (sym t.about.encoding)
         ∙ finish_is t.k t.b (assumed_by t) t.sought.middle t.sought.search.logged.lines (length t.found) t.end t.sought.search.logged.inner t.sought.search.ended;
+    bound = subst
+        (λ (e : Encoded). t.end ≡ Conflicts → (run : List Literal) → HasVariables e.variables run → IsUnitRun e.clauses (assumptions_for e (next_guard t.old.book.problem) (asked t)) run →
+        t.b < 2 ^ (e.variables - length run)) t.about.encoding (bounded t);
   };
 })
 

@@ -6,6 +6,7 @@ use Rattle.std.specs.Bool.{beq}
 use Rattle.std.proofs.lemmas.Bool.{false≢true, true≢false}
 use Rattle.std.proofs.lemmas.List.Elements.{All-contains}
 use Rattle.bs_clause.specs.Literal.{Literal, Clause, negation, literal_value, Satisfies}
+use Rattle.bs_clause.specs.UnitRun.{IsUnitRun}
 use Rattle.bs_log.specs.declared.line.Line.{Line}
 use Rattle.bs_log.specs.declared.line.Line.TheVariants.{Solve, Lemma, Block, Finish, Retire, Delete}
 use Rattle.bs_log.specs.History.{Problem}
@@ -14,6 +15,7 @@ use Rattle.bs_solve.specs.declared.search.Answer.{Answer}
 use Rattle.bs_solve.specs.declared.search.Answer.TheVariants as answers
 use Rattle.bs_solve.specs.Book.{Book, standing}
 use Rattle.bs_solve.specs.Ending.{is_open_lemma}
+use Rattle.bs_solve.specs.Search.{assumed}
 use Rattle.bs_solve.specs.Stages.{is_begun, begun_book}
 use Rattle.bs_solve.specs.Solver.{SolverState, HasSolved, HasBlocked, Follows}
 use Rattle.bs_solve.specs.Values.{value_of}
@@ -203,6 +205,10 @@ spent_turn e a old new limit s =
       searched = searched_by old new a limit answers.Spent s lemmas.lines lemmas.problem lemmas.history (open_are_lemmas _ lemmas.lines lemmas.open_yet);
       stopped = s.stage;
       all = lemmas.length_is;
+      bound = λ run unit.
+          s.ends.bound run
+          (subst (λ (cs : List Clause). IsUnitRun cs (assumed (begun_book (is_begun old.stage) old.book a)) run) (sym s.stands)
+          (subst (λ (c : Clause). IsUnitRun (standing old.book) c run) (sym s.assumed_is) unit));
       open_yet = subst (λ (c : Clause). Each (λ line. is_open_lemma c line ≡ true) lemmas.lines) s.assumed_is lemmas.open_yet;
     }
 

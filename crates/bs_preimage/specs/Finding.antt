@@ -1,8 +1,9 @@
 -- The search for the candidates of a step: what it has found and logged.
-use Rattle.std.specs.Prelude.{◌≡◌, ◌⊎◌, ℕ, ◌<◌, Bool, true, false, List, [], ◌∷◌, ◌++◌, length, reverse, filter_map, All, Contains}
+use Rattle.std.specs.Prelude.{◌≡◌, ◌⊎◌, ℕ, ◌-◌, ◌^◌, ◌<◌, Bool, true, false, List, [], ◌∷◌, ◌++◌, length, reverse, filter_map, All, Contains}
 use Rattle.std.specs.List.{AllByRecursion, IsDistinct}
 use Rattle.bs_bits.specs.Bits.{bits_eq}
-use Rattle.bs_clause.specs.Literal.{Clause}
+use Rattle.bs_clause.specs.Literal.{Literal, Clause}
+use Rattle.bs_clause.specs.UnitRun.{IsUnitRun}
 use Rattle.bs_log.specs.declared.line.Line.{Line}
 use Rattle.bs_log.specs.declared.line.Line.TheVariants.{Solve, Lemma, Block}
 use Rattle.bs_log.specs.Steps.{block_of_line, last_solve}
@@ -67,3 +68,4 @@ pub record HasEndedSearch (e : Encoded) (assumptions : Clause) (k limit : ℕ) (
   pub cands : AreFound e assumptions found
   pub steps : s.book.problem.steps ≡ start.book.problem.steps ++ assumptions ∷ []
   pub ended : EndedBy k limit assumptions s logged.lines (length found) end
+  pub bound : end ≡ Conflicts → (run : List Literal) → IsUnitRun (standing start.book) assumptions run → limit < 2 ^ (start.vars - length run)

@@ -1,8 +1,8 @@
 -- A solver between two lists.
-use Rattle.std.specs.Prelude.{◌≡◌, ℕ, ◌+◌, Bool, false, List, [], ◌++◌, length, reverse, Contains}
-use Rattle.bs_clause.specs.Literal.{Clause}
+use Rattle.std.specs.Prelude.{◌≡◌, ℕ, ◌+◌, ◌≤◌, Bool, false, List, [], ◌∷◌, ◌++◌, length, reverse, Contains}
+use Rattle.bs_clause.specs.Literal.{Clause, negation}
 use Rattle.bs_log.specs.declared.line.Line.{Line}
-use Rattle.bs_log.specs.History.{step_of}
+use Rattle.bs_log.specs.History.{step_of, guard_of}
 use Rattle.bs_log.specs.Steps.{steps_of}
 use Rattle.bs_net.specs.Circuit.{Circuit}
 use Rattle.bs_scan.specs.Choice.{Chosen}
@@ -14,6 +14,11 @@ use Rattle.bs_solve.specs.Solver.{SolverState}
 -- each clause that the log is about stands
 abbrev pub AxiomsStand : Book → Type 0
 AxiomsStand b = (c : Clause) → Contains b.problem.clauses c → Contains (standing b) c
+
+-- the negation of each step's guard stands
+abbrev pub GuardsAreRetired : Book → Type 0
+GuardsAreRetired b =
+    (n : ℕ) → 1 ≤ n → n ≤ length b.problem.steps → Contains (standing b) (negation (guard_of b.problem n) ∷ [])
 
 -- the lines so far are those of whole steps
 abbrev pub AreWholeSteps : List Line → Type 0
@@ -27,6 +32,7 @@ pub record IsAtRest (s : SolverState) : Type 0 where
   pub number : step_of s.book.history ≡ length s.book.problem.steps + 1
   pub count : length (steps_of (reverse s.book.history)) ≡ length s.book.problem.steps
   pub stand : AxiomsStand s.book
+  pub retired : GuardsAreRetired s.book
   pub whole : AreWholeSteps (reverse s.book.history)
 
 -- the log is about the clauses of the circuit's encoding

@@ -1,7 +1,8 @@
 -- A turn of a search for candidates: one solve, and what comes of it.
-use Rattle.std.specs.Prelude.{◌≡◌, ◌≢◌, ℕ, ◌+◌, ◌^◌, ◌<◌, ◌≤◌, Bool, true, false, cond, List, [], ◌∷◌, ◌++◌, length, map, Option, All, Contains}
+use Rattle.std.specs.Prelude.{◌≡◌, ◌≢◌, ℕ, ◌+◌, ◌-◌, ◌^◌, ◌<◌, ◌≤◌, Bool, true, false, cond, List, [], ◌∷◌, ◌++◌, length, map, Option, All, Contains}
 use Rattle.std.specs.List.{AllByRecursion}
 use Rattle.bs_clause.specs.Literal.{Literal, Clause, negation, literal_value, Satisfies}
+use Rattle.bs_clause.specs.UnitRun.{IsUnitRun}
 use Rattle.bs_log.specs.declared.line.Line.{Line}
 use Rattle.bs_log.specs.declared.line.Line.TheVariants.{Solve}
 use Rattle.bs_log.specs.History.{step_of, guard_of}
@@ -126,12 +127,14 @@ pub record HasRefutedAll (assumptions : Clause) (old new : SolverState) (id : �
   pub searched : HasSearched old new assumptions lemmas
   pub ended : new.stage ≡ Ended id
 
--- the solve logged its limit of lemmas, none of which ends the step
+-- the solve logged its limit of lemmas, none of which ends the step; the limit is less than the number of values of the
+-- variables that a unit run leaves open
 pub record HasSpent (assumptions : Clause) (limit : ℕ) (old new : SolverState) : Type 0 where
   pub lemmas : List Line
   pub searched : HasSearched old new assumptions lemmas
   pub stopped : new.stage ≡ Stopped
   pub all : length lemmas ≡ limit
+  pub bound : (run : List Literal) → IsUnitRun (standing old.book) assumptions run → limit < 2 ^ (old.vars - length run)
   pub open_yet : AllByRecursion (λ line. is_open_lemma assumptions line ≡ true) lemmas
 
 abbrev pub TurnsTo : Encoded → Clause → ℕ → SolverState → SolverState → Turn → Type 0

@@ -1,6 +1,6 @@
 use Rattle.std.proofs.Common.{◌+◌}
 use Rattle.bs_net.specs.Netlist.{circuit}
-use Rattle.bs_preimage.proofs.RestLemmas.{listed_again}
+use Rattle.bs_preimage.proofs.SeenLemmas.{listed_again}
 use Rattle.bs_preimage.proofs.preimage.Preimage.list.Goals as goal
 
 -- src/preimage.rt:99:5
