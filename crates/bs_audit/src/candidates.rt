@@ -1,0 +1,141 @@
+//! The candidates of a step, tried by simulation and replay.
+ghost use Rattle.std.specs.Prelude.{◌≡◌, ◌<◌, ◌+◌, ◌-◌, ◌^◌, ◌==◌, ◌||◌, length, option_map, All, IfOk};
+ghost use Rattle.std.specs.Ordering.{bool_cmp, is_lt};
+ghost use Rattle.std.specs.Cmp.Lexicographic.{slice_cmp};
+ghost use Rattle.bs_bits.specs.Bits.{bits_eq};
+ghost use Rattle.bs_net.specs.Circuit.{next};
+ghost use Rattle.bs_net.specs.Netlist.{circuit};
+ghost use Rattle.bs_scan.specs.Signature.{signature};
+ghost use Rattle.bs_report.specs.Chain.{present_of_hit};
+ghost use Rattle.bs_report.specs.Step.{listed, hit_of};
+ghost use Rattle.bs_report.specs.Valid.{cand_at, first_of_all, is_right_cand};
+ghost use Rattle.bs_audit.specs.Following.{cand_parts, line_of, present_in};
+
+use crate::replay::Replay;
+use bs_bits::{Bits, List, NoMemory};
+use bs_chip::Hit;
+use bs_report::{Budgets, Cand, Part, Step};
+use bs_scan::Choice;
+use bs_sim::Sim;
+use std::alloc::Global;
+use std::cmp::Ordering;
+
+/// Whether a candidate is greater than the one before it.
+fn is_greater(step: &Step, j: usize) -> bool
+    requires { j < length step.now.cands }
+    ensures { result ≡ ((j == 0) || is_lt (slice_cmp bool_cmp (cand_at step.now (j - 1)).state (cand_at step.now j).state)) }
+{
+    if j == 0 {
+        return true;
+    }
+    let before = step.cands.get(j - 1);
+    let order = before.state.order(&step.cands.get(j).state);
+    order == Ordering::Less
+}
+
+/// Whether a state has this signature.
+fn has_signature(
+    alloc: Global,
+    choice: &Choice,
+    state: &Bits,
+    stored: &Bits,
+) -> Result<bool, NoMemory>
+    requires { length state.now ≡ choice.now.width }
+    ensures { IfOk result (λ same. same ≡ bits_eq (signature choice.now state.now) stored.now) }
+{
+    let signature = choice.of(alloc, state)?;
+    Ok(signature.equals(stored))
+}
+
+/// Whether a state leads to another under an input.
+fn leads(sim: &mut Sim<'_>, cand: &Cand, present: &Bits) -> bool
+    requires state { length cand.now.state ≡ length (circuit sim.old.net).flops }
+    requires input { length cand.now.input ≡ length (circuit sim.old.net).inputs }
+    ensures net { sim.new.net ≡ sim.old.net }
+    ensures leads { result ≡ bits_eq (next (circuit sim.old.net) cand.now.state cand.now.input) present.now }
+{
+    sim.load(&cand.state);
+    sim.step(&cand.input);
+    sim.state().equals(present)
+}
+
+/// Copies of the states of candidates.
+fn states_of(alloc: Global, cands: &[Cand]) -> Result<List<Bits>, NoMemory>
+    ensures { IfOk result (λ states. states ≡ listed cands.now) }
+{
+    let mut states = List::new(alloc);
+    'cands: for cand in cands {
+        states.push(cand.state.copy()?)?;
+    }
+    Ok(states)
+}
+
+/// The number of a place, counted from 1.
+pub(crate) fn number(i: usize) -> u64
+    requires { i + 1 < 2 ^ 64 }
+    ensures { result ≡ i + 1 }
+{
+    i as u64 + 1
+}
+
+impl<'a> Replay<'a> {
+    /// Whether a candidate, counted from 0, is right.
+    fn is_right_candidate(
+        &mut self,
+        alloc: Global,
+        budgets: &Budgets,
+        step: &Step,
+        j: usize,
+    ) -> Result<bool, NoMemory>
+        requires { j < length step.now.cands }
+        ensures right { IfOk result (λ right. right ≡ is_right_cand self.old budgets.now step.now j) }
+        ensures kept { self.new ≡ self.old }
+    {
+        let cand = step.cands.get(j);
+        if !is_greater(step, j) {
+            return Ok(false);
+        }
+        if cand.state.len() != self.net.width() {
+            return Ok(false);
+        }
+        if cand.input.len() != self.net.data_inputs().len() {
+            return Ok(false);
+        }
+        if !has_signature(alloc, self.choice, &cand.state, &step.stored)? {
+            return Ok(false);
+        }
+        let leads = leads(&mut self.sim, cand, &step.present);
+        Ok(leads && (j as u64) < budgets.candidates)
+    }
+
+    /// The first candidate that is not right.
+    pub fn wrong_candidate(
+        &mut self,
+        alloc: Global,
+        budgets: &Budgets,
+        i: usize,
+        step: &Step,
+    ) -> Result<Option<Part>, NoMemory>
+        requires { i + 1 < 2 ^ 64 }
+        ensures part { IfOk result (λ part. part ≡ first_of_all (cand_parts self.old budgets.now i step.now 0 (length step.now.cands))) }
+        ensures kept { self.new ≡ self.old }
+    {
+        'cands: for j in 0..step.cands.len() {
+            if !self.is_right_candidate(alloc, budgets, step, j)? {
+                return Ok(Some(Part::Candidate(number(i), number(j))));
+            }
+        }
+        Ok(None)
+    }
+
+    /// The first moment at which a run is in a listed state.
+    pub fn hit(&mut self, alloc: Global, cands: &[Cand]) -> Result<Option<Hit>, NoMemory>
+        requires { All (λ state. length state ≡ length self.old.circuit.flops) (listed cands.now) }
+        ensures first { IfOk result (λ hit. hit_of self.old cands.now ≡ option_map line_of hit) }
+        ensures dump { IfOk result (λ hit. option_map (present_of_hit self.old) (hit_of self.old cands.now) ≡ option_map (λ hit. present_in hit.dump) hit) }
+        ensures kept { self.new ≡ self.old }
+    {
+        let states = states_of(alloc, cands)?;
+        self.chip.first(alloc, states.slice())
+    }
+}

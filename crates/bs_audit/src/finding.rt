@@ -1,0 +1,201 @@
+//! What an audit finds of a report.
+ghost use Rattle.std.specs.Prelude.{◌≡◌, ◌+◌, ◌<◌, ◌≤◌, ◌^◌, length, map, None, All, IfOk, option_map};
+ghost use Rattle.bs_net.specs.Netlist.{circuit};
+ghost use Rattle.bs_encode.specs.Assuming.{basis_of};
+ghost use Rattle.bs_encode.specs.Encoded.{encoding_of};
+ghost use Rattle.bs_encode.specs.Listing.{IsTidy};
+ghost use Rattle.bs_scan.specs.Dump.{signatures_of};
+ghost use Rattle.bs_report.specs.Chain.{present_of};
+ghost use Rattle.bs_report.specs.Good.{IsGood};
+ghost use Rattle.bs_report.specs.Valid.{first_failing, first_of_all};
+ghost use Rattle.bs_audit.specs.Finding.{basis_for, crash_for, part_of};
+ghost use Rattle.bs_audit.specs.Following.{present_in, IsWalked};
+ghost use Rattle.bs_audit.specs.Logged.{basis_with, behind_parts, first_after, logged_parts, AreSound, IsSound, LeavesSound};
+
+use crate::law::valid_reports_are_good;
+use crate::logged::{assumptions, refused_line, wrong_log};
+use crate::replay::Replay;
+use crate::steps::Walk;
+use crate::stop::is_right_stop;
+use crate::trace::is_right_trace;
+use bs_bits::{List, NoMemory};
+use bs_clause::Lits;
+use bs_encode::{Encoding, encodings_are_tidy};
+use bs_net::Netlist;
+use bs_report::{Part, Report};
+use bs_scan::{Choice, Dump};
+use bs_stim::Runs;
+use std::alloc::Global;
+
+/// What an audit finds of a report (docs/DEFINITIONS.md, "Valid").
+#[derive(Clone, Copy, Debug, PartialEq, Eq)]
+pub enum Finding {
+    /// No part fails.
+    Accepted,
+    /// This part is the first that fails.
+    Rejected(Part),
+}
+
+/// What is found where this is the first part that fails, if one does.
+fn finding_of(part: Option<Part>) -> Finding
+    ensures { part_of result ≡ part }
+{
+    match part {
+        None => Finding::Accepted,
+        Some(part) => Finding::Rejected(part),
+    }
+}
+
+/// The encoding of a netlist and of what its signature is taken of.
+fn encoding(alloc: Global, net: &Netlist, choice: &Choice) -> Result<Encoding, NoMemory>
+    requires { choice.now.width ≡ length (circuit net.now).flops }
+    ensures value { IfOk result (λ e. e ≡ encoding_of (circuit net.now) choice.now.items) }
+    ensures tidy { IfOk result (IsTidy (circuit net.now) choice.now.items) }
+{
+    encodings_are_tidy(net, choice);
+    match Encoding::new(alloc, net, choice) {
+        Ok(encoding) => Ok(encoding),
+        Err(_) => Err(NoMemory),
+    }
+}
+
+/// The first part that fails against the log, of which these are the clauses and the assumptions.
+fn logged_part(
+    alloc: Global,
+    encoding: &Encoding,
+    width: usize,
+    report: &Report,
+    assumptions: &List<Lits>,
+) -> Result<Option<Part>, NoMemory>
+    requires width { width ≡ length encoding.now.states }
+    requires room { encoding.now.variables + length report.now.steps < 2 ^ 30 }
+    requires sound { AreSound encoding.now report.now.steps }
+    requires assumptions { length assumptions.now ≡ length report.now.steps }
+    ensures { IfOk result (λ part. part ≡ first_of_all (logged_parts (basis_with encoding.now assumptions.now) report.now)) }
+{
+    match refused_line(alloc, encoding, report, assumptions)? {
+        Some(part) => Ok(Some(part)),
+        None => wrong_log(alloc, encoding, width, report, assumptions),
+    }
+}
+
+/// The first part that fails against the log.
+fn log_part(
+    alloc: Global,
+    net: &Netlist,
+    choice: &Choice,
+    report: &Report,
+) -> Result<Option<Part>, NoMemory>
+    requires choice { choice.now.width ≡ length (circuit net.now).flops }
+    requires few { length report.now.steps ≤ 65536 }
+    requires sound { All (IsSound (length (circuit net.now).flops) (length choice.now.items)) report.now.steps }
+    ensures { IfOk result (λ part. part ≡ first_of_all (logged_parts (basis_of (circuit net.now) choice.now.items (map present_of report.now.steps)) report.now)) }
+{
+    let encoding = encoding(alloc, net, choice)?;
+    let assumptions = assumptions(alloc, &encoding, report.steps.slice())?;
+    logged_part(alloc, &encoding, net.width(), report, &assumptions)
+}
+
+/// The first part behind the steps that fails, where the next step is due to begin at a dump if at all.
+fn part_behind(
+    alloc: Global,
+    net: &Netlist,
+    choice: &Choice,
+    dump: &Dump,
+    report: &Report,
+    due: &Option<Dump>,
+) -> Result<Option<Part>, NoMemory>
+    requires choice { choice.now.width ≡ length (circuit net.now).flops }
+    requires budget { report.now.budgets.steps ≤ 65536 }
+    requires sound { All (IsSound (length (circuit net.now).flops) (length choice.now.items)) report.now.steps }
+    ensures { IfOk result (λ part. part ≡ first_of_all (behind_parts (option_map present_in due.now) dump.now.state (basis_of (circuit net.now) choice.now.items (map present_of report.now.steps)) report.now)) }
+{
+    if !is_right_stop(report, due) {
+        return Ok(Some(Part::Stop));
+    }
+    if !is_right_trace(report, &dump.state) {
+        return Ok(Some(Part::Trace));
+    }
+    log_part(alloc, net, choice, report)
+}
+
+/// What is found of the steps.
+fn walked(
+    alloc: Global,
+    net: &Netlist,
+    choice: &Choice,
+    runs: &Runs,
+    dump: &Dump,
+    report: &Report,
+) -> Result<Walk, NoMemory>
+    requires choice { choice.now.width ≡ length (circuit net.now).flops }
+    requires runs { runs.now.width ≡ length (circuit net.now).inputs }
+    ensures { IfOk result (IsWalked (crash_for net.now choice.now runs.now dump.now) report.now) }
+{
+    let mut replay = Replay::new(alloc, net, choice, runs, dump)?;
+    replay.walk(alloc, report)
+}
+
+/// The first part that fails, where this is found of the steps.
+fn part_after(
+    alloc: Global,
+    net: &Netlist,
+    choice: &Choice,
+    dump: &Dump,
+    report: &Report,
+    walk: &Walk,
+) -> Result<Option<Part>, NoMemory>
+    requires choice { choice.now.width ≡ length (circuit net.now).flops }
+    requires budget { report.now.budgets.steps ≤ 65536 }
+    requires sound { LeavesSound (length (circuit net.now).flops) (length choice.now.items) report.now.steps walk.now }
+    ensures { IfOk result (λ part. part ≡ first_after walk.now dump.now.state (basis_of (circuit net.now) choice.now.items (map present_of report.now.steps)) report.now) }
+{
+    match walk {
+        Walk::Fails(part) => Ok(Some(*part)),
+        Walk::Holds(due) => part_behind(alloc, net, choice, dump, report, due),
+    }
+}
+
+/// The first part that fails.
+fn failing_part(
+    alloc: Global,
+    net: &Netlist,
+    choice: &Choice,
+    runs: &Runs,
+    dump: &Dump,
+    report: &Report,
+) -> Result<Option<Part>, NoMemory>
+    requires choice { choice.now.width ≡ length (circuit net.now).flops }
+    requires runs { runs.now.width ≡ length (circuit net.now).inputs }
+    requires state { length dump.now.state ≡ length (circuit net.now).flops }
+    requires stored { All (λ t. length t ≡ length choice.now.items) (signatures_of dump.now) }
+    requires budget { report.now.budgets.steps ≤ 65536 }
+    ensures { IfOk result (λ part. part ≡ first_failing (crash_for net.now choice.now runs.now dump.now) (basis_for (crash_for net.now choice.now runs.now dump.now) report.now) report.now) }
+{
+    let walk = walked(alloc, net, choice, runs, dump, report)?;
+    part_after(alloc, net, choice, dump, report, &walk)
+}
+
+/// The finding on a report: it is accepted exactly where it is valid, and otherwise its first part that fails is named
+/// (docs/DEFINITIONS.md, "Valid"). The runs are replayed, the candidates are tried by simulation, and the log is checked
+/// against the netlist's own clauses; nothing is taken from the solver. A report that is accepted is good.
+pub fn audit(
+    alloc: Global,
+    net: &Netlist,
+    choice: &Choice,
+    runs: &Runs,
+    dump: &Dump,
+    report: &Report,
+) -> Result<Finding, NoMemory>
+    requires choice { choice.now.width ≡ length (circuit net.now).flops }
+    requires runs { runs.now.width ≡ length (circuit net.now).inputs }
+    requires state { length dump.now.state ≡ length (circuit net.now).flops }
+    requires stored { All (λ t. length t ≡ length choice.now.items) (signatures_of dump.now) }
+    requires budget { report.now.budgets.steps ≤ 65536 }
+    ensures finding { IfOk result (λ finding. part_of finding ≡ first_failing (crash_for net.now choice.now runs.now dump.now) (basis_for (crash_for net.now choice.now runs.now dump.now) report.now) report.now) }
+    ensures good { IfOk result (λ finding. part_of finding ≡ None → IsGood (crash_for net.now choice.now runs.now dump.now) report.now) }
+{
+    valid_reports_are_good(net, choice, runs);
+    let part = failing_part(alloc, net, choice, runs, dump, report)?;
+    Ok(finding_of(part))
+}

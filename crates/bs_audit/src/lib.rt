@@ -1,0 +1,18 @@
+//! The audit of a report: it is accepted exactly where it is valid, or else refused with the first part that fails.
+#![tactic(auto)]
+
+mod assumed;
+mod blocks;
+mod candidates;
+mod ends;
+mod finding;
+mod law;
+mod logged;
+mod replay;
+mod step_lines;
+mod steps;
+mod stop;
+mod trace;
+
+pub use finding::{Finding, audit};
+pub use law::valid_reports_are_good;

@@ -1,0 +1,61 @@
+//! The replay of a crashed chip's recorded runs.
+ghost use Rattle.std.specs.Prelude.{◌≡◌, length, IfOk};
+ghost use Rattle.bs_net.specs.Netlist.{circuit};
+ghost use Rattle.bs_audit.specs.Finding.{crash_for};
+
+use bs_bits::NoMemory;
+use bs_chip::Chip;
+use bs_net::Netlist;
+use bs_scan::{Choice, Dump};
+use bs_sim::Sim;
+use bs_stim::Runs;
+use std::alloc::Global;
+use std::marker::Model;
+
+/// A chip that replays the recorded runs, beside a simulator of its netlist. Contracts see the crash that is backtraced.
+#[derive(Drop)]
+pub struct Replay<'a> {
+    pub(crate) net: &'a Netlist,
+    pub(crate) choice: &'a Choice,
+    pub(crate) dump: &'a Dump,
+    pub(crate) sim: Sim<'a>,
+    pub(crate) chip: Chip<'a>,
+}
+
+impl<'a> Model for Replay<'a> {
+    ghost use Rattle.std.specs.Prelude.{◌≡◌, length};
+    ghost use Rattle.bs_net.specs.Netlist.{circuit};
+    ghost use Rattle.bs_report.specs.Crash.{Crash};
+    ghost use Rattle.bs_audit.specs.Finding.{crash_for};
+
+    ghost Value = { Crash };
+
+    ghost view = { λ r. crash_for r.net.now r.choice.now r.chip.runs r.dump.now };
+
+    ghost invariant = { λ r. (r.sim.net ≡ r.net.now) × (r.chip.net ≡ r.net.now) × (r.chip.choice ≡ r.choice.now) × (r.choice.now.width ≡ length (circuit r.net.now).flops) };
+}
+
+impl<'a> Replay<'a> {
+    /// The runs, ready to be replayed.
+    pub fn new(
+        alloc: Global,
+        net: &'a Netlist,
+        choice: &'a Choice,
+        runs: &'a Runs,
+        dump: &'a Dump,
+    ) -> Result<Replay<'a>, NoMemory>
+        requires choice { choice.now.width ≡ length (circuit net.now).flops }
+        requires runs { runs.now.width ≡ length (circuit net.now).inputs }
+        ensures { IfOk result (λ r. r ≡ crash_for net.now choice.now runs.now dump.now) }
+    {
+        let sim = Sim::new(alloc, net)?;
+        let chip = Chip::new(alloc, net, choice, runs)?;
+        Ok(Replay {
+            net,
+            choice,
+            dump,
+            sim,
+            chip,
+        })
+    }
+}

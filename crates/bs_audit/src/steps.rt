@@ -1,0 +1,168 @@
+//! The steps of a report, tried by replay.
+ghost use Rattle.std.specs.Prelude.{◌≡◌, ◌<◌, ◌+◌, ◌^◌, length, option_map, All, IfOk};
+ghost use Rattle.bs_report.specs.Step.{listed, stored_of};
+ghost use Rattle.bs_report.specs.Valid.{first_of_all, has_state, has_stored, is_right_count, same_hit};
+ghost use Rattle.bs_audit.specs.Following.{begin_parts, line_of, present_in, IsListed, IsTried, IsWalked};
+
+use crate::candidates::number;
+use crate::replay::Replay;
+use bs_bits::{Bits, NoMemory};
+use bs_chip::Hit;
+use bs_report::{Budgets, HitLine, ListEnd, Part, Report, Step};
+use bs_scan::Dump;
+use std::alloc::Global;
+
+/// What is found of steps: the first part that fails, or the moment at which the next step is due to begin, if there is one.
+#[derive(Drop)]
+pub enum Walk {
+    Fails(Part),
+    Holds(Option<Dump>),
+}
+
+/// Whether a state is that of the dump, if there is one.
+fn has_due_state(due: &Option<Dump>, state: &Bits) -> bool
+    ensures { result ≡ has_state (option_map present_in due.now) state.now }
+{
+    match due {
+        None => false,
+        Some(dump) => state.equals(&dump.state),
+    }
+}
+
+/// Whether a step's signature is that of the dump, if there is one.
+fn has_due_stored(due: &Option<Dump>, step: &Step) -> bool
+    ensures { result ≡ has_stored (option_map present_in due.now) (stored_of step.now) }
+{
+    match due {
+        None => false,
+        Some(dump) => match &dump.stored {
+            None => false,
+            Some(stored) => step.stored.equals(stored),
+        },
+    }
+}
+
+/// The first part before the candidates that fails.
+fn wrong_begin(i: usize, due: &Option<Dump>, step: &Step) -> Option<Part>
+    requires { i + 1 < 2 ^ 64 }
+    ensures { result ≡ first_of_all (begin_parts i (option_map present_in due.now) step.now) }
+{
+    if !has_due_state(due, &step.present) {
+        return Some(Part::Present(number(i)));
+    }
+    if !has_due_stored(due, step) {
+        return Some(Part::Stored(number(i)));
+    }
+    None
+}
+
+/// Whether a list ends by its budget of candidates exactly where it has as many.
+fn is_right_length(budgets: &Budgets, end: ListEnd, count: usize) -> bool
+    ensures { result ≡ is_right_count budgets.now end count }
+{
+    let full = count as u64 == budgets.candidates;
+    match end {
+        ListEnd::Candidates => full,
+        ListEnd::Finished(_) => !full,
+        ListEnd::Conflicts => !full,
+    }
+}
+
+/// Whether a hit line is that of a hit, and none where there is none.
+fn is_hit(line: &Option<HitLine>, hit: &Option<Hit>) -> bool
+    ensures { result ≡ same_hit line.now (option_map line_of hit.now) }
+{
+    match line {
+        None => hit.is_none(),
+        Some(line) => match hit {
+            None => false,
+            Some(hit) => {
+                line.run == hit.run && line.cycle == hit.cycle && line.state.equals(&hit.dump.state)
+            }
+        },
+    }
+}
+
+/// The dump of a hit.
+fn dump_of(hit: Option<Hit>) -> Option<Dump>
+    ensures { result ≡ option_map (λ hit. hit.dump) hit }
+{
+    match hit {
+        None => None,
+        Some(hit) => Some(hit.dump),
+    }
+}
+
+/// An equal dump of its own.
+fn copy(dump: &Dump) -> Result<Dump, NoMemory>
+    ensures { IfOk result (λ copy. copy ≡ dump.now) }
+{
+    let state = dump.state.copy()?;
+    let stored = match &dump.stored {
+        None => None,
+        Some(stored) => Some(stored.copy()?),
+    };
+    Ok(Dump { state, stored })
+}
+
+impl<'a> Replay<'a> {
+    /// The parts behind the candidates, which are right.
+    fn list(
+        &mut self,
+        alloc: Global,
+        budgets: &Budgets,
+        i: usize,
+        step: &Step,
+    ) -> Result<Walk, NoMemory>
+        requires small { i + 1 < 2 ^ 64 }
+        requires widths { All (λ state. length state ≡ length self.old.circuit.flops) (listed step.now.cands) }
+        ensures tried { IfOk result (IsListed self.old budgets.now i step.now) }
+        ensures kept { self.new ≡ self.old }
+    {
+        if !is_right_length(budgets, step.end, step.cands.len()) {
+            return Ok(Walk::Fails(Part::Listed(number(i))));
+        }
+        let hit = self.hit(alloc, step.cands.slice())?;
+        if !is_hit(&step.hit, &hit) {
+            return Ok(Walk::Fails(Part::Hit(number(i))));
+        }
+        Ok(Walk::Holds(dump_of(hit)))
+    }
+
+    /// One step, counted from 0, that is due to begin at a dump.
+    fn step(
+        &mut self,
+        alloc: Global,
+        budgets: &Budgets,
+        i: usize,
+        due: &Option<Dump>,
+        step: &Step,
+    ) -> Result<Walk, NoMemory>
+        requires { i + 1 < 2 ^ 64 }
+        ensures tried { IfOk result (IsTried self.old budgets.now i (option_map present_in due.now) step.now) }
+        ensures kept { self.new ≡ self.old }
+    {
+        match wrong_begin(i, due, step) {
+            Some(part) => Ok(Walk::Fails(part)),
+            None => match self.wrong_candidate(alloc, budgets, i, step)? {
+                Some(part) => Ok(Walk::Fails(part)),
+                None => self.list(alloc, budgets, i, step),
+            },
+        }
+    }
+
+    /// All steps, one after another.
+    pub fn walk(&mut self, alloc: Global, report: &Report) -> Result<Walk, NoMemory>
+        ensures walked { IfOk result (IsWalked self.old report.now) }
+        ensures kept { self.new ≡ self.old }
+    {
+        let mut due = Some(copy(self.dump)?);
+        'steps: for i in 0..report.steps.len() {
+            match self.step(alloc, &report.budgets, i, &due, report.steps.get(i))? {
+                Walk::Fails(part) => return Ok(Walk::Fails(part)),
+                Walk::Holds(next) => due = next,
+            }
+        }
+        Ok(Walk::Holds(due))
+    }
+}
