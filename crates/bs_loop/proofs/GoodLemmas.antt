@@ -1,0 +1,106 @@
+-- The report of the steps made is good, and has the log that it owes.
+use Rattle.std.proofs.Common.{◌≡◌, ℕ, ◌+◌, ◌-◌, ◌≤◌, Bool, true, false, List, [], length, map, reverse, ap, subst, sym, ◌∙◌, Option, Some, arith}
+use Rattle.std.specs.Prelude.{slice_get, slice_index_or, unwrap_or, All, option_map}
+use Rattle.std.proofs.lemmas.List.{reverse-reverse}
+use Rattle.std.proofs.lemmas.List.Elements.{All-map, All-weaker}
+use Rattle.std.proofs.lemmas.Option.{slice_get-map}
+use Rattle.bs_clause.specs.Literal.{Clause}
+use Rattle.bs_log.specs.declared.line.Line.{Line}
+use Rattle.bs_log.specs.History.{Problem}
+use Rattle.bs_log.specs.Steps.{steps_of}
+use Rattle.bs_log.specs.Lean.{LemmasAreLean}
+use Rattle.bs_log.specs.Refusal.{assumptions_of, history_of, IsAccepted}
+use Rattle.bs_stim.specs.Runs.{Recorded, IsRecorded}
+use Rattle.bs_scan.specs.declared.dump.Dump.{Dump}
+use Rattle.bs_scan.specs.Moments.{Run}
+use Rattle.bs_chip.specs.Chip.{Chipped, circuit_in, runs_in}
+use Rattle.bs_encode.specs.Tables.{lit}
+use Rattle.bs_encode.specs.Assuming.{assumptions_for, steps_from, problem_of, basis_of}
+use Rattle.bs_scan.specs.Present.{Present}
+use Rattle.bs_report.specs.declared.report.Step.{Step}
+use Rattle.bs_report.specs.declared.report.Budgets.{Budgets}
+use Rattle.bs_report.specs.declared.report.Report.{Report}
+use Rattle.bs_report.specs.Crash.{Crash, IsCrash}
+use Rattle.bs_report.proofs.LoggedLemmas.{good_is_valid}
+use Rattle.bs_loop.specs.Crash.{crash_of, IsDumpFor, IsSound}
+use Rattle.bs_report.specs.Chain.{present_of}
+use Rattle.bs_report.specs.Trace.{IsTrace}
+use Rattle.bs_report.specs.Stop.{StopsFor}
+use Rattle.bs_report.specs.Good.{IsGood}
+use Rattle.bs_report.specs.Valid.{finishes_in, is_right_finish, IsLogged, IsValid}
+use Rattle.bs_preimage.specs.Preimage.{PreimageState}
+use Rattle.bs_loop.specs.Made.{encoding_in, guard_at, IsLoggedStep}
+use Rattle.bs_loop.specs.Way.{HasEnded}
+use Rattle.bs_loop.proofs.MadeLemmas.{assumptions_at}
+
+-- the report of a way that has ended
+pub record IsReportOf (crash : Crash) (budgets : Budgets) (s : PreimageState) (r : Report) : Type 0 where
+  pub ended : HasEnded crash budgets r.steps s r.stop
+  pub asked : r.budgets ≡ budgets
+  pub trace : IsTrace crash r
+  pub log : history_of r.log ≡ s.history
+
+logged_in : (crash : Crash) (budgets : Budgets) (s : PreimageState) (r : Report) → IsReportOf crash budgets s r →
+    (i : ℕ) (step : Step) → slice_get r.steps i ≡ Some step → IsLoggedStep crash r.budgets i (slice_index_or (steps_of r.log) i []) step
+logged_in crash budgets s r of i step is =
+    let log : reverse s.history ≡ r.log = ap reverse (sym of.log) ∙ reverse-reverse r.log in
+    subst (λ (b : Budgets). IsLoggedStep crash b i (slice_index_or (steps_of r.log) i []) step) (sym of.asked)
+    (subst (λ (l : List Line). IsLoggedStep crash budgets i (slice_index_or (steps_of l) i []) step) log (of.ended.made.logged i step is))
+
+pub is_good : (crash : Crash) (budgets : Budgets) (s : PreimageState) (r : Report) → IsReportOf crash budgets s r → IsGood crash r
+is_good crash budgets s r of =
+    record {
+      steps = of.ended.made.right;
+      ends = λ i step is. (logged_in crash budgets s r of i step is).ends;
+      chain = record { few = subst (λ (b : Budgets). length r.steps ≤ b.steps) (sym of.asked) of.ended.few; follow = of.ended.made.follow };
+      stop = subst (λ (b : Budgets). StopsFor crash b r.steps r.stop) (sym of.asked) of.ended.cause;
+      trace = of.trace;
+    }
+
+assumed : (crash : Crash) (steps : List Step) (i : ℕ) (step : Step) → slice_get steps i ≡ Some step →
+    assumptions_for (encoding_in crash) (guard_at crash i) (present_of step) ≡ assumptions_of (problem_of (encoding_in crash) (map present_of steps)) (i + 1)
+assumed crash steps i step is =
+    let e = encoding_in crash in
+    let qs : List Present = map present_of steps in
+    let there : slice_get qs i ≡ Some (present_of step) = slice_get-map present_of steps i ∙ ap (option_map present_of) is in
+    let number : 1 + i ≡ i + 1 = omega arith in
+    let place : i + 1 - 1 ≡ i = omega arith in
+    sym (ap (λ (k : ℕ). unwrap_or (slice_get (steps_from e 1 qs) k) []) place
+    ∙ ap (λ (o : Option Clause). unwrap_or o []) (assumptions_at e 1 qs i (present_of step) there)
+    ∙ ap (λ (n : ℕ). assumptions_for e (lit (e.variables + n) true) (present_of step)) number)
+
+problem_is : (crash : Crash) (budgets : Budgets) (s : PreimageState) (r : Report) → IsReportOf crash budgets s r →
+    s.problem ≡ problem_of (encoding_in crash) (map present_of r.steps)
+problem_is crash budgets s r of = ap (λ (p : PreimageState). p.problem) of.ended.made.state
+
+pub is_logged : (crash : Crash) (budgets : Budgets) (s : PreimageState) (r : Report) → IsReportOf crash budgets s r → (s.failed ≡ false → IsAccepted s.problem r.log) →
+    IsLogged (basis_of crash.circuit crash.choice.items (map present_of r.steps)) r
+is_logged crash budgets s r of accepted =
+    record {
+      accepted = subst (λ (p : Problem). IsAccepted p r.log) (problem_is crash budgets s r of) (accepted (ap (λ (p : PreimageState). p.failed) of.ended.made.state));
+      blocks = λ i step is. (logged_in crash budgets s r of i step is).blocks;
+      finish = λ i step is.
+          subst (λ (c : Clause). is_right_finish r.budgets.conflicts c (slice_index_or (steps_of r.log) i []) step.end (finishes_in (slice_index_or (steps_of r.log) i [])) ≡ true)
+          (assumed crash r.steps i step is) (logged_in crash budgets s r of i step is).finish;
+    }
+
+pub is_lean : (crash : Crash) (budgets : Budgets) (s : PreimageState) (r : Report) → IsReportOf crash budgets s r → LemmasAreLean s.problem (history_of r.log) →
+    LemmasAreLean (problem_of (encoding_in crash) (map present_of r.steps)) (history_of r.log)
+is_lean crash budgets s r of lean = subst (λ (p : Problem). LemmasAreLean p (history_of r.log)) (problem_is crash budgets s r of) lean
+
+inputs_fit : (chip : Chipped) → IsSound chip → All (λ run. All (λ input. length input ≡ length (circuit_in chip).inputs) run) (runs_in chip)
+inputs_fit chip sound =
+    All-map (λ (run : Run). All (λ (input : List Bool). length input ≡ length (circuit_in chip).inputs) run) (λ (run : Recorded). run.inputs) chip.runs.runs
+    (All-weaker (IsRecorded chip.runs.width) (λ (run : Recorded). All (λ (input : List Bool). length input ≡ length (circuit_in chip).inputs) run.inputs)
+    (λ run is. subst (λ (n : ℕ). All (λ (input : List Bool). length input ≡ n) run.inputs) sound.fitting.inputs is.widths) chip.runs.runs sound.runs.recorded)
+
+-- a dump of a chip is what a backtrace can begin at
+pub is_crash : (chip : Chipped) (dump : Dump) → IsSound chip → IsDumpFor chip dump → IsCrash (crash_of chip dump)
+is_crash chip dump sound fits =
+    record { checked = sound.checked; inputs = inputs_fit chip sound; state = fits.state; signatures = fits.signatures }
+
+pub is_valid : (chip : Chipped) (dump : Dump) (budgets : Budgets) (s : PreimageState) (r : Report) → IsSound chip → IsDumpFor chip dump → IsReportOf (crash_of chip dump) budgets s r →
+    (s.failed ≡ false → IsAccepted s.problem r.log) → IsValid (crash_of chip dump) (basis_of (circuit_in chip) chip.choice.items (map present_of r.steps)) r
+is_valid chip dump budgets s r sound fits of accepted =
+    good_is_valid (crash_of chip dump) (basis_of (circuit_in chip) chip.choice.items (map present_of r.steps)) r (is_crash chip dump sound fits)
+    (is_good (crash_of chip dump) budgets s r of) (is_logged (crash_of chip dump) budgets s r of accepted)

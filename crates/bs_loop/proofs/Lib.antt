@@ -1,0 +1,6 @@
+pub mod MadeLemmas
+pub mod StopLemmas
+pub mod MeetLemmas
+pub mod WayLemmas
+pub mod GoodLemmas
+pub mod TraceLemmas

@@ -1,0 +1,119 @@
+-- One more step of a backtrace.
+use Rattle.std.proofs.Common.{◌≡◌, ℕ, suc, zero, ◌+◌, true, List, [], ◌∷◌, ◌++◌, map, length, reverse, refl, ap, subst, sym, ◌∙◌, Some, arith, add-zero}
+use Rattle.std.specs.Prelude.{slice_get, slice_index_or}
+use Rattle.std.proofs.lemmas.List.{length-append, length-map, map-append}
+use Rattle.std.proofs.lemmas.List.Elements.{All-append, All-from_recursion}
+use Rattle.bs_clause.specs.Literal.{Literal, Clause}
+use Rattle.bs_log.specs.declared.line.Line.{Line}
+use Rattle.bs_log.specs.Steps.{steps_of}
+use Rattle.bs_scan.specs.declared.dump.Dump.{Dump}
+use Rattle.bs_scan.specs.Present.{Present}
+use Rattle.bs_chip.specs.Chip.{Chipped}
+use Rattle.bs_encode.specs.Tables.{lit}
+use Rattle.bs_encode.specs.Encoded.{Encoded}
+use Rattle.bs_encode.specs.Assuming.{assumptions_for, block_for, steps_from, problem_of}
+use Rattle.bs_report.specs.declared.report.Step.{Step}
+use Rattle.bs_report.specs.declared.report.Budgets.{Budgets}
+use Rattle.bs_report.specs.Crash.{Crash}
+use Rattle.bs_report.specs.Step.{IsRightStep}
+use Rattle.bs_report.specs.Chain.{present_of, present_of_dump}
+use Rattle.bs_report.specs.Valid.{blocks_due, are_right_blocks, blocks_in, is_right_finish, finishes_in}
+use Rattle.bs_report.proofs.LoopLemmas.{follow_more}
+use Rattle.bs_preimage.specs.Preimage.{PreimageState, next_guard}
+use Rattle.bs_preimage.specs.Listed.{HasListed}
+use Rattle.bs_loop.specs.Crash.{crash_of, present_in}
+use Rattle.bs_loop.specs.Made.{encoding_in, guard_at, IsLoggedStep, state_after, HasMade, StandsAt}
+use Rattle.bs_loop.specs.Turn.{IsStepBack}
+
+-- ---- the assumptions of the steps
+
+length_steps_from : (e : Encoded) (n : ℕ) (qs : List Present) → length (steps_from e n qs) ≡ length qs
+length_steps_from e n [] = refl
+length_steps_from e n (q ∷ qs) = ap suc (length_steps_from e (n + 1) qs)
+
+steps_from_more : (e : Encoded) (n : ℕ) (qs : List Present) (q : Present) →
+    steps_from e n (qs ++ q ∷ []) ≡ steps_from e n qs ++ assumptions_for e (lit (e.variables + (n + length qs)) true) q ∷ []
+steps_from_more e n [] q = ap (λ (m : ℕ). assumptions_for e (lit (e.variables + m) true) q ∷ []) (sym (add-zero n))
+steps_from_more e n (p ∷ ps) q =
+    let same : (n + 1) + length ps ≡ n + suc (length ps) = omega arith in
+    ap (λ (l : List Clause). assumptions_for e (lit (e.variables + n) true) p ∷ l)
+    (steps_from_more e (n + 1) ps q ∙ ap (λ (m : ℕ). steps_from e (n + 1) ps ++ assumptions_for e (lit (e.variables + m) true) q ∷ []) same)
+
+pub assumptions_at : (e : Encoded) (n : ℕ) (qs : List Present) (i : ℕ) (q : Present) → slice_get qs i ≡ Some q →
+    slice_get (steps_from e n qs) i ≡ Some (assumptions_for e (lit (e.variables + (n + i)) true) q)
+assumptions_at e n [] i q is = cc
+assumptions_at e n (p ∷ ps) zero q is =
+    let same : p ≡ q = cc in
+    λ k. Some (assumptions_for e (lit (e.variables + sym (add-zero n) k) true) (same k))
+assumptions_at e n (p ∷ ps) (suc i) q is =
+    let same : (n + 1) + i ≡ n + suc i = omega arith in
+    assumptions_at e (n + 1) ps i q is ∙ ap (λ (m : ℕ). Some (assumptions_for e (lit (e.variables + m) true) q)) same
+
+-- ---- the lines of the steps
+
+at_more : (P : ℕ → List Line → Step → Type 0) (steps : List Step) (step : Step) (ls : List (List Line)) (l : List Line) → length ls ≡ length steps →
+    ((i : ℕ) (s : Step) → slice_get steps i ≡ Some s → P i (slice_index_or ls i []) s) → P (length steps) l step →
+    (i : ℕ) (s : Step) → slice_get (steps ++ step ∷ []) i ≡ Some s → P i (slice_index_or (ls ++ l ∷ []) i []) s
+at_more P [] step [] l e h p zero s is = let same : step ≡ s = cc in subst (λ (x : Step). P 0 l x) same p
+at_more P [] step [] l e h p (suc i) s is = cc
+at_more P [] step (k ∷ ks) l e h p i s is = absurd (omega (arith, e))
+at_more P (t ∷ ts) step [] l e h p i s is = absurd (omega (arith, e))
+at_more P (t ∷ ts) step (k ∷ ks) l e h p zero s is = h zero s is
+at_more P (t ∷ ts) step (k ∷ ks) l e h p (suc i) s is =
+    at_more (λ n. P (suc n)) ts step ks l (omega (arith, e)) (λ j x q. h (suc j) x q) p i s is
+
+-- ---- one more step
+
+guard_next : (crash : Crash) (steps : List Step) → next_guard (problem_of (encoding_in crash) (map present_of steps)) ≡ guard_at crash (length steps)
+guard_next crash steps =
+    ap (λ (n : ℕ). lit ((encoding_in crash).variables + (n + 1)) true)
+    (length_steps_from (encoding_in crash) 1 (map present_of steps) ∙ length-map steps present_of)
+
+problem_more : (crash : Crash) (steps : List Step) (step : Step) →
+    steps_from (encoding_in crash) 1 (map present_of steps) ++ assumptions_for (encoding_in crash) (next_guard (problem_of (encoding_in crash) (map present_of steps))) (present_of step) ∷ []
+    ≡ steps_from (encoding_in crash) 1 (map present_of (steps ++ step ∷ []))
+problem_more crash steps step =
+    let e = encoding_in crash in
+    let qs : List Present = map present_of steps in
+    let few : length (steps_from e 1 qs) ≡ length qs = length_steps_from e 1 qs in
+    let number : length (steps_from e 1 qs) + 1 ≡ 1 + length qs = omega (arith, few) in
+    ap (λ (n : ℕ). steps_from e 1 qs ++ assumptions_for e (lit (e.variables + n) true) (present_of step) ∷ []) number
+    ∙ sym (steps_from_more e 1 qs (present_of step))
+    ∙ ap (steps_from e 1) (sym (map-append present_of steps (step ∷ [])))
+
+pub made_more : (chip : Chipped) (dump : Dump) (budgets : Budgets) (steps : List Step) (old new : PreimageState) (now : Dump) (step : Step) →
+    HasMade (crash_of chip dump) budgets steps old → StandsAt (crash_of chip dump) steps now → IsStepBack chip budgets old new now step →
+    HasMade (crash_of chip dump) budgets (steps ++ step ∷ []) new
+made_more chip dump budgets steps old new now step made stands back =
+    let crash : Crash = crash_of chip dump in
+    let more : List Step = steps ++ step ∷ [] in
+    let l : HasListed (state_after crash steps old.history) new step.present step.stored budgets.candidates budgets.conflicts (record { cands = step.cands; end = step.end }) =
+    subst (λ (s : PreimageState). HasListed s new step.present step.stored budgets.candidates budgets.conflicts (record { cands = step.cands; end = step.end })) made.state back.listed in
+    let problem : new.problem ≡ problem_of (encoding_in crash) (map present_of more) =
+    λ i. record { vars = l.goes_on.vars i; clauses = l.goes_on.clauses i; steps = (l.steps ∙ problem_more crash steps step) i } in
+    let calls : new.calls ≡ length more =
+    back.calls ∙ ap (λ (s : PreimageState). s.calls + 1) made.state ∙ sym (length-append steps (step ∷ [])) in
+    let present : present_in now ≡ present_of step =
+    λ i. record { state = sym back.present i; stored = back.stored i } in
+    let logged : IsLoggedStep crash budgets (length steps) l.lines step =
+    record {
+      ends = l.ends;
+      blocks = subst (λ (g : Literal). are_right_blocks (blocks_due g (block_for (encoding_in crash)) step.cands) (blocks_in l.lines) ≡ true) (guard_next crash steps) l.blocks;
+      finish = subst (λ (g : Literal). is_right_finish budgets.conflicts (assumptions_for (encoding_in crash) g (present_of step)) l.lines step.end (finishes_in l.lines) ≡ true) (guard_next crash steps) l.finish;
+    } in
+    record {
+      state = λ i. record {
+        circuit = l.goes_on.circuit i;
+        choice = l.goes_on.choice i;
+        problem = problem i;
+        history = new.history;
+        calls = calls i;
+        failed = l.well i;
+      };
+      right = All-append (IsRightStep crash) steps (step ∷ []) made.right
+          (All-from_recursion (IsRightStep crash) (step ∷ []) (record { ascend = l.ascend; candidates = l.candidates; hit = back.hit }, tt));
+      follow = follow_more crash (Some (present_of_dump crash)) steps step made.follow (stands ∙ ap Some present);
+      count = ap length l.step_lines ∙ length-append (steps_of (reverse old.history)) (l.lines ∷ []) ∙ ap (λ (n : ℕ). n + 1) made.count ∙ sym (length-append steps (step ∷ []));
+      logged = subst (λ (ls : List (List Line)). (i : ℕ) (s : Step) → slice_get more i ≡ Some s → IsLoggedStep crash budgets i (slice_index_or ls i []) s) (sym l.step_lines)
+          (at_more (λ i ls s. IsLoggedStep crash budgets i ls s) steps step (steps_of (reverse old.history)) l.lines made.count made.logged logged);
+    }

@@ -1,0 +1,47 @@
+use Rattle.std.proofs.Common.{refl, ap, subst, ◌∙◌}
+use Rattle.bs_chip.specs.Chip.{Chipped}
+use Rattle.bs_report.specs.declared.report.Report.{Report}
+use Rattle.bs_report.specs.Trace.{trace_states, trace_inputs}
+use Rattle.bs_report.specs.Good.{IsGood}
+use Rattle.bs_loop.specs.Crash.{crash_of, IsSound}
+use Rattle.bs_loop.proofs.GoodLemmas.{IsReportOf, is_good, is_valid, is_lean}
+use Rattle.bs_loop.proofs.TraceLemmas.{one_state_more}
+use Rattle.bs_loop.proofs.way.backtrace.Goals as goal
+
+pub returns : goal.returns
+returns c =
+    let chip = c.args.chip.now in
+    let dump = c.args.dump.now in
+    let budgets = c.args.budgets.now in
+    let state = c.walk.new.preimage in
+    let way = c.in_ok-way.ensures in
+    let r : Report =
+    record {
+      budgets = budgets;
+      steps = c.in_ok-way.way.steps;
+      stop = c.in_ok-way.way.stop;
+      states = c.in_ok-states.states;
+      inputs = c.in_ok-inputs.inputs;
+      log = c.into_log-log.result;
+    } in
+    let of : IsReportOf (crash_of chip dump) budgets state r =
+    record {
+      ended = record { made = way.made; few = way.few; cause = way.stop };
+      asked = refl;
+      trace = record {
+        states = c.in_ok-states.ensures ∙ ap (trace_states dump.state) c.slice.ensures;
+        inputs = c.in_ok-inputs.ensures ∙ ap trace_inputs c.slice-2.ensures;
+      };
+      log = c.into_log-log.ensures.lines;
+    } in
+    let good : IsGood (crash_of chip dump) r = is_good (crash_of chip dump) budgets state r of in
+    record {
+      budgets = refl;
+      good = good;
+      valid = is_valid chip dump budgets state r (subst IsSound way.chip c.sound.ensures) c.requires.dump of c.into_log-log.ensures.accepted;
+      trace = one_state_more (crash_of chip dump) r good;
+      lean = is_lean (crash_of chip dump) budgets state r of c.into_log-log.ensures.lean;
+      net = ap (λ (k : Chipped). k.net) way.chip;
+      choice = ap (λ (k : Chipped). k.choice) way.chip;
+      runs = ap (λ (k : Chipped). k.runs) way.chip;
+    }

@@ -1,0 +1,9 @@
+use Rattle.std.proofs.Common.{◌≡◌}
+use Rattle.bs_loop.specs.Way.{IsUnderWay}
+use Rattle.bs_loop.proofs.way.walk.Given as goal
+
+abbrev pub invariant-turns : goal.invariant-turns
+invariant-turns l = record {
+  chip : l.chip ≡ l.fn.chip;
+  way : IsUnderWay l.fn.chip l.dump l.budgets l.steps l.preimage l.now l.counter;
+}

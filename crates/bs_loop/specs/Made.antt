@@ -1,0 +1,57 @@
+-- The steps that a backtrace has made so far.
+use Rattle.std.specs.Prelude.{◌≡◌, ℕ, ◌+◌, true, false, List, [], length, map, reverse, All, Some, slice_get, slice_index_or}
+use Rattle.bs_clause.specs.Literal.{Literal}
+use Rattle.bs_log.specs.declared.line.Line.{Line}
+use Rattle.bs_log.specs.History.{History}
+use Rattle.bs_log.specs.Steps.{steps_of}
+use Rattle.bs_scan.specs.declared.dump.Dump.{Dump}
+use Rattle.bs_encode.specs.Tables.{lit}
+use Rattle.bs_encode.specs.Encoded.{Encoded, encoding_of}
+use Rattle.bs_encode.specs.Assuming.{assumptions_for, block_for, problem_of}
+use Rattle.bs_report.specs.declared.report.Step.{Step}
+use Rattle.bs_report.specs.declared.report.Budgets.{Budgets}
+use Rattle.bs_report.specs.Crash.{Crash}
+use Rattle.bs_report.specs.Step.{asked_of, IsRightStep, IsRightEnd}
+use Rattle.bs_report.specs.Chain.{present_of, present_of_dump, last_present, Follow}
+use Rattle.bs_report.specs.Valid.{blocks_due, are_right_blocks, blocks_in, is_right_finish, finishes_in}
+use Rattle.bs_preimage.specs.Preimage.{PreimageState}
+use Rattle.bs_loop.specs.Crash.{present_in}
+
+-- the clauses of the crash's circuit and signature
+abbrev pub encoding_in : Crash → Encoded
+encoding_in crash = encoding_of crash.circuit crash.choice.items
+
+-- the guard of a step, counted from 0
+abbrev pub guard_at : Crash → ℕ → Literal
+guard_at crash i = lit ((encoding_in crash).variables + (i + 1)) true
+
+-- the lines of a step, counted from 0, say what its list says
+pub record IsLoggedStep (crash : Crash) (budgets : Budgets) (i : ℕ) (lines : List Line) (step : Step) : Type 0 where
+  pub ends : IsRightEnd (asked_of crash step) budgets.candidates budgets.conflicts lines step.cands step.end
+  pub blocks : are_right_blocks (blocks_due (guard_at crash i) (block_for (encoding_in crash)) step.cands) (blocks_in lines) ≡ true
+  pub finish : is_right_finish budgets.conflicts (assumptions_for (encoding_in crash) (guard_at crash i) (present_of step)) lines step.end (finishes_in lines) ≡ true
+
+-- where the search is after these steps, whose lines are these, the newest first
+abbrev pub state_after : Crash → List Step → History → PreimageState
+state_after crash steps history =
+    record {
+      circuit = crash.circuit;
+      choice = crash.choice;
+      problem = problem_of (encoding_in crash) (map present_of steps);
+      history = history;
+      calls = length steps;
+      failed = false;
+    }
+
+-- each step is right, and follows from the one before; the log has the lines of each
+pub record HasMade (crash : Crash) (budgets : Budgets) (steps : List Step) (s : PreimageState) : Type 0 where
+  pub state : s ≡ state_after crash steps s.history
+  pub right : All (IsRightStep crash) steps
+  pub follow : Follow crash (Some (present_of_dump crash)) steps
+  pub count : length (steps_of (reverse s.history)) ≡ length steps
+  pub logged : (i : ℕ) (step : Step) → slice_get steps i ≡ Some step →
+      IsLoggedStep crash budgets i (slice_index_or (steps_of (reverse s.history)) i []) step
+
+-- the present is the dump, or where the last step has its hit
+abbrev pub StandsAt : Crash → List Step → Dump → Type 0
+StandsAt crash steps now = last_present crash (Some (present_of_dump crash)) steps ≡ Some (present_in now)

@@ -1,0 +1,125 @@
+//! The whole way back: turns until a stop, and the report of them.
+ghost use Rattle.std.specs.Prelude.{◌≡◌, ◌≤◌, ◌+◌, length, map, IfOk, MatchOption};
+ghost use Rattle.bs_log.specs.Refusal.{history_of};
+ghost use Rattle.bs_log.specs.Lean.{LemmasAreLean};
+ghost use Rattle.bs_chip.specs.Chip.{circuit_in};
+ghost use Rattle.bs_encode.specs.Assuming.{basis_of};
+ghost use Rattle.bs_report.specs.Chain.{present_of};
+ghost use Rattle.bs_report.specs.Stop.{StopsFor};
+ghost use Rattle.bs_report.specs.Good.{IsGood};
+ghost use Rattle.bs_report.specs.Valid.{IsValid};
+ghost use Rattle.bs_report.specs.declared.report.Stop.TheVariants.{Reset, Length};
+ghost use Rattle.bs_preimage.specs.Preimage.{fresh};
+ghost use Rattle.bs_loop.specs.Crash.{crash_of, IsBudget, IsDumpFor, IsSound};
+ghost use Rattle.bs_loop.specs.Made.{HasMade};
+
+use crate::steps::turn;
+use crate::trace::{inputs_back, states_back};
+use bs_bits::{List, NoMemory};
+use bs_chip::Chip;
+use bs_preimage::Preimage;
+use bs_report::{Budgets, Report, Step, Stop};
+use bs_scan::Dump;
+use std::alloc::Global;
+
+/// The steps made, and why no more are made.
+#[derive(Drop)]
+struct Way {
+    steps: List<Step>,
+    stop: Stop,
+}
+
+/// An equal dump of its own.
+fn copy_of(dump: &Dump) -> Result<Dump, NoMemory>
+    ensures { IfOk result (λ copy. copy ≡ dump.now) }
+{
+    let state = dump.state.copy()?;
+    let stored = match &dump.stored {
+        Some(bits) => Some(bits.copy()?),
+        None => None,
+    };
+    Ok(Dump { state, stored })
+}
+
+/// The cause at a present, where all steps are made.
+fn cause_at(now: &Dump) -> Stop
+    ensures { MatchOption now.now.stored (result ≡ Reset) (λ _. result ≡ Length) }
+{
+    match &now.stored {
+        None => Stop::Reset,
+        Some(_) => Stop::Length,
+    }
+}
+
+/// Turn after turn from the dump until a stop.
+fn walk(
+    alloc: Global,
+    chip: &mut Chip<'_>,
+    preimage: &mut Preimage<'_>,
+    dump: &Dump,
+    budgets: &Budgets,
+) -> Result<Way, NoMemory>
+    requires fresh { preimage.old ≡ fresh (circuit_in chip.old) chip.old.choice }
+    requires dump { IsDumpFor chip.old dump.now }
+    requires budgets { IsBudget budgets.now }
+    ensures made { IfOk result (λ way. HasMade (crash_of chip.old dump.now) budgets.now way.steps preimage.new) }
+    ensures few { IfOk result (λ way. length way.steps ≤ budgets.now.steps) }
+    ensures stop { IfOk result (λ way. StopsFor (crash_of chip.old dump.now) budgets.now way.steps way.stop) }
+    ensures chip { chip.new ≡ chip.old }
+{
+    let mut steps = List::new(alloc);
+    let mut now = copy_of(dump)?;
+    'turns: for _ in 0..budgets.steps {
+        match turn(alloc, chip, preimage, budgets, &mut steps, &mut now)? {
+            Some(stop) => return Ok(Way { steps, stop }),
+            None => {}
+        }
+    }
+    let stop = cause_at(&now);
+    Ok(Way { steps, stop })
+}
+
+/// A chip's netlist has passed its check, and its runs have their widths.
+fn sound(chip: &Chip<'_>)
+    ensures { IsSound chip.now }
+{
+    let _order = chip.net().order();
+    let _count = chip.runs().count();
+}
+
+/// The backtrace of a dump: its report is good and valid. The dump has the widths of the chip, and `preimage` is of the same
+/// netlist and signature.
+pub fn backtrace(
+    alloc: Global,
+    chip: &mut Chip<'_>,
+    preimage: Preimage<'_>,
+    dump: &Dump,
+    budgets: &Budgets,
+) -> Result<Report, NoMemory>
+    requires fresh { preimage ≡ fresh (circuit_in chip.old) chip.old.choice }
+    requires dump { IsDumpFor chip.old dump.now }
+    requires budgets { IsBudget budgets.now }
+    ensures budgets { IfOk result (λ r. r.budgets ≡ budgets.now) }
+    ensures good { IfOk result (IsGood (crash_of chip.old dump.now)) }
+    ensures valid { IfOk result (λ r. IsValid (crash_of chip.old dump.now) (basis_of (circuit_in chip.old) chip.old.choice.items (map present_of r.steps)) r) }
+    ensures trace { IfOk result (λ r. length r.states ≡ length r.inputs + 1) }
+    ensures lean { IfOk result (λ r. LemmasAreLean (basis_of (circuit_in chip.old) chip.old.choice.items (map present_of r.steps)).problem (history_of r.log)) }
+    ensures net { chip.new.net ≡ chip.old.net }
+    ensures choice { chip.new.choice ≡ chip.old.choice }
+    ensures runs { chip.new.runs ≡ chip.old.runs }
+{
+    let mut preimage = preimage;
+    let way = walk(alloc, chip, &mut preimage, dump, budgets)?;
+    let states = states_back(alloc, way.steps.slice(), &dump.state)?;
+    let inputs = inputs_back(alloc, way.steps.slice())?;
+    let log = preimage.into_log();
+    sound(chip);
+    Ok(Report {
+        budgets: *budgets,
+        steps: way.steps,
+        stop: way.stop,
+        states,
+        inputs,
+        log,
+    })
+}
