@@ -4,6 +4,7 @@ use Rattle.std.specs.Prelude.{slice_get, slice_index_or, unwrap_or, All, option_
 use Rattle.std.proofs.lemmas.List.{reverse-reverse}
 use Rattle.std.proofs.lemmas.List.Elements.{All-map, All-weaker}
 use Rattle.std.proofs.lemmas.Option.{slice_get-map}
+use Rattle.bs_clause.specs.UnitRun.{IsUnitRun}
 use Rattle.bs_clause.specs.Literal.{Clause}
 use Rattle.bs_log.specs.declared.line.Line.{Line}
 use Rattle.bs_log.specs.History.{Problem}
@@ -30,6 +31,7 @@ use Rattle.bs_report.specs.Good.{IsGood}
 use Rattle.bs_report.specs.Valid.{finishes_in, is_right_finish, IsLogged, IsValid}
 use Rattle.bs_preimage.specs.Preimage.{PreimageState}
 use Rattle.bs_loop.specs.Made.{encoding_in, guard_at, IsLoggedStep}
+use Rattle.bs_loop.specs.Bound.{HasBound}
 use Rattle.bs_loop.specs.Way.{HasEnded}
 use Rattle.bs_loop.proofs.MadeLemmas.{assumptions_at}
 
@@ -40,7 +42,7 @@ pub record IsReportOf (crash : Crash) (budgets : Budgets) (s : PreimageState) (r
   pub trace : IsTrace crash r
   pub log : history_of r.log ≡ s.history
 
-logged_in : (crash : Crash) (budgets : Budgets) (s : PreimageState) (r : Report) → IsReportOf crash budgets s r →
+pub logged_in : (crash : Crash) (budgets : Budgets) (s : PreimageState) (r : Report) → IsReportOf crash budgets s r →
     (i : ℕ) (step : Step) → slice_get r.steps i ≡ Some step → IsLoggedStep crash r.budgets i (slice_index_or (steps_of r.log) i []) step
 logged_in crash budgets s r of i step is =
     let log : reverse s.history ≡ r.log = ap reverse (sym of.log) ∙ reverse-reverse r.log in
@@ -104,3 +106,12 @@ pub is_valid : (chip : Chipped) (dump : Dump) (budgets : Budgets) (s : PreimageS
 is_valid chip dump budgets s r sound fits of accepted =
     good_is_valid (crash_of chip dump) (basis_of (circuit_in chip) chip.choice.items (map present_of r.steps)) r (is_crash chip dump sound fits)
     (is_good (crash_of chip dump) budgets s r of) (is_logged (crash_of chip dump) budgets s r of accepted)
+
+pub has_bound : (crash : Crash) (budgets : Budgets) (s : PreimageState) (r : Report) → IsReportOf crash budgets s r →
+    HasBound (problem_of (encoding_in crash) (map present_of r.steps)) r
+has_bound crash budgets s r of =
+    record {
+      bound = λ i step is conflicts run within unit.
+          (logged_in crash budgets s r of i step is).bound conflicts run within
+          (subst (λ (c : Clause). IsUnitRun (encoding_in crash).clauses c run) (sym (assumed crash r.steps i step is)) unit);
+    }

@@ -4,3 +4,5 @@ pub mod MeetLemmas
 pub mod WayLemmas
 pub mod GoodLemmas
 pub mod TraceLemmas
+pub mod ReadableLemmas
+pub mod TextLemmas

@@ -1,8 +1,9 @@
 -- One more step of a backtrace.
-use Rattle.std.proofs.Common.{◌≡◌, ℕ, suc, zero, ◌+◌, true, List, [], ◌∷◌, ◌++◌, map, length, reverse, refl, ap, subst, sym, ◌∙◌, Some, arith, add-zero}
+use Rattle.std.proofs.Common.{◌≡◌, ℕ, suc, zero, ◌+◌, ◌-◌, ◌<◌, ◌^◌, true, List, [], ◌∷◌, ◌++◌, map, length, reverse, refl, ap, subst, sym, ◌∙◌, Some, arith, add-zero}
 use Rattle.std.specs.Prelude.{slice_get, slice_index_or}
 use Rattle.std.proofs.lemmas.List.{length-append, length-map, map-append}
 use Rattle.std.proofs.lemmas.List.Elements.{All-append, All-from_recursion}
+use Rattle.bs_clause.specs.UnitRun.{IsUnitRun}
 use Rattle.bs_clause.specs.Literal.{Literal, Clause}
 use Rattle.bs_log.specs.declared.line.Line.{Line}
 use Rattle.bs_log.specs.Steps.{steps_of}
@@ -12,6 +13,8 @@ use Rattle.bs_chip.specs.Chip.{Chipped}
 use Rattle.bs_encode.specs.Tables.{lit}
 use Rattle.bs_encode.specs.Encoded.{Encoded}
 use Rattle.bs_encode.specs.Assuming.{assumptions_for, block_for, steps_from, problem_of}
+use Rattle.bs_solve.specs.Scan.{HasVariables}
+use Rattle.bs_report.specs.declared.report.ListEnd.TheVariants.{Conflicts}
 use Rattle.bs_report.specs.declared.report.Step.{Step}
 use Rattle.bs_report.specs.declared.report.Budgets.{Budgets}
 use Rattle.bs_report.specs.Crash.{Crash}
@@ -100,6 +103,8 @@ made_more chip dump budgets steps old new now step made stands back =
       ends = l.ends;
       blocks = subst (λ (g : Literal). are_right_blocks (blocks_due g (block_for (encoding_in crash)) step.cands) (blocks_in l.lines) ≡ true) (guard_next crash steps) l.blocks;
       finish = subst (λ (g : Literal). is_right_finish budgets.conflicts (assumptions_for (encoding_in crash) g (present_of step)) l.lines step.end (finishes_in l.lines) ≡ true) (guard_next crash steps) l.finish;
+      bound = subst (λ (g : Literal). step.end ≡ Conflicts → (run : List Literal) → HasVariables (encoding_in crash).variables run →
+          IsUnitRun (encoding_in crash).clauses (assumptions_for (encoding_in crash) g (present_of step)) run → budgets.conflicts < 2 ^ ((encoding_in crash).variables - length run)) (guard_next crash steps) l.bound;
     } in
     record {
       state = λ i. record {

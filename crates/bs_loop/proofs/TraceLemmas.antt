@@ -36,7 +36,7 @@ found (c ∷ cs) s e = by (bits_eq c.state s) refl (bits_eq s c.state) refl e (f
         record { cand = f.cand; is = ap (λ t. cond t (Some c) (find (λ (c : Cand). bits_eq c.state s) cs)) a ∙ f.is }
 
 -- the input behind a step's hit, if it has one
-abbrev input_behind : Step → Option (List Bool)
+abbrev pub input_behind : Step → Option (List Bool)
 input_behind step = option_and_then (input_for step) (hit_state step)
 
 one_each : (crash : Crash) (steps : List Step) → Each (IsRightStep crash) steps → length (filter_map hit_state steps) ≡ length (filter_map input_behind steps)

@@ -1,5 +1,6 @@
 -- what public contracts rest on
 pub mod Crash
+pub mod Bound
 -- what inner functions promise each other
 pub mod Made
 pub mod Turn

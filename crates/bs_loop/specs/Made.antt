@@ -1,6 +1,7 @@
 -- The steps that a backtrace has made so far.
-use Rattle.std.specs.Prelude.{◌≡◌, ℕ, ◌+◌, true, false, List, [], length, map, reverse, All, Some, slice_get, slice_index_or}
+use Rattle.std.specs.Prelude.{◌≡◌, ℕ, ◌+◌, ◌-◌, ◌<◌, ◌^◌, true, false, List, [], length, map, reverse, All, Some, slice_get, slice_index_or}
 use Rattle.bs_clause.specs.Literal.{Literal}
+use Rattle.bs_clause.specs.UnitRun.{IsUnitRun}
 use Rattle.bs_log.specs.declared.line.Line.{Line}
 use Rattle.bs_log.specs.History.{History}
 use Rattle.bs_log.specs.Steps.{steps_of}
@@ -8,6 +9,8 @@ use Rattle.bs_scan.specs.declared.dump.Dump.{Dump}
 use Rattle.bs_encode.specs.Tables.{lit}
 use Rattle.bs_encode.specs.Encoded.{Encoded, encoding_of}
 use Rattle.bs_encode.specs.Assuming.{assumptions_for, block_for, problem_of}
+use Rattle.bs_solve.specs.Scan.{HasVariables}
+use Rattle.bs_report.specs.declared.report.ListEnd.TheVariants.{Conflicts}
 use Rattle.bs_report.specs.declared.report.Step.{Step}
 use Rattle.bs_report.specs.declared.report.Budgets.{Budgets}
 use Rattle.bs_report.specs.Crash.{Crash}
@@ -30,6 +33,8 @@ pub record IsLoggedStep (crash : Crash) (budgets : Budgets) (i : ℕ) (lines : L
   pub ends : IsRightEnd (asked_of crash step) budgets.candidates budgets.conflicts lines step.cands step.end
   pub blocks : are_right_blocks (blocks_due (guard_at crash i) (block_for (encoding_in crash)) step.cands) (blocks_in lines) ≡ true
   pub finish : is_right_finish budgets.conflicts (assumptions_for (encoding_in crash) (guard_at crash i) (present_of step)) lines step.end (finishes_in lines) ≡ true
+  pub bound : step.end ≡ Conflicts → (run : List Literal) → HasVariables (encoding_in crash).variables run →
+      IsUnitRun (encoding_in crash).clauses (assumptions_for (encoding_in crash) (guard_at crash i) (present_of step)) run → budgets.conflicts < 2 ^ ((encoding_in crash).variables - length run)
 
 -- where the search is after these steps, whose lines are these, the newest first
 abbrev pub state_after : Crash → List Step → History → PreimageState

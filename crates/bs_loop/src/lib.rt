@@ -3,6 +3,7 @@
 
 mod steps;
 mod stop;
+mod texts;
 mod trace;
 mod way;
 

@@ -1,22 +1,27 @@
 //! The whole way back: turns until a stop, and the report of them.
-ghost use Rattle.std.specs.Prelude.{◌≡◌, ◌≤◌, ◌+◌, length, map, IfOk, MatchOption};
-ghost use Rattle.bs_log.specs.Refusal.{history_of};
+ghost use Rattle.std.specs.Prelude.{◌≡◌, ◌≤◌, ◌<◌, ◌^◌, ◌+◌, false, length, map, All, IfOk, MatchOption};
+ghost use Rattle.bs_log.specs.LineForms.{HasText};
+ghost use Rattle.bs_log.specs.Refusal.{history_of, IsAccepted};
 ghost use Rattle.bs_log.specs.Lean.{LemmasAreLean};
 ghost use Rattle.bs_chip.specs.Chip.{circuit_in};
 ghost use Rattle.bs_encode.specs.Assuming.{basis_of};
 ghost use Rattle.bs_report.specs.Chain.{present_of};
 ghost use Rattle.bs_report.specs.Stop.{StopsFor};
 ghost use Rattle.bs_report.specs.Good.{IsGood};
+ghost use Rattle.bs_report.specs.Text.{HasReportText};
 ghost use Rattle.bs_report.specs.Valid.{IsValid};
 ghost use Rattle.bs_report.specs.declared.report.Stop.TheVariants.{Reset, Length};
 ghost use Rattle.bs_preimage.specs.Preimage.{fresh};
 ghost use Rattle.bs_loop.specs.Crash.{crash_of, IsBudget, IsDumpFor, IsSound};
 ghost use Rattle.bs_loop.specs.Made.{HasMade};
+ghost use Rattle.bs_loop.specs.Bound.{HasBound};
 
 use crate::steps::turn;
+use crate::texts::have_texts;
 use crate::trace::{inputs_back, states_back};
 use bs_bits::{List, NoMemory};
 use bs_chip::Chip;
+use bs_log::Log;
 use bs_preimage::Preimage;
 use bs_report::{Budgets, Report, Step, Stop};
 use bs_scan::Dump;
@@ -87,6 +92,24 @@ fn sound(chip: &Chip<'_>)
     let _count = chip.runs().count();
 }
 
+/// The log of the search, each line of which has a text: a log with another line, as one whose ids have run out, is
+/// answered as want of memory.
+fn log_of(preimage: Preimage<'_>) -> Result<Log, NoMemory>
+    ensures lines { IfOk result (λ log. history_of log ≡ preimage.entry.history) }
+    ensures lean { IfOk result (λ log. LemmasAreLean preimage.entry.problem (history_of log)) }
+    ensures accepted { IfOk result (λ log. preimage.entry.failed ≡ false → IsAccepted preimage.entry.problem log) }
+    ensures texts { IfOk result (All HasText) }
+    ensures few { IfOk result (λ log. length log < 2 ^ 64) }
+{
+    let log = preimage.into_log();
+    let _lines = log.len();
+    if have_texts(log.slice()) {
+        Ok(log)
+    } else {
+        Err(NoMemory)
+    }
+}
+
 /// The backtrace of a dump: its report is good and valid. The dump has the widths of the chip, and `preimage` is of the same
 /// netlist and signature.
 pub fn backtrace(
@@ -102,6 +125,8 @@ pub fn backtrace(
     ensures budgets { IfOk result (λ r. r.budgets ≡ budgets.now) }
     ensures good { IfOk result (IsGood (crash_of chip.old dump.now)) }
     ensures valid { IfOk result (λ r. IsValid (crash_of chip.old dump.now) (basis_of (circuit_in chip.old) chip.old.choice.items (map present_of r.steps)) r) }
+    ensures bound { IfOk result (λ r. HasBound (basis_of (circuit_in chip.old) chip.old.choice.items (map present_of r.steps)).problem r) }
+    ensures readable { IfOk result HasReportText }
     ensures trace { IfOk result (λ r. length r.states ≡ length r.inputs + 1) }
     ensures lean { IfOk result (λ r. LemmasAreLean (basis_of (circuit_in chip.old) chip.old.choice.items (map present_of r.steps)).problem (history_of r.log)) }
     ensures net { chip.new.net ≡ chip.old.net }
@@ -112,7 +137,7 @@ pub fn backtrace(
     let way = walk(alloc, chip, &mut preimage, dump, budgets)?;
     let states = states_back(alloc, way.steps.slice(), &dump.state)?;
     let inputs = inputs_back(alloc, way.steps.slice())?;
-    let log = preimage.into_log();
+    let log = log_of(preimage)?;
     sound(chip);
     Ok(Report {
         budgets: *budgets,
