@@ -1,0 +1,25 @@
+-- The generated job: three texts in place of files, walked as the files of a job are.
+use Rattle.std.specs.Prelude.{ℕ, List, Some, None, codes, if◌then◌else◌}
+use Rattle.std.specs.Str.{bytes_eq}
+use Rattle.bs_net.specs.declared.raw.Raw.{Raw}
+use Rattle.bs_gen.specs.Job.{netlist_for, signature_text, stimulus_for}
+use Rattle.bs_job.specs.Plan.{Tells, Plan, with_texts}
+use Rattle.bs_entry.specs.Entry.{Names, Placed, placed_of}
+
+abbrev pub demo_names : Names
+demo_names = record { netlist = codes "netlist"; signature = codes "signature"; stimulus = codes "stimulus" }
+
+-- three texts under these names
+abbrev pub told_of : (netlist signature stimulus : List ℕ) → Tells
+told_of netlist signature stimulus name =
+    if bytes_eq (codes "netlist") name then Some netlist
+    else (if bytes_eq (codes "signature") name then Some signature
+    else (if bytes_eq (codes "stimulus") name then Some stimulus else None))
+
+-- the texts of the job with a number
+abbrev pub demo_told : ℕ → Tells
+demo_told number = told_of (netlist_for number) signature_text (stimulus_for number)
+
+-- they make a setup ready, and the moment of run 1 at cycle 256
+abbrev pub demo_of : ℕ → Plan Raw Placed
+demo_of number = with_texts (demo_told number) (placed_of demo_names 1 256)
