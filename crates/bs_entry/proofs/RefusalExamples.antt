@@ -8,7 +8,7 @@ use Rattle.bs_scan.specs.declared.fault.DumpFault.TheVariants as dump
 use Rattle.bs_stim.specs.declared.fault.StimFault.TheVariants as stimulus
 use Rattle.bs_job.specs.declared.file.File.TheVariants.{Netlist, Signature, Stimulus, Dump}
 use Rattle.bs_job.specs.Files.{refusal_line}
-use Rattle.bs_entry.specs.Refusals.{netlist_text_words, signature_words, stimulus_words, dump_words, range_words, too_wide_words}
+use Rattle.bs_entry.specs.Refusals.{netlist_text_words, signature_words, stimulus_words, dump_words, range_words}
 
 empty_netlist : refusal_line Netlist (netlist_text_words (verilog.Syntax 0)) ≡ codes "refused netlist Syntax 0\n"
 unfolding digits
@@ -37,9 +37,6 @@ one_terminal = refl
 past_the_range : refusal_line Netlist (netlist_text_words (verilog.Index 46)) ≡ codes "refused netlist Index 46\n"
 unfolding digits
 past_the_range = refl
-
-seventeen_bits : refusal_line Netlist too_wide_words ≡ codes "refused netlist TooWide\n"
-seventeen_bits = refl
 
 unknown_flop : refusal_line Signature (signature_words (choice.UnknownFlop 1)) ≡ codes "refused signature UnknownFlop 1\n"
 unfolding digits

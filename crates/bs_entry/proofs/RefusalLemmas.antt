@@ -7,8 +7,6 @@ use Rattle.bs_net.specs.declared.fault.NetFault.{NetFault}
 use Rattle.bs_net.specs.declared.fault.NetFault.TheVariants as net
 use Rattle.bs_net.specs.Parts.{PartsArePlaced}
 use Rattle.bs_net.specs.Check.{IsFault}
-use Rattle.bs_net.specs.Circuit.{Circuit}
-use Rattle.bs_net.specs.Order.{IsBounded}
 use Rattle.bs_net.proofs.ClockLemmas.{mixed_placed}
 use Rattle.bs_job.specs.declared.walk.Refusal.{Refusal}
 use Rattle.bs_job.specs.declared.walk.Refusal.TheVariants as Q
@@ -21,10 +19,6 @@ key_is r n key e = sym (get_or_from_slice_get r.names n.0 key [] e)
 -- the net of a mixed clock has a name
 pub mixed_named : (r : Raw) (fault : NetFault) (n : NetId) → PartsArePlaced r → IsFault r fault → fault ≡ net.ClockMixed n → n.0 < length r.names
 mixed_named r fault n p is e = let here : IsFault r (net.ClockMixed n) = subst (IsFault r) e is in mixed_placed r n p here.2 here.3
-
--- flip-flops and data inputs can be counted together
-pub few_bits : (c : Circuit) (flops inputs : ℕ) → IsBounded c → flops ≡ length c.flops → inputs ≡ length c.inputs → flops + inputs < 2 ^ 64
-few_bits c flops inputs bounded f i = omega (arith, bounded.few_flops, bounded.few_inputs, f, i)
 
 -- the words of a fault of the check go with the netlist
 pub check_told : (r : Raw) (fault : NetFault) (refusal : Refusal) → IsFault r fault → HasWords (check_words r fault) refusal → (fault ≡ net.NoMemory → refusal ≡ Q.NoMemory) → HasCheckWords r refusal

@@ -7,9 +7,10 @@ use Rattle.bs_stim.specs.Runs.{Stimulus, inputs_of}
 use Rattle.bs_scan.specs.Choice.{Chosen}
 use Rattle.bs_scan.specs.Moments.{Moment, Run}
 use Rattle.bs_scan.specs.declared.dump.Dump.{Dump}
+use Rattle.bs_report.specs.declared.report.Report.{Report}
 use Rattle.bs_job.specs.declared.file.File.TheVariants as files
 use Rattle.bs_job.specs.Plan.{Plan, end, ◌>>=◌, fetched, read_as}
-use Rattle.bs_entry.specs.Readings.{netlist_in, signature_in, stimulus_in, dump_in, moment_in}
+use Rattle.bs_entry.specs.Readings.{netlist_in, signature_in, stimulus_in, dump_in, moment_in, report_read}
 
 -- the names of the first three files
 pub record Names : Type 0 where
@@ -42,6 +43,11 @@ pub record Placed : Type 0 where
 pub record Crashed : Type 0 where
   pub setup : Setup
   pub dump : Dump
+
+-- the same with a report
+pub record Claimed : Type 0 where
+  pub crashed : Crashed
+  pub report : Report
 
 -- ---- the walks
 
@@ -90,3 +96,15 @@ crashed_of names dump = do
   setup ← setup_of names
   dumped ← dump_of setup dump
   end record { setup = setup; dump = dumped }
+
+abbrev pub report_of : List ℕ → Plan Raw Report
+report_of name = do
+  bytes ← fetched files.Report name
+  read_as files.Report (report_read bytes)
+
+-- five files
+abbrev pub claimed_of : Names → (dump report : List ℕ) → Plan Raw Claimed
+claimed_of names dump report = do
+  crashed ← crashed_of names dump
+  claimed ← report_of report
+  end record { crashed = crashed; report = claimed }

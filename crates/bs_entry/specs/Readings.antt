@@ -13,8 +13,10 @@ use Rattle.bs_stim.specs.Runs.{Stimulus, run_at}
 use Rattle.bs_stim.specs.StimulusText.{stimulus_of}
 use Rattle.bs_net.specs.Decided.{passes}
 use Rattle.bs_verilog.specs.Netlist.{netlist_text}
+use Rattle.bs_report.specs.declared.report.Report.{Report}
+use Rattle.bs_report.specs.Reading.{report_in}
 use Rattle.bs_job.specs.Plan.{Reason}
-use Rattle.bs_entry.specs.Refusals.{netlist_text_reason, check_reason, signature_reason, stimulus_reason, dump_reason, range_reason, with_reason}
+use Rattle.bs_entry.specs.Refusals.{netlist_text_reason, check_reason, signature_reason, stimulus_reason, dump_reason, range_reason, report_reason, with_reason}
 
 -- parts that pass the check of a netlist
 abbrev pub checked_in : Raw → Result Raw (Reason Raw)
@@ -48,3 +50,7 @@ has_moment runs run cycle = nat_le 1 run && nat_le run (length runs.runs) && nat
 -- a moment of the runs
 abbrev pub moment_in : Stimulus → ℕ → ℕ → Result Moment (Reason Raw)
 moment_in runs run cycle = if has_moment runs run cycle then Ok (record { run = run; cycle = cycle }) else Err range_reason
+
+-- a report
+abbrev pub report_read : List ℕ → Result Report (Reason Raw)
+report_read bytes = with_reason report_reason (report_in bytes)

@@ -4,8 +4,9 @@ use Rattle.bs_entry.specs.declared.ready.Setup.{Setup as CodeSetup}
 use Rattle.bs_entry.specs.declared.ready.Moment.{Moment as CodeMoment}
 use Rattle.bs_entry.specs.declared.ready.Placed.{Placed as CodePlaced}
 use Rattle.bs_entry.specs.declared.ready.Crashed.{Crashed as CodeCrashed}
+use Rattle.bs_entry.specs.declared.ready.Claimed.{Claimed as CodeClaimed}
 use Rattle.bs_scan.specs.Moments.{Moment}
-use Rattle.bs_entry.specs.Entry.{Names, Setup, Placed, Crashed}
+use Rattle.bs_entry.specs.Entry.{Names, Setup, Placed, Crashed, Claimed}
 
 abbrev pub names_in : CodeNames → Names
 names_in n = record { netlist = n.netlist.now; signature = n.signature.now; stimulus = n.stimulus.now }
@@ -21,3 +22,6 @@ placed_in p = record { setup = setup_in p.setup; moment = moment_of p.moment }
 
 abbrev pub crashed_in : CodeCrashed → Crashed
 crashed_in c = record { setup = setup_in c.setup; dump = c.dump }
+
+abbrev pub claimed_in : CodeClaimed → Claimed
+claimed_in c = record { crashed = crashed_in c.crashed; report = c.report }

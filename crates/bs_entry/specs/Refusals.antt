@@ -1,5 +1,5 @@
 -- The words behind a file's name in a refusal line, for each fault of a reader and of the check (docs/FORMATS.md, "Refusal lines").
-use Rattle.std.specs.Prelude.{◌≡◌, ◌≢◌, ◌+◌, ℕ, nat_lt, Bool, List, [], ◌++◌, length, slice_index_or, codes, decimal, Result, Ok, Err}
+use Rattle.std.specs.Prelude.{◌≡◌, ◌≢◌, ◌+◌, ℕ, List, [], ◌++◌, length, slice_index_or, codes, decimal, Result, Ok, Err}
 use Rattle.std.specs.List.{flat_map}
 use Rattle.bs_net.specs.declared.net.NetId.{NetId}
 use Rattle.bs_net.specs.declared.raw.Raw.{Raw}
@@ -7,7 +7,6 @@ use Rattle.bs_net.specs.declared.fault.Count.{Count}
 use Rattle.bs_net.specs.declared.fault.Count.TheVariants.{Flops, Inputs, Terminals}
 use Rattle.bs_net.specs.declared.fault.NetFault.{NetFault}
 use Rattle.bs_net.specs.declared.fault.NetFault.TheVariants as net
-use Rattle.bs_net.specs.Circuit.{Circuit}
 use Rattle.bs_net.specs.Check.{IsFault}
 use Rattle.bs_net.specs.Loops.{gate_at}
 use Rattle.bs_verilog.specs.Refusals.{what_word}
@@ -20,6 +19,8 @@ use Rattle.bs_scan.specs.declared.fault.DumpFault.{DumpFault}
 use Rattle.bs_scan.specs.declared.fault.DumpFault.TheVariants as dump
 use Rattle.bs_stim.specs.declared.fault.StimFault.{StimFault}
 use Rattle.bs_stim.specs.declared.fault.StimFault.TheVariants as stimulus
+use Rattle.bs_report.specs.declared.fault.ReportFault.{ReportFault}
+use Rattle.bs_report.specs.declared.fault.ReportFault.TheVariants as report
 use Rattle.bs_job.specs.declared.walk.Refusal.{Refusal}
 use Rattle.bs_job.specs.declared.walk.Refusal.TheVariants as Q
 use Rattle.bs_job.specs.Plan.{Reason, exactly, any_of}
@@ -65,6 +66,13 @@ dump_words (dump.Width line) = codes "Width " ++ decimal line
 dump_words dump.NotReset = codes "NotReset"
 dump_words dump.NoMemory = []
 
+-- a report; a line counts from 1
+abbrev pub report_words : ReportFault → List ℕ
+report_words (report.Line line) = codes "Line " ++ decimal line
+report_words report.Short = codes "Short"
+report_words report.Extra = codes "Extra"
+report_words report.NoMemory = []
+
 -- a moment that the runs do not have
 abbrev pub range_words : List ℕ
 range_words = codes "Range"
@@ -106,14 +114,6 @@ pub record CheckSays (r : Raw) (why : List ℕ) : Type 0 where
   pub is : IsFault r fault
   pub words : why ≡ check_words r fault
 
--- whether a netlist has more than 16 flip-flops and data inputs together
-abbrev pub is_too_wide : Circuit → Bool
-is_too_wide c = nat_lt 16 (length c.flops + length c.inputs)
-
--- a netlist that is too wide for its states and inputs to be listed
-abbrev pub too_wide_words : List ℕ
-too_wide_words = codes "TooWide"
-
 -- ---- the same as reasons of a job, whose case of several right texts is a netlist that the check refuses
 
 abbrev pub netlist_text_reason : VerilogFault → Reason Raw
@@ -121,9 +121,6 @@ netlist_text_reason fault = exactly (netlist_text_words fault)
 
 abbrev pub check_reason : Raw → Reason Raw
 check_reason r = any_of r
-
-abbrev pub too_wide_reason : Reason Raw
-too_wide_reason = exactly too_wide_words
 
 abbrev pub signature_reason : ChoiceFault → Reason Raw
 signature_reason fault = exactly (signature_words fault)
@@ -133,6 +130,9 @@ stimulus_reason fault = exactly (stimulus_words fault)
 
 abbrev pub dump_reason : DumpFault → Reason Raw
 dump_reason fault = exactly (dump_words fault)
+
+abbrev pub report_reason : ReportFault → Reason Raw
+report_reason fault = exactly (report_words fault)
 
 abbrev pub range_reason : Reason Raw
 range_reason = exactly range_words

@@ -6,18 +6,19 @@ ghost use Rattle.bs_net.specs.Parts.{PartsArePlaced};
 ghost use Rattle.bs_chip.specs.Replay.{IsPlaced};
 ghost use Rattle.bs_job.specs.Walks.{Reads};
 ghost use Rattle.bs_entry.specs.Entry.{input_width};
-ghost use Rattle.bs_entry.specs.Readings.{checked_in, dump_in, has_moment, moment_in, netlist_in, signature_in, stimulus_in};
+ghost use Rattle.bs_entry.specs.Readings.{checked_in, dump_in, has_moment, moment_in, netlist_in, report_read, signature_in, stimulus_in};
 ghost use Rattle.bs_entry.specs.Fitting.{IsDump};
 ghost use Rattle.bs_entry.specs.Ready.{moment_of};
 ghost use Rattle.bs_entry.specs.Refusals.{CheckSays};
 
 use crate::ready::Moment;
 use crate::refusals::{
-    check_refusal, dump_refusal, netlist_text_refusal, range_refusal, signature_refusal,
-    stimulus_refusal,
+    check_refusal, dump_refusal, netlist_text_refusal, range_refusal, report_refusal,
+    signature_refusal, stimulus_refusal,
 };
 use bs_job::Refusal;
 use bs_net::{Netlist, Raw};
+use bs_report::Report;
 use bs_scan::{Choice, Dump};
 use bs_stim::Runs;
 use std::alloc::Global;
@@ -109,4 +110,16 @@ pub fn read_moment(alloc: Global, runs: &Runs, run: u64, cycle: u64) -> Result<M
         run: run as u32,
         cycle: cycle as u32,
     })
+}
+
+/// A report.
+pub fn read_report(alloc: Global, bytes: &[u8]) -> Result<Report, Refusal>
+    requires { length bytes.now ≤ 2 ^ 29 }
+    ensures reads { Reads CheckSays (λ report. report) (report_read bytes.now) result }
+    ensures steps { IfOk result (λ report. report.budgets.steps ≤ 65536) }
+{
+    match Report::read(alloc, bytes) {
+        Ok(report) => Ok(report),
+        Err(fault) => Err(report_refusal(alloc, fault)),
+    }
 }

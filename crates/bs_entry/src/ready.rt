@@ -1,10 +1,11 @@
 //! What the files of a job made ready.
-ghost use Rattle.std.specs.Prelude.{◌≡◌, length};
+ghost use Rattle.std.specs.Prelude.{◌≡◌, ◌≤◌, length};
 ghost use Rattle.bs_net.specs.Netlist.{circuit};
 ghost use Rattle.bs_chip.specs.Replay.{IsPlaced};
 ghost use Rattle.bs_entry.specs.Fitting.{IsDump};
 
 use bs_net::Netlist;
+use bs_report::Report;
 use bs_scan::{Choice, Dump};
 use bs_stim::Runs;
 
@@ -47,4 +48,12 @@ pub struct Crashed {
     pub setup: Setup,
     pub dump: Dump,
     ghost fits: { IsDump setup.net.raw setup.choice dump },
+}
+
+/// A crash and a report of its backtrace.
+#[derive(Drop)]
+pub struct Claimed {
+    pub crashed: Crashed,
+    pub report: Report,
+    ghost steps: { report.budgets.steps ≤ 65536 },
 }

@@ -10,12 +10,14 @@ ghost use Rattle.bs_verilog.specs.declared.fault.VerilogFault.TheVariants.{NoMem
 ghost use Rattle.bs_scan.specs.declared.fault.ChoiceFault.TheVariants.{NoMemory as ChoiceWant};
 ghost use Rattle.bs_scan.specs.declared.fault.DumpFault.TheVariants.{NoMemory as DumpWant};
 ghost use Rattle.bs_stim.specs.declared.fault.StimFault.TheVariants.{NoMemory as StimWant};
+ghost use Rattle.bs_report.specs.declared.fault.ReportFault.TheVariants.{NoMemory as ReportWant};
 ghost use Rattle.bs_job.specs.declared.walk.Refusal.TheVariants.{NoMemory as Want};
-ghost use Rattle.bs_entry.specs.Refusals.{HasCheckWords, HasWords, check_words, count_word, dump_words, gate_piece, is_too_wide, key_of, netlist_text_words, range_words, signature_words, stimulus_words, too_many_words, too_wide_words, unsupported_words};
+ghost use Rattle.bs_entry.specs.Refusals.{HasCheckWords, HasWords, check_words, count_word, dump_words, gate_piece, key_of, netlist_text_words, range_words, report_words, signature_words, stimulus_words, too_many_words, unsupported_words};
 
 use bs_bits::{NoMemory, push_number, push_piece};
 use bs_job::Refusal;
 use bs_net::{Count, NetFault, NetId, Netlist, Raw};
+use bs_report::ReportFault;
 use bs_scan::{ChoiceFault, DumpFault};
 use bs_stim::StimFault;
 use bs_verilog::{VerilogFault, What};
@@ -217,22 +219,6 @@ fn looped(alloc: Global, raw: &Raw, gates: &[u32]) -> Refusal
     refusal(loop_words(alloc, raw, gates))
 }
 
-/// Whether a netlist has more than 16 flip-flops and data inputs together.
-#[tactic(auto, using(crate::proofs::RefusalLemmas::few_bits))]
-pub fn is_too_wide(net: &Netlist) -> bool
-    ensures { result ≡ is_too_wide (circuit net.now) }
-{
-    let flops = net.raw().flops.len();
-    flops + net.data_inputs().len() > 16
-}
-
-/// The refusal of a netlist that is too wide for its states and inputs to be listed.
-pub fn too_wide_refusal(alloc: Global) -> Refusal
-    ensures { HasWords too_wide_words result }
-{
-    worded(alloc, b"TooWide")
-}
-
 // ---- the other files
 
 /// Why a signature is refused.
@@ -275,6 +261,29 @@ pub fn dump_refusal(alloc: Global, fault: DumpFault) -> Refusal
         DumpFault::NotReset => worded(alloc, b"NotReset"),
         DumpFault::NoMemory => Refusal::NoMemory,
     }
+}
+
+/// Why a text is no report.
+pub fn report_refusal(alloc: Global, fault: ReportFault) -> Refusal
+    ensures why { HasWords (report_words fault) result }
+    ensures want { fault ≡ ReportWant → result ≡ Want }
+{
+    match fault {
+        ReportFault::Line(line) => refusal(line_words(alloc, line)),
+        ReportFault::Short => worded(alloc, b"Short"),
+        ReportFault::Extra => worded(alloc, b"Extra"),
+        ReportFault::NoMemory => Refusal::NoMemory,
+    }
+}
+
+/// The words of a refused line of a report.
+fn line_words(alloc: Global, line: u64) -> Result<Vec<u8>, NoMemory>
+    ensures { IfOk result (λ why. why.items ≡ codes "Line " ++ decimal line) }
+{
+    let mut why = Vec::new(alloc);
+    push_piece(&mut why, b"Line ")?;
+    push_number(&mut why, line)?;
+    Ok(why)
 }
 
 /// The refusal of a moment that the runs do not have.

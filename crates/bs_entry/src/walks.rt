@@ -3,16 +3,19 @@ ghost use Rattle.std.specs.Prelude.{◌≡◌, ◌≤◌, length, IfOk};
 ghost use Rattle.bs_net.specs.Netlist.{circuit};
 ghost use Rattle.bs_chip.specs.Replay.{IsPlaced};
 ghost use Rattle.bs_job.specs.Walks.{Walks};
-ghost use Rattle.bs_entry.specs.Entry.{crashed_of, dump_of, netlist_of, placed_of, setup_of, signature_of, stimulus_of};
+ghost use Rattle.bs_entry.specs.Entry.{claimed_of, crashed_of, dump_of, netlist_of, placed_of, report_of, setup_of, signature_of, stimulus_of};
 ghost use Rattle.bs_entry.specs.Fitting.{IsDump};
-ghost use Rattle.bs_entry.specs.Ready.{crashed_in, names_in, placed_in, setup_in};
+ghost use Rattle.bs_entry.specs.Ready.{claimed_in, crashed_in, names_in, placed_in, setup_in};
 ghost use Rattle.bs_entry.specs.Refusals.{CheckSays};
 
-use crate::readings::{read_dump, read_moment, read_netlist, read_signature, read_stimulus};
-use crate::ready::{Crashed, Names, Placed, Setup};
+use crate::readings::{
+    read_dump, read_moment, read_netlist, read_report, read_signature, read_stimulus,
+};
+use crate::ready::{Claimed, Crashed, Names, Placed, Setup};
 use bs_job::{File, Stop, fetch_file, settle};
 use bs_net::Netlist;
 use bs_outside::Shelf;
+use bs_report::Report;
 use bs_scan::{Choice, Dump};
 use bs_stim::Runs;
 use std::alloc::Global;
@@ -107,4 +110,28 @@ pub fn take_crashed<S: Shelf>(
     let setup = take_setup(alloc, shelf, names)?;
     let dump = take_dump(alloc, shelf, dump, &setup)?;
     Ok(Crashed { setup, dump })
+}
+
+/// The report of a backtrace.
+fn take_report<S: Shelf>(alloc: Global, shelf: &mut S, name: &str) -> Result<Report, Stop>
+    ensures walks { Walks CheckSays (S.held shelf.old) (S.held shelf.new) (S.faults shelf.old) (S.faults shelf.new) (report_of name.now) (λ report. report) result }
+    ensures steps { IfOk result (λ report. report.budgets.steps ≤ 65536) }
+{
+    let bytes = fetch_file(alloc, shelf, File::Report, name)?;
+    settle(File::Report, read_report(alloc, &bytes))
+}
+
+/// The same, and a report.
+pub fn take_claimed<S: Shelf>(
+    alloc: Global,
+    shelf: &mut S,
+    names: &Names<'_>,
+    dump: &str,
+    report: &str,
+) -> Result<Claimed, Stop>
+    ensures { Walks CheckSays (S.held shelf.old) (S.held shelf.new) (S.faults shelf.old) (S.faults shelf.new) (claimed_of (names_in names.now) dump.now report.now) claimed_in result }
+{
+    let crashed = take_crashed(alloc, shelf, names, dump)?;
+    let report = take_report(alloc, shelf, report)?;
+    Ok(Claimed { crashed, report })
 }

@@ -1,8 +1,16 @@
 -- The job that words ask for, by what was read of them.
-use Rattle.std.proofs.Common.{◌≡◌, ℕ, List, Option, Some, None, sym, ap}
-use Rattle.std.specs.Option.{option_and_then}
-use Rattle.bs_words.specs.Job.{Job, DumpJob, job_of}
-use Rattle.bs_top.specs.Asked.{offered, asked}
+use Rattle.std.proofs.Common.{◌≡◌, ℕ, List, Option, Some, sym}
+use Rattle.bs_words.specs.Job.{Job, RunJob, Run, job_of}
+use Rattle.bs_words.proofs.BudgetLemmas.{FitsJob, job_fits}
+use Rattle.bs_loop.specs.Crash.{IsBudget}
+use Rattle.bs_top.specs.Work.{budgets_of}
 
-pub asked_is : (words : List (List ℕ)) (job : Option Job) → job ≡ job_of words → asked words ≡ option_and_then offered job
-asked_is words job e = ap (option_and_then offered) (sym e)
+-- the budgets of a run that words ask for are in their ranges
+pub budget_is : (words : List (List ℕ)) (job : RunJob) → Some (Run job) ≡ job_of words → IsBudget (budgets_of job)
+budget_is words job e =
+    let fits : FitsJob job = job_fits words job (sym e) in
+    record {
+      steps = (fits.steps.low, fits.steps.most);
+      candidates = (fits.candidates.low, fits.candidates.most);
+      conflicts = (fits.conflicts.low, fits.conflicts.most);
+    }

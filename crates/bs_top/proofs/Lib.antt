@@ -1,3 +1,5 @@
 pub mod DumpingLemmas
 pub mod WorkLemmas
 pub mod AskedLemmas
+pub mod SoundLemmas
+pub mod LawLemmas

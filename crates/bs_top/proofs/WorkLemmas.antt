@@ -2,6 +2,10 @@
 use Rattle.std.proofs.Common.{◌≡◌, ℕ, true, List, Option, Some, None, Result, Ok, Err, refl, ap, ◌∙◌}
 use Rattle.std.specs.Prelude.{IfOk}
 use Rattle.bs_outside.specs.declared.shelf.NoMemory.{NoMemory}
+use Rattle.bs_report.specs.declared.report.Stop.{Stop}
+use Rattle.bs_report.specs.declared.report.Stop.TheVariants.{Reset, Length, Nohit, Empty, Candidates, Conflicts}
+use Rattle.bs_report.specs.declared.part.Part.{Part}
+use Rattle.bs_top.specs.Rejected.{finding_status}
 use Rattle.bs_net.specs.declared.raw.Raw.{Raw}
 use Rattle.bs_job.specs.declared.file.Status.{Status}
 use Rattle.bs_job.specs.declared.file.Status.TheVariants.{Done}
@@ -12,10 +16,24 @@ use Rattle.bs_job.specs.Walks.{Walks}
 use Rattle.bs_job.specs.Prepared.{Prepares, IsWork}
 use Rattle.bs_job.proofs.Preparing.{prepares_work}
 use Rattle.bs_entry.specs.Refusals.{CheckSays}
-use Rattle.bs_top.specs.Work.{Work, to_dump}
-use Rattle.bs_top.specs.Finishes.{finishes}
+use Rattle.bs_top.specs.Work.{Work, to_run, to_audit, to_dump}
+use Rattle.bs_top.specs.Finishes.{finishes, stop_status}
+
+stop_work : (stop : Stop) → is_work_status (stop_status stop) ≡ true
+stop_work Reset = refl
+stop_work Length = refl
+stop_work Nohit = refl
+stop_work Empty = refl
+stop_work Candidates = refl
+stop_work Conflicts = refl
+
+finding_work : (part : Option Part) → is_work_status (finding_status part) ≡ true
+finding_work None = refl
+finding_work (Some part) = refl
 
 work_status : (work : Work) (status : Status) (text : List ℕ) → finishes work status text → is_work_status status ≡ true
+work_status (to_run budgets crashed) status text done = ap is_work_status done.answered ∙ stop_work done.report.stop
+work_status (to_audit claimed) status text done = ap is_work_status done.answered ∙ finding_work done.part
 work_status (to_dump placed) status text done = ap is_work_status done.0 ∙ refl
 
 pub is_work : IsWork finishes

@@ -1,13 +1,26 @@
 -- The status and the text of work that is done.
-use Rattle.std.specs.Prelude.{◌≡◌, ℕ, List, slice_get}
+use Rattle.std.specs.Prelude.{◌≡◌, ℕ, List, Option, None, slice_get}
 use Rattle.bs_scan.specs.Moments.{Moment, run_of, state_of}
 use Rattle.bs_scan.specs.Signature.{stored_at}
 use Rattle.bs_scan.specs.DumpText.{dump_text}
 use Rattle.bs_scan.specs.declared.dump.Dump.{Dump}
+use Rattle.bs_log.specs.Lean.{LemmasAreLean}
+use Rattle.bs_log.specs.Refusal.{history_of}
+use Rattle.bs_report.specs.declared.report.Budgets.{Budgets}
+use Rattle.bs_report.specs.declared.report.Report.{Report}
+use Rattle.bs_report.specs.declared.report.Stop.{Stop}
+use Rattle.bs_report.specs.declared.report.Stop.TheVariants.{Reset, Length, Nohit, Empty, Candidates, Conflicts}
+use Rattle.bs_report.specs.Crash.{Crash}
+use Rattle.bs_report.specs.Text.{report_text, HasReportText}
+use Rattle.bs_report.specs.declared.part.Part.{Part}
+use Rattle.bs_report.specs.Valid.{first_failing}
 use Rattle.bs_job.specs.declared.file.Status.{Status}
-use Rattle.bs_job.specs.declared.file.Status.TheVariants.{Done}
-use Rattle.bs_entry.specs.Entry.{Setup, Placed, circuit_in, runs_in}
-use Rattle.bs_top.specs.Work.{Work, to_dump}
+use Rattle.bs_job.specs.declared.file.Status.TheVariants as S
+use Rattle.bs_loop.specs.Bound.{HasBound}
+use Rattle.bs_entry.specs.Entry.{Setup, Placed, Crashed, circuit_in, runs_in}
+use Rattle.bs_top.specs.Rejected.{finding_status, finding_text}
+use Rattle.bs_top.specs.Sound.{IsSound, basis_for}
+use Rattle.bs_top.specs.Work.{Work, to_run, to_audit, to_dump}
 
 -- the dump of a moment: its state, and the signature that the register holds there, if it holds one
 abbrev pub dump_at : Setup → Moment → Dump
@@ -17,7 +30,48 @@ dump_at setup m =
       stored = slice_get (stored_at (circuit_in setup) setup.choice (run_of (runs_in setup) m.run) m.cycle) 0;
     }
 
+-- what a backtrace is about
+abbrev pub crash_of : Setup → Dump → Crash
+crash_of setup dump = record { circuit = circuit_in setup; choice = setup.choice; runs = runs_in setup; dump = dump }
+
+-- the status of a backtrace by its stop
+abbrev pub stop_status : Stop → Status
+stop_status Reset = S.Done
+stop_status Length = S.Done
+stop_status Nohit = S.Nohit
+stop_status Empty = S.Empty
+stop_status Candidates = S.Spent
+stop_status Conflicts = S.Spent
+
+-- A backtrace within the budgets: what holds of its report; each lemma of its log is a new resolvent; a list ends in
+-- conflicts only as the budget of lemmas allows; and the report is read back from its text.
+pub record IsBacktrace (crash : Crash) (budgets : Budgets) (report : Report) : Type 0 where
+  pub asked : report.budgets ≡ budgets
+  pub sound : IsSound crash report
+  pub lean : LemmasAreLean (basis_for crash report).problem (history_of report.log)
+  pub bound : HasBound (basis_for crash report).problem report
+  pub readable : HasReportText report
+
 -- ---- what is answered and written
 
+pub record Reports (crash : Crash) (budgets : Budgets) (status : Status) (text : List ℕ) : Type 0 where
+  pub report : Report
+  pub backtrace : IsBacktrace crash budgets report
+  pub written : text ≡ report_text report
+  pub answered : status ≡ stop_status report.stop
+
+-- this is the first part of the report that fails, if one does; where none does, the report is sound
+pub record Finds (crash : Crash) (report : Report) (part : Option Part) : Type 0 where
+  pub first : part ≡ first_failing crash (basis_for crash report) report
+  pub accepted : part ≡ None → IsSound crash report
+
+pub record Audits (crash : Crash) (report : Report) (status : Status) (text : List ℕ) : Type 0 where
+  pub part : Option Part
+  pub finds : Finds crash report part
+  pub answered : status ≡ finding_status part
+  pub written : text ≡ finding_text part
+
 abbrev pub finishes : Work → Status → List ℕ → Type 0
-finishes (to_dump placed) status text = (status ≡ Done) × (text ≡ dump_text (dump_at placed.setup placed.moment))
+finishes (to_run budgets crashed) status text = Reports (crash_of crashed.setup crashed.dump) budgets status text
+finishes (to_audit claimed) status text = Audits (crash_of claimed.crashed.setup claimed.crashed.dump) claimed.report status text
+finishes (to_dump placed) status text = (status ≡ S.Done) × (text ≡ dump_text (dump_at placed.setup placed.moment))

@@ -1,19 +1,38 @@
 -- What a job is ready for, and the files through which it comes to that.
-use Rattle.std.specs.Prelude.{◌≡◌, ℕ, List, Option}
+use Rattle.std.specs.Prelude.{ℕ, List}
 use Rattle.bs_net.specs.declared.raw.Raw.{Raw}
-use Rattle.bs_words.specs.Job.{RunJob, AuditJob, DumpJob, Job, Run, Audit, Dump, Demo}
+use Rattle.bs_report.specs.declared.report.Budgets.{Budgets}
+use Rattle.bs_words.specs.Job.{RunJob, AuditJob, DumpJob}
 use Rattle.bs_job.specs.Plan.{Plan, end, ◌>>=◌}
-use Rattle.bs_entry.specs.Entry.{Names, Placed, placed_of}
+use Rattle.bs_entry.specs.Entry.{Names, Placed, placed_of, Crashed, crashed_of, Claimed, claimed_of}
+use Rattle.bs_top.specs.Asked.{Offer, a_run, an_audit, a_dump}
 
--- the dump of a moment is to be written
+-- the backtrace of a dump within budgets, what an audit finds of a report, or the dump of a moment is to be written
 pub data Work : Type 0 where
+  to_run : Budgets → Crashed → Work
+  to_audit : Claimed → Work
   to_dump : Placed → Work
+
+abbrev pub run_names : RunJob → Names
+run_names job = record { netlist = job.netlist; signature = job.signature; stimulus = job.stimulus }
+
+abbrev pub budgets_of : RunJob → Budgets
+budgets_of job = record { steps = job.steps; candidates = job.candidates; conflicts = job.conflicts }
+
+abbrev pub audit_names : AuditJob → Names
+audit_names job = record { netlist = job.netlist; signature = job.signature; stimulus = job.stimulus }
 
 abbrev pub dump_names : DumpJob → Names
 dump_names job = record { netlist = job.netlist; signature = job.signature; stimulus = job.stimulus }
 
 -- the plan of a job
-abbrev pub plan_of : DumpJob → Plan Raw Work
-plan_of job = do
+abbrev pub plan_of : Offer → Plan Raw Work
+plan_of (a_run job) = do
+  crashed ← crashed_of (run_names job) job.dump
+  end (to_run (budgets_of job) crashed)
+plan_of (an_audit job) = do
+  claimed ← claimed_of (audit_names job) job.dump job.report
+  end (to_audit claimed)
+plan_of (a_dump job) = do
   placed ← placed_of (dump_names job) job.run job.cycle
   end (to_dump placed)

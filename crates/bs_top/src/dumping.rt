@@ -3,6 +3,7 @@ ghost use Rattle.std.specs.Prelude.{◌≡◌, IfOk, Some};
 ghost use Rattle.bs_job.specs.Prepared.{Prepares};
 ghost use Rattle.bs_entry.specs.Ready.{names_in, placed_in};
 ghost use Rattle.bs_entry.specs.Refusals.{CheckSays};
+ghost use Rattle.bs_top.specs.Asked.{a_dump};
 ghost use Rattle.bs_top.specs.Work.{dump_names, plan_of, to_dump};
 ghost use Rattle.bs_top.specs.Words.{dump_job};
 ghost use Rattle.bs_top.specs.Finishes.{dump_at, finishes};
@@ -50,7 +51,7 @@ fn dumped(alloc: Global, placed: &Placed) -> Result<Answer, NoMemory>
 
 /// The answer of the command.
 pub fn dump<S: Shelf>(alloc: Global, shelf: &mut S, job: &DumpJob<'_>) -> Result<Answer, NoMemory>
-    ensures { IfOk result (Prepares CheckSays finishes (S.held shelf.old) (S.faults shelf.old) (S.faults shelf.new) (Some (plan_of (dump_job job.now)))) }
+    ensures { IfOk result (Prepares CheckSays finishes (S.held shelf.old) (S.faults shelf.old) (S.faults shelf.new) (Some (plan_of (a_dump (dump_job job.now))))) }
 {
     let names = Names {
         netlist: job.netlist,

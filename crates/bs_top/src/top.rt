@@ -9,6 +9,8 @@ ghost use Rattle.bs_top.specs.Asked.{asked};
 ghost use Rattle.bs_top.specs.Work.{plan_of};
 ghost use Rattle.bs_top.specs.Finishes.{finishes};
 
+use crate::auditing::audit;
+use crate::backtracing::run;
 use crate::dumping::dump;
 use bs_job::{Answer, Status, deliver, refused_words};
 use bs_outside::{NoMemory, Shelf, Sink};
@@ -16,13 +18,14 @@ use bs_words::{Job, read_words};
 use std::alloc::Global;
 
 /// What is to be answered and written.
+#[tactic(auto, using(crate::proofs::AskedLemmas::budget_is))]
 fn prepare<S: Shelf>(alloc: Global, words: &[String], shelf: &mut S) -> Result<Answer, NoMemory>
     ensures { IfOk result (Prepares CheckSays finishes (S.held shelf.old) (S.faults shelf.old) (S.faults shelf.new) (option_map plan_of (asked (map string_bytes words.now)))) }
 {
     match read_words(alloc, words)? {
         Some(Job::Dump(job)) => dump(alloc, shelf, &job),
-        Some(Job::Run(_)) => refused_words(alloc),
-        Some(Job::Audit(_)) => refused_words(alloc),
+        Some(Job::Run(job)) => run(alloc, shelf, &job),
+        Some(Job::Audit(job)) => audit(alloc, shelf, &job),
         Some(Job::Demo(_)) => refused_words(alloc),
         None => refused_words(alloc),
     }

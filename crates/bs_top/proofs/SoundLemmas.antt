@@ -1,0 +1,84 @@
+-- What holds of a backtrace's report.
+use Rattle.std.proofs.Common.{◌≡◌, map, subst, sym, ◌∙◌, None, Result, Ok, Err}
+use Rattle.std.specs.Prelude.{IfOk}
+use Rattle.bs_net.specs.Netlist.{Checked, circuit}
+use Rattle.bs_net.specs.Order.{IsChecked}
+use Rattle.bs_stim.specs.Runs.{Stimulus, IsStimulus}
+use Rattle.bs_scan.specs.Choice.{Chosen}
+use Rattle.bs_scan.specs.declared.dump.Dump.{Dump}
+use Rattle.bs_chip.specs.Chip.{Chipped, IsFitting, circuit_in}
+use Rattle.bs_log.specs.Lean.{LemmasAreLean}
+use Rattle.bs_log.specs.Refusal.{history_of}
+use Rattle.bs_encode.specs.Assuming.{basis_of}
+use Rattle.bs_report.specs.declared.report.Budgets.{Budgets}
+use Rattle.bs_report.specs.declared.report.Report.{Report}
+use Rattle.bs_report.specs.Chain.{present_of}
+use Rattle.bs_report.specs.Crash.{Crash, IsCrash}
+use Rattle.bs_report.specs.Good.{IsGood}
+use Rattle.bs_report.specs.Valid.{first_failing, IsValid}
+use Rattle.bs_report.proofs.EndLemmas.{unhit_is_first, finished_reach_reset}
+use Rattle.bs_report.proofs.ProgressLemmas.{progress}
+use Rattle.bs_report.proofs.ExecutionLemmas.{executed}
+use Rattle.bs_report.specs.Text.{HasReportText}
+use Rattle.bs_loop.specs.Bound.{HasBound}
+use Rattle.bs_loop.specs.Crash.{crash_of, IsDumpFor, IsSound as IsSoundChip}
+use Rattle.bs_loop.proofs.GoodLemmas.{is_crash}
+use Rattle.bs_audit.specs.declared.finding.Finding.{Finding}
+use Rattle.bs_audit.specs.Finding.{part_of}
+use Rattle.bs_entry.specs.Fitting.{IsDump}
+use Rattle.bs_top.specs.Sound.{IsSound, basis_for}
+use Rattle.bs_top.specs.Finishes.{IsBacktrace, Finds}
+
+-- a good and valid report of a crash
+pub sound_is : (crash : Crash) (r : Report) → IsCrash crash → IsGood crash r → IsValid crash (basis_for crash r) r → IsSound crash r
+sound_is crash r crashed good valid = record {
+  good = good;
+  valid = valid;
+  headline = λ moved. executed crash r crashed good moved;
+  progress = λ i earlier later a b finished. progress crash r i earlier later crashed good a b finished;
+  unhit_is_first = λ i step at finished none. unhit_is_first crash r i step crashed good at finished none;
+  reaches_reset = λ first hit all at hits within. finished_reach_reset crash r first hit crashed good all at hits within;
+}
+
+abbrev chip_of : Checked → Chosen → Stimulus → Chipped
+chip_of net choice runs = record { net = net; choice = choice; runs = runs }
+
+-- what was read of the files is a crash
+pub crash_is : (net : Checked) (choice : Chosen) (runs : Stimulus) (dump : Dump) → IsChecked (circuit net) → IsStimulus runs → IsFitting (chip_of net choice runs) → IsDump net.raw choice dump → IsCrash (crash_of (chip_of net choice runs) dump)
+crash_is net choice runs dump checked recorded fitting fits =
+    is_crash (chip_of net choice runs) dump (record { checked = checked; runs = recorded; fitting = fitting }) (record { state = fits.state; signatures = fits.signatures })
+
+-- the facts of a backtrace of a chip
+pub record IsMade (chip : Chipped) (dump : Dump) (budgets : Budgets) (r : Report) : Type 0 where
+  pub asked : r.budgets ≡ budgets
+  pub good : IsGood (crash_of chip dump) r
+  pub valid : IsValid (crash_of chip dump) (basis_of (circuit_in chip) chip.choice.items (map present_of r.steps)) r
+  pub lean : LemmasAreLean (basis_of (circuit_in chip) chip.choice.items (map present_of r.steps)).problem (history_of r.log)
+  pub bound : HasBound (basis_of (circuit_in chip) chip.choice.items (map present_of r.steps)).problem r
+  pub readable : HasReportText r
+
+made_alike : (chip : Chipped) (dump : Dump) (budgets : Budgets) (r : Report) → IsCrash (crash_of chip dump) → IsMade chip dump budgets r → IsBacktrace (crash_of chip dump) budgets r
+made_alike chip dump budgets r crashed made = record { asked = made.asked; sound = sound_is (crash_of chip dump) r crashed made.good made.valid; lean = made.lean; bound = made.bound; readable = made.readable }
+
+pub backtrace_is : (net : Checked) (choice : Chosen) (runs : Stimulus) (dump : Dump) (chip : Chipped) (budgets : Budgets) (r : Report) → chip ≡ chip_of net choice runs → IsCrash (crash_of (chip_of net choice runs) dump) → IsMade chip dump budgets r → IsBacktrace (crash_of (chip_of net choice runs) dump) budgets r
+backtrace_is net choice runs dump chip budgets r is crashed made =
+    made_alike (chip_of net choice runs) dump budgets r crashed (subst (λ c. IsMade c dump budgets r) is made)
+
+-- the same of what a call answers
+pub backtrace_ok : {E : Type 0} (net : Checked) (choice : Chosen) (runs : Stimulus) (dump : Dump) (chip : Chipped) (budgets : Budgets) (r : Result Report E) → chip ≡ chip_of net choice runs → IsCrash (crash_of (chip_of net choice runs) dump) →
+    IfOk r (λ report. report.budgets ≡ budgets) → IfOk r (IsGood (crash_of chip dump)) →
+    IfOk r (λ report. IsValid (crash_of chip dump) (basis_of (circuit_in chip) chip.choice.items (map present_of report.steps)) report) →
+    IfOk r (λ report. LemmasAreLean (basis_of (circuit_in chip) chip.choice.items (map present_of report.steps)).problem (history_of report.log)) →
+    IfOk r (λ report. HasBound (basis_of (circuit_in chip) chip.choice.items (map present_of report.steps)).problem report) → IfOk r HasReportText →
+    IfOk r (IsBacktrace (crash_of (chip_of net choice runs) dump) budgets)
+backtrace_ok net choice runs dump chip budgets (Ok report) is crashed asked good valid lean bound readable =
+    backtrace_is net choice runs dump chip budgets report is crashed (record { asked = asked; good = good; valid = valid; lean = lean; bound = bound; readable = readable })
+backtrace_ok net choice runs dump chip budgets (Err want) is crashed asked good valid lean bound readable = tt
+
+-- what an audit finds
+pub finds_ok : {E : Type 0} (crash : Crash) (report : Report) (r : Result Finding E) → IsCrash crash →
+    IfOk r (λ finding. part_of finding ≡ first_failing crash (basis_for crash report) report) → IfOk r (λ finding. part_of finding ≡ None → IsGood crash report) →
+    IfOk r (λ finding. Finds crash report (part_of finding))
+finds_ok crash report (Ok finding) crashed first good =
+    record { first = first; accepted = λ none. sound_is crash report crashed (good none) (sym first ∙ none) }
+finds_ok crash report (Err want) crashed first good = tt

@@ -1,0 +1,167 @@
+//! The command `audit`: whether a report is valid, or the first part of it that fails.
+ghost use Rattle.std.specs.Prelude.{◌≡◌, ◌++◌, codes, decimal, IfOk, OnOk, Some};
+ghost use Rattle.bs_job.specs.Prepared.{Prepares};
+ghost use Rattle.bs_audit.specs.Finding.{part_of};
+ghost use Rattle.bs_entry.specs.Ready.{claimed_in};
+ghost use Rattle.bs_entry.specs.Refusals.{CheckSays};
+ghost use Rattle.bs_top.specs.Asked.{an_audit};
+ghost use Rattle.bs_top.specs.Work.{plan_of, to_audit};
+ghost use Rattle.bs_top.specs.Words.{audit_job};
+ghost use Rattle.bs_top.specs.Rejected.{finding_status, finding_text, part_words, rejected_text, step_words, why_word};
+ghost use Rattle.bs_top.specs.Finishes.{crash_of, finishes, Finds};
+
+use bs_audit::Finding;
+use bs_bits::{NoMemory as WantsMemory, end_line, push_number, push_piece};
+use bs_entry::{Claimed, Names, take_claimed};
+use bs_job::{Answer, Status, stopped};
+use bs_log::Why;
+use bs_outside::{NoMemory, Shelf};
+use bs_report::Part;
+use bs_words::AuditJob;
+use std::alloc::Global;
+
+/// The word for a reason for which a log line is refused.
+fn why_word(why: Why) -> &'static str
+    ensures { result.now ≡ why_word why }
+{
+    match why {
+        Why::Order => "Order",
+        Why::NoClause => "NoClause",
+        Why::Duplicate => "Duplicate",
+        Why::NotUnit => "NotUnit",
+        Why::NotFalse => "NotFalse",
+        Why::BadBlock => "BadBlock",
+        Why::BadEnd => "BadEnd",
+    }
+}
+
+/// Appends the words for a part of a step.
+fn push_step(text: &mut Vec<u8>, step: u64, word: &[u8]) -> Result<(), WantsMemory>
+    ensures { OnOk result (text.new.items ≡ text.old.items ++ step_words step word.now) }
+{
+    push_piece(text, b"step ")?;
+    push_number(text, step)?;
+    push_piece(text, word)
+}
+
+/// Appends the words for a candidate.
+fn push_candidate(text: &mut Vec<u8>, step: u64, candidate: u64) -> Result<(), WantsMemory>
+    ensures { OnOk result (text.new.items ≡ text.old.items ++ (step_words step (codes " candidate ") ++ decimal candidate)) }
+{
+    push_step(text, step, b" candidate ")?;
+    push_number(text, candidate)
+}
+
+/// Appends the words for a line of the log.
+fn push_log(text: &mut Vec<u8>, line: u64, why: Why) -> Result<(), WantsMemory>
+    ensures { OnOk result (text.new.items ≡ text.old.items ++ (codes "log " ++ (decimal line ++ (codes " " ++ why_word why)))) }
+{
+    push_piece(text, b"log ")?;
+    push_number(text, line)?;
+    push_piece(text, b" ")?;
+    push_piece(text, why_word(why).as_bytes())
+}
+
+/// Appends the words for a part that fails.
+fn push_part(text: &mut Vec<u8>, part: Part) -> Result<(), WantsMemory>
+    ensures { OnOk result (text.new.items ≡ text.old.items ++ part_words part) }
+{
+    match part {
+        Part::Present(step) => push_step(text, step, b" present"),
+        Part::Stored(step) => push_step(text, step, b" stored"),
+        Part::Candidate(step, candidate) => push_candidate(text, step, candidate),
+        Part::Listed(step) => push_step(text, step, b" list"),
+        Part::Hit(step) => push_step(text, step, b" hit"),
+        Part::Stop => push_piece(text, b"stop"),
+        Part::Trace => push_piece(text, b"trace"),
+        Part::Log(line, why) => push_log(text, line, why),
+        Part::Blocks(step) => push_step(text, step, b" blocks"),
+        Part::Ended(step) => push_step(text, step, b" end"),
+    }
+}
+
+/// The line for a part that fails.
+fn rejected(alloc: Global, part: Part) -> Result<Vec<u8>, WantsMemory>
+    ensures { IfOk result (λ text. text.items ≡ rejected_text part) }
+{
+    let mut text = Vec::new(alloc);
+    push_piece(&mut text, b"rejected ")?;
+    push_part(&mut text, part)?;
+    end_line(&mut text)?;
+    Ok(text)
+}
+
+/// The line for what an audit finds.
+fn finding_text(alloc: Global, finding: Finding) -> Result<Vec<u8>, WantsMemory>
+    ensures { IfOk result (λ text. text.items ≡ finding_text (part_of finding)) }
+{
+    match finding {
+        Finding::Accepted => Ok(b"accepted\n".to_vec(alloc)?),
+        Finding::Rejected(part) => rejected(alloc, part),
+    }
+}
+
+/// The status for what an audit finds.
+fn finding_status(finding: Finding) -> Status
+    ensures { result ≡ finding_status (part_of finding) }
+{
+    match finding {
+        Finding::Accepted => Status::Done,
+        Finding::Rejected(_) => Status::Rejected,
+    }
+}
+
+/// What an audit finds of a report.
+fn find(alloc: Global, claimed: &Claimed) -> Result<Finding, WantsMemory>
+    ensures { IfOk result (λ finding. Finds (crash_of (claimed_in claimed.now).crashed.setup claimed.now.crashed.dump) claimed.now.report (part_of finding)) }
+{
+    let crashed = &claimed.crashed;
+    let setup = &crashed.setup;
+    let _order = setup.net.order();
+    let _count = setup.runs.count();
+    bs_audit::audit(
+        alloc,
+        &setup.net,
+        &setup.choice,
+        &setup.runs,
+        &crashed.dump,
+        &claimed.report,
+    )
+}
+
+/// The status and the text for a report.
+fn found(alloc: Global, claimed: &Claimed) -> Result<Answer, WantsMemory>
+    ensures { IfOk result (λ answer. finishes (to_audit (claimed_in claimed.now)) answer.status answer.text.items) }
+{
+    let finding = find(alloc, claimed)?;
+    let text = finding_text(alloc, finding)?;
+    Ok(Answer {
+        status: finding_status(finding),
+        text,
+    })
+}
+
+/// What is written for a report.
+fn audited(alloc: Global, claimed: &Claimed) -> Result<Answer, NoMemory>
+    ensures { IfOk result (λ answer. finishes (to_audit (claimed_in claimed.now)) answer.status answer.text.items) }
+{
+    match found(alloc, claimed) {
+        Ok(answer) => Ok(answer),
+        Err(_) => Err(NoMemory),
+    }
+}
+
+/// The answer of the command.
+pub fn audit<S: Shelf>(alloc: Global, shelf: &mut S, job: &AuditJob<'_>) -> Result<Answer, NoMemory>
+    ensures { IfOk result (Prepares CheckSays finishes (S.held shelf.old) (S.faults shelf.old) (S.faults shelf.new) (Some (plan_of (an_audit (audit_job job.now))))) }
+{
+    let names = Names {
+        netlist: job.netlist,
+        signature: job.signature,
+        stimulus: job.stimulus,
+    };
+    match take_claimed(alloc, shelf, &names, job.dump, job.report) {
+        Ok(claimed) => audited(alloc, &claimed),
+        Err(stop) => stopped(alloc, stop),
+    }
+}

@@ -1,0 +1,100 @@
+//! The command `run`: the backtrace of a dump, and its report.
+ghost use Rattle.std.specs.Prelude.{◌≡◌, ◌+◌, length, IfOk, Some};
+ghost use Rattle.bs_job.specs.Prepared.{Prepares};
+ghost use Rattle.bs_loop.specs.Crash.{IsBudget};
+ghost use Rattle.bs_entry.specs.Fitting.{IsDump};
+ghost use Rattle.bs_entry.specs.Ready.{crashed_in, setup_in};
+ghost use Rattle.bs_entry.specs.Refusals.{CheckSays};
+ghost use Rattle.bs_top.specs.Asked.{a_run};
+ghost use Rattle.bs_top.specs.Work.{budgets_of, plan_of, to_run};
+ghost use Rattle.bs_top.specs.Words.{run_job};
+ghost use Rattle.bs_top.specs.Finishes.{crash_of, finishes, IsBacktrace, stop_status};
+
+use bs_bits::NoMemory as WantsMemory;
+use bs_chip::Chip;
+use bs_entry::{Crashed, Names, Setup, take_crashed};
+use bs_job::{Answer, Status, stopped};
+use bs_loop::backtrace;
+use bs_outside::{NoMemory, Shelf};
+use bs_preimage::Preimage;
+use bs_report::{Budgets, Report, Stop};
+use bs_scan::Dump;
+use bs_words::RunJob;
+use std::alloc::Global;
+
+/// The status of a backtrace by its stop.
+fn stop_status(stop: Stop) -> Status
+    ensures { result ≡ stop_status stop }
+{
+    match stop {
+        Stop::Reset | Stop::Length => Status::Done,
+        Stop::Nohit => Status::Nohit,
+        Stop::Empty => Status::Empty,
+        Stop::Candidates | Stop::Conflicts => Status::Spent,
+    }
+}
+
+/// The report of the backtrace of a dump within budgets.
+pub fn report_of(
+    alloc: Global,
+    setup: &Setup,
+    dump: &Dump,
+    budgets: &Budgets,
+) -> Result<Report, WantsMemory>
+    requires dump { IsDump setup.now.net.raw setup.now.choice dump.now }
+    requires budgets { IsBudget budgets.now }
+    ensures backtrace { IfOk result (IsBacktrace (crash_of (setup_in setup.now) dump.now) budgets.now) }
+    ensures trace { IfOk result (λ report. length report.states ≡ length report.inputs + 1) }
+{
+    let _order = setup.net.order();
+    let _count = setup.runs.count();
+    let mut chip = Chip::new(alloc, &setup.net, &setup.choice, &setup.runs)?;
+    let preimage = Preimage::new(alloc, &setup.net, &setup.choice)?;
+    backtrace(alloc, &mut chip, preimage, dump, budgets)
+}
+
+/// The status and the text of that report.
+fn reported(alloc: Global, crashed: &Crashed, budgets: &Budgets) -> Result<Answer, WantsMemory>
+    requires { IsBudget budgets.now }
+    ensures { IfOk result (λ answer. finishes (to_run budgets.now (crashed_in crashed.now)) answer.status answer.text.items) }
+{
+    let report = report_of(alloc, &crashed.setup, &crashed.dump, budgets)?;
+    let mut text = Vec::new(alloc);
+    report.text(&mut text)?;
+    Ok(Answer {
+        status: stop_status(report.stop),
+        text,
+    })
+}
+
+/// What is written for a dump.
+fn traced(alloc: Global, crashed: &Crashed, budgets: &Budgets) -> Result<Answer, NoMemory>
+    requires { IsBudget budgets.now }
+    ensures { IfOk result (λ answer. finishes (to_run budgets.now (crashed_in crashed.now)) answer.status answer.text.items) }
+{
+    match reported(alloc, crashed, budgets) {
+        Ok(answer) => Ok(answer),
+        Err(_) => Err(NoMemory),
+    }
+}
+
+/// The answer of the command.
+pub fn run<S: Shelf>(alloc: Global, shelf: &mut S, job: &RunJob<'_>) -> Result<Answer, NoMemory>
+    requires { IsBudget (budgets_of (run_job job.now)) }
+    ensures { IfOk result (Prepares CheckSays finishes (S.held shelf.old) (S.faults shelf.old) (S.faults shelf.new) (Some (plan_of (a_run (run_job job.now))))) }
+{
+    let names = Names {
+        netlist: job.netlist,
+        signature: job.signature,
+        stimulus: job.stimulus,
+    };
+    let budgets = Budgets {
+        steps: job.steps,
+        candidates: job.candidates,
+        conflicts: job.conflicts,
+    };
+    match take_crashed(alloc, shelf, &names, job.dump) {
+        Ok(crashed) => traced(alloc, &crashed, &budgets),
+        Err(stop) => stopped(alloc, stop),
+    }
+}
