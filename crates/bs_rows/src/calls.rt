@@ -4,8 +4,27 @@ use bs_outside::{MemShelf, MemSink};
 use bs_top::{Status, backspace};
 use std::alloc::{AllocError, Global};
 
+/// The toggle.
+pub const TOGGLE: &str = "module t(ck); input ck; not g(d,q); dff f(ck,q,d); endmodule";
+
 /// The shift register.
 pub const SHIFT: &str = "module sh(ck,a); input ck,a; dff f0(ck,q0,a); dff f1(ck,q1,q0); endmodule";
+
+/// A report on the toggle.
+pub const TOGGLED: &str =
+    "backspace 1\nasked 64 candidates 256 conflicts 100000\nstep 1\npresent 1\nstored .\ncand 0 input .\nlist finished 7\nhit 1 0 0\nstop reset\ntrace 1\nstate 0\ninput .\nstate 1\nlog 7\ns\nb 6 -5 3 0\ns\n7 -5 -4 0 4 1 6 0\ne 7\nr 8\nd 6 7 0\nend\n";
+
+/// The files of the toggle, with this report: the netlist `n`, the signature `s`, the stimulus `t`, the dump `d` and the
+/// report `r`.
+pub fn toggle(report: &str) -> [&str; 5] {
+    [
+        TOGGLE,
+        "",
+        "run a 1\n.\nend\n",
+        "state 1\nsig .\nend\n",
+        report,
+    ]
+}
 
 /// A call's faults: the number of the fetch that fails, that of the put that fails and after how many bytes, and the room
 /// of the sink. The number 0 is that of no call.

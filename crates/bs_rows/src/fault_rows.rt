@@ -1,6 +1,6 @@
 //! Refusals, and faults of files and of the output.
 
-use crate::calls::{Faults, SHIFT, SOUND, answers};
+use crate::calls::{Faults, SHIFT, SOUND, TOGGLED, answers, toggle};
 use bs_top::Status;
 use std::alloc::Global;
 use std::test::Fail;
@@ -77,8 +77,25 @@ fn is_cut(alloc: Global, put: (u64, usize), want: &str) -> bool {
     )
 }
 
+/// Whether an audit with a fault of a fetch is answered so.
+fn is_unread(alloc: Global, fetch: u64, want: &str) -> bool {
+    let faults = Faults {
+        fetch,
+        put: (0, 0),
+        room: 65536,
+    };
+    answers(
+        alloc,
+        "audit n s t d r",
+        toggle(TOGGLED),
+        faults,
+        Status::ReadFault,
+        want,
+    )
+}
+
 #[test]
-fn cut_puts_are_answered(rt: HostRuntime) -> Result<(), Fail> {
+fn faults_are_answered(rt: HostRuntime) -> Result<(), Fail> {
     let alloc = rt.alloc();
     for (put, want) in [
         ((1, 0), ""),
@@ -86,6 +103,50 @@ fn cut_puts_are_answered(rt: HostRuntime) -> Result<(), Fail> {
         ((3, 4), "state 11\nsig 1\nend\n"),
     ] {
         assert!(rt; is_cut(alloc, put, want), "{want}");
+    }
+    for (fetch, want) in [
+        (1, "refused netlist ReadFault\n"),
+        (2, "refused signature ReadFault\n"),
+        (3, "refused stimulus ReadFault\n"),
+        (4, "refused dump ReadFault\n"),
+        (5, "refused report ReadFault\n"),
+    ] {
+        assert!(rt; is_unread(alloc, fetch, want), "{want}");
+    }
+    Ok(())
+}
+
+/// Whether a run on the toggle with faults is answered so.
+fn is_stopped(alloc: Global, faults: Faults, status: Status, want: &str) -> bool {
+    answers(alloc, "run n s t d", toggle(""), faults, status, want)
+}
+
+#[test]
+fn faults_of_a_run_are_answered(rt: HostRuntime) -> Result<(), Fail> {
+    let alloc = rt.alloc();
+    for (fetch, put, room, status, want) in [
+        (
+            4,
+            (0, 0),
+            65536,
+            Status::ReadFault,
+            "refused dump ReadFault\n",
+        ),
+        (0, (2, 3), 65536, Status::WriteFault, "backspace 1\nask"),
+        (0, (0, 0), 15, Status::WriteFault, "backspace 1\nask"),
+    ] {
+        let faults = Faults { fetch, put, room };
+        assert!(rt; is_stopped(alloc, faults, status, want), "{want}");
+    }
+    for (dump, want) in [
+        ("state 11\nsig none\nend\n", "refused dump NotReset\n"),
+        ("state 1\nsig 0\nend\n", "refused dump Width 1\n"),
+        ("state 00\nsig 00\nend\n", "refused dump Width 2\n"),
+    ] {
+        assert!(rt;
+            is_shift(alloc, "run n s t d", ONES, dump, Status::Dump, want),
+            "{want}"
+        );
     }
     Ok(())
 }

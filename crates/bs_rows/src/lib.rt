@@ -1,9 +1,15 @@
-//! Worked rows of the command line: what the top call answers and writes on files in memory.
+//! Worked rows: what the top call answers and writes on files in memory, and calls of the crates below it.
 #![tactic(auto)]
 
 #[cfg(test)]
+mod audit_rows;
+#[cfg(test)]
 mod calls;
+#[cfg(test)]
+mod crate_rows;
 #[cfg(test)]
 mod fault_rows;
 #[cfg(test)]
 mod refusal_rows;
+#[cfg(test)]
+mod run_rows;

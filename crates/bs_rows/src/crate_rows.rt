@@ -1,0 +1,491 @@
+//! Worked rows that cross the crates, from a netlist's text on, and each call that allocates with ample memory.
+ghost use Rattle.std.specs.Prelude.{◌≡◌, length};
+ghost use Rattle.std.specs.Bool.{OnTrue};
+ghost use Rattle.bs_chip.specs.Chip.{IsFitting, circuit_in};
+
+use bs_bits::{Bits, NoMemory, push_number, push_piece};
+use bs_chip::{Chip, Hit};
+use bs_clause::{Clauses, Lit};
+use bs_encode::Encoding;
+use bs_net::{NetId, Netlist};
+use bs_scan::{Choice, ChoiceFault};
+use bs_sim::{Event, Schedule, Settled, Sim};
+use bs_stim::Runs;
+use std::alloc::Global;
+use std::test::Fail;
+
+const TOGGLE: &[u8] = b"module t(ck); input ck; not g(d,q); dff f(ck,q,d); endmodule";
+
+const SHIFT: &[u8] = b"module sh(ck,a); input ck,a; dff f0(ck,q0,a); dff f1(ck,q1,q0); endmodule";
+
+const XNOR: &[u8] =
+    b"module x(ck); input ck; xnor g(d0,q0,q1,1'b0); nand h(d1,q0); dff f0(ck,q0,d0); dff f1(ck,q1,d1); endmodule";
+
+const S27: &[u8] = b"// s27, four inputs, three flip-flops
+module dff(CK,Q,D);
+input CK,D;
+output Q;
+reg Q;
+always @(posedge CK) Q <= D;
+endmodule
+module s27(GND,VDD,CK,G0,G1,G17,G2,G3);
+input GND,VDD,CK,G0,G1,G2,G3;
+output G17;
+wire G5,G10,G6,G11,G7,G13,G14,G8,G15,G12,G16,G9;
+dff DFF_0(CK,G5,G10);
+dff DFF_1(CK,G6,G11);
+dff DFF_2(CK,G7,G13);
+not NOT_0(G14,G0);
+not NOT_1(G17,G11);
+and AND2_0(G8,G14,G6);
+or OR2_0(G15,G12,G8);
+or OR2_1(G16,G3,G8);
+nand NAND2_0(G9,G16,G15);
+nor NOR2_0(G10,G14,G11);
+nor NOR2_1(G11,G5,G9);
+nor NOR2_2(G12,G1,G7);
+nor NOR2_3(G13,G2,G12);
+endmodule
+";
+
+// ---- the values of the tables
+
+/// The netlist of a short text, if it is read and checked.
+fn netlist(alloc: Global, text: &[u8]) -> Option<Netlist> {
+    if text.len() > 1000 {
+        return None;
+    }
+    match bs_verilog::read(alloc, text) {
+        Ok(raw) => Netlist::check(alloc, raw).ok(),
+        Err(_) => None,
+    }
+}
+
+/// The bits of a text, or none where it is no text of bits.
+fn bits(alloc: Global, text: &str) -> Result<Bits, NoMemory> {
+    match Bits::read_text(alloc, text.as_bytes())? {
+        Some(bits) => Ok(bits),
+        None => Ok(Bits::new(alloc)),
+    }
+}
+
+/// What a signature file says, if it is short enough.
+fn choice(alloc: Global, text: &str, net: &Netlist) -> Result<Choice, ChoiceFault> {
+    if text.len() > 1000 {
+        return Err(ChoiceFault::NoMemory);
+    }
+    Choice::read(alloc, text.as_bytes(), net)
+}
+
+/// The shift register, with its second flip-flop as its signature.
+fn shift_register(alloc: Global) -> Option<(Netlist, Choice)> {
+    let Some(net) = netlist(alloc, SHIFT) else {
+        return None;
+    };
+    match choice(alloc, "bit q1\n", &net) {
+        Ok(choice) => Some((net, choice)),
+        Err(_) => None,
+    }
+}
+
+/// The runs of a stimulus for a netlist, if it is short and they are.
+fn runs(alloc: Global, text: &str, net: &Netlist) -> Option<Runs> {
+    if text.len() > 1000 {
+        return None;
+    }
+    bs_stim::read(alloc, text.as_bytes(), net.data_inputs().len()).ok()
+}
+
+// ---- simulators
+
+/// The next state of a state and an input, and the bit that a net then shows, by the plain simulator.
+fn plain_step(
+    alloc: Global,
+    net: &Netlist,
+    state: &Bits,
+    input: &Bits,
+    probe: NetId,
+) -> Result<Option<(Bits, bool)>, NoMemory> {
+    if state.len() != net.width() || input.len() != net.data_inputs().len() {
+        return Ok(None);
+    }
+    if probe.0 >= net.raw().names.len() {
+        return Ok(None);
+    }
+    let mut sim = Sim::new(alloc, net)?;
+    sim.load(state);
+    sim.step(input);
+    let bit = sim.value(probe);
+    let next = sim.state().copy()?;
+    Ok(Some((next, bit)))
+}
+
+/// The same by the event simulator.
+fn event_step(
+    alloc: Global,
+    net: &Netlist,
+    state: &Bits,
+    input: &Bits,
+    probe: NetId,
+) -> Result<Option<(Bits, bool)>, NoMemory> {
+    if state.len() != net.width() || input.len() != net.data_inputs().len() {
+        return Ok(None);
+    }
+    if probe.0 >= net.raw().names.len() {
+        return Ok(None);
+    }
+    let mut event = Event::new(alloc, net)?;
+    event.load(state);
+    event.step(input);
+    let bit = event.value(probe);
+    let next = event.state().copy()?;
+    Ok(Some((next, bit)))
+}
+
+/// Whether a step has led to this state while a net showed this bit.
+fn is_step(step: Option<(Bits, bool)>, next: &Bits, bit: bool) -> bool {
+    match step {
+        Some((state, shown)) => state.equals(next) && shown == bit,
+        None => false,
+    }
+}
+
+/// The work of the event simulator's first and second step from reset, with no data inputs.
+fn works(alloc: Global, net: &Netlist) -> Result<Option<(u64, u64)>, NoMemory> {
+    if net.data_inputs().len() != 0 {
+        return Ok(None);
+    }
+    let input = Bits::new(alloc);
+    let mut event = Event::new(alloc, net)?;
+    event.step(&input);
+    let first = event.work();
+    event.step(&input);
+    Ok(Some((first, event.work())))
+}
+
+/// Whether no gate step, then one, then two more of the first gate end so, with a net that shows the last bit.
+fn plays(
+    alloc: Global,
+    net: &Netlist,
+    state: &Bits,
+    probe: NetId,
+) -> Result<Option<(Settled, Settled, Settled, bool)>, NoMemory> {
+    if state.len() != net.width() || net.data_inputs().len() != 0 {
+        return Ok(None);
+    }
+    if net.raw().gates.len() == 0 || probe.0 >= net.raw().names.len() {
+        return Ok(None);
+    }
+    let input = Bits::new(alloc);
+    let mut schedule = Schedule::new(alloc, net, state, &input)?;
+    let none = schedule.play(&[]);
+    let one = schedule.play(&[0]);
+    let two = schedule.play(&[0, 0]);
+    Ok(Some((none, one, two, schedule.value(probe))))
+}
+
+/// Whether the plain simulator steps so, with a net that shows 0.
+fn is_plain_step(
+    alloc: Global,
+    net: &Netlist,
+    (state, input): (&Bits, &Bits),
+    next: &Bits,
+    probe: NetId,
+) -> Result<bool, NoMemory> {
+    let step = plain_step(alloc, net, state, input, probe)?;
+    Ok(is_step(step, next, false))
+}
+
+/// Whether the event simulator steps so, with a net that shows 0.
+fn is_event_step(
+    alloc: Global,
+    net: &Netlist,
+    (state, input): (&Bits, &Bits),
+    next: &Bits,
+    probe: NetId,
+) -> Result<bool, NoMemory> {
+    let step = event_step(alloc, net, state, input, probe)?;
+    Ok(is_step(step, next, false))
+}
+
+/// Whether both simulators step from 000 under 011001 to 010, with a net that shows 0.
+fn are_steps(alloc: Global, net: &Netlist, probe: NetId) -> Result<bool, NoMemory> {
+    let state = bits(alloc, "000")?;
+    let input = bits(alloc, "011001")?;
+    let next = bits(alloc, "010")?;
+    let plain = is_plain_step(alloc, net, (&state, &input), &next, probe)?;
+    let event = is_event_step(alloc, net, (&state, &input), &next, probe)?;
+    Ok(plain && event)
+}
+
+/// The same for the net with a name.
+fn are_named_steps(alloc: Global, net: &Netlist, name: &str) -> Result<bool, NoMemory> {
+    match net.raw().names.number(name) {
+        Some(probe) => are_steps(alloc, net, probe),
+        None => Ok(false),
+    }
+}
+
+/// The same for s27 and its output.
+fn are_s27_steps(alloc: Global) -> Result<bool, NoMemory> {
+    match netlist(alloc, S27) {
+        Some(net) => are_named_steps(alloc, &net, "G17"),
+        None => Ok(false),
+    }
+}
+
+/// The work of the toggle's first two steps.
+fn toggle_works(alloc: Global) -> Result<Option<(u64, u64)>, NoMemory> {
+    match netlist(alloc, TOGGLE) {
+        Some(net) => works(alloc, &net),
+        None => Ok(None),
+    }
+}
+
+/// What gate steps lead to in state 0, with the bit of `d` after them.
+fn plays_in_zero(
+    alloc: Global,
+    net: &Netlist,
+) -> Result<Option<(Settled, Settled, Settled, bool)>, NoMemory> {
+    let state = bits(alloc, "0")?;
+    match net.raw().names.number("d") {
+        Some(probe) => plays(alloc, net, &state, probe),
+        None => Ok(None),
+    }
+}
+
+/// The same for the toggle.
+fn toggle_plays(alloc: Global) -> Result<Option<(Settled, Settled, Settled, bool)>, NoMemory> {
+    match netlist(alloc, TOGGLE) {
+        Some(net) => plays_in_zero(alloc, &net),
+        None => Ok(None),
+    }
+}
+
+#[test]
+fn simulators_step_and_settle(rt: HostRuntime) -> Result<(), Fail> {
+    let alloc = rt.alloc();
+    assert!(rt; are_s27_steps(alloc)?);
+    assert_eq!(rt; toggle_works(alloc)?, Some((0, 1)));
+    assert_eq!(rt;
+        toggle_plays(alloc)?,
+        Some((Settled::Unstable(0), Settled::Quiet, Settled::Quiet, true))
+    );
+    Ok(())
+}
+
+// ---- clauses
+
+/// The encoding of a netlist's text and a signature file.
+fn encoding(alloc: Global, text: &[u8], items: &str) -> Option<Encoding> {
+    match netlist(alloc, text) {
+        None => None,
+        Some(net) => match choice(alloc, items, &net) {
+            Err(_) => None,
+            Ok(choice) => encoding_of(alloc, &net, &choice),
+        },
+    }
+}
+
+/// The encoding of a netlist and of what its signature is taken of.
+fn encoding_of(alloc: Global, net: &Netlist, choice: &Choice) -> Option<Encoding> {
+    if choice.width() != net.width() {
+        return None;
+    }
+    Encoding::new(alloc, net, choice).ok()
+}
+
+/// Whether a literal is this number, which is negative for a negation.
+fn is_lit(literal: Lit, number: i32) -> bool {
+    literal.var().0 == number.unsigned_abs() && literal.positive() == (number > 0)
+}
+
+/// Whether a clause is of these literals.
+fn is_clause(clause: &[Lit], numbers: &[i32]) -> bool {
+    if clause.len() != numbers.len() {
+        return false;
+    }
+    for (literal, number) in clause.iter().zip(numbers) {
+        if !is_lit(*literal, *number) {
+            return false;
+        }
+    }
+    true
+}
+
+/// Whether the clauses are of these literals.
+fn are_clauses(clauses: &Clauses, wanted: &[&[i32]]) -> bool {
+    if clauses.len() != wanted.len() {
+        return false;
+    }
+    for (clause, numbers) in clauses.slice().iter().zip(wanted) {
+        if !is_clause(clause.slice(), numbers) {
+            return false;
+        }
+    }
+    true
+}
+
+/// The numbers of variables and of clauses.
+fn sizes(alloc: Global, text: &[u8], items: &str) -> Option<(u32, usize)> {
+    match encoding(alloc, text, items) {
+        Some(encoding) => Some((encoding.vars(), encoding.clauses().len())),
+        None => None,
+    }
+}
+
+/// Whether the clauses of the toggle are these.
+fn are_of_toggle(alloc: Global, wanted: &[&[i32]]) -> bool {
+    match encoding(alloc, TOGGLE, "") {
+        Some(encoding) => are_clauses(encoding.clauses(), wanted),
+        None => false,
+    }
+}
+
+#[test]
+fn netlists_are_encoded(rt: HostRuntime) -> Result<(), Fail> {
+    let alloc = rt.alloc();
+    assert_eq!(rt; sizes(alloc, TOGGLE, ""), Some((4, 5)));
+    assert_eq!(rt; sizes(alloc, S27, "bit G5\n"), Some((24, 37)));
+    assert_eq!(rt; sizes(alloc, XNOR, ""), Some((9, 16)));
+    let toggle: [&[i32]; 5] = [&[-2, -3], &[2, 3], &[-1], &[-4, 2], &[4, -2]];
+    assert!(rt; are_of_toggle(alloc, &toggle));
+    Ok(())
+}
+
+// ---- recorded runs
+
+/// Whether the widths of a signature and of runs are the netlist's.
+fn is_fitting(net: &Netlist, choice: &Choice, runs: &Runs) -> bool
+    ensures { OnTrue result (IsFitting (record { net = net.now; choice = choice.now; runs = runs.now })) }
+{
+    choice.width() == net.width() && runs.width() == net.data_inputs().len()
+}
+
+/// The run and the cycle of a moment, and the text of its dump.
+fn moment_text(alloc: Global, hit: &Hit) -> Result<Vec<u8>, NoMemory> {
+    let mut text = Vec::new(alloc);
+    push_number(&mut text, u64::from(hit.run))?;
+    push_piece(&mut text, b" ")?;
+    push_number(&mut text, u64::from(hit.cycle))?;
+    push_piece(&mut text, b" ")?;
+    hit.dump.text(&mut text)?;
+    Ok(text)
+}
+
+/// The text of the first moment in a state; nothing where there is none.
+fn first_moment(chip: &mut Chip<'_>, alloc: Global, state: Bits) -> Result<Vec<u8>, NoMemory>
+    requires { length state ≡ length (circuit_in chip.old).flops }
+{
+    let list = [state];
+    match chip.first(alloc, &list)? {
+        Some(hit) => moment_text(alloc, &hit),
+        None => Ok(Vec::new(alloc)),
+    }
+}
+
+/// The text of the first moment of recorded runs in a state.
+fn first_of(
+    alloc: Global,
+    net: &Netlist,
+    choice: &Choice,
+    runs: &Runs,
+    state: Bits,
+) -> Result<Vec<u8>, NoMemory> {
+    if !is_fitting(net, choice, runs) || state.len() != net.width() {
+        return Ok(Vec::new(alloc));
+    }
+    let mut chip = Chip::new(alloc, net, choice, runs)?;
+    first_moment(&mut chip, alloc, state)
+}
+
+/// The same for a stimulus and a text of bits.
+fn first_in(
+    alloc: Global,
+    net: &Netlist,
+    choice: &Choice,
+    stimulus: &str,
+    state: &str,
+) -> Result<Vec<u8>, NoMemory> {
+    match runs(alloc, stimulus, net) {
+        Some(runs) => first_of(alloc, net, choice, &runs, bits(alloc, state)?),
+        None => Ok(Vec::new(alloc)),
+    }
+}
+
+/// The same for the shift register.
+fn first_text(alloc: Global, stimulus: &str, state: &str) -> Result<Vec<u8>, NoMemory> {
+    match shift_register(alloc) {
+        Some((net, choice)) => first_in(alloc, &net, &choice, stimulus, state),
+        None => Ok(Vec::new(alloc)),
+    }
+}
+
+/// The text of the dump of the first run's moment, where it is recorded.
+fn dump_of(
+    alloc: Global,
+    net: &Netlist,
+    choice: &Choice,
+    runs: &Runs,
+    cycle: u32,
+) -> Result<Vec<u8>, NoMemory> {
+    let mut text = Vec::new(alloc);
+    if !is_fitting(net, choice, runs) || runs.count() < 1 {
+        return Ok(text);
+    }
+    if cycle > runs.cycles(1) {
+        return Ok(text);
+    }
+    let mut chip = Chip::new(alloc, net, choice, runs)?;
+    let dump = chip.dump_at(alloc, 1, cycle)?;
+    dump.text(&mut text)?;
+    Ok(text)
+}
+
+/// The same for a stimulus.
+fn dump_in(
+    alloc: Global,
+    net: &Netlist,
+    choice: &Choice,
+    stimulus: &str,
+    cycle: u32,
+) -> Result<Vec<u8>, NoMemory> {
+    match runs(alloc, stimulus, net) {
+        Some(runs) => dump_of(alloc, net, choice, &runs, cycle),
+        None => Ok(Vec::new(alloc)),
+    }
+}
+
+/// The same for the shift register.
+fn dump_text(alloc: Global, stimulus: &str, cycle: u32) -> Result<Vec<u8>, NoMemory> {
+    match shift_register(alloc) {
+        Some((net, choice)) => dump_in(alloc, &net, &choice, stimulus, cycle),
+        None => Ok(Vec::new(alloc)),
+    }
+}
+
+/// Whether the first moment in a state is this.
+fn is_first(alloc: Global, (stimulus, state): (&str, &str), want: &str) -> Result<bool, NoMemory> {
+    let text = first_text(alloc, stimulus, state)?;
+    Ok(text.as_slice() == want.as_bytes())
+}
+
+/// Whether the dump of a moment of the first run is this.
+fn is_dump(alloc: Global, (stimulus, cycle): (&str, u32), want: &str) -> Result<bool, NoMemory> {
+    let text = dump_text(alloc, stimulus, cycle)?;
+    Ok(text.as_slice() == want.as_bytes())
+}
+
+#[test]
+fn chips_replay_their_runs(rt: HostRuntime) -> Result<(), Fail> {
+    let alloc = rt.alloc();
+    let twice = "run a 2\n1\n1\nend\nrun b 2\n1\n1\nend\n";
+    let ended = "run a 1\n1\nend\nrun b 5\n0\n0\n1\n0\n0\nend\n";
+    let ones = "run a 3\n1\n1\n1\nend\n";
+    assert!(rt; is_first(alloc, (twice, "10"), "1 1 state 10\nsig 0\nend\n")?);
+    assert!(rt; is_first(alloc, (twice, "01"), "")?);
+    assert!(rt; is_first(alloc, (ended, "01"), "2 4 state 01\nsig 0\nend\n")?);
+    assert!(rt; is_dump(alloc, (ones, 3), "state 11\nsig 1\nend\n")?);
+    assert!(rt; is_dump(alloc, (ones, 0), "state 00\nsig none\nend\n")?);
+    Ok(())
+}
