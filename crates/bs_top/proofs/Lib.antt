@@ -3,3 +3,4 @@ pub mod WorkLemmas
 pub mod AskedLemmas
 pub mod SoundLemmas
 pub mod LawLemmas
+pub mod DemoLemmas

@@ -16,7 +16,7 @@ use Rattle.bs_job.specs.Walks.{Walks}
 use Rattle.bs_job.specs.Prepared.{Prepares, IsWork}
 use Rattle.bs_job.proofs.Preparing.{prepares_work}
 use Rattle.bs_entry.specs.Refusals.{CheckSays}
-use Rattle.bs_top.specs.Work.{Work, to_run, to_audit, to_dump}
+use Rattle.bs_top.specs.Work.{Work, to_run, to_audit, to_dump, to_demo}
 use Rattle.bs_top.specs.Finishes.{finishes, stop_status}
 
 stop_work : (stop : Stop) → is_work_status (stop_status stop) ≡ true
@@ -35,6 +35,7 @@ work_status : (work : Work) (status : Status) (text : List ℕ) → finishes wor
 work_status (to_run budgets crashed) status text done = ap is_work_status done.answered ∙ stop_work done.report.stop
 work_status (to_audit claimed) status text done = ap is_work_status done.answered ∙ finding_work done.part
 work_status (to_dump placed) status text done = ap is_work_status done.0 ∙ refl
+work_status (to_demo number placed) status text done = ap is_work_status done.answered ∙ refl
 
 pub is_work : IsWork finishes
 is_work = record { status = work_status }

@@ -18,9 +18,10 @@ use Rattle.bs_job.specs.declared.file.Status.{Status}
 use Rattle.bs_job.specs.declared.file.Status.TheVariants as S
 use Rattle.bs_loop.specs.Bound.{HasBound}
 use Rattle.bs_entry.specs.Entry.{Setup, Placed, Crashed, circuit_in, runs_in}
+use Rattle.bs_demo.specs.Summary.{summary_text}
 use Rattle.bs_top.specs.Rejected.{finding_status, finding_text}
 use Rattle.bs_top.specs.Sound.{IsSound, basis_for}
-use Rattle.bs_top.specs.Work.{Work, to_run, to_audit, to_dump}
+use Rattle.bs_top.specs.Work.{Work, to_run, to_audit, to_dump, to_demo}
 
 -- the dump of a moment: its state, and the signature that the register holds there, if it holds one
 abbrev pub dump_at : Setup → Moment → Dump
@@ -71,7 +72,19 @@ pub record Audits (crash : Crash) (report : Report) (status : Status) (text : Li
   pub answered : status ≡ finding_status part
   pub written : text ≡ finding_text part
 
+-- the budgets of a generated job's backtrace
+abbrev pub demo_budgets : Budgets
+demo_budgets = record { steps = 64; candidates = 64; conflicts = 10000 }
+
+-- there is a backtrace of which this line tells the numbers and the cause
+pub record Summarises (number : ℕ) (crash : Crash) (status : Status) (text : List ℕ) : Type 0 where
+  pub report : Report
+  pub backtrace : IsBacktrace crash demo_budgets report
+  pub written : text ≡ summary_text number report
+  pub answered : status ≡ S.Done
+
 abbrev pub finishes : Work → Status → List ℕ → Type 0
 finishes (to_run budgets crashed) status text = Reports (crash_of crashed.setup crashed.dump) budgets status text
 finishes (to_audit claimed) status text = Audits (crash_of claimed.crashed.setup claimed.crashed.dump) claimed.report status text
 finishes (to_dump placed) status text = (status ≡ S.Done) × (text ≡ dump_text (dump_at placed.setup placed.moment))
+finishes (to_demo number placed) status text = Summarises number (crash_of placed.setup (dump_at placed.setup placed.moment)) status text

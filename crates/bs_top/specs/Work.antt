@@ -5,13 +5,16 @@ use Rattle.bs_report.specs.declared.report.Budgets.{Budgets}
 use Rattle.bs_words.specs.Job.{RunJob, AuditJob, DumpJob}
 use Rattle.bs_job.specs.Plan.{Plan, end, ◌>>=◌}
 use Rattle.bs_entry.specs.Entry.{Names, Placed, placed_of, Crashed, crashed_of, Claimed, claimed_of}
-use Rattle.bs_top.specs.Asked.{Offer, a_run, an_audit, a_dump}
+use Rattle.bs_demo.specs.Demo.{demo_of}
+use Rattle.bs_top.specs.Asked.{Offer, a_run, an_audit, a_dump, a_demo}
 
--- the backtrace of a dump within budgets, what an audit finds of a report, or the dump of a moment is to be written
+-- the backtrace of a dump within budgets, what an audit finds of a report, the dump of a moment, or the line of a generated
+-- job's backtrace is to be written
 pub data Work : Type 0 where
   to_run : Budgets → Crashed → Work
   to_audit : Claimed → Work
   to_dump : Placed → Work
+  to_demo : ℕ → Placed → Work
 
 abbrev pub run_names : RunJob → Names
 run_names job = record { netlist = job.netlist; signature = job.signature; stimulus = job.stimulus }
@@ -36,3 +39,6 @@ plan_of (an_audit job) = do
 plan_of (a_dump job) = do
   placed ← placed_of (dump_names job) job.run job.cycle
   end (to_dump placed)
+plan_of (a_demo number) = do
+  placed ← demo_of number
+  end (to_demo number placed)

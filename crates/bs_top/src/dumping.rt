@@ -18,7 +18,7 @@ use bs_words::DumpJob;
 use std::alloc::Global;
 
 /// The dump of a moment.
-fn dump_of(alloc: Global, placed: &Placed) -> Result<Dump, WantsMemory>
+pub fn dump_of(alloc: Global, placed: &Placed) -> Result<Dump, WantsMemory>
     ensures { IfOk result (λ dump. dump ≡ dump_at (placed_in placed.now).setup (placed_in placed.now).moment) }
 {
     let setup = &placed.setup;

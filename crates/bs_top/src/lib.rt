@@ -5,6 +5,7 @@ mod auditing;
 mod backtracing;
 mod dumping;
 mod law;
+mod summing;
 mod top;
 
 pub use bs_job::Status;

@@ -12,6 +12,7 @@ ghost use Rattle.bs_top.specs.Finishes.{finishes};
 use crate::auditing::audit;
 use crate::backtracing::run;
 use crate::dumping::dump;
+use crate::summing::demo;
 use bs_job::{Answer, Status, deliver, refused_words};
 use bs_outside::{NoMemory, Shelf, Sink};
 use bs_words::{Job, read_words};
@@ -26,7 +27,7 @@ fn prepare<S: Shelf>(alloc: Global, words: &[String], shelf: &mut S) -> Result<A
         Some(Job::Dump(job)) => dump(alloc, shelf, &job),
         Some(Job::Run(job)) => run(alloc, shelf, &job),
         Some(Job::Audit(job)) => audit(alloc, shelf, &job),
-        Some(Job::Demo(_)) => refused_words(alloc),
+        Some(Job::Demo(number)) => demo(alloc, number),
         None => refused_words(alloc),
     }
 }

@@ -1,0 +1,57 @@
+//! The command `demo`: the backtrace of a generated job, told in one line.
+ghost use Rattle.std.specs.Prelude.{◌≡◌, IfOk};
+ghost use Rattle.bs_job.specs.Prepared.{PreparesAlone};
+ghost use Rattle.bs_entry.specs.Ready.{placed_in};
+ghost use Rattle.bs_entry.specs.Refusals.{CheckSays};
+ghost use Rattle.bs_top.specs.Asked.{a_demo};
+ghost use Rattle.bs_top.specs.Work.{plan_of, to_demo};
+ghost use Rattle.bs_top.specs.Finishes.{finishes};
+
+use crate::backtracing::report_of;
+use crate::dumping::dump_of;
+use bs_bits::NoMemory as WantsMemory;
+use bs_demo::{push_summary, take_demo};
+use bs_entry::Placed;
+use bs_job::{Answer, Status, stopped};
+use bs_outside::NoMemory;
+use bs_report::Budgets;
+use std::alloc::Global;
+
+/// The line of the backtrace of a moment's dump.
+fn summary_of(alloc: Global, number: u64, placed: &Placed) -> Result<Vec<u8>, WantsMemory>
+    ensures { IfOk result (λ text. finishes (to_demo number (placed_in placed.now)) Status.Done text.items) }
+{
+    let dump = dump_of(alloc, placed)?;
+    let budgets = Budgets {
+        steps: 64,
+        candidates: 64,
+        conflicts: 10_000,
+    };
+    let report = report_of(alloc, &placed.setup, &dump, &budgets)?;
+    let mut text = Vec::new(alloc);
+    push_summary(&mut text, number, &report)?;
+    Ok(text)
+}
+
+/// What is written for a generated job.
+fn summed(alloc: Global, number: u64, placed: &Placed) -> Result<Answer, NoMemory>
+    ensures { IfOk result (λ answer. finishes (to_demo number (placed_in placed.now)) answer.status answer.text.items) }
+{
+    match summary_of(alloc, number, placed) {
+        Ok(text) => Ok(Answer {
+            status: Status::Done,
+            text,
+        }),
+        Err(_) => Err(NoMemory),
+    }
+}
+
+/// The answer of the command. It asks no shelf.
+pub fn demo(alloc: Global, number: u64) -> Result<Answer, NoMemory>
+    ensures { IfOk result (PreparesAlone CheckSays finishes (plan_of (a_demo number))) }
+{
+    match take_demo(alloc, number) {
+        Ok(placed) => summed(alloc, number, &placed),
+        Err(stop) => stopped(alloc, stop),
+    }
+}
