@@ -8,6 +8,8 @@ mod calls;
 #[cfg(test)]
 mod crate_rows;
 #[cfg(test)]
+mod demo_rows;
+#[cfg(test)]
 mod fault_rows;
 #[cfg(test)]
 mod refusal_rows;
