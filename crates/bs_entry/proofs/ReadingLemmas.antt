@@ -1,5 +1,5 @@
 -- What a reading of a netlist answers.
-use Rattle.std.proofs.Common.{◌≡◌, Result, Ok, Err, true, refl, sym, subst}
+use Rattle.std.proofs.Common.{◌≡◌, Ok, Err, refl, sym, subst}
 use Rattle.bs_net.specs.declared.raw.Raw.{Raw}
 use Rattle.bs_net.specs.Check.{Passes}
 use Rattle.bs_net.proofs.CallerLemmas.{passes_is, refused_fails}

@@ -1,6 +1,6 @@
 -- The job that words ask for, by what was read of them.
-use Rattle.std.proofs.Common.{◌≡◌, ℕ, List, Option, Some, sym}
-use Rattle.bs_words.specs.Job.{Job, RunJob, Run, job_of}
+use Rattle.std.proofs.Common.{◌≡◌, ℕ, List, Some, sym}
+use Rattle.bs_words.specs.Job.{RunJob, Run, job_of}
 use Rattle.bs_words.proofs.BudgetLemmas.{FitsJob, job_fits}
 use Rattle.bs_loop.specs.Crash.{IsBudget}
 use Rattle.bs_top.specs.Work.{budgets_of}

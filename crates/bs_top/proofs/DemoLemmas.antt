@@ -1,5 +1,5 @@
 -- The backtrace of a generated job.
-use Rattle.std.proofs.Common.{◌≡◌, ◌≢◌, ℕ, zero, suc, ◌≤◌, Bool, List, [], ◌∷◌, length, refl, ap, subst, sym, ◌∙◌, Option, Some, None, Result, Ok, Err, arith, lit≤}
+use Rattle.std.proofs.Common.{◌≡◌, ℕ, zero, suc, ◌≤◌, Bool, List, [], ◌∷◌, length, refl, subst, sym, None, Result, Ok, Err, lit≤}
 use Rattle.std.specs.Prelude.{slice_get, All, IfOk}
 use Rattle.std.specs.Option.{option_to_list}
 use Rattle.std.proofs.lemmas.List.{length-map}
@@ -18,7 +18,7 @@ use Rattle.bs_job.specs.declared.walk.Stop.{Stop}
 use Rattle.bs_job.specs.declared.answer.Answer.{Answer}
 use Rattle.bs_job.specs.Plan.{Plan}
 use Rattle.bs_job.specs.Walks.{WalksAlone}
-use Rattle.bs_job.specs.Prepared.{Prepares, PreparesAlone, AnswersStop}
+use Rattle.bs_job.specs.Prepared.{PreparesAlone, AnswersStop}
 use Rattle.bs_job.proofs.Preparing.{prepares_work, prepares_stop}
 use Rattle.bs_loop.specs.Crash.{IsBudget}
 use Rattle.bs_entry.specs.Entry.{Setup, circuit_in, runs_in}

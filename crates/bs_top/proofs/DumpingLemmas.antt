@@ -9,7 +9,6 @@ use Rattle.bs_scan.specs.Choice.{Chosen}
 use Rattle.bs_scan.specs.declared.dump.Dump.{Dump}
 use Rattle.bs_scan.specs.Moments.{Moment, state_of, run_of}
 use Rattle.bs_scan.specs.Signature.{stored_at}
-use Rattle.bs_scan.specs.Dump.{signatures_of}
 use Rattle.bs_chip.specs.Chip.{Chipped, IsDumpOf}
 use Rattle.bs_entry.specs.Entry.{Setup}
 use Rattle.bs_top.specs.Finishes.{dump_at}

@@ -21,7 +21,7 @@ use Rattle.bs_report.proofs.ProgressLemmas.{progress}
 use Rattle.bs_report.proofs.ExecutionLemmas.{executed}
 use Rattle.bs_report.specs.Text.{HasReportText}
 use Rattle.bs_loop.specs.Bound.{HasBound}
-use Rattle.bs_loop.specs.Crash.{crash_of, IsDumpFor, IsSound as IsSoundChip}
+use Rattle.bs_loop.specs.Crash.{crash_of}
 use Rattle.bs_loop.proofs.GoodLemmas.{is_crash}
 use Rattle.bs_audit.specs.declared.finding.Finding.{Finding}
 use Rattle.bs_audit.specs.Finding.{part_of}

@@ -8,7 +8,6 @@ use Rattle.bs_report.specs.declared.part.Part.{Part}
 use Rattle.bs_top.specs.Rejected.{finding_status}
 use Rattle.bs_net.specs.declared.raw.Raw.{Raw}
 use Rattle.bs_job.specs.declared.file.Status.{Status}
-use Rattle.bs_job.specs.declared.file.Status.TheVariants.{Done}
 use Rattle.bs_job.specs.declared.answer.Answer.{Answer}
 use Rattle.bs_job.specs.Files.{is_work_status}
 use Rattle.bs_job.specs.Plan.{Tells, Counts, Plan}

@@ -17,7 +17,7 @@ use Rattle.bs_report.specs.Valid.{first_failing}
 use Rattle.bs_job.specs.declared.file.Status.{Status}
 use Rattle.bs_job.specs.declared.file.Status.TheVariants as S
 use Rattle.bs_loop.specs.Bound.{HasBound}
-use Rattle.bs_entry.specs.Entry.{Setup, Placed, Crashed, circuit_in, runs_in}
+use Rattle.bs_entry.specs.Entry.{Setup, circuit_in, runs_in}
 use Rattle.bs_demo.specs.Summary.{summary_text}
 use Rattle.bs_top.specs.Rejected.{finding_status, finding_text}
 use Rattle.bs_top.specs.Sound.{IsSound, basis_for}

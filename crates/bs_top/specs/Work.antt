@@ -1,5 +1,5 @@
 -- What a job is ready for, and the files through which it comes to that.
-use Rattle.std.specs.Prelude.{ℕ, List}
+use Rattle.std.specs.Prelude.{ℕ}
 use Rattle.bs_net.specs.declared.raw.Raw.{Raw}
 use Rattle.bs_report.specs.declared.report.Budgets.{Budgets}
 use Rattle.bs_words.specs.Job.{RunJob, AuditJob, DumpJob}

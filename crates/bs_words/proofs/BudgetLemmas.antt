@@ -1,5 +1,5 @@
 -- The budgets of a run are in their ranges.
-use Rattle.std.proofs.Common.{◌≡◌, ℕ, ◌≤◌, ◌-◌, ◌^◌, Bool, true, false, List, [], ◌∷◌, Option, Some, None, refl, sym, ap, subst, codes, if◌then◌else◌, arith}
+use Rattle.std.proofs.Common.{◌≡◌, ℕ, ◌≤◌, ◌-◌, ◌^◌, Bool, true, false, List, [], ◌∷◌, Option, Some, None, refl, sym, subst, codes, if◌then◌else◌, arith}
 use Rattle.std.specs.Prelude.{nat_le, ◌&&◌}
 use Rattle.std.specs.Option.{option_map, option_and_then, unwrap_or}
 use Rattle.std.specs.Str.{bytes_eq}
@@ -9,7 +9,7 @@ use Rattle.bs_words.specs.declared.options.Kind.{Kind}
 use Rattle.bs_words.specs.declared.options.Kind.TheVariants.{Steps, Candidates, Conflicts}
 use Rattle.bs_words.specs.declared.line.Mode.{Mode}
 use Rattle.bs_words.specs.declared.line.Mode.TheVariants.{Plain, Wants, Names}
-use Rattle.bs_words.specs.Options.{number_between, greatest, value_in, has_dash, is_option, kind_of, rest_of}
+use Rattle.bs_words.specs.Options.{number_between, value_in, has_dash, is_option, kind_of, rest_of}
 use Rattle.bs_words.specs.Line.{Line, once, set_to, set_if, set_by, add_to, State, in_mode, option_step, plain_step, step, finish, read_all, start}
 use Rattle.bs_words.specs.Job.{RunJob, Job, Run, run_job, run_at, audit_at, audit_job, dump_of, dump_at, dump_job, demo_at, demo_job, command_job, job_of}
 
