@@ -1,11 +1,95 @@
 //! The generated job.
 
-use crate::calls::{SOUND, answers};
+use crate::calls::{SOUND, answers, call};
+use bs_gen::{Job, make};
 use bs_top::Status;
+use std::alloc::Global;
 use std::test::Fail;
 
+/// What a line of words writes on these files, where it is done.
+fn written(alloc: Global, line: &str, texts: [&str; 5]) -> Option<Vec<u8>> {
+    match call(alloc, line, texts, SOUND) {
+        Some((Status::Done, text)) => Some(text),
+        _ => None,
+    }
+}
+
+/// How many lines of a text begin so.
+fn lines_of(text: &str, start: &str) -> usize {
+    text.lines().filter(|line| line.starts_with(start)).count()
+}
+
+/// Whether a step's list is finished with eight candidates.
+fn has_eight(step: &str) -> bool {
+    lines_of(step, "cand ") == 8 && lines_of(step, "list finished ") == 1
+}
+
+/// Whether two steps are finished, and hit run 1 at cycles 255 and 254.
+fn is_two_steps(first: &str, second: &str) -> bool {
+    has_eight(first)
+        && has_eight(second)
+        && first.contains("\nhit 1 255 ")
+        && second.contains("\nhit 1 254 ")
+        && second.contains("\nstop length\n")
+}
+
+/// Whether a report is of two such steps.
+fn is_traced(report: &[u8]) -> bool {
+    match str::from_utf8(report) {
+        Ok(text) => match text.split_once("\nstep 2\n") {
+            Some((first, second)) => is_two_steps(first, second),
+            None => false,
+        },
+        Err(_) => false,
+    }
+}
+
+/// Whether a run from this dump makes two such steps.
+fn is_run(alloc: Global, texts: [&str; 3], dump: &[u8]) -> bool {
+    let Ok(dump) = str::from_utf8(dump) else {
+        return false;
+    };
+    let line = "run n s t d --steps 2 --candidates 64 --conflicts 10000";
+    match written(alloc, line, [texts[0], texts[1], texts[2], dump, ""]) {
+        Some(report) => is_traced(&report),
+        None => false,
+    }
+}
+
+/// Whether the dump of run 1 at cycle 256 is traced back so.
+fn is_dumped_and_run(alloc: Global, texts: [&str; 3]) -> bool {
+    let files = [texts[0], texts[1], texts[2], "", ""];
+    match written(alloc, "dump n s t 1 256", files) {
+        Some(dump) => is_run(alloc, texts, &dump),
+        None => false,
+    }
+}
+
+/// Whether the texts of a job are traced back so.
+fn is_job(alloc: Global, job: &Job) -> bool {
+    match (
+        str::from_utf8(job.netlist.slice()),
+        str::from_utf8(job.signature.slice()),
+        str::from_utf8(job.stimulus.slice()),
+    ) {
+        (Ok(netlist), Ok(signature), Ok(stimulus)) => {
+            is_dumped_and_run(alloc, [netlist, signature, stimulus])
+        }
+        _ => false,
+    }
+}
+
+/// Whether the job with this number is traced back so.
+fn is_traced_back(alloc: Global, number: u64) -> bool {
+    match make(alloc, number) {
+        Ok(job) => is_job(alloc, &job),
+        Err(_) => false,
+    }
+}
+
 #[test]
-fn a_generated_job_is_told_in_a_line(rt: HostRuntime) -> Result<(), Fail> {
+fn a_generated_job_is_traced_back(rt: HostRuntime) -> Result<(), Fail> {
+    assert!(rt; is_traced_back(rt.alloc(), 7));
     let want = "demo 7 steps 64 finished 64 listed 512 stop length\n";
     let texts = ["", "", "", "", ""];
     assert!(rt; answers(rt.alloc(), "demo 7", texts, SOUND, Status::Done, want));
