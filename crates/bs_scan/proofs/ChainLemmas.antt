@@ -1,6 +1,6 @@
 -- A chain as a list of bits that begins at some place and goes on at the first.
-use Rattle.std.proofs.Common.{◌≡◌, ℕ, suc, zero, ◌<◌, ◌≤◌, ◌+◌, ◌-◌, Bool, false, List, [], ◌∷◌, ◌++◌, length, take, drop, set, get_or, refl, arith, ap, sym, ◌∙◌, ◌⊎◌, inl, inr, append-nil, append_assoc, length-append, add-one}
-use Rattle.std.proofs.lemmas.List.{take-append-drop, length-drop}
+use Rattle.std.proofs.Common.{◌≡◌, ℕ, suc, zero, ◌<◌, ◌+◌, ◌-◌, Bool, false, List, [], ◌∷◌, ◌++◌, length, take, drop, set, get_or, refl, arith, ap, sym, ◌∙◌, ◌⊎◌, inl, inr, append-nil, append_assoc, length-append, add-one}
+use Rattle.std.proofs.lemmas.List.{take-append-drop}
 use Rattle.bs_scan.specs.Chain.{ShiftsOut, FullShiftsUnload}
 
 drop_first : (bs : List Bool) (f : ℕ) → f < length bs → drop f bs ≡ get_or bs f false ∷ drop (suc f) bs

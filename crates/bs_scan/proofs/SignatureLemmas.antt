@@ -1,6 +1,6 @@
 -- The moment one cycle earlier is a predecessor that agrees with the stored signatures.
-use Rattle.std.proofs.Common.{◌≡◌, ℕ, suc, zero, ◌<◌, Bool, true, false, cond, List, [], ◌∷◌, map, length, take, get_or, refl, ap, subst, sym, ◌∙◌, ◌⊎◌, inl, inr, ⊎_elim}
-use Rattle.std.specs.Prelude.{filter, ◌&&◌, ◌||◌, IsTrue}
+use Rattle.std.proofs.Common.{◌≡◌, ℕ, suc, zero, Bool, true, false, cond, List, [], ◌∷◌, length, take, get_or, refl, ap, subst, sym, ◌∙◌, ◌⊎◌, inl, inr}
+use Rattle.std.specs.Prelude.{filter, ◌&&◌, ◌||◌}
 use Rattle.std.specs.List.{list_any}
 use Rattle.std.proofs.lemmas.Bool.{true≢false}
 use Rattle.std.proofs.lemmas.List.{length-map}

@@ -1,11 +1,11 @@
 -- Small circuits, computed by the definitions.
-use Rattle.std.proofs.Common.{◌≡◌, ℕ, Bool, true, false, List, [], ◌∷◌, refl, Some, None, length}
+use Rattle.std.proofs.Common.{◌≡◌, ℕ, true, false, List, [], ◌∷◌, refl, Some, None, length}
 use Rattle.bs_net.specs.declared.net.NetId.{NetId}
 use Rattle.bs_net.specs.declared.net.Flop.{Flop}
 use Rattle.bs_net.specs.declared.net.Kind.TheVariants.{Not}
 use Rattle.bs_net.specs.Circuit.{Circuit, next, settled, all_bits}
 use Rattle.bs_scan.specs.Choice.{Chosen}
-use Rattle.bs_scan.specs.Moments.{Run, Moment, state_at, moments, first_moment}
+use Rattle.bs_scan.specs.Moments.{Run, state_at, moments, first_moment}
 use Rattle.bs_scan.specs.Signature.{signature, stored_at, predecessors}
 
 abbrev net : ℕ → NetId

@@ -1,9 +1,9 @@
 -- The text of a dump (docs/FORMATS.md, "Dump"): the lines `state BITS`, `sig BITS` or `sig none`, and `end`.
-use Rattle.std.specs.Prelude.{◌≡◌, ◌⊎◌, ℕ, ◌==◌, nat_eq, Bool, true, false, take, drop, MatchResult, List, [], ◌∷◌, ◌++◌, length, codes, Option, Some, None, Result, Ok, Err, if◌then◌else◌, slice_get, option_and_then}
+use Rattle.std.specs.Prelude.{◌≡◌, ◌⊎◌, ℕ, ◌==◌, Bool, true, false, take, drop, MatchResult, List, [], ◌++◌, length, codes, Option, Some, None, Result, Ok, Err, if◌then◌else◌, slice_get, option_and_then}
 use Rattle.std.specs.Str.{bytes_eq}
 use Rattle.bs_bits.specs.Bits.{bits_eq}
 use Rattle.bs_bits.specs.Text.{bits_text, bits_of}
-use Rattle.bs_bits.specs.Lines.{lines_of, line}
+use Rattle.bs_bits.specs.Lines.{line}
 use Rattle.bs_scan.specs.declared.dump.Dump.{Dump}
 use Rattle.bs_scan.specs.declared.fault.DumpFault.{DumpFault}
 use Rattle.bs_scan.specs.declared.fault.DumpFault.TheVariants.{Line, Width, NotReset, NoMemory}

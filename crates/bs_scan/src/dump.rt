@@ -1,5 +1,5 @@
 //! What is dumped of a chip: a state, and the signature that its register holds.
-ghost use Rattle.std.specs.Prelude.{◌≡◌, ◌++◌, length, OnOk, OnErr};
+ghost use Rattle.std.specs.Prelude.{◌≡◌, ◌++◌, length, IfOk, OnOk, OnErr};
 ghost use Rattle.bs_net.specs.Netlist.{circuit};
 ghost use Rattle.bs_net.specs.Circuit.{reset_state};
 ghost use Rattle.bs_scan.specs.DumpText.{dump_of, dump_text, at_reset as dump_at_reset, Answers};
@@ -32,6 +32,18 @@ fn at_reset(reset: &Bits, state: Bits, stored: Option<Bits>) -> Result<Dump, Dum
 }
 
 impl Dump {
+    /// An equal dump of its own.
+    pub fn copy(&self) -> Result<Dump, NoMemory>
+        ensures { IfOk result (λ copy. copy ≡ self.now) }
+    {
+        let state = self.state.copy()?;
+        let stored = match &self.stored {
+            None => None,
+            Some(stored) => Some(stored.copy()?),
+        };
+        Ok(Dump { state, stored })
+    }
+
     /// The dump that a text stands for, of a netlist and what its signatures are taken of (docs/FORMATS.md, "Dump").
     #[tactic(auto, unfolding(crate::specs::DumpText::dump_of))]
     pub fn read(

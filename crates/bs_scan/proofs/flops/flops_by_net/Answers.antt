@@ -1,4 +1,4 @@
-use Rattle.std.proofs.Common.{◌≡◌, ◌∙◌, ◌<◌, ℕ, length, get_or, ap, None}
+use Rattle.std.proofs.Common.{◌≡◌, ◌∙◌, length, get_or, ap, None}
 use Rattle.bs_scan.proofs.FlopLemmas.{noted_step, length_noted}
 use Rattle.bs_scan.proofs.flops.flops_by_net.Goals as goal
 
