@@ -28,7 +28,7 @@ same_literal-sym a b h =
       | false ↦ λ _. refl
     ] refl
 
-has_literal-once : (c : Clause) (l : Literal) → has_literal (once c) l ≡ has_literal c l
+pub has_literal-once : (c : Clause) (l : Literal) → has_literal (once c) l ≡ has_literal c l
 has_literal-once [] l = refl
 has_literal-once (m ∷ c) l =
     elim (same_literal l m) as (λ b. same_literal l m ≡ b → (b || has_literal (without m (once c)) l) ≡ (b || has_literal c l)) [
@@ -48,7 +48,7 @@ last-stays m c l =
     ]
 
 -- one more literal is new where it does not stand in the clause already
-once-push : (c : Clause) (l : Literal) → once (c ++ l ∷ []) ≡ once c ++ cond (has_literal c l) [] (l ∷ [])
+pub once-push : (c : Clause) (l : Literal) → once (c ++ l ∷ []) ≡ once c ++ cond (has_literal c l) [] (l ∷ [])
 once-push [] l = refl
 once-push (m ∷ c) l =
     ap (λ r. m ∷ without m r) (once-push c l) ∙

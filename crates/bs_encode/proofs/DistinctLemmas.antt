@@ -8,6 +8,7 @@ use Rattle.std.proofs.lemmas.List.Folds.{list_any-append}
 use Rattle.std.proofs.lemmas.Map.Keys.{IsDistinct-head, IsDistinct-tail}
 use Rattle.bs_clause.specs.Literal.{Literal, Clause, negation, same_literal, has_literal}
 use Rattle.bs_clause.specs.Resolvent.{without, once}
+use Rattle.bs_clause.proofs.News.{has_literal-once}
 use Rattle.bs_log.specs.Refusal.{has_distinct_variables}
 use Rattle.bs_net.specs.declared.net.Gate.{Gate}
 use Rattle.bs_net.specs.declared.net.Flop.{Flop}
@@ -18,7 +19,6 @@ use Rattle.bs_encode.specs.Tables.{lit}
 use Rattle.bs_encode.specs.Transition.{net_var, item_helpers, item_vars, state_vars, is_tautology, tidied, transition_clauses, table_clauses}
 use Rattle.bs_encode.specs.Encoded.{literals}
 use Rattle.bs_encode.specs.Assuming.{signed}
-use Rattle.bs_encode.proofs.OnceLemmas.{has_literal-once}
 
 -- ---- a variable apart from those of a clause
 

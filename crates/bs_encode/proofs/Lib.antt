@@ -1,4 +1,4 @@
-pub mod OnceLemmas
+pub mod AssumingLemmas
 pub mod TidyLemmas
 pub mod TableLemmas
 pub mod PartLemmas

@@ -9,6 +9,7 @@ use Rattle.std.proofs.lemmas.List.Elements.{All-from_recursion, recursion_from_A
 use Rattle.std.proofs.lemmas.List.FromFn.{get_or-map-range_with_len, length-range_with_len}
 use Rattle.bs_clause.specs.Literal.{Literal, Clause, negation, literal_value, Satisfies}
 use Rattle.bs_clause.proofs.Literals.{beq-true}
+use Rattle.bs_clause.specs.Range.{IsWithin, HasVariables}
 use Rattle.bs_log.specs.History.{guard_of}
 use Rattle.bs_log.specs.Refusal.{has_distinct_variables, assumptions_of}
 use Rattle.bs_net.specs.declared.net.NetId.{NetId}
@@ -24,7 +25,6 @@ use Rattle.bs_encode.specs.Tables.{lit}
 use Rattle.bs_encode.specs.Transition.{net_var, state_vars, item_helpers, first_next, first_item, item_vars, variables}
 use Rattle.bs_encode.specs.Encoded.{Encoded, literals, encoding_of}
 use Rattle.bs_encode.specs.Assuming.{signed, assumptions_for, block_for}
-use Rattle.bs_encode.specs.Range.{IsWithin, HasVariables}
 use Rattle.bs_encode.specs.Meaning.{IsPlaced, ShowsStep, nets_of}
 use Rattle.bs_encode.specs.Listing.{IsTidy, PredecessorsAreShown, values_of, IsPredecessor, SolutionsArePredecessors}
 use Rattle.bs_encode.proofs.TableLemmas.{beq-refl}

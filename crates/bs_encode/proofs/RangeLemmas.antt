@@ -7,6 +7,7 @@ use Rattle.std.proofs.lemmas.List.Elements.{All-from_recursion, recursion_from_A
 use Rattle.std.proofs.lemmas.List.Sums.{sum_by-cons}
 use Rattle.bs_clause.specs.Literal.{Literal, Clause, same_literal}
 use Rattle.bs_clause.specs.Resolvent.{once}
+use Rattle.bs_clause.specs.Range.{IsWithin}
 use Rattle.bs_log.proofs.Elements.{AllByRecursion-filter}
 use Rattle.bs_net.specs.declared.net.NetId.{NetId}
 use Rattle.bs_net.specs.declared.net.Kind.{Kind}
@@ -18,7 +19,6 @@ use Rattle.bs_net.specs.Circuit.{Circuit, is_zero_net}
 use Rattle.bs_net.proofs.NextLemmas.{range_from_below}
 use Rattle.bs_encode.specs.Tables.{lit, all_clauses, any_clauses, same_clauses, differ_clauses, odd_from, odd_clauses, first_clauses, gate_clauses, helpers_of}
 use Rattle.bs_encode.specs.Transition.{net_var, gate_helpers, item_helpers, item_vars, state_vars, first_helper, first_next, first_item, variables, chosen, gates_clauses, unit_clauses, load_clauses, next_clauses, items_clauses, table_clauses, is_tautology, tidied, transition_clauses}
-use Rattle.bs_encode.specs.Range.{IsWithin}
 use Rattle.bs_encode.specs.Encoded.{literals}
 use Rattle.bs_encode.specs.Meaning.{IsPlaced}
 use Rattle.bs_encode.proofs.PartLemmas.{GatePlaced, FlopPlaced}

@@ -5,8 +5,8 @@ use Rattle.std.proofs.lemmas.List.{take_more}
 use Rattle.std.proofs.lemmas.Bool.{false≢true, cases_Bool, or_left, or_right, or_cases}
 use Rattle.bs_clause.specs.Literal.{Literal, Clause, negation, same_literal, has_literal, literal_value}
 use Rattle.bs_clause.specs.Resolvent.{without, once}
-use Rattle.bs_encode.proofs.OnceLemmas.{has_literal-once, once-push}
 use Rattle.bs_clause.proofs.Literals.{same_literal-true, literal_value-negation}
+use Rattle.bs_clause.proofs.News.{has_literal-once, once-push}
 use Rattle.bs_encode.specs.Transition.{is_tautology, tidied}
 
 -- whether an assignment meets a clause, and some clauses

@@ -1,7 +1,7 @@
 -- What the lists of candidates need of an encoding.
 use Rattle.std.specs.Prelude.{◌≡◌, ℕ, ◌+◌, ◌<◌, ◌^◌, Bool, true, List, [], length, map, All, IsTrue, Some, slice_get, slice_index_or}
 use Rattle.bs_clause.specs.Literal.{Literal, literal_value, Satisfies}
-use Rattle.bs_encode.specs.Range.{HasVariables}
+use Rattle.bs_clause.specs.Range.{HasVariables}
 use Rattle.bs_log.specs.History.{Problem, guard_of}
 use Rattle.bs_log.specs.Refusal.{has_distinct_variables}
 use Rattle.bs_log.specs.Shown.{Shown}

@@ -19,10 +19,10 @@ number_exact text = by (is_canonical text) refl
     by true e = canonical text (digits_in text) e refl
     by false e = not_canonical text e
 
-number_text : (text : List ℕ) (n : ℕ) → number_in text ≡ Some n → decimal n ≡ text
+pub number_text : (text : List ℕ) (n : ℕ) → number_in text ≡ Some n → decimal n ≡ text
 number_text text n e = subst (λ (o : Option ℕ). MatchOption o ((m : ℕ) → m < 2 ^ 64 → decimal m ≢ text) (λ m. decimal m ≡ text)) e (number_exact text)
 
-number_below : (text : List ℕ) (n : ℕ) → number_in text ≡ Some n → n < 2 ^ 64
+pub number_below : (text : List ℕ) (n : ℕ) → number_in text ≡ Some n → n < 2 ^ 64
 number_below text n e = by (is_canonical text) (nat_lt (number_of text) (2 ^ 64)) refl e
   where
     by : (b c : Bool) → nat_lt (number_of text) (2 ^ 64) ≡ c → cond {A = Option ℕ} b (cond {A = Option ℕ} c (Some (number_of text)) None) None ≡ Some n → n < 2 ^ 64
