@@ -7,7 +7,7 @@ use Rattle.std.specs.Ordering.{bool_cmp, ordering_reverse}
 use Rattle.std.specs.declared.cmp.Ordering.{Ordering}
 use Rattle.std.specs.declared.cmp.Ordering.TheVariants.{Less, Equal, Greater}
 use Rattle.std.specs.List.{list_all}
-use Rattle.std.proofs.lemmas.Bool.{true≢false, eqb-true, eq-eqb, cases_lt, cases_order}
+use Rattle.std.proofs.lemmas.Bool.{true≢false, eq-eqb, cases_lt, cases_order}
 use Rattle.std.proofs.lemmas.List.{length-map, map_more, take_all, take_more, drop_more, append-nil, get_or-map, get_or-set_same, get_or-set_other, get_or_default, length-set, length-replicate, get_or-replicate, take-append-drop}
 use Rattle.std.proofs.lemmas.List.Elements.{filter_map-append}
 use Rattle.std.proofs.lemmas.List.Sums.{sum_by-cons}
@@ -27,6 +27,7 @@ use Rattle.bs_audit.specs.StepLines.{is_block}
 use Rattle.bs_log.specs.Steps.{block_of_line}
 use Rattle.bs_report.specs.Valid.{has_clause, blocks_in, blocks_due, are_right_blocks}
 use Rattle.bs_audit.specs.Blocked.{blocking, Blocks, BlocksNone, StandsAt, IsDueAt, IsNotDue, AreNoted, NotesMore}
+use Rattle.bs_audit.proofs.Lines.{not_same}
 
 -- ---- clauses
 
@@ -422,13 +423,6 @@ line_is_noted e guard states clause j id width line old new is w widths asc at n
     subst (λ (l : Line). NotesMore e guard states (blocks_in (l ∷ [])) old new) (sym is) (notes_block e guard states clause j width old new w widths asc at n)
 
 -- ---- the whole test
-
-not_same : (m n : ℕ) → (m ≡ n → ⊥) → (m == n) ≡ false
-not_same m n differ = by (m == n) refl
-  where
-    by : (b : Bool) → (m == n) ≡ b → b ≡ false
-    by false h = refl
-    by true h = absurd (differ (eqb-true m n h))
 
 pub counts_differ : (e : Encoded) (guard : Literal) (cands : List Cand) (lines : List Line) (count : ℕ) → count ≡ count_by is_block lines → (count ≡ length cands → ⊥) →
     false ≡ are_right_blocks (blocks_due guard (block_for e) cands) (blocks_in lines)

@@ -9,7 +9,7 @@ use Rattle.std.proofs.lemmas.List.{length-map, drop_more}
 use Rattle.bs_bits.specs.Bits.{bits_eq}
 use Rattle.bs_chip.specs.declared.replay.Hit.{Hit}
 use Rattle.bs_scan.specs.declared.dump.Dump.{Dump}
-use Rattle.bs_scan.specs.Present.{Present}
+use Rattle.bs_scan.specs.Present.{Present, present_in}
 use Rattle.bs_scan.proofs.SignatureLemmas.{bits_same_is}
 use Rattle.bs_report.specs.declared.report.Cand.{Cand}
 use Rattle.bs_report.specs.declared.report.HitLine.{HitLine}
@@ -24,7 +24,7 @@ use Rattle.bs_report.specs.Valid.{unless, is_right_cand, is_right_count, same_hi
 use Rattle.bs_report.proofs.ValidLemmas.{both, cand_is, state_at_place}
 use Rattle.bs_audit.specs.declared.steps.Walk.{Walk}
 use Rattle.bs_audit.specs.declared.steps.Walk.TheVariants.{Fails, Holds}
-use Rattle.bs_audit.specs.Following.{begin_parts, cand_parts, list_parts, parts_from, following_parts, first_from, line_of, present_in, IsListed, IsTried}
+use Rattle.bs_audit.specs.Following.{begin_parts, cand_parts, list_parts, parts_from, following_parts, first_from, line_of, IsListed, IsTried}
 
 pub first_append : (xs ys : List (Option Part)) → first_of_all (xs ++ ys) ≡ option_or (first_of_all xs) (first_of_all ys)
 first_append [] ys = refl

@@ -155,7 +155,7 @@ and_false : (b : Bool) → (b && false) ≡ false
 and_false true = refl
 and_false false = refl
 
-not_same : (m n : ℕ) → (m ≡ n → ⊥) → (m == n) ≡ false
+pub not_same : (m n : ℕ) → (m ≡ n → ⊥) → (m == n) ≡ false
 not_same m n differ = by (m == n) refl
   where
     by : (b : Bool) → (m == n) ≡ b → b ≡ false

@@ -1,5 +1,5 @@
 -- What the log owes to the steps, one step after another.
-use Rattle.std.proofs.Common.{◌≡◌, ℕ, ◌<◌, ◌+◌, ◌-◌, Bool, true, false, List, [], ◌∷◌, ◌++◌, map, length, get_or, take, drop, refl, ap, sym, ◌∙◌, Option, Some, None, arith}
+use Rattle.std.proofs.Common.{◌≡◌, ℕ, ◌<◌, ◌+◌, ◌-◌, Bool, true, false, List, [], ◌∷◌, ◌++◌, map, length, get_or, take, drop, ap, sym, ◌∙◌, Option, Some, None, arith}
 use Rattle.std.specs.Prelude.{slice_get, unwrap_or}
 use Rattle.std.specs.Option.{option_or}
 use Rattle.std.proofs.lemmas.List.{map_more, drop_more, get_or-drop, drop-drop, length-map, length-take-le}
@@ -10,7 +10,7 @@ use Rattle.bs_log.specs.Steps.{steps_of}
 use Rattle.bs_encode.specs.Tables.{lit}
 use Rattle.bs_encode.specs.Encoded.{Encoded}
 use Rattle.bs_encode.specs.Assuming.{assumptions_for, block_for, steps_from}
-use Rattle.bs_scan.specs.Present.{Present}
+use Rattle.bs_encode.proofs.AssumingLemmas.{steps_from_more}
 use Rattle.bs_report.specs.declared.report.Step.{Step}
 use Rattle.bs_report.specs.declared.report.Report.{Report}
 use Rattle.bs_report.specs.declared.part.Part.{Part}
@@ -24,14 +24,6 @@ use Rattle.bs_audit.proofs.Lines.{blocks_undeleted, finishes_undeleted}
 
 -- ---- what each step assumes
 
-steps_append : (e : Encoded) (n : ℕ) (qs : List Present) (q : Present) →
-    steps_from e n (qs ++ q ∷ []) ≡ steps_from e n qs ++ assumptions_for e (lit (e.variables + (n + length qs)) true) q ∷ []
-steps_append e n [] q = let place : n ≡ n + 0 = omega arith in ap (λ (k : ℕ). assumptions_for e (lit (e.variables + k) true) q ∷ []) place
-steps_append e n (p ∷ qs) q =
-    let place : n + 1 + length qs ≡ n + length (p ∷ qs) = omega arith in
-    ap (λ (l : List Clause). assumptions_for e (lit (e.variables + n) true) p ∷ l)
-    (steps_append e (n + 1) qs q ∙ ap (λ (k : ℕ). steps_from e (n + 1) qs ++ assumptions_for e (lit (e.variables + k) true) q ∷ []) place)
-
 pub assumptions_more : (e : Encoded) (steps : List Step) (i : ℕ) (step : Step) (all new : List Clause) (own : Clause) (guard : Literal) → i < length steps → step ≡ get_or steps i step →
     all ≡ steps_from e 1 (map present_of (take i steps)) → guard ≡ lit (e.variables + (i + 1)) true → own ≡ assumptions_for e guard (present_of step) → new ≡ all ++ own ∷ [] →
     new ≡ steps_from e 1 (map present_of (take (i + 1) steps))
@@ -41,11 +33,7 @@ assumptions_more e steps i step all new own guard lt is a g o n =
     let long : i + 1 ≡ 1 + length (map present_of (take i steps)) = omega (arith, length-map (take i steps) present_of, length-take-le i steps (omega (arith, lt))) in
     n ∙ (ap (λ (l : List Clause). l ++ own ∷ []) a
     ∙ (ap (λ (c : Clause). steps_from e 1 (map present_of (take i steps)) ++ c ∷ []) (o ∙ ap (λ (l : Literal). assumptions_for e l (present_of step)) (g ∙ ap (λ (k : ℕ). lit (e.variables + k) true) long))
-    ∙ sym (ap (steps_from e 1) more ∙ steps_append e 1 (map present_of (take i steps)) (present_of step))))
-
-pub length_steps : (e : Encoded) (n : ℕ) (qs : List Present) → length (steps_from e n qs) ≡ length qs
-length_steps e n [] = refl
-length_steps e n (q ∷ qs) = let rest = length_steps e (n + 1) qs in omega (arith, rest)
+    ∙ sym (ap (steps_from e 1) more ∙ steps_from_more e 1 (map present_of (take i steps)) (present_of step))))
 
 -- ---- the lines of a step
 

@@ -17,12 +17,13 @@ use Rattle.bs_scan.specs.Choice.{Chosen}
 use Rattle.bs_scan.specs.Moments.{Moment, Run, run_of, state_of, state_at, first_moment}
 use Rattle.bs_scan.specs.Dump.{signatures_of}
 use Rattle.bs_scan.specs.declared.dump.Dump.{Dump}
-use Rattle.bs_scan.specs.Present.{Present}
+use Rattle.bs_scan.specs.Present.{Present, present_in}
 use Rattle.bs_scan.specs.Signature.{stored_at, parity_of}
 use Rattle.bs_scan.proofs.SignatureLemmas.{length_state, bits_same_is}
 use Rattle.bs_encode.specs.Tables.{lit}
 use Rattle.bs_encode.specs.Encoded.{Encoded, encoding_of}
 use Rattle.bs_encode.specs.Assuming.{assumptions_for, steps_from, basis_of}
+use Rattle.bs_encode.proofs.AssumingLemmas.{length_steps_from, assumptions_at}
 use Rattle.bs_encode.specs.Listing.{IsTidy, PredecessorsAreShown}
 use Rattle.bs_report.specs.declared.report.HitLine.{HitLine}
 use Rattle.bs_report.specs.declared.report.Step.{Step}
@@ -32,19 +33,18 @@ use Rattle.bs_report.specs.declared.part.Part.{Part}
 use Rattle.bs_report.specs.declared.part.Part.TheVariants as parts
 use Rattle.bs_report.specs.Crash.{Crash}
 use Rattle.bs_report.specs.Step.{stored_of, listed, hit_of}
-use Rattle.bs_report.specs.Chain.{present_of, present_of_dump, present_of_hit, present_after, last_present}
+use Rattle.bs_report.specs.Chain.{present_of, present_of_hit, present_after, last_present}
 use Rattle.bs_report.specs.Valid.{unless, all_bits_eq, cause_after, is_cause, has_state, has_stored, same_hit, first_of_all, each_step, step_parts, log_parts, due_at, first_failing}
 use Rattle.bs_report.specs.Trace.{trace_states, trace_inputs}
 use Rattle.bs_report.specs.ValidLaw.{IsEncoded}
 use Rattle.bs_report.proofs.GoodLemmas.{valid_is_good}
 use Rattle.bs_report.proofs.ValidLemmas.{all_same_is, ascend_is, both}
-use Rattle.bs_audit.specs.Following.{begin_parts, cand_parts, list_parts, parts_from, following_parts, first_from, present_in, IsWalked}
+use Rattle.bs_audit.specs.Following.{begin_parts, cand_parts, list_parts, parts_from, following_parts, first_from, IsWalked}
 use Rattle.bs_audit.specs.declared.steps.Walk.{Walk}
 use Rattle.bs_audit.specs.declared.steps.Walk.TheVariants.{Fails, Holds}
 use Rattle.bs_audit.specs.Logged.{basis_with, refused_part, logged_parts, behind_parts, first_after, IsSound, AreSound, LeavesSound}
 use Rattle.bs_audit.specs.Finding.{crash_for, basis_for, ValidReportsAreGood}
 use Rattle.bs_audit.proofs.Follows.{first_append, cand_holds, right_widths, hit_line_is}
-use Rattle.bs_audit.proofs.LogLemmas.{length_steps}
 
 -- ---- the parts of the steps are those from the present where each is due
 
@@ -62,23 +62,23 @@ due_from crash r i (step ∷ steps) due h =
     (due_from crash r (i + 1) steps (present_after crash step)
     (λ k lt. let next : i + 1 + k ≡ i + suc k = omega arith in ap (due_at crash r.steps) next ∙ h (suc k) (omega (arith, lt))))
 
-pub steps_follow : (crash : Crash) (r : Report) → first_of_all (each_step (step_parts crash r) 0 r.steps) ≡ first_from crash r.budgets 0 (Some (present_of_dump crash)) r.steps
+pub steps_follow : (crash : Crash) (r : Report) → first_of_all (each_step (step_parts crash r) 0 r.steps) ≡ first_from crash r.budgets 0 (Some (present_in crash.dump)) r.steps
 steps_follow crash r =
     ap first_of_all
-    (due_from crash r 0 r.steps (Some (present_of_dump crash)) (λ k lt. let place : 0 + k ≡ k = omega arith in ap (due_at crash r.steps) place))
+    (due_from crash r 0 r.steps (Some (present_in crash.dump)) (λ k lt. let place : 0 + k ≡ k = omega arith in ap (due_at crash r.steps) place))
 
 -- the first part that fails: of the steps, or behind them
 whole : (crash : Crash) (basis : Basis) (r : Report) → first_failing crash basis r
-    ≡ option_or (first_from crash r.budgets 0 (Some (present_of_dump crash)) r.steps)
-    (first_of_all (behind_parts (last_present crash (Some (present_of_dump crash)) r.steps) crash.dump.state basis r))
+    ≡ option_or (first_from crash r.budgets 0 (Some (present_in crash.dump)) r.steps)
+    (first_of_all (behind_parts (last_present crash (Some (present_in crash.dump)) r.steps) crash.dump.state basis r))
 unfolding first_failing
 whole crash basis r =
-    first_append (each_step (step_parts crash r) 0 r.steps) (behind_parts (last_present crash (Some (present_of_dump crash)) r.steps) crash.dump.state basis r)
-    ∙ ap (λ o. option_or o (first_of_all (behind_parts (last_present crash (Some (present_of_dump crash)) r.steps) crash.dump.state basis r))) (steps_follow crash r)
+    first_append (each_step (step_parts crash r) 0 r.steps) (behind_parts (last_present crash (Some (present_in crash.dump)) r.steps) crash.dump.state basis r)
+    ∙ ap (λ o. option_or o (first_of_all (behind_parts (last_present crash (Some (present_in crash.dump)) r.steps) crash.dump.state basis r))) (steps_follow crash r)
 
 pub fails_in_steps : (crash : Crash) (basis : Basis) (r : Report) (part : Part) → IsWalked crash r (Fails part) → Some part ≡ first_failing crash basis r
 fails_in_steps crash basis r part walked =
-    sym (whole crash basis r ∙ ap (λ o. option_or o (first_of_all (behind_parts (last_present crash (Some (present_of_dump crash)) r.steps) crash.dump.state basis r))) walked)
+    sym (whole crash basis r ∙ ap (λ o. option_or o (first_of_all (behind_parts (last_present crash (Some (present_in crash.dump)) r.steps) crash.dump.state basis r))) walked)
 
 pub fails_behind : (crash : Crash) (basis : Basis) (r : Report) (due : Option Dump) (part : Option Part) → IsWalked crash r (Holds due) →
     part ≡ first_of_all (behind_parts (option_map present_in due) crash.dump.state basis r) → part ≡ first_failing crash basis r
@@ -86,7 +86,7 @@ fails_behind crash basis r due part walked e =
     e
     ∙ sym
     (whole crash basis r
-    ∙ (ap (λ o. option_or o (first_of_all (behind_parts (last_present crash (Some (present_of_dump crash)) r.steps) crash.dump.state basis r))) walked.0
+    ∙ (ap (λ o. option_or o (first_of_all (behind_parts (last_present crash (Some (present_in crash.dump)) r.steps) crash.dump.state basis r))) walked.0
     ∙ ap (λ o. first_of_all (behind_parts o crash.dump.state basis r)) walked.1))
 
 -- ---- the steps have the widths
@@ -158,21 +158,10 @@ pub steps_are_sound : (crash : Crash) (r : Report) (due : Option Dump) → lengt
     IsWalked crash r (Holds due) → All (IsSound (length crash.circuit.flops) (length crash.choice.items)) r.steps
 steps_are_sound crash r due state stored walked =
     All-from_recursion (IsSound (length crash.circuit.flops) (length crash.choice.items)) r.steps
-    (sound_from crash r.budgets 0 (Some (present_of_dump crash)) r.steps
+    (sound_from crash r.budgets 0 (Some (present_in crash.dump)) r.steps
     (record { state = state; stored = recursion_from_All (λ (t : List Bool). length t ≡ length crash.choice.items) (signatures_of crash.dump) stored }) walked.0)
 
 -- ---- a valid report is good
-
-steps_get : (e : Encoded) (n : ℕ) (qs : List Present) (i : ℕ) (q : Present) → slice_get qs i ≡ Some q →
-    slice_get (steps_from e n qs) i ≡ Some (assumptions_for e (lit (e.variables + (n + i)) true) q)
-steps_get e n [] i q h = cc
-steps_get e n (p ∷ qs) zero q h =
-    let same : p ≡ q = cc in
-    let place : n ≡ n + 0 = omega arith in
-    ap (λ (k : ℕ). Some (assumptions_for e (lit (e.variables + k) true) p)) place ∙ ap (λ (p : Present). Some (assumptions_for e (lit (e.variables + (n + 0)) true) p)) same
-steps_get e n (p ∷ qs) (suc i) q h =
-    let place : n + 1 + i ≡ n + suc i = omega arith in
-    steps_get e (n + 1) qs i q h ∙ ap (λ (k : ℕ). Some (assumptions_for e (lit (e.variables + k) true) q)) place
 
 presents_get : (steps : List Step) (i : ℕ) (step : Step) → slice_get steps i ≡ Some step → slice_get (map present_of steps) i ≡ Some (present_of step)
 presents_get [] i step h = cc
@@ -184,11 +173,11 @@ is_encoded : (crash : Crash) (steps : List Step) → PredecessorsAreShown crash.
 is_encoded crash steps shown =
     let e : Encoded = encoding_of crash.circuit crash.choice.items in
     record {
-      each_step = length_steps e 1 (map present_of steps) ∙ length-map steps present_of;
+      each_step = length_steps_from e 1 (map present_of steps) ∙ length-map steps present_of;
       shown = λ i step s x at ws wx agree next.
           let place : 1 + i ≡ i + 1 = omega arith in
           shown (basis_of crash.circuit crash.choice.items (map present_of steps)).problem i (present_of step) s x refl refl
-          (steps_get e 1 (map present_of steps) i (present_of step) (presents_get steps i step at) ∙ ap (λ (k : ℕ). Some (assumptions_for e (lit (e.variables + k) true) (present_of step))) place) ws wx agree next;
+          (assumptions_at e 1 (map present_of steps) i (present_of step) (presents_get steps i step at) ∙ ap (λ (k : ℕ). Some (assumptions_for e (lit (e.variables + k) true) (present_of step))) place) ws wx agree next;
     }
 
 inputs_wide : (width count : ℕ) (runs : List Recorded) → width ≡ count → Each (IsRecorded width) runs → Each (λ run. All (λ input. length input ≡ count) run) (map (λ run. run.inputs) runs)

@@ -2,9 +2,7 @@
 use Rattle.std.specs.Prelude.{◌≡◌, ℕ, ◌+◌, List, [], ◌∷◌, ◌++◌, length, map, Option, Some, None, option_map}
 use Rattle.std.specs.List.{range_with_len}
 use Rattle.bs_chip.specs.declared.replay.Hit.{Hit}
-use Rattle.bs_scan.specs.declared.dump.Dump.{Dump}
-use Rattle.bs_scan.specs.Dump.{signatures_of}
-use Rattle.bs_scan.specs.Present.{Present}
+use Rattle.bs_scan.specs.Present.{Present, present_in}
 use Rattle.bs_report.specs.declared.report.HitLine.{HitLine}
 use Rattle.bs_report.specs.declared.report.Step.{Step}
 use Rattle.bs_report.specs.declared.report.Budgets.{Budgets}
@@ -13,14 +11,10 @@ use Rattle.bs_report.specs.declared.part.Part.{Part}
 use Rattle.bs_report.specs.declared.part.Part.TheVariants as parts
 use Rattle.bs_report.specs.Crash.{Crash}
 use Rattle.bs_report.specs.Step.{stored_of, hit_of}
-use Rattle.bs_report.specs.Chain.{present_of_dump, present_after, last_present}
+use Rattle.bs_report.specs.Chain.{present_after, last_present}
 use Rattle.bs_report.specs.Valid.{unless, has_state, has_stored, is_right_cand, is_right_count, same_hit, first_of_all}
 use Rattle.bs_audit.specs.declared.steps.Walk.{Walk}
 use Rattle.bs_audit.specs.declared.steps.Walk.TheVariants.{Fails, Holds}
-
--- the present that a dump shows
-abbrev pub present_in : Dump → Present
-present_in dump = record { state = dump.state; stored = signatures_of dump }
 
 -- the hit line of a hit
 abbrev pub line_of : Hit → HitLine
@@ -72,7 +66,7 @@ IsTried crash budgets i due step (Holds next) =
 
 -- the same of all steps
 abbrev pub IsWalked : Crash → Report → Walk → Type 0
-IsWalked crash r (Fails part) = first_from crash r.budgets 0 (Some (present_of_dump crash)) r.steps ≡ Some part
+IsWalked crash r (Fails part) = first_from crash r.budgets 0 (Some (present_in crash.dump)) r.steps ≡ Some part
 IsWalked crash r (Holds next) =
-    (first_from crash r.budgets 0 (Some (present_of_dump crash)) r.steps ≡ None)
-    × (last_present crash (Some (present_of_dump crash)) r.steps ≡ option_map present_in next)
+    (first_from crash r.budgets 0 (Some (present_in crash.dump)) r.steps ≡ None)
+    × (last_present crash (Some (present_in crash.dump)) r.steps ≡ option_map present_in next)

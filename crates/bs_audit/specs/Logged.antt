@@ -7,7 +7,7 @@ use Rattle.bs_log.specs.declared.why.Why.{Why}
 use Rattle.bs_log.specs.FirstRefused.{first_refused}
 use Rattle.bs_log.specs.Shown.{Basis}
 use Rattle.bs_log.specs.Steps.{lemma_of_line}
-use Rattle.bs_scan.specs.Present.{Present}
+use Rattle.bs_scan.specs.Present.{Present, present_in}
 use Rattle.bs_encode.specs.Encoded.{Encoded}
 use Rattle.bs_encode.specs.Tables.{lit}
 use Rattle.bs_encode.specs.Assuming.{block_for}
@@ -20,7 +20,6 @@ use Rattle.bs_report.specs.Trace.{trace_states, trace_inputs}
 use Rattle.bs_report.specs.Valid.{unless, first_of_all, all_bits_eq, cause_after, is_cause, each_step, log_parts, are_right_blocks, blocks_due, blocks_in, is_right_finish, finishes_in}
 use Rattle.bs_audit.specs.declared.steps.Walk.{Walk}
 use Rattle.bs_audit.specs.declared.steps.Walk.TheVariants.{Fails, Holds}
-use Rattle.bs_audit.specs.Following.{present_in}
 
 -- what a log is checked against, with the assumptions of each step
 abbrev pub basis_with : Encoded → List Clause → Basis

@@ -6,10 +6,11 @@ ghost use Rattle.bs_bits.specs.Bits.{bits_eq};
 ghost use Rattle.bs_net.specs.Circuit.{next};
 ghost use Rattle.bs_net.specs.Netlist.{circuit};
 ghost use Rattle.bs_scan.specs.Signature.{signature};
+ghost use Rattle.bs_scan.specs.Present.{present_in};
 ghost use Rattle.bs_report.specs.Chain.{present_of_hit};
 ghost use Rattle.bs_report.specs.Step.{listed, hit_of};
 ghost use Rattle.bs_report.specs.Valid.{cand_at, first_of_all, is_right_cand};
-ghost use Rattle.bs_audit.specs.Following.{cand_parts, line_of, present_in};
+ghost use Rattle.bs_audit.specs.Following.{cand_parts, line_of};
 
 use crate::replay::Replay;
 use bs_bits::{Bits, List, NoMemory};

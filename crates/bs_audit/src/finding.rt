@@ -5,11 +5,12 @@ ghost use Rattle.bs_encode.specs.Assuming.{basis_of};
 ghost use Rattle.bs_encode.specs.Encoded.{encoding_of};
 ghost use Rattle.bs_encode.specs.Listing.{IsTidy};
 ghost use Rattle.bs_scan.specs.Dump.{signatures_of};
+ghost use Rattle.bs_scan.specs.Present.{present_in};
 ghost use Rattle.bs_report.specs.Chain.{present_of};
 ghost use Rattle.bs_report.specs.Good.{IsGood};
 ghost use Rattle.bs_report.specs.Valid.{first_failing, first_of_all};
 ghost use Rattle.bs_audit.specs.Finding.{basis_for, crash_for, part_of};
-ghost use Rattle.bs_audit.specs.Following.{present_in, IsWalked};
+ghost use Rattle.bs_audit.specs.Following.{IsWalked};
 ghost use Rattle.bs_audit.specs.Logged.{basis_with, behind_parts, first_after, logged_parts, AreSound, IsSound, LeavesSound};
 
 use crate::law::valid_reports_are_good;

@@ -2,7 +2,8 @@
 ghost use Rattle.std.specs.Prelude.{◌≡◌, ◌<◌, ◌+◌, ◌^◌, length, option_map, All, IfOk};
 ghost use Rattle.bs_report.specs.Step.{listed, stored_of};
 ghost use Rattle.bs_report.specs.Valid.{first_of_all, has_state, has_stored, is_right_count, same_hit};
-ghost use Rattle.bs_audit.specs.Following.{begin_parts, line_of, present_in, IsListed, IsTried, IsWalked};
+ghost use Rattle.bs_scan.specs.Present.{present_in};
+ghost use Rattle.bs_audit.specs.Following.{begin_parts, line_of, IsListed, IsTried, IsWalked};
 
 use crate::candidates::number;
 use crate::replay::Replay;
@@ -93,18 +94,6 @@ fn dump_of(hit: Option<Hit>) -> Option<Dump>
     }
 }
 
-/// An equal dump of its own.
-fn copy(dump: &Dump) -> Result<Dump, NoMemory>
-    ensures { IfOk result (λ copy. copy ≡ dump.now) }
-{
-    let state = dump.state.copy()?;
-    let stored = match &dump.stored {
-        None => None,
-        Some(stored) => Some(stored.copy()?),
-    };
-    Ok(Dump { state, stored })
-}
-
 impl<'a> Replay<'a> {
     /// The parts behind the candidates, which are right.
     fn list(
@@ -156,7 +145,7 @@ impl<'a> Replay<'a> {
         ensures walked { IfOk result (IsWalked self.old report.now) }
         ensures kept { self.new ≡ self.old }
     {
-        let mut due = Some(copy(self.dump)?);
+        let mut due = Some(self.dump.copy()?);
         'steps: for i in 0..report.steps.len() {
             match self.step(alloc, &report.budgets, i, &due, report.steps.get(i))? {
                 Walk::Fails(part) => return Ok(Walk::Fails(part)),

@@ -3,7 +3,7 @@ ghost use Rattle.std.specs.Prelude.{◌≡◌, ◌&&◌, nat_le, length, None, o
 ghost use Rattle.std.specs.List.{last_or};
 ghost use Rattle.std.specs.Option.{option_to_list};
 ghost use Rattle.bs_report.specs.Valid.{cause_after, cause_at, cause_of_end, is_cause};
-ghost use Rattle.bs_audit.specs.Following.{present_in};
+ghost use Rattle.bs_scan.specs.Present.{present_in};
 
 use bs_bits::Bits;
 use bs_report::{Budgets, ListEnd, Report, Step, Stop};

@@ -17,6 +17,7 @@ use Rattle.bs_scan.specs.Moments.{Run}
 use Rattle.bs_chip.specs.Chip.{Chipped, circuit_in, runs_in}
 use Rattle.bs_encode.specs.Tables.{lit}
 use Rattle.bs_encode.specs.Assuming.{assumptions_for, steps_from, problem_of, basis_of}
+use Rattle.bs_encode.proofs.AssumingLemmas.{assumptions_at}
 use Rattle.bs_scan.specs.Present.{Present}
 use Rattle.bs_report.specs.declared.report.Step.{Step}
 use Rattle.bs_report.specs.declared.report.Budgets.{Budgets}
@@ -33,7 +34,6 @@ use Rattle.bs_preimage.specs.Preimage.{PreimageState}
 use Rattle.bs_loop.specs.Made.{encoding_in, guard_at, IsLoggedStep}
 use Rattle.bs_loop.specs.Bound.{HasBound}
 use Rattle.bs_loop.specs.Way.{HasEnded}
-use Rattle.bs_loop.proofs.MadeLemmas.{assumptions_at}
 
 -- the report of a way that has ended
 pub record IsReportOf (crash : Crash) (budgets : Budgets) (s : PreimageState) (r : Report) : Type 0 where

@@ -1,56 +1,32 @@
 -- One more step of a backtrace.
-use Rattle.std.proofs.Common.{◌≡◌, ℕ, suc, zero, ◌+◌, ◌-◌, ◌<◌, ◌^◌, true, List, [], ◌∷◌, ◌++◌, map, length, reverse, refl, ap, subst, sym, ◌∙◌, Some, arith, add-zero}
+use Rattle.std.proofs.Common.{◌≡◌, ℕ, suc, zero, ◌+◌, ◌-◌, ◌<◌, ◌^◌, true, List, [], ◌∷◌, ◌++◌, map, length, reverse, ap, subst, sym, ◌∙◌, Some, arith}
 use Rattle.std.specs.Prelude.{slice_get, slice_index_or}
 use Rattle.std.proofs.lemmas.List.{length-append, length-map, map-append}
 use Rattle.std.proofs.lemmas.List.Elements.{All-append, All-from_recursion}
 use Rattle.bs_clause.specs.UnitRun.{IsUnitRun}
-use Rattle.bs_clause.specs.Literal.{Literal, Clause}
+use Rattle.bs_clause.specs.Literal.{Literal}
+use Rattle.bs_clause.specs.Range.{HasVariables}
 use Rattle.bs_log.specs.declared.line.Line.{Line}
 use Rattle.bs_log.specs.Steps.{steps_of}
 use Rattle.bs_scan.specs.declared.dump.Dump.{Dump}
-use Rattle.bs_scan.specs.Present.{Present}
+use Rattle.bs_scan.specs.Present.{Present, present_in}
 use Rattle.bs_chip.specs.Chip.{Chipped}
 use Rattle.bs_encode.specs.Tables.{lit}
-use Rattle.bs_encode.specs.Encoded.{Encoded}
 use Rattle.bs_encode.specs.Assuming.{assumptions_for, block_for, steps_from, problem_of}
-use Rattle.bs_solve.specs.Scan.{HasVariables}
+use Rattle.bs_encode.proofs.AssumingLemmas.{length_steps_from, steps_from_more}
 use Rattle.bs_report.specs.declared.report.ListEnd.TheVariants.{Conflicts}
 use Rattle.bs_report.specs.declared.report.Step.{Step}
 use Rattle.bs_report.specs.declared.report.Budgets.{Budgets}
 use Rattle.bs_report.specs.Crash.{Crash}
 use Rattle.bs_report.specs.Step.{IsRightStep}
-use Rattle.bs_report.specs.Chain.{present_of, present_of_dump}
+use Rattle.bs_report.specs.Chain.{present_of}
 use Rattle.bs_report.specs.Valid.{blocks_due, are_right_blocks, blocks_in, is_right_finish, finishes_in}
 use Rattle.bs_report.proofs.LoopLemmas.{follow_more}
 use Rattle.bs_preimage.specs.Preimage.{PreimageState, next_guard}
 use Rattle.bs_preimage.specs.Listed.{HasListed}
-use Rattle.bs_loop.specs.Crash.{crash_of, present_in}
+use Rattle.bs_loop.specs.Crash.{crash_of}
 use Rattle.bs_loop.specs.Made.{encoding_in, guard_at, IsLoggedStep, state_after, HasMade, StandsAt}
 use Rattle.bs_loop.specs.Turn.{IsStepBack}
-
--- ---- the assumptions of the steps
-
-length_steps_from : (e : Encoded) (n : ℕ) (qs : List Present) → length (steps_from e n qs) ≡ length qs
-length_steps_from e n [] = refl
-length_steps_from e n (q ∷ qs) = ap suc (length_steps_from e (n + 1) qs)
-
-steps_from_more : (e : Encoded) (n : ℕ) (qs : List Present) (q : Present) →
-    steps_from e n (qs ++ q ∷ []) ≡ steps_from e n qs ++ assumptions_for e (lit (e.variables + (n + length qs)) true) q ∷ []
-steps_from_more e n [] q = ap (λ (m : ℕ). assumptions_for e (lit (e.variables + m) true) q ∷ []) (sym (add-zero n))
-steps_from_more e n (p ∷ ps) q =
-    let same : (n + 1) + length ps ≡ n + suc (length ps) = omega arith in
-    ap (λ (l : List Clause). assumptions_for e (lit (e.variables + n) true) p ∷ l)
-    (steps_from_more e (n + 1) ps q ∙ ap (λ (m : ℕ). steps_from e (n + 1) ps ++ assumptions_for e (lit (e.variables + m) true) q ∷ []) same)
-
-pub assumptions_at : (e : Encoded) (n : ℕ) (qs : List Present) (i : ℕ) (q : Present) → slice_get qs i ≡ Some q →
-    slice_get (steps_from e n qs) i ≡ Some (assumptions_for e (lit (e.variables + (n + i)) true) q)
-assumptions_at e n [] i q is = cc
-assumptions_at e n (p ∷ ps) zero q is =
-    let same : p ≡ q = cc in
-    λ k. Some (assumptions_for e (lit (e.variables + sym (add-zero n) k) true) (same k))
-assumptions_at e n (p ∷ ps) (suc i) q is =
-    let same : (n + 1) + i ≡ n + suc i = omega arith in
-    assumptions_at e (n + 1) ps i q is ∙ ap (λ (m : ℕ). Some (assumptions_for e (lit (e.variables + m) true) q)) same
 
 -- ---- the lines of the steps
 
@@ -117,7 +93,7 @@ made_more chip dump budgets steps old new now step made stands back =
       };
       right = All-append (IsRightStep crash) steps (step ∷ []) made.right
           (All-from_recursion (IsRightStep crash) (step ∷ []) (record { ascend = l.ascend; candidates = l.candidates; hit = back.hit }, tt));
-      follow = follow_more crash (Some (present_of_dump crash)) steps step made.follow (stands ∙ ap Some present);
+      follow = follow_more crash (Some (present_in crash.dump)) steps step made.follow (stands ∙ ap Some present);
       count = ap length l.step_lines ∙ length-append (steps_of (reverse old.history)) (l.lines ∷ []) ∙ ap (λ (n : ℕ). n + 1) made.count ∙ sym (length-append steps (step ∷ []));
       logged = subst (λ (ls : List (List Line)). (i : ℕ) (s : Step) → slice_get more i ≡ Some s → IsLoggedStep crash budgets i (slice_index_or ls i []) s) (sym l.step_lines)
           (at_more (λ i ls s. IsLoggedStep crash budgets i ls s) steps step (steps_of (reverse old.history)) l.lines made.count made.logged logged);

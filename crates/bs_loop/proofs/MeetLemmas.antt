@@ -10,6 +10,7 @@ use Rattle.bs_scan.specs.Choice.{Chosen}
 use Rattle.bs_scan.specs.Moments.{Moment, Run, first_moment, state_of, state_at, run_of}
 use Rattle.bs_scan.specs.Signature.{stored_at, parity_of, signatures_before}
 use Rattle.bs_scan.proofs.SignatureLemmas.{length_state}
+use Rattle.bs_scan.specs.Present.{present_in}
 use Rattle.bs_chip.specs.declared.replay.Hit.{Hit}
 use Rattle.bs_chip.specs.Chip.{Chipped, circuit_in, runs_in, moment_of, IsDumpOf}
 use Rattle.bs_report.specs.declared.report.Cand.{Cand}
@@ -17,7 +18,7 @@ use Rattle.bs_report.specs.declared.report.HitLine.{HitLine}
 use Rattle.bs_report.specs.Step.{listed, hit_of, IsCandidate}
 use Rattle.bs_report.specs.Chain.{present_of_hit}
 use Rattle.bs_report.proofs.ExecutionLemmas.{led_widths}
-use Rattle.bs_loop.specs.Crash.{chip_alone, present_in, IsDumpFor}
+use Rattle.bs_loop.specs.Crash.{chip_alone, IsDumpFor}
 use Rattle.bs_loop.specs.Turn.{IsMetAt}
 
 stored_widths : (c : Circuit) (choice : Chosen) (run : Run) (count cycle : ℕ) → Each (λ (t : List Bool). length t ≡ length choice.items) (signatures_before c choice run count cycle)

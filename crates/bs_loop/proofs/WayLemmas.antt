@@ -4,13 +4,13 @@ use Rattle.std.specs.Prelude.{MatchOption}
 use Rattle.std.proofs.lemmas.List.{length-append}
 use Rattle.std.proofs.lemmas.List.Elements.{All-from_recursion}
 use Rattle.bs_scan.specs.declared.dump.Dump.{Dump}
+use Rattle.bs_scan.specs.Present.{present_in}
 use Rattle.bs_chip.specs.Chip.{Chipped, circuit_in}
 use Rattle.bs_report.specs.declared.report.Step.{Step}
 use Rattle.bs_report.specs.declared.report.Stop.{Stop}
 use Rattle.bs_report.specs.declared.report.Stop.TheVariants.{Reset, Length}
 use Rattle.bs_report.specs.declared.report.Budgets.{Budgets}
 use Rattle.bs_report.specs.Step.{IsRightStep}
-use Rattle.bs_report.specs.Chain.{present_of_dump}
 use Rattle.bs_report.specs.Stop.{StopsFor}
 use Rattle.bs_report.proofs.LoopLemmas.{last_present_more}
 use Rattle.bs_preimage.specs.Preimage.{PreimageState, fresh}
@@ -43,7 +43,7 @@ stepped chip dump budgets steps more old new now next n way s =
     subst (λ (l : List Step). IsUnderWay chip dump budgets l new next (n + 1)) (sym s.made)
     (record {
       made = made_more chip dump budgets steps old new now s.step way.made way.stands s.back;
-      stands = last_present_more (crash_of chip dump) (Some (present_of_dump (crash_of chip dump))) steps s.step ∙ s.there;
+      stands = last_present_more (crash_of chip dump) (Some (present_in dump)) steps s.step ∙ s.there;
       fits = s.fits;
       count = length-append steps (s.step ∷ []) ∙ ap (λ (k : ℕ). k + 1) way.count;
     })

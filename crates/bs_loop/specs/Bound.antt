@@ -2,9 +2,9 @@
 use Rattle.std.specs.Prelude.{◌≡◌, ℕ, ◌+◌, ◌-◌, ◌<◌, ◌^◌, Some, List, length, slice_get}
 use Rattle.bs_clause.specs.Literal.{Literal}
 use Rattle.bs_clause.specs.UnitRun.{IsUnitRun}
+use Rattle.bs_clause.specs.Range.{HasVariables}
 use Rattle.bs_log.specs.History.{Problem}
 use Rattle.bs_log.specs.Refusal.{assumptions_of}
-use Rattle.bs_solve.specs.Scan.{HasVariables}
 use Rattle.bs_report.specs.declared.report.ListEnd.TheVariants.{Conflicts}
 use Rattle.bs_report.specs.declared.report.Step.{Step}
 use Rattle.bs_report.specs.declared.report.Report.{Report}

@@ -5,17 +5,12 @@ use Rattle.bs_stim.specs.Runs.{IsStimulus}
 use Rattle.bs_chip.specs.Chip.{Chipped, IsFitting, circuit_in, runs_in}
 use Rattle.bs_scan.specs.declared.dump.Dump.{Dump}
 use Rattle.bs_scan.specs.Dump.{signatures_of}
-use Rattle.bs_scan.specs.Present.{Present}
 use Rattle.bs_report.specs.declared.report.Budgets.{Budgets}
 use Rattle.bs_report.specs.Crash.{Crash}
 
 -- the chip, its recorded runs, and a dump of it
 abbrev pub crash_of : Chipped → Dump → Crash
 crash_of chip dump = record { circuit = circuit_in chip; choice = chip.choice; runs = runs_in chip; dump = dump }
-
--- the state of a dump, and what the register held there
-abbrev pub present_in : Dump → Present
-present_in dump = record { state = dump.state; stored = signatures_of dump }
 
 -- the chip and its runs, where the dump does not matter
 abbrev pub chip_alone : Chipped → Crash

@@ -2,23 +2,23 @@
 use Rattle.std.specs.Prelude.{◌≡◌, ℕ, ◌+◌, ◌-◌, ◌<◌, ◌^◌, true, false, List, [], length, map, reverse, All, Some, slice_get, slice_index_or}
 use Rattle.bs_clause.specs.Literal.{Literal}
 use Rattle.bs_clause.specs.UnitRun.{IsUnitRun}
+use Rattle.bs_clause.specs.Range.{HasVariables}
 use Rattle.bs_log.specs.declared.line.Line.{Line}
 use Rattle.bs_log.specs.History.{History}
 use Rattle.bs_log.specs.Steps.{steps_of}
 use Rattle.bs_scan.specs.declared.dump.Dump.{Dump}
+use Rattle.bs_scan.specs.Present.{present_in}
 use Rattle.bs_encode.specs.Tables.{lit}
 use Rattle.bs_encode.specs.Encoded.{Encoded, encoding_of}
 use Rattle.bs_encode.specs.Assuming.{assumptions_for, block_for, problem_of}
-use Rattle.bs_solve.specs.Scan.{HasVariables}
 use Rattle.bs_report.specs.declared.report.ListEnd.TheVariants.{Conflicts}
 use Rattle.bs_report.specs.declared.report.Step.{Step}
 use Rattle.bs_report.specs.declared.report.Budgets.{Budgets}
 use Rattle.bs_report.specs.Crash.{Crash}
 use Rattle.bs_report.specs.Step.{asked_of, IsRightStep, IsRightEnd}
-use Rattle.bs_report.specs.Chain.{present_of, present_of_dump, last_present, Follow}
+use Rattle.bs_report.specs.Chain.{present_of, last_present, Follow}
 use Rattle.bs_report.specs.Valid.{blocks_due, are_right_blocks, blocks_in, is_right_finish, finishes_in}
 use Rattle.bs_preimage.specs.Preimage.{PreimageState}
-use Rattle.bs_loop.specs.Crash.{present_in}
 
 -- the clauses of the crash's circuit and signature
 abbrev pub encoding_in : Crash → Encoded
@@ -52,11 +52,11 @@ state_after crash steps history =
 pub record HasMade (crash : Crash) (budgets : Budgets) (steps : List Step) (s : PreimageState) : Type 0 where
   pub state : s ≡ state_after crash steps s.history
   pub right : All (IsRightStep crash) steps
-  pub follow : Follow crash (Some (present_of_dump crash)) steps
+  pub follow : Follow crash (Some (present_in crash.dump)) steps
   pub count : length (steps_of (reverse s.history)) ≡ length steps
   pub logged : (i : ℕ) (step : Step) → slice_get steps i ≡ Some step →
       IsLoggedStep crash budgets i (slice_index_or (steps_of (reverse s.history)) i []) step
 
 -- the present is the dump, or where the last step has its hit
 abbrev pub StandsAt : Crash → List Step → Dump → Type 0
-StandsAt crash steps now = last_present crash (Some (present_of_dump crash)) steps ≡ Some (present_in now)
+StandsAt crash steps now = last_present crash (Some (present_in crash.dump)) steps ≡ Some (present_in now)

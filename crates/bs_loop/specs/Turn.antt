@@ -2,6 +2,7 @@
 use Rattle.std.specs.Prelude.{◌≡◌, ◌⊎◌, ◌+◌, List, [], ◌∷◌, ◌++◌, Option, Some, None, option_map}
 use Rattle.bs_scan.specs.declared.dump.Dump.{Dump}
 use Rattle.bs_scan.specs.Dump.{signatures_of}
+use Rattle.bs_scan.specs.Present.{present_in}
 use Rattle.bs_chip.specs.Chip.{Chipped}
 use Rattle.bs_report.specs.declared.report.HitLine.{HitLine}
 use Rattle.bs_report.specs.declared.report.Step.{Step}
@@ -13,7 +14,7 @@ use Rattle.bs_report.specs.Chain.{present_of_hit, present_after}
 use Rattle.bs_report.specs.Valid.{cause_of_end}
 use Rattle.bs_preimage.specs.Preimage.{PreimageState}
 use Rattle.bs_preimage.specs.Listed.{HasListed}
-use Rattle.bs_loop.specs.Crash.{present_in, chip_alone, IsDumpFor}
+use Rattle.bs_loop.specs.Crash.{chip_alone, IsDumpFor}
 
 -- the dump, if there is one, is that of the hit
 pub record IsMetAt (chip : Chipped) (hit : Option HitLine) (dump : Option Dump) : Type 0 where

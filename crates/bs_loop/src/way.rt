@@ -34,18 +34,6 @@ struct Way {
     stop: Stop,
 }
 
-/// An equal dump of its own.
-fn copy_of(dump: &Dump) -> Result<Dump, NoMemory>
-    ensures { IfOk result (λ copy. copy ≡ dump.now) }
-{
-    let state = dump.state.copy()?;
-    let stored = match &dump.stored {
-        Some(bits) => Some(bits.copy()?),
-        None => None,
-    };
-    Ok(Dump { state, stored })
-}
-
 /// The cause at a present, where all steps are made.
 fn cause_at(now: &Dump) -> Stop
     ensures { MatchOption now.now.stored (result ≡ Reset) (λ _. result ≡ Length) }
@@ -73,7 +61,7 @@ fn walk(
     ensures chip { chip.new ≡ chip.old }
 {
     let mut steps = List::new(alloc);
-    let mut now = copy_of(dump)?;
+    let mut now = dump.copy()?;
     'turns: for _ in 0..budgets.steps {
         match turn(alloc, chip, preimage, budgets, &mut steps, &mut now)? {
             Some(stop) => return Ok(Way { steps, stop }),

@@ -9,6 +9,7 @@ use Rattle.std.proofs.lemmas.List.Sorted.{IsPermutation-to_front, IsPermutation-
 use Rattle.std.proofs.lemmas.Map.Keys.{IsDistinct-cons, IsDistinct-IsPermutation}
 use Rattle.bs_bits.specs.Bits.{bits_eq}
 use Rattle.bs_clause.specs.Literal.{Literal, Clause, negation}
+use Rattle.bs_clause.specs.Range.{HasVariables}
 use Rattle.bs_log.specs.declared.line.Line.{Line}
 use Rattle.bs_log.specs.declared.line.Line.TheVariants.{Solve, Lemma, Block, Finish, Retire, Delete}
 use Rattle.bs_log.specs.History.{History, step_of}
@@ -16,12 +17,12 @@ use Rattle.bs_log.specs.Refusal.{denies}
 use Rattle.bs_log.specs.Steps.{is_lemma_line, block_of_line, lemma_of_line, last_solve}
 use Rattle.bs_net.proofs.NextLemmas.{bits_eq_Decides}
 use Rattle.bs_scan.proofs.SignatureLemmas.{bits_same_is}
+use Rattle.bs_scan.proofs.MomentLemmas.{each_append}
 use Rattle.bs_solve.specs.declared.stage.Stage.{Stage}
 use Rattle.bs_solve.specs.declared.stage.Stage.TheVariants.{Begun, Blocked}
 use Rattle.bs_solve.specs.Book.{Book, standing}
 use Rattle.bs_solve.specs.Ending.{is_open_lemma}
 use Rattle.bs_solve.specs.Stages.{is_begun}
-use Rattle.bs_solve.specs.Scan.{HasVariables}
 use Rattle.bs_solve.specs.Solver.{SolverState, MaySolve}
 use Rattle.bs_encode.specs.Encoded.{Encoded}
 use Rattle.bs_encode.specs.Assuming.{block_for}
@@ -33,7 +34,7 @@ use Rattle.bs_report.specs.Valid.{blocks_due, is_spent}
 use Rattle.bs_preimage.specs.Turn.{Extends, Keeps, HasSearched, MayTurn, HasListedOne, HasRefutedAll, HasSpent, IsShownIn, block_in, guard_in, steps_after}
 use Rattle.bs_preimage.specs.Finding.{is_inner, HasLogged, IsAgain, IsUnderWay, HasEndedSearch}
 use Rattle.bs_preimage.proofs.BoundLemmas.{runs_over}
-use Rattle.bs_preimage.proofs.StandingLemmas.{lemmas_inner, inner_step, each_append}
+use Rattle.bs_preimage.proofs.StandingLemmas.{lemmas_inner, inner_step}
 
 -- ---- the guard of the step
 

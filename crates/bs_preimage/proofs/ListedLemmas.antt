@@ -3,16 +3,16 @@ use Rattle.std.proofs.Common.{◌≡◌, ◌≢◌, ℕ, ◌+◌, ◌-◌, ◌<�
 use mathlib.Core.List.{reverse_aux}
 use Rattle.std.specs.Prelude.{◌^◌, Contains, All, ◌||◌, ◌&&◌, filter_map, slice_get, IsTrue}
 use Rattle.std.specs.Bool.{beq}
-use Rattle.std.specs.List.{AllByRecursion as Each, list_any}
+use Rattle.std.specs.List.{AllByRecursion as Each}
 use Rattle.std.specs.List.Sorted.{IsPermutation}
-use Rattle.std.proofs.lemmas.Bool.{false≢true, true≢false}
+use Rattle.std.proofs.lemmas.Bool.{true≢false}
 use Rattle.std.proofs.lemmas.List.{length-append, reverse-reverse}
 use Rattle.std.proofs.lemmas.List.Elements.{All-weaker, All-map, All-from_recursion, recursion_from_All, Contains-append_left, Contains-push}
 use Rattle.std.proofs.lemmas.List.Sorted.{length_permutation, All-permutation}
 use Rattle.bs_bits.specs.Bits.{bits_eq}
 use Rattle.bs_clause.specs.Literal.{Literal, Clause, negation, literal_value, Satisfies}
-use Rattle.bs_solve.specs.Scan.{HasVariables}
 use Rattle.bs_clause.specs.UnitRun.{IsUnitRun}
+use Rattle.bs_clause.specs.Range.{HasVariables}
 use Rattle.bs_log.specs.declared.line.Line.{Line}
 use Rattle.bs_log.specs.declared.line.Line.TheVariants.{Retire}
 use Rattle.bs_log.specs.History.{Problem, History, step_of, guard_of}
@@ -23,7 +23,6 @@ use Rattle.bs_log.specs.Steps.{steps_of, block_of_line, finish_of_line}
 use Rattle.bs_log.proofs.Laws.{finished_steps_are_refuted}
 use Rattle.bs_log.proofs.StepLemmas.{finish_at}
 use Rattle.bs_net.specs.Circuit.{Circuit, next, all_bits}
-use Rattle.bs_net.proofs.CallerLemmas.{all_bits_widths}
 use Rattle.bs_net.proofs.NextLemmas.{Member}
 use Rattle.bs_scan.specs.Choice.{Chosen}
 use Rattle.bs_scan.specs.Present.{Present}
@@ -44,7 +43,7 @@ use Rattle.bs_report.specs.Step.{listed, IsCandidate}
 use Rattle.bs_report.specs.Valid.{blocks_due, are_right_blocks, is_right_finish, blocks_in, finishes_in}
 use Rattle.bs_report.proofs.SortedLemmas.{asc_of_pairs, asc_filter, asc_all_bits, same_lists}
 use Rattle.bs_report.proofs.ValidLemmas.{both}
-use Rattle.bs_report.proofs.GoodLemmas.{listed_member, filter_member}
+use Rattle.bs_report.proofs.GoodLemmas.{listed_member, filter_member, passing, all_bits_length}
 use Rattle.bs_preimage.specs.declared.listing.Listing.{Listing}
 use Rattle.bs_preimage.specs.Preimage.{next_guard, asking}
 use Rattle.bs_preimage.specs.Rest.{IsAbout, IsAtRest, AreWholeSteps}
@@ -288,22 +287,6 @@ refuted t id fin s x ls lx ag nx out =
     finished_steps_are_refuted p log spot.before spot.after id v t.accepted spot.parts
     (subst (λ (n : ℕ). Suits p (history_of spot.before) n v) (sym {a = step_of (reverse_aux spot.before [])} spot.step) suits)
     (subst (λ (n : ℕ). All (λ l. IsTrue (literal_value v l)) (assumptions_of p n)) (sym {a = step_of (reverse_aux spot.before [])} spot.step) shown.assumptions)
-
-record Passing {X : Type 0} (p : X → Bool) (xs : List X) : Type 0 where
-  item : X
-  member : Member item xs
-  passes : p item ≡ true
-
-passing : {X : Type 0} (p : X → Bool) (xs : List X) → list_any p xs ≡ true → Passing p xs
-passing p [] e = absurd (false≢true e)
-passing {X} p (x ∷ xs) e = by (p x) refl e (passing p xs)
-  where
-    by : (b : Bool) → p x ≡ b → (b || list_any p xs) ≡ true → (list_any p xs ≡ true → Passing p xs) → Passing p (x ∷ xs)
-    by true b e rest = record { item = x; member = inl refl; passes = b }
-    by false b e rest = let r = rest e in record { item = r.item; member = inr r.member; passes = r.passes }
-
-all_bits_length : (n : ℕ) (s : List Bool) → Member s (all_bits n) → length s ≡ n
-all_bits_length n s m = each_member (λ (s : List Bool). length s ≡ n) s (all_bits n) (recursion_from_All (λ (s : List Bool). length s ≡ n) (all_bits n) (all_bits_widths n)) m
 
 each_listed : (asked : List (List Bool)) (cands : List Cand) → Each (λ cand. is_listed asked cand.state ≡ true) cands → Each (λ s. is_listed asked s ≡ true) (listed cands)
 each_listed asked [] h = tt

@@ -3,10 +3,10 @@ use Rattle.std.proofs.Common.{◌≡◌, ℕ, ◌+◌, ◌<◌, Bool, List, [], 
 use Rattle.std.specs.Prelude.{Contains}
 use Rattle.std.proofs.lemmas.Bool.{true≢false}
 use Rattle.bs_clause.specs.Literal.{Literal, Clause}
+use Rattle.bs_clause.specs.Range.{HasVariables}
 use Rattle.bs_log.specs.declared.line.Line.TheVariants.{Finish}
 use Rattle.bs_log.specs.History.{guard_of}
 use Rattle.bs_solve.specs.declared.stage.Stage.TheVariants.{Begun, Blocked}
-use Rattle.bs_solve.specs.Scan.{HasVariables}
 use Rattle.bs_solve.specs.Book.{Book}
 use Rattle.bs_solve.specs.Solver.{SolverState, HasEnded, finished}
 use Rattle.bs_solve.specs.Stages.{is_begun}

@@ -56,7 +56,3 @@ lemma_inner (Delete ids) e = e
 pub lemmas_inner : (lines : List Line) → Each (λ line. is_lemma_line line ≡ true) lines → Each (λ line. is_inner line ≡ true) lines
 lemmas_inner [] all = tt
 lemmas_inner (line ∷ lines) all = (lemma_inner line all.0, lemmas_inner lines all.1)
-
-pub each_append : {X : Type 0} (P : X → Type 0) (xs ys : List X) → Each P xs → Each P ys → Each P (xs ++ ys)
-each_append P [] ys hx hy = hy
-each_append P (x ∷ xs) ys hx hy = (hx.0, each_append P xs ys hx.1 hy)

@@ -1,23 +1,19 @@
 -- The lines of a step, the newest first, and what they say.
-use Rattle.std.proofs.Common.{◌≡◌, ℕ, Bool, true, false, not, List, [], ◌∷◌, ◌++◌, length, reverse, get_or, refl, ap, subst, sym, ◌∙◌, ◌⊎◌, inl, inr, append_assoc, arith, Option, Some, None, suc, zero}
-use Rattle.std.specs.Prelude.{Contains, ◌||◌, ◌&&◌, ◌==◌, filter_map, slice_get, nat_eq, option_map, count_by, cond, filter}
-use Rattle.std.specs.Bool.{beq, Decides}
-use Rattle.std.specs.Cmp.{booleans_Decides}
+use Rattle.std.proofs.Common.{◌≡◌, ℕ, Bool, true, false, List, [], ◌∷◌, ◌++◌, length, reverse, get_or, refl, ap, subst, sym, ◌∙◌, ◌⊎◌, inl, inr, append_assoc, arith, Option, Some, None, suc, zero}
+use Rattle.std.specs.Prelude.{Contains, ◌||◌, ◌&&◌, ◌==◌, filter_map, slice_get, nat_eq}
 use Rattle.std.specs.Cmp.Lexicographic.{pointwise, pointwise_decides}
-use Rattle.std.specs.List.{AllByRecursion as Each, list_any, list_all, cons_option}
+use Rattle.std.specs.List.{AllByRecursion as Each, list_all, cons_option}
 use Rattle.std.specs.List.Sorted.{IsPermutation}
-use Rattle.std.proofs.lemmas.Bool.{false≢true, eq-eqb, eqb-true}
-use Rattle.std.proofs.lemmas.Bool.Decides.{Decides-eqb, Decides-and}
+use Rattle.std.proofs.lemmas.Bool.{false≢true, eq-eqb}
+use Rattle.std.proofs.lemmas.Bool.Decides.{Decides-eqb}
 use Rattle.std.proofs.lemmas.List.{reverse-append, append-nil}
-use Rattle.std.proofs.lemmas.List.Sums.{length-filter}
 use Rattle.std.proofs.lemmas.List.Elements.{filter_map-append}
 use Rattle.std.proofs.lemmas.List.Sorted.{IsPermutation-sym, IsPermutation-trans, IsPermutation-map, IsPermutation-reverse, length_permutation, Contains-permutation}
 use Rattle.bs_clause.specs.Literal.{Literal, Clause, negation, same_literal}
 use Rattle.bs_log.specs.declared.line.Line.{Line}
 use Rattle.bs_log.specs.declared.line.Line.TheVariants.{Solve, Lemma, Block, Finish, Retire, Delete}
 use Rattle.bs_log.specs.History.{History, step_of}
-use Rattle.bs_log.specs.Refusal.{denies}
-use Rattle.bs_log.specs.Steps.{steps_of, onto_step, block_of_line, finish_of_line, lemma_of_line, is_lemma_line, last_solve}
+use Rattle.bs_log.specs.Steps.{steps_of, onto_step, block_of_line, finish_of_line, last_solve}
 use Rattle.bs_solve.specs.Solver.{SolverState}
 use Rattle.bs_solve.proofs.Clauses.{contains_cases, contains_first, cons_contains, nothing_in}
 use Rattle.bs_report.specs.declared.report.Cand.{Cand}
@@ -28,7 +24,8 @@ use Rattle.bs_report.specs.Valid.{has_clause, blocks_due, are_right_blocks, is_r
 use Rattle.bs_preimage.specs.Rest.{AreWholeSteps}
 use Rattle.bs_preimage.specs.Finding.{is_inner, EndedBy}
 use Rattle.bs_preimage.specs.Step.{ending_of}
-use Rattle.bs_report.proofs.ValidLemmas.{both}
+use Rattle.bs_report.proofs.ValidLemmas.{spent_is}
+use Rattle.bs_report.proofs.WholeLemmas.{literal_decides}
 use Rattle.bs_preimage.proofs.FindingLemmas.{each_reverse}
 
 -- ---- the lines of a step up to its retire line
@@ -143,11 +140,6 @@ blocks_are_due g f found cands end inner perm e =
     (IsPermutation-trans (blocks_due g f found) (blocks_due g f (reverse found)) (reverse (blocks_due g f (reverse found))) (due found (reverse found) (IsPermutation-reverse found))
     (IsPermutation-reverse (blocks_due g f (reverse found)))))
 
-literal_decides : (a b : Literal) → Decides (same_literal a b) (a ≡ b)
-literal_decides a b =
-    let d = Decides-and (a.variable == b.variable) (beq a.positive b.positive) (Decides-eqb a.variable b.variable) (booleans_Decides a.positive b.positive) in
-    (λ e. let h = d.0 e in λ i. record { variable = h.0 i; positive = h.1 i }, λ p. d.1 (ap (λ (l : Literal). l.variable) p, ap (λ (l : Literal). l.positive) p))
-
 has_from : (xs : List Clause) (c : Clause) → Contains xs c → has_clause xs c ≡ true
 has_from [] c there = absurd (nothing_in c there)
 has_from (x ∷ xs) c there = by (pointwise same_literal c x) refl (contains_cases x xs c there) (has_from xs c)
@@ -199,23 +191,8 @@ finish_is k b a s inner count Candidates all h = ap (λ (ns : List ℕ). length 
 finish_is k b a s inner count Conflicts all h =
     ap (λ (ns : List ℕ). (length ns == 0) && is_spent b a (last_solve (reverse inner))) (no_finishes inner all) ∙ h.2
 
-all_pass : {X : Type 0} (p : X → Bool) (xs : List X) → list_all p xs ≡ true → filter p xs ≡ xs
-all_pass p [] e = refl
-all_pass {X} p (x ∷ xs) e = by (p x) refl e (all_pass p xs)
-  where
-    by : (b : Bool) → p x ≡ b → (b && list_all p xs) ≡ true → (list_all p xs ≡ true → filter p xs ≡ xs) → cond b (x ∷ filter p xs) (filter p xs) ≡ x ∷ xs
-    by true t e rest = ap (λ (l : List X). x ∷ l) (rest e)
-    by false t e rest = absurd (false≢true e)
-
-spent_counts : (b : ℕ) (a : Clause) (o : Option (List Line)) → is_spent b a o ≡ true → option_map (count_by is_lemma_line) o ≡ Some b
-spent_counts b a None e = absurd (false≢true e)
-spent_counts b a (Some lines) e =
-    let h = both _ (not (list_any (denies a) (filter_map lemma_of_line lines))) e in
-    let k = both (length lines == b) (list_all is_lemma_line lines) h.0 in
-    ap Some (sym (length-filter is_lemma_line lines) ∙ (ap length (all_pass is_lemma_line lines k.1) ∙ eqb-true (length lines) b k.0))
-
 pub end_is : (asked : List (List Bool)) (k b : ℕ) (a : Clause) (s : SolverState) (inner : List Line) (count : ℕ) (cands : List Cand) (end : ListEnd) → length cands ≡ count →
     EndedBy k b a s inner count end → ((id : ℕ) → end ≡ Finished id → listed cands ≡ asked) → IsRightEnd asked k b (reverse (finish_lines (ending_of end) ++ inner)) cands end
 end_is asked k b a s inner count cands (Finished id) n h whole = (whole id refl, omega (arith, n, h.1))
 end_is asked k b a s inner count cands Candidates n h whole = n ∙ h.1
-end_is asked k b a s inner count cands Conflicts n h whole = (omega (arith, n, h.1), spent_counts b a (last_solve (reverse inner)) h.2)
+end_is asked k b a s inner count cands Conflicts n h whole = (omega (arith, n, h.1), spent_is b a (last_solve (reverse inner)) h.2)

@@ -3,6 +3,7 @@ use Rattle.std.specs.Prelude.{◌≡◌, ◌≢◌, ℕ, ◌+◌, ◌-◌, ◌^�
 use Rattle.std.specs.List.{AllByRecursion}
 use Rattle.bs_clause.specs.Literal.{Literal, Clause, negation, literal_value, Satisfies}
 use Rattle.bs_clause.specs.UnitRun.{IsUnitRun}
+use Rattle.bs_clause.specs.Range.{HasVariables}
 use Rattle.bs_log.specs.declared.line.Line.{Line}
 use Rattle.bs_log.specs.declared.line.Line.TheVariants.{Solve}
 use Rattle.bs_log.specs.History.{step_of, guard_of}
@@ -18,7 +19,6 @@ use Rattle.bs_solve.specs.Search.{assumed}
 use Rattle.bs_solve.specs.Ending.{is_open_lemma}
 use Rattle.bs_solve.specs.Stages.{is_begun}
 use Rattle.bs_solve.specs.Solver.{SolverState, MaySolve, HasBlocked}
-use Rattle.bs_solve.specs.Scan.{HasVariables}
 use Rattle.bs_solve.specs.Values.{value_of}
 use Rattle.bs_preimage.specs.declared.turn.Turn.{Turn}
 use Rattle.bs_preimage.specs.declared.turn.Turn.TheVariants.{Listed, Refuted, Spent}

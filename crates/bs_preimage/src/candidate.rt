@@ -1,6 +1,6 @@
 //! The candidate that an assignment shows.
 ghost use Rattle.std.specs.Prelude.{◌≡◌, ◌<◌, ◌≤◌, length, IfOk};
-ghost use Rattle.bs_solve.specs.Scan.{HasVariables};
+ghost use Rattle.bs_clause.specs.Range.{HasVariables};
 ghost use Rattle.bs_solve.specs.Values.{value_of};
 ghost use Rattle.bs_preimage.specs.Turn.{bits_on};
 

@@ -4,7 +4,7 @@ ghost use Rattle.bs_net.specs.Netlist.{circuit};
 ghost use Rattle.bs_log.specs.Refusal.{has_distinct_variables, history_of, NoneRefused, IsAccepted};
 ghost use Rattle.bs_log.specs.Lean.{LemmasAreLean};
 ghost use Rattle.bs_encode.specs.Encoded.{encoding_of};
-ghost use Rattle.bs_solve.specs.Scan.{HasVariables};
+ghost use Rattle.bs_clause.specs.Range.{HasVariables};
 ghost use Rattle.bs_preimage.specs.Preimage.{fresh, GoesOn};
 ghost use Rattle.bs_preimage.specs.Rest.{made};
 ghost use Rattle.bs_preimage.specs.Listed.{HasListed};

@@ -15,8 +15,8 @@ use Rattle.bs_report.specs.declared.report.Stop.TheVariants as stops
 use Rattle.bs_report.specs.declared.report.Report.{Report}
 use Rattle.bs_report.specs.Crash.{Crash, IsCrash}
 use Rattle.bs_report.specs.Step.{listed, IsRightStep}
-use Rattle.bs_scan.specs.Present.{Present}
-use Rattle.bs_report.specs.Chain.{present_of_hit, present_of_dump, present_after, last_present}
+use Rattle.bs_scan.specs.Present.{Present, present_in}
+use Rattle.bs_report.specs.Chain.{present_of_hit, present_after, last_present}
 use Rattle.bs_report.specs.Stop.{IsFinished, StopsFor}
 use Rattle.bs_report.specs.Good.{IsGood}
 use Rattle.bs_report.specs.Law.{UnhitIsFirst, FinishedReachReset}
@@ -75,13 +75,13 @@ first_there : (steps : List Step) (first : Step) → slice_get steps 0 ≡ Some 
 first_there [] first e = cc
 first_there (s ∷ ss) first e = let same : s ≡ first = cc in (ss, ap (λ (x : Step). x ∷ ss) same)
 
-only_reset : (crash : Crash) (r : Report) → IsGood crash r → (n c : ℕ) → LastStep crash r.steps (Some (present_of_dump crash)) n → ((step : Step) → slice_get r.steps n ≡ Some step → Hit step n c) →
+only_reset : (crash : Crash) (r : Report) → IsGood crash r → (n c : ℕ) → LastStep crash r.steps (Some (present_in crash.dump)) n → ((step : Step) → slice_get r.steps n ≡ Some step → Hit step n c) →
     c + 1 ≤ r.budgets.steps → (stop : Stop) → StopsFor crash r.budgets r.steps stop → stop ≡ stops.Reset
 only_reset crash r good n c last hits enough stops.Reset s = refl
 only_reset crash r good n c last hits enough stops.Length s =
     let h = hits last.last last.place in
     let at_reset : h.hit.cycle ≡ 0 = omega (arith, h.low, s.0, last.long) in
-    let now : last_present crash (Some (present_of_dump crash)) r.steps ≡ Some (present_of_hit crash h.hit) = last.present ∙ ap (option_map (present_of_hit crash)) h.is in
+    let now : last_present crash (Some (present_in crash.dump)) r.steps ≡ Some (present_of_hit crash h.hit) = last.present ∙ ap (option_map (present_of_hit crash)) h.is in
     absurd
     (subst (λ (o : Option Present). IsSomeAnd o (λ (now : Present). now.stored ≢ [])) now s.1
     (ap (stored_at crash.circuit crash.choice (run_of crash.runs h.hit.run)) at_reset))
@@ -106,8 +106,8 @@ only_reset crash r good n c last hits enough stops.Conflicts s =
 pub finished_reach_reset : FinishedReachReset
 finished_reach_reset crash r first hit is good fin e h enough =
     let there = first_there r.steps first e in
-    let last : LastStep crash r.steps (Some (present_of_dump crash)) (length there.0) =
-    subst (λ (l : List Step). LastStep crash l (Some (present_of_dump crash)) (length there.0)) (sym there.1) (last_from crash first there.0 (Some (present_of_dump crash))) in
+    let last : LastStep crash r.steps (Some (present_in crash.dump)) (length there.0) =
+    subst (λ (l : List Step). LastStep crash l (Some (present_in crash.dump)) (length there.0)) (sym there.1) (last_from crash first there.0 (Some (present_in crash.dump))) in
     let hits = hit_below crash r first hit is good fin e h (length there.0) in
     let low = (hits last.last last.place).low in
     (only_reset crash r good (length there.0) hit.cycle last hits enough r.stop good.stop, omega (arith, low, last.long))

@@ -19,11 +19,11 @@ use Rattle.bs_report.specs.declared.report.Step.{Step}
 use Rattle.bs_report.specs.declared.report.Report.{Report}
 use Rattle.bs_report.specs.Crash.{Crash}
 use Rattle.bs_report.specs.Step.{stored_of, listed, IsRightStep, IsCandidate}
-use Rattle.bs_scan.specs.Present.{Present}
-use Rattle.bs_report.specs.Chain.{present_of, present_of_hit, present_of_dump, present_after, Follow}
+use Rattle.bs_scan.specs.Present.{Present, present_in}
+use Rattle.bs_report.specs.Chain.{present_of, present_of_hit, present_after, Follow}
 use Rattle.bs_report.specs.Trace.{hit_state, input_for}
 use Rattle.bs_report.specs.Good.{IsGood}
-use Rattle.bs_report.specs.Law.{continued, moment_of, last_hit, EndsExecution, TracesEndExecutions}
+use Rattle.bs_report.specs.Law.{continued, moment_of, EndsExecution, TracesEndExecutions}
 use Rattle.bs_report.proofs.ProgressLemmas.{hit_at}
 
 -- ---- executions
@@ -305,10 +305,10 @@ from_reset crash r good l long front way =
 pub executed : TracesEndExecutions
 executed crash r is good some =
     let right = recursion_from_All (IsRightStep crash) r.steps good.steps in
-    let way = traced crash is.checked r.steps (present_of_dump crash) [] good.chain.follow right in
+    let way = traced crash is.checked r.steps (present_in crash.dump) [] good.chain.follow right in
     ⊎_elim
     (λ (n : NoHit crash.dump.state r.steps). absurd (some (good.trace.inputs ∙ ap reverse n.inputs)))
     (λ (l : LastHit crash crash.dump.state r.steps).
     let long : length (take l.hit.cycle (run_of crash.runs l.hit.run)) ≡ l.hit.cycle = length-take-le l.hit.cycle (run_of crash.runs l.hit.run) l.recorded.lasts in
     from_reset crash r good l long (at_front crash.circuit crash.runs (moment_of l.hit) r.inputs l.recorded ∙ l.state) way)
-    (hit_or_none crash r.steps (Some (present_of_dump crash)) crash.dump.state good.chain.follow right)
+    (hit_or_none crash r.steps (Some (present_in crash.dump)) crash.dump.state good.chain.follow right)

@@ -1,11 +1,11 @@
 -- Each line of a report's text is read back, and lacks line feeds.
-use Rattle.std.proofs.Common.{◌≡◌, ℕ, suc, zero, ◌<◌, ◌≤◌, ◌+◌, ◌^◌, Bool, true, false, cond, not, ◌&&◌, List, [], ◌∷◌, ◌++◌, map, length, refl, arith, ap, sym, ◌∙◌, Option, Some, None}
-use Rattle.std.specs.Prelude.{◌==◌, codes, decimal, nat_le, nat_lt, option_map, if◌then◌else◌}
+use Rattle.std.proofs.Common.{◌≡◌, ℕ, ◌<◌, ◌≤◌, ◌+◌, ◌^◌, Bool, true, false, cond, not, ◌&&◌, List, [], ◌∷◌, ◌++◌, map, refl, arith, ap, ◌∙◌, Option, Some, None}
+use Rattle.std.specs.Prelude.{◌==◌, codes, decimal, nat_le, nat_lt, option_map}
 use Rattle.std.specs.List.{AllByRecursion as Each, flat_map, list_all}
 use Rattle.std.specs.Str.{bytes_eq}
-use Rattle.std.proofs.lemmas.Bool.{and_parts, and_from, le-leb, leb-true, lt-ltb, eq-eqb, ne_eqb}
+use Rattle.std.proofs.lemmas.Bool.{and_parts, and_from, le-leb, leb-true, lt-ltb, ne_eqb}
 use Rattle.bs_bits.specs.Text.{bits_text, bits_of, digit_of}
-use Rattle.bs_bits.specs.Lines.{line, words_of, number_in, number_of, digits_in, is_digits, is_canonical}
+use Rattle.bs_bits.specs.Lines.{words_of, number_in, digits_in, is_digits, is_canonical}
 use Rattle.bs_bits.proofs.TextLemmas.{bits_again}
 use Rattle.bs_bits.proofs.NumberLemmas.{decimal_canonical, number_of_decimal}
 use Rattle.bs_clause.specs.Literal.{Literal}
@@ -14,7 +14,7 @@ use Rattle.bs_log.specs.declared.line.Line.TheVariants as lines
 use Rattle.bs_log.specs.LineForms.{IsId, HasVariable, HasText}
 use Rattle.bs_log.specs.LineReading.{id_in}
 use Rattle.bs_log.specs.LineText.{line_text, literal_text, id_text}
-use Rattle.bs_log.proofs.WordLemmas.{id_of_decimal, IsWord, joined, words_joined}
+use Rattle.bs_log.proofs.WordLemmas.{id_of_decimal, IsWord, words_joined}
 use Rattle.bs_report.specs.declared.report.Budgets.{Budgets}
 use Rattle.bs_report.specs.declared.report.Cand.{Cand}
 use Rattle.bs_report.specs.declared.report.HitLine.{HitLine}
@@ -22,7 +22,7 @@ use Rattle.bs_report.specs.declared.report.ListEnd.{ListEnd}
 use Rattle.bs_report.specs.declared.report.ListEnd.TheVariants.{Finished, Candidates as ByCandidates, Conflicts as ByConflicts}
 use Rattle.bs_report.specs.declared.report.Stop.{Stop}
 use Rattle.bs_report.specs.declared.report.Stop.TheVariants.{Reset, Length, Nohit, Empty, Candidates, Conflicts}
-use Rattle.bs_report.specs.Forms.{◌>>=◌, next_in, behind, at_end, within, number_within, number_behind, bits_behind, count_in, bits_in, budgets_in, cand_in, finished_in, end_of, end_in, run_cycle_in, moment_in, hit_in, stop_of, stop_in}
+use Rattle.bs_report.specs.Forms.{◌>>=◌, next_in, behind, at_end, within, number_within, number_behind, bits_behind, count_in, bits_in, budgets_in, cand_in, end_of, end_in, moment_in, hit_in, stop_in}
 use Rattle.bs_report.specs.Text.{end_word, stop_word, HasEndText}
 
 -- ---- bytes that do not occur

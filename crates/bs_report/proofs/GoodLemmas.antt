@@ -34,12 +34,13 @@ listed_member s (x ∷ xs) e = by (bits_eq s x) refl e (listed_member s xs)
     by true b e rest = inl (bits_same_is s x b)
     by false b e rest = inr (rest e)
 
-record Passing {X : Type 0} (p : X → Bool) (xs : List X) : Type 0 where
-  item : X
-  member : Member item xs
-  passes : p item ≡ true
+-- an item of the list that passes the test
+pub record Passing {X : Type 0} (p : X → Bool) (xs : List X) : Type 0 where
+  pub item : X
+  pub member : Member item xs
+  pub passes : p item ≡ true
 
-passing : {X : Type 0} (p : X → Bool) (xs : List X) → list_any p xs ≡ true → Passing p xs
+pub passing : {X : Type 0} (p : X → Bool) (xs : List X) → list_any p xs ≡ true → Passing p xs
 passing p [] e = absurd (false≢true e)
 passing {X} p (x ∷ xs) e = by (p x) refl e (passing p xs)
   where
@@ -56,7 +57,7 @@ filter_member q s (x ∷ xs) m = by (q x) refl m (filter_member q s xs)
     by true b (inr k) rest = let r = rest k in (r.0, inr r.1)
     by false b k rest = let r = rest k in (r.0, inr r.1)
 
-all_bits_length : (n : ℕ) (s : List Bool) → Member s (all_bits n) → length s ≡ n
+pub all_bits_length : (n : ℕ) (s : List Bool) → Member s (all_bits n) → length s ≡ n
 all_bits_length n s m = each_member (λ (s : List Bool). length s ≡ n) s (all_bits n) (recursion_from_All (λ (s : List Bool). length s ≡ n) (all_bits n) (all_bits_widths n)) m
 
 each_predecessor : (crash : Crash) (step : Step) (cands : List Cand) → Each (IsCandidate crash.circuit crash.choice step.present (stored_of step)) cands → Each (λ (s : List Bool). is_listed (asked_of crash step) s ≡ true) (listed cands)

@@ -9,11 +9,10 @@ use Rattle.std.proofs.lemmas.Bool.{false≢true, and_from, or_right, not_from_fa
 use Rattle.std.proofs.lemmas.List.{length-map}
 use Rattle.std.proofs.lemmas.List.Elements.{recursion_from_All}
 use Rattle.bs_bits.specs.Bits.{bits_eq}
-use Rattle.bs_net.specs.Circuit.{next}
 use Rattle.bs_net.proofs.NextLemmas.{bits_eq_Decides}
 use Rattle.bs_net.specs.Circuit.{all_bits}
 use Rattle.bs_scan.specs.Moments.{is_listed}
-use Rattle.bs_scan.specs.Present.{Present}
+use Rattle.bs_scan.specs.Present.{Present, present_in}
 use Rattle.bs_scan.specs.Signature.{agrees, some_input_leads, predecessors}
 use Rattle.bs_scan.proofs.SignatureLemmas.{bits_same}
 use Rattle.bs_log.specs.declared.line.Line.{Line}
@@ -33,17 +32,17 @@ use Rattle.bs_report.specs.declared.report.Stop.TheVariants as stops
 use Rattle.bs_report.specs.declared.report.Budgets.{Budgets}
 use Rattle.bs_report.specs.declared.report.Report.{Report}
 use Rattle.bs_report.specs.Crash.{Crash, IsCrash}
-use Rattle.bs_report.specs.Step.{stored_of, listed, asked_of, hit_of, Ascend, IsCandidate, IsRightStep, IsRightEnd}
-use Rattle.bs_report.specs.Chain.{present_of, present_of_hit, present_of_dump, present_after, last_present, Follow}
+use Rattle.bs_report.specs.Step.{stored_of, listed, asked_of, hit_of, Ascend, IsRightStep, IsRightEnd}
+use Rattle.bs_report.specs.Chain.{present_of, present_of_hit, present_after, last_present, Follow}
 use Rattle.bs_report.specs.Stop.{StopsFor, LastIs, IsFinished}
 use Rattle.bs_report.specs.Trace.{trace_states, trace_inputs}
 use Rattle.bs_report.specs.Good.{IsGood}
-use Rattle.bs_report.specs.Valid.{unless, all_bits_eq, due_at, has_state, has_stored, is_right_cand, is_right_count, same_hit, step_parts, log_parts, each_step, parts_of, first_of_all, first_failing, is_cause, cause_of, cause_at, cause_after, cause_of_end, stop_number, cand_at, no_cand, are_right_blocks, blocks_due, blocks_in, is_right_finish, finishes_in, lines_at, IsLogged, IsValid}
+use Rattle.bs_report.specs.Valid.{unless, all_bits_eq, due_at, has_state, has_stored, is_right_cand, is_right_count, same_hit, step_parts, log_parts, each_step, parts_of, first_of_all, first_failing, is_cause, cause_of, cause_at, cause_after, cause_of_end, stop_number, cand_at, no_cand, lines_at, IsLogged, IsValid}
 use Rattle.bs_report.specs.ValidLaw.{GoodIsValid}
 use Rattle.bs_report.proofs.ProgressLemmas.{all_at, hit_at}
 use Rattle.bs_report.proofs.ExecutionLemmas.{leads_next, led_widths}
 use Rattle.bs_report.proofs.GoodLemmas.{listed_member, filter_member}
-use Rattle.bs_report.proofs.ValidLemmas.{IsRight, StepIsRight, AllIsRight, LastStep, last_step, state_at_place}
+use Rattle.bs_report.proofs.ValidLemmas.{IsRight, StepIsRight, AllIsRight, last_step, state_at_place}
 
 -- ---- the parts
 
@@ -199,7 +198,7 @@ same_self (Some a) = and_from _ _ (and_from _ _ (eq-eqb a.run a.run refl) (eq-eq
 step_right : (crash : Crash) (r : Report) → IsCrash crash → IsGood crash r → (k : ℕ) (step : Step) → slice_get r.steps k ≡ Some step → StepIsRight crash r k step
 step_right crash r is good k step e =
     let h = all_at (IsRightStep crash) r.steps k step good.steps e in
-    let due : due_at crash r.steps k ≡ Some (present_of step) = due_of crash (Some (present_of_dump crash)) r.steps good.chain.follow k step e in
+    let due : due_at crash r.steps k ≡ Some (present_of step) = due_of crash (Some (present_in crash.dump)) r.steps good.chain.follow k step e in
     let few = within_budget (asked_of crash step) r.budgets.candidates r.budgets.conflicts (lines_at r k) step.cands step.end (good.ends k step e) in
     record {
       state = ap (λ (o : Option Present). has_state o step.present) due ∙ bits_same step.present;
@@ -216,7 +215,7 @@ record Last (crash : Crash) (steps : List Step) (P : Step → Type 0) : Type 0 w
   is : last_or None steps ≡ Some last
   there : P last
   right : IsRightStep crash last
-  present : last_present crash (Some (present_of_dump crash)) steps ≡ present_after crash last
+  present : last_present crash (Some (present_in crash.dump)) steps ≡ present_after crash last
 
 last_each : (P : Step → Type 0) (s : Step) (ss : List Step) → P s → Each P ss → IsSomeAnd (last_or (Some s) ss) P
 last_each P s [] h hs = h
@@ -225,7 +224,7 @@ last_each P s (t ∷ ts) h hs = last_each P t ts hs.0 hs.1
 last_of : (crash : Crash) (steps : List Step) (P : Step → Type 0) → LastIs steps P → Each (IsRightStep crash) steps → Last crash steps P
 last_of crash [] P h each = absurd h
 last_of crash (s ∷ ss) P h each =
-    let l = last_step crash (Some (present_of_dump crash)) s ss in
+    let l = last_step crash (Some (present_in crash.dump)) s ss in
     record {
       last = l.last;
       is = l.is;
@@ -277,9 +276,9 @@ IsUnhit step = (step.hit ≡ None) × IsFinished step.end × (step.cands ≢ [])
 
 pub cause_due : (crash : Crash) (budgets : Budgets) (steps : List Step) → Each (IsRightStep crash) steps → (stop : Stop) → StopsFor crash budgets steps stop → cause_of crash budgets steps ≡ Some stop
 cause_due crash budgets steps each stops.Reset h =
-    stands_at crash budgets steps (λ stored. stored ≡ []) stops.Reset (last_present crash (Some (present_of_dump crash)) steps) h (λ stored e. ap (cause_at budgets (length steps)) e)
+    stands_at crash budgets steps (λ stored. stored ≡ []) stops.Reset (last_present crash (Some (present_in crash.dump)) steps) h (λ stored e. ap (cause_at budgets (length steps)) e)
 cause_due crash budgets steps each stops.Length h =
-    stands_at crash budgets steps (λ stored. stored ≢ []) stops.Length (last_present crash (Some (present_of_dump crash)) steps) h.1 (by_length budgets (length steps) h.0)
+    stands_at crash budgets steps (λ stored. stored ≢ []) stops.Length (last_present crash (Some (present_in crash.dump)) steps) h.1 (by_length budgets (length steps) h.0)
 cause_due crash budgets steps each stops.Nohit h =
     let l = last_of crash steps IsUnhit h each in
     cause_unhit crash budgets steps IsUnhit l l.there.0 ∙ ap Some ((empty_or_not l.last l.last.end l.there.1).0 l.there.2)

@@ -1,5 +1,5 @@
 -- The whole lines of a text.
-use Rattle.std.proofs.Common.{◌≡◌, ℕ, suc, zero, ◌<◌, ◌≤◌, ◌-◌, Bool, true, false, cond, List, [], ◌∷◌, length, take, drop, get_or, refl, arith, ap, sym, ◌∙◌}
+use Rattle.std.proofs.Common.{◌≡◌, ℕ, suc, zero, ◌<◌, ◌≤◌, ◌-◌, true, false, cond, List, [], ◌∷◌, length, take, drop, get_or, refl, arith, ap, ◌∙◌}
 use Rattle.std.specs.Prelude.{◌==◌}
 use Rattle.std.proofs.lemmas.Bool.{true≢false, eqb-true}
 use Rattle.std.proofs.lemmas.List.{take_all, length-drop}
@@ -27,7 +27,7 @@ drop_next zero bs = refl
 drop_next (suc n) [] = refl
 drop_next (suc n) (b ∷ bs) = drop_next n bs
 
-nothing_left : (rest : List ℕ) → (length rest == 0) ≡ true → rest ≡ []
+pub nothing_left : (rest : List ℕ) → (length rest == 0) ≡ true → rest ≡ []
 nothing_left [] e = refl
 nothing_left (b ∷ bs) e = let none : length (b ∷ bs) ≡ 0 = eqb-true _ _ e in absurd (omega arith)
 

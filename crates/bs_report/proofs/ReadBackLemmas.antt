@@ -1,6 +1,6 @@
 -- A report that has a text is read back from it.
-use Rattle.std.proofs.Common.{◌≡◌, ℕ, suc, zero, ◌<◌, ◌≤◌, ◌+◌, ◌-◌, ◌^◌, Bool, true, false, cond, List, [], ◌∷◌, ◌++◌, length, get_or, drop, refl, arith, ap, sym, subst, ◌∙◌, Option, Some, None, append_assoc}
-use Rattle.std.specs.Prelude.{◌==◌, codes, decimal, option_map, Result, Ok, Err, All}
+use Rattle.std.proofs.Common.{◌≡◌, ℕ, suc, ◌<◌, ◌+◌, ◌-◌, ◌^◌, Bool, false, cond, List, [], ◌∷◌, ◌++◌, length, get_or, refl, arith, ap, sym, subst, ◌∙◌, Option, Some, None, append_assoc}
+use Rattle.std.specs.Prelude.{codes, decimal, option_map, Err}
 use Rattle.std.specs.List.{AllByRecursion as Each, flat_map, range_with_len}
 use Rattle.std.proofs.lemmas.Bool.{eq-eqb, ne_eqb}
 use Rattle.std.proofs.lemmas.List.{append-nil, length-append}
@@ -9,7 +9,6 @@ use Rattle.bs_bits.specs.Text.{bits_text}
 use Rattle.bs_bits.specs.Lines.{line, onto_first}
 use Rattle.bs_log.specs.declared.line.Line.{Line}
 use Rattle.bs_log.specs.LineForms.{HasText}
-use Rattle.bs_log.specs.LineReading.{line_in}
 use Rattle.bs_log.specs.LineText.{line_text}
 use Rattle.bs_log.proofs.RoundTrip.{lines_read_back}
 use Rattle.bs_report.specs.declared.fault.ReportFault.{ReportFault}
@@ -24,9 +23,9 @@ use Rattle.bs_report.specs.declared.report.Stop.{Stop}
 use Rattle.bs_report.specs.declared.report.Stop.TheVariants as stops
 use Rattle.bs_report.specs.declared.report.Step.{Step}
 use Rattle.bs_report.specs.declared.report.Report.{Report}
-use Rattle.bs_report.specs.Forms.{pieces_of, count_in, bits_in, cand_in, end_in, hit_in, stop_in, budgets_in}
-use Rattle.bs_report.specs.Reading.{Reached, begins, turned, more_listed, with_step, behind_state, log_place, taken, is_done, followed, line_or_fault, onward, ended, report_from, nothing_read, report_in}
-use Rattle.bs_report.specs.Text.{cand_text, end_word, hit_text, step_text, steps_text, stop_word, state_text, move_text, trace_text, budgets_text, head_text, tail_text, report_text, HasEndText, HasHitText, HasStepText, HasReportText}
+use Rattle.bs_report.specs.Forms.{pieces_of}
+use Rattle.bs_report.specs.Reading.{Reached, begins, turned, more_listed, with_step, behind_state, log_place, taken, is_done, line_or_fault, onward, ended, report_from, nothing_read, report_in}
+use Rattle.bs_report.specs.Text.{cand_text, end_word, hit_text, step_text, steps_text, stop_word, state_text, move_text, trace_text, budgets_text, head_text, tail_text, HasEndText, HasHitText, HasStepText, HasReportText}
 use Rattle.bs_report.specs.ReadingLaw.{ReportsReadBack}
 use Rattle.bs_report.proofs.FormLemmas.{Lacks, both_lack, number_lacks, bits_lack, count_again, bits_line_again, budgets_again, cand_again, end_again, hit_again, stop_again, words_of_count, words_of_bits, log_line_lacks}
 use Rattle.bs_report.proofs.ReadingLemmas.{line_from}

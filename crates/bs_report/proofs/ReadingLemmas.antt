@@ -1,5 +1,5 @@
 -- A report read line by line.
-use Rattle.std.proofs.Common.{◌≡◌, ℕ, suc, ◌+◌, Bool, true, false, cond, List, [], ◌∷◌, refl, ap, ◌∙◌, ◌⊎◌, inl, inr}
+use Rattle.std.proofs.Common.{◌≡◌, ℕ, ◌+◌, Bool, true, false, cond, List, [], ◌∷◌, refl, ap, ◌∙◌, ◌⊎◌, inl, inr}
 use Rattle.std.specs.Prelude.{◌==◌, Result, Ok, Err}
 use Rattle.bs_bits.specs.Lines.{onto_first}
 use Rattle.bs_report.specs.declared.place.Place.{Place}
@@ -7,7 +7,7 @@ use Rattle.bs_report.specs.declared.fault.ReportFault.{ReportFault}
 use Rattle.bs_report.specs.declared.fault.ReportFault.TheVariants.{NoMemory}
 use Rattle.bs_report.specs.declared.report.Report.{Report}
 use Rattle.bs_report.specs.Forms.{pieces_of}
-use Rattle.bs_report.specs.Reading.{Reached, followed, ended, onward, report_from, report_in}
+use Rattle.bs_report.specs.Reading.{Reached, followed, ended, onward, report_from}
 
 -- each text has a piece
 pub some_piece : (bs : List ℕ) → (p : List ℕ) × (ps : List (List ℕ)) × (pieces_of bs ≡ p ∷ ps)

@@ -8,7 +8,7 @@ use Rattle.std.specs.Cmp.Lexicographic.{slice_cmp, lists_total}
 use Rattle.std.specs.List.{AllByRecursion as Each}
 use Rattle.bs_net.specs.Circuit.{all_bits}
 use Rattle.bs_net.proofs.NextLemmas.{Member}
-use Rattle.bs_scan.proofs.MomentLemmas.{each_member}
+use Rattle.bs_scan.proofs.MomentLemmas.{each_member, each_append, each_weaker}
 
 abbrev pub IsLess : List Bool → List Bool → Type 0
 IsLess a b = slice_cmp bool_cmp a b ≡ Less
@@ -67,18 +67,10 @@ each_map : (P : List Bool → Type 0) (f : List Bool → List Bool) (xs : List (
 each_map P f [] h = tt
 each_map P f (x ∷ xs) h = (h.0, each_map P f xs h.1)
 
-each_weaker : {X : Type 0} (P Q : X → Type 0) → ((x : X) → P x → Q x) → (xs : List X) → Each P xs → Each Q xs
-each_weaker P Q f [] h = h
-each_weaker P Q f (x ∷ xs) h = (f x h.0, each_weaker P Q f xs h.1)
-
 asc_map : (b : Bool) (xs : List (List Bool)) → Asc xs → Asc (map (λ bs. b ∷ bs) xs)
 asc_map b [] h = tt
 asc_map b (x ∷ xs) h =
     (each_map (IsLess (b ∷ x)) (λ bs. b ∷ bs) xs (each_weaker (IsLess x) (λ (y : List Bool). IsLess (b ∷ x) (b ∷ y)) (λ y e. same_head b x y e) xs h.0), asc_map b xs h.1)
-
-each_append : (P : List Bool → Type 0) (xs ys : List (List Bool)) → Each P xs → Each P ys → Each P (xs ++ ys)
-each_append P [] ys hx hy = hy
-each_append P (x ∷ xs) ys hx hy = (hx.0, each_append P xs ys hx.1 hy)
 
 all_above : (x : List Bool) (ys : List (List Bool)) → Each (IsLess (false ∷ x)) (map (λ bs. true ∷ bs) ys)
 all_above x [] = tt

@@ -1,11 +1,11 @@
 -- What is read of a text has that text.
-use Rattle.std.proofs.Common.{◌≡◌, ℕ, suc, zero, ◌<◌, ◌≤◌, ◌+◌, ◌-◌, ◌^◌, Bool, true, false, cond, List, [], ◌∷◌, ◌++◌, length, get_or, refl, arith, ap, sym, subst, ◌∙◌, Option, Some, None, append_assoc}
-use Rattle.std.specs.Prelude.{◌==◌, codes, decimal, option_map, Result, Ok, Err, All}
+use Rattle.std.proofs.Common.{◌≡◌, ℕ, suc, ◌<◌, ◌≤◌, ◌+◌, ◌-◌, ◌^◌, Bool, true, false, cond, List, [], ◌∷◌, ◌++◌, length, get_or, refl, arith, ap, sym, subst, ◌∙◌, Option, Some, None, append_assoc}
+use Rattle.std.specs.Prelude.{◌==◌, codes, decimal, option_map, Result, Ok, Err}
 use Rattle.std.specs.List.{AllByRecursion as Each, flat_map, range_with_len}
 use Rattle.std.specs.Str.{bytes_eq}
-use Rattle.std.proofs.lemmas.Bool.{true≢false, false≢true, eqb-true, eqb-false}
+use Rattle.std.proofs.lemmas.Bool.{false≢true, eqb-true, eqb-false}
 use Rattle.std.proofs.lemmas.List.{append-nil, length-append}
-use Rattle.std.proofs.lemmas.List.Elements.{recursion_from_All, All-from_recursion}
+use Rattle.std.proofs.lemmas.List.Elements.{All-from_recursion}
 use Rattle.bs_bits.specs.Text.{bits_text}
 use Rattle.bs_bits.specs.Lines.{line, onto_first}
 use Rattle.bs_log.specs.declared.line.Line.{Line}
@@ -24,13 +24,14 @@ use Rattle.bs_report.specs.declared.report.Stop.{Stop}
 use Rattle.bs_report.specs.declared.report.Step.{Step}
 use Rattle.bs_report.specs.declared.report.Report.{Report}
 use Rattle.bs_report.specs.Forms.{pieces_of, count_in, bits_in, cand_in, end_in, hit_in, stop_in, budgets_in}
-use Rattle.bs_report.specs.Reading.{Reached, begins, turned, more_listed, with_step, behind_state, log_place, taken, is_done, followed, line_or_fault, onward, ended, report_from, nothing_read, report_in}
-use Rattle.bs_report.specs.Text.{cand_text, end_word, hit_text, step_text, steps_text, stop_word, state_text, move_text, trace_text, budgets_text, head_text, tail_text, report_text, HasEndText, HasHitText, HasStepText, HasReportText}
+use Rattle.bs_report.specs.Reading.{Reached, begins, turned, more_listed, with_step, behind_state, log_place, taken, is_done, line_or_fault, onward, ended, report_from, nothing_read, report_in}
+use Rattle.bs_report.specs.Text.{cand_text, end_word, step_text, steps_text, stop_word, state_text, move_text, trace_text, budgets_text, head_text, tail_text, HasEndText, HasStepText}
 use Rattle.bs_report.specs.ReadingLaw.{TextsAreReports}
 use Rattle.bs_report.proofs.TextLemmas.{steps_text_append}
-use Rattle.bs_report.proofs.ReadBackLemmas.{moves_text, range_moves, FirstState, first_state}
+use Rattle.bs_report.proofs.ReadBackLemmas.{moves_text, range_moves, first_state}
 use Rattle.bs_report.proofs.ReadingLemmas.{some_piece}
-use Rattle.bs_report.proofs.SpellingLemmas.{Bound, bound, unmap, branch, same_text, count_is, bits_line_is, AreBudgets, budgets_are, cand_is, end_is, hit_is, stop_is, log_line_is}
+use Rattle.bs_report.proofs.SpellingLemmas.{unmap, same_text, count_is, bits_line_is, AreBudgets, budgets_are, cand_is, end_is, hit_is, stop_is, log_line_is}
+use Rattle.bs_report.proofs.PieceLemmas.{nothing_left}
 
 -- ---- the text so far
 
@@ -522,10 +523,6 @@ done_is places.Log e = absurd (false≢true e)
 done_is (places.Lines left) e = absurd (false≢true e)
 done_is places.End e = absurd (false≢true e)
 done_is places.Done e = refl
-
-nothing_left : (rest : List ℕ) → (length rest == 0) ≡ true → rest ≡ []
-nothing_left [] e = refl
-nothing_left (b ∷ bs) e = let none : length (b ∷ bs) ≡ 0 = eqb-true _ _ e in absurd (omega arith)
 
 at_text_end : (place : Place) (r : Report) (text rest : List ℕ) (all : Report) → Fits place r text → ended place r rest ≡ Ok all → Fits places.Done all (text ++ rest)
 at_text_end place r text rest all h e = by (is_done place) refl (length rest == 0) refl e

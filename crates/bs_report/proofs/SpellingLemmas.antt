@@ -1,19 +1,18 @@
 -- A line that is read is spelled by what was read.
-use Rattle.std.proofs.Common.{◌≡◌, ◌≢◌, ℕ, suc, zero, ◌<◌, ◌≤◌, ◌+◌, ◌^◌, Bool, true, false, cond, ◌&&◌, List, [], ◌∷◌, ◌++◌, length, refl, arith, ap, sym, subst, ◌∙◌, Option, Some, None}
-use Rattle.std.specs.Prelude.{◌==◌, codes, decimal, nat_le, nat_lt, option_map, MatchOption}
+use Rattle.std.proofs.Common.{◌≡◌, ℕ, ◌<◌, ◌≤◌, ◌+◌, ◌^◌, Bool, true, false, cond, ◌&&◌, List, [], ◌∷◌, ◌++◌, length, refl, arith, ap, sym, subst, ◌∙◌, Option, Some, None}
+use Rattle.std.specs.Prelude.{◌==◌, codes, decimal, nat_le, option_map}
 use Rattle.std.specs.Str.{bytes_eq}
 use Rattle.std.specs.Cmp.Lexicographic.{pointwise_decides}
-use Rattle.std.proofs.lemmas.Bool.{and_parts, leb-true, ltb-true, eqb-true}
+use Rattle.std.proofs.lemmas.Bool.{and_parts, leb-true, eqb-true}
 use Rattle.std.proofs.lemmas.Bool.Decides.{Decides-eqb}
 use Rattle.bs_bits.specs.Text.{bits_text, bits_of}
-use Rattle.bs_bits.specs.Lines.{line, words_of, number_in, number_of, digits_in, is_canonical}
+use Rattle.bs_bits.specs.Lines.{line, words_of, number_in}
 use Rattle.bs_bits.proofs.TextLemmas.{text_again}
-use Rattle.bs_bits.proofs.NumberLemmas.{canonical, not_canonical}
 use Rattle.bs_log.specs.declared.line.Line.{Line}
-use Rattle.bs_log.specs.LineForms.{IsId, HasText, IsLineOf}
+use Rattle.bs_log.specs.LineForms.{HasText, IsLineOf}
 use Rattle.bs_log.specs.LineReading.{id_in, line_in}
 use Rattle.bs_log.specs.LineText.{line_text}
-use Rattle.bs_log.proofs.WordLemmas.{id_is, joined, joined_words}
+use Rattle.bs_log.proofs.WordLemmas.{id_is, joined, joined_words, number_text, number_below}
 use Rattle.bs_log.proofs.RoundTrip.{texts_are_lines}
 use Rattle.bs_report.specs.declared.report.Budgets.{Budgets}
 use Rattle.bs_report.specs.declared.report.Cand.{Cand}
@@ -73,24 +72,6 @@ end_is_here ws a b e = branch (length ws == 0) (Some a) None b e (λ t e. (none 
     some e = cc
 
 -- ---- numbers
-
-number_exact : (text : List ℕ) → MatchOption (number_in text) ((n : ℕ) → n < 2 ^ 64 → decimal n ≢ text) (λ n. decimal n ≡ text)
-number_exact text = by (is_canonical text) refl
-  where
-    by : (b : Bool) → is_canonical text ≡ b → MatchOption (cond b (digits_in text) None) ((n : ℕ) → n < 2 ^ 64 → decimal n ≢ text) (λ n. decimal n ≡ text)
-    by true e = canonical text (digits_in text) e refl
-    by false e = not_canonical text e
-
-number_text : (text : List ℕ) (n : ℕ) → number_in text ≡ Some n → decimal n ≡ text
-number_text text n e = subst (λ (o : Option ℕ). MatchOption o ((m : ℕ) → m < 2 ^ 64 → decimal m ≢ text) (λ m. decimal m ≡ text)) e (number_exact text)
-
-number_below : (text : List ℕ) (n : ℕ) → number_in text ≡ Some n → n < 2 ^ 64
-number_below text n e = by (is_canonical text) (nat_lt (number_of text) (2 ^ 64)) refl e
-  where
-    by : (b c : Bool) → nat_lt (number_of text) (2 ^ 64) ≡ c → cond {A = Option ℕ} b (cond {A = Option ℕ} c (Some (number_of text)) None) None ≡ Some n → n < 2 ^ 64
-    by true true small e = let same : number_of text ≡ n = cc in omega (arith, same, ltb-true (number_of text) (2 ^ 64) small)
-    by true false small e = cc
-    by false c small e = cc
 
 pub record IsNumber (low high : ℕ) (w : List ℕ) (n : ℕ) : Type 0 where
   pub text : w ≡ decimal n

@@ -44,8 +44,8 @@ use Rattle.bs_report.specs.declared.report.Report.{Report}
 use Rattle.bs_report.specs.Crash.{Crash, IsCrash}
 use Rattle.bs_report.specs.Step.{stored_of, listed, hit_of, asked_of, Ascend, IsCandidate, IsRightStep, IsRightEnd}
 use Rattle.bs_report.specs.Good.{IsGood}
-use Rattle.bs_scan.specs.Present.{Present}
-use Rattle.bs_report.specs.Chain.{present_of, present_of_hit, present_of_dump, present_after, last_present, Follow, IsChain}
+use Rattle.bs_scan.specs.Present.{Present, present_in}
+use Rattle.bs_report.specs.Chain.{present_of, present_of_hit, present_after, last_present, Follow, IsChain}
 use Rattle.bs_report.specs.Stop.{StopsFor, IsFinished}
 use Rattle.bs_report.specs.Trace.{IsTrace, trace_states, trace_inputs}
 use Rattle.bs_log.specs.Shown.{Basis}
@@ -180,7 +180,7 @@ pub chain_is : (crash : Crash) (basis : Basis) (r : Report) → AllIsRight crash
 chain_is crash basis r h =
     record {
       few = leb-true (length r.steps) r.budgets.steps h.few;
-      follow = follow_from crash (Some (present_of_dump crash)) r.steps (λ k step e. due_is (due_at crash r.steps k) step (h.steps k step e).state (h.steps k step e).stored);
+      follow = follow_from crash (Some (present_in crash.dump)) r.steps (λ k step e. due_is (due_at crash r.steps k) step (h.steps k step e).state (h.steps k step e).stored);
     }
 
 pub trace_is : (crash : Crash) (basis : Basis) (r : Report) → AllIsRight crash basis r → IsTrace crash r
@@ -230,7 +230,7 @@ last_step crash now s (t ∷ ts) = last_step crash now t ts
 
 -- the cause at a stand
 stands : (crash : Crash) (budgets : Budgets) (steps : List Step) (stop : Stop) (now : Present) →
-    last_present crash (Some (present_of_dump crash)) steps ≡ Some now → cause_at budgets (length steps) now.stored ≡ Some stop → StopsFor crash budgets steps stop
+    last_present crash (Some (present_in crash.dump)) steps ≡ Some now → cause_at budgets (length steps) now.stored ≡ Some stop → StopsFor crash budgets steps stop
 stands crash budgets steps stop now e h = by (length now.stored == 0) refl (length steps == budgets.steps) refl h
   where
     by : (a : Bool) → (length now.stored == 0) ≡ a → (b : Bool) → (length steps == budgets.steps) ≡ b → cond a (Some stops.Reset) (cond b (Some stops.Length) None) ≡ Some stop → StopsFor crash budgets steps stop
@@ -273,15 +273,15 @@ unhit crash budgets steps stop last is none Conflicts e h =
     (subst (λ (o : Option Step). IsSomeAnd o (λ (step : Step). (step.hit ≡ None) × (step.end ≡ Conflicts))) (sym is) (none, e))
 
 pub stop_is : (crash : Crash) (budgets : Budgets) (steps : List Step) (stop : Stop) → cause_of crash budgets steps ≡ Some stop → StopsFor crash budgets steps stop
-stop_is crash budgets steps stop h = by (last_present crash (Some (present_of_dump crash)) steps) refl steps refl h
+stop_is crash budgets steps stop h = by (last_present crash (Some (present_in crash.dump)) steps) refl steps refl h
   where
-    by : (o : Option Present) → last_present crash (Some (present_of_dump crash)) steps ≡ o → (all : List Step) → steps ≡ all → cause_after budgets steps o ≡ Some stop → StopsFor crash budgets steps stop
+    by : (o : Option Present) → last_present crash (Some (present_in crash.dump)) steps ≡ o → (all : List Step) → steps ≡ all → cause_after budgets steps o ≡ Some stop → StopsFor crash budgets steps stop
     by (Some now) e all same h = stands crash budgets steps stop now e h
-    by None e [] same h = let none : last_present crash (Some (present_of_dump crash)) [] ≡ None = subst (λ (l : List Step). last_present crash (Some (present_of_dump crash)) l ≡ None) same e in cc
+    by None e [] same h = let none : last_present crash (Some (present_in crash.dump)) [] ≡ None = subst (λ (l : List Step). last_present crash (Some (present_in crash.dump)) l ≡ None) same e in cc
     by None e (s ∷ ss) same h =
-        let last = last_step crash (Some (present_of_dump crash)) s ss in
+        let last = last_step crash (Some (present_in crash.dump)) s ss in
         let is : last_or None steps ≡ Some last.last = ap (last_or None) same ∙ last.is in
-        let none : None ≡ present_after crash last.last = sym (subst (λ (l : List Step). last_present crash (Some (present_of_dump crash)) l ≡ None) same e) ∙ last.present in
+        let none : None ≡ present_after crash last.last = sym (subst (λ (l : List Step). last_present crash (Some (present_in crash.dump)) l ≡ None) same e) ∙ last.present in
         let cause : Some (cause_of_end last.last last.last.end) ≡ Some stop = sym (ap (option_map (λ (step : Step). cause_of_end step step.end)) is) ∙ h in
         let stop_same : cause_of_end last.last last.last.end ≡ stop = cc in
         unhit crash budgets steps stop last.last is (no_hit crash last.last none) last.last.end refl stop_same
@@ -402,7 +402,7 @@ all_pass {X} p (x ∷ xs) e = by (p x) refl e (all_pass p xs)
     by true t e rest = ap (λ (l : List X). x ∷ l) (rest e)
     by false t e rest = absurd (false≢true e)
 
-spent_is : (b : ℕ) (assumptions : Clause) (o : Option (List Line)) → is_spent b assumptions o ≡ true → option_map (count_by is_lemma_line) o ≡ Some b
+pub spent_is : (b : ℕ) (assumptions : Clause) (o : Option (List Line)) → is_spent b assumptions o ≡ true → option_map (count_by is_lemma_line) o ≡ Some b
 spent_is b assumptions None e = absurd (false≢true e)
 spent_is b assumptions (Some lines) e =
     let h = both _ (not (list_any (denies assumptions) (filter_map lemma_of_line lines))) e in

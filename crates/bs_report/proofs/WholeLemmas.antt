@@ -38,7 +38,7 @@ use Rattle.bs_log.specs.Shown.{Basis, Shown}
 use Rattle.bs_report.specs.ValidLaw.{IsEncoded}
 use Rattle.bs_report.proofs.ValidLemmas.{AllIsRight, cand_is, state_at_place, holds, both}
 
-literal_decides : (a b : Literal) → Decides (same_literal a b) (a ≡ b)
+pub literal_decides : (a b : Literal) → Decides (same_literal a b) (a ≡ b)
 literal_decides a b =
     let d = Decides-and (a.variable == b.variable) (beq a.positive b.positive) (Decides-eqb a.variable b.variable) (booleans_Decides a.positive b.positive) in
     (λ e. let h = d.0 e in λ i. record { variable = h.0 i; positive = h.1 i }, λ p. d.1 (ap (λ (l : Literal). l.variable) p, ap (λ (l : Literal). l.positive) p))

@@ -9,7 +9,8 @@ use Rattle.bs_report.specs.declared.report.Stop.{Stop}
 use Rattle.bs_report.specs.declared.report.Stop.TheVariants.{Reset, Length, Nohit, Empty, Candidates, Conflicts}
 use Rattle.bs_report.specs.declared.report.Budgets.{Budgets}
 use Rattle.bs_report.specs.Crash.{Crash}
-use Rattle.bs_report.specs.Chain.{present_of_dump, last_present}
+use Rattle.bs_scan.specs.Present.{present_in}
+use Rattle.bs_report.specs.Chain.{last_present}
 
 abbrev pub IsFinished : ListEnd → Type 0
 IsFinished (Finished id) = Unit {0}
@@ -21,7 +22,7 @@ LastIs steps P = IsSomeAnd (last_or None steps) P
 
 -- there is no step or the last one has a hit, and the register holds so there
 abbrev pub StandsWith : Crash → List Step → (List (List Bool) → Type 0) → Type 0
-StandsWith crash steps P = IsSomeAnd (last_present crash (Some (present_of_dump crash)) steps) (λ now. P now.stored)
+StandsWith crash steps P = IsSomeAnd (last_present crash (Some (present_in crash.dump)) steps) (λ now. P now.stored)
 
 abbrev pub StopsFor : Crash → Budgets → List Step → Stop → Type 0
 StopsFor crash budgets steps Reset = StandsWith crash steps (λ stored. stored ≡ [])

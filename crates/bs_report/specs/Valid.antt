@@ -9,7 +9,7 @@ use Rattle.bs_net.specs.Circuit.{next}
 use Rattle.bs_scan.specs.Signature.{agrees}
 use Rattle.bs_clause.specs.Literal.{Literal, Clause, negation, same_literal}
 use Rattle.bs_log.specs.declared.line.Line.{Line}
-use Rattle.bs_log.specs.History.{Problem, guard_of}
+use Rattle.bs_log.specs.History.{guard_of}
 use Rattle.bs_log.specs.Refusal.{assumptions_of, denies, IsAccepted}
 use Rattle.bs_log.specs.FirstRefused.{first_refused}
 use Rattle.bs_log.specs.Shown.{Basis}
@@ -27,8 +27,8 @@ use Rattle.bs_report.specs.declared.part.Part.{Part}
 use Rattle.bs_report.specs.declared.part.Part.TheVariants as parts
 use Rattle.bs_report.specs.Crash.{Crash}
 use Rattle.bs_report.specs.Step.{stored_of, listed, hit_of}
-use Rattle.bs_scan.specs.Present.{Present}
-use Rattle.bs_report.specs.Chain.{present_of_dump, present_after, last_present}
+use Rattle.bs_scan.specs.Present.{Present, present_in}
+use Rattle.bs_report.specs.Chain.{present_after, last_present}
 use Rattle.bs_report.specs.Trace.{trace_states, trace_inputs}
 
 -- a part, where its test fails
@@ -42,7 +42,7 @@ all_bits_eq = pointwise bits_eq
 
 -- the present that a step must have
 abbrev pub due_at : Crash → List Step → ℕ → Option Present
-due_at crash steps i = slice_index_or (Some (present_of_dump crash) ∷ map (present_after crash) steps) i None
+due_at crash steps i = slice_index_or (Some (present_in crash.dump) ∷ map (present_after crash) steps) i None
 
 abbrev pub has_state : Option Present → List Bool → Bool
 has_state None s = false
@@ -104,7 +104,7 @@ cause_after budgets steps (Some now) = cause_at budgets (length steps) now.store
 cause_after budgets steps None = option_map (λ step. cause_of_end step step.end) (last_or None steps)
 
 abbrev pub cause_of : Crash → Budgets → List Step → Option Stop
-cause_of crash budgets steps = cause_after budgets steps (last_present crash (Some (present_of_dump crash)) steps)
+cause_of crash budgets steps = cause_after budgets steps (last_present crash (Some (present_in crash.dump)) steps)
 
 abbrev pub stop_number : Stop → ℕ
 stop_number stops.Reset = 0

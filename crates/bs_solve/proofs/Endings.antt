@@ -12,6 +12,7 @@ use Rattle.std.proofs.lemmas.Map.Keys.{IsDistinct-from_apart}
 use Rattle.std.proofs.lemmas.Map.Made.{length-le_from_is_member}
 use Rattle.bs_clause.specs.Literal.{Literal, Clause, negation, has_literal, literal_value, Satisfies}
 use Rattle.bs_clause.specs.UnitRun.{IsUnitRun}
+use Rattle.bs_clause.specs.Range.{IsWithin, HasVariables}
 use Rattle.bs_log.specs.declared.line.Line.{Line}
 use Rattle.bs_log.specs.declared.line.Line.TheVariants.{Solve, Lemma, Block, Finish, Retire, Delete}
 use Rattle.bs_log.specs.History.{phase_of}
@@ -24,7 +25,7 @@ use Rattle.bs_solve.specs.Trail.{IsTrueOn, IsFalseOn, IsOpenOn, IsConflict, IsQu
 use Rattle.bs_solve.specs.Bound.{number}
 use Rattle.bs_solve.specs.Places.{TrailState, literals_of, IsSound, IsUnassigned}
 use Rattle.bs_solve.specs.Grown.{Grows}
-use Rattle.bs_solve.specs.Scan.{IsWithin, HasVariables, Propagates}
+use Rattle.bs_solve.specs.Scan.{Propagates}
 use Rattle.bs_solve.specs.Learning.{digits}
 use Rattle.bs_solve.specs.Book.{Book, standing}
 use Rattle.bs_solve.specs.Search.{assumed, assumption_places, HasLemma, HasLearnt, HasRefuted}

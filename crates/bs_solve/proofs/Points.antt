@@ -7,11 +7,11 @@ use Rattle.std.proofs.lemmas.List.Elements.{All-contains, Contains-get_or}
 use Rattle.std.proofs.lemmas.Option.{get_or_from_slice_get}
 use Rattle.bs_clause.specs.Literal.{Literal, Clause, negation}
 use Rattle.bs_clause.specs.Resolvent.{resolvent}
+use Rattle.bs_clause.specs.Range.{IsWithin, HasVariables}
 use Rattle.bs_log.specs.Refusal.{has_distinct_variables}
 use Rattle.bs_solve.specs.declared.place.Place.{Place}
 use Rattle.bs_solve.specs.Trail.{IsTrueOn, IsFalseOn, IsConflict, IsQuiet}
 use Rattle.bs_solve.specs.Places.{literals_of, IsSound}
-use Rattle.bs_solve.specs.Scan.{IsWithin, HasVariables}
 use Rattle.bs_solve.specs.Walk.{clauses_at, IsWalk}
 use Rattle.bs_solve.specs.Point.{is_alone_at, IsUnforced, IsReasonAt}
 use Rattle.bs_solve.proofs.Lists.{same_some, get_take, take_get, get_from_Contains, Contains_from_get, get_map_cases, get_within, get_map}

@@ -4,6 +4,7 @@ use Rattle.std.specs.Prelude.{All, Any, Contains, slice_get}
 use Rattle.std.proofs.lemmas.List.{take-take, length-take-le, length_push, length-reverse, get_or-reverse, take-append-le}
 use Rattle.std.proofs.lemmas.List.Elements.{All-contains, Contains-get_or}
 use Rattle.bs_clause.specs.Literal.{Literal, Clause, negation}
+use Rattle.bs_clause.specs.Range.{IsWithin, HasVariables}
 use Rattle.bs_log.specs.declared.origin.Origin.TheVariants.{Learnt}
 use Rattle.bs_log.specs.History.{Entry, live}
 use Rattle.bs_log.specs.Refusal.{entry_of, denies}
@@ -11,7 +12,6 @@ use Rattle.bs_log.specs.Lean.{IsContained, IsNew}
 use Rattle.bs_solve.specs.declared.place.Place.{Place}
 use Rattle.bs_solve.specs.Trail.{IsTrueOn, IsOpenOn, IsQuiet}
 use Rattle.bs_solve.specs.Places.{literals_of, IsSound, IsUnassigned}
-use Rattle.bs_solve.specs.Scan.{IsWithin, HasVariables}
 use Rattle.bs_solve.specs.Walk.{clauses_at, IsLearnt}
 use Rattle.bs_solve.specs.Point.{IsDecisionAt, IsPoint, IsCut, IsUnforced, AreForced}
 use Rattle.bs_solve.specs.Learning.{after_learning}

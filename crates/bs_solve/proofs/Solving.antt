@@ -8,6 +8,7 @@ use Rattle.std.specs.List.{list_all}
 use Rattle.std.proofs.lemmas.List.Elements.{All-contains, All-cons, All-nil, All-push, All-weaker}
 use Rattle.bs_clause.specs.Literal.{Literal, Clause, negation, same_literal}
 use Rattle.bs_clause.proofs.Literals.{same_literal-refl}
+use Rattle.bs_clause.specs.Range.{IsWithin, HasVariables}
 use Rattle.bs_log.proofs.Laws.{step_of-positive}
 use Rattle.bs_log.specs.declared.line.Line.{Line}
 use Rattle.bs_log.specs.declared.line.Line.TheVariants.{Solve, Lemma, Block, Finish, Retire, Delete}
@@ -21,7 +22,6 @@ use Rattle.bs_solve.specs.declared.search.Answer.TheVariants.{Found, Refuted, Sp
 use Rattle.bs_solve.specs.Book.{Book, standing, with_line, with_member}
 use Rattle.bs_solve.specs.Search.{assumed, HasRefuted}
 use Rattle.bs_solve.specs.Ending.{SomeLemmas, Ends}
-use Rattle.bs_solve.specs.Scan.{IsWithin, HasVariables}
 use Rattle.bs_solve.specs.Stages.{is_begun, is_solved, stage_of, IsIdle, IsBegun, IsInside, IsSearched, IsBlocked, IsEnded, Fits, EndsStep, begun_book, MayBegin}
 use Rattle.bs_solve.specs.Solver.{SolverState, IsReady, MaySolve, HasSolved, HasBlocked, HasEnded, Follows, finished}
 use Rattle.bs_solve.proofs.Lists.{get_last}

@@ -1,5 +1,5 @@
 -- What a scan of clauses finds.
-use Rattle.std.specs.Prelude.{◌≡◌, ℕ, ◌<◌, ◌≤◌, Bool, true, false, List, [], length, All, Some, slice_get, slice_index_or}
+use Rattle.std.specs.Prelude.{◌≡◌, ℕ, ◌<◌, ◌≤◌, Bool, true, false, List, [], length, Some, slice_get, slice_index_or}
 use Rattle.bs_clause.specs.Literal.{Literal, Clause}
 use Rattle.bs_solve.specs.declared.place.Place.{Place}
 use Rattle.bs_solve.specs.declared.propagation.Look.{Look}
@@ -11,14 +11,6 @@ use Rattle.bs_solve.specs.declared.propagation.Outcome.TheVariants.{Quiet, Confl
 use Rattle.bs_solve.specs.Trail.{IsConflict, IsQuiet, Forces}
 use Rattle.bs_solve.specs.Places.{literals_of}
 use Rattle.bs_solve.specs.Grown.{IsSettled, Grows}
-
--- the literal's variable is one of 1 to vars
-abbrev pub IsWithin : ℕ → Literal → Type 0
-IsWithin vars l = (1 ≤ l.variable) × (l.variable ≤ vars)
-
--- the clause's variables are 1 to vars
-abbrev pub HasVariables : ℕ → Clause → Type 0
-HasVariables vars c = All (IsWithin vars) c
 
 -- the clause is neither false nor unit, or forces the literal, or is false
 abbrev pub Says : List Literal → Clause → Look → Type 0

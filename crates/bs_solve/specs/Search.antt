@@ -1,13 +1,13 @@
 -- What a search does to its book and its trail.
 use Rattle.std.specs.Prelude.{◌≡◌, ℕ, ◌+◌, ◌-◌, ◌≤◌, true, false, List, [], ◌∷◌, ◌++◌, take, drop, length, map, Some, None, All}
 use Rattle.bs_clause.specs.Literal.{Clause}
+use Rattle.bs_clause.specs.Range.{HasVariables}
 use Rattle.bs_log.specs.declared.origin.Origin.TheVariants.{Learnt}
 use Rattle.bs_log.specs.History.{step_of, live}
 use Rattle.bs_log.specs.Refusal.{entry_of, assumptions_of, has_distinct_variables, denies}
 use Rattle.bs_solve.specs.declared.place.Place.{Place}
 use Rattle.bs_solve.specs.Bound.{number}
 use Rattle.bs_solve.specs.Places.{TrailState, IsSound}
-use Rattle.bs_solve.specs.Scan.{HasVariables}
 use Rattle.bs_solve.specs.Learning.{digits}
 use Rattle.bs_solve.specs.Book.{Book, standing, with_lemma}
 

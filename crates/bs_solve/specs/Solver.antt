@@ -1,6 +1,7 @@
 -- A solver between two calls.
 use Rattle.std.specs.Prelude.{◌≡◌, ◌⊎◌, ℕ, ◌+◌, ◌<◌, ◌^◌, Bool, true, false, List, [], ◌∷◌, ◌++◌, length, Option, Some, None, All}
 use Rattle.bs_clause.specs.Literal.{Clause, negation}
+use Rattle.bs_clause.specs.Range.{HasVariables}
 use Rattle.bs_log.specs.declared.line.Line.{Line}
 use Rattle.bs_log.specs.declared.line.Line.TheVariants.{Block, Finish, Retire}
 use Rattle.bs_log.specs.History.{step_of, guard_of}
@@ -8,7 +9,6 @@ use Rattle.bs_log.specs.Refusal.{has_distinct_variables}
 use Rattle.bs_solve.specs.declared.stage.Stage.{Stage}
 use Rattle.bs_solve.specs.declared.stage.Stage.TheVariants.{Idle, Begun, Blocked}
 use Rattle.bs_solve.specs.declared.search.Answer.{Answer}
-use Rattle.bs_solve.specs.Scan.{HasVariables}
 use Rattle.bs_solve.specs.Book.{Book, standing, with_line}
 use Rattle.bs_solve.specs.Search.{assumed}
 use Rattle.bs_solve.specs.Ending.{Ends}

@@ -7,7 +7,8 @@ use Rattle.bs_solve.specs.declared.propagation.Outcome.{Outcome}
 use Rattle.bs_solve.specs.Trail.{IsTrueOn, IsQuiet}
 use Rattle.bs_solve.specs.Bound.{number}
 use Rattle.bs_solve.specs.Places.{literals_of, IsSound}
-use Rattle.bs_solve.specs.Scan.{HasVariables, Propagates}
+use Rattle.bs_clause.specs.Range.{HasVariables}
+use Rattle.bs_solve.specs.Scan.{Propagates}
 use Rattle.bs_solve.specs.Learning.{digits}
 use Rattle.bs_solve.specs.Book.{Book, standing}
 use Rattle.bs_solve.specs.Search.{assumed}

@@ -3,10 +3,11 @@ ghost use Rattle.std.specs.Prelude.{◌≡◌, ◌<◌, ◌≤◌, ◌∷◌, �
 ghost use Rattle.std.specs.List.{list_all};
 ghost use Rattle.bs_clause.specs.Literal.{negation};
 ghost use Rattle.bs_clause.specs.Resolvent.{resolvent};
+ghost use Rattle.bs_clause.specs.Range.{HasVariables};
 ghost use Rattle.bs_log.specs.Refusal.{has_distinct_variables};
 ghost use Rattle.bs_solve.specs.Trail.{IsQuiet};
 ghost use Rattle.bs_solve.specs.Places.{literals_of, IsSound, SomeSound};
-ghost use Rattle.bs_solve.specs.Scan.{HasVariables, IsConflictAt};
+ghost use Rattle.bs_solve.specs.Scan.{IsConflictAt};
 ghost use Rattle.bs_solve.specs.Walk.{IsLearnt, clauses_at};
 ghost use Rattle.bs_solve.specs.Point.{is_alone_at, IsLastDecision, IsPoint, IsCut, IsUnforced, IsReasonAt, IsDecisionAt, AreForced};
 

@@ -3,7 +3,8 @@ ghost use Rattle.std.specs.Prelude.{◌≡◌, ◌<◌, ◌≤◌, length, All, 
 ghost use Rattle.bs_log.specs.Refusal.{has_distinct_variables};
 ghost use Rattle.bs_solve.specs.Places.{literals_of};
 ghost use Rattle.bs_solve.specs.Grown.{Grows};
-ghost use Rattle.bs_solve.specs.Scan.{Says, HasVariables, Visits, Sweeps, Propagates};
+ghost use Rattle.bs_clause.specs.Range.{HasVariables};
+ghost use Rattle.bs_solve.specs.Scan.{Says, Visits, Sweeps, Propagates};
 
 use crate::trail::Trail;
 use bs_clause::{Lit, Lits};

@@ -2,7 +2,7 @@
 ghost use Rattle.std.specs.Prelude.{◌≡◌, ◌≤◌, ◌<◌, ◌^◌, [], length, true, All, IfOk};
 ghost use Rattle.bs_log.specs.History.{phase_of};
 ghost use Rattle.bs_log.specs.Refusal.{in_solve, has_distinct_variables};
-ghost use Rattle.bs_solve.specs.Scan.{HasVariables};
+ghost use Rattle.bs_clause.specs.Range.{HasVariables};
 ghost use Rattle.bs_solve.specs.Book.{standing};
 ghost use Rattle.bs_solve.specs.Search.{assumed, assumption_places};
 ghost use Rattle.bs_solve.specs.Ending.{Ends, SomeLemmas};

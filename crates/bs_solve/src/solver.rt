@@ -4,7 +4,7 @@ ghost use Rattle.bs_log.specs.History.{step_of, guard_of};
 ghost use Rattle.bs_log.specs.Refusal.{has_distinct_variables, history_of, NoneRefused, IsAccepted};
 ghost use Rattle.bs_log.specs.Lean.{LemmasAreLean};
 ghost use Rattle.bs_solve.specs.declared.stage.Stage.TheVariants.{Idle, Begun, Solved, Ended};
-ghost use Rattle.bs_solve.specs.Scan.{HasVariables};
+ghost use Rattle.bs_clause.specs.Range.{HasVariables};
 ghost use Rattle.bs_solve.specs.Book.{standing, lemma_ids};
 ghost use Rattle.bs_solve.specs.Stages.{MayBegin, EndsStep, begun_book, is_solved};
 ghost use Rattle.bs_solve.specs.Solver.{MaySolve, HasSolved, HasBlocked, HasEnded, Follows, finished};

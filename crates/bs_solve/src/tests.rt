@@ -3,7 +3,7 @@ ghost use Rattle.std.specs.Prelude.{◌≡◌, ◌==◌, true, All};
 ghost use Rattle.std.specs.Bool.{OnTrue};
 ghost use Rattle.std.specs.List.{list_any};
 ghost use Rattle.bs_log.specs.Refusal.{has_distinct_variables};
-ghost use Rattle.bs_solve.specs.Scan.{HasVariables};
+ghost use Rattle.bs_clause.specs.Range.{HasVariables};
 
 use crate::{Answer, Solver};
 use bs_clause::{Clauses, Lit, Lits, Var};

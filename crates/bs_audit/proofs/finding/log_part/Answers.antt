@@ -2,9 +2,9 @@ use Rattle.std.proofs.Common.{◌∙◌, sym, map, length, arith, ap}
 use Rattle.std.proofs.lemmas.List.{length-map}
 use Rattle.bs_net.specs.Netlist.{circuit}
 use Rattle.bs_encode.specs.Assuming.{basis_of}
+use Rattle.bs_encode.proofs.AssumingLemmas.{length_steps_from}
 use Rattle.bs_report.specs.Chain.{present_of}
 use Rattle.bs_audit.specs.Logged.{basis_with}
-use Rattle.bs_audit.proofs.LogLemmas.{length_steps}
 use Rattle.bs_audit.proofs.WholeLemmas.{same_basis, tidy_sound, log_of}
 use Rattle.bs_audit.proofs.finding.log_part.Goals as goal
 
@@ -25,7 +25,7 @@ logged_part-requires c =
       sound = tidy_sound (circuit c.args.net.now) c.args.choice.now.items c.in_ok-encoding.encoding c.args.report.now.steps c.in_ok-encoding.ensures.tidy c.requires.sound;
       assumptions =
           ap length (rw c.slice.ensures at c.in_ok-assumptions.ensures)
-          ∙ (length_steps c.in_ok-encoding.encoding 1 (map present_of c.args.report.now.steps) ∙ length-map c.args.report.now.steps present_of);
+          ∙ (length_steps_from c.in_ok-encoding.encoding 1 (map present_of c.args.report.now.steps) ∙ length-map c.args.report.now.steps present_of);
     }
 
 pub returns : goal.returns

@@ -4,10 +4,10 @@ use Rattle.std.proofs.lemmas.Bool.{both_ways, cases_lt, false≢true}
 use Rattle.std.proofs.lemmas.List.Elements.{All-contains}
 use Rattle.std.proofs.lemmas.Option.{get_or_from_slice_get}
 use Rattle.bs_clause.specs.Literal.{Literal, Clause, negation}
+use Rattle.bs_clause.specs.Range.{HasVariables}
 use Rattle.bs_log.specs.Refusal.{has_distinct_variables}
 use Rattle.bs_solve.specs.Trail.{IsFalseOn}
 use Rattle.bs_solve.specs.Places.{literals_of}
-use Rattle.bs_solve.specs.Scan.{HasVariables}
 use Rattle.bs_solve.specs.Point.{is_alone_at}
 use Rattle.bs_solve.proofs.Lists.{get_within, Contains_from_get}
 use Rattle.bs_solve.proofs.Walks.{walk_end}

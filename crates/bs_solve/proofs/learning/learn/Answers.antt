@@ -1,8 +1,8 @@
 use Rattle.std.proofs.Common.{◌≡◌, ◌++◌, ◌∷◌, [], length, take, reverse, ap, ◌∙◌, sym, subst, Some}
 use Rattle.bs_clause.specs.Literal.{Clause}
+use Rattle.bs_clause.specs.Range.{HasVariables}
 use Rattle.bs_solve.specs.Trail.{IsQuiet}
 use Rattle.bs_solve.specs.Places.{TrailState, literals_of, IsUnassigned}
-use Rattle.bs_solve.specs.Scan.{HasVariables}
 use Rattle.bs_solve.specs.Walk.{IsLearnt}
 use Rattle.bs_solve.specs.Point.{IsCut}
 use Rattle.bs_solve.specs.Book.{standing, with_lemma, ids_of}

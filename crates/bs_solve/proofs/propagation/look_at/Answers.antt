@@ -3,9 +3,9 @@ use Rattle.std.specs.Option.{option_to_list}
 use Rattle.std.proofs.lemmas.List.{take_all}
 use Rattle.std.proofs.lemmas.List.Elements.{All-contains}
 use Rattle.bs_clause.specs.Literal.{has_literal}
+use Rattle.bs_clause.specs.Range.{IsWithin}
 use Rattle.bs_log.specs.Propagation.{open_literals}
 use Rattle.bs_solve.specs.Places.{literals_of}
-use Rattle.bs_solve.specs.Scan.{IsWithin}
 use Rattle.bs_solve.proofs.Looks.{settled_at, settled_from_true, forces_from_one, conflict_from_none, open_stands}
 use Rattle.bs_solve.proofs.propagation.look_at.Goals as goal
 

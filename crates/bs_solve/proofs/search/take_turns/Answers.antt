@@ -3,7 +3,8 @@ use Rattle.std.specs.Prelude.{All}
 use Rattle.bs_log.specs.Refusal.{has_distinct_variables}
 use Rattle.bs_solve.specs.Places.{TrailState}
 use Rattle.bs_solve.specs.Grown.{Grows}
-use Rattle.bs_solve.specs.Scan.{HasVariables, Propagates}
+use Rattle.bs_clause.specs.Range.{HasVariables}
+use Rattle.bs_solve.specs.Scan.{Propagates}
 use Rattle.bs_solve.specs.Book.{standing}
 use Rattle.bs_solve.specs.Search.{HasLearnt}
 use Rattle.bs_solve.specs.Ending.{SomeLemmas}

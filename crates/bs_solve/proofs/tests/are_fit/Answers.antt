@@ -3,8 +3,8 @@ use Rattle.std.specs.Prelude.{All}
 use Rattle.std.proofs.lemmas.List.{take_all}
 use Rattle.std.proofs.lemmas.List.Elements.{All-more}
 use Rattle.bs_clause.specs.Literal.{Clause}
+use Rattle.bs_clause.specs.Range.{HasVariables}
 use Rattle.bs_log.specs.Refusal.{has_distinct_variables}
-use Rattle.bs_solve.specs.Scan.{HasVariables}
 use Rattle.bs_solve.proofs.tests.are_fit.Goals as goal
 
 pub loop-c-preserved : goal.loop-c-preserved

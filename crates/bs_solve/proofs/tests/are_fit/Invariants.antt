@@ -1,8 +1,8 @@
 use Rattle.std.proofs.Common.{◌≡◌, take, true}
 use Rattle.std.specs.Prelude.{All}
 use Rattle.bs_clause.specs.Literal.{Clause}
+use Rattle.bs_clause.specs.Range.{HasVariables}
 use Rattle.bs_log.specs.Refusal.{has_distinct_variables}
-use Rattle.bs_solve.specs.Scan.{HasVariables}
 use Rattle.bs_solve.proofs.tests.are_fit.Given as goal
 
 abbrev pub invariant-loop-c : goal.invariant-loop-c

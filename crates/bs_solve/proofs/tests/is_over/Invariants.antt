@@ -1,5 +1,5 @@
 use Rattle.std.proofs.Common.{take}
-use Rattle.bs_solve.specs.Scan.{HasVariables}
+use Rattle.bs_clause.specs.Range.{HasVariables}
 use Rattle.bs_solve.proofs.tests.is_over.Given as goal
 
 abbrev pub invariant-loop-l : goal.invariant-loop-l

@@ -1,6 +1,6 @@
 use Rattle.std.proofs.Common.{◌∙◌, sym}
 use Rattle.std.specs.Prelude.{option_map}
-use Rattle.bs_audit.specs.Following.{present_in}
+use Rattle.bs_scan.specs.Present.{present_in}
 use Rattle.bs_audit.proofs.Follows.{right_widths, tried_cands, tried_lists}
 use Rattle.bs_audit.proofs.replay.Replay.step.Goals as goal
 

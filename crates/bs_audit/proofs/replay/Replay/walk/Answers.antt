@@ -1,6 +1,6 @@
 use Rattle.std.proofs.Common.{◌∙◌}
 use Rattle.std.specs.Prelude.{option_map}
-use Rattle.bs_audit.specs.Following.{present_in}
+use Rattle.bs_scan.specs.Present.{present_in}
 use Rattle.bs_audit.proofs.Follows.{walk_fails, walk_goes_on}
 use Rattle.bs_audit.proofs.replay.Replay.walk.Goals as goal
 

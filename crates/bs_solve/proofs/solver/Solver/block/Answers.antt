@@ -1,7 +1,7 @@
 use Rattle.std.proofs.Common.{◌≡◌, ◌∷◌, ap, ◌∙◌, sym, subst, arith, false}
 use Rattle.bs_log.specs.Refusal.{has_distinct_variables, is_block_of}
 use Rattle.bs_log.specs.History.{step_of}
-use Rattle.bs_solve.specs.Scan.{HasVariables}
+use Rattle.bs_clause.specs.Range.{HasVariables}
 use Rattle.bs_solve.specs.Solver.{SolverState}
 use Rattle.bs_solve.proofs.Solving.{solved_inside, guard_is_new, block_distinct, block_fits, block_range, ready_blocked, has_blocked}
 use Rattle.bs_solve.proofs.solver.Solver.block.Goals as goal
