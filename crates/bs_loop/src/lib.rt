@@ -3,7 +3,6 @@
 
 mod steps;
 mod stop;
-mod texts;
 mod trace;
 mod way;
 

@@ -17,7 +17,6 @@ ghost use Rattle.bs_loop.specs.Made.{HasMade};
 ghost use Rattle.bs_loop.specs.Bound.{HasBound};
 
 use crate::steps::turn;
-use crate::texts::have_texts;
 use crate::trace::{inputs_back, states_back};
 use bs_bits::{List, NoMemory};
 use bs_chip::Chip;
@@ -80,22 +79,17 @@ fn sound(chip: &Chip<'_>)
     let _count = chip.runs().count();
 }
 
-/// The log of the search, each line of which has a text: a log with another line, as one whose ids have run out, is
-/// answered as want of memory.
-fn log_of(preimage: Preimage<'_>) -> Result<Log, NoMemory>
-    ensures lines { IfOk result (λ log. history_of log ≡ preimage.entry.history) }
-    ensures lean { IfOk result (λ log. LemmasAreLean preimage.entry.problem (history_of log)) }
-    ensures accepted { IfOk result (λ log. preimage.entry.failed ≡ false → IsAccepted preimage.entry.problem log) }
-    ensures texts { IfOk result (All HasText) }
-    ensures few { IfOk result (λ log. length log < 2 ^ 64) }
+/// The log of the search.
+fn log_of(preimage: Preimage<'_>) -> Log
+    ensures lines { history_of result ≡ preimage.entry.history }
+    ensures lean { LemmasAreLean preimage.entry.problem (history_of result) }
+    ensures accepted { preimage.entry.failed ≡ false → IsAccepted preimage.entry.problem result }
+    ensures texts { All HasText result }
+    ensures few { length result < 2 ^ 64 }
 {
     let log = preimage.into_log();
     let _lines = log.len();
-    if have_texts(log.slice()) {
-        Ok(log)
-    } else {
-        Err(NoMemory)
-    }
+    log
 }
 
 /// The backtrace of a dump: its report is good and valid. The dump has the widths of the chip, and `preimage` is of the same
@@ -125,7 +119,7 @@ pub fn backtrace(
     let way = walk(alloc, chip, &mut preimage, dump, budgets)?;
     let states = states_back(alloc, way.steps.slice(), &dump.state)?;
     let inputs = inputs_back(alloc, way.steps.slice())?;
-    let log = log_of(preimage)?;
+    let log = log_of(preimage);
     sound(chip);
     Ok(Report {
         budgets: *budgets,

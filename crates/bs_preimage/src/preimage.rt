@@ -3,6 +3,7 @@ ghost use Rattle.std.specs.Prelude.{◌≡◌, ◌+◌, ◌^◌, ◌<◌, ◌≤
 ghost use Rattle.bs_net.specs.Netlist.{circuit};
 ghost use Rattle.bs_log.specs.Refusal.{has_distinct_variables, history_of, NoneRefused, IsAccepted};
 ghost use Rattle.bs_log.specs.Lean.{LemmasAreLean};
+ghost use Rattle.bs_log.specs.LineForms.{HasText};
 ghost use Rattle.bs_encode.specs.Encoded.{encoding_of};
 ghost use Rattle.bs_clause.specs.Range.{HasVariables};
 ghost use Rattle.bs_preimage.specs.Preimage.{fresh, GoesOn};
@@ -145,11 +146,13 @@ impl<'a> Preimage<'a> {
         self.calls
     }
 
-    /// The log. No line of it is refused, its lemmas are lean, and it is accepted while memory has not run out.
+    /// The log. No line of it is refused, its lemmas are lean, each line has a text, and it is accepted while memory has
+    /// not run out.
     pub fn into_log(self) -> Log
         ensures lines { history_of result ≡ self.entry.history }
         ensures right { NoneRefused self.entry.problem (history_of result) }
         ensures lean { LemmasAreLean self.entry.problem (history_of result) }
+        ensures texts { All HasText result }
         ensures accepted { self.entry.failed ≡ false → IsAccepted self.entry.problem result }
     {
         self.solver.into_log()

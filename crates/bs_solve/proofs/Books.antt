@@ -1,10 +1,10 @@
 -- A book with one more line.
-use Rattle.std.proofs.Common.{◌≡◌, ℕ, zero, suc, ◌+◌, ◌-◌, ◌<◌, arith, true, cond, List, [], ◌∷◌, ◌++◌, map, reverse, take, length, get_or, refl, sym, ap, subst, ◌∙◌, Some, eqb}
+use Rattle.std.proofs.Common.{◌≡◌, ℕ, zero, suc, ◌+◌, ◌-◌, ◌<◌, ◌^◌, arith, true, cond, List, [], ◌∷◌, ◌++◌, map, reverse, take, length, get_or, refl, sym, ap, subst, ◌∙◌, Some, eqb}
 use Rattle.std.specs.Prelude.{All, slice_get, is_some, option_map}
-use Rattle.std.specs.List.{list_all, filter, cons_option}
-use Rattle.std.proofs.lemmas.Bool.{eq-eqb, ne_eqb, and_from}
-use Rattle.std.proofs.lemmas.List.{map-append, reverse-append, take-append-le, length_push, length-map, length-reverse, get_or-reverse}
-use Rattle.std.proofs.lemmas.List.Elements.{filter-append}
+use Rattle.std.specs.List.{AllByRecursion, list_all, filter, cons_option}
+use Rattle.std.proofs.lemmas.Bool.{eq-eqb, ne_eqb, and_from, false≢true}
+use Rattle.std.proofs.lemmas.List.{map-append, reverse-append, take-append-le, length_push, length-map, length-reverse, reverse-reverse, get_or-reverse}
+use Rattle.std.proofs.lemmas.List.Elements.{All-from_recursion, recursion_from_All, filter-append}
 use Rattle.bs_clause.specs.Literal.{Clause}
 use Rattle.bs_log.specs.declared.line.Line.{Line}
 use Rattle.bs_log.specs.declared.line.Line.TheVariants.{Lemma}
@@ -13,6 +13,7 @@ use Rattle.bs_log.specs.History.{Entry, state_of, live, last_id, phase_of}
 use Rattle.bs_log.specs.Refusal.{is_lemma, entry_of, clauses_of, in_solve}
 use Rattle.bs_log.specs.Propagation.{hints_are_unit, last_is_false}
 use Rattle.bs_log.specs.Lean.{IsNew, IsResolventOf}
+use Rattle.bs_log.specs.LineForms.{IsId, HasVariable, HasText}
 use Rattle.bs_log.proofs.Tests.{IsRight, none_from_right}
 use Rattle.bs_log.proofs.Histories.{live-push}
 use Rattle.bs_solve.specs.Walk.{IsLearnt, clauses_at}
@@ -63,12 +64,40 @@ names_are_there es (r ∷ rs) a all =
     and_from (is_some (entry_of es (suc r))) (list_all (λ h. is_some (entry_of es h)) (ids_of rs)) (ap is_some found)
     (names_are_there es rs a (λ k d h. all (suc k) d (omega (arith, h))))
 
--- ---- a lemma
-
-reverse_all : (P : ℕ → Type 0) (rs : List ℕ) → All P rs → All P (reverse rs)
+reverse_all : {X : Type 0} (P : X → Type 0) (rs : List X) → All P rs → All P (reverse rs)
 reverse_all P rs all = λ k d h.
     let within : k < length rs = omega (arith, h, length-reverse rs) in
     subst P (sym (get_or-reverse rs k d within)) (all (length rs - 1 - k) d (omega (arith, within)))
+
+-- ---- texts
+
+-- a log has texts where its history has
+pub texts_in_order : (log : List Line) → AllByRecursion HasText (reverse log) → All HasText log
+texts_in_order log t = subst (All HasText) (reverse-reverse log) (reverse_all HasText (reverse log) (All-from_recursion HasText (reverse log) t))
+
+-- the numbers after places are ids
+ids_are_ids : (n : ℕ) (rs : List ℕ) → All (λ r. r < n) rs → n + 1 < 2 ^ 64 → AllByRecursion IsId (ids_of rs)
+ids_are_ids n [] all high = tt
+ids_are_ids n (r ∷ rs) all high =
+    let below : r < n = all 0 r (omega arith) in
+    ((omega arith, omega (arith, below, high)), ids_are_ids n rs (λ k d h. all (suc k) d (omega (arith, h))) high)
+
+-- the last hint is false, so there is one
+some_hints : (lemma : Clause) (hints : List Clause) → last_is_false lemma hints ≡ true → 0 < length hints
+some_hints lemma [] last = absurd (false≢true last)
+some_hints lemma (c ∷ hints) last = omega arith
+
+lemma_text : (clauses : List Clause) (id : ℕ) (lits : Clause) (hints : List ℕ) → IsLearnt clauses lits hints → id ≡ length clauses + 1 → id < 2 ^ 64 → All HasVariable lits →
+    HasText (Lemma id lits (ids_of (reverse hints)))
+lemma_text clauses id lits hints learnt is high range =
+    let some : 0 < length (clauses_at clauses (reverse hints)) = some_hints lits (clauses_at clauses (reverse hints)) learnt.last in (
+      (omega (arith, is), high),
+      recursion_from_All HasVariable lits range,
+      ids_are_ids (length clauses) (reverse hints) (reverse_all (λ r. r < length clauses) hints learnt.named) (omega (arith, is, high)),
+      omega (arith, some, length-map (reverse hints) (λ r. get_or clauses r []), length-map (reverse hints) suc),
+    )
+
+-- ---- a lemma
 
 pub live_with_lemma : (b : Book) (id : ℕ) (lits : Clause) (hints : List ℕ) → IsKept b → id ≡ last_id b.problem b.history + 1 →
     live b.problem (Lemma id lits hints ∷ b.history) ≡ live b.problem b.history ++ record { id = id; origin = Learnt; literals = lits } ∷ []
@@ -80,10 +109,10 @@ standing_with_lemma b id lits hints k is =
     ap (map (λ (e : Entry). e.literals)) (live_with_lemma b id lits hints k is) ∙
     map-append (λ (e : Entry). e.literals) (live b.problem b.history) (record { id = id; origin = Learnt; literals = lits } ∷ [])
 
-pub kept_with_lemma : (b : Book) (id : ℕ) (lits : Clause) (hints : List ℕ) → IsKept b → id ≡ length (standing b) + 1 →
-    in_solve (phase_of b.history) ≡ true → IsLearnt (standing b) lits hints → IsNew b.problem b.history lits →
+pub kept_with_lemma : (b : Book) (id : ℕ) (lits : Clause) (hints : List ℕ) → IsKept b → id ≡ length (standing b) + 1 → id < 2 ^ 64 →
+    in_solve (phase_of b.history) ≡ true → IsLearnt (standing b) lits hints → All HasVariable lits → IsNew b.problem b.history lits →
     IsKept (with_lemma b id lits (ids_of (reverse hints)))
-kept_with_lemma b id lits hints k is phase learnt new =
+kept_with_lemma b id lits hints k is high phase learnt range new =
     let entries : List Entry = live b.problem b.history in
     let same_length : length (standing b) ≡ length entries = length-map entries (λ (e : Entry). e.literals) in
     let next : id ≡ last_id b.problem b.history + 1 = omega (arith, is, same_length, k.last) in
@@ -103,6 +132,7 @@ kept_with_lemma b id lits hints k is phase learnt new =
     record {
       right = (none_from_right b.problem (state_of b.problem b.history) (Lemma id lits (ids_of (reverse hints))) right, k.right);
       lean = (new, subst (IsResolventOf lits) (sym named) learnt.resolvent, k.lean);
+      texts = (lemma_text (standing b) id lits hints learnt is high range, k.texts);
       numbered = subst (AreNumbered 1) (sym grown)
           (numbered_push 1 entries (record { id = id; origin = Learnt; literals = lits }) k.numbered (omega (arith, is, same_length)));
       last = omega (arith, is, same_length, ap length grown, length_push entries (record { id = id; origin = Learnt; literals = lits }));
@@ -126,18 +156,18 @@ pub record Recorded (axioms : ℕ) (clauses : List Clause) (ids : List ℕ) (old
 pub recorded_lemma : (axioms vars : ℕ) (ids more_ids : List ℕ) (steps clauses : List Clause) (log : List Line) (more : List Clause) (longer : List Line) (id : ℕ) (lits : Clause) (hints : List ℕ) (now : Book) →
     record { problem = record { vars = vars; clauses = take axioms clauses; steps = steps }; history = reverse log } ≡ now →
     IsRecorded axioms clauses ids (record { problem = record { vars = vars; clauses = take axioms clauses; steps = steps }; history = reverse log }) →
-    more ≡ clauses ++ lits ∷ [] → longer ≡ log ++ Lemma id lits (ids_of (reverse hints)) ∷ [] → id ≡ length clauses + 1 → more_ids ≡ ids ++ id ∷ [] →
-    in_solve (phase_of now.history) ≡ true → IsLearnt (standing now) lits hints → IsNew now.problem now.history lits →
+    more ≡ clauses ++ lits ∷ [] → longer ≡ log ++ Lemma id lits (ids_of (reverse hints)) ∷ [] → id ≡ length clauses + 1 → id < 2 ^ 64 → more_ids ≡ ids ++ id ∷ [] →
+    in_solve (phase_of now.history) ≡ true → IsLearnt (standing now) lits hints → All HasVariable lits → IsNew now.problem now.history lits →
     Recorded axioms more more_ids now (record { problem = record { vars = vars; clauses = take axioms more; steps = steps }; history = reverse longer }) lits
-recorded_lemma axioms vars ids more_ids steps clauses log more longer id lits hints now view_is r is_more is_longer is_id is_ids phase learnt new =
+recorded_lemma axioms vars ids more_ids steps clauses log more longer id lits hints now view_is r is_more is_longer is_id high is_ids phase learnt range new =
     let old : Book = record { problem = record { vars = vars; clauses = take axioms clauses; steps = steps }; history = reverse log } in
     let first : take axioms more ≡ take axioms clauses = ap (take axioms) is_more ∙ take-append-le axioms clauses (lits ∷ []) r.first in
     let newest : reverse longer ≡ Lemma id lits (ids_of (reverse hints)) ∷ reverse log = ap reverse is_longer ∙ reverse-append log (Lemma id lits (ids_of (reverse hints)) ∷ []) in
     let is_new : record { problem = record { vars = vars; clauses = take axioms more; steps = steps }; history = reverse longer } ≡ with_lemma old id lits (ids_of (reverse hints)) =
     λ i. record { problem = record { vars = vars; clauses = first i; steps = steps }; history = newest i } in
     let next : id ≡ length (standing old) + 1 = omega (arith, is_id, ap length r.same) in
-    let kept : IsKept (with_lemma old id lits (ids_of (reverse hints))) = kept_with_lemma old id lits hints r.kept next
-    (subst (λ (b : Book). in_solve (phase_of b.history) ≡ true) (sym view_is) phase) (subst (λ (b : Book). IsLearnt (standing b) lits hints) (sym view_is) learnt)
+    let kept : IsKept (with_lemma old id lits (ids_of (reverse hints))) = kept_with_lemma old id lits hints r.kept next high
+    (subst (λ (b : Book). in_solve (phase_of b.history) ≡ true) (sym view_is) phase) (subst (λ (b : Book). IsLearnt (standing b) lits hints) (sym view_is) learnt) range
     (subst (λ (b : Book). IsNew b.problem b.history lits) (sym view_is) new) in
     let stands : standing (with_lemma old id lits (ids_of (reverse hints))) ≡ standing old ++ lits ∷ [] =
     standing_with_lemma old id lits (ids_of (reverse hints)) r.kept (omega (arith, next, length-map (live old.problem old.history) (λ (e : Entry). e.literals), r.kept.last)) in

@@ -1,10 +1,10 @@
 -- A book with a line of each kind, or with one more step.
-use Rattle.std.proofs.Common.{◌≡◌, ℕ, zero, suc, ◌+◌, ◌-◌, ◌<◌, ◌≤◌, arith, true, false, not, cond, List, [], ◌∷◌, ◌++◌, map, reverse, take, length, refl, sym, ap, subst, ◌∙◌, inl, inr, eqb}
+use Rattle.std.proofs.Common.{◌≡◌, ℕ, zero, suc, ◌+◌, ◌-◌, ◌<◌, ◌≤◌, ◌^◌, arith, Bool, true, false, not, cond, List, [], ◌∷◌, ◌++◌, map, reverse, take, length, refl, sym, ap, subst, ◌∙◌, inl, inr, Some, eqb}
 use Rattle.std.specs.Prelude.{All, slice_get, unwrap_or}
 use Rattle.std.specs.List.{filter}
-use Rattle.std.proofs.lemmas.Bool.{eq-eqb, and_from, and_parts, false≢true}
+use Rattle.std.proofs.lemmas.Bool.{eq-eqb, eqb-true, cases_Bool, and_from, and_parts, false≢true}
 use Rattle.std.proofs.lemmas.List.{append-nil, take_all, map-append, reverse-append, take-append-le, length_push, length-map}
-use Rattle.std.proofs.lemmas.List.Elements.{filter-append}
+use Rattle.std.proofs.lemmas.List.Elements.{recursion_from_All, filter-append}
 use Rattle.bs_clause.specs.Literal.{Clause, negation}
 use Rattle.bs_log.specs.declared.line.Line.{Line}
 use Rattle.bs_log.specs.declared.line.Line.TheVariants.{Solve, Lemma, Block, Finish, Retire, Delete}
@@ -14,6 +14,7 @@ use Rattle.bs_log.specs.declared.origin.Origin.TheVariants.{Learnt, Blocked, Ret
 use Rattle.bs_log.specs.History.{Problem, History, Entry, state_of, live, added, last_id, phase_of, step_of, guard_of, axioms_from, is_deleted}
 use Rattle.bs_log.specs.Refusal.{NoneRefused, entry_of, in_order, in_solve, is_after_block, is_between_steps, has_distinct_variables, is_block_of, passes, is_lemma, denies, assumptions_of}
 use Rattle.bs_log.specs.Lean.{IsNew, LemmasAreLean, IsResolventOf, IsContained}
+use Rattle.bs_log.specs.LineForms.{HasVariable}
 use Rattle.bs_log.specs.Refusal.{clauses_of}
 use Rattle.bs_log.proofs.Tests.{none_from_right, right_from_none}
 use Rattle.bs_log.proofs.Histories.{live-push, in_range, NoneRefused-with_step, with_step}
@@ -27,24 +28,41 @@ pub kept_with_solve : (b : Book) → IsKept b → in_order b.problem (state_of b
 kept_with_solve b k order = record {
   right = (none_from_right b.problem (state_of b.problem b.history) Solve (record { order = order; names = refl; distinct = refl; block = refl; unit = refl; last = refl; finish = refl }), k.right);
   lean = k.lean;
+  texts = (tt, k.texts);
   numbered = k.numbered;
   last = k.last;
 }
 
-pub kept_with_finish : (b : Book) (id : ℕ) → IsKept b → in_solve (phase_of b.history) ≡ true → passes is_lemma (entry_of (live b.problem b.history) id) ≡ true →
+-- an id that names an entry is one of the numbers
+named_low : (n : ℕ) (es : List Entry) (id : ℕ) (test : Entry → Bool) → AreNumbered n es → passes test (entry_of es id) ≡ true → n ≤ id
+named_low n [] id test a named = absurd (false≢true named)
+named_low n (x ∷ es) id test a named = elim (cases_Bool (eqb x.id id)) [
+  | inl same ↦ let here : x.id ≡ id = eqb-true x.id id same in let is = a.0 in omega (arith, here, is)
+  | inr other ↦
+      let later : suc n ≤ id = named_low (suc n) es id test a.1 (ap (λ b. passes test (cond b (Some x) (entry_of es id))) (sym other) ∙ named) in
+      omega (arith, later)
+]
+
+pub kept_with_finish : (b : Book) (id : ℕ) → IsKept b → id < 2 ^ 64 → in_solve (phase_of b.history) ≡ true → passes is_lemma (entry_of (live b.problem b.history) id) ≡ true →
     passes (λ e. denies (assumptions_of b.problem (step_of b.history)) e.literals) (entry_of (live b.problem b.history) id) ≡ true → IsKept (with_line b (Finish id))
-kept_with_finish b id k order names fits = record {
+kept_with_finish b id k high order names fits = record {
   right = (none_from_right b.problem (state_of b.problem b.history) (Finish id) (record { order = order; names = names; distinct = refl; block = refl; unit = refl; last = refl; finish = fits }), k.right);
   lean = k.lean;
+  texts = ((named_low 1 (live b.problem b.history) id is_lemma k.numbered names, high), k.texts);
   numbered = k.numbered;
   last = k.last;
 }
 
 -- ---- a line that adds a clause
 
-pub kept_with_block : (b : Book) (id : ℕ) (lits : Clause) → IsKept b → id ≡ length (standing b) + 1 → in_solve (phase_of b.history) ≡ true → has_distinct_variables lits ≡ true →
-    is_block_of b.problem (step_of b.history) lits ≡ true → IsKept (with_line b (Block id lits)) × (standing (with_line b (Block id lits)) ≡ standing b ++ lits ∷ [])
-kept_with_block b id lits k is phase distinct fits =
+-- a block has the negated guard
+some_literals : (p : Problem) (step : ℕ) (lits : Clause) → is_block_of p step lits ≡ true → 0 < length lits
+some_literals p step [] fits = absurd (false≢true fits)
+some_literals p step (l ∷ lits) fits = omega arith
+
+pub kept_with_block : (b : Book) (id : ℕ) (lits : Clause) → IsKept b → id ≡ length (standing b) + 1 → id < 2 ^ 64 → in_solve (phase_of b.history) ≡ true → has_distinct_variables lits ≡ true →
+    All HasVariable lits → is_block_of b.problem (step_of b.history) lits ≡ true → IsKept (with_line b (Block id lits)) × (standing (with_line b (Block id lits)) ≡ standing b ++ lits ∷ [])
+kept_with_block b id lits k is high phase distinct range fits =
     let entries : List Entry = live b.problem b.history in
     let e : Entry = record { id = id; origin = Blocked; literals = lits } in
     let same_length : length (standing b) ≡ length entries = length-map entries (λ (x : Entry). x.literals) in
@@ -64,15 +82,16 @@ kept_with_block b id lits k is phase distinct fits =
           k.right,
         );
         lean = k.lean;
+        texts = (((omega (arith, is), high), recursion_from_All HasVariable lits range, some_literals b.problem (step_of b.history) lits fits), k.texts);
         numbered = subst (AreNumbered 1) (sym grown) (numbered_push 1 entries e k.numbered (omega (arith, is, same_length)));
         last = omega (arith, is, same_length, ap length grown, length_push entries e);
       },
       ap (map (λ (x : Entry). x.literals)) grown ∙ map-append (λ (x : Entry). x.literals) entries (e ∷ []),
     )
 
-pub kept_with_retire : (b : Book) (id : ℕ) → IsKept b → id ≡ length (standing b) + 1 → is_between_steps (phase_of b.history) ≡ false →
+pub kept_with_retire : (b : Book) (id : ℕ) → IsKept b → id ≡ length (standing b) + 1 → id < 2 ^ 64 → is_between_steps (phase_of b.history) ≡ false →
     IsKept (with_line b (Retire id)) × (standing (with_line b (Retire id)) ≡ standing b ++ (negation (guard_of b.problem (step_of b.history)) ∷ []) ∷ [])
-kept_with_retire b id k is phase =
+kept_with_retire b id k is high phase =
     let entries : List Entry = live b.problem b.history in
     let e : Entry = record { id = id; origin = Retired; literals = negation (guard_of b.problem (step_of b.history)) ∷ [] } in
     let same_length : length (standing b) ≡ length entries = length-map entries (λ (x : Entry). x.literals) in
@@ -92,6 +111,7 @@ kept_with_retire b id k is phase =
           k.right,
         );
         lean = k.lean;
+        texts = ((omega (arith, is), high), k.texts);
         numbered = subst (AreNumbered 1) (sym grown) (numbered_push 1 entries e k.numbered (omega (arith, is, same_length)));
         last = omega (arith, is, same_length, ap length grown, length_push entries e);
       },
@@ -114,7 +134,7 @@ literals_axioms n (c ∷ cs) = ap (λ r. c ∷ r) (literals_axioms (n + 1) cs)
 
 pub kept_at_first : (p : Problem) → IsKept (record { problem = p; history = [] }) × (standing (record { problem = p; history = [] }) ≡ p.clauses)
 kept_at_first p = (
-  record { right = tt; lean = tt; numbered = numbered_axioms 1 p.clauses; last = sym (length_axioms 1 p.clauses) },
+  record { right = tt; lean = tt; texts = tt; numbered = numbered_axioms 1 p.clauses; last = sym (length_axioms 1 p.clauses) },
   literals_axioms 1 p.clauses,
 )
 
@@ -193,6 +213,7 @@ kept_with_step b member k = (
   record {
     right = NoneRefused-with_step b.problem member b.history k.right;
     lean = lean_with_step b.problem member b.history k.right k.lean;
+    texts = k.texts;
     numbered = subst (AreNumbered 1) (sym (same_live b.problem member b.history)) k.numbered;
     last = same_last b.problem member b.history ∙ k.last ∙ ap length (sym (same_live b.problem member b.history));
   },

@@ -1,14 +1,15 @@
 -- A learnt clause in the book and on the trail.
-use Rattle.std.proofs.Common.{◌≡◌, ℕ, ◌+◌, ◌-◌, ◌<◌, ◌≤◌, arith, true, List, [], ◌∷◌, ◌++◌, reverse, length, take, get_or, refl, sym, ap, subst, ◌∙◌, inr, Some}
+use Rattle.std.proofs.Common.{◌≡◌, ℕ, ◌+◌, ◌-◌, ◌<◌, ◌≤◌, ◌^◌, arith, true, List, [], ◌∷◌, ◌++◌, reverse, length, take, get_or, refl, sym, ap, subst, ◌∙◌, inr, Some}
 use Rattle.std.specs.Prelude.{All, Any, Contains, slice_get}
 use Rattle.std.proofs.lemmas.List.{take-take, length-take-le, length_push, length-reverse, get_or-reverse, take-append-le}
-use Rattle.std.proofs.lemmas.List.Elements.{All-contains, Contains-get_or}
+use Rattle.std.proofs.lemmas.List.Elements.{All-contains, All-weaker, Contains-get_or}
 use Rattle.bs_clause.specs.Literal.{Literal, Clause, negation}
 use Rattle.bs_clause.specs.Range.{IsWithin, HasVariables}
 use Rattle.bs_log.specs.declared.origin.Origin.TheVariants.{Learnt}
 use Rattle.bs_log.specs.History.{Entry, live}
 use Rattle.bs_log.specs.Refusal.{entry_of, denies}
 use Rattle.bs_log.specs.Lean.{IsContained, IsNew}
+use Rattle.bs_log.specs.LineForms.{HasVariable}
 use Rattle.bs_solve.specs.declared.place.Place.{Place}
 use Rattle.bs_solve.specs.Trail.{IsTrueOn, IsOpenOn, IsQuiet}
 use Rattle.bs_solve.specs.Places.{literals_of, IsSound, IsUnassigned}
@@ -35,6 +36,10 @@ learnt_range clauses vars lemma hints learnt range = all_from (IsWithin vars) le
     let below : r < length clauses = All-contains (λ x. x < length clauses) (reverse hints) r (reverse_below (length clauses) hints learnt.named) in_r in
     let in_clauses : Contains clauses stands.1 = subst (Contains clauses) is (Contains-get_or clauses r [] below) in
     All-contains (IsWithin vars) stands.1 l (All-contains (HasVariables vars) clauses stands.1 range in_clauses) stands.4)
+
+-- variables that are few are those of literals
+pub have_variables : (vars : ℕ) (c : Clause) → vars < 2 ^ 30 → HasVariables vars c → All HasVariable c
+have_variables vars c bound range = All-weaker (IsWithin vars) HasVariable (λ l within. let low = within.0 in let high = within.1 in (low, omega (arith, high, bound))) c range
 
 -- no standing clause is contained in what was learnt
 pub new_lemma : (b : Book) (lemma : Clause) → All (λ d. ¬ IsContained d lemma) (standing b) → IsNew b.problem b.history lemma

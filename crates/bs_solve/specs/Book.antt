@@ -1,12 +1,13 @@
 -- The book of a search: what its log is about, and the lines so far.
 use Rattle.std.specs.Prelude.{◌≡◌, ℕ, ◌≤◌, List, [], ◌∷◌, ◌++◌, map, length, suc}
-use Rattle.std.specs.List.{filter}
+use Rattle.std.specs.List.{AllByRecursion, filter}
 use Rattle.bs_clause.specs.Literal.{Clause}
 use Rattle.bs_log.specs.declared.line.Line.{Line}
 use Rattle.bs_log.specs.declared.line.Line.TheVariants.{Lemma}
 use Rattle.bs_log.specs.History.{Problem, History, Entry, live, last_id}
 use Rattle.bs_log.specs.Refusal.{NoneRefused, is_lemma}
 use Rattle.bs_log.specs.Lean.{LemmasAreLean}
+use Rattle.bs_log.specs.LineForms.{HasText}
 
 -- the lines stand newest first
 pub record Book : Type 0 where
@@ -22,10 +23,11 @@ abbrev pub AreNumbered : ℕ → List Entry → Type 0
 AreNumbered n [] = Unit {0}
 AreNumbered n (e ∷ es) = (e.id ≡ n) × AreNumbered (suc n) es
 
--- no line is refused, the lemmas are lean, and nothing was taken away
+-- no line is refused, the lemmas are lean, each line has a text, and nothing was taken away
 pub record IsKept (b : Book) : Type 0 where
   pub right : NoneRefused b.problem b.history
   pub lean : LemmasAreLean b.problem b.history
+  pub texts : AllByRecursion HasText b.history
   pub numbered : AreNumbered 1 (live b.problem b.history)
   pub last : last_id b.problem b.history ≡ length (live b.problem b.history)
 

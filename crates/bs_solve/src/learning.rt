@@ -1,5 +1,5 @@
 //! What a conflict teaches: a clause in the log, and a trail that goes back and has one more forced literal.
-ghost use Rattle.std.specs.Prelude.{◌≡◌, ◌<◌, ◌≤◌, length, take, true, All, IfOk, OnErr};
+ghost use Rattle.std.specs.Prelude.{◌≡◌, ◌<◌, ◌≤◌, ◌^◌, length, take, true, All, IfOk, OnErr};
 ghost use Rattle.bs_log.specs.History.{phase_of};
 ghost use Rattle.bs_log.specs.Refusal.{in_solve, has_distinct_variables, denies};
 ghost use Rattle.bs_solve.specs.Trail.{IsTrueOn};
@@ -30,6 +30,7 @@ pub fn learn(
     requires room { length trail.old.places ≤ trail.old.vars }
     requires given { All (IsTrueOn (literals_of (take base trail.old.places))) (assumed book.old) }
     requires range { All (HasVariables trail.old.vars) (standing book.old) }
+    requires bound { trail.old.vars < 2 ^ 30 }
     requires distinct { All (λ c. has_distinct_variables c ≡ true) (standing book.old) }
     requires phase { in_solve (phase_of book.old.history) ≡ true }
     requires conflict { IsConflictAt (standing book.old) (literals_of trail.old.places) conflict }
@@ -56,6 +57,8 @@ pub fn refute(
     base: usize,
 ) -> Result<u64, NoMemory>
     requires sound { IsSound (standing book.old) base (assumed book.old) trail.now.places }
+    requires range { All (HasVariables trail.now.vars) (standing book.old) }
+    requires bound { trail.now.vars < 2 ^ 30 }
     requires distinct { All (λ c. has_distinct_variables c ≡ true) (standing book.old) }
     requires phase { in_solve (phase_of book.old.history) ≡ true }
     requires conflict { IsConflictAt (standing book.old) (literals_of trail.now.places) conflict }

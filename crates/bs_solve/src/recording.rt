@@ -6,6 +6,7 @@ ghost use Rattle.bs_log.specs.declared.origin.Origin.TheVariants.{Learnt};
 ghost use Rattle.bs_log.specs.History.{phase_of, state_of, step_of, guard_of, live};
 ghost use Rattle.bs_log.specs.Refusal.{in_order, in_solve, is_between_steps, has_distinct_variables, is_block_of, passes, is_lemma, entry_of, denies, history_of, NoneRefused};
 ghost use Rattle.bs_log.specs.Lean.{IsNew, LemmasAreLean};
+ghost use Rattle.bs_log.specs.LineForms.{HasVariable, HasText};
 ghost use Rattle.bs_solve.specs.Walk.{IsLearnt};
 ghost use Rattle.bs_solve.specs.Book.{standing, lemma_ids, with_line, with_lemma, with_member, ids_of};
 ghost use Rattle.bs_solve.specs.Search.{assumed};
@@ -55,20 +56,24 @@ impl Recording {
         })
     }
 
-    /// The log. No line of it is refused, and its lemmas are lean.
+    /// The log. No line of it is refused, its lemmas are lean, and each line has a text.
+    #[tactic(auto, using(crate::proofs::Books::texts_in_order))]
     pub fn log(&self) -> &Log
         ensures lines { history_of result.now ≡ self.now.history }
         ensures right { NoneRefused self.now.problem (history_of result.now) }
         ensures lean { LemmasAreLean self.now.problem (history_of result.now) }
+        ensures texts { All HasText result.now }
     {
         &self.log
     }
 
     /// The log, without what was recorded beside it.
+    #[tactic(auto, using(crate::proofs::Books::texts_in_order))]
     pub fn into_log(self) -> Log
         ensures lines { history_of result ≡ self.history }
         ensures right { NoneRefused self.problem (history_of result) }
         ensures lean { LemmasAreLean self.problem (history_of result) }
+        ensures texts { All HasText result }
     {
         self.log
     }
@@ -125,6 +130,7 @@ impl Recording {
     pub fn log_block(&mut self, alloc: Global, lits: Lits) -> Result<u64, NoMemory>
         requires phase { in_solve (phase_of self.old.history) ≡ true }
         requires distinct { has_distinct_variables lits ≡ true }
+        requires range { All HasVariable lits }
         requires block { is_block_of self.old.problem (step_of self.old.history) lits ≡ true }
         ensures id { IfOk result (λ id. id ≡ length (standing self.old) + 1) }
         ensures line { IfOk result (λ id. self.new ≡ with_line self.old (Block id lits)) }
@@ -181,6 +187,7 @@ impl Recording {
     pub fn log_lemma(&mut self, alloc: Global, lits: Lits, hints: &[usize]) -> Result<u64, NoMemory>
         requires phase { in_solve (phase_of self.old.history) ≡ true }
         requires learnt { IsLearnt (standing self.old) lits hints.now }
+        requires range { All HasVariable lits }
         requires new { IsNew self.old.problem self.old.history lits }
         ensures id { IfOk result (λ id. id ≡ length (standing self.old) + 1) }
         ensures line { IfOk result (λ id. self.new ≡ with_lemma self.old id lits (ids_of (reverse hints.now))) }

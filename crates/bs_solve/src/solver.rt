@@ -3,6 +3,7 @@ ghost use Rattle.std.specs.Prelude.{◌≡◌, ◌⊎◌, ◌+◌, ◌^◌, ◌<
 ghost use Rattle.bs_log.specs.History.{step_of, guard_of};
 ghost use Rattle.bs_log.specs.Refusal.{has_distinct_variables, history_of, NoneRefused, IsAccepted};
 ghost use Rattle.bs_log.specs.Lean.{LemmasAreLean};
+ghost use Rattle.bs_log.specs.LineForms.{HasText};
 ghost use Rattle.bs_solve.specs.declared.stage.Stage.TheVariants.{Idle, Begun, Solved, Ended};
 ghost use Rattle.bs_clause.specs.Range.{HasVariables};
 ghost use Rattle.bs_solve.specs.Book.{standing, lemma_ids};
@@ -149,12 +150,13 @@ impl Solver {
         self.book.steps()
     }
 
-    /// The log. No line of it is refused for `steps`, and its lemmas are lean. Between two steps it is accepted, while
-    /// no call has answered want of memory.
+    /// The log. No line of it is refused for `steps`, its lemmas are lean, and each line has a text. Between two steps
+    /// it is accepted, while no call has answered want of memory.
     pub fn log(&self) -> &Log
         ensures lines { history_of result.now ≡ self.now.book.history }
         ensures right { NoneRefused self.now.book.problem (history_of result.now) }
         ensures lean { LemmasAreLean self.now.book.problem (history_of result.now) }
+        ensures texts { All HasText result.now }
         ensures accepted { self.now.failed ≡ false → self.now.stage ≡ Idle → IsAccepted self.now.book.problem result.now }
     {
         self.book.log()
@@ -165,6 +167,7 @@ impl Solver {
         ensures lines { history_of result ≡ self.book.history }
         ensures right { NoneRefused self.book.problem (history_of result) }
         ensures lean { LemmasAreLean self.book.problem (history_of result) }
+        ensures texts { All HasText result }
         ensures accepted { self.failed ≡ false → self.stage ≡ Idle → IsAccepted self.book.problem result }
     {
         self.book.into_log()

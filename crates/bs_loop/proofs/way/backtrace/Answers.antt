@@ -23,7 +23,7 @@ returns c =
       stop = c.in_ok-way.way.stop;
       states = c.in_ok-states.states;
       inputs = c.in_ok-inputs.inputs;
-      log = c.in_ok-log.log;
+      log = c.log_of-log.result;
     } in
     let of : IsReportOf (crash_of chip dump) budgets state r =
     record {
@@ -33,17 +33,17 @@ returns c =
         states = c.in_ok-states.ensures ∙ ap (trace_states dump.state) c.slice.ensures;
         inputs = c.in_ok-inputs.ensures ∙ ap trace_inputs c.slice-2.ensures;
       };
-      log = c.in_ok-log.ensures.lines;
+      log = c.log_of-log.ensures.lines;
     } in
     let good : IsGood (crash_of chip dump) r = is_good (crash_of chip dump) budgets state r of in
     record {
       budgets = refl;
       good = good;
-      valid = is_valid chip dump budgets state r (subst IsSound way.chip c.sound.ensures) c.requires.dump of c.in_ok-log.ensures.accepted;
+      valid = is_valid chip dump budgets state r (subst IsSound way.chip c.sound.ensures) c.requires.dump of c.log_of-log.ensures.accepted;
       bound = has_bound (crash_of chip dump) budgets state r of;
-      readable = readable chip dump budgets state r (subst IsSound way.chip c.sound.ensures) c.requires.budgets of c.in_ok-log.ensures.texts c.in_ok-log.ensures.few;
+      readable = readable chip dump budgets state r (subst IsSound way.chip c.sound.ensures) c.requires.budgets of c.log_of-log.ensures.texts c.log_of-log.ensures.few;
       trace = one_state_more (crash_of chip dump) r good;
-      lean = is_lean (crash_of chip dump) budgets state r of c.in_ok-log.ensures.lean;
+      lean = is_lean (crash_of chip dump) budgets state r of c.log_of-log.ensures.lean;
       net = ap (λ (k : Chipped). k.net) way.chip;
       choice = ap (λ (k : Chipped). k.choice) way.chip;
       runs = ap (λ (k : Chipped). k.runs) way.chip;

@@ -8,7 +8,7 @@ use Rattle.bs_solve.specs.Point.{IsCut}
 use Rattle.bs_solve.specs.Book.{standing, with_lemma, ids_of}
 use Rattle.bs_solve.specs.Search.{HasLearnt}
 use Rattle.bs_solve.proofs.Lists.{get_within}
-use Rattle.bs_solve.proofs.Searching.{quiet_at_decision, learnt_range, learnt_is_new, denied_is, unassigned_after_cut, has_learnt}
+use Rattle.bs_solve.proofs.Searching.{quiet_at_decision, learnt_range, have_variables, learnt_is_new, denied_is, unassigned_after_cut, has_learnt}
 use Rattle.bs_solve.proofs.learning.learn.Goals as goal
 
 pub first_point-requires-clause-quiet : goal.first_point-requires-clause-quiet
@@ -24,6 +24,12 @@ place-requires c =
 pub cut_place-cut-requires-clause-range : goal.cut_place-cut-requires-clause-range
 cut_place-cut-requires-clause-range c =
     subst (HasVariables c.args.trail.now.vars) (sym c.slice.ensures)
+    (learnt_range (standing c.args.book.now) c.args.trail.now.vars c.in_ok-learnt.learnt.lits c.in_ok-learnt.learnt.hints.items
+    (subst (λ cs. IsLearnt cs c.in_ok-learnt.learnt.lits c.in_ok-learnt.learnt.hints.items) c.clauses.ensures c.in_ok-learnt.ensures.learnt) c.requires.range)
+
+pub log_lemma-requires-clause-range : goal.log_lemma-requires-clause-range
+log_lemma-requires-clause-range c =
+    have_variables c.args.trail.now.vars c.in_ok-learnt.learnt.lits c.requires.bound
     (learnt_range (standing c.args.book.now) c.args.trail.now.vars c.in_ok-learnt.learnt.lits c.in_ok-learnt.learnt.hints.items
     (subst (λ cs. IsLearnt cs c.in_ok-learnt.learnt.lits c.in_ok-learnt.learnt.hints.items) c.clauses.ensures c.in_ok-learnt.ensures.learnt) c.requires.range)
 

@@ -1,8 +1,14 @@
 use Rattle.std.proofs.Common.{subst, inl, reverse}
 use Rattle.bs_solve.specs.Book.{standing, ids_of}
 use Rattle.bs_solve.specs.Walk.{IsLearnt}
-use Rattle.bs_solve.proofs.Searching.{ending_lemma, learnt_range}
+use Rattle.bs_solve.proofs.Searching.{ending_lemma, learnt_range, have_variables}
 use Rattle.bs_solve.proofs.learning.refute.Goals as goal
+
+pub log_lemma-requires-clause-range : goal.log_lemma-requires-clause-range
+log_lemma-requires-clause-range c =
+    have_variables c.args.trail.now.vars c.in_ok-learnt.learnt.lits c.requires.bound
+    (learnt_range (standing c.args.book.now) c.args.trail.now.vars c.in_ok-learnt.learnt.lits c.in_ok-learnt.learnt.hints.items
+    (subst (λ cs. IsLearnt cs c.in_ok-learnt.learnt.lits c.in_ok-learnt.learnt.hints.items) c.clauses.ensures c.in_ok-learnt.ensures.learnt) c.requires.range)
 
 pub log_lemma-requires-clause-new : goal.log_lemma-requires-clause-new
 log_lemma-requires-clause-new c =

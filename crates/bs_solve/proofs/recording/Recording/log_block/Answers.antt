@@ -11,7 +11,7 @@ invariant_of-self-in-Ok c =
     c.push_clause.ensures ∙ ap (λ xs. xs ++ c.in_ok-clause.clause ∷ []) c.in_ok-reserve.ensures.items ∙ ap (λ x. inside.clauses.items ++ x ∷ []) (c.in_ok-clause.ensures ∙ c.slice.ensures) in
     let next : c.in_ok-id.id ≡ length (standing c.args.self.now) + 1 =
     omega (arith, c.in_ok-id.ensures, c.len.ensures, inside.clauses.ok.0, ap length (c.self.invariant.same ∙ ap standing c.self.view_is)) in
-    let kept = kept_with_block c.args.self.now c.in_ok-id.id c.args.lits (subst IsKept c.self.view_is c.self.invariant.kept) next c.requires.phase c.requires.distinct c.requires.block in
+    let kept = kept_with_block c.args.self.now c.in_ok-id.id c.args.lits (subst IsKept c.self.view_is c.self.invariant.kept) next (omega arith) c.requires.phase c.requires.distinct c.requires.range c.requires.block in
     let recorded = recorded_clause inside.axioms inside.vars inside.lemmas.items inside.steps inside.clauses.items inside.log c.push_clause.new.clauses.items c.push.new.self (Block c.in_ok-id.id c.args.lits) c.args.lits c.args.self.now
     c.self.view_is c.self.invariant is_more c.in-Ok.ensures.ok kept.0 kept.1
     (ids_with_block c.args.self.now c.in_ok-id.id c.args.lits (subst IsKept c.self.view_is c.self.invariant.kept) next) in
@@ -24,7 +24,7 @@ returns-in-Ok-clause-id c =
     c.push_clause.ensures ∙ ap (λ xs. xs ++ c.in_ok-clause.clause ∷ []) c.in_ok-reserve.ensures.items ∙ ap (λ x. inside.clauses.items ++ x ∷ []) (c.in_ok-clause.ensures ∙ c.slice.ensures) in
     let next : c.in_ok-id.id ≡ length (standing c.args.self.now) + 1 =
     omega (arith, c.in_ok-id.ensures, c.len.ensures, inside.clauses.ok.0, ap length (c.self.invariant.same ∙ ap standing c.self.view_is)) in
-    let kept = kept_with_block c.args.self.now c.in_ok-id.id c.args.lits (subst IsKept c.self.view_is c.self.invariant.kept) next c.requires.phase c.requires.distinct c.requires.block in
+    let kept = kept_with_block c.args.self.now c.in_ok-id.id c.args.lits (subst IsKept c.self.view_is c.self.invariant.kept) next (omega arith) c.requires.phase c.requires.distinct c.requires.range c.requires.block in
     let recorded = recorded_clause inside.axioms inside.vars inside.lemmas.items inside.steps inside.clauses.items inside.log c.push_clause.new.clauses.items c.push.new.self (Block c.in_ok-id.id c.args.lits) c.args.lits c.args.self.now
     c.self.view_is c.self.invariant is_more c.in-Ok.ensures.ok kept.0 kept.1
     (ids_with_block c.args.self.now c.in_ok-id.id c.args.lits (subst IsKept c.self.view_is c.self.invariant.kept) next) in
@@ -37,7 +37,7 @@ returns-in-Ok-clause-line c =
     c.push_clause.ensures ∙ ap (λ xs. xs ++ c.in_ok-clause.clause ∷ []) c.in_ok-reserve.ensures.items ∙ ap (λ x. inside.clauses.items ++ x ∷ []) (c.in_ok-clause.ensures ∙ c.slice.ensures) in
     let next : c.in_ok-id.id ≡ length (standing c.args.self.now) + 1 =
     omega (arith, c.in_ok-id.ensures, c.len.ensures, inside.clauses.ok.0, ap length (c.self.invariant.same ∙ ap standing c.self.view_is)) in
-    let kept = kept_with_block c.args.self.now c.in_ok-id.id c.args.lits (subst IsKept c.self.view_is c.self.invariant.kept) next c.requires.phase c.requires.distinct c.requires.block in
+    let kept = kept_with_block c.args.self.now c.in_ok-id.id c.args.lits (subst IsKept c.self.view_is c.self.invariant.kept) next (omega arith) c.requires.phase c.requires.distinct c.requires.range c.requires.block in
     let recorded = recorded_clause inside.axioms inside.vars inside.lemmas.items inside.steps inside.clauses.items inside.log c.push_clause.new.clauses.items c.push.new.self (Block c.in_ok-id.id c.args.lits) c.args.lits c.args.self.now
     c.self.view_is c.self.invariant is_more c.in-Ok.ensures.ok kept.0 kept.1
     (ids_with_block c.args.self.now c.in_ok-id.id c.args.lits (subst IsKept c.self.view_is c.self.invariant.kept) next) in
@@ -50,7 +50,7 @@ returns-in-Ok-clause-stands c =
     c.push_clause.ensures ∙ ap (λ xs. xs ++ c.in_ok-clause.clause ∷ []) c.in_ok-reserve.ensures.items ∙ ap (λ x. inside.clauses.items ++ x ∷ []) (c.in_ok-clause.ensures ∙ c.slice.ensures) in
     let next : c.in_ok-id.id ≡ length (standing c.args.self.now) + 1 =
     omega (arith, c.in_ok-id.ensures, c.len.ensures, inside.clauses.ok.0, ap length (c.self.invariant.same ∙ ap standing c.self.view_is)) in
-    let kept = kept_with_block c.args.self.now c.in_ok-id.id c.args.lits (subst IsKept c.self.view_is c.self.invariant.kept) next c.requires.phase c.requires.distinct c.requires.block in
+    let kept = kept_with_block c.args.self.now c.in_ok-id.id c.args.lits (subst IsKept c.self.view_is c.self.invariant.kept) next (omega arith) c.requires.phase c.requires.distinct c.requires.range c.requires.block in
     let recorded = recorded_clause inside.axioms inside.vars inside.lemmas.items inside.steps inside.clauses.items inside.log c.push_clause.new.clauses.items c.push.new.self (Block c.in_ok-id.id c.args.lits) c.args.lits c.args.self.now
     c.self.view_is c.self.invariant is_more c.in-Ok.ensures.ok kept.0 kept.1
     (ids_with_block c.args.self.now c.in_ok-id.id c.args.lits (subst IsKept c.self.view_is c.self.invariant.kept) next) in

@@ -16,7 +16,7 @@ invariant_of-self-in-Ok c =
     ap (λ (x : Clause). inside.clauses.items ++ x ∷ []) (c.in_ok-clause.ensures ∙ ap (λ l. l ∷ []) (c.negate.ensures ∙ ap negation c.requires.guard)) in
     let next : c.in_ok-id.id ≡ length (standing now) + 1 =
     omega (arith, c.in_ok-id.ensures, c.len.ensures, inside.clauses.ok.0, ap length (c.self.invariant.same ∙ ap standing c.self.view_is)) in
-    let kept = kept_with_retire now c.in_ok-id.id (subst IsKept c.self.view_is c.self.invariant.kept) next c.requires.phase in
+    let kept = kept_with_retire now c.in_ok-id.id (subst IsKept c.self.view_is c.self.invariant.kept) next (omega arith) c.requires.phase in
     let recorded = recorded_clause inside.axioms inside.vars inside.lemmas.items inside.steps inside.clauses.items inside.log c.push_clause.new.clauses.items c.push.new.self (Retire c.in_ok-id.id) retired now
     c.self.view_is c.self.invariant is_more c.in-Ok.ensures.ok kept.0 kept.1
     (ids_with_retire now c.in_ok-id.id (subst IsKept c.self.view_is c.self.invariant.kept) next) in
@@ -32,7 +32,7 @@ returns-in-Ok-clause-line c =
     ap (λ (x : Clause). inside.clauses.items ++ x ∷ []) (c.in_ok-clause.ensures ∙ ap (λ l. l ∷ []) (c.negate.ensures ∙ ap negation c.requires.guard)) in
     let next : c.in_ok-id.id ≡ length (standing now) + 1 =
     omega (arith, c.in_ok-id.ensures, c.len.ensures, inside.clauses.ok.0, ap length (c.self.invariant.same ∙ ap standing c.self.view_is)) in
-    let kept = kept_with_retire now c.in_ok-id.id (subst IsKept c.self.view_is c.self.invariant.kept) next c.requires.phase in
+    let kept = kept_with_retire now c.in_ok-id.id (subst IsKept c.self.view_is c.self.invariant.kept) next (omega arith) c.requires.phase in
     let recorded = recorded_clause inside.axioms inside.vars inside.lemmas.items inside.steps inside.clauses.items inside.log c.push_clause.new.clauses.items c.push.new.self (Retire c.in_ok-id.id) retired now
     c.self.view_is c.self.invariant is_more c.in-Ok.ensures.ok kept.0 kept.1
     (ids_with_retire now c.in_ok-id.id (subst IsKept c.self.view_is c.self.invariant.kept) next) in
@@ -48,7 +48,7 @@ returns-in-Ok-clause-stands c =
     ap (λ (x : Clause). inside.clauses.items ++ x ∷ []) (c.in_ok-clause.ensures ∙ ap (λ l. l ∷ []) (c.negate.ensures ∙ ap negation c.requires.guard)) in
     let next : c.in_ok-id.id ≡ length (standing now) + 1 =
     omega (arith, c.in_ok-id.ensures, c.len.ensures, inside.clauses.ok.0, ap length (c.self.invariant.same ∙ ap standing c.self.view_is)) in
-    let kept = kept_with_retire now c.in_ok-id.id (subst IsKept c.self.view_is c.self.invariant.kept) next c.requires.phase in
+    let kept = kept_with_retire now c.in_ok-id.id (subst IsKept c.self.view_is c.self.invariant.kept) next (omega arith) c.requires.phase in
     let recorded = recorded_clause inside.axioms inside.vars inside.lemmas.items inside.steps inside.clauses.items inside.log c.push_clause.new.clauses.items c.push.new.self (Retire c.in_ok-id.id) retired now
     c.self.view_is c.self.invariant is_more c.in-Ok.ensures.ok kept.0 kept.1
     (ids_with_retire now c.in_ok-id.id (subst IsKept c.self.view_is c.self.invariant.kept) next) in

@@ -1,9 +1,12 @@
 use Rattle.std.proofs.Common.{◌≡◌, ◌∷◌, ap, ◌∙◌, sym, subst, arith, false}
+use Rattle.std.specs.Prelude.{All}
 use Rattle.bs_log.specs.Refusal.{has_distinct_variables, is_block_of}
 use Rattle.bs_log.specs.History.{step_of}
 use Rattle.bs_clause.specs.Range.{HasVariables}
+use Rattle.bs_log.specs.LineForms.{HasVariable}
 use Rattle.bs_solve.specs.Solver.{SolverState}
 use Rattle.bs_solve.proofs.Solving.{solved_inside, guard_is_new, block_distinct, block_fits, block_range, ready_blocked, has_blocked}
+use Rattle.bs_solve.proofs.Searching.{have_variables}
 use Rattle.bs_solve.proofs.solver.Solver.block.Goals as goal
 
 pub new-requires : goal.new-requires
@@ -19,6 +22,17 @@ log_block-requires-clause-distinct c =
     let range : HasVariables inside.book.problem.vars c.args.lits.now = subst (λ (s : SolverState). HasVariables s.book.problem.vars c.args.lits.now) (sym c.self.view_is) c.requires.range in
     ap has_distinct_variables (c.in_ok-clause.ensures ∙ ap (λ l. l ∷ c.slice.result.now) c.new.ensures ∙ ap (λ xs. record { variable = inside.vars; positive = false } ∷ xs) c.slice.ensures) ∙
     block_distinct inside.book.problem.vars inside.vars c.args.lits.now (guard_is_new inside.book inside.vars searched.inside) range c.requires.distinct
+
+pub log_block-requires-clause-range : goal.log_block-requires-clause-range
+log_block-requires-clause-range c =
+    let inside = c.self.inside in
+    let searched = solved_inside _ _ c.self.view_is c.self.invariant c.if-self.false c.requires.stage in
+    let range : HasVariables inside.book.problem.vars c.args.lits.now = subst (λ (s : SolverState). HasVariables s.book.problem.vars c.args.lits.now) (sym c.self.view_is) c.requires.range in
+    let clause_is : c.in_ok-clause.clause ≡ record { variable = inside.vars; positive = false } ∷ c.args.lits.now =
+    c.in_ok-clause.ensures ∙ ap (λ l. l ∷ c.slice.result.now) c.new.ensures ∙ ap (λ xs. record { variable = inside.vars; positive = false } ∷ xs) c.slice.ensures in
+    subst (All HasVariable) (sym clause_is)
+    (have_variables inside.vars (record { variable = inside.vars; positive = false } ∷ c.args.lits.now) c.self.invariant.bound
+    (block_range inside.book.problem.vars inside.vars c.args.lits.now (guard_is_new inside.book inside.vars searched.inside) range))
 
 pub log_block-requires-clause-block : goal.log_block-requires-clause-block
 log_block-requires-clause-block c =
