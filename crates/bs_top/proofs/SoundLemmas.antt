@@ -24,9 +24,9 @@ use Rattle.bs_loop.specs.Bound.{HasBound}
 use Rattle.bs_loop.specs.Crash.{crash_of}
 use Rattle.bs_loop.proofs.GoodLemmas.{is_crash}
 use Rattle.bs_audit.specs.declared.finding.Finding.{Finding}
-use Rattle.bs_audit.specs.Finding.{part_of}
+use Rattle.bs_audit.specs.Finding.{part_of, basis_for}
 use Rattle.bs_entry.specs.Fitting.{IsDump}
-use Rattle.bs_top.specs.Sound.{IsSound, basis_for}
+use Rattle.bs_top.specs.Sound.{IsSound}
 use Rattle.bs_top.specs.Finishes.{IsBacktrace, Finds}
 
 -- a good and valid report of a crash

@@ -20,7 +20,8 @@ use Rattle.bs_loop.specs.Bound.{HasBound}
 use Rattle.bs_entry.specs.Entry.{Setup, circuit_in, runs_in}
 use Rattle.bs_demo.specs.Summary.{summary_text}
 use Rattle.bs_top.specs.Rejected.{finding_status, finding_text}
-use Rattle.bs_top.specs.Sound.{IsSound, basis_for}
+use Rattle.bs_audit.specs.Finding.{basis_for}
+use Rattle.bs_top.specs.Sound.{IsSound}
 use Rattle.bs_top.specs.Work.{Work, to_run, to_audit, to_dump, to_demo}
 
 -- the dump of a moment: its state, and the signature that the register holds there, if it holds one

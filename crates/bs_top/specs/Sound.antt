@@ -1,21 +1,15 @@
 -- What holds of a report that is written, or accepted.
-use Rattle.std.specs.Prelude.{◌≡◌, ◌≢◌, ℕ, ◌+◌, ◌≤◌, [], length, map, All, Some, None, slice_get}
-use Rattle.bs_log.specs.Shown.{Basis}
-use Rattle.bs_encode.specs.Assuming.{basis_of}
+use Rattle.std.specs.Prelude.{◌≡◌, ◌≢◌, ℕ, ◌+◌, ◌≤◌, [], length, All, Some, None, slice_get}
 use Rattle.bs_report.specs.declared.report.HitLine.{HitLine}
 use Rattle.bs_report.specs.declared.report.Step.{Step}
 use Rattle.bs_report.specs.declared.report.Report.{Report}
 use Rattle.bs_report.specs.declared.report.Stop.TheVariants.{Reset}
-use Rattle.bs_report.specs.Chain.{present_of}
 use Rattle.bs_report.specs.Crash.{Crash}
 use Rattle.bs_report.specs.Good.{IsGood}
 use Rattle.bs_report.specs.Law.{EndsExecution, HitsEarlier}
 use Rattle.bs_report.specs.Stop.{IsFinished}
 use Rattle.bs_report.specs.Valid.{IsValid}
-
--- what the log of a report is checked against: the clauses of the netlist, and what each step assumes
-abbrev pub basis_for : Crash → Report → Basis
-basis_for crash r = basis_of crash.circuit crash.choice.items (map present_of r.steps)
+use Rattle.bs_audit.specs.Finding.{basis_for}
 
 -- The report is good and valid. A trace of at least one step ends an execution from reset under a supplied run's inputs and then
 -- the trace's, which ends in the dumped state. Each later finished step hits earlier, so that a finished list without a hit is
