@@ -6,7 +6,7 @@ use Rattle.std.specs.List.{position}
 use Rattle.std.specs.Str.{bytes_eq}
 use Rattle.std.specs.declared.alloc.Global.{Global}
 use Rattle.bs_outside.specs.Files.{Files, held_in}
-use Rattle.bs_net.specs.declared.raw.Raw.{Raw}
+use Rattle.bs_net.specs.Parts.{Parts}
 use Rattle.bs_job.specs.declared.walk.Stop.{Stop}
 use Rattle.bs_job.specs.declared.walk.Stop.TheVariants.{NoMemory}
 use Rattle.bs_job.specs.declared.file.File.TheVariants as files
@@ -58,17 +58,17 @@ all_told netlist signature stimulus =
     told = told_of netlist signature stimulus
 
     nets : AllTold told (netlist_of (codes "netlist"))
-    nets = told_then told (fetched files.Netlist (codes "netlist")) (λ bytes. read_as files.Netlist (netlist_in bytes)) (told_fetched Raw told files.Netlist (codes "netlist") refl) (λ bytes. told_read told files.Netlist (netlist_in bytes))
+    nets = told_then told (fetched files.Netlist (codes "netlist")) (λ bytes. read_as files.Netlist (netlist_in bytes)) (told_fetched Parts told files.Netlist (codes "netlist") refl) (λ bytes. told_read told files.Netlist (netlist_in bytes))
 
-    items : (raw : Raw) → AllTold told (signature_of raw (codes "signature"))
-    items raw = told_then told (fetched files.Signature (codes "signature")) (λ bytes. read_as files.Signature (signature_in raw bytes)) (told_fetched Raw told files.Signature (codes "signature") refl) (λ bytes. told_read told files.Signature (signature_in raw bytes))
+    items : (raw : Parts) → AllTold told (signature_of raw (codes "signature"))
+    items raw = told_then told (fetched files.Signature (codes "signature")) (λ bytes. read_as files.Signature (signature_in raw bytes)) (told_fetched Parts told files.Signature (codes "signature") refl) (λ bytes. told_read told files.Signature (signature_in raw bytes))
 
-    runs : (raw : Raw) → AllTold told (stimulus_of raw (codes "stimulus"))
-    runs raw = told_then told (fetched files.Stimulus (codes "stimulus")) (λ bytes. read_as files.Stimulus (stimulus_in (input_width raw) bytes)) (told_fetched Raw told files.Stimulus (codes "stimulus") refl) (λ bytes. told_read told files.Stimulus (stimulus_in (input_width raw) bytes))
+    runs : (raw : Parts) → AllTold told (stimulus_of raw (codes "stimulus"))
+    runs raw = told_then told (fetched files.Stimulus (codes "stimulus")) (λ bytes. read_as files.Stimulus (stimulus_in (input_width raw) bytes)) (told_fetched Parts told files.Stimulus (codes "stimulus") refl) (λ bytes. told_read told files.Stimulus (stimulus_in (input_width raw) bytes))
 
     setup : AllTold told (setup_of demo_names)
     setup =
-        told_then told (netlist_of (codes "netlist")) (λ (raw : Raw). signature_of raw (codes "signature") >>= (λ (choice : Chosen). stimulus_of raw (codes "stimulus") >>= (λ (r : Stimulus). end record { raw = raw; choice = choice; runs = r }))) nets
+        told_then told (netlist_of (codes "netlist")) (λ (raw : Parts). signature_of raw (codes "signature") >>= (λ (choice : Chosen). stimulus_of raw (codes "stimulus") >>= (λ (r : Stimulus). end record { raw = raw; choice = choice; runs = r }))) nets
         (λ raw. told_then told (signature_of raw (codes "signature")) (λ (choice : Chosen). stimulus_of raw (codes "stimulus") >>= (λ (r : Stimulus). end record { raw = raw; choice = choice; runs = r })) (items raw)
         (λ choice. told_then told (stimulus_of raw (codes "stimulus")) (λ (r : Stimulus). end record { raw = raw; choice = choice; runs = r }) (runs raw) (λ r. tt)))
 

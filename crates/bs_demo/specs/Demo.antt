@@ -1,7 +1,7 @@
 -- The generated job: three texts in place of files, walked as the files of a job are.
 use Rattle.std.specs.Prelude.{ℕ, List, Some, None, codes, if◌then◌else◌}
 use Rattle.std.specs.Str.{bytes_eq}
-use Rattle.bs_net.specs.declared.raw.Raw.{Raw}
+use Rattle.bs_net.specs.Parts.{Parts}
 use Rattle.bs_gen.specs.Job.{netlist_for, signature_text, stimulus_for}
 use Rattle.bs_job.specs.Plan.{Tells, Plan, with_texts}
 use Rattle.bs_entry.specs.Entry.{Names, Placed, placed_of}
@@ -21,5 +21,5 @@ abbrev pub demo_told : ℕ → Tells
 demo_told number = told_of (netlist_for number) signature_text (stimulus_for number)
 
 -- they make a setup ready, and the moment of run 1 at cycle 256
-abbrev pub demo_of : ℕ → Plan Raw Placed
+abbrev pub demo_of : ℕ → Plan Parts Placed
 demo_of number = with_texts (demo_told number) (placed_of demo_names 1 256)

@@ -10,8 +10,7 @@ use Rattle.bs_net.specs.declared.net.Gate.{Gate}
 use Rattle.bs_net.specs.declared.net.Flop.{Flop}
 use Rattle.bs_net.specs.declared.net.Const.{Const}
 use Rattle.bs_net.specs.Circuit.{Circuit, Fits, Shows, IsSettled, bit_at, shown, loaded, state_nets}
-use Rattle.bs_net.specs.declared.raw.Raw.{Raw}
-use Rattle.bs_net.specs.Parts.{PartsArePlaced}
+use Rattle.bs_net.specs.Parts.{Parts, PartsArePlaced}
 use Rattle.bs_net.specs.Netlist.{circuit_of, clock_of}
 use Rattle.bs_net.proofs.NetlistLemmas.{without_placed}
 use Rattle.bs_net.proofs.NextLemmas.{below_from_range, range_from_below}
@@ -196,7 +195,7 @@ equal_gates c items p = record {
 }
 
 -- the nets and the flip-flops of a checked netlist and of what its signature is taken of are there
-pub parts_placed : (r : Raw) → PartsArePlaced r → (items : List (List ℕ)) → All (λ (item : List ℕ). All (λ i. i < length r.flops) item) items → IsPlaced (circuit_of r) items
+pub parts_placed : (r : Parts) → PartsArePlaced r → (items : List (List ℕ)) → All (λ (item : List ℕ). All (λ i. i < length r.flops) item) items → IsPlaced (circuit_of r) items
 parts_placed r p items placed = record {
   outs = λ k d lt. (p.gates.1 k d lt).0;
   ins = λ k d lt. (p.gates.1 k d lt).1.1;

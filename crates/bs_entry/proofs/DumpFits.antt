@@ -8,7 +8,7 @@ use Rattle.std.proofs.lemmas.Bool.{eqb-true}
 use Rattle.std.proofs.lemmas.List.Elements.{All-from_recursion}
 use Rattle.bs_bits.specs.Bits.{bits_eq}
 use Rattle.bs_bits.specs.Text.{bits_of}
-use Rattle.bs_net.specs.declared.raw.Raw.{Raw}
+use Rattle.bs_net.specs.Parts.{Parts}
 use Rattle.bs_net.specs.declared.net.Flop.{Flop}
 use Rattle.bs_net.specs.Circuit.{reset_state}
 use Rattle.bs_net.specs.Netlist.{circuit_of}
@@ -71,7 +71,7 @@ made_is reset state None dump h = by (bits_eq state reset) refl h
         record { state_is = sym (ap (λ (d : Dump). d.state) e); stored_as = sym (ap (λ (d : Dump). d.stored) e); at_reset = λ _. bits_same_is state reset same }
     by false same k = absurd (not_err Dump NotReset dump k)
 
-parts_fit : (raw : Raw) (choice : Chosen) (dump : Dump) (rs : Result (List Bool) DumpFault) (rt : Result (Option (List Bool)) DumpFault) (re : Result Bool DumpFault) → ((s : List Bool) → rs ≡ Ok s → length s ≡ length (reset_state (circuit_of raw))) → ((t : Option (List Bool)) → rt ≡ Ok t → Widths (length choice.items) t) → (rs >>= λ state. rt >>= λ stored. re >>= λ ended. at_reset (reset_state (circuit_of raw)) state stored) ≡ Ok dump → IsDump raw choice dump
+parts_fit : (raw : Parts) (choice : Chosen) (dump : Dump) (rs : Result (List Bool) DumpFault) (rt : Result (Option (List Bool)) DumpFault) (re : Result Bool DumpFault) → ((s : List Bool) → rs ≡ Ok s → length s ≡ length (reset_state (circuit_of raw))) → ((t : Option (List Bool)) → rt ≡ Ok t → Widths (length choice.items) t) → (rs >>= λ state. rt >>= λ stored. re >>= λ ended. at_reset (reset_state (circuit_of raw)) state stored) ≡ Ok dump → IsDump raw choice dump
 parts_fit raw choice dump (Err fault) rt re widths items h = absurd (not_err Dump fault dump h)
 parts_fit raw choice dump (Ok s) (Err fault) re widths items h = absurd (not_err Dump fault dump h)
 parts_fit raw choice dump (Ok s) (Ok t) (Err fault) widths items h = absurd (not_err Dump fault dump h)
@@ -83,7 +83,7 @@ parts_fit raw choice dump (Ok s) (Ok t) (Ok b) widths items h =
       reset = λ none. made.state_is ∙ made.at_reset (sym made.stored_as ∙ none);
     }
 
-pub dump_fits : (raw : Raw) (choice : Chosen) (lines : List (List ℕ)) (dump : Dump) → dump_of (reset_state (circuit_of raw)) (length choice.items) lines ≡ Ok dump → IsDump raw choice dump
+pub dump_fits : (raw : Parts) (choice : Chosen) (lines : List (List ℕ)) (dump : Dump) → dump_of (reset_state (circuit_of raw)) (length choice.items) lines ≡ Ok dump → IsDump raw choice dump
 unfolding dump_of
 dump_fits raw choice lines dump h =
     parts_fit raw choice dump (bits_line (codes "state ") 1 (length (reset_state (circuit_of raw))) (slice_get lines 0)) (stored_line (length choice.items) (slice_get (drop 1 lines) 0)) (end_line (drop 1 (drop 1 lines)))

@@ -1,11 +1,11 @@
 -- What is read of a signature has the netlist's width.
 use Rattle.std.proofs.Common.{◌≡◌, ℕ, List, length, Result, Ok, Err, sym, ap}
-use Rattle.bs_net.specs.declared.raw.Raw.{Raw}
+use Rattle.bs_net.specs.Parts.{Parts}
 use Rattle.bs_scan.specs.declared.fault.ChoiceFault.{ChoiceFault}
 use Rattle.bs_scan.specs.Choice.{Chosen}
 use Rattle.bs_scan.specs.ChoiceText.{◌>>=◌, items_of, chosen, choice_of}
 
-pub signature_fits : (raw : Raw) (texts : List (List ℕ)) (choice : Chosen) → choice_of raw texts ≡ Ok choice → choice.width ≡ length raw.flops
+pub signature_fits : (raw : Parts) (texts : List (List ℕ)) (choice : Chosen) → choice_of raw texts ≡ Ok choice → choice.width ≡ length raw.flops
 signature_fits raw texts choice e = by (items_of raw 1 texts) e
   where
     ok_in : Chosen → Result Chosen ChoiceFault

@@ -2,7 +2,7 @@
 use Rattle.std.specs.Prelude.{ℕ, List, length}
 use Rattle.bs_net.specs.Circuit.{Circuit}
 use Rattle.bs_net.specs.Netlist.{circuit_of}
-use Rattle.bs_net.specs.declared.raw.Raw.{Raw}
+use Rattle.bs_net.specs.Parts.{Parts}
 use Rattle.bs_stim.specs.Runs.{Stimulus, inputs_of}
 use Rattle.bs_scan.specs.Choice.{Chosen}
 use Rattle.bs_scan.specs.Moments.{Moment, Run}
@@ -22,7 +22,7 @@ pub record Names : Type 0 where
 
 -- what the first three files tell: a netlist's parts, what its signature is taken of, and the recorded runs
 pub record Setup : Type 0 where
-  pub raw : Raw
+  pub raw : Parts
   pub choice : Chosen
   pub runs : Stimulus
 
@@ -52,31 +52,31 @@ pub record Claimed : Type 0 where
 -- ---- the walks
 
 -- the bits of an input line
-abbrev pub input_width : Raw → ℕ
+abbrev pub input_width : Parts → ℕ
 input_width raw = length (circuit_of raw).inputs
 
-abbrev pub netlist_of : List ℕ → Plan Raw Raw
+abbrev pub netlist_of : List ℕ → Plan Parts Parts
 netlist_of name = do
   bytes ← fetched files.Netlist name
   read_as files.Netlist (netlist_in bytes)
 
-abbrev pub signature_of : Raw → List ℕ → Plan Raw Chosen
+abbrev pub signature_of : Parts → List ℕ → Plan Parts Chosen
 signature_of raw name = do
   bytes ← fetched files.Signature name
   read_as files.Signature (signature_in raw bytes)
 
-abbrev pub stimulus_of : Raw → List ℕ → Plan Raw Stimulus
+abbrev pub stimulus_of : Parts → List ℕ → Plan Parts Stimulus
 stimulus_of raw name = do
   bytes ← fetched files.Stimulus name
   read_as files.Stimulus (stimulus_in (input_width raw) bytes)
 
-abbrev pub dump_of : Setup → List ℕ → Plan Raw Dump
+abbrev pub dump_of : Setup → List ℕ → Plan Parts Dump
 dump_of setup name = do
   bytes ← fetched files.Dump name
   read_as files.Dump (dump_in setup.raw setup.choice bytes)
 
 -- the first three files of a job, by their names
-abbrev pub setup_of : Names → Plan Raw Setup
+abbrev pub setup_of : Names → Plan Parts Setup
 setup_of names = do
   raw ← netlist_of names.netlist
   choice ← signature_of raw names.signature
@@ -84,26 +84,26 @@ setup_of names = do
   end record { raw = raw; choice = choice; runs = runs }
 
 -- three files, and last whether the runs have the moment
-abbrev pub placed_of : Names → (run cycle : ℕ) → Plan Raw Placed
+abbrev pub placed_of : Names → (run cycle : ℕ) → Plan Parts Placed
 placed_of names run cycle = do
   setup ← setup_of names
   moment ← read_as files.Dump (moment_in setup.runs run cycle)
   end record { setup = setup; moment = moment }
 
 -- four files
-abbrev pub crashed_of : Names → List ℕ → Plan Raw Crashed
+abbrev pub crashed_of : Names → List ℕ → Plan Parts Crashed
 crashed_of names dump = do
   setup ← setup_of names
   dumped ← dump_of setup dump
   end record { setup = setup; dump = dumped }
 
-abbrev pub report_of : List ℕ → Plan Raw Report
+abbrev pub report_of : List ℕ → Plan Parts Report
 report_of name = do
   bytes ← fetched files.Report name
   read_as files.Report (report_read bytes)
 
 -- five files
-abbrev pub claimed_of : Names → (dump report : List ℕ) → Plan Raw Claimed
+abbrev pub claimed_of : Names → (dump report : List ℕ) → Plan Parts Claimed
 claimed_of names dump report = do
   crashed ← crashed_of names dump
   claimed ← report_of report

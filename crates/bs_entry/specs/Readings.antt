@@ -3,7 +3,7 @@ use Rattle.std.specs.Prelude.{ℕ, ◌&&◌, nat_le, Bool, List, length, Result,
 use Rattle.bs_bits.specs.Lines.{lines_of}
 use Rattle.bs_net.specs.Circuit.{reset_state}
 use Rattle.bs_net.specs.Netlist.{circuit_of}
-use Rattle.bs_net.specs.declared.raw.Raw.{Raw}
+use Rattle.bs_net.specs.Parts.{Parts}
 use Rattle.bs_scan.specs.Choice.{Chosen}
 use Rattle.bs_scan.specs.ChoiceText.{choice_of}
 use Rattle.bs_scan.specs.DumpText.{dump_of}
@@ -19,27 +19,27 @@ use Rattle.bs_job.specs.Plan.{Reason}
 use Rattle.bs_entry.specs.Refusals.{netlist_text_reason, check_reason, signature_reason, stimulus_reason, dump_reason, range_reason, report_reason, with_reason}
 
 -- parts that pass the check of a netlist
-abbrev pub checked_in : Raw → Result Raw (Reason Raw)
+abbrev pub checked_in : Parts → Result Parts (Reason Parts)
 checked_in raw = if passes raw then Ok raw else Err (check_reason raw)
 
-abbrev pub checked_of : Result Raw (Reason Raw) → Result Raw (Reason Raw)
+abbrev pub checked_of : Result Parts (Reason Parts) → Result Parts (Reason Parts)
 checked_of (Ok raw) = checked_in raw
 checked_of (Err reason) = Err reason
 
 -- the parts of a netlist, which pass the check
-abbrev pub netlist_in : List ℕ → Result Raw (Reason Raw)
+abbrev pub netlist_in : List ℕ → Result Parts (Reason Parts)
 netlist_in bytes = checked_of (with_reason netlist_text_reason (netlist_text bytes))
 
 -- the items of a signature, by the keys of a netlist's flip-flops
-abbrev pub signature_in : Raw → List ℕ → Result Chosen (Reason Raw)
+abbrev pub signature_in : Parts → List ℕ → Result Chosen (Reason Parts)
 signature_in raw bytes = with_reason signature_reason (choice_of raw (lines_of bytes))
 
 -- the runs of a stimulus, with so many bits in an input line
-abbrev pub stimulus_in : ℕ → List ℕ → Result Stimulus (Reason Raw)
+abbrev pub stimulus_in : ℕ → List ℕ → Result Stimulus (Reason Parts)
 stimulus_in width bytes = with_reason stimulus_reason (stimulus_of width (lines_of bytes))
 
 -- a dump of a netlist and of what its signatures are taken of
-abbrev pub dump_in : Raw → Chosen → List ℕ → Result Dump (Reason Raw)
+abbrev pub dump_in : Parts → Chosen → List ℕ → Result Dump (Reason Parts)
 dump_in raw choice bytes =
     with_reason dump_reason (dump_of (reset_state (circuit_of raw)) (length choice.items) (lines_of bytes))
 
@@ -48,9 +48,9 @@ abbrev pub has_moment : Stimulus → ℕ → ℕ → Bool
 has_moment runs run cycle = nat_le 1 run && nat_le run (length runs.runs) && nat_le cycle (length (run_at runs run).inputs)
 
 -- a moment of the runs
-abbrev pub moment_in : Stimulus → ℕ → ℕ → Result Moment (Reason Raw)
+abbrev pub moment_in : Stimulus → ℕ → ℕ → Result Moment (Reason Parts)
 moment_in runs run cycle = if has_moment runs run cycle then Ok (record { run = run; cycle = cycle }) else Err range_reason
 
 -- a report
-abbrev pub report_read : List ℕ → Result Report (Reason Raw)
+abbrev pub report_read : List ℕ → Result Report (Reason Parts)
 report_read bytes = with_reason report_reason (report_in bytes)

@@ -2,7 +2,7 @@
 use Rattle.std.specs.Prelude.{◌≡◌, ◌≢◌, ℕ, List, [], ◌++◌, slice_index_or, codes, decimal, Result, Ok, Err}
 use Rattle.std.specs.List.{flat_map}
 use Rattle.bs_net.specs.declared.net.NetId.{NetId}
-use Rattle.bs_net.specs.declared.raw.Raw.{Raw}
+use Rattle.bs_net.specs.Parts.{Parts}
 use Rattle.bs_net.specs.declared.fault.Count.{Count}
 use Rattle.bs_net.specs.declared.fault.Count.TheVariants.{Flops, Inputs, Terminals}
 use Rattle.bs_net.specs.declared.fault.NetFault.{NetFault}
@@ -90,15 +90,15 @@ abbrev pub too_many_words : Count → ℕ → List ℕ
 too_many_words kind count = codes "TooMany " ++ (count_word kind ++ (codes " " ++ decimal count))
 
 -- the key of a net
-abbrev pub key_of : Raw → NetId → List ℕ
+abbrev pub key_of : Parts → NetId → List ℕ
 key_of r n = slice_index_or r.names n.0 []
 
 -- the key of a gate's output net, behind a space
-abbrev pub gate_piece : Raw → ℕ → List ℕ
+abbrev pub gate_piece : Parts → ℕ → List ℕ
 gate_piece r gate = codes " " ++ key_of r (gate_at r.gates gate).out
 
 -- a fault of the check; a gate is named by its output net
-abbrev pub check_words : Raw → NetFault → List ℕ
+abbrev pub check_words : Parts → NetFault → List ℕ
 check_words r (net.TooMany kind count) = too_many_words kind count
 check_words r (net.SecondDriver n) = codes "SecondDriver " ++ key_of r n
 check_words r (net.Undriven n) = codes "Undriven " ++ key_of r n
@@ -108,7 +108,7 @@ check_words r (net.ClockMixed n) = codes "ClockMixed " ++ key_of r n
 check_words r net.NoMemory = []
 
 -- These words go with a netlist that the check refuses: they tell a fault that the check may tell, so any of its loops.
-pub record CheckSays (r : Raw) (why : List ℕ) : Type 0 where
+pub record CheckSays (r : Parts) (why : List ℕ) : Type 0 where
   pub fault : NetFault
   pub told : fault ≢ net.NoMemory
   pub is : IsFault r fault
@@ -116,29 +116,29 @@ pub record CheckSays (r : Raw) (why : List ℕ) : Type 0 where
 
 -- ---- the same as reasons of a job, whose case of several right texts is a netlist that the check refuses
 
-abbrev pub netlist_text_reason : VerilogFault → Reason Raw
+abbrev pub netlist_text_reason : VerilogFault → Reason Parts
 netlist_text_reason fault = exactly (netlist_text_words fault)
 
-abbrev pub check_reason : Raw → Reason Raw
+abbrev pub check_reason : Parts → Reason Parts
 check_reason r = any_of r
 
-abbrev pub signature_reason : ChoiceFault → Reason Raw
+abbrev pub signature_reason : ChoiceFault → Reason Parts
 signature_reason fault = exactly (signature_words fault)
 
-abbrev pub stimulus_reason : StimFault → Reason Raw
+abbrev pub stimulus_reason : StimFault → Reason Parts
 stimulus_reason fault = exactly (stimulus_words fault)
 
-abbrev pub dump_reason : DumpFault → Reason Raw
+abbrev pub dump_reason : DumpFault → Reason Parts
 dump_reason fault = exactly (dump_words fault)
 
-abbrev pub report_reason : ReportFault → Reason Raw
+abbrev pub report_reason : ReportFault → Reason Parts
 report_reason fault = exactly (report_words fault)
 
-abbrev pub range_reason : Reason Raw
+abbrev pub range_reason : Reason Parts
 range_reason = exactly range_words
 
 -- what a reader's definition wants, with a reason for its fault
-abbrev pub with_reason : {V F : Type 0} → (F → Reason Raw) → Result V F → Result V (Reason Raw)
+abbrev pub with_reason : {V F : Type 0} → (F → Reason Parts) → Result V F → Result V (Reason Parts)
 with_reason reason (Ok v) = Ok v
 with_reason reason (Err fault) = Err (reason fault)
 
@@ -150,6 +150,6 @@ HasWords words Q.NoMemory = Unit {0}
 HasWords words (Q.Why why) = why.items ≡ words
 
 -- the refusal has words that go with a netlist that the check refuses, unless memory ran out
-abbrev pub HasCheckWords : Raw → Refusal → Type 0
+abbrev pub HasCheckWords : Parts → Refusal → Type 0
 HasCheckWords r Q.NoMemory = Unit {0}
 HasCheckWords r (Q.Why why) = CheckSays r why.items

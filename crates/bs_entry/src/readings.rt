@@ -1,8 +1,7 @@
 //! What a reader makes of the bytes of a file, with the words of its refusal.
 ghost use Rattle.std.specs.Prelude.{◌≡◌, ◌≤◌, ◌^◌, length, IfOk};
 ghost use Rattle.std.specs.Bool.{OnTrue};
-ghost use Rattle.bs_net.specs.Netlist.{circuit};
-ghost use Rattle.bs_net.specs.Parts.{PartsArePlaced};
+ghost use Rattle.bs_net.specs.Netlist.{parts_of, circuit};
 ghost use Rattle.bs_chip.specs.Replay.{IsPlaced};
 ghost use Rattle.bs_job.specs.Walks.{Reads};
 ghost use Rattle.bs_entry.specs.Entry.{input_width};
@@ -36,8 +35,7 @@ pub fn read_netlist(alloc: Global, bytes: &[u8]) -> Result<Netlist, Refusal>
 
 /// The netlist of parts that pass the check.
 fn check_netlist(alloc: Global, raw: Raw) -> Result<Netlist, Refusal>
-    requires { PartsArePlaced raw }
-    ensures { Reads CheckSays (λ net. net.raw) (checked_in raw) result }
+    ensures { Reads CheckSays (λ net. net.raw) (checked_in (parts_of raw)) result }
 {
     match Netlist::check(alloc, raw) {
         Ok(net) => Ok(net),

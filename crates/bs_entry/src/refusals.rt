@@ -1,7 +1,7 @@
 //! The words of a refusal line, for each fault of a reader and of the check (docs/FORMATS.md, "Refusal lines").
 ghost use Rattle.std.specs.Prelude.{◌≡◌, ◌<◌, ◌++◌, length, All, codes, decimal, IfOk, IfErr};
 ghost use Rattle.std.specs.List.{flat_map};
-ghost use Rattle.bs_net.specs.Parts.{PartsArePlaced};
+ghost use Rattle.bs_net.specs.Netlist.{parts_of};
 ghost use Rattle.bs_net.specs.Check.{IsFault};
 ghost use Rattle.bs_net.specs.Loops.{gate_at};
 ghost use Rattle.bs_net.specs.Netlist.{circuit};
@@ -66,7 +66,7 @@ fn numbered(alloc: Global, word: &[u8], number: u32) -> Refusal
 /// A word and the key of a net.
 fn key_words(alloc: Global, word: &[u8], raw: &Raw, net: NetId) -> Result<Vec<u8>, NoMemory>
     requires { net.0 < length raw.now.names }
-    ensures { IfOk result (λ why. why.items ≡ word.now ++ key_of raw.now net) }
+    ensures { IfOk result (λ why. why.items ≡ word.now ++ key_of (parts_of raw.now) net) }
 {
     let mut why = Vec::new(alloc);
     push_piece(&mut why, word)?;
@@ -77,7 +77,7 @@ fn key_words(alloc: Global, word: &[u8], raw: &Raw, net: NetId) -> Result<Vec<u8
 /// The refusal of a word and the key of a net.
 fn keyed(alloc: Global, word: &[u8], raw: &Raw, net: NetId) -> Refusal
     requires { net.0 < length raw.now.names }
-    ensures { HasWords (word.now ++ key_of raw.now net) result }
+    ensures { HasWords (word.now ++ key_of (parts_of raw.now) net) result }
 {
     refusal(key_words(alloc, word, raw, net))
 }
@@ -86,7 +86,7 @@ fn keyed(alloc: Global, word: &[u8], raw: &Raw, net: NetId) -> Refusal
 #[tactic(auto, using(crate::proofs::RefusalLemmas::key_is))]
 fn key_of(raw: &Raw, net: NetId) -> &str
     requires { net.0 < length raw.now.names }
-    ensures { result.now ≡ key_of raw.now net }
+    ensures { result.now ≡ key_of (parts_of raw.now) net }
 {
     raw.names.key(net)
 }
@@ -130,9 +130,8 @@ fn unsupported(alloc: Global, at: u32, what: What) -> Refusal
 /// Why the check refuses a netlist.
 #[tactic(auto, using(crate::proofs::RefusalLemmas::check_told))]
 pub fn check_refusal(alloc: Global, raw: &Raw, fault: &NetFault) -> Refusal
-    requires placed { PartsArePlaced raw.now }
-    requires is { IsFault raw.now fault.now }
-    ensures { HasCheckWords raw.now result }
+    requires is { IsFault (parts_of raw.now) fault.now }
+    ensures { HasCheckWords (parts_of raw.now) result }
 {
     fault_refusal(alloc, raw, fault)
 }
@@ -140,9 +139,8 @@ pub fn check_refusal(alloc: Global, raw: &Raw, fault: &NetFault) -> Refusal
 /// The words of a fault of the check.
 #[tactic(auto, using(crate::proofs::RefusalLemmas::mixed_named))]
 fn fault_refusal(alloc: Global, raw: &Raw, fault: &NetFault) -> Refusal
-    requires placed { PartsArePlaced raw.now }
-    requires is { IsFault raw.now fault.now }
-    ensures why { HasWords (check_words raw.now fault.now) result }
+    requires is { IsFault (parts_of raw.now) fault.now }
+    ensures why { HasWords (check_words (parts_of raw.now) fault.now) result }
     ensures want { fault.now ≡ CheckWant → result ≡ Want }
 {
     match fault {
@@ -188,7 +186,6 @@ fn too_many(alloc: Global, kind: Count, count: u32) -> Refusal
 
 /// The output net of a gate.
 fn output_of(raw: &Raw, gate: u32) -> NetId
-    requires placed { PartsArePlaced raw.now }
     requires gate { gate < length raw.now.gates }
     ensures net { result ≡ (gate_at raw.now.gates gate).out }
     ensures named { result.0 < length raw.now.names }
@@ -198,9 +195,8 @@ fn output_of(raw: &Raw, gate: u32) -> NetId
 
 /// The keys of the output nets of a loop of gates.
 fn loop_words(alloc: Global, raw: &Raw, gates: &[u32]) -> Result<Vec<u8>, NoMemory>
-    requires placed { PartsArePlaced raw.now }
     requires gates { All (λ gate. gate < length raw.now.gates) gates.now }
-    ensures { IfOk result (λ why. why.items ≡ codes "Loop" ++ flat_map (gate_piece raw.now) gates.now) }
+    ensures { IfOk result (λ why. why.items ≡ codes "Loop" ++ flat_map (gate_piece (parts_of raw.now)) gates.now) }
 {
     let mut why = b"Loop".to_vec(alloc)?;
     'gates: for &gate in gates {
@@ -212,9 +208,8 @@ fn loop_words(alloc: Global, raw: &Raw, gates: &[u32]) -> Result<Vec<u8>, NoMemo
 
 /// The refusal of a loop.
 fn looped(alloc: Global, raw: &Raw, gates: &[u32]) -> Refusal
-    requires placed { PartsArePlaced raw.now }
     requires gates { All (λ gate. gate < length raw.now.gates) gates.now }
-    ensures { HasWords (codes "Loop" ++ flat_map (gate_piece raw.now) gates.now) result }
+    ensures { HasWords (codes "Loop" ++ flat_map (gate_piece (parts_of raw.now)) gates.now) result }
 {
     refusal(loop_words(alloc, raw, gates))
 }

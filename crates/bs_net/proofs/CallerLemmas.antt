@@ -7,11 +7,25 @@ use Rattle.bs_net.specs.declared.net.Gate.{Gate}
 use Rattle.bs_net.specs.declared.fault.NetFault.{NetFault}
 use Rattle.bs_net.specs.declared.fault.NetFault.TheVariants.{NoMemory}
 use Rattle.bs_net.specs.declared.raw.Raw.{Raw}
+use Rattle.bs_net.specs.Parts.{Parts, PartsArePlaced}
+use Rattle.bs_net.specs.Netlist.{parts_of}
 use Rattle.bs_net.specs.Check.{HasOrder, Passes, IsFault}
 use Rattle.bs_net.specs.Decided.{has_order, passes}
 use Rattle.bs_net.proofs.DecidedLemmas.{has_order_Decides, passes_Decides}
 use Rattle.bs_net.proofs.RefusalLemmas.{refused_do_not_pass}
 use Rattle.bs_net.specs.Circuit.{Circuit, next, loaded, all_bits, settled}
+
+-- what the type of the parts keeps
+pub raw_is_placed : (r : Raw) → PartsArePlaced (parts_of r)
+raw_is_placed r =
+    record {
+      few_names = r.few_names;
+      inputs = r.inputs_placed;
+      outputs = r.outputs_placed;
+      consts = r.consts_placed;
+      gates = r.gates_placed;
+      flops = r.flops_placed;
+    }
 
 pub length_next : (c : Circuit) (s x : List Bool) → length (next c s x) ≡ length c.flops
 unfolding next
@@ -53,11 +67,11 @@ range_push n = rw add-one (range_more 0 n ∙ ap (λ x. range_with_len 0 n ++ x 
 pub has_order_is : (gates : List Gate) → (has_order gates ≡ true) ↔ HasOrder gates
 has_order_is gates = has_order_Decides gates
 
-pub passes_is : (r : Raw) → (passes r ≡ true) ↔ Passes r
+pub passes_is : (r : Parts) → (passes r ≡ true) ↔ Passes r
 passes_is r = passes_Decides r
 
 -- a refusal but want of memory says that the parts do not pass
-pub refused_fails : (r : Raw) (fault : NetFault) → fault ≢ NoMemory → IsFault r fault → passes r ≡ false
+pub refused_fails : (r : Parts) (fault : NetFault) → fault ≢ NoMemory → IsFault r fault → passes r ≡ false
 refused_fails r fault other is = by (passes r) refl
   where
     by : (b : Bool) → passes r ≡ b → passes r ≡ false

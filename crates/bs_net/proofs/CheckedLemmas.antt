@@ -11,12 +11,11 @@ use Rattle.bs_net.specs.declared.net.NetId.{NetId}
 use Rattle.bs_net.specs.declared.net.Gate.{Gate}
 use Rattle.bs_net.specs.declared.net.Flop.{Flop}
 use Rattle.bs_net.specs.declared.net.Const.{Const}
-use Rattle.bs_net.specs.declared.raw.Raw.{Raw}
 use Rattle.bs_net.specs.declared.fault.Count.TheVariants.{Flops, Inputs}
 use Rattle.bs_net.specs.Circuit.{number, drivers}
 use Rattle.bs_net.specs.Order.{IsChecked, IsBounded}
 use Rattle.bs_net.specs.Loops.{is_in}
-use Rattle.bs_net.specs.Parts.{PartsArePlaced}
+use Rattle.bs_net.specs.Parts.{Parts, PartsArePlaced}
 use Rattle.bs_net.specs.Check.{Passes, too_many, wide_gate, mixed_clock}
 use Rattle.bs_net.specs.Netlist.{circuit_of, clock_of, without}
 use Rattle.bs_net.proofs.PlacedLemmas.{Within, drivers_within}
@@ -62,7 +61,7 @@ some_fault : {X : Type 0} (b : Bool) (x : X) (o : Option X) → cond (not b) (So
 some_fault true x o e = refl
 some_fault false x o e = absurd cc
 
-clock_port : (r : Raw) → mixed_clock r ≡ None → list_any (λ (m : NetId). nat_eq (clock_of r.flops).0 m.0) r.inputs ≡ true
+clock_port : (r : Parts) → mixed_clock r ≡ None → list_any (λ (m : NetId). nat_eq (clock_of r.flops).0 m.0) r.inputs ≡ true
 clock_port r e = some_fault (list_any (λ (m : NetId). nat_eq (clock_of r.flops).0 m.0) r.inputs) (clock_of r.flops) _ e
 
 any_number : (n : ℕ) (ns : List NetId) → is_in n (map number ns) ≡ list_any (λ (m : NetId). nat_eq n m.0) ns
@@ -80,14 +79,14 @@ any_within k n (m ∷ ns) w e =
 -- ---- the drivers of the circuit
 
 -- the nets that drive a circuit without its inputs
-abbrev others : Raw → List NetId
+abbrev others : Parts → List NetId
 others r = map (λ f. f.q) r.flops ++ (map (λ k. k.net) r.consts ++ map (λ g. g.out) r.gates)
 
 constants_are : (ks : List Const) → map number (map (λ (k : Const). k.net) ks) ≡ map (λ (k : Const). k.net.0) ks
 constants_are [] = refl
 constants_are (k ∷ ks) = ap (λ u. k.net.0 ∷ u) (constants_are ks)
 
-drivers_are : (r : Raw) → map number (without (clock_of r.flops) r.inputs ++ others r) ≡ drivers (circuit_of r)
+drivers_are : (r : Parts) → map number (without (clock_of r.flops) r.inputs ++ others r) ≡ drivers (circuit_of r)
 drivers_are r =
     let a = without (clock_of r.flops) r.inputs in
     let q = map (λ (f : Flop). f.q) r.flops in
@@ -101,7 +100,7 @@ drivers_are r =
     ∙ (ap (λ u. u ++ map number g) (constants_are r.consts)
     ∙ ap (λ u. map (λ (c : Const). c.net.0) r.consts ++ u) (outs_are r.gates))))
 
-pub passes_checked : (r : Raw) → PartsArePlaced r → Passes r → IsChecked (circuit_of r)
+pub passes_checked : (r : Parts) → PartsArePlaced r → Passes r → IsChecked (circuit_of r)
 passes_checked r p h =
     let clock = clock_of r.flops in
     let distinct : IsDistinct nat_eq (map number (r.inputs ++ others r)) = single_distinct r p h.nets.single in
@@ -124,7 +123,7 @@ passes_checked r p h =
 
 -- ---- the sizes
 
-not_many : (r : Raw) → too_many r ≡ None → (length r.flops ≤ 4096) × (length r.inputs ≤ 4096) × (find (λ (g : Gate). nat_lt 64 (length g.ins)) r.gates ≡ None)
+not_many : (r : Parts) → too_many r ≡ None → (length r.flops ≤ 4096) × (length r.inputs ≤ 4096) × (find (λ (g : Gate). nat_lt 64 (length g.ins)) r.gates ≡ None)
 not_many r e = by (nat_lt 4096 (length r.flops)) refl e
   where
     none_wide : (o : Option Gate) → wide_gate o ≡ None → o ≡ None
@@ -170,7 +169,7 @@ without_less c (n ∷ ns) e = by (nat_eq n.0 c.0) refl (without_less c ns)
         let later : length (without c ns) < length ns = rec (ap (λ b. b || list_any (λ (m : NetId). nat_eq c.0 m.0) ns) (sym apart) ∙ e) in
         omega (arith, later)
 
-pub passes_bounded : (r : Raw) → PartsArePlaced r → Passes r → IsBounded (circuit_of r)
+pub passes_bounded : (r : Parts) → PartsArePlaced r → Passes r → IsBounded (circuit_of r)
 passes_bounded r p h =
     let sizes = not_many r h.nets.few in
     record {

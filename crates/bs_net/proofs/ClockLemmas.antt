@@ -6,9 +6,8 @@ use Rattle.std.specs.Option.{option_map}
 use Rattle.std.proofs.lemmas.List.Elements.{recursion_from_All}
 use Rattle.bs_net.specs.declared.net.NetId.{NetId}
 use Rattle.bs_net.specs.declared.net.Flop.{Flop}
-use Rattle.bs_net.specs.declared.raw.Raw.{Raw}
 use Rattle.bs_net.specs.Netlist.{clock_of}
-use Rattle.bs_net.specs.Parts.{PartsArePlaced}
+use Rattle.bs_net.specs.Parts.{Parts, PartsArePlaced}
 use Rattle.bs_net.specs.Check.{mixed_clock, other_clock, data_clock, first_of, is_data}
 use Rattle.bs_net.proofs.PlacedLemmas.{clocks_in}
 
@@ -28,7 +27,7 @@ found_placed k p (f ∷ fs) n h e = by (p f) e (found_placed k p fs n h.1)
     by true e' rest = let same : f.ck ≡ n = cc in let P : NetId → Type 0 = λ m. m.0 < k in subst P same h.0
     by false e' rest = rest e'
 
-pub mixed_placed : (r : Raw) (n : NetId) → PartsArePlaced r → r.flops ≢ [] → mixed_clock r ≡ Some n → n.0 < length r.names
+pub mixed_placed : (r : Parts) (n : NetId) → PartsArePlaced r → r.flops ≢ [] → mixed_clock r ≡ Some n → n.0 < length r.names
 mixed_placed r n p some e =
     by_port (list_any (λ (m : NetId). nat_eq (clock_of r.flops).0 m.0) r.inputs) e
   where

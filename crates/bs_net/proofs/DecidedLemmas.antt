@@ -1,7 +1,7 @@
 -- The tests of a netlist say what the check decides.
-use Rattle.std.proofs.Common.{◌≡◌, ◌≢◌, ℕ, suc, zero, ◌<◌, ◌≤◌, ◌+◌, Bool, true, false, not, ◌&&◌, ◌||◌, List, [], ◌∷◌, ◌++◌, map, length, refl, arith, subst, ap, sym, ◌∙◌, ◌⊎◌, inl, inr, ⊎_elim, nat_eq, nat_lt, length-append, zero-add, ne_eqb, Option, Some, None, is_none, ◌↔◌}
+use Rattle.std.proofs.Common.{◌≡◌, ◌≢◌, ℕ, suc, zero, ◌<◌, ◌≤◌, ◌+◌, Bool, true, false, not, ◌||◌, List, [], ◌∷◌, ◌++◌, map, length, refl, arith, subst, ap, sym, ◌∙◌, ◌⊎◌, inl, inr, ⊎_elim, nat_eq, nat_lt, ne_eqb, Option, Some, None, is_none}
 use Rattle.std.specs.Bool.{Decides}
-use Rattle.std.specs.List.{AllByRecursion, All, list_all, list_any, flat_map, range_with_len, IsDistinct}
+use Rattle.std.specs.List.{AllByRecursion, All, list_all, list_any, flat_map, range_with_len}
 use Rattle.std.specs.List.Sorted.{IsPermutation}
 use Rattle.std.proofs.lemmas.Bool.{true≢false, false≢true, or_cases, or_left, or_right, cases_eq}
 use Rattle.std.proofs.lemmas.Bool.Decides.{Decides-eqb, Decides-ltb, Decides-and, Decides-not}
@@ -11,18 +11,15 @@ use Rattle.std.proofs.lemmas.List.Sorted.{length_permutation, list_any-IsPermuta
 use Rattle.bs_net.specs.declared.net.NetId.{NetId}
 use Rattle.bs_net.specs.declared.net.Gate.{Gate}
 use Rattle.bs_net.specs.declared.net.Flop.{Flop}
-use Rattle.bs_net.specs.declared.fault.NetFault.{NetFault}
-use Rattle.bs_net.specs.declared.fault.NetFault.TheVariants.{NoMemory}
-use Rattle.bs_net.specs.declared.raw.Raw.{Raw}
+use Rattle.bs_net.specs.Parts.{Parts}
 use Rattle.bs_net.specs.Lowest.{NonePasses}
 use Rattle.bs_net.specs.Loops.{is_in}
 use Rattle.bs_net.specs.Order.{IsLevelled, IsOrder, gates_in}
-use Rattle.bs_net.specs.Check.{too_many, is_shared, is_undriven, mixed_clock, HasOrder, PassesNets, Passes, IsFault}
+use Rattle.bs_net.specs.Check.{too_many, is_shared, is_undriven, mixed_clock, HasOrder, PassesNets, Passes}
 use Rattle.bs_net.specs.Decided.{all_lists, is_levelled, is_order, has_order, none_passes, passes}
 use Rattle.bs_net.proofs.LevelLemmas.{split_at}
 use Rattle.bs_net.proofs.NetlistLemmas.{order_below}
 use Rattle.bs_net.proofs.NextLemmas.{list_all_Decides, below_from_range, range_from_below, Member, member-map, member_append_left, member_append_right}
-use Rattle.bs_net.proofs.RefusalLemmas.{refused_do_not_pass}
 
 -- ---- the lists of numbers below k
 
@@ -175,7 +172,7 @@ some_Decides [] = (λ e. absurd (omega (arith, (Decides-ltb 0 0).0 e)), λ some.
 some_Decides (f ∷ fs) = (λ e same. absurd cc, λ some. (Decides-ltb 0 (length (f ∷ fs))).1 (omega arith))
 
 -- `passes` says whether `Passes` holds
-pub passes_Decides : (r : Raw) → Decides (passes r) (Passes r)
+pub passes_Decides : (r : Parts) → Decides (passes r) (Passes r)
 unfolding passes
 passes_Decides r =
     let two = Decides-and _ _ (none_Decides (too_many r)) (none_passes_Decides (is_shared r) (length r.names)) in

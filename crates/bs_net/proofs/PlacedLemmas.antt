@@ -6,8 +6,7 @@ use Rattle.bs_net.specs.declared.net.NetId.{NetId}
 use Rattle.bs_net.specs.declared.net.Gate.{Gate}
 use Rattle.bs_net.specs.declared.net.Flop.{Flop}
 use Rattle.bs_net.specs.declared.net.Const.{Const}
-use Rattle.bs_net.specs.declared.raw.Raw.{Raw}
-use Rattle.bs_net.specs.Parts.{PartsArePlaced}
+use Rattle.bs_net.specs.Parts.{Parts, PartsArePlaced}
 use Rattle.bs_net.specs.Check.{driver_nets}
 
 -- each net is below the count
@@ -32,37 +31,37 @@ each_out k (g ∷ gs) h = (h.0, each_out k gs h.1)
 
 -- the parts, in a table of as many places as there are names
 
-pub inputs_in : (r : Raw) (p : PartsArePlaced r) (m : ℕ) → m ≡ length r.names → All (λ (n : NetId). n.0 < m) r.inputs
+pub inputs_in : (r : Parts) (p : PartsArePlaced r) (m : ℕ) → m ≡ length r.names → All (λ (n : NetId). n.0 < m) r.inputs
 inputs_in r p m e = let P : ℕ → Type 0 = λ k. All (λ (n : NetId). n.0 < k) r.inputs in subst P (sym e) p.inputs.1
 
-pub outputs_in : (r : Raw) (p : PartsArePlaced r) (m : ℕ) → m ≡ length r.names → All (λ (n : NetId). n.0 < m) r.outputs
+pub outputs_in : (r : Parts) (p : PartsArePlaced r) (m : ℕ) → m ≡ length r.names → All (λ (n : NetId). n.0 < m) r.outputs
 outputs_in r p m e = let P : ℕ → Type 0 = λ k. All (λ (n : NetId). n.0 < k) r.outputs in subst P (sym e) p.outputs.1
 
-pub constants_in : (r : Raw) (p : PartsArePlaced r) (m : ℕ) → m ≡ length r.names → All (λ (c : Const). c.net.0 < m) r.consts
+pub constants_in : (r : Parts) (p : PartsArePlaced r) (m : ℕ) → m ≡ length r.names → All (λ (c : Const). c.net.0 < m) r.consts
 constants_in r p m e = let P : ℕ → Type 0 = λ k. All (λ (c : Const). c.net.0 < k) r.consts in subst P (sym e) p.consts.1
 
-pub states_in : (r : Raw) (p : PartsArePlaced r) (m : ℕ) → m ≡ length r.names → All (λ (f : Flop). f.q.0 < m) r.flops
+pub states_in : (r : Parts) (p : PartsArePlaced r) (m : ℕ) → m ≡ length r.names → All (λ (f : Flop). f.q.0 < m) r.flops
 states_in r p m e = let P : ℕ → Type 0 = λ k. All (λ (f : Flop). f.q.0 < k) r.flops in subst P (sym e) (λ i d lt. (p.flops.1 i d lt).0)
 
-pub loads_in : (r : Raw) (p : PartsArePlaced r) (m : ℕ) → m ≡ length r.names → All (λ (f : Flop). f.d.0 < m) r.flops
+pub loads_in : (r : Parts) (p : PartsArePlaced r) (m : ℕ) → m ≡ length r.names → All (λ (f : Flop). f.d.0 < m) r.flops
 loads_in r p m e = let P : ℕ → Type 0 = λ k. All (λ (f : Flop). f.d.0 < k) r.flops in subst P (sym e) (λ i d lt. (p.flops.1 i d lt).1)
 
-pub clocks_in : (r : Raw) (p : PartsArePlaced r) (m : ℕ) → m ≡ length r.names → All (λ (f : Flop). f.ck.0 < m) r.flops
+pub clocks_in : (r : Parts) (p : PartsArePlaced r) (m : ℕ) → m ≡ length r.names → All (λ (f : Flop). f.ck.0 < m) r.flops
 clocks_in r p m e = let P : ℕ → Type 0 = λ k. All (λ (f : Flop). f.ck.0 < k) r.flops in subst P (sym e) (λ i d lt. (p.flops.1 i d lt).2)
 
-pub outs_in : (r : Raw) (p : PartsArePlaced r) (m : ℕ) → m ≡ length r.names → All (λ (g : Gate). g.out.0 < m) r.gates
+pub outs_in : (r : Parts) (p : PartsArePlaced r) (m : ℕ) → m ≡ length r.names → All (λ (g : Gate). g.out.0 < m) r.gates
 outs_in r p m e = let P : ℕ → Type 0 = λ k. All (λ (g : Gate). g.out.0 < k) r.gates in subst P (sym e) (λ i d lt. (p.gates.1 i d lt).0)
 
-pub ins_in : (r : Raw) (p : PartsArePlaced r) (m : ℕ) → m ≡ length r.names → All (λ (g : Gate). All (λ (n : NetId). n.0 < m) g.ins) r.gates
+pub ins_in : (r : Parts) (p : PartsArePlaced r) (m : ℕ) → m ≡ length r.names → All (λ (g : Gate). All (λ (n : NetId). n.0 < m) g.ins) r.gates
 ins_in r p m e =
     let P : ℕ → Type 0 = λ k. All (λ (g : Gate). All (λ (n : NetId). n.0 < k) g.ins) r.gates in
     subst P (sym e) (λ i d lt. (p.gates.1 i d lt).1.1)
 
 -- no gate has more inputs than a number holds
-pub ins_short : (r : Raw) → PartsArePlaced r → All (λ (g : Gate). length g.ins < 2 ^ 32) r.gates
+pub ins_short : (r : Parts) → PartsArePlaced r → All (λ (g : Gate). length g.ins < 2 ^ 32) r.gates
 ins_short r p i d lt = (p.gates.1 i d lt).1.0
 
-pub drivers_within : (r : Raw) → PartsArePlaced r → Within (length r.names) (driver_nets r)
+pub drivers_within : (r : Parts) → PartsArePlaced r → Within (length r.names) (driver_nets r)
 drivers_within r p =
     let k = length r.names in
     let e : length r.names ≡ k = refl in

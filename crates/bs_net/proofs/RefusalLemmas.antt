@@ -1,7 +1,7 @@
 -- A refused netlist does not pass.
 use Rattle.std.proofs.Common.{◌≡◌, ◌≢◌, ℕ, Bool, Option, Some, None, refl, sym, ◌∙◌}
 use Rattle.std.proofs.lemmas.Bool.{true≢false}
-use Rattle.bs_net.specs.declared.raw.Raw.{Raw}
+use Rattle.bs_net.specs.Parts.{Parts}
 use Rattle.bs_net.specs.declared.fault.NetFault.{NetFault}
 use Rattle.bs_net.specs.declared.fault.NetFault.TheVariants.{TooMany, SecondDriver, Undriven, Loop, NoFlop, ClockMixed, NoMemory}
 use Rattle.bs_net.specs.Lowest.{IsLowest, NonePasses}
@@ -14,7 +14,7 @@ some_none (Some y) x e n = absurd cc
 lowest_none : {p : ℕ → Bool} {k n : ℕ} → IsLowest p k n → NonePasses p k → ⊥
 lowest_none l h = true≢false (sym l.passes ∙ h.each _ l.below)
 
-pub refused_do_not_pass : (r : Raw) (fault : NetFault) → fault ≢ NoMemory → IsFault r fault → Passes r → ⊥
+pub refused_do_not_pass : (r : Parts) (fault : NetFault) → fault ≢ NoMemory → IsFault r fault → Passes r → ⊥
 refused_do_not_pass r (TooMany kind count) other h p = some_none _ _ h p.nets.few
 refused_do_not_pass r (SecondDriver n) other h p = lowest_none h.1 p.nets.single
 refused_do_not_pass r (Undriven n) other h p = lowest_none h.2 p.nets.driven

@@ -5,9 +5,8 @@ use Rattle.std.proofs.lemmas.Bool.{cases_lt, ltb-false}
 use Rattle.std.proofs.lemmas.Map.Keys.{IsDistinct-tail}
 use Rattle.bs_net.specs.declared.net.NetId.{NetId}
 use Rattle.bs_net.specs.declared.net.Gate.{Gate}
-use Rattle.bs_net.specs.declared.raw.Raw.{Raw}
 use Rattle.bs_net.specs.Circuit.{number}
-use Rattle.bs_net.specs.Parts.{PartsArePlaced}
+use Rattle.bs_net.specs.Parts.{Parts, PartsArePlaced}
 use Rattle.bs_net.specs.Check.{times_in, driver_nets, is_shared}
 use Rattle.bs_net.specs.Lowest.{NonePasses}
 use Rattle.bs_net.proofs.TallyLemmas.{times_more}
@@ -45,7 +44,7 @@ none_past k n (m ∷ ns) le w =
     times_more n m ns ∙ (ap (λ b. cond b 1 0 + times_in ns n) (ne_eqb n m.0 (λ e. omega (arith, e, lt, le))) ∙ (zero-add _ ∙ none_past k n ns le w.1))
 
 -- where no net has two drivers, the driven nets are distinct
-pub single_distinct : (r : Raw) → PartsArePlaced r → NonePasses (is_shared r) (length r.names) → IsDistinct nat_eq (map number (driver_nets r))
+pub single_distinct : (r : Parts) → PartsArePlaced r → NonePasses (is_shared r) (length r.names) → IsDistinct nat_eq (map number (driver_nets r))
 single_distinct r p single =
     distinct_from_once (driver_nets r)
     (λ n.
@@ -63,7 +62,7 @@ outs_are [] = refl
 outs_are (g ∷ gs) = ap (λ u. g.out.0 ∷ u) (outs_are gs)
 
 -- and so are the gates' outputs
-pub outs_distinct : (r : Raw) → PartsArePlaced r → NonePasses (is_shared r) (length r.names) → IsDistinct nat_eq (map (λ (g : Gate). g.out.0) r.gates)
+pub outs_distinct : (r : Parts) → PartsArePlaced r → NonePasses (is_shared r) (length r.names) → IsDistinct nat_eq (map (λ (g : Gate). g.out.0) r.gates)
 outs_distinct r p single =
     let P : List ℕ → Type 0 = λ ns. IsDistinct nat_eq ns in
     let all = single_distinct r p single in

@@ -7,10 +7,9 @@ use Rattle.std.proofs.lemmas.List.{length-replicate, get_or-replicate, drop_more
 use Rattle.std.proofs.lemmas.List.Sums.{sum_by-cons}
 use Rattle.bs_net.specs.declared.net.NetId.{NetId}
 use Rattle.bs_net.specs.declared.net.Gate.{Gate}
-use Rattle.bs_net.specs.declared.raw.Raw.{Raw}
 use Rattle.bs_net.specs.declared.tallies.Tally.{Tally}
 use Rattle.bs_net.specs.declared.tallies.Tally.TheVariants.{Never}
-use Rattle.bs_net.specs.Parts.{PartsArePlaced}
+use Rattle.bs_net.specs.Parts.{Parts, PartsArePlaced}
 use Rattle.bs_net.specs.Check.{times_in, driver_nets, reader_nets, is_shared, is_undriven}
 use Rattle.bs_net.specs.Lowest.{IsLowest, NonePasses}
 use Rattle.bs_net.specs.Tallies.{tally_of, raised, is_often, is_never, tally_at, tallied, tallies_of, often_at, undriven_at}
@@ -99,18 +98,18 @@ not_not true = refl
 not_not false = refl
 
 -- the table of a netlist's drivers, and that of its readers
-abbrev pub Drives : Raw → List Tally → Type 0
+abbrev pub Drives : Parts → List Tally → Type 0
 Drives r table = table ≡ tallies_of (length r.names) (driver_nets r)
 
-abbrev pub Reads : Raw → List Tally → Type 0
+abbrev pub Reads : Parts → List Tally → Type 0
 Reads r table = table ≡ tallies_of (length r.names) (reader_nets r)
 
-shared_is : (r : Raw) (drivers : List Tally) → Drives r drivers → (n : ℕ) → n < length r.names → is_often (tally_at drivers n) ≡ is_shared r n
+shared_is : (r : Parts) (drivers : List Tally) → Drives r drivers → (n : ℕ) → n < length r.names → is_often (tally_at drivers n) ≡ is_shared r n
 shared_is r drivers d n lt =
     ap (λ t. is_often (tally_at t n)) d
     ∙ (ap is_often (tallied_at (length r.names) (driver_nets r) n lt) ∙ often_is (times_in (driver_nets r) n))
 
-undriven_is : (r : Raw) (readers drivers : List Tally) → Reads r readers → Drives r drivers → (n : ℕ) → n < length r.names → (not (is_never (tally_at readers n)) && is_never (tally_at drivers n)) ≡ is_undriven r n
+undriven_is : (r : Parts) (readers drivers : List Tally) → Reads r readers → Drives r drivers → (n : ℕ) → n < length r.names → (not (is_never (tally_at readers n)) && is_never (tally_at drivers n)) ≡ is_undriven r n
 undriven_is r readers drivers e d n lt =
     let read : not (is_never (tally_at readers n)) ≡ nat_lt 0 (times_in (reader_nets r) n) =
     ap (λ t. not (is_never (tally_at t n))) e
@@ -135,28 +134,28 @@ lowest_same p q j k n e same l =
 none_same : (p q : ℕ → Bool) (j k : ℕ) → j ≡ k → ((i : ℕ) → i < k → p i ≡ q i) → NonePasses p j → NonePasses q k
 none_same p q j k e same l = record { each = λ i lt. sym (same i lt) ∙ l.each i (omega (arith, e, lt)) }
 
-wide : (r : Raw) (drivers : List Tally) → Drives r drivers → length drivers ≡ length r.names
+wide : (r : Parts) (drivers : List Tally) → Drives r drivers → length drivers ≡ length r.names
 wide r drivers d = ap (λ t. length t) d ∙ length-tallied_new (length r.names) (driver_nets r)
 
-pub lowest_shared : (r : Raw) (drivers : List Tally) (n : ℕ) → Drives r drivers → IsLowest (often_at drivers) (length drivers) n → IsLowest (is_shared r) (length r.names) n
+pub lowest_shared : (r : Parts) (drivers : List Tally) (n : ℕ) → Drives r drivers → IsLowest (often_at drivers) (length drivers) n → IsLowest (is_shared r) (length r.names) n
 lowest_shared r drivers n d l =
     lowest_same (often_at drivers) (is_shared r) _ _ n (wide r drivers d) (shared_is r drivers d) l
 
-pub none_shared : (r : Raw) (drivers : List Tally) → Drives r drivers → NonePasses (often_at drivers) (length drivers) → NonePasses (is_shared r) (length r.names)
+pub none_shared : (r : Parts) (drivers : List Tally) → Drives r drivers → NonePasses (often_at drivers) (length drivers) → NonePasses (is_shared r) (length r.names)
 none_shared r drivers d l =
     none_same (often_at drivers) (is_shared r) _ _ (wide r drivers d) (shared_is r drivers d) l
 
-pub lowest_undriven : (r : Raw) (readers drivers : List Tally) (n : ℕ) → Reads r readers → Drives r drivers → IsLowest (undriven_at readers drivers) (length drivers) n → IsLowest (is_undriven r) (length r.names) n
+pub lowest_undriven : (r : Parts) (readers drivers : List Tally) (n : ℕ) → Reads r readers → Drives r drivers → IsLowest (undriven_at readers drivers) (length drivers) n → IsLowest (is_undriven r) (length r.names) n
 lowest_undriven r readers drivers n e d l =
     lowest_same (undriven_at readers drivers) (is_undriven r) _ _ n (wide r drivers d) (undriven_is r readers drivers e d) l
 
-pub none_undriven : (r : Raw) (readers drivers : List Tally) → Reads r readers → Drives r drivers → NonePasses (undriven_at readers drivers) (length drivers) → NonePasses (is_undriven r) (length r.names)
+pub none_undriven : (r : Parts) (readers drivers : List Tally) → Reads r readers → Drives r drivers → NonePasses (undriven_at readers drivers) (length drivers) → NonePasses (is_undriven r) (length r.names)
 none_undriven r readers drivers e d l =
     none_same (undriven_at readers drivers) (is_undriven r) _ _ (wide r drivers d) (undriven_is r readers drivers e d) l
 
 -- a table for each name is short
-pub table_short : (r : Raw) → PartsArePlaced r → (drivers : List Tally) → Drives r drivers → length drivers < 2 ^ 32
+pub table_short : (r : Parts) → PartsArePlaced r → (drivers : List Tally) → Drives r drivers → length drivers < 2 ^ 32
 table_short r p drivers d = omega (arith, wide r drivers d, p.few_names)
 
-pub tables_match : (r : Raw) (readers drivers : List Tally) → Reads r readers → Drives r drivers → length readers ≡ length drivers
+pub tables_match : (r : Parts) (readers drivers : List Tally) → Reads r readers → Drives r drivers → length readers ≡ length drivers
 tables_match r readers drivers e d = ap (λ t. length t) e ∙ (length-tallied_new (length r.names) (reader_nets r) ∙ sym (wide r drivers d))

@@ -4,7 +4,7 @@ use Rattle.std.specs.List.{list_any, flat_map}
 use Rattle.std.specs.Option.{option_map}
 use Rattle.bs_net.specs.declared.net.NetId.{NetId}
 use Rattle.bs_net.specs.declared.net.Gate.{Gate}
-use Rattle.bs_net.specs.declared.raw.Raw.{Raw}
+use Rattle.bs_net.specs.Parts.{Parts}
 use Rattle.bs_net.specs.declared.fault.Count.{Count}
 use Rattle.bs_net.specs.declared.fault.Count.TheVariants.{Flops, Inputs, Terminals}
 use Rattle.bs_net.specs.declared.fault.NetFault.{NetFault}
@@ -22,7 +22,7 @@ wide_gate None = None
 wide_gate (Some g) = Some (Terminals, length g.ins)
 
 -- more than 4,096 flip-flops, or else more than 4,096 input port bits, or else a first gate with more than 64 inputs
-abbrev pub too_many : Raw → Option (Count × ℕ)
+abbrev pub too_many : Parts → Option (Count × ℕ)
 too_many r =
     if nat_lt 4096 (length r.flops)
     then Some (Flops, length r.flops)
@@ -33,11 +33,11 @@ too_many r =
 -- ---- drivers and readers of a net
 
 -- every net that something drives, once for each driver: a port bit, a flip-flop's q, a constant, a gate's output
-abbrev pub driver_nets : Raw → List NetId
+abbrev pub driver_nets : Parts → List NetId
 driver_nets r = r.inputs ++ (map (λ f. f.q) r.flops ++ (map (λ k. k.net) r.consts ++ map (λ g. g.out) r.gates))
 
 -- every net that something reads: a gate's input, a d, a ck, an output port bit
-abbrev pub reader_nets : Raw → List NetId
+abbrev pub reader_nets : Parts → List NetId
 reader_nets r = flat_map (λ g. g.ins) r.gates ++ (map (λ f. f.d) r.flops ++ (map (λ f. f.ck) r.flops ++ r.outputs))
 
 -- how often a net stands in a list
@@ -45,11 +45,11 @@ abbrev pub times_in : List NetId → ℕ → ℕ
 times_in nets n = count_by (λ m. n == m.0) nets
 
 -- whether a net has two drivers or more
-abbrev pub is_shared : Raw → ℕ → Bool
+abbrev pub is_shared : Parts → ℕ → Bool
 is_shared r n = nat_lt 1 (times_in (driver_nets r) n)
 
 -- whether a net is read and has no driver
-abbrev pub is_undriven : Raw → ℕ → Bool
+abbrev pub is_undriven : Parts → ℕ → Bool
 is_undriven r n = nat_lt 0 (times_in (reader_nets r) n) && not (nat_lt 0 (times_in (driver_nets r) n))
 
 -- ---- an order of the gates
@@ -66,20 +66,20 @@ first_of (Some n) other = Some n
 first_of None other = other
 
 -- whether a gate or a flip-flop's d reads a net
-abbrev pub is_data : Raw → NetId → Bool
+abbrev pub is_data : Parts → NetId → Bool
 is_data r n = list_any (λ g. list_any (λ m. n.0 == m.0) g.ins) r.gates || list_any (λ f. n.0 == f.d.0) r.flops
 
 -- the first clock of a flip-flop that is another net
-abbrev pub other_clock : Raw → Option NetId
+abbrev pub other_clock : Parts → Option NetId
 other_clock r = option_map (λ f. f.ck) (find (λ f. not (f.ck.0 == (clock_of r.flops).0)) r.flops)
 
 -- the clock, where it is read as data
-abbrev pub data_clock : Raw → Option NetId
+abbrev pub data_clock : Parts → Option NetId
 data_clock r = if is_data r (clock_of r.flops) then Some (clock_of r.flops) else None
 
 -- the clock of the first flip-flop, where it is no input port bit; or else the first other clock; or else the clock, where it
 -- is read as data
-abbrev pub mixed_clock : Raw → Option NetId
+abbrev pub mixed_clock : Parts → Option NetId
 mixed_clock r =
     if not (list_any (λ m. (clock_of r.flops).0 == m.0) r.inputs)
     then Some (clock_of r.flops)
@@ -88,20 +88,20 @@ mixed_clock r =
 -- ---- the first that holds
 
 -- none of the refusals before that of a loop
-pub record PassesNets (r : Raw) : Type 0 where
+pub record PassesNets (r : Parts) : Type 0 where
   pub few : too_many r ≡ None
   pub single : NonePasses (is_shared r) (length r.names)
   pub driven : NonePasses (is_undriven r) (length r.names)
 
 -- none of the refusals
-pub record Passes (r : Raw) : Type 0 where
+pub record Passes (r : Parts) : Type 0 where
   pub nets : PassesNets r
   pub ordered : HasOrder r.gates
   pub some_flop : r.flops ≢ []
   pub one_clock : mixed_clock r ≡ None
 
 -- a fault is told exactly where its test is the first to fail; want of memory is free
-abbrev pub IsFault : Raw → NetFault → Type 0
+abbrev pub IsFault : Parts → NetFault → Type 0
 IsFault r (TooMany kind count) = too_many r ≡ Some (kind, count)
 IsFault r (SecondDriver n) = (too_many r ≡ None) × IsLowest (is_shared r) (length r.names) n.0
 IsFault r (Undriven n) =
@@ -113,4 +113,4 @@ IsFault r NoMemory = Unit {0}
 
 -- each refusal but want of memory excludes that the netlist passes
 abbrev pub RefusedDoNotPass : Type 0
-RefusedDoNotPass = (r : Raw) (fault : NetFault) → fault ≢ NoMemory → IsFault r fault → Passes r → ⊥
+RefusedDoNotPass = (r : Parts) (fault : NetFault) → fault ≢ NoMemory → IsFault r fault → Passes r → ⊥

@@ -2,7 +2,7 @@
 use Rattle.std.specs.Prelude.{ℕ, zero, suc, Bool, true, not, ◌&&◌, ◌==◌, List, [], ◌∷◌, length, map, is_none, nat_lt}
 use Rattle.std.specs.List.{list_all, list_any, flat_map, range_with_len}
 use Rattle.bs_net.specs.declared.net.Gate.{Gate}
-use Rattle.bs_net.specs.declared.raw.Raw.{Raw}
+use Rattle.bs_net.specs.Parts.{Parts}
 use Rattle.bs_net.specs.Loops.{is_in}
 use Rattle.bs_net.specs.Order.{gates_in}
 use Rattle.bs_net.specs.Check.{too_many, is_shared, is_undriven, mixed_clock}
@@ -34,7 +34,7 @@ abbrev pub none_passes : (ℕ → Bool) → ℕ → Bool
 none_passes test count = list_all (λ k. not (test k)) (range_with_len 0 count)
 
 -- whether none of the refusals is there
-unfoldable pub passes : Raw → Bool
+unfoldable pub passes : Parts → Bool
 passes r =
     is_none (too_many r)
     && none_passes (is_shared r) (length r.names)

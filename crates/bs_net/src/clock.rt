@@ -2,7 +2,7 @@
 ghost use Rattle.std.specs.Prelude.{◌≡◌, ◌≢◌, ◌==◌, [], not, find};
 ghost use Rattle.std.specs.List.{list_any};
 ghost use Rattle.std.specs.Option.{option_map};
-ghost use Rattle.bs_net.specs.Netlist.{clock_of};
+ghost use Rattle.bs_net.specs.Netlist.{parts_of, clock_of};
 ghost use Rattle.bs_net.specs.Check.{mixed_clock};
 
 use crate::net::{Flop, Gate, NetId};
@@ -44,7 +44,7 @@ fn other_clock(flops: &[Flop], clock: NetId) -> Option<NetId>
 /// The net for which there is no single clock: the first clock, or another one.
 pub(crate) fn mixed_clock(raw: &Raw, clock: NetId) -> Option<NetId>
     requires { clock ≡ clock_of raw.now.flops }
-    ensures { result ≡ mixed_clock raw.now }
+    ensures { result ≡ mixed_clock (parts_of raw.now) }
 {
     if !is_among(raw.inputs.slice(), clock) {
         return Some(clock);

@@ -2,6 +2,7 @@
 ghost use Rattle.std.specs.Prelude.{◌≡◌, ◌<◌, ◌^◌, ◌&&◌, not, length, OnOk, IfErr, IfSome, IfNone, None};
 ghost use Rattle.bs_net.specs.Lowest.{IsLowest, NonePasses};
 ghost use Rattle.bs_net.specs.Tallies.{is_often, is_never, often_at, undriven_at};
+ghost use Rattle.bs_net.specs.Netlist.{parts_of};
 ghost use Rattle.bs_net.specs.Parts.{PartsArePlaced};
 ghost use Rattle.bs_net.specs.Check.{too_many, PassesNets, IsFault};
 
@@ -71,10 +72,10 @@ fn first_undriven(readers: &[Tally], drivers: &[Tally]) -> Option<u32>
 
 /// Whether each net has at most one driver, and each net that is read has one; or the first refusal of these.
 pub(crate) fn nets_pass(alloc: Global, raw: &Raw) -> Result<(), NetFault>
-    requires placed { PartsArePlaced raw.now }
-    requires few { too_many raw.now ≡ None }
-    ensures ok { OnOk result (PassesNets raw.now) }
-    ensures err { IfErr result (λ fault. IsFault raw.now fault) }
+    requires placed { PartsArePlaced (parts_of raw.now) }
+    requires few { too_many (parts_of raw.now) ≡ None }
+    ensures ok { OnOk result (PassesNets (parts_of raw.now)) }
+    ensures err { IfErr result (λ fault. IsFault (parts_of raw.now) fault) }
 {
     let drivers = driver_tallies(alloc, raw)?;
     if let Some(n) = first_shared(drivers.as_slice()) {

@@ -3,6 +3,7 @@ ghost use Rattle.std.specs.Prelude.{◌≡◌, ◌<◌, ◌≤◌, ◌^◌, ◌+
 ghost use Rattle.std.specs.List.{IsDistinct};
 ghost use Rattle.bs_net.specs.Loops.{is_in, up_to, IsLeastFirst};
 ghost use Rattle.bs_net.specs.Order.{IsOrder};
+ghost use Rattle.bs_net.specs.Netlist.{parts_of};
 ghost use Rattle.bs_net.specs.Parts.{PartsArePlaced};
 ghost use Rattle.bs_net.specs.Check.{PassesNets, IsFault};
 ghost use Rattle.bs_net.specs.Search.{start, filled, IsLevelling};
@@ -120,10 +121,10 @@ fn levelize(alloc: Global, gates: &[Gate], nets: usize) -> Result<Levelling, NoM
 
 /// An order of a netlist's gates; or the refusal where they make a loop.
 pub(crate) fn gate_order(alloc: Global, raw: &Raw) -> Result<List<u32>, NetFault>
-    requires placed { PartsArePlaced raw.now }
-    requires nets { PassesNets raw.now }
+    requires placed { PartsArePlaced (parts_of raw.now) }
+    requires nets { PassesNets (parts_of raw.now) }
     ensures ok { IfOk result (λ order. IsOrder raw.now.gates order) }
-    ensures err { IfErr result (λ fault. IsFault raw.now fault) }
+    ensures err { IfErr result (λ fault. IsFault (parts_of raw.now) fault) }
 {
     match levelize(alloc, raw.gates.slice(), raw.names.len() as usize)? {
         Levelling::Ordered(order) => Ok(order),

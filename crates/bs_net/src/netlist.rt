@@ -2,7 +2,7 @@
 ghost use Rattle.std.specs.Prelude.{◌≡◌, ◌≢◌, [], length, map, IfOk, IfErr, IfSome, IfNone};
 ghost use Rattle.bs_net.specs.Circuit.{reset_state};
 ghost use Rattle.bs_net.specs.Order.{IsOrder, IsChecked, IsBounded};
-ghost use Rattle.bs_net.specs.Netlist.{circuit, clock_of, without};
+ghost use Rattle.bs_net.specs.Netlist.{parts_of, circuit, clock_of, without};
 ghost use Rattle.bs_net.specs.Parts.{PartsArePlaced};
 ghost use Rattle.bs_net.specs.Check.{Passes, PassesNets, HasOrder, IsFault};
 ghost use Rattle.bs_net.specs.Findings.{Finds};
@@ -29,13 +29,13 @@ pub struct Netlist {
 }
 
 impl Model for Netlist {
-    ghost use Rattle.bs_net.specs.Netlist.{Checked};
+    ghost use Rattle.bs_net.specs.Netlist.{Checked, parts_of};
 
     ghost Value = { Checked };
 
     ghost use Rattle.bs_net.specs.NetlistSound.{IsSound};
 
-    ghost view = { λ n. record { raw = n.raw; order = n.order } };
+    ghost view = { λ n. record { raw = parts_of n.raw; order = n.order } };
 
     ghost invariant = { λ n. IsSound n };
 }
@@ -77,10 +77,10 @@ fn first_clock(flops: &[Flop]) -> Option<NetId>
 
 /// The clock of all flip-flops; or the refusal where there is none.
 fn one_clock(raw: &Raw) -> Result<NetId, NetFault>
-    requires nets { PassesNets raw.now }
+    requires nets { PassesNets (parts_of raw.now) }
     requires ordered { HasOrder raw.now.gates }
-    ensures ok { IfOk result (λ n. (n ≡ clock_of raw.now.flops) × Passes raw.now) }
-    ensures err { IfErr result (λ fault. IsFault raw.now fault) }
+    ensures ok { IfOk result (λ n. (n ≡ clock_of raw.now.flops) × Passes (parts_of raw.now)) }
+    ensures err { IfErr result (λ fault. IsFault (parts_of raw.now) fault) }
 {
     match first_clock(raw.flops.slice()) {
         None => Err(NetFault::NoFlop),
@@ -101,9 +101,9 @@ struct Findings {
 
 /// What the check finds; or the first refusal.
 fn examine(alloc: Global, raw: &Raw) -> Result<Findings, NetFault>
-    requires { PartsArePlaced raw.now }
-    ensures ok { IfOk result (λ f. Passes raw.now × Finds raw.now f) }
-    ensures err { IfErr result (λ fault. IsFault raw.now fault) }
+    requires { PartsArePlaced (parts_of raw.now) }
+    ensures ok { IfOk result (λ f. Passes (parts_of raw.now) × Finds (parts_of raw.now) f) }
+    ensures err { IfErr result (λ fault. IsFault (parts_of raw.now) fault) }
 {
     if let Some((count, number)) = too_many(raw) {
         return Err(NetFault::TooMany(count, number));
@@ -125,9 +125,8 @@ impl Netlist {
     /// The netlist of some parts; or the first refusal, with the parts as they were
     /// (docs/DEFINITIONS.md, "Refusals of the check"). It takes time linear in the parts.
     pub fn check(alloc: Global, raw: Raw) -> Result<Netlist, Refused>
-        requires { PartsArePlaced raw }
-        ensures ok { IfOk result (λ n. (n.raw ≡ raw) × Passes raw) }
-        ensures err { IfErr result (λ e. (e.raw ≡ raw) × IsFault raw e.fault) }
+        ensures ok { IfOk result (λ n. (n.raw ≡ parts_of raw) × Passes (parts_of raw)) }
+        ensures err { IfErr result (λ e. (e.raw ≡ raw) × IsFault (parts_of raw) e.fault) }
     {
         match examine(alloc, &raw) {
             Ok(
@@ -150,7 +149,7 @@ impl Netlist {
 
     /// The parts.
     pub fn raw(&self) -> &Raw
-        ensures parts { result.now ≡ self.now.raw }
+        ensures parts { parts_of result.now ≡ self.now.raw }
         ensures placed { PartsArePlaced self.now.raw }
         ensures checked { IsChecked (circuit self.now) }
         ensures bounded { IsBounded (circuit self.now) }

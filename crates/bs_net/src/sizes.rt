@@ -1,5 +1,6 @@
 //! The greatest sizes of a netlist.
 ghost use Rattle.std.specs.Prelude.{◌≡◌, ◌<◌, ◌^◌, length, All, find, nat_lt};
+ghost use Rattle.bs_net.specs.Netlist.{parts_of};
 ghost use Rattle.bs_net.specs.Parts.{PartsArePlaced};
 ghost use Rattle.bs_net.specs.Check.{too_many, wide_gate};
 
@@ -23,8 +24,8 @@ fn wide_gate(gates: &[Gate]) -> Option<(Count, u32)>
 
 /// What there is too much of, and how many: flip-flops, then input port bits, then the inputs of a gate.
 pub(crate) fn too_many(raw: &Raw) -> Option<(Count, u32)>
-    requires { PartsArePlaced raw.now }
-    ensures { result ≡ too_many raw.now }
+    requires { PartsArePlaced (parts_of raw.now) }
+    ensures { result ≡ too_many (parts_of raw.now) }
 {
     if raw.flops.len() > 4096 {
         return Some((Count::Flops, raw.flops.len() as u32));

@@ -2,6 +2,7 @@
 ghost use Rattle.std.specs.Prelude.{◌≡◌, ◌<◌, length, replicate, map, All, IfOk, slice_set};
 ghost use Rattle.std.specs.List.{flat_map};
 ghost use Rattle.bs_net.specs.Tallies.{raised, tallied, tallies_of, tally_at};
+ghost use Rattle.bs_net.specs.Netlist.{parts_of};
 ghost use Rattle.bs_net.specs.Parts.{PartsArePlaced};
 ghost use Rattle.bs_net.specs.Check.{driver_nets, reader_nets};
 
@@ -125,8 +126,8 @@ fn unnamed(alloc: Global, count: usize) -> Result<Vec<Tally>, NoMemory>
 
 /// How many drivers each net has.
 pub(crate) fn driver_tallies(alloc: Global, raw: &Raw) -> Result<Vec<Tally>, NoMemory>
-    requires { PartsArePlaced raw.now }
-    ensures { IfOk result (λ t. t.items ≡ tallies_of (length raw.now.names) (driver_nets raw.now)) }
+    requires { PartsArePlaced (parts_of raw.now) }
+    ensures { IfOk result (λ t. t.items ≡ tallies_of (length raw.now.names) (driver_nets (parts_of raw.now))) }
 {
     let mut table = unnamed(alloc, raw.names.len() as usize)?;
     count_nets(&mut table, raw.inputs.slice());
@@ -138,8 +139,8 @@ pub(crate) fn driver_tallies(alloc: Global, raw: &Raw) -> Result<Vec<Tally>, NoM
 
 /// How many readers each net has.
 pub(crate) fn reader_tallies(alloc: Global, raw: &Raw) -> Result<Vec<Tally>, NoMemory>
-    requires { PartsArePlaced raw.now }
-    ensures { IfOk result (λ t. t.items ≡ tallies_of (length raw.now.names) (reader_nets raw.now)) }
+    requires { PartsArePlaced (parts_of raw.now) }
+    ensures { IfOk result (λ t. t.items ≡ tallies_of (length raw.now.names) (reader_nets (parts_of raw.now))) }
 {
     let mut table = unnamed(alloc, raw.names.len() as usize)?;
     count_inputs(&mut table, raw.gates.slice());

@@ -1,7 +1,7 @@
 //! Orders and refusals of small netlists, a long chain of gates, and each call that allocates with ample memory.
-ghost use Rattle.std.specs.Prelude.{◌≡◌, ◌<◌, ◌≤◌, length, IsTrue, IfOk, IfSome};
+ghost use Rattle.std.specs.Prelude.{◌≡◌, ◌<◌, ◌≤◌, length, IsTrue};
 ghost use Rattle.std.specs.Bool.{OnTrue};
-ghost use Rattle.bs_net.specs.Parts.{ArePlaced, GatesArePlaced, FlopsArePlaced, ConstantsArePlaced, takes, PartsArePlaced};
+ghost use Rattle.bs_net.specs.Parts.{ArePlaced, GatesArePlaced, FlopsArePlaced, ConstantsArePlaced, takes};
 
 use crate::{Const, Count, Flop, Gate, Kind, Names, NetFault, NetId, Netlist, Raw, Refused, Terms};
 use bs_bits::{List, NoMemory};
@@ -108,9 +108,7 @@ impl Draft {
     }
 
     /// The parts, where each net has a name and each gate the inputs that its kind takes.
-    fn finish(self) -> Option<Raw>
-        ensures { IfSome result (λ raw. PartsArePlaced raw) }
-    {
+    fn finish(self) -> Option<Raw> {
         if !self.is_whole() {
             return None;
         }
@@ -246,9 +244,7 @@ fn gates_are_placed(count: u32, gates: &[Gate]) -> bool
 }
 
 /// The parts that a text of statements stands for.
-fn parts_of(alloc: Global, text: &str) -> Result<Option<Raw>, NoMemory>
-    ensures { IfOk result (λ parts. IfSome parts (λ raw. PartsArePlaced raw)) }
-{
+fn parts_of(alloc: Global, text: &str) -> Result<Option<Raw>, NoMemory> {
     let mut draft = Draft::new(alloc);
     for statement in text.split(';') {
         draft.read(alloc, statement)?;

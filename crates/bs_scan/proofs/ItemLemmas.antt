@@ -3,7 +3,7 @@ use Rattle.std.proofs.Common.{◌≡◌, ◌⊎◌, inl, inr, ℕ, suc, ◌≤�
 use Rattle.std.specs.Prelude.{◌==◌, Result, Ok, Err}
 use Rattle.std.proofs.lemmas.List.Sums.{sum_by-cons, sum_by_push}
 use Rattle.bs_bits.specs.Lines.{words_of, lines_of, onto_first}
-use Rattle.bs_net.specs.declared.raw.Raw.{Raw}
+use Rattle.bs_net.specs.Parts.{Parts}
 use Rattle.bs_scan.specs.declared.fault.ChoiceFault.{ChoiceFault}
 use Rattle.bs_scan.specs.declared.fault.ChoiceFault.TheVariants.{UnknownFlop, NoMemory}
 use Rattle.bs_scan.specs.Choice.{numbers_of}
@@ -26,20 +26,20 @@ front_none (Ok xs) = refl
 abbrev Flops : Type 0
 Flops = Result (List ℕ) ChoiceFault
 
-pub flop_step : (whole : Flops) (net : Raw) (number : ℕ) (item : List ℕ) (ws more : List (List ℕ)) (name : List ℕ) (flop : ℕ) →
+pub flop_step : (whole : Flops) (net : Parts) (number : ℕ) (item : List ℕ) (ws more : List (List ℕ)) (name : List ℕ) (flop : ℕ) →
     whole ≡ with_front item (flops_of net number ws) → ws ≡ name ∷ more → Some flop ≡ flop_named net name → whole ≡ with_front (item ++ flop ∷ []) (flops_of net number more)
 unfolding flops_of
 flop_step whole net number item ws more name flop e l r =
     e ∙ (ap (λ ws. with_front item (flops_of net number ws)) l
     ∙ (ap (λ o. with_front item (known number o >>= λ flop. flops_of net number more >>= put flop)) (sym r) ∙ front_more item flop (flops_of net number more)))
 
-pub flop_fault : (whole : Flops) (net : Raw) (number : ℕ) (item : List ℕ) (ws more : List (List ℕ)) (name : List ℕ) →
+pub flop_fault : (whole : Flops) (net : Parts) (number : ℕ) (item : List ℕ) (ws more : List (List ℕ)) (name : List ℕ) →
     whole ≡ with_front item (flops_of net number ws) → ws ≡ name ∷ more → None ≡ flop_named net name → whole ≡ Err (UnknownFlop number)
 unfolding flops_of
 flop_fault whole net number item ws more name e l r =
     e ∙ (ap (λ ws. with_front item (flops_of net number ws)) l ∙ ap (λ o. with_front item (known number o >>= λ flop. flops_of net number more >>= put flop)) (sym r))
 
-pub flops_end : (whole : Flops) (net : Raw) (number : ℕ) (item : List ℕ) (ws : List (List ℕ)) →
+pub flops_end : (whole : Flops) (net : Parts) (number : ℕ) (item : List ℕ) (ws : List (List ℕ)) →
     whole ≡ with_front item (flops_of net number ws) → ws ≡ [] → whole ≡ Ok item
 unfolding flops_of
 flops_end whole net number item ws e l = e ∙ (ap (λ ws. with_front item (flops_of net number ws)) l ∙ ap Ok (append-nil item))
@@ -49,7 +49,7 @@ flops_end whole net number item ws e l = e ∙ (ap (λ ws. with_front item (flop
 abbrev Items : Type 0
 Items = Result (List (List ℕ)) ChoiceFault
 
-pub item_step : (whole : Items) (net : Raw) (number : ℕ) (items : List (List ℕ)) (lines more : List (List ℕ)) (line : List ℕ) (item : List ℕ) →
+pub item_step : (whole : Items) (net : Parts) (number : ℕ) (items : List (List ℕ)) (lines more : List (List ℕ)) (line : List ℕ) (item : List ℕ) →
     whole ≡ with_front items (items_of net number lines) → lines ≡ line ∷ more → item_of net number (names_of (words_of line)) ≡ Ok item →
     whole ≡ with_front (items ++ item ∷ []) (items_of net (number + 1) more)
 unfolding items_of
@@ -57,7 +57,7 @@ item_step whole net number items lines more line item e l r =
     e ∙ (ap (λ ls. with_front items (items_of net number ls)) l
     ∙ (ap (λ o. with_front items (o >>= λ item. items_of net (number + 1) more >>= put item)) r ∙ front_more items item (items_of net (number + 1) more)))
 
-pub item_refused : (whole : Items) (net : Raw) (number : ℕ) (items : List (List ℕ)) (lines more : List (List ℕ)) (line : List ℕ) (f : ChoiceFault) →
+pub item_refused : (whole : Items) (net : Parts) (number : ℕ) (items : List (List ℕ)) (lines more : List (List ℕ)) (line : List ℕ) (f : ChoiceFault) →
     whole ≡ with_front items (items_of net number lines) → lines ≡ line ∷ more → (f ≡ NoMemory) ⊎ (item_of net number (names_of (words_of line)) ≡ Err f) →
     (f ≡ NoMemory) ⊎ (whole ≡ Err f)
 unfolding items_of
@@ -65,7 +65,7 @@ item_refused whole net number items lines more line f e l (inl none) = inl none
 item_refused whole net number items lines more line f e l (inr r) =
     inr (e ∙ (ap (λ ls. with_front items (items_of net number ls)) l ∙ ap (λ o. with_front items (o >>= λ item. items_of net (number + 1) more >>= put item)) r))
 
-pub items_end : (whole : Items) (net : Raw) (number : ℕ) (items : List (List ℕ)) (lines : List (List ℕ)) →
+pub items_end : (whole : Items) (net : Parts) (number : ℕ) (items : List (List ℕ)) (lines : List (List ℕ)) →
     whole ≡ with_front items (items_of net number lines) → lines ≡ [] → whole ≡ Ok items
 unfolding items_of
 items_end whole net number items lines e l = e ∙ (ap (λ ls. with_front items (items_of net number ls)) l ∙ ap Ok (append-nil items))

@@ -5,7 +5,7 @@ use Rattle.std.specs.Str.{bytes_eq}
 use Rattle.bs_bits.specs.Lines.{words_of, is_name}
 use Rattle.bs_net.specs.declared.net.Flop.{Flop}
 use Rattle.bs_net.specs.Names.{number_of}
-use Rattle.bs_net.specs.declared.raw.Raw.{Raw}
+use Rattle.bs_net.specs.Parts.{Parts}
 use Rattle.bs_scan.specs.declared.fault.ChoiceFault.{ChoiceFault}
 use Rattle.bs_scan.specs.declared.fault.ChoiceFault.TheVariants.{Line, TooMany, UnknownFlop, NoMemory}
 use Rattle.bs_scan.specs.Choice.{Chosen}
@@ -20,7 +20,7 @@ abbrev pub flop_of_net : List Flop → ℕ → Option ℕ
 flop_of_net flops n = position (λ flop. flop.q.0 == n) flops
 
 -- the flip-flop with a name: the key of its output net
-abbrev pub flop_named : Raw → List ℕ → Option ℕ
+abbrev pub flop_named : Parts → List ℕ → Option ℕ
 flop_named net name = option_and_then (flop_of_net net.flops) (number_of net.names name)
 
 -- whether a line's first word and its other words are an item
@@ -40,7 +40,7 @@ known number None = Err (UnknownFlop number)
 known number (Some flop) = Ok flop
 
 -- the flip-flops of the names, in order
-unfoldable pub flops_of : Raw → ℕ → List (List ℕ) → Result (List ℕ) ChoiceFault
+unfoldable pub flops_of : Parts → ℕ → List (List ℕ) → Result (List ℕ) ChoiceFault
 flops_of net number [] = Ok []
 flops_of net number (name ∷ names) = do
   flop ← known number (flop_named net name)
@@ -48,12 +48,12 @@ flops_of net number (name ∷ names) = do
   Ok (flop ∷ flops)
 
 -- the item of the line with this number, which is the number of the item too
-abbrev pub item_of : Raw → ℕ → Option (List (List ℕ)) → Result (List ℕ) ChoiceFault
+abbrev pub item_of : Parts → ℕ → Option (List (List ℕ)) → Result (List ℕ) ChoiceFault
 item_of net number None = Err (Line number)
 item_of net number (Some names) = if nat_lt 256 number then Err (TooMany number) else flops_of net number names
 
 -- the items of the lines from this number on, or the first fault
-unfoldable pub items_of : Raw → ℕ → List (List ℕ) → Result (List (List ℕ)) ChoiceFault
+unfoldable pub items_of : Parts → ℕ → List (List ℕ) → Result (List (List ℕ)) ChoiceFault
 items_of net number [] = Ok []
 items_of net number (text ∷ texts) = do
   item ← item_of net number (names_of (words_of text))
@@ -64,7 +64,7 @@ abbrev pub chosen : ℕ → List (List ℕ) → Chosen
 chosen width items = record { width = width; items = items }
 
 -- what the lines of a signature file say
-abbrev pub choice_of : Raw → List (List ℕ) → Result Chosen ChoiceFault
+abbrev pub choice_of : Parts → List (List ℕ) → Result Chosen ChoiceFault
 choice_of net texts = items_of net 1 texts >>= λ items. Ok (chosen (length net.flops) items)
 
 -- what is answered is the expected value or the expected fault, unless memory ran out

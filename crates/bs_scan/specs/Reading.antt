@@ -2,7 +2,7 @@
 use Rattle.std.specs.Prelude.{◌≡◌, ℕ, ◌<◌, ◌++◌, List, [], Option, None, Some, length, slice_index_or, slice_set, is_none, if◌then◌else◌, Result, Ok}
 use Rattle.std.specs.List.{sum_by}
 use Rattle.bs_bits.specs.Lines.{words_of}
-use Rattle.bs_net.specs.declared.raw.Raw.{Raw}
+use Rattle.bs_net.specs.Parts.{Parts}
 use Rattle.bs_scan.specs.declared.fault.ChoiceFault.{ChoiceFault}
 use Rattle.bs_scan.specs.ChoiceText.{◌>>=◌, flop_of_net}
 
@@ -12,7 +12,7 @@ words_left None = []
 words_left (Some text) = words_of text
 
 -- for each net the flip-flop whose output it is
-pub record IsTable (net : Raw) (table : List (Option ℕ)) : Type 0 where
+pub record IsTable (net : Parts) (table : List (Option ℕ)) : Type 0 where
   pub every_net : length table ≡ length net.names
   pub flop : (n : ℕ) → n < length net.names → slice_index_or table n None ≡ flop_of_net net.flops n
 

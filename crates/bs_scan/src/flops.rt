@@ -18,10 +18,10 @@ pub struct FlopNames<'a> {
 }
 
 impl<'a> Model for FlopNames<'a> {
-    ghost use Rattle.bs_net.specs.declared.raw.Raw.{Raw};
+    ghost use Rattle.bs_net.specs.Parts.{Parts};
     ghost use Rattle.bs_scan.specs.Reading.{IsTable};
 
-    ghost Value = { Raw };
+    ghost Value = { Parts };
 
     ghost view = { λ names. names.net.now.raw };
 

@@ -6,7 +6,7 @@ use Rattle.std.proofs.lemmas.List.{length-map}
 use Rattle.std.proofs.lemmas.List.Elements.{All-from_recursion}
 use Rattle.bs_outside.specs.declared.shelf.NoMemory.{NoMemory}
 use Rattle.bs_net.specs.Circuit.{Circuit, reset_state}
-use Rattle.bs_net.specs.declared.raw.Raw.{Raw}
+use Rattle.bs_net.specs.Parts.{Parts}
 use Rattle.bs_scan.specs.Choice.{Chosen}
 use Rattle.bs_scan.specs.Moments.{Run, Moment, state_at, run_of}
 use Rattle.bs_scan.specs.Signature.{stored_at, signature, parity_of}
@@ -58,10 +58,10 @@ pub demo_listed : (crash : Crash) (r : Report) → IsBacktrace crash demo_budget
 demo_listed crash r is = few_listed crash r is.sound.good (subst (λ (b : Budgets). b.candidates ≤ 65536) (sym is.asked) (lit≤ tt))
 
 -- the answer to a walk that asked no shelf
-pub alone_done : {T : Type 0} {plan : Plan Raw Work} {view : T → Work} {t : T} (r : Result Answer NoMemory) → WalksAlone CheckSays plan view (Ok t) → IfOk r (λ answer. finishes (view t) answer.status answer.text.items) → IfOk r (PreparesAlone CheckSays finishes plan)
+pub alone_done : {T : Type 0} {plan : Plan Parts Work} {view : T → Work} {t : T} (r : Result Answer NoMemory) → WalksAlone CheckSays plan view (Ok t) → IfOk r (λ answer. finishes (view t) answer.status answer.text.items) → IfOk r (PreparesAlone CheckSays finishes plan)
 alone_done (Ok answer) walks done = record { is = λ told before. prepares_work is_work (walks.is told before) done }
 alone_done (Err want) walks done = tt
 
-pub alone_stop : {T : Type 0} {plan : Plan Raw Work} {view : T → Work} {stop : Stop} (r : Result Answer NoMemory) → WalksAlone CheckSays plan view (Err stop) → IfOk r (λ answer. AnswersStop stop answer.status answer.text.items) → IfOk r (PreparesAlone CheckSays finishes plan)
+pub alone_stop : {T : Type 0} {plan : Plan Parts Work} {view : T → Work} {stop : Stop} (r : Result Answer NoMemory) → WalksAlone CheckSays plan view (Err stop) → IfOk r (λ answer. AnswersStop stop answer.status answer.text.items) → IfOk r (PreparesAlone CheckSays finishes plan)
 alone_stop (Ok answer) walks line = record { is = λ told before. prepares_stop finishes (Ok answer) (walks.is told before) line }
 alone_stop (Err want) walks line = tt

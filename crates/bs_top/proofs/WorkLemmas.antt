@@ -6,7 +6,7 @@ use Rattle.bs_report.specs.declared.report.Stop.{Stop}
 use Rattle.bs_report.specs.declared.report.Stop.TheVariants.{Reset, Length, Nohit, Empty, Candidates, Conflicts}
 use Rattle.bs_report.specs.declared.part.Part.{Part}
 use Rattle.bs_top.specs.Rejected.{finding_status}
-use Rattle.bs_net.specs.declared.raw.Raw.{Raw}
+use Rattle.bs_net.specs.Parts.{Parts}
 use Rattle.bs_job.specs.declared.file.Status.{Status}
 use Rattle.bs_job.specs.declared.answer.Answer.{Answer}
 use Rattle.bs_job.specs.Files.{is_work_status}
@@ -40,6 +40,6 @@ pub is_work : IsWork finishes
 is_work = record { status = work_status }
 
 -- the work that a walk made ready for, if it is done
-pub prepares_done : {T : Type 0} {told told' : Tells} {before now : Counts} {plan : Plan Raw Work} {view : T → Work} {t : T} (r : Result Answer NoMemory) → Walks CheckSays told told' before now plan view (Ok t) → IfOk r (λ answer. finishes (view t) answer.status answer.text.items) → IfOk r (Prepares CheckSays finishes told before now (Some plan))
+pub prepares_done : {T : Type 0} {told told' : Tells} {before now : Counts} {plan : Plan Parts Work} {view : T → Work} {t : T} (r : Result Answer NoMemory) → Walks CheckSays told told' before now plan view (Ok t) → IfOk r (λ answer. finishes (view t) answer.status answer.text.items) → IfOk r (Prepares CheckSays finishes told before now (Some plan))
 prepares_done (Ok answer) walks done = prepares_work is_work walks done
 prepares_done (Err want) walks done = tt

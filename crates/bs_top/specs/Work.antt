@@ -1,6 +1,6 @@
 -- What a job is ready for, and the files through which it comes to that.
 use Rattle.std.specs.Prelude.{ℕ}
-use Rattle.bs_net.specs.declared.raw.Raw.{Raw}
+use Rattle.bs_net.specs.Parts.{Parts}
 use Rattle.bs_report.specs.declared.report.Budgets.{Budgets}
 use Rattle.bs_words.specs.Job.{RunJob, AuditJob, DumpJob}
 use Rattle.bs_job.specs.Plan.{Plan, end, ◌>>=◌}
@@ -29,7 +29,7 @@ abbrev pub dump_names : DumpJob → Names
 dump_names job = record { netlist = job.netlist; signature = job.signature; stimulus = job.stimulus }
 
 -- the plan of a job
-abbrev pub plan_of : Offer → Plan Raw Work
+abbrev pub plan_of : Offer → Plan Parts Work
 plan_of (a_run job) = do
   crashed ← crashed_of (run_names job) job.dump
   end (to_run (budgets_of job) crashed)

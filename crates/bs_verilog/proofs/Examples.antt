@@ -15,14 +15,14 @@ use Rattle.bs_verilog.specs.Keys.{scalar_key, bit_key, keys}
 use Rattle.bs_verilog.specs.Declaring.{said, first_after, known_nets, first_over, naming_fault, declaring_fault}
 use Rattle.bs_verilog.specs.Terminals.{is_gate, is_assignment, named_pins, pins_of, cell_pins}
 use Rattle.bs_verilog.specs.Building.{each, implicit_net, declared_key, constant_net, named_net, term_net, with_connection, gates_of, with_part}
-use Rattle.bs_net.specs.declared.raw.Raw.{Raw}
+use Rattle.bs_net.specs.Parts.{Parts}
 use Rattle.bs_verilog.specs.Netlist.{with_keys, port_bits, supply_consts, built_of, meaning_of, netlist_text}
 use Rattle.bs_verilog.specs.declared.fault.What.TheVariants as what
 use Rattle.bs_verilog.specs.declared.fault.VerilogFault.{VerilogFault}
 use Rattle.bs_verilog.specs.declared.fault.VerilogFault.TheVariants.{Syntax, Unsupported, Redeclared, Port, Index, Terminals}
 
 -- how many names, inputs, outputs, gates and flip-flops
-abbrev shown : Result Raw VerilogFault → ℕ × ℕ × ℕ × ℕ × ℕ
+abbrev shown : Result Parts VerilogFault → ℕ × ℕ × ℕ × ℕ × ℕ
 shown (Ok n) = (length n.names, length n.inputs, length n.outputs, length n.gates, length n.flops)
 shown (Err e) = (0, 0, 0, 0, 0)
 

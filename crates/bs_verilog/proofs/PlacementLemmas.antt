@@ -43,7 +43,7 @@ use Rattle.bs_verilog.specs.declared.syntax.Direction as code
 use Rattle.bs_verilog.specs.declared.syntax.Direction.TheVariants as directions
 use Rattle.bs_verilog.specs.declared.numbering.Known.{Known}
 use Rattle.bs_verilog.specs.Declaring.{said, is_in, known, known_nets, keys_of, first_over, direction_of}
-use Rattle.bs_verilog.specs.Netlist.{with_keys, numbered, nets_of, is_towards, port_bits, port_nets, supplied, consts_of, supply_consts, start_of, parts_of, finished_of, built_of}
+use Rattle.bs_verilog.specs.Netlist.{with_keys, numbered, nets_of, is_towards, port_bits, port_nets, supplied, consts_of, supply_consts, start_of, parts_with, finished_of, built_of}
 use Rattle.bs_verilog.proofs.NumberLemmas.{with_key-room, with_keys-room, with_keys-append, few_step, keys-length, one_bit}
 
 -- Names and their numbers.
@@ -655,11 +655,11 @@ finished_as table m scope header parts start hs hh hp hb = rw (hs, hh, hp, hb) r
 
 pub finished_is : (table : List (List ℕ)) (scope : ℕ → Option Says) (header : List Name) (parts : List Part) (start after : Built) (ins outs : List NetId)
     → with_parts table scope start parts ≡ Ok after → port_nets directions.Input table scope start.made.names header ≡ ins → port_nets directions.Output table scope start.made.names header ≡ outs
-    → finished_of table scope header parts start ≡ Ok (parts_of after ins outs)
+    → finished_of table scope header parts start ≡ Ok (parts_with after ins outs)
 finished_is table scope header parts start after ins outs e ei eo =
     let inputs : List NetId = port_nets directions.Input table scope start.made.names header in
     let outputs : List NetId = port_nets directions.Output table scope start.made.names header in
-    ap (λ (r : Result Built VerilogFault). r >>= λ b. Ok (parts_of b inputs outputs)) e ∙ ap (λ i. Ok (parts_of after i outputs)) ei ∙ ap (λ o. Ok (parts_of after ins o)) eo
+    ap (λ (r : Result Built VerilogFault). r >>= λ b. Ok (parts_with b inputs outputs)) e ∙ ap (λ i. Ok (parts_with after i outputs)) ei ∙ ap (λ o. Ok (parts_with after ins o)) eo
 
 -- parts that are short, one after the other
 

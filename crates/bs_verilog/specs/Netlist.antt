@@ -3,7 +3,7 @@ use Rattle.std.specs.Prelude.{ℕ, Bool, true, false, List, [], ◌∷◌, map, 
 use Rattle.std.specs.List.{flat_map}
 use Rattle.bs_net.specs.declared.net.NetId.{NetId}
 use Rattle.bs_net.specs.declared.net.Const.{Const}
-use Rattle.bs_net.specs.declared.raw.Raw.{Raw}
+use Rattle.bs_net.specs.Parts.{Parts}
 use Rattle.bs_net.specs.Names.{with_key}
 use Rattle.bs_lex.specs.declared.token.Token.{Token}
 use Rattle.bs_lex.specs.Tokens.{tokens_of}
@@ -72,8 +72,8 @@ supply_consts table names d =
     ]
 
 -- the parts of what is built, with the port bits
-abbrev pub parts_of : Built → List NetId → List NetId → Raw
-parts_of b inputs outputs =
+abbrev pub parts_with : Built → List NetId → List NetId → Parts
+parts_with b inputs outputs =
     record { names = b.made.names; inputs = inputs; outputs = outputs; consts = b.made.consts; gates = b.gates; flops = b.flops }
 
 -- what stands before the first part: the declared nets and the supplies
@@ -83,17 +83,17 @@ start_of table m =
     record { made = record { names = names; consts = flat_map (supply_consts table names) m.declared }; gates = []; flops = [] }
 
 -- what parts build in file order after what stands before them, with the ports by the names that stand before
-abbrev pub finished_of : List (List ℕ) → (ℕ → Option Says) → List Name → List Part → Built → Result Raw VerilogFault
+abbrev pub finished_of : List (List ℕ) → (ℕ → Option Says) → List Name → List Part → Built → Result Parts VerilogFault
 finished_of table scope header parts start =
     with_parts table scope start parts >>= λ b.
-    Ok (parts_of b (port_nets directions.Input table scope start.made.names header) (port_nets directions.Output table scope start.made.names header))
+    Ok (parts_with b (port_nets directions.Input table scope start.made.names header) (port_nets directions.Output table scope start.made.names header))
 
 -- what a module builds whose declarations are in order
-unfoldable pub built_of : List (List ℕ) → Module → Result Raw VerilogFault
+unfoldable pub built_of : List (List ℕ) → Module → Result Parts VerilogFault
 built_of table m = finished_of table (said m.declared) m.header m.parts (start_of table m)
 
 -- the third pass, and the fourth
-unfoldable pub meaning_of : List (List ℕ) → Module → Result Raw VerilogFault
+unfoldable pub meaning_of : List (List ℕ) → Module → Result Parts VerilogFault
 meaning_of table m = elim (declaring_fault table m) [ Some fault ↦ Err fault | None ↦ built_of table m ]
 
 -- the lexer's fault is a fault of syntax
@@ -101,7 +101,7 @@ abbrev pub tokenised : List ℕ → Result (List Token) VerilogFault
 tokenised source = elim (tokens_of source) [ Ok tokens ↦ Ok tokens | Err at ↦ Err (Syntax at) ]
 
 -- the netlist that a text is
-unfoldable pub netlist_text : List ℕ → Result Raw VerilogFault
+unfoldable pub netlist_text : List ℕ → Result Parts VerilogFault
 netlist_text source = do
   tokens ← tokenised source
   m ← syntax_of (lexemes_of source tokens)

@@ -1,6 +1,6 @@
 //! The parts of a netlist, from what a module says.
-ghost use Rattle.std.specs.Prelude.{◌≡◌, ◌<◌, ◌≤◌, ◌^◌, ℕ, [], length, Ok, None, MatchResult, IfOk};
-ghost use Rattle.bs_net.specs.Parts.{PartsArePlaced};
+ghost use Rattle.std.specs.Prelude.{◌≡◌, ◌<◌, ◌≤◌, ◌^◌, ℕ, [], length, Ok, None, MatchResult};
+ghost use Rattle.bs_net.specs.Netlist.{parts_of};
 ghost use Rattle.bs_verilog.specs.Reading.{Gives};
 ghost use Rattle.bs_verilog.specs.Checking.{looked};
 ghost use Rattle.bs_verilog.specs.Placement.{AreShort, IsFinished, WillFinish};
@@ -44,8 +44,7 @@ fn short_parts(parts: &[Part]) -> Result<(), VerilogFault>
 /// The parts of a netlist.
 fn raw_of(built: Built, inputs: List<NetId>, outputs: List<NetId>) -> Result<Raw, VerilogFault>
     requires { IsFinished built inputs outputs }
-    ensures value { Gives (λ raw. raw) result (Ok (spec.parts_of built inputs outputs)) }
-    ensures placed { IfOk result (λ raw. PartsArePlaced raw) }
+    ensures { Gives parts_of result (Ok (spec.parts_with built inputs outputs)) }
 {
     short(inputs.len())?;
     short(outputs.len())?;
@@ -87,8 +86,7 @@ fn finished(
     start: Built,
 ) -> Result<Raw, VerilogFault>
     requires { WillFinish table.now (looked scope.now) header.now parts.now start }
-    ensures value { Gives (λ raw. raw) result (spec.finished_of table.now (looked scope.now) header.now parts.now start) }
-    ensures placed { IfOk result (λ raw. PartsArePlaced raw) }
+    ensures { Gives parts_of result (spec.finished_of table.now (looked scope.now) header.now parts.now start) }
 {
     let inputs = port_nets(
         alloc,
@@ -122,8 +120,7 @@ fn built(
     requires scope { looked scope.now ≡ declaring_spec.said top.now.declared }
     requires nets { nets.now ≡ declaring_spec.known_nets top.now }
     requires few { declaring_spec.many_fault table.now nets.now ≡ None }
-    ensures value { Gives (λ raw. raw) result (spec.built_of table.now top.now) }
-    ensures placed { IfOk result (λ raw. PartsArePlaced raw) }
+    ensures { Gives parts_of result (spec.built_of table.now top.now) }
 {
     let header = top.header.slice();
     let parts = top.parts.slice();
@@ -135,8 +132,7 @@ fn built(
 /// The third pass, and the fourth.
 #[tactic(auto, unfolding(crate::specs::Netlist::meaning_of))]
 pub fn meaning(alloc: Global, table: &Table, top: &Module) -> Result<Raw, VerilogFault>
-    ensures value { Gives (λ raw. raw) result (spec.meaning_of table.now top.now) }
-    ensures placed { IfOk result (λ raw. PartsArePlaced raw) }
+    ensures { Gives parts_of result (spec.meaning_of table.now top.now) }
 {
     let declarations = declare(alloc, table, top)?;
     built(

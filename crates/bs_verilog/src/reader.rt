@@ -1,6 +1,6 @@
 //! The reader of a netlist text.
 ghost use Rattle.std.specs.Prelude.{◌≡◌, ◌≤◌, length, IfOk};
-ghost use Rattle.bs_net.specs.Parts.{PartsArePlaced};
+ghost use Rattle.bs_net.specs.Netlist.{parts_of};
 ghost use Rattle.bs_lex.specs.Placing.{ArePlaced};
 ghost use Rattle.bs_verilog.specs.Reading.{Gives};
 ghost use Rattle.bs_verilog.specs.Netlist.{netlist_text, tokenised};
@@ -32,8 +32,7 @@ fn tokens_of(alloc: Global, bytes: &[u8]) -> Result<TokenList, VerilogFault>
 #[tactic(auto, unfolding(crate::specs::Netlist::netlist_text))]
 pub fn read(alloc: Global, bytes: &[u8]) -> Result<Raw, VerilogFault>
     requires { length bytes.now ≤ 16777216 }
-    ensures value { Gives (λ raw. raw) result (netlist_text bytes.now) }
-    ensures placed { IfOk result (λ raw. PartsArePlaced raw) }
+    ensures { Gives parts_of result (netlist_text bytes.now) }
 {
     let tokens = tokens_of(alloc, bytes)?;
     let (lexemes, table) = lexemes(alloc, bytes, tokens.slice())?;

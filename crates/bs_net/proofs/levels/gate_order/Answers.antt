@@ -1,4 +1,5 @@
 use Rattle.std.proofs.Common.{subst, List}
+use Rattle.bs_net.specs.Netlist.{parts_of}
 use Rattle.bs_net.specs.declared.net.Gate.{Gate}
 use Rattle.bs_net.specs.declared.levels.Levelling.{Levelling}
 use Rattle.bs_net.specs.Loops.{IsLoop}
@@ -8,7 +9,7 @@ use Rattle.bs_net.proofs.SingleLemmas.{outs_distinct}
 use Rattle.bs_net.proofs.levels.gate_order.Goals as goal
 
 pub levelize-requires-clause-single : goal.levelize-requires-clause-single
-levelize-requires-clause-single c = rw c.slice.ensures (outs_distinct c.args.raw.now c.requires.placed c.requires.nets.single)
+levelize-requires-clause-single c = rw c.slice.ensures (outs_distinct (parts_of c.args.raw.now) c.requires.placed c.requires.nets.single)
 
 pub returns-in-Looped-clause-err : goal.returns-in-Looped-clause-err
 returns-in-Looped-clause-err c =

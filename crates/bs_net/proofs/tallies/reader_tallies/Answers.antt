@@ -1,5 +1,6 @@
 use Rattle.std.proofs.Common.{ap, ◌∙◌, map, replicate}
 use Rattle.std.specs.List.{flat_map}
+use Rattle.bs_net.specs.Netlist.{parts_of}
 use Rattle.bs_net.specs.declared.net.Gate.{Gate}
 use Rattle.bs_net.specs.declared.net.Flop.{Flop}
 use Rattle.bs_net.specs.Tallies.{tallied}
@@ -10,7 +11,7 @@ use Rattle.bs_net.proofs.tallies.reader_tallies.Goals as goal
 
 pub returns : goal.returns
 returns c =
-    let r = c.args.raw.now in
+    let r = (parts_of c.args.raw.now) in
     four_tallied c.in_ok-table.table.items c.count_inputs.new.table.items c.count_loads.new.table.items c.count_clocks.new.table.items c.count_nets.new.table.items (flat_map (λ (g : Gate). g.ins) r.gates) (map (λ (f : Flop). f.d) r.flops) (map (λ (f : Flop). f.ck) r.flops) r.outputs
     (c.count_inputs.ensures.counts
     ∙ ap (λ gs. tallied c.in_ok-table.table.items (flat_map (λ (g : Gate). g.ins) gs)) c.slice.ensures)

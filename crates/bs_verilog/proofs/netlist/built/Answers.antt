@@ -11,7 +11,7 @@ finished-requires c =
     c.slice-header.ensures c.slice-parts.ensures (sym (ok_of _ _ c.in_ok-before.ensures))
     (rw (← c.requires.nets) (none_over c.args.table.now c.args.nets.now c.requires.few)) c.in_ok-short_parts.ensures
 
-pub returns-clause-value : goal.returns-clause-value
-returns-clause-value c =
+pub returns : goal.returns
+returns c =
     rw (← finished_as c.args.table.now c.args.top.now (looked c.args.scope.now) c.slice-header.result.now c.slice-parts.result.now c.in_ok-before.before c.requires.scope
-    c.slice-header.ensures c.slice-parts.ensures (sym (ok_of _ _ c.in_ok-before.ensures))) c.finished.ensures.value
+    c.slice-header.ensures c.slice-parts.ensures (sym (ok_of _ _ c.in_ok-before.ensures))) c.finished.ensures

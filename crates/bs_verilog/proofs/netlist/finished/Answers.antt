@@ -6,7 +6,7 @@ use Rattle.bs_verilog.proofs.netlist.finished.Goals as goal
 pub raw_of-requires : goal.raw_of-requires
 raw_of-requires c = rw (← ok_of _ _ c.in_ok-inputs.ensures, ← ok_of _ _ c.in_ok-outputs.ensures) (c.requires.is _ c.in_ok-with_parts.ensures)
 
-pub returns-clause-value : goal.returns-clause-value
-returns-clause-value c =
+pub returns : goal.returns
+returns c =
     rw (finished_is c.args.table.now (looked c.args.scope.now) c.args.header.now c.args.parts.now c.args.start c.with_parts.new.built c.in_ok-inputs.inputs c.in_ok-outputs.outputs
-    c.in_ok-with_parts.ensures (ok_of _ _ c.in_ok-inputs.ensures) (ok_of _ _ c.in_ok-outputs.ensures)) c.raw_of.ensures.value
+    c.in_ok-with_parts.ensures (ok_of _ _ c.in_ok-inputs.ensures) (ok_of _ _ c.in_ok-outputs.ensures)) c.raw_of.ensures
