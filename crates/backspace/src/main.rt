@@ -1,8 +1,11 @@
 //! The command line tool `backspace`.
 #![tactic(auto)]
 
+ghost use Rattle.std.specs.Prelude.{◌≡◌, ◌⊎◌, IfErr, MatchResult};
+ghost use Rattle.bs_job.specs.Files.{code_of};
+
 use bs_outside::{FileShelf, NoMemory, StdSink};
-use bs_top::backspace;
+use bs_top::{Status, backspace};
 use std::alloc::Global;
 use std::env;
 use std::io::ErrorKind;
@@ -15,7 +18,9 @@ const WORDS: u8 = 2;
 const NO_MEMORY: u8 = 14;
 
 /// The words without the program's name, or the exit code that ends the program.
-fn given_words(rt: &HostRuntime, alloc: Global) -> Result<Vec<String>, u8> {
+fn given_words(rt: &HostRuntime, alloc: Global) -> Result<Vec<String>, u8>
+    ensures { IfErr result (λ code. (code ≡ 2) ⊎ (code ≡ 14)) }
+{
     let args = match env::args(rt) {
         Ok(args) => args,
         Err(error) if error.kind() == ErrorKind::OutOfMemory => return Err(NO_MEMORY),
@@ -27,6 +32,16 @@ fn given_words(rt: &HostRuntime, alloc: Global) -> Result<Vec<String>, u8> {
     }
 }
 
+/// The exit code of an answer.
+fn exit_code(answer: Result<Status, NoMemory>) -> u8
+    ensures { MatchResult answer (λ status. result ≡ code_of status) (λ _. result ≡ 14) }
+{
+    match answer {
+        Ok(status) => status.code(),
+        Err(NoMemory) => NO_MEMORY,
+    }
+}
+
 fn main(rt: HostRuntime) -> ExitCode {
     let alloc = rt.alloc();
     let words = match given_words(&rt, alloc) {
@@ -35,8 +50,5 @@ fn main(rt: HostRuntime) -> ExitCode {
     };
     let mut shelf = FileShelf::new(&rt);
     let mut out = StdSink::new(&rt);
-    match backspace(alloc, &words, &mut shelf, &mut out) {
-        Ok(status) => ExitCode::from(status.code()),
-        Err(NoMemory) => ExitCode::from(NO_MEMORY),
-    }
+    ExitCode::from(exit_code(backspace(alloc, &words, &mut shelf, &mut out)))
 }

@@ -4,5 +4,5 @@
 mod summary;
 mod walk;
 
-pub use summary::push_summary;
+pub use summary::summary_line;
 pub use walk::take_demo;

@@ -1,11 +1,12 @@
 //! The line of a backtrace of a generated job.
-ghost use Rattle.std.specs.Prelude.{◌≡◌, ◌≤◌, ◌++◌, ◌∷◌, [], codes, decimal, length, All, OnOk, count_by};
+ghost use Rattle.std.specs.Prelude.{◌≡◌, ◌≤◌, ◌++◌, ◌∷◌, [], codes, decimal, length, All, IfOk, OnOk, count_by};
 ghost use Rattle.std.specs.List.{sum_by};
 ghost use Rattle.bs_report.specs.Text.{stop_word};
 ghost use Rattle.bs_demo.specs.Summary.{is_finished, is_finished_end, listed_in, summary_text};
 
 use bs_bits::{NoMemory, end_line, push_number, push_piece};
 use bs_report::{ListEnd, Report, Step, Stop};
+use std::alloc::Global;
 
 /// How many lists are finished.
 fn finished(steps: &[Step]) -> usize
@@ -60,8 +61,8 @@ fn push_stop(text: &mut Vec<u8>, stop: Stop) -> Result<(), NoMemory>
     }
 }
 
-/// Appends the line that tells what the backtrace of a number's job found: its steps, finished lists, candidates and stop.
-pub fn push_summary(text: &mut Vec<u8>, number: u64, report: &Report) -> Result<(), NoMemory>
+/// Appends the line of a backtrace.
+fn push_summary(text: &mut Vec<u8>, number: u64, report: &Report) -> Result<(), NoMemory>
     requires count { length report.now.steps ≤ 65536 }
     requires each { All (λ step. length step.cands ≤ 65536) report.now.steps }
     ensures { OnOk result (text.new.items ≡ text.old.items ++ summary_text number report.now) }
@@ -73,4 +74,15 @@ pub fn push_summary(text: &mut Vec<u8>, number: u64, report: &Report) -> Result<
     push_piece(text, b" stop ")?;
     push_stop(text, report.stop)?;
     end_line(text)
+}
+
+/// The line that tells what the backtrace of a number's job found: its steps, finished lists, candidates and stop.
+pub fn summary_line(alloc: Global, number: u64, report: &Report) -> Result<Vec<u8>, NoMemory>
+    requires count { length report.now.steps ≤ 65536 }
+    requires each { All (λ step. length step.cands ≤ 65536) report.now.steps }
+    ensures { IfOk result (λ text. text.items ≡ summary_text number report.now) }
+{
+    let mut text = Vec::new(alloc);
+    push_summary(&mut text, number, report)?;
+    Ok(text)
 }

@@ -10,7 +10,7 @@ ghost use Rattle.bs_top.specs.Finishes.{finishes};
 use crate::backtracing::report_of;
 use crate::dumping::dump_of;
 use bs_bits::NoMemory as WantsMemory;
-use bs_demo::{push_summary, take_demo};
+use bs_demo::{summary_line, take_demo};
 use bs_entry::Placed;
 use bs_job::{Answer, Status, stopped};
 use bs_outside::NoMemory;
@@ -28,8 +28,7 @@ fn summary_of(alloc: Global, number: u64, placed: &Placed) -> Result<Vec<u8>, Wa
         conflicts: 10_000,
     };
     let report = report_of(alloc, &placed.setup, &dump, &budgets)?;
-    let mut text = Vec::new(alloc);
-    push_summary(&mut text, number, &report)?;
+    let text = summary_line(alloc, number, &report)?;
     Ok(text)
 }
 

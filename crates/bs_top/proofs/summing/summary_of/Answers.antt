@@ -14,8 +14,8 @@ report_of-requires c =
       budgets = demo_budget;
     }
 
-pub push_summary-requires : goal.push_summary-requires
-push_summary-requires c =
+pub summary_line-requires : goal.summary_line-requires
+summary_line-requires c =
     let crash = crash_of (placed_in c.args.placed.now).setup c.in_ok-dump.dump in
     record {
       count = demo_steps crash c.in_ok-report.report c.in_ok-report.ensures.backtrace;
