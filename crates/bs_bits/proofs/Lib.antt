@@ -1,3 +1,5 @@
 pub mod TextLemmas
 pub mod LineLemmas
+pub mod PieceLemmas
 pub mod NumberLemmas
+pub mod LineTextLemmas

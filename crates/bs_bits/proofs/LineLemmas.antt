@@ -1,5 +1,5 @@
 -- The first line of a text, and the first word of a line.
-use Rattle.std.proofs.Common.{◌≡◌, ◌≢◌, ℕ, suc, zero, ◌<◌, ◌≤◌, ◌-◌, true, false, cond, List, [], ◌∷◌, length, take, drop, get_or, refl, arith, ap, ◌∙◌}
+use Rattle.std.proofs.Common.{◌≡◌, ℕ, suc, zero, ◌<◌, ◌≤◌, ◌-◌, true, false, cond, List, [], ◌∷◌, length, take, drop, get_or, refl, arith, ap, ◌∙◌}
 use Rattle.std.specs.Prelude.{◌==◌}
 use Rattle.std.proofs.lemmas.Bool.{true≢false, eqb-true}
 use Rattle.std.proofs.lemmas.List.{take_all, length-drop}
@@ -22,16 +22,16 @@ pub only_line : (b : ℕ) (bs : List ℕ) → ((k : ℕ) → k < length (b ∷ b
 only_line b [] none = onto b [] (none 0 (omega arith))
 only_line b (c ∷ cs) none = onto b (c ∷ cs) (none 0 (omega arith)) ∙ ap (onto_first b) (only_line c cs (λ k lt. none (suc k) (omega arith)))
 
-drop_next : (n : ℕ) (bs : List ℕ) → drop 1 (drop n bs) ≡ drop (suc n) bs
+pub drop_next : (n : ℕ) (bs : List ℕ) → drop 1 (drop n bs) ≡ drop (suc n) bs
 drop_next zero bs = refl
 drop_next (suc n) [] = refl
 drop_next (suc n) (b ∷ bs) = drop_next n bs
 
-nothing_left : (rest : List ℕ) → (length rest == 0) ≡ true → rest ≡ []
+pub nothing_left : (rest : List ℕ) → (length rest == 0) ≡ true → rest ≡ []
 nothing_left [] e = refl
 nothing_left (b ∷ bs) e = let none : length (b ∷ bs) ≡ 0 = eqb-true _ _ e in absurd (omega arith)
 
-something_left : (rest : List ℕ) → (length rest == 0) ≡ false → 0 < length rest
+pub something_left : (rest : List ℕ) → (length rest == 0) ≡ false → 0 < length rest
 something_left [] e = absurd (true≢false e)
 something_left (b ∷ bs) e = omega arith
 

@@ -12,6 +12,11 @@ abbrev pub lines_of : List ℕ → List (List ℕ)
 lines_of [] = []
 lines_of (b ∷ bs) = if b == 10 then [] ∷ lines_of bs else onto_first b (lines_of bs)
 
+-- What stands before, between and behind the line feeds of a text: each of these but the last is a whole line.
+abbrev pub pieces_of : List ℕ → List (List ℕ)
+pieces_of [] = [] ∷ []
+pieces_of (b ∷ bs) = if b == 10 then [] ∷ pieces_of bs else onto_first b (pieces_of bs)
+
 -- a line of a text that is written
 abbrev pub line : List ℕ → List ℕ
 line text = text ++ 10 ∷ []

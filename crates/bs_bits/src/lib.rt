@@ -7,13 +7,13 @@ mod lines;
 mod list;
 mod memory;
 mod numbers;
-#[cfg(test)]
-mod tests;
+mod words;
 mod writing;
 
 pub use bits::Bits;
-pub use lines::{is_name, next_line, next_word};
+pub use lines::{is_name, next_line, next_word, whole_line};
 pub use list::List;
 pub use memory::NoMemory;
 pub use numbers::{is_canonical, read_number};
+pub use words::Words;
 pub use writing::{end_line, push_line, push_number, push_number_line, push_piece};

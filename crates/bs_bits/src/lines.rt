@@ -1,6 +1,6 @@
 //! The lines of a text and the words of a line, one after another.
-ghost use Rattle.std.specs.Prelude.{◌≡◌, ◌<◌, ◌≤◌, ◌==◌, ℕ, [], ◌∷◌, length, slice_index, true, false, MatchOption};
-ghost use Rattle.bs_bits.specs.Lines.{is_name, is_visible, lines_of, words_of};
+ghost use Rattle.std.specs.Prelude.{◌≡◌, ◌<◌, ◌≤◌, ◌==◌, ℕ, [], ◌∷◌, length, slice_index, true, false, IfSome, MatchOption};
+ghost use Rattle.bs_bits.specs.Lines.{is_name, is_visible, lines_of, pieces_of, words_of};
 
 /// The place of the first byte that is this one, or the text's length where there is none.
 fn place_of(byte: u8, text: &[u8]) -> usize
@@ -29,6 +29,19 @@ pub fn next_line(text: &[u8]) -> Option<(&[u8], &[u8])>
         Some((first, rest))
     } else {
         Some((first, &rest[1..]))
+    }
+}
+
+/// The first line of a text, where a line feed ends it, and the bytes behind that.
+pub fn whole_line(text: &[u8]) -> Option<(&[u8], &[u8])>
+    ensures pieces { MatchOption result (pieces_of text.now ≡ text.now ∷ []) (λ found. pieces_of text.now ≡ found.0.now ∷ pieces_of found.1.now) }
+    ensures shorter { IfSome result (λ found. length found.1.now < length text.now) }
+{
+    let (line, rest) = text.split_at(place_of(b'\n', text));
+    if rest.is_empty() {
+        None
+    } else {
+        Some((line, &rest[1..]))
     }
 }
 

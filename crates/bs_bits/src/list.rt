@@ -29,6 +29,13 @@ impl<T> List<T> {
         }
     }
 
+    /// The list of a vector's members, which is not copied.
+    pub fn of(items: Vec<T>) -> Self
+        ensures { result ≡ items.items }
+    {
+        List { items }
+    }
+
     /// The number of members.
     pub fn len(&self) -> usize
         ensures { result ≡ length self.now }

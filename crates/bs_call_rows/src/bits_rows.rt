@@ -1,5 +1,5 @@
-//! Worked texts, orders and numbers, and each call that allocates with ample memory.
-use crate::{
+//! Bits, lists, lines, words and numbers: worked texts and orders, and each call that allocates with ample memory.
+use bs_bits::{
     Bits, List, NoMemory, end_line, is_name, next_line, next_word, push_line, push_number,
     push_number_line, push_piece, read_number,
 };
