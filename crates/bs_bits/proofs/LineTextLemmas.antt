@@ -1,8 +1,9 @@
 -- Lines and words that are written are read again.
-use Rattle.std.proofs.Common.{◌≡◌, ℕ, ◌<◌, Bool, true, false, cond, ◌&&◌, List, [], ◌∷◌, ◌++◌, map, refl, arith, ap, ◌∙◌}
+use Rattle.std.proofs.Common.{◌≡◌, ◌⊎◌, inl, inr, ℕ, ◌<◌, Bool, true, false, cond, ◌&&◌, List, [], ◌∷◌, ◌++◌, map, length, refl, arith, ap, ◌∙◌}
+use Rattle.std.proofs.lemmas.List.{length-append}
 use Rattle.std.specs.Prelude.{◌==◌, ◌^◌, nat_le, decimal}
-use Rattle.std.specs.List.{AllByRecursion as Each}
-use Rattle.std.proofs.lemmas.Bool.{and_parts, leb-true, ne_eqb}
+use Rattle.std.specs.List.{AllByRecursion as Each, flat_map}
+use Rattle.std.proofs.lemmas.Bool.{and_parts, eqb-true, leb-true, ne_eqb}
 use Rattle.bs_bits.specs.Text.{bits_text, digit_of}
 use Rattle.bs_bits.specs.Lines.{line, lines_of, pieces_of, words_of, onto_first, is_visible, is_digits, is_canonical}
 use Rattle.bs_bits.proofs.NumberLemmas.{decimal_canonical}
@@ -29,6 +30,28 @@ piece_first [] rest h = refl
 piece_first (b ∷ bs) rest h =
     ap (λ t. cond t ([] ∷ pieces_of (line bs ++ rest)) (onto_first b (pieces_of (line bs ++ rest)))) h.0
     ∙ ap (onto_first b) (piece_first bs rest h.1)
+
+-- a text is its lines, each ended by a line feed, which the last one may want
+pub lines_again : (text : List ℕ) → (text ≡ flat_map line (lines_of text)) ⊎ (line text ≡ flat_map line (lines_of text))
+lines_again [] = inl refl
+lines_again (b ∷ bs) = by (b == 10) refl (lines_of bs) (lines_again bs)
+  where
+    Again : List ℕ → List (List ℕ) → Type 0
+    Again text lines = (text ≡ flat_map line lines) ⊎ (line text ≡ flat_map line lines)
+
+    fed : (lines : List (List ℕ)) → b ≡ 10 → Again bs lines → Again (b ∷ bs) ([] ∷ lines)
+    fed lines same (inl e) = inl (rw (same, e) refl)
+    fed lines same (inr e) = inr (rw (same) (ap (λ t. 10 ∷ t) e))
+
+    joined : (lines : List (List ℕ)) → Again bs lines → Again (b ∷ bs) (onto_first b lines)
+    joined [] (inl e) = inr (rw (e) refl)
+    joined [] (inr e) = absurd (omega (arith, ap length e, length-append bs (10 ∷ [])))
+    joined (first ∷ others) (inl e) = inl (ap (λ t. b ∷ t) e)
+    joined (first ∷ others) (inr e) = inr (ap (λ t. b ∷ t) e)
+
+    by : (z : Bool) → (b == 10) ≡ z → (lines : List (List ℕ)) → Again bs lines → Again (b ∷ bs) (cond z ([] ∷ lines) (onto_first b lines))
+    by true feed lines again = fed lines (eqb-true b 10 feed) again
+    by false feed lines again = joined lines again
 
 -- ---- bits
 
