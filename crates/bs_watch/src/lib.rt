@@ -1,0 +1,16 @@
+//! A trail with levels and reasons, and propagation by two watched literals of each clause.
+#![tactic(auto)]
+
+mod attachment;
+mod lists;
+mod look;
+mod place;
+mod propagation;
+mod renaming;
+mod trail;
+mod visit;
+mod watch;
+
+pub use place::Place;
+pub use visit::Outcome;
+pub use watch::{Level, Watch};

@@ -1,0 +1,164 @@
+//! A trail with levels and reasons, and the watched literals of clauses.
+ghost use Rattle.std.specs.Prelude.{◌≡◌, ◌↔◌, ◌+◌, ◌^◌, ◌<◌, ◌≤◌, [], length, take, slice_get, IfOk, IfSome, IfNone, Some, IsSome, IsTrue, OnOk, OnErr};
+ghost use Rattle.bs_watch.specs.Trail.{IsTrueOn, IsOpenOn};
+ghost use Rattle.bs_watch.specs.Places.{IsUnassigned, IsPlaceOf, literals_of};
+ghost use Rattle.bs_watch.specs.Scene.{IsWatchable, Advances, Propagated};
+ghost use Rattle.bs_watch.specs.Lists.{IsAttached};
+ghost use Rattle.bs_arena.specs.Arena.{held_at, literals_at};
+ghost use Rattle.bs_watch.specs.Watch.{Serves, ServesAll, HasNone, KeepsService, MayAttach, HasAttached, HasGoneBack, ServesRenamed, scene, decided, assigned, renamed_watch};
+
+use crate::attachment::join_two;
+use crate::lists::Lists;
+use crate::place::Place;
+use crate::propagation::look_on;
+use crate::trail::Trail;
+use crate::visit::Outcome;
+use bs_arena::{Arena, Ref, Renaming};
+use bs_clause::{Lit, NoMemory};
+use std::alloc::Global;
+use std::marker::Model;
+
+/// Where a level begins: how many places the trail had, and how many of them had been looked at.
+#[derive(Clone, Copy, Debug, PartialEq, Eq)]
+pub struct Level {
+    pub start: usize,
+    pub looked: usize,
+}
+
+/// A trail and watch lists. Contracts see the places of the trail, where each level begins, how
+/// many places have been looked at, and the watchers of each literal.
+#[derive(Drop)]
+pub struct Watch {
+    trail: Trail,
+    levels: Vec<Level>,
+    head: usize,
+    lists: Lists,
+}
+
+impl Model for Watch {
+    ghost use Rattle.std.specs.Prelude.{vec_capacity};
+    ghost use Rattle.bs_watch.specs.Watch.{WatchState, IsWatch};
+
+    ghost Value = { WatchState };
+
+    ghost view = { λ w. record { trail = w.trail; levels = w.levels.items; head = w.head; lists = w.lists } };
+
+    ghost invariant = { λ w. IsWatch (record { trail = w.trail; levels = w.levels.items; head = w.head; lists = w.lists }) (vec_capacity w.levels) };
+}
+
+impl Watch {
+    /// An empty trail over the variables 1 to `vars`, and no attached clause.
+    pub fn new(alloc: Global, vars: u32) -> Result<Watch, NoMemory>
+        requires { vars < 2 ^ 30 }
+        ensures vars { IfOk result (λ w. w.trail ≡ record { vars = vars; places = [] }) }
+        ensures levels { IfOk result (λ w. w.levels ≡ []) }
+        ensures serves { IfOk result ServesAll }
+        ensures attached { IfOk result HasNone }
+    {
+        let trail = Trail::new(alloc, vars)?;
+        let mut levels = Vec::new(alloc);
+        levels.reserve(vars as usize + 1)?;
+        let lists = Lists::new(alloc, 2 * vars as usize + 2)?;
+        Ok(Watch {
+            trail,
+            levels,
+            head: 0,
+            lists,
+        })
+    }
+
+    /// Attaches a clause whose first two literals are guarded: where one of them is false and has
+    /// been looked at, the clause has a true literal.
+    pub fn attach(&mut self, arena: &Arena, r: Ref) -> Result<(), NoMemory>
+        requires serves { Serves self.old arena.now.clauses }
+        requires live { IsSome (held_at arena.now.clauses r) }
+        requires watchable { IsWatchable self.old.trail.vars (literals_at arena.now.clauses r) }
+        requires fresh { ¬ IsAttached self.old.lists r }
+        requires guarded { MayAttach self.old (literals_at arena.now.clauses r) }
+        ensures ok { OnOk result (HasAttached self.old self.new arena.now.clauses r) }
+        ensures err { OnErr result (self.new ≡ self.old) }
+    {
+        let codes = arena.lits(r);
+        join_two(
+            &mut self.lists,
+            r,
+            Lit::from_code(codes[0]),
+            Lit::from_code(codes[1]),
+        )
+    }
+
+    /// The number of the present level.
+    pub fn level(&self) -> u32
+        ensures { result ≡ length self.now.levels }
+    {
+        self.levels.len() as u32
+    }
+
+    /// Begins a level.
+    pub fn decide(&mut self)
+        requires { length self.old.levels ≤ self.old.trail.vars }
+        ensures new { self.new ≡ decided self.old }
+        ensures serves { KeepsService self.old self.new }
+    {
+        let level = Level {
+            start: self.trail.len(),
+            looked: self.head,
+        };
+        let _ = self.levels.push(level);
+    }
+
+    /// Takes the next place of the trail. It takes no memory.
+    pub fn assign(&mut self, lit: Lit, reason: Option<Ref>)
+        requires { IsUnassigned self.old.trail lit }
+        ensures new { self.new ≡ assigned self.old lit reason }
+        ensures serves { KeepsService self.old self.new }
+    {
+        let level = self.levels.len() as u32;
+        self.trail.assign(lit, reason, level);
+    }
+
+    /// Assigns what the attached clauses force, until none is unit, or one is false.
+    pub fn propagate(&mut self, arena: &mut Arena) -> Result<Outcome, NoMemory>
+        requires { Serves self.old arena.old.clauses }
+        ensures serves { Serves self.new arena.new.clauses }
+        ensures advances { Advances (length self.old.levels) (scene self.old arena.old.clauses)
+            (scene self.new arena.new.clauses) }
+        ensures levels { self.new.levels ≡ self.old.levels }
+        ensures ok { IfOk result (Propagated (scene self.new arena.new.clauses)) }
+    {
+        let level = self.levels.len() as u32;
+        look_on(
+            &mut self.trail,
+            &mut self.lists,
+            arena,
+            level,
+            &mut self.head,
+        )
+    }
+
+    /// Goes back to the end of a level.
+    pub fn cancel_to(&mut self, level: u32)
+        requires { level ≤ length self.old.levels }
+        ensures levels { self.new.levels ≡ take level self.old.levels }
+        ensures lists { self.new.lists ≡ self.old.lists }
+        ensures back { IfSome (slice_get self.old.levels level) (HasGoneBack self.old self.new) }
+        ensures same { length self.old.levels ≤ level → self.new ≡ self.old }
+        ensures serves { KeepsService self.old self.new }
+    {
+        if (level as usize) < self.levels.len() {
+            let begun = self.levels[level as usize];
+            self.levels.truncate(level as usize);
+            self.trail.cut(begun.start);
+            self.head = begun.looked;
+        }
+    }
+
+    /// Each reference is replaced by its new one.
+    pub fn rename(&mut self, names: &Renaming)
+        ensures new { self.new ≡ renamed_watch names.now.names self.old }
+        ensures serves { ServesRenamed self.old self.new names.now.names }
+    {
+        self.trail.rename(names);
+        self.lists.rename(names);
+    }
+}
