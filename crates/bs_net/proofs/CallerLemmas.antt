@@ -1,4 +1,4 @@
--- What a caller's proof cites of the definitions.
+-- What a caller's proof cites of the definitions, with what other files here prove.
 use Rattle.std.proofs.Common.{◌≡◌, ◌≢◌, ◌↔◌, ℕ, suc, zero, ◌+◌, Bool, true, false, List, [], ◌∷◌, ◌++◌, map, length, refl, ap, ◌∙◌, add-one, arith, zero-add}
 use Rattle.std.specs.List.{All, range_with_len}
 use Rattle.std.proofs.lemmas.List.{length-map}
@@ -14,6 +14,10 @@ use Rattle.bs_net.specs.Decided.{has_order, passes}
 use Rattle.bs_net.proofs.DecidedLemmas.{has_order_Decides, passes_Decides}
 use Rattle.bs_net.proofs.RefusalLemmas.{refused_do_not_pass}
 use Rattle.bs_net.specs.Circuit.{Circuit, next, loaded, all_bits, settled}
+pub use Rattle.bs_net.proofs.LawLemmas.{exactly_one_fits, zero_undriven, undriven_zero}
+pub use Rattle.bs_net.proofs.NextLemmas.{next_from_fits}
+pub use Rattle.bs_net.proofs.CheckedLemmas.{passes_checked}
+pub use Rattle.bs_net.proofs.NamesLemmas.{appended, with_key-grows, with_key-one_more}
 
 -- what the type of the parts keeps
 pub raw_is_placed : (r : Raw) → PartsArePlaced (parts_of r)

@@ -8,6 +8,7 @@ use Rattle.std.proofs.lemmas.List.Elements.{All-from_recursion, recursion_from_A
 use Rattle.std.proofs.lemmas.List.Sums.{length-filter, count_by-le-length}
 use Rattle.std.proofs.lemmas.Map.Keys.{IsDistinct-head, IsDistinct-tail, IsDistinct-cons}
 use Rattle.bs_net.specs.declared.net.NetId.{NetId}
+use Rattle.bs_net.specs.declared.limits.TheConstants.{MAX_FLOPS, MAX_INPUTS, MAX_TERMINALS}
 use Rattle.bs_net.specs.declared.net.Gate.{Gate}
 use Rattle.bs_net.specs.declared.net.Flop.{Flop}
 use Rattle.bs_net.specs.declared.net.Const.{Const}
@@ -123,20 +124,20 @@ passes_checked r p h =
 
 -- ---- the sizes
 
-not_many : (r : Parts) → too_many r ≡ None → (length r.flops ≤ 4096) × (length r.inputs ≤ 4096) × (find (λ (g : Gate). nat_lt 64 (length g.ins)) r.gates ≡ None)
-not_many r e = by (nat_lt 4096 (length r.flops)) refl e
+not_many : (r : Parts) → too_many r ≡ None → (length r.flops ≤ MAX_FLOPS) × (length r.inputs ≤ MAX_INPUTS) × (find (λ (g : Gate). nat_lt MAX_TERMINALS (length g.ins)) r.gates ≡ None)
+not_many r e = by (nat_lt MAX_FLOPS (length r.flops)) refl e
   where
     none_wide : (o : Option Gate) → wide_gate o ≡ None → o ≡ None
     none_wide None k = refl
     none_wide (Some g) k = absurd cc
 
-    by_inputs : (b : Bool) → nat_lt 4096 (length r.inputs) ≡ b → cond b (Some (Inputs, length r.inputs)) (wide_gate (find (λ (g : Gate). nat_lt 64 (length g.ins)) r.gates)) ≡ None → (length r.inputs ≤ 4096) × (find (λ (g : Gate). nat_lt 64 (length g.ins)) r.gates ≡ None)
+    by_inputs : (b : Bool) → nat_lt MAX_INPUTS (length r.inputs) ≡ b → cond b (Some (Inputs, length r.inputs)) (wide_gate (find (λ (g : Gate). nat_lt MAX_TERMINALS (length g.ins)) r.gates)) ≡ None → (length r.inputs ≤ MAX_INPUTS) × (find (λ (g : Gate). nat_lt MAX_TERMINALS (length g.ins)) r.gates ≡ None)
     by_inputs true t k = absurd cc
-    by_inputs false t k = (ltb-false 4096 (length r.inputs) t, none_wide _ k)
+    by_inputs false t k = (ltb-false MAX_INPUTS (length r.inputs) t, none_wide _ k)
 
-    by : (b : Bool) → nat_lt 4096 (length r.flops) ≡ b → cond b (Some (Flops, length r.flops)) (cond (nat_lt 4096 (length r.inputs)) (Some (Inputs, length r.inputs)) (wide_gate (find (λ (g : Gate). nat_lt 64 (length g.ins)) r.gates))) ≡ None → (length r.flops ≤ 4096) × (length r.inputs ≤ 4096) × (find (λ (g : Gate). nat_lt 64 (length g.ins)) r.gates ≡ None)
+    by : (b : Bool) → nat_lt MAX_FLOPS (length r.flops) ≡ b → cond b (Some (Flops, length r.flops)) (cond (nat_lt MAX_INPUTS (length r.inputs)) (Some (Inputs, length r.inputs)) (wide_gate (find (λ (g : Gate). nat_lt MAX_TERMINALS (length g.ins)) r.gates))) ≡ None → (length r.flops ≤ MAX_FLOPS) × (length r.inputs ≤ MAX_INPUTS) × (find (λ (g : Gate). nat_lt MAX_TERMINALS (length g.ins)) r.gates ≡ None)
     by true t k = absurd cc
-    by false t k = let rest = by_inputs (nat_lt 4096 (length r.inputs)) refl k in (ltb-false 4096 (length r.flops) t, rest.0, rest.1)
+    by false t k = let rest = by_inputs (nat_lt MAX_INPUTS (length r.inputs)) refl k in (ltb-false MAX_FLOPS (length r.flops) t, rest.0, rest.1)
 
 find_none : {X : Type 0} (p : X → Bool) (xs : List X) → find p xs ≡ None → AllByRecursion (λ x. p x ≡ false) xs
 find_none p [] h = tt
@@ -146,9 +147,9 @@ find_none {X} p (x ∷ xs) h = by (p x) refl h (find_none p xs)
     by true e k rest = absurd cc
     by false e k rest = (e, rest k)
 
-narrow : (gs : List Gate) → AllByRecursion (λ (g : Gate). nat_lt 64 (length g.ins) ≡ false) gs → AllByRecursion (λ (g : Gate). length g.ins ≤ 64) gs
+narrow : (gs : List Gate) → AllByRecursion (λ (g : Gate). nat_lt MAX_TERMINALS (length g.ins) ≡ false) gs → AllByRecursion (λ (g : Gate). length g.ins ≤ MAX_TERMINALS) gs
 narrow [] h = tt
-narrow (g ∷ gs) h = (ltb-false 64 (length g.ins) h.0, narrow gs h.1)
+narrow (g ∷ gs) h = (ltb-false MAX_TERMINALS (length g.ins) h.0, narrow gs h.1)
 
 some_length : (fs : List Flop) → fs ≢ [] → 0 < length fs
 some_length [] h = absurd (h refl)
@@ -177,5 +178,5 @@ passes_bounded r p h =
       some_flop = some_length r.flops h.some_flop;
       few_flops = sizes.0;
       few_inputs = omega (arith, sizes.1, without_less (clock_of r.flops) r.inputs (clock_port r h.one_clock));
-      narrow = All-from_recursion (λ (g : Gate). length g.ins ≤ 64) r.gates (narrow r.gates (find_none (λ (g : Gate). nat_lt 64 (length g.ins)) r.gates sizes.2));
+      narrow = All-from_recursion (λ (g : Gate). length g.ins ≤ MAX_TERMINALS) r.gates (narrow r.gates (find_none (λ (g : Gate). nat_lt MAX_TERMINALS (length g.ins)) r.gates sizes.2));
     }

@@ -305,7 +305,7 @@ apart_last : (xs ys : List Step) → Apart (xs ++ ys) → Apart ys
 apart_last [] ys h = h
 apart_last (x ∷ xs) ys h = apart_last xs ys h.1
 
-placed_end : (m : ℕ) (xs ys : List Step) → Placed m (xs ++ ys) → Placed m ys
+pub placed_end : (m : ℕ) (xs ys : List Step) → Placed m (xs ++ ys) → Placed m ys
 placed_end m [] ys h = h
 placed_end m (x ∷ xs) ys h = placed_end m xs ys h.1
 

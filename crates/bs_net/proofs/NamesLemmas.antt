@@ -12,6 +12,7 @@ use Rattle.std.proofs.lemmas.List.{map-append, length-map, length-append}
 use Rattle.std.proofs.lemmas.List.Folds.{list_any_at, list_any_none, position_or_len_push}
 use Rattle.std.proofs.lemmas.List.Sums.{fails_before_first}
 use Rattle.std.proofs.lemmas.List.Quantifiers.{position-Some}
+use Rattle.bs_net.specs.declared.limits.TheConstants.{MAX_NETS}
 use Rattle.bs_net.specs.declared.net.NetId.{NetId}
 use Rattle.bs_net.specs.Names.{with_key, number_of, net}
 
@@ -101,10 +102,10 @@ with_key-one_more names key = by (list_any (bytes_eq key) names)
     by false = omega (arith, length-append names (key ∷ []))
 
 -- a name that is not there has room
-pub room_for : (names : List (List ℕ)) (key : List ℕ) → (length names < 100000) ⊎ IsSome (number_of names key) → number_of names key ≡ None → length names < 100000
+pub room_for : (names : List (List ℕ)) (key : List ℕ) → (length names < MAX_NETS) ⊎ IsSome (number_of names key) → number_of names key ≡ None → length names < MAX_NETS
 room_for names key room e =
     ⊎_elim
-    (λ (h : length names < 100000). h)
+    (λ (h : length names < MAX_NETS). h)
     (λ (h : IsSome (number_of names key)). absurd (none_there (number_of names key) e h))
     room
   where

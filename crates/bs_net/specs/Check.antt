@@ -2,6 +2,7 @@
 use Rattle.std.specs.Prelude.{◌≡◌, ◌≢◌, ℕ, Bool, not, ◌&&◌, ◌||◌, ◌==◌, List, [], ◌++◌, length, map, find, count_by, nat_lt, Option, Some, None, if◌then◌else◌}
 use Rattle.std.specs.List.{list_any, flat_map}
 use Rattle.std.specs.Option.{option_map}
+use Rattle.bs_net.specs.declared.limits.TheConstants.{MAX_FLOPS, MAX_INPUTS, MAX_TERMINALS}
 use Rattle.bs_net.specs.declared.net.NetId.{NetId}
 use Rattle.bs_net.specs.declared.net.Gate.{Gate}
 use Rattle.bs_net.specs.Parts.{Parts}
@@ -21,14 +22,14 @@ abbrev pub wide_gate : Option Gate → Option (Count × ℕ)
 wide_gate None = None
 wide_gate (Some g) = Some (Terminals, length g.ins)
 
--- more than 4,096 flip-flops, or else more than 4,096 input port bits, or else a first gate with more than 64 inputs
+-- too many flip-flops, or else too many input port bits, or else a first gate with too many inputs
 abbrev pub too_many : Parts → Option (Count × ℕ)
 too_many r =
-    if nat_lt 4096 (length r.flops)
+    if nat_lt MAX_FLOPS (length r.flops)
     then Some (Flops, length r.flops)
-    else if nat_lt 4096 (length r.inputs)
+    else if nat_lt MAX_INPUTS (length r.inputs)
     then Some (Inputs, length r.inputs)
-    else wide_gate (find (λ g. nat_lt 64 (length g.ins)) r.gates)
+    else wide_gate (find (λ g. nat_lt MAX_TERMINALS (length g.ins)) r.gates)
 
 -- ---- drivers and readers of a net
 

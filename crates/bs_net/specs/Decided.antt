@@ -1,11 +1,11 @@
 -- Whether a netlist passes the check, as a test of its parts: what a definition says where no order of gates is at hand.
-use Rattle.std.specs.Prelude.{ℕ, zero, suc, Bool, true, not, ◌&&◌, ◌==◌, List, [], ◌∷◌, length, map, is_none, nat_lt}
+use Rattle.std.specs.Prelude.{◌≡◌, ◌↔◌, ℕ, zero, suc, Bool, true, not, ◌&&◌, ◌==◌, List, [], ◌∷◌, length, map, is_none, nat_lt}
 use Rattle.std.specs.List.{list_all, list_any, flat_map, range_with_len}
 use Rattle.bs_net.specs.declared.net.Gate.{Gate}
 use Rattle.bs_net.specs.Parts.{Parts}
 use Rattle.bs_net.specs.Loops.{is_in}
 use Rattle.bs_net.specs.Order.{gates_in}
-use Rattle.bs_net.specs.Check.{too_many, is_shared, is_undriven, mixed_clock}
+use Rattle.bs_net.specs.Check.{too_many, is_shared, is_undriven, mixed_clock, HasOrder, Passes}
 
 -- ---- an order of the gates
 
@@ -42,3 +42,11 @@ passes r =
     && has_order r.gates
     && nat_lt 0 (length r.flops)
     && is_none (mixed_clock r)
+
+-- ---- the tests decide what the check says
+
+abbrev pub OrdersAreDecided : Type 0
+OrdersAreDecided = (gates : List Gate) → (has_order gates ≡ true) ↔ HasOrder gates
+
+abbrev pub ChecksAreDecided : Type 0
+ChecksAreDecided = (r : Parts) → (passes r ≡ true) ↔ Passes r

@@ -12,7 +12,7 @@ pub mod Check
 pub mod Decided
 pub mod Steps
 -- what inner functions promise each other
-pub mod NetlistSound
+pub mod Inside
 pub mod Findings
 pub mod Tallies
 pub mod Search

@@ -2,6 +2,7 @@
 use Rattle.std.specs.Prelude.{◌≡◌, ◌≢◌, ℕ, ◌<◌, ◌≤◌, List, [], ◌∷◌, length, map, slice_index_or, All, nat_eq, Bool}
 use Rattle.std.specs.List.{range_with_len, IsDistinct}
 use Rattle.std.specs.List.Sorted.{IsPermutation}
+use Rattle.bs_net.specs.declared.limits.TheConstants.{MAX_NETS, MAX_FLOPS, MAX_INPUTS, MAX_TERMINALS}
 use Rattle.bs_net.specs.declared.net.Gate.{Gate}
 use Rattle.bs_net.specs.declared.net.Kind.TheVariants.{And}
 use Rattle.bs_net.specs.Circuit.{Circuit, drivers, OneFits}
@@ -31,14 +32,14 @@ pub record IsChecked (c : Circuit) : Type 0 where
   pub in_range : All (λ n. n < c.nets) (drivers c)
   pub acyclic : (order : List ℕ) × IsOrder c.gates order
 
--- the sizes that the check admits (docs/DEFINITIONS.md, "Limits"); the clock is one of at most 4,096 input port bits and no data
--- input
+-- the sizes that the check admits (docs/DEFINITIONS.md, "Limits"); the clock is one of at most `MAX_INPUTS` input port bits and no
+-- data input
 pub record IsBounded (c : Circuit) : Type 0 where
-  pub few_nets : c.nets ≤ 100000
+  pub few_nets : c.nets ≤ MAX_NETS
   pub some_flop : 0 < length c.flops
-  pub few_flops : length c.flops ≤ 4096
-  pub few_inputs : length c.inputs ≤ 4095
-  pub narrow : All (λ g. length g.ins ≤ 64) c.gates
+  pub few_flops : length c.flops ≤ MAX_FLOPS
+  pub few_inputs : length c.inputs < MAX_INPUTS
+  pub narrow : All (λ g. length g.ins ≤ MAX_TERMINALS) c.gates
 
 -- in a netlist with single drivers and an order of its gates exactly one valuation fits each state and input
 abbrev pub ExactlyOneFits : Type 0

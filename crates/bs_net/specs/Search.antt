@@ -7,10 +7,7 @@ use Rattle.bs_net.specs.declared.search.Mark.{Mark}
 use Rattle.bs_net.specs.declared.search.Mark.TheVariants.{New, Open, Listed}
 use Rattle.bs_net.specs.declared.search.Look.{Look}
 use Rattle.bs_net.specs.declared.search.Look.TheVariants.{Whole, Ready, Unlisted, OnPath}
-use Rattle.bs_net.specs.declared.levels.Levelling.{Levelling}
-use Rattle.bs_net.specs.declared.levels.Levelling.TheVariants.{Ordered, Looped}
-use Rattle.bs_net.specs.Order.{IsOrder}
-use Rattle.bs_net.specs.Loops.{is_in, gate_at, feeds, IsLoop}
+use Rattle.bs_net.specs.Loops.{is_in, gate_at, feeds}
 
 -- how far a search is: the mark of each gate, how many of its inputs are not examined, the open gates and the listed
 -- ones, the newest first
@@ -143,8 +140,3 @@ start gates = record { marks = replicate (length gates) New; left = map (λ g. l
 abbrev pub filled : List (Option ℕ) → ℕ → List Gate → List (Option ℕ)
 filled table i [] = table
 filled table i (g ∷ gs) = filled (slice_set table g.out.0 (Some i)) (i + 1) gs
-
--- an order of the gates, or a loop
-abbrev pub IsLevelling : List Gate → Levelling → Type 0
-IsLevelling gates (Ordered order) = IsOrder gates order
-IsLevelling gates (Looped loop) = IsLoop gates loop

@@ -1,5 +1,5 @@
 //! One input port bit clocks all flip-flops and is no data.
-ghost use Rattle.std.specs.Prelude.{◌≡◌, ◌≢◌, ◌==◌, [], not, find};
+ghost use Rattle.std.specs.Prelude.{◌≡◌, ◌==◌, not, find};
 ghost use Rattle.std.specs.List.{list_any};
 ghost use Rattle.std.specs.Option.{option_map};
 ghost use Rattle.bs_net.specs.Netlist.{parts_of, clock_of};

@@ -8,11 +8,11 @@ use bs_bits::{List, NoMemory};
 /// What there is too much of.
 #[derive(Clone, Copy, Debug, PartialEq, Eq)]
 pub enum Count {
-    /// Flip-flops: at most 4,096.
+    /// Flip-flops: at most `MAX_FLOPS`.
     Flops,
-    /// Input port bits, the clock counted: at most 4,096.
+    /// Input port bits, the clock counted: at most `MAX_INPUTS`.
     Inputs,
-    /// Inputs of one gate: at most 64.
+    /// Inputs of one gate: at most `MAX_TERMINALS`.
     Terminals,
 }
 

@@ -5,7 +5,8 @@ mod clock;
 mod drivers;
 mod fault;
 mod law;
-mod levels;
+mod limits;
+mod loops;
 mod names;
 mod net;
 mod netlist;
@@ -13,14 +14,14 @@ mod raw;
 mod search;
 mod sizes;
 mod tallies;
-#[cfg(test)]
-mod tests;
 
 pub use fault::{Count, NetFault, Refused};
 pub use law::{
     every_schedule_settles_alike, exactly_one_valuation_fits, loops_have_no_order,
-    next_state_is_led_to, refused_netlists_do_not_pass,
+    next_state_is_led_to, refused_netlists_do_not_pass, tests_decide_the_check,
 };
+pub use limits::{MAX_FLOPS, MAX_INPUTS, MAX_NETS, MAX_TERMINALS};
+pub use loops::{Levelling, levelize};
 pub use names::Names;
 pub use net::{Const, Flop, Gate, Kind, NetId, Terms};
 pub use netlist::Netlist;

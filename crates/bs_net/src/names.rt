@@ -3,13 +3,14 @@ ghost use Rattle.std.specs.Prelude.{◌≤◌, ◌+◌, ◌≡◌, ◌<◌, ◌�
 ghost use Rattle.std.specs.Option.{option_map};
 ghost use Rattle.bs_net.specs.Names.{with_key, number_of, net};
 
+use crate::limits::MAX_NETS;
 use crate::net::NetId;
 use bs_bits::NoMemory;
 use indexmap::IndexSet;
 use std::alloc::Global;
 use std::marker::Model;
 
-/// An ordered set of at most 100,000 names. The number of a name is its place, from 0; contracts see the names' bytes.
+/// An ordered set of at most `MAX_NETS` names. The number of a name is its place, from 0; contracts see the names' bytes.
 #[derive(Drop)]
 pub struct Names {
     keys: IndexSet<String>,
@@ -18,12 +19,13 @@ pub struct Names {
 impl Model for Names {
     ghost use Rattle.std.specs.Prelude.{List, ℕ, map, length, ◌≤◌};
     ghost use Rattle.std.specs.String.{string_bytes};
+    ghost use Rattle.bs_net.specs.declared.limits.TheConstants.{MAX_NETS};
 
     ghost Value = { List (List ℕ) };
 
     ghost view = { λ n. map string_bytes n.keys.keys };
 
-    ghost invariant = { λ n. length n.keys.keys ≤ 100000 };
+    ghost invariant = { λ n. length n.keys.keys ≤ MAX_NETS };
 }
 
 impl Names {
@@ -66,7 +68,7 @@ impl Names {
 
     /// The number of a name, which is put at the end where it is not there yet.
     pub fn add(&mut self, alloc: Global, key: &str) -> Result<NetId, NoMemory>
-        requires { (length self.old < 100000) ⊎ IsSome (number_of self.old key.now) }
+        requires { (length self.old < MAX_NETS) ⊎ IsSome (number_of self.old key.now) }
         ensures ok { OnOk result (self.new ≡ with_key self.old key.now) }
         ensures number { IfOk result (λ n. Some n.0 ≡ number_of self.new key.now) }
         ensures err { OnErr result (self.new ≡ self.old) }
@@ -85,7 +87,7 @@ impl Names {
     /// Puts a new name at the end.
     fn append(&mut self, alloc: Global, key: &str) -> Result<NetId, NoMemory>
         requires absent { number_of self.old key.now ≡ None }
-        requires room { length self.old < 100000 }
+        requires room { length self.old < MAX_NETS }
         ensures ok { OnOk result (self.new ≡ with_key self.old key.now) }
         ensures number { IfOk result (λ n. Some n.0 ≡ number_of self.new key.now) }
         ensures err { OnErr result (self.new ≡ self.old) }

@@ -10,7 +10,7 @@ ghost use Rattle.bs_net.specs.Findings.{Finds};
 use crate::clock::mixed_clock;
 use crate::drivers::nets_pass;
 use crate::fault::{NetFault, Refused};
-use crate::levels::gate_order;
+use crate::loops::gate_order;
 use crate::net::{Flop, NetId};
 use crate::raw::Raw;
 use crate::sizes::too_many;
@@ -33,11 +33,11 @@ impl Model for Netlist {
 
     ghost Value = { Checked };
 
-    ghost use Rattle.bs_net.specs.NetlistSound.{IsSound};
+    ghost use Rattle.bs_net.specs.Inside.{IsCheckedInside};
 
     ghost view = { λ n. record { raw = parts_of n.raw; order = n.order } };
 
-    ghost invariant = { λ n. IsSound n };
+    ghost invariant = { λ n. IsCheckedInside n };
 }
 
 /// The nets without one.

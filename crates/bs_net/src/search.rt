@@ -1,5 +1,5 @@
 //! A depth-first search over fan-in, which lists each gate after the gates that it reads.
-ghost use Rattle.std.specs.Prelude.{◌≡◌, ◌<◌, ◌≤◌, ◌^◌, [], ◌∷◌, ℕ, true, length, slice_index_or, OnOk, OnErr, IfOk, IfSome, IfNone, All, map, replicate, reverse};
+ghost use Rattle.std.specs.Prelude.{◌≡◌, ◌<◌, ◌^◌, [], ℕ, true, length, slice_index_or, OnOk, OnErr, IfOk, IfSome, IfNone, All, map, replicate, reverse};
 ghost use Rattle.bs_net.specs.Loops.{is_in};
 ghost use Rattle.bs_net.specs.Search.{entered, advanced, closed, IsSearch, IsDriverTable, CoversInputs, Finds, MarkFinds, ClosesLoop, StayFound, effort, start};
 

@@ -6,7 +6,7 @@ use Rattle.bs_net.specs.Order.{IsOrder}
 use Rattle.bs_net.specs.Search.{State, filled, IsSearch, IsDriverTable, ClosesLoop}
 use Rattle.bs_net.proofs.LevelLemmas.{search_orders}
 use Rattle.bs_net.proofs.TableLemmas.{table_is, start_searches, length-filled, loop_found}
-use Rattle.bs_net.proofs.levels.levelize.Goals as goal
+use Rattle.bs_net.proofs.loops.levelize.Goals as goal
 
 pub run-requires-clause-search : goal.run-requires-clause-search
 run-requires-clause-search c =

@@ -1,12 +1,11 @@
 use Rattle.std.proofs.Common.{subst, List}
 use Rattle.bs_net.specs.Netlist.{parts_of}
 use Rattle.bs_net.specs.declared.net.Gate.{Gate}
-use Rattle.bs_net.specs.declared.levels.Levelling.{Levelling}
-use Rattle.bs_net.specs.Loops.{IsLoop}
-use Rattle.bs_net.specs.Search.{IsLevelling}
+use Rattle.bs_net.specs.declared.loops.Levelling.{Levelling}
+use Rattle.bs_net.specs.Loops.{IsLoop, IsLevelling}
 use Rattle.bs_net.proofs.LoopLemmas.{loops_have_no_order}
 use Rattle.bs_net.proofs.SingleLemmas.{outs_distinct}
-use Rattle.bs_net.proofs.levels.gate_order.Goals as goal
+use Rattle.bs_net.proofs.loops.gate_order.Goals as goal
 
 pub levelize-requires-clause-single : goal.levelize-requires-clause-single
 levelize-requires-clause-single c = rw c.slice.ensures (outs_distinct (parts_of c.args.raw.now) c.requires.placed c.requires.nets.single)

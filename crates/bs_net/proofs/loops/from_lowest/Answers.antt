@@ -1,7 +1,7 @@
 use Rattle.std.proofs.Common.{◌≡◌, ◌∙◌, sym, ap, arith, subst, ◌++◌, List, ℕ, take, drop}
 use Rattle.bs_net.specs.Loops.{IsLeastFirst}
 use Rattle.bs_net.proofs.LevelLemmas.{least_first}
-use Rattle.bs_net.proofs.levels.from_lowest.Goals as goal
+use Rattle.bs_net.proofs.loops.from_lowest.Goals as goal
 
 pub returns-clause-least_first : goal.returns-clause-least_first
 returns-clause-least_first c =

@@ -1,6 +1,6 @@
 use Rattle.std.proofs.Common.{◌<◌, ◌≤◌, length, ℕ}
 use Rattle.std.specs.Prelude.{slice_index_or}
-use Rattle.bs_net.proofs.levels.lowest.Given as goal
+use Rattle.bs_net.proofs.loops.lowest.Given as goal
 
 abbrev pub invariant-loop-i : goal.invariant-loop-i
 invariant-loop-i l = record {

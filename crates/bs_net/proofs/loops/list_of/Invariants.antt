@@ -1,5 +1,5 @@
 use Rattle.std.proofs.Common.{◌≡◌, take}
-use Rattle.bs_net.proofs.levels.list_of.Given as goal
+use Rattle.bs_net.proofs.loops.list_of.Given as goal
 
 abbrev pub invariant-loop-n : goal.invariant-loop-n
 invariant-loop-n l = l.list ≡ take l.n-index l.numbers

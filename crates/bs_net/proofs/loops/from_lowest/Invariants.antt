@@ -1,5 +1,5 @@
 use Rattle.std.proofs.Common.{◌≡◌, ◌++◌, take, drop}
-use Rattle.bs_net.proofs.levels.from_lowest.Given as goal
+use Rattle.bs_net.proofs.loops.from_lowest.Given as goal
 
 abbrev pub invariant-loop-i : goal.invariant-loop-i
 invariant-loop-i l = l.turned ++ drop l.i l.numbers ≡ drop l.low l.numbers

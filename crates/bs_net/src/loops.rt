@@ -1,12 +1,12 @@
-//! An order of the gates in which each stands after its fan-in, or a loop.
+//! Loops of gates: a loop is found, or else an order in which each gate stands after its fan-in.
 ghost use Rattle.std.specs.Prelude.{◌≡◌, ◌<◌, ◌≤◌, ◌^◌, ◌++◌, ℕ, None, length, replicate, reverse, drop, take, All, IfOk, IfErr, slice_index_or, nat_eq, map};
 ghost use Rattle.std.specs.List.{IsDistinct};
-ghost use Rattle.bs_net.specs.Loops.{is_in, up_to, IsLeastFirst};
+ghost use Rattle.bs_net.specs.Loops.{up_to, IsLeastFirst, IsLevelling};
 ghost use Rattle.bs_net.specs.Order.{IsOrder};
 ghost use Rattle.bs_net.specs.Netlist.{parts_of};
 ghost use Rattle.bs_net.specs.Parts.{PartsArePlaced};
 ghost use Rattle.bs_net.specs.Check.{PassesNets, IsFault};
-ghost use Rattle.bs_net.specs.Search.{start, filled, IsLevelling};
+ghost use Rattle.bs_net.specs.Search.{filled};
 
 use crate::fault::NetFault;
 use crate::net::Gate;
@@ -73,9 +73,12 @@ fn from_lowest(alloc: Global, numbers: &[u32]) -> Result<List<u32>, NoMemory>
     Ok(turned)
 }
 
-/// What a search of all gates finds: an order of them, or a loop.
-enum Levelling {
+/// What a search of all gates finds, by their numbers.
+#[derive(Drop)]
+pub enum Levelling {
+    /// All gates once, each reading no output of itself or a later one.
     Ordered(List<u32>),
+    /// Distinct gates, each one's output read by the next and the last one's by the first, from the lowest number on.
     Looped(List<u32>),
 }
 
@@ -98,8 +101,9 @@ fn list_of(alloc: Global, numbers: &[u32]) -> Result<List<u32>, NoMemory>
     Ok(list)
 }
 
-/// An order in which each gate reads no output of itself or a later one, or else a loop.
-fn levelize(alloc: Global, gates: &[Gate], nets: usize) -> Result<Levelling, NoMemory>
+/// An order of gates that drive distinct nets, all nets below a count; or a loop of them. It takes time linear in the
+/// nets and in the gates' inputs.
+pub fn levelize(alloc: Global, gates: &[Gate], nets: usize) -> Result<Levelling, NoMemory>
     requires outs { All (λ g. g.out.0 < nets) gates.now }
     requires ins { All (λ g. All (λ n. n.0 < nets) g.ins) gates.now }
     requires narrow { All (λ g. length g.ins < 2 ^ 32) gates.now }
