@@ -1,5 +1,6 @@
 -- Literals, clauses, and the assignments that meet them.
-use Rattle.std.specs.Prelude.{◌≢◌, ℕ, ◌+◌, ◌-◌, ◌*◌, ◌<◌, ◌≤◌, ◌^◌, ◌==◌, Bool, not, ◌&&◌, cond, List, IsTrue, AllPairs, Option, slice_get}
+use Rattle.bs_clause.specs.declared.literal.TheConstants.{VARIABLE_LIMIT}
+use Rattle.std.specs.Prelude.{◌≢◌, ℕ, ◌+◌, ◌-◌, ◌*◌, ◌/◌, ◌%◌, ◌<◌, ◌≤◌, ◌==◌, Bool, not, ◌&&◌, cond, List, IsTrue, All, AllPairs, Option, slice_get}
 use Rattle.std.specs.Bool.{beq}
 use Rattle.std.specs.List.{list_any}
 
@@ -15,13 +16,23 @@ Clause = List Literal
 abbrev pub negation : Literal → Literal
 negation l = record { variable = l.variable; positive = not l.positive }
 
--- variables are 1 to 2 ^ 30 - 1
 abbrev pub IsVariable : ℕ → Type 0
-IsVariable v = (1 ≤ v) × (v < 2 ^ 30)
+IsVariable v = (1 ≤ v) × (v < VARIABLE_LIMIT)
 
 -- twice the variable, and one more for a negation
 abbrev pub code_of : Literal → ℕ
 code_of l = 2 * l.variable + cond l.positive 0 1
+
+-- the codes of the variables' literals
+abbrev pub IsCode : ℕ → Type 0
+IsCode code = (2 ≤ code) × (code < 2 * VARIABLE_LIMIT)
+
+abbrev pub AreCodes : List ℕ → Type 0
+AreCodes codes = All IsCode codes
+
+-- the literal of a code
+abbrev pub literal_of : ℕ → Literal
+literal_of code = record { variable = code / 2; positive = code % 2 == 0 }
 
 abbrev pub same_literal : Literal → Literal → Bool
 same_literal a b = (a.variable == b.variable) && beq a.positive b.positive

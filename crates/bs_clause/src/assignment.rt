@@ -3,7 +3,7 @@ ghost use Rattle.std.specs.Prelude.{◌≡◌, ◌-◌, ◌<◌, ◌≤◌, Opti
 ghost use Rattle.bs_clause.specs.Literal.{value_at};
 
 use crate::literal::Var;
-use crate::memory::NoMemory;
+use bs_bits::NoMemory;
 use std::alloc::Global;
 use std::marker::Model;
 

@@ -4,13 +4,10 @@
 mod assignment;
 mod lists;
 mod literal;
-mod memory;
 mod resolution;
-#[cfg(test)]
-mod tests;
 
 pub use assignment::Assignment;
+pub use bs_bits::NoMemory;
 pub use lists::{Clauses, Lits};
-pub use literal::{Lit, Var, has_literal, is_same};
-pub use memory::NoMemory;
+pub use literal::{Lit, VARIABLE_LIMIT, Var, has_literal, is_same};
 pub use resolution::resolve;

@@ -2,14 +2,18 @@
 ghost use Rattle.std.specs.Prelude.{◌≡◌, ◌<◌, [], ◌∷◌, ◌++◌, length, slice_get, IfOk, OnOk, OnErr};
 
 use crate::literal::Lit;
-use crate::memory::NoMemory;
+use bs_bits::NoMemory;
+use smallvec::SmallVec;
 use std::alloc::Global;
 use std::marker::Model;
+
+/// How many literals a clause holds without a block of the heap: as many as fit in the room that a block's place takes.
+const SMALL: usize = 4;
 
 /// A clause: literals, one of which is to be true. Contracts see the list of its literals.
 #[derive(Drop)]
 pub struct Lits {
-    items: Vec<Lit>,
+    literals: SmallVec<Lit, SMALL>,
 }
 
 impl Model for Lits {
@@ -18,7 +22,7 @@ impl Model for Lits {
 
     ghost Value = { List Literal };
 
-    ghost view = { λ clause. clause.items.items };
+    ghost view = { λ clause. clause.literals.items };
 }
 
 impl Lits {
@@ -27,7 +31,7 @@ impl Lits {
         ensures { result ≡ [] }
     {
         Lits {
-            items: Vec::new(alloc),
+            literals: SmallVec::new(alloc),
         }
     }
 
@@ -35,8 +39,8 @@ impl Lits {
     pub fn copy(alloc: Global, literals: &[Lit]) -> Result<Lits, NoMemory>
         ensures { IfOk result (λ clause. clause ≡ literals.now) }
     {
-        let items = literals.to_vec(alloc)?;
-        Ok(Lits { items })
+        let literals = SmallVec::from_slice(alloc, literals)?;
+        Ok(Lits { literals })
     }
 
     /// Puts a literal at the end.
@@ -44,7 +48,7 @@ impl Lits {
         ensures ok { OnOk result (self.new ≡ self.old ++ l ∷ []) }
         ensures err { OnErr result (self.new ≡ self.old) }
     {
-        self.items.push(l)?;
+        self.literals.push(l)?;
         Ok(())
     }
 
@@ -52,7 +56,7 @@ impl Lits {
     pub fn len(&self) -> usize
         ensures { result ≡ length self.now }
     {
-        self.items.len()
+        self.literals.len()
     }
 
     /// The literal at a place, counted from 0.
@@ -60,14 +64,14 @@ impl Lits {
         requires { i < length self.now }
         ensures { slice_get self.now i ≡ Some result.now }
     {
-        &self.items[i]
+        &self.literals[i]
     }
 
     /// The literals.
     pub fn slice(&self) -> &[Lit]
         ensures { result.now ≡ self.now }
     {
-        self.items.as_slice()
+        self.literals.as_slice()
     }
 }
 
@@ -125,5 +129,12 @@ impl Clauses {
         ensures { result.now ≡ self.now }
     {
         self.items.as_slice()
+    }
+
+    /// The clauses as a vector of their own.
+    pub fn into_vec(self) -> Vec<Lits>
+        ensures { result.items ≡ self }
+    {
+        self.items
     }
 }

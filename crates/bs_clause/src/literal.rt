@@ -1,90 +1,96 @@
 //! Variables and literals.
-ghost use Rattle.std.specs.Prelude.{◌≡◌, ◌+◌, ◌*◌, ◌^◌, ◌<◌, ◌≤◌, ◌↔◌, IsTrue, Contains};
-ghost use Rattle.bs_clause.specs.Literal.{IsVariable, negation, code_of, same_literal, has_literal};
+ghost use Rattle.std.specs.Prelude.{◌≡◌, ◌+◌, ◌*◌, ◌<◌, ◌≤◌, ◌↔◌, IsTrue, Contains};
+ghost use Rattle.bs_clause.specs.Literal.{IsVariable, IsCode, negation, code_of, literal_of, same_literal, has_literal};
 
 use std::marker::Model;
 
-/// A variable. They are counted from 1, and a literal takes those below 2^30.
+/// Variables are 1 to one less than this.
+pub const VARIABLE_LIMIT: u32 = 1 << 30;
+
+/// A variable. They are counted from 1, and a literal takes those below `VARIABLE_LIMIT`.
 #[derive(Clone, Copy, Debug, PartialEq, Eq)]
 pub struct Var(pub u32);
 
-/// A variable with a sign. Contracts see the variable's number, and whether the sign is positive.
+/// A variable with a sign, kept as its code. Contracts see the variable's number, and whether the sign is positive.
 #[derive(Clone, Copy, Debug, PartialEq, Eq)]
 pub struct Lit {
-    variable: u32,
-    positive: bool,
+    code: u32,
 }
 
 impl Model for Lit {
-    ghost use Rattle.bs_clause.specs.Literal.{Literal, IsVariable};
+    ghost use Rattle.bs_clause.specs.Literal.{Literal, IsCode, code_of, literal_of};
+    ghost use Rattle.bs_clause.specs.Codes.{code_back};
 
     ghost Value = { Literal };
 
-    ghost view = { λ l. record { variable = l.variable; positive = l.positive } };
+    ghost view = { λ l. literal_of l.code };
 
-    ghost invariant = { λ l. IsVariable l.variable };
+    ghost invariant = { λ l. IsCode l.code };
 
-    ghost inverse = { λ d. record { variable = d.variable; positive = d.positive } };
+    ghost inverse = { λ d. record { code = code_of d } };
+
+    ghost inverse_ok = { λ l _ i. record { code = code_back l.code i } };
+}
+
+impl Default for Lit {
+    /// The literal that a place holds before another is written there.
+    fn default() -> Lit {
+        Lit { code: 2 }
+    }
 }
 
 impl Lit {
-    /// The literal of a variable that is 1 to 2^30 - 1.
+    /// The literal of a variable that is 1 to `VARIABLE_LIMIT` - 1.
     pub fn new(var: Var, positive: bool) -> Lit
         requires { IsVariable var.0 }
         ensures { result ≡ record { variable = var.0; positive = positive } }
     {
-        Lit {
-            variable: var.0,
-            positive,
-        }
+        let code = if positive { 2 * var.0 } else { 2 * var.0 + 1 };
+        Lit { code }
     }
 
-    /// The variable, which is 1 to 2^30 - 1.
+    /// The variable, which is 1 to `VARIABLE_LIMIT` - 1.
     pub fn var(self) -> Var
         ensures variable { result.0 ≡ self.variable }
         ensures range { IsVariable self.variable }
     {
-        Var(self.variable)
+        Var(self.code / 2)
     }
 
     /// Whether it is the variable itself and not its negation.
     pub fn positive(self) -> bool
         ensures { result ≡ self.positive }
     {
-        self.positive
+        self.code % 2 == 0
     }
 
     /// The literal of the same variable with the other sign.
     pub fn negate(self) -> Lit
         ensures { result ≡ negation self }
     {
-        Lit {
-            variable: self.variable,
-            positive: !self.positive,
-        }
+        let code = if self.code % 2 == 0 {
+            self.code + 1
+        } else {
+            self.code - 1
+        };
+        Lit { code }
     }
 
     /// Its code, twice the variable, and 1 more for a negation.
     pub fn code(self) -> u32
         ensures code { result ≡ code_of self }
-        ensures range { (2 ≤ result) × (result < 2 ^ 31) }
+        ensures range { IsCode result }
     {
-        if self.positive {
-            2 * self.variable
-        } else {
-            2 * self.variable + 1
-        }
+        self.code
     }
 
-    /// The literal with this code, which is 2 to 2^31 - 1.
+    /// The literal with this code, which is 2 to 2 * `VARIABLE_LIMIT` - 1.
     pub fn from_code(code: u32) -> Lit
-        requires { (2 ≤ code) × (code < 2 ^ 31) }
-        ensures { code_of result ≡ code }
+        requires { IsCode code }
+        ensures code { code_of result ≡ code }
+        ensures value { result ≡ literal_of code }
     {
-        Lit {
-            variable: code / 2,
-            positive: code % 2 == 0,
-        }
+        Lit { code }
     }
 }
 
@@ -94,7 +100,7 @@ pub fn is_same(a: Lit, b: Lit) -> bool
     ensures test { result ≡ same_literal a b }
     ensures same { IsTrue result ↔ (a ≡ b) }
 {
-    a.var().0 == b.var().0 && a.positive() == b.positive()
+    a.code() == b.code()
 }
 
 /// Whether the literal stands in the clause.

@@ -5,7 +5,7 @@ ghost use Rattle.bs_clause.specs.Resolvent.{without, news, resolvent};
 
 use crate::lists::Lits;
 use crate::literal::{Lit, has_literal, is_same};
-use crate::memory::NoMemory;
+use bs_bits::NoMemory;
 use std::alloc::Global;
 
 // The clause's other literals.
