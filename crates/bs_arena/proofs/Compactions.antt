@@ -2,12 +2,12 @@
 use Rattle.std.proofs.Common.{◌≡◌, ℕ, suc, ◌+◌, ◌-◌, ◌<◌, ◌≤◌, arith, true, false, cond, List, [], ◌∷◌, ◌++◌, map, filter, length, take, drop, refl, sym, ap, subst, ◌∙◌, All}
 use Rattle.std.specs.List.{AllByRecursion, zip, copy_within}
 use Rattle.std.specs.Prelude.{sum_by}
-use Rattle.bs_clause.specs.Literal.{Literal}
+use Rattle.bs_clause.specs.Literal.{Literal, literal_of}
 use Rattle.std.proofs.lemmas.List.{append_assoc, append-nil, length-append, length-map, take_at, drop_at, drop-append-le, drop-drop, length-drop}
 use Rattle.std.proofs.lemmas.List.Sums.{sum_by-cons}
 use Rattle.std.proofs.lemmas.List.Elements.{All-filter}
 use Rattle.bs_arena.specs.Words.{Stored, spelling, spelling_of, placed_from, size}
-use Rattle.bs_arena.specs.Arena.{Held, held, live_in, live_words, literal_of, kept_in, stored_in, clauses_of, meaning, IsArena, IsWellFormed, IsStored}
+use Rattle.bs_arena.specs.Arena.{Held, held, live_in, live_words, kept_in, stored_in, clauses_of, meaning, IsArena, IsWellFormed, IsStored}
 use Rattle.bs_arena.proofs.Spellings.{read_back, spelling_of-append}
 use Rattle.bs_arena.proofs.Splits.{Header, header}
 
@@ -261,11 +261,12 @@ words_by_meaning (h ∷ hs) =
     sum_by-cons meaning_words (meaning h) (map meaning hs) ∙ ap (λ n. length h.literals + 4 + n) (words_by_meaning hs) ∙ sym (sum_by-cons (λ (g : Held). length g.literals + 4) h hs)
 
 -- the words of the arena after a compaction
-pub arena_compact : (words after : List ℕ) (live count : ℕ) → IsArena words live count → after ≡ spelling_of (kept_in words) → IsArena after live count
-arena_compact words after live count a now =
+pub arena_compact : (words after : List ℕ) (live count : ℕ) → IsArena words live count → length after ≤ length words → after ≡ spelling_of (kept_in words) → IsArena after live count
+arena_compact words after live count a le now =
     let same : map meaning (clauses_of after) ≡ map meaning (clauses_of words) = meanings_are words after (stored_in words) (spelled_by words a.form) now in
     record {
       form = record { stored = kept_in words; each = stored_kept (stored_in words) (each_stored words a.form); spelled = now };
+      few = omega (arith, le, a.few);
       live_is = a.live_is ∙ sym (words_by_meaning (clauses_of words)) ∙ ap (sum_by meaning_words) (sym same) ∙ words_by_meaning (clauses_of after);
       count_is = a.count_is ∙ sym (length-map (clauses_of words) meaning) ∙ ap length (sym same) ∙ length-map (clauses_of after) meaning;
     }

@@ -5,9 +5,10 @@ use Rattle.std.proofs.lemmas.List.{length-append, length-map}
 use Rattle.std.proofs.lemmas.List.Sums.{sum_by-cons, sum_by-append}
 use Rattle.std.proofs.lemmas.List.Kept.{AllPairs-cons}
 use Rattle.std.proofs.lemmas.List.Elements.{All-from_recursion, All-nil, All-cons, All-head, All-tail, All-map, All-weaker}
-use Rattle.bs_clause.specs.Literal.{Literal, IsVariable}
+use Rattle.bs_clause.specs.Literal.{Literal, IsVariable, IsCode, AreCodes, literal_of}
+use Rattle.bs_arena.specs.declared.reference.TheConstants.{WORD_LIMIT}
 use Rattle.bs_arena.specs.Words.{Stored, spelling, spelling_of, placed_from, size}
-use Rattle.bs_arena.specs.Arena.{Held, IsArena, held, live_in, live_words, literal_of, clauses_of, IsContent, IsHeld, IsWellFormed, IsStored, AreCodes}
+use Rattle.bs_arena.specs.Arena.{Held, IsArena, held, live_in, live_words, clauses_of, IsContent, IsHeld, IsWellFormed, IsStored}
 use Rattle.bs_arena.proofs.Spellings.{read_back, well_formed_push, clauses_of-push}
 
 -- a fact of all clauses from the ones that are live
@@ -58,7 +59,7 @@ ascends at (c ∷ cs) =
 -- each can be added
 variables : (codes : List ℕ) → AreCodes codes → All (λ (l : Literal). IsVariable l.variable) (map literal_of codes)
 variables codes all = All-map (λ (l : Literal). IsVariable l.variable) literal_of codes
-    (All-weaker (λ (n : ℕ). (2 ≤ n) × (n < 2 ^ 31)) (λ (n : ℕ). IsVariable (n / 2)) (λ n h. (omega (arith, h.0), omega (arith, h.1))) codes all)
+    (All-weaker IsCode (λ (n : ℕ). IsVariable (n / 2)) (λ n h. (omega (arith, h.0), omega (arith, h.1))) codes all)
 
 held_is : (at : ℕ) (c : Stored) → IsStored c → IsHeld (held (record { place = at; clause = c }))
 held_is at c s = record { id = s.id; literals = variables c.codes s.codes; short = omega (arith, s.short, length-map c.codes literal_of) }
@@ -86,12 +87,13 @@ content_is words count spare w le = record {
 }
 
 -- one more clause
-pub arena_push : (words : List ℕ) (live count : ℕ) (c : Stored) → IsArena words live count → IsStored c → c.live ≡ true →
+pub arena_push : (words : List ℕ) (live count : ℕ) (c : Stored) → IsArena words live count → length words + size c ≤ WORD_LIMIT → IsStored c → c.live ≡ true →
     IsArena (words ++ spelling c) (live + (length c.codes + 4)) (count + 1)
-arena_push words live count c a ok alive =
+arena_push words live count c a le ok alive =
     let more : clauses_of (words ++ spelling c) ≡ clauses_of words ++ held (record { place = length words; clause = c }) ∷ [] = clauses_of-push a.form.stored c words a.form.spelled alive in
     record {
       form = well_formed_push words c a.form ok;
+      few = omega (arith, le, length-append words (spelling c));
       live_is = omega (arith, a.live_is, ap live_words more, sum_by-append (λ (h : Held). length h.literals + 4) (clauses_of words) (held (record { place = length words; clause = c }) ∷ []), length-map c.codes literal_of);
       count_is = omega (arith, a.count_is, ap length more, length-append (clauses_of words) (held (record { place = length words; clause = c }) ∷ []));
     }

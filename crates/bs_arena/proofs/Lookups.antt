@@ -4,7 +4,7 @@ use Rattle.std.specs.List.{AllByRecursion, find}
 use Rattle.std.specs.Prelude.{is_some, option_map}
 use Rattle.std.proofs.lemmas.Bool.{eqb-true, eq-eqb, ne_eqb, false≢true, true≢false}
 use Rattle.bs_arena.specs.Words.{Stored, Placed, spelling_of, placed_from, size}
-use Rattle.bs_arena.specs.Arena.{Held, held, held_at, live_in, literal_of, clauses_of, meaning, swapped, stored_in, kept_in, Keeps, KeepsOthers, IsWellFormed}
+use Rattle.bs_arena.specs.Arena.{Held, held, held_at, live_in, clauses_of, meaning, swapped, stored_in, kept_in, Keeps, KeepsOthers, IsWellFormed}
 use Rattle.bs_arena.specs.Renaming.{new_name, IsRenaming}
 use Rattle.bs_arena.proofs.Spellings.{read_back}
 use Rattle.bs_arena.proofs.Splits.{misses}
@@ -150,9 +150,34 @@ same_meaning from to (c ∷ cs) r s e =
       | false ↦ λ _ later. same_meaning (from + size c) to cs r s later
     ] refl e
 
+-- no two references have one new name
+named_apart : (from to : ℕ) (cs : List Stored) (q r s : ℕ) → new_name (names_of from to cs) q ≡ Some s → new_name (names_of from to cs) r ≡ Some s → q ≡ r
+named_apart from to [] q r s e f = absurd (cc)
+named_apart from to (c ∷ cs) q r s e f =
+    let later : List (ℕ × ℕ) = names_of (from + size c) (to + size c) cs in
+    let named : ℕ → Bool → Option ℕ = λ x t. option_map (λ (n : ℕ × ℕ). n.1) (cond t (Some (from, to)) (find (λ (n : ℕ × ℕ). eqb n.0 x) later)) in
+    let beyond : (x : ℕ) → new_name later x ≡ Some s → Some to ≡ Some s → ⊥ = λ x far near.
+    let above = not_below (from + size c) (to + size c) cs x s far in
+    let same : to ≡ s = cc in
+    omega (arith, above, same) in
+    elim (c.live) as (λ b. new_name (cond b ((from, to) ∷ later) (names_of (from + size c) to cs)) q ≡ Some s → new_name (cond b ((from, to) ∷ later) (names_of (from + size c) to cs)) r ≡ Some s → q ≡ r) [
+      | true ↦ elim (eqb from q) as (λ t. eqb from q ≡ t → named q t ≡ Some s → named r (eqb from r) ≡ Some s → q ≡ r) [
+        | true ↦ λ first. elim (eqb from r) as (λ u. eqb from r ≡ u → Some to ≡ Some s → named r u ≡ Some s → q ≡ r) [
+          | true ↦ λ second _ _. sym (eqb-true from q first) ∙ eqb-true from r second
+          | false ↦ λ _ near far. absurd (beyond r far near)
+        ] refl
+        | false ↦ λ _. elim (eqb from r) as (λ u. eqb from r ≡ u → new_name later q ≡ Some s → named r u ≡ Some s → q ≡ r) [
+          | true ↦ λ _ far near. absurd (beyond q far near)
+          | false ↦ λ _ one other. named_apart (from + size c) (to + size c) cs q r s one other
+        ] refl
+      ] refl
+      | false ↦ λ one other. named_apart (from + size c) to cs q r s one other
+    ] e f
+
 pub renaming_of : (stored : List Stored) (old new : List Held) (names : List (ℕ × ℕ)) → old ≡ live_in (placed_from 0 stored) → new ≡ live_in (placed_from 0 (kept stored)) → names ≡ names_of 0 0 stored → IsRenaming old new names
 renaming_of stored old new names was now is = record {
   named = λ r. ap (λ ns. is_some (new_name ns r)) is ∙ named_where_live 0 0 stored r ∙ ap (λ hs. is_some (held_at hs r)) (sym was);
+  apart = λ q r s e f. named_apart 0 0 stored q r s (ap (λ ns. new_name ns q) (sym is) ∙ e) (ap (λ ns. new_name ns r) (sym is) ∙ f);
   same = λ r s e. ap (λ hs. option_map meaning (held_at hs s)) now ∙ same_meaning 0 0 stored r s (ap (λ ns. new_name ns r) (sym is) ∙ e) ∙ ap (λ hs. option_map meaning (held_at hs r)) (sym was);
 }
 

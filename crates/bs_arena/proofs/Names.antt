@@ -1,8 +1,10 @@
 -- Ascending pairs are searched by halves.
-use Rattle.std.proofs.Common.{◌≡◌, ℕ, zero, suc, ◌+◌, ◌<◌, ◌≤◌, arith, Bool, true, false, cond, List, [], ◌∷◌, length, get_or, find, refl, sym, ap, subst, ◌∙◌, eqb, Some, None, inl, inr}
+use Rattle.std.proofs.Common.{◌≡◌, ℕ, zero, suc, ◌+◌, ◌<◌, ◌≤◌, arith, Bool, true, false, cond, List, [], ◌∷◌, ◌++◌, length, get_or, find, refl, sym, ap, subst, ◌∙◌, eqb, Some, None, inl, inr, All}
 use Rattle.std.specs.Prelude.{option_map}
 use Rattle.std.proofs.lemmas.Bool.{eq-eqb, ne_eqb, cases_order}
-use Rattle.std.proofs.lemmas.List.{get_or_read}
+use Rattle.std.proofs.lemmas.List.{get_or_read, get_or_append_left, length-append}
+use Rattle.std.proofs.lemmas.List.Elements.{All-get_or}
+use Rattle.std.proofs.Math.Seq.{get_or-append_seam}
 use Rattle.bs_arena.specs.Renaming.{new_name, IsAscending, IsPlaceOf}
 
 -- the first that passes
@@ -41,6 +43,25 @@ named_nowhere names r place d up at other =
       ]
     ] in
     ap (option_map (λ (n : ℕ × ℕ). n.1)) (find_nowhere (λ (n : ℕ × ℕ). eqb n.0 r) names d (λ k h. ne_eqb (get_or names k d).0 r (λ e. elsewhere k h e)))
+
+-- one more pair beyond all
+pub ascends_more : (names : List (ℕ × ℕ)) (name : ℕ × ℕ) → IsAscending names → All (λ (n : ℕ × ℕ). n.0 < name.0) names → IsAscending (names ++ name ∷ [])
+ascends_more names name up beyond = record {
+  ascends = λ i j d less within.
+      let left : (k : ℕ) → k < length names → get_or (names ++ name ∷ []) k d ≡ get_or names k d = λ k lt. get_or_append_left names (name ∷ []) d k lt in
+      elim (cases_order j (length names)) [
+        | inl last ↦
+            let here : get_or (names ++ name ∷ []) j d ≡ name = ap (λ k. get_or (names ++ name ∷ []) k d) last ∙ get_or-append_seam names name [] d in
+            let before = All-get_or (λ (n : ℕ × ℕ). n.0 < name.0) names i d (omega (arith, less, last)) beyond in
+            omega (arith, before, ap (λ (n : ℕ × ℕ). n.0) here, ap (λ (n : ℕ × ℕ). n.0) (left i (omega (arith, less, last))))
+        | inr apart ↦ elim apart [
+          | inl inside ↦
+              let ascends = up.ascends i j d less inside in
+              omega (arith, ascends, ap (λ (n : ℕ × ℕ). n.0) (left i (omega (arith, less, inside))), ap (λ (n : ℕ × ℕ). n.0) (left j inside))
+          | inr past ↦ absurd (omega (arith, past, within, length-append names (name ∷ [])))
+        ]
+      ];
+}
 
 -- ---- the search by halves: m is the reference read at the middle
 

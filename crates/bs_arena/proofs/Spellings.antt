@@ -6,7 +6,7 @@ use Rattle.std.specs.List.{find, filter}
 use Rattle.std.proofs.Common.{◌-◌, get_or, inl, inr}
 use Rattle.std.proofs.lemmas.Bool.{eqb-true, eq-eqb, ne_eqb, cases_eq}
 use Rattle.std.proofs.lemmas.List.Elements.{filter-append, All-push}
-use Rattle.bs_arena.specs.Arena.{Held, held, held_at, live_in, literal_of, clauses_of, IsWellFormed, IsStored}
+use Rattle.bs_arena.specs.Arena.{Held, held, held_at, live_in, clauses_of, IsWellFormed, IsStored}
 use Rattle.bs_clause.specs.Literal.{Literal, code_of}
 use Rattle.bs_arena.specs.Words.{Stored, Placed, spelling, spelling_of, placed_from, clauses_in, size}
 
@@ -85,21 +85,6 @@ found_from at (c ∷ cs) r h e =
       | false ↦ λ _ later. further later
     ] refl e
 
-pub literal_of-code_of : (l : Literal) → literal_of (code_of l) ≡ l
-literal_of-code_of l =
-    elim (l.positive) as (λ b. literal_of (2 * l.variable + cond b 0 1) ≡ record { variable = l.variable; positive = b }) [
-      | true ↦ let v : (2 * l.variable + 0) / 2 ≡ l.variable = omega arith in
-          let p : eqb ((2 * l.variable + 0) % 2) 0 ≡ true = eq-eqb ((2 * l.variable + 0) % 2) 0 (omega arith) in
-          λ i. record { variable = v i; positive = p i }
-      | false ↦ let v : (2 * l.variable + 1) / 2 ≡ l.variable = omega arith in
-          let p : eqb ((2 * l.variable + 1) % 2) 0 ≡ false = ne_eqb ((2 * l.variable + 1) % 2) 0 (λ e. omega arith) in
-          λ i. record { variable = v i; positive = p i }
-    ]
-
-pub literals_of-codes : (ls : List Literal) → map literal_of (map code_of ls) ≡ ls
-literals_of-codes [] = refl
-literals_of-codes (l ∷ ls) = λ i. literal_of-code_of l i ∷ literals_of-codes ls i
-
 pub live_in-append : (xs ys : List Placed) → live_in (xs ++ ys) ≡ live_in xs ++ live_in ys
 live_in-append xs ys = ap (map held) (filter-append (λ p. p.clause.live) xs ys) ∙ map-append held (filter (λ p. p.clause.live) xs) (filter (λ p. p.clause.live) ys)
 
@@ -147,13 +132,3 @@ read_codes words before rest at n c place parts is =
     let r : Reads words at c rest = reads words before rest at c place parts in
     let count : n ≡ length c.codes = omega (arith, is, r.count) in
     ap (take n) r.codes ∙ take_at c.codes rest n (sym count)
-
-code_back : (code : ℕ) → code_of (literal_of code) ≡ code
-code_back code = elim (cases_eq (code % 2) 0) [
-  | inl even ↦ ap (λ b. 2 * (code / 2) + cond b 0 1) (eq-eqb (code % 2) 0 even) ∙ omega (arith, even)
-  | inr odd ↦ ap (λ b. 2 * (code / 2) + cond b 0 1) (ne_eqb (code % 2) 0 odd) ∙ omega (arith, odd)
-]
-
-pub codes_back : (codes : List ℕ) → map code_of (map literal_of codes) ≡ codes
-codes_back [] = refl
-codes_back (c ∷ cs) = λ i. code_back c i ∷ codes_back cs i

@@ -8,8 +8,9 @@ use Rattle.std.proofs.lemmas.List.{append_assoc, length-append, length-set, leng
 use Rattle.std.proofs.lemmas.List.Edits.{swap_is, length-swap}
 use Rattle.std.proofs.lemmas.List.Sums.{sum_by-append, sum_by-cons}
 use Rattle.std.proofs.lemmas.List.Elements.{filter-append, All-set, All-get_or, All-head, All-tail, All-cons}
+use Rattle.bs_clause.specs.Literal.{IsCode, AreCodes, literal_of}
 use Rattle.bs_arena.specs.Words.{Stored, spelling, spelling_of, placed_from, size}
-use Rattle.bs_arena.specs.Arena.{Held, held, held_at, live_in, live_words, literal_of, literals_at, clauses_of, swapped, AreCodes, IsWellFormed, IsStored, IsArena}
+use Rattle.bs_arena.specs.Arena.{Held, held, held_at, live_in, live_words, literals_at, clauses_of, swapped, IsWellFormed, IsStored, IsArena}
 use Rattle.bs_arena.proofs.Spellings.{Found, found_from, read_back, live_in-append, placed_from-append, spelling_of-append}
 
 pub record Split (words : List ℕ) (r : ℕ) : Type 0 where
@@ -174,6 +175,7 @@ arena_kill words r live count a s =
     let long : length c.literals ≡ length s.clause.codes = length-map s.clause.codes literal_of in
     record {
       form = well_formed_kill words r s;
+      few = omega (arith, a.few, length-set words (r + 3) 0);
       live_is = omega (arith, a.live_is, ap live_words (parts words r s), words_of_parts (front words r s) (back words r s) c, long, ap live_words (killed words r s));
       count_is = omega (arith, a.count_is, ap length (parts words r s), count_of_parts (front words r s) (back words r s) c, ap length (killed words r s));
     }
@@ -212,9 +214,8 @@ map_swap f xs i j d li lj =
 
 codes_swap : (codes : List ℕ) (i j : ℕ) → i < length codes → j < length codes → AreCodes codes → AreCodes (swap codes i j)
 codes_swap codes i j li lj all =
-    let P : ℕ → Type 0 = λ c. (2 ≤ c) × (c < 2 ^ 31) in
     subst AreCodes (swap_is codes i j 0 li lj)
-    (All-set P (set codes i (get_or codes j 0)) j (get_or codes i 0) (All-get_or P codes i 0 li all) (All-set P codes i (get_or codes j 0) (All-get_or P codes j 0 lj all) all))
+    (All-set IsCode (set codes i (get_or codes j 0)) j (get_or codes i 0) (All-get_or IsCode codes i 0 li all) (All-set IsCode codes i (get_or codes j 0) (All-get_or IsCode codes j 0 lj all) all))
 
 swapped_words : (words : List ℕ) (r i j : ℕ) (s : Split words r) → i < length s.clause.codes → j < length s.clause.codes →
     swap words (r + 4 + i) (r + 4 + j) ≡ spelling_of (s.before ++ record { id = s.clause.id; live = s.clause.live; codes = swap s.clause.codes i j } ∷ s.after)
@@ -254,6 +255,7 @@ arena_swap words r i j live count a s li lj =
             (record { id = was.id; codes = codes_swap s.clause.codes i j li lj was.codes; short = omega (arith, was.short, long) });
         spelled = swapped_words words r i j s li lj;
       };
+      few = omega (arith, a.few, length-swap words (r + 4 + i) (r + 4 + j));
       live_is = omega (
         arith,
         a.live_is,

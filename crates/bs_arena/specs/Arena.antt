@@ -1,8 +1,9 @@
 -- What an arena holds.
-use Rattle.std.specs.Prelude.{◌≡◌, ◌≢◌, IsSome, ℕ, ◌+◌, ◌/◌, ◌%◌, ◌==◌, ◌<◌, ◌≤◌, ◌^◌, List, [], length, map, Option, sum_by, swap, option_map, All, AllPairs}
+use Rattle.std.specs.Prelude.{◌≡◌, ◌≢◌, IsSome, ℕ, ◌+◌, ◌-◌, ◌==◌, ◌<◌, ◌≤◌, ◌^◌, min, List, [], length, map, Option, sum_by, swap, option_map, All, AllPairs}
 use Rattle.std.specs.List.{find, filter}
 use Rattle.std.specs.Option.{unwrap_or}
-use Rattle.bs_clause.specs.Literal.{Literal, IsVariable}
+use Rattle.bs_clause.specs.Literal.{Literal, IsVariable, AreCodes, literal_of}
+use Rattle.bs_arena.specs.declared.reference.TheConstants.{WORD_LIMIT}
 use Rattle.bs_arena.specs.Words.{Stored, Placed, spelling_of, clauses_in}
 
 -- a live clause with its reference
@@ -29,6 +30,10 @@ literals_at clauses r = unwrap_or (option_map (λ h. h.literals) (held_at clause
 abbrev pub live_words : List Held → ℕ
 live_words clauses = sum_by (λ h. length h.literals + 4) clauses
 
+-- how many more words there is room for
+abbrev pub spare_of : ℕ → ℕ → ℕ
+spare_of capacity count = min capacity WORD_LIMIT - count
+
 -- with two of its literals in each other's place
 abbrev pub swapped : Held → ℕ → ℕ → Held
 swapped h i j = record { ref = h.ref; id = h.id; literals = swap h.literals i j }
@@ -45,11 +50,11 @@ pub record Keeps (old new : List Held) : Type 0 where
 pub record KeepsOthers (old new : List Held) (r : ℕ) : Type 0 where
   pub kept : (q : ℕ) → q ≢ r → held_at new q ≡ held_at old q
 
--- a clause that can be added: its id has 64 bits, its literals have codes, and there are fewer than 2 ^ 30 of them
+-- a clause that can be added: its id has 64 bits, its literals have codes, and a word counts them
 pub record IsHeld (h : Held) : Type 0 where
   pub id : h.id < 2 ^ 64
   pub literals : All (λ l. IsVariable l.variable) h.literals
-  pub short : length h.literals < 2 ^ 30
+  pub short : length h.literals < 2 ^ 32
 
 -- what holds of every arena
 pub record IsContent (c : Content) : Type 0 where
@@ -58,10 +63,6 @@ pub record IsContent (c : Content) : Type 0 where
   pub fits : live_words c.clauses ≤ c.words
 
 -- ---- the clauses that words spell
-
--- the literal of a code
-abbrev pub literal_of : ℕ → Literal
-literal_of code = record { variable = code / 2; positive = code % 2 == 0 }
 
 abbrev pub held : Placed → Held
 held p = record { ref = p.place; id = p.clause.id; literals = map literal_of p.clause.codes }
@@ -79,14 +80,10 @@ stored_in words = map (λ p. p.clause) (clauses_in 0 0 words)
 abbrev pub kept_in : List ℕ → List Stored
 kept_in words = filter (λ c. c.live) (stored_in words)
 
--- the codes of literals
-abbrev pub AreCodes : List ℕ → Type 0
-AreCodes codes = All (λ c. (2 ≤ c) × (c < 2 ^ 31)) codes
-
 pub record IsStored (c : Stored) : Type 0 where
   pub id : c.id < 2 ^ 64
   pub codes : AreCodes c.codes
-  pub short : length c.codes < 2 ^ 30
+  pub short : length c.codes < 2 ^ 32
 
 -- the words spell clauses
 pub record IsWellFormed (words : List ℕ) : Type 0 where
@@ -97,5 +94,6 @@ pub record IsWellFormed (words : List ℕ) : Type 0 where
 -- the words of an arena, with the words and the number of its live clauses
 pub record IsArena (words : List ℕ) (live count : ℕ) : Type 0 where
   pub form : IsWellFormed words
+  pub few : length words ≤ WORD_LIMIT
   pub live_is : live ≡ live_words (clauses_of words)
   pub count_is : count ≡ length (clauses_of words)

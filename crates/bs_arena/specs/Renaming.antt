@@ -11,10 +11,11 @@ pub record Names : Type 0 where
 abbrev pub new_name : List (ℕ × ℕ) → ℕ → Option ℕ
 new_name names r = option_map (λ name. name.1) (find (λ name. name.0 == r) names)
 
--- a reference has a new one exactly where it was live, and that names a clause of the same meaning
+-- a reference has a new one exactly where it was live, that names a clause of the same meaning, and no two have one
 pub record IsRenaming (old new : List Held) (names : List (ℕ × ℕ)) : Type 0 where
   pub named : (r : ℕ) → is_some (new_name names r) ≡ is_some (held_at old r)
   pub same : (r s : ℕ) → new_name names r ≡ Some s → option_map meaning (held_at new s) ≡ option_map meaning (held_at old r)
+  pub apart : (q r s : ℕ) → new_name names q ≡ Some s → new_name names r ≡ Some s → q ≡ r
 
 -- the old references ascend
 pub record IsAscending (names : List (ℕ × ℕ)) : Type 0 where

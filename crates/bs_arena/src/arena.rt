@@ -1,12 +1,12 @@
 //! The arena, a list of live clauses in one vector.
-ghost use Rattle.std.specs.Prelude.{◌≡◌, ◌+◌, ◌^◌, ◌<◌, ◌≤◌, ◌==◌, not, [], ◌∷◌, ◌++◌, map, length, filter, if◌then◌else◌, zip, option_map, Some, None, IsSome, IsOk, OnOk, OnErr, IfOk};
-ghost use Rattle.bs_clause.specs.Literal.{code_of};
-ghost use Rattle.bs_arena.specs.Arena.{AreCodes, IsContent, Keeps, KeepsOthers, held_at, literals_at, live_words, meaning, swapped};
+ghost use Rattle.std.specs.Prelude.{◌≡◌, ◌+◌, ◌<◌, ◌≤◌, ◌==◌, not, [], ◌∷◌, ◌++◌, map, length, filter, if◌then◌else◌, zip, option_map, Some, None, IsSome, IsOk, OnOk, OnErr, IfOk};
+ghost use Rattle.bs_clause.specs.Literal.{AreCodes, code_of};
+ghost use Rattle.bs_arena.specs.Arena.{IsContent, Keeps, KeepsOthers, held_at, literals_at, live_words, meaning, swapped};
 ghost use Rattle.bs_arena.specs.Renaming.{IsRenaming};
 
 use crate::compaction::move_together;
-use crate::header::{HEADER, LIVE, codes_at, id_at, push_clause, size_at};
-use crate::reference::Ref;
+use crate::header::{HEADER, LIVE, codes_at, id_at, push_clause, reserve_words, size_at};
+use crate::reference::{Ref, WORD_LIMIT};
 use crate::renaming::Renaming;
 use bs_clause::{Lit, NoMemory};
 use std::alloc::Global;
@@ -14,7 +14,7 @@ use std::marker::Model;
 
 /// The clauses of a run, one after another in one vector of words. Contracts see the live clauses
 /// in order, each with its reference, its id and its literals, and how many words are in use and
-/// how many more there is room for.
+/// how many more there is room for. There are never more than `WORD_LIMIT` words.
 #[derive(Drop)]
 pub struct Arena {
     words: Vec<u32>,
@@ -23,12 +23,12 @@ pub struct Arena {
 }
 
 impl Model for Arena {
-    ghost use Rattle.std.specs.Prelude.{◌-◌, length, vec_capacity, vec_len};
-    ghost use Rattle.bs_arena.specs.Arena.{Content, clauses_of, IsArena};
+    ghost use Rattle.std.specs.Prelude.{length, vec_capacity, vec_len};
+    ghost use Rattle.bs_arena.specs.Arena.{Content, clauses_of, spare_of, IsArena};
 
     ghost Value = { Content };
 
-    ghost view = { λ a. record { clauses = clauses_of a.words.items; words = vec_len a.words; spare = vec_capacity a.words - vec_len a.words } };
+    ghost view = { λ a. record { clauses = clauses_of a.words.items; words = vec_len a.words; spare = spare_of (vec_capacity a.words) (vec_len a.words) } };
 
     ghost invariant = { λ a. IsArena a.words.items a.live a.count };
 }
@@ -46,7 +46,7 @@ impl Arena {
         }
     }
 
-    /// Makes room for this many more words.
+    /// Makes room for this many more words. It answers want of memory also where there would be more than `WORD_LIMIT`.
     pub fn reserve(&mut self, words: usize) -> Result<(), NoMemory>
         ensures room { OnOk result (words ≤ self.new.spare) }
         ensures kept { self.old.spare ≤ self.new.spare }
@@ -55,15 +55,14 @@ impl Arena {
         ensures words { self.new.words ≡ self.old.words }
         ensures err { OnErr result (self.new ≡ self.old) }
     {
-        self.words.reserve(words)?;
-        Ok(())
+        reserve_words(&mut self.words, words)
     }
 
     /// How many more words there is room for.
     pub fn spare(&self) -> usize
         ensures { result ≡ self.now.spare }
     {
-        self.words.capacity() - self.words.len()
+        self.words.capacity().min(WORD_LIMIT) - self.words.len()
     }
 
     /// The words in use, those of dead clauses among them.
@@ -87,9 +86,9 @@ impl Arena {
         self.count
     }
 
-    /// Appends a clause, which takes four words and one for each literal.
+    /// Appends a clause, which takes four words and one for each literal. It answers want of memory also where there
+    /// would be more than `WORD_LIMIT` words.
     pub fn add(&mut self, id: u64, lits: &[Lit]) -> Result<Ref, NoMemory>
-        requires { length lits.now < 2 ^ 30 }
         ensures clauses { IfOk result (λ r. self.new.clauses ≡ self.old.clauses ++ record { ref = r; id = id; literals = lits.now } ∷ []) }
         ensures found { IfOk result (λ r. held_at self.new.clauses r ≡ Some (record { ref = r; id = id; literals = lits.now })) }
         ensures fresh { IfOk result (λ r. held_at self.old.clauses r ≡ None) }
@@ -99,7 +98,7 @@ impl Arena {
         ensures succeeds { length lits.now + 4 ≤ self.old.spare → IsOk result }
         ensures err { OnErr result (self.new ≡ self.old) }
     {
-        self.words.reserve(lits.len() + HEADER)?;
+        reserve_words(&mut self.words, lits.len() + HEADER)?;
         let at = self.words.len();
         push_clause(&mut self.words, id, lits);
         self.live += lits.len() + HEADER;

@@ -6,9 +6,7 @@ mod compaction;
 mod header;
 mod reference;
 mod renaming;
-#[cfg(test)]
-mod tests;
 
 pub use arena::Arena;
-pub use reference::Ref;
+pub use reference::{Ref, WORD_LIMIT};
 pub use renaming::Renaming;

@@ -1,13 +1,16 @@
 //! The references by which an arena's clauses are named.
-ghost use Rattle.std.specs.Prelude.{◌≡◌};
+ghost use Rattle.std.specs.Prelude.{◌≡◌, ◌<◌};
 
 use std::marker::Model;
+
+/// How many words an arena has at most, so that a reference takes four bytes.
+pub const WORD_LIMIT: usize = 1 << 32;
 
 /// Names a clause of the arena that made it, until that clause is killed or the arena compacted.
 /// Contracts see the place of the clause's first word, counted from 0.
 #[derive(Clone, Copy, Debug, PartialEq, Eq)]
 pub struct Ref {
-    at: usize,
+    at: u32,
 }
 
 impl Model for Ref {
@@ -22,14 +25,15 @@ impl Model for Ref {
 
 impl Ref {
     pub(crate) fn new(at: usize) -> Ref
+        requires { at < WORD_LIMIT }
         ensures { result ≡ at }
     {
-        Ref { at }
+        Ref { at: at as u32 }
     }
 
     pub(crate) fn at(self) -> usize
         ensures { result ≡ self }
     {
-        self.at
+        self.at as usize
     }
 }

@@ -98,6 +98,6 @@ impl Renaming {
         ensures names { self.new.names ≡ self.old.names ++ (old, new) ∷ [] }
         ensures spare { self.old.spare ≤ self.new.spare }
     {
-        let _ = self.names.push((old, new));
+        self.names.push_reserved((old, new));
     }
 }

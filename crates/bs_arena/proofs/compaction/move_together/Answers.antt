@@ -1,4 +1,4 @@
-use Rattle.std.proofs.Common.{◌≡◌, ℕ, List, [], ◌∷◌, ◌++◌, ◌+◌, length, get_or, true, eqb, sym, ap, subst, ◌∙◌, refl, arith, rules}
+use Rattle.std.proofs.Common.{◌≡◌, ℕ, List, [], ◌∷◌, ◌++◌, ◌+◌, length, get_or, true, vec_len, eqb, sym, ap, subst, ◌∙◌, refl, arith, rules}
 use Rattle.std.specs.List.{copy_within}
 use Rattle.std.specs.Prelude.{vec_capacity}
 use Rattle.bs_arena.specs.Words.{size, placed_from}
@@ -13,6 +13,7 @@ pub clauses-init : goal.clauses-init
 clauses-init c = record {
   far = subst (λ names. Compacting (stored_in c.args.words.now.items) c.args.words.now.items 0 0 names) (sym c.clear.ensures.names)
       (begins (stored_in c.args.words.now.items) c.args.words.now.items (spelled_by c.args.words.now.items c.requires.form));
+  len = refl;
   capacity = refl;
   spare = omega (arith, c.clear.ensures.spare);
 }
@@ -99,6 +100,7 @@ clauses-preserved c =
                 (c.clauses.to + size n.clause) c.if-is_live_at.to (c.clauses.renaming.names ++ (c.clauses.from, c.clauses.to) ∷ []) c.if-is_live_at.renaming.names
                 ws (ap (λ k. c.clauses.from + k) size_is) (w.to-is ∙ ap (λ k. c.clauses.to + k) size_is) names
                 (moves stored words c.clauses.from c.clauses.to c.clauses.renaming.names c.clauses.invariant.far n (sym read ∙ w.if-is_live_at.true));
+            len = omega (arith, c.clauses.invariant.len, w.copy_within.ensures.len, ap (λ v. vec_len v) w.words-is);
             capacity = ap (λ v. vec_capacity v) w.words-is ∙ w.copy_within.ensures.capacity ∙ c.clauses.invariant.capacity;
             spare = omega (arith, c.clauses.invariant.spare, w.push.ensures.spare, ap (λ v. v.spare) w.renaming-is);
           }
@@ -106,6 +108,7 @@ clauses-preserved c =
         far = same_far stored words c.if-is_live_at.words.items (c.clauses.from + size n.clause) (c.clauses.from + c.size_at-size.result) c.clauses.to c.if-is_live_at.to c.clauses.renaming.names c.if-is_live_at.renaming.names
             (ap (λ v. v.items) w.words-is) (ap (λ k. c.clauses.from + k) size_is) w.to-is (ap (λ v. v.names) w.renaming-is)
             (skips stored words c.clauses.from c.clauses.to c.clauses.renaming.names c.clauses.invariant.far n (sym read ∙ w.if-is_live_at.false));
+        len = omega (arith, c.clauses.invariant.len, ap (λ v. vec_len v) w.words-is);
         capacity = ap (λ v. vec_capacity v) w.words-is ∙ c.clauses.invariant.capacity;
         spare = omega (arith, c.clauses.invariant.spare, ap (λ v. v.spare) w.renaming-is);
       }

@@ -4,7 +4,7 @@ use Rattle.bs_arena.proofs.Compactions.{arena_compact, meanings_are, no_dead_wor
 use Rattle.bs_arena.proofs.arena.Arena.compact.Goals as goal
 
 pub invariant_of-self : goal.invariant_of-self
-invariant_of-self c = arena_compact c.self.inside.words.items c.move_together.new.words.items c.self.inside.live c.self.inside.count c.self.invariant c.move_together.ensures.words
+invariant_of-self c = arena_compact c.self.inside.words.items c.move_together.new.words.items c.self.inside.live c.self.inside.count c.self.invariant (omega (arith, c.move_together.ensures.len)) c.move_together.ensures.words
 
 pub returns-clause-clauses : goal.returns-clause-clauses
 returns-clause-clauses c =

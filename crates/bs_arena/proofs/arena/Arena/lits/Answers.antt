@@ -1,9 +1,9 @@
 use Rattle.std.proofs.Common.{◌≡◌, ℕ, List, sym, ap, subst, ◌∙◌, map}
 use Rattle.std.proofs.lemmas.List.{append_assoc}
-use Rattle.bs_clause.specs.Literal.{code_of}
-use Rattle.bs_arena.specs.Arena.{AreCodes, clauses_of, literals_at}
+use Rattle.bs_clause.specs.Literal.{code_of, AreCodes}
+use Rattle.bs_clause.specs.Codes.{codes_back}
+use Rattle.bs_arena.specs.Arena.{clauses_of, literals_at}
 use Rattle.bs_arena.specs.Words.{spelling, spelling_of}
-use Rattle.bs_arena.proofs.Spellings.{codes_back}
 use Rattle.bs_arena.proofs.Splits.{Split, split_of, inside, literals_of, stored_is}
 use Rattle.bs_arena.proofs.arena.Arena.lits.Goals as goal
 
