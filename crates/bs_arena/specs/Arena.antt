@@ -2,7 +2,8 @@
 use Rattle.std.specs.Prelude.{◌≡◌, ◌≢◌, IsSome, ℕ, ◌+◌, ◌-◌, ◌==◌, ◌<◌, ◌≤◌, ◌^◌, min, List, [], length, map, Option, sum_by, swap, option_map, All, AllPairs}
 use Rattle.std.specs.List.{find, filter}
 use Rattle.std.specs.Option.{unwrap_or}
-use Rattle.bs_clause.specs.Literal.{Literal, IsVariable, AreCodes, literal_of}
+use Rattle.bs_clause.specs.Literal.{Literal, IsVariable}
+pub use Rattle.bs_clause.specs.Literal.{AreCodes, literal_of}
 use Rattle.bs_arena.specs.declared.reference.TheConstants.{WORD_LIMIT}
 use Rattle.bs_arena.specs.Words.{Stored, Placed, spelling_of, clauses_in}
 

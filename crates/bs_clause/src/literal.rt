@@ -1,6 +1,6 @@
 //! Variables and literals.
 ghost use Rattle.std.specs.Prelude.{◌≡◌, ◌+◌, ◌*◌, ◌<◌, ◌≤◌, ◌↔◌, IsTrue, Contains};
-ghost use Rattle.bs_clause.specs.Literal.{IsVariable, IsCode, negation, code_of, literal_of, same_literal, has_literal};
+ghost use Rattle.bs_clause.specs.Literal.{IsVariable, IsCode, negation, code_of, same_literal, has_literal};
 
 use std::marker::Model;
 
@@ -87,8 +87,7 @@ impl Lit {
     /// The literal with this code, which is 2 to 2 * `VARIABLE_LIMIT` - 1.
     pub fn from_code(code: u32) -> Lit
         requires { IsCode code }
-        ensures code { code_of result ≡ code }
-        ensures value { result ≡ literal_of code }
+        ensures { code_of result ≡ code }
     {
         Lit { code }
     }
