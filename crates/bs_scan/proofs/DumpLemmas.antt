@@ -5,13 +5,14 @@ use Rattle.std.specs.Option.{IfSome}
 use Rattle.std.proofs.lemmas.Bool.{eq-eqb}
 use Rattle.bs_bits.specs.Bits.{bits_eq}
 use Rattle.bs_bits.specs.Text.{bits_text, bits_of}
+use Rattle.bs_bits.specs.Reading.{◌>>=◌}
 use Rattle.bs_bits.specs.Lines.{line, lines_of}
-use Rattle.bs_stim.proofs.LineTextLemmas.{Lacks, lacks_append, line_first, bits_lack_feed}
+use Rattle.bs_bits.proofs.LineTextLemmas.{Lacks, lacks_append, line_first, bits_lack_feed}
 use Rattle.bs_bits.proofs.TextLemmas.{bits_again}
 use Rattle.bs_scan.specs.declared.dump.Dump.{Dump}
 use Rattle.bs_scan.specs.declared.fault.DumpFault.{DumpFault}
 use Rattle.bs_scan.specs.declared.fault.DumpFault.TheVariants.{Width, NotReset}
-use Rattle.bs_scan.specs.DumpText.{◌>>=◌, dump_text, dump_of, signature_text, of_width, is_text, stored_line, at_reset}
+use Rattle.bs_scan.specs.DumpText.{dump_text, dump_of, signature_text, of_width, is_text, stored_line, at_reset}
 use Rattle.bs_scan.proofs.SignatureLemmas.{bits_same}
 
 width_is : (number width : ℕ) (bits : List Bool) → length bits ≡ width → of_width number width (bits_of (bits_text bits)) ≡ Ok bits

@@ -2,12 +2,13 @@
 use Rattle.std.proofs.Common.{◌≡◌, ◌⊎◌, inl, inr, ℕ, suc, ◌≤◌, ◌+◌, Bool, true, false, cond, List, [], ◌∷◌, ◌++◌, length, refl, arith, ap, sym, ◌∙◌, Some, None, append-nil, append_assoc}
 use Rattle.std.specs.Prelude.{◌==◌, Result, Ok, Err}
 use Rattle.std.proofs.lemmas.List.Sums.{sum_by-cons, sum_by_push}
+use Rattle.bs_bits.specs.Reading.{◌>>=◌}
 use Rattle.bs_bits.specs.Lines.{words_of, lines_of, onto_first}
 use Rattle.bs_net.specs.Parts.{Parts}
 use Rattle.bs_scan.specs.declared.fault.ChoiceFault.{ChoiceFault}
 use Rattle.bs_scan.specs.declared.fault.ChoiceFault.TheVariants.{UnknownFlop, NoMemory}
 use Rattle.bs_scan.specs.Choice.{numbers_of}
-use Rattle.bs_scan.specs.ChoiceText.{◌>>=◌, flop_named, known, flops_of, names_of, item_of, items_of}
+use Rattle.bs_scan.specs.ChoiceText.{flop_named, known, flops_of, names_of, item_of, items_of}
 use Rattle.bs_scan.specs.Reading.{with_front, bytes_in}
 
 abbrev put : {A : Type 0} → A → List A → Result (List A) ChoiceFault

@@ -1,6 +1,8 @@
 pub mod MomentLemmas
 pub mod SignatureLemmas
+pub mod CrashLemmas
 pub mod DumpLemmas
+pub mod DumpReadLemmas
 pub mod WorkedRows
 pub mod ChainLemmas
 pub mod WordLemmas

@@ -1,6 +1,7 @@
 -- What a signature is taken of (docs/DEFINITIONS.md, "Signature").
 use Rattle.std.specs.Prelude.{ℕ, ◌<◌, ◌≤◌, List, All, length}
 use Rattle.std.specs.List.{sum_by}
+use Rattle.bs_scan.specs.declared.choice.TheConstants.{MAX_ITEMS, MAX_ITEM_FLOPS}
 
 -- the number of flip-flops, and the items: the flip-flops of each, by number
 pub record Chosen : Type 0 where
@@ -18,5 +19,5 @@ numbers_of items = sum_by (λ item. length item) items
 -- the flip-flop numbers are below the width, and there are not too many items and numbers
 pub record IsChoice (choice : Chosen) : Type 0 where
   pub in_range : All (λ item. All (λ flop. flop < choice.width) item) choice.items
-  pub few_items : length choice.items ≤ 256
-  pub few_numbers : numbers_of choice.items ≤ 1048576
+  pub few_items : length choice.items ≤ MAX_ITEMS
+  pub few_numbers : numbers_of choice.items ≤ MAX_ITEM_FLOPS

@@ -1,19 +1,16 @@
 -- The text of what a signature is taken of (docs/FORMATS.md, "Signature"): each line is `bit NAME`, or `xor NAME ..` with one name or more.
-use Rattle.std.specs.Prelude.{◌≡◌, ◌⊎◌, ℕ, ◌+◌, ◌==◌, nat_le, nat_lt, Bool, ◌&&◌, ◌||◌, List, [], ◌∷◌, length, codes, Option, Some, None, Result, Ok, Err, MatchResult, if◌then◌else◌, option_and_then}
+use Rattle.std.specs.Prelude.{ℕ, ◌+◌, ◌==◌, nat_le, nat_lt, Bool, ◌&&◌, ◌||◌, List, [], ◌∷◌, length, codes, Option, Some, None, Result, Ok, Err, if◌then◌else◌, option_and_then}
 use Rattle.std.specs.List.{list_all, position}
 use Rattle.std.specs.Str.{bytes_eq}
+use Rattle.bs_bits.specs.Reading.{◌>>=◌}
 use Rattle.bs_bits.specs.Lines.{words_of, is_name}
 use Rattle.bs_net.specs.declared.net.Flop.{Flop}
 use Rattle.bs_net.specs.Names.{number_of}
 use Rattle.bs_net.specs.Parts.{Parts}
 use Rattle.bs_scan.specs.declared.fault.ChoiceFault.{ChoiceFault}
-use Rattle.bs_scan.specs.declared.fault.ChoiceFault.TheVariants.{Line, TooMany, UnknownFlop, NoMemory}
+use Rattle.bs_scan.specs.declared.fault.ChoiceFault.TheVariants.{Line, TooMany, UnknownFlop}
+use Rattle.bs_scan.specs.declared.choice.TheConstants.{MAX_ITEMS}
 use Rattle.bs_scan.specs.Choice.{Chosen}
-
-infixl 10 ◌>>=◌
-abbrev pub ◌>>=◌ : {A B : Type 0} → Result A ChoiceFault → (A → Result B ChoiceFault) → Result B ChoiceFault
-(Ok x) >>= f = f x
-(Err e) >>= f = Err e
 
 -- the flip-flop whose output is a net
 abbrev pub flop_of_net : List Flop → ℕ → Option ℕ
@@ -50,7 +47,7 @@ flops_of net number (name ∷ names) = do
 -- the item of the line with this number, which is the number of the item too
 abbrev pub item_of : Parts → ℕ → Option (List (List ℕ)) → Result (List ℕ) ChoiceFault
 item_of net number None = Err (Line number)
-item_of net number (Some names) = if nat_lt 256 number then Err (TooMany number) else flops_of net number names
+item_of net number (Some names) = if nat_lt MAX_ITEMS number then Err (TooMany number) else flops_of net number names
 
 -- the items of the lines from this number on, or the first fault
 unfoldable pub items_of : Parts → ℕ → List (List ℕ) → Result (List (List ℕ)) ChoiceFault
@@ -66,8 +63,3 @@ chosen width items = record { width = width; items = items }
 -- what the lines of a signature file say
 abbrev pub choice_of : Parts → List (List ℕ) → Result Chosen ChoiceFault
 choice_of net texts = items_of net 1 texts >>= λ items. Ok (chosen (length net.flops) items)
-
--- what is answered is the expected value or the expected fault, unless memory ran out
-abbrev pub Answers : {A B : Type 0} → (A → B) → Result A ChoiceFault → Result B ChoiceFault → Type 0
-Answers f result expected =
-    MatchResult result (λ value. expected ≡ Ok (f value)) (λ fault. (fault ≡ NoMemory) ⊎ (expected ≡ Err fault))

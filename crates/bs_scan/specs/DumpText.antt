@@ -1,12 +1,13 @@
 -- The text of a dump (docs/FORMATS.md, "Dump"): the lines `state BITS`, `sig BITS` or `sig none`, and `end`.
-use Rattle.std.specs.Prelude.{◌≡◌, ◌⊎◌, ℕ, ◌==◌, Bool, true, false, take, drop, MatchResult, List, [], ◌++◌, length, codes, Option, Some, None, Result, Ok, Err, if◌then◌else◌, slice_get, option_and_then}
+use Rattle.std.specs.Prelude.{ℕ, ◌==◌, Bool, true, false, take, drop, List, ◌++◌, length, codes, Option, Some, None, Result, Ok, Err, if◌then◌else◌, slice_get, option_and_then}
 use Rattle.std.specs.Str.{bytes_eq}
 use Rattle.bs_bits.specs.Bits.{bits_eq}
 use Rattle.bs_bits.specs.Text.{bits_text, bits_of}
+use Rattle.bs_bits.specs.Reading.{◌>>=◌}
 use Rattle.bs_bits.specs.Lines.{line}
 use Rattle.bs_scan.specs.declared.dump.Dump.{Dump}
 use Rattle.bs_scan.specs.declared.fault.DumpFault.{DumpFault}
-use Rattle.bs_scan.specs.declared.fault.DumpFault.TheVariants.{Line, Width, NotReset, NoMemory}
+use Rattle.bs_scan.specs.declared.fault.DumpFault.TheVariants.{Line, Width, NotReset}
 
 -- ---- what a dump spells
 
@@ -23,11 +24,6 @@ abbrev pub dump_text : Dump → List ℕ
 dump_text d = lines_text d.state d.stored
 
 -- ---- what a text stands for
-
-infixl 10 ◌>>=◌
-abbrev pub ◌>>=◌ : {A B : Type 0} → Result A DumpFault → (A → Result B DumpFault) → Result B DumpFault
-(Ok x) >>= f = f x
-(Err e) >>= f = Err e
 
 -- the rest of a line that begins with a word
 abbrev pub behind : List ℕ → List ℕ → Option (List ℕ)
@@ -68,8 +64,3 @@ dump_of reset items lines = do
   stored ← stored_line items (slice_get (drop 1 lines) 0)
   ended ← end_line (drop 1 (drop 1 lines))
   at_reset reset state stored
-
--- what is answered is the expected dump or the expected fault, unless memory ran out
-abbrev pub Answers : {A B : Type 0} → (A → B) → Result A DumpFault → Result B DumpFault → Type 0
-Answers f result expected =
-    MatchResult result (λ value. expected ≡ Ok (f value)) (λ fault. (fault ≡ NoMemory) ⊎ (expected ≡ Err fault))

@@ -7,7 +7,8 @@ pub mod Register
 pub mod Chain
 pub mod Dump
 pub mod DumpText
+pub mod Present
+pub mod Crash
 pub mod Law
 -- what inner functions promise each other
 pub mod Reading
-pub mod Present

@@ -3,15 +3,15 @@ use Rattle.std.specs.Prelude.{ℕ, zero, suc, ◌+◌, ◌-◌, ◌≤◌, Bool,
 use Rattle.std.specs.List.{list_any, range_with_len, flat_map}
 use Rattle.bs_bits.specs.Bits.{bits_eq}
 use Rattle.bs_net.specs.Circuit.{Circuit, reset_state, next}
+pub use Rattle.bs_scan.specs.declared.moment.Moment.{Moment}
 
 -- a run: the input of each of its cycles
 abbrev pub Run : Type 0
 Run = List (List Bool)
 
--- a run, numbered from 1, and a cycle
-pub record Moment : Type 0 where
-  pub run : ℕ
-  pub cycle : ℕ
+-- a moment is a run, numbered from 1, and a cycle
+abbrev pub moment : ℕ → ℕ → Moment
+moment run cycle = record { run = run; cycle = cycle }
 
 -- the state of a run at a cycle
 unfoldable pub state_at : Circuit → Run → ℕ → List Bool
@@ -34,7 +34,7 @@ state_of c runs m = state_at c (run_of runs m.run) m.cycle
 -- the moments of one cycle, by the number of the run: the run lasts so long
 abbrev pub moments_at : List Run → ℕ → List Moment
 moments_at runs cycle =
-    map (λ r. record { run = r; cycle = cycle })
+    map (λ r. moment r cycle)
     (filter (λ r. nat_le cycle (length (run_of runs r))) (range_with_len 1 (length runs)))
 
 -- how many cycles the longest run has

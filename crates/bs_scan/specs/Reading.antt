@@ -4,7 +4,8 @@ use Rattle.std.specs.List.{sum_by}
 use Rattle.bs_bits.specs.Lines.{words_of}
 use Rattle.bs_net.specs.Parts.{Parts}
 use Rattle.bs_scan.specs.declared.fault.ChoiceFault.{ChoiceFault}
-use Rattle.bs_scan.specs.ChoiceText.{◌>>=◌, flop_of_net}
+use Rattle.bs_bits.specs.Reading.{◌>>=◌}
+use Rattle.bs_scan.specs.ChoiceText.{flop_of_net}
 
 -- the words that are left of a line
 abbrev pub words_left : Option (List ℕ) → List (List ℕ)

@@ -1,8 +1,9 @@
 //! What a signature is taken of.
-ghost use Rattle.std.specs.Prelude.{◌≡◌, ◌<◌, ◌≤◌, ◌^◌, length, Some, slice_get, All, IfOk};
+ghost use Rattle.std.specs.Prelude.{◌≡◌, ◌<◌, ◌≤◌, length, Some, slice_get, All, IfOk};
 ghost use Rattle.bs_bits.specs.Lines.{lines_of};
 ghost use Rattle.bs_scan.specs.Choice.{IsChoice};
-ghost use Rattle.bs_scan.specs.ChoiceText.{choice_of, Answers};
+ghost use Rattle.bs_bits.specs.Reading.{Answers};
+ghost use Rattle.bs_scan.specs.ChoiceText.{choice_of};
 ghost use Rattle.bs_scan.specs.Signature.{parity_of, signature};
 
 use crate::choice_text::read_items;
@@ -13,7 +14,16 @@ use bs_net::Netlist;
 use std::alloc::Global;
 use std::marker::Model;
 
-/// The items of a signature, each a list of flip-flop numbers: at most 256 items, and 1,048,576 numbers in all.
+/// The greatest number of items.
+pub const MAX_ITEMS: u32 = 256;
+
+/// The greatest number of flip-flop numbers in all items.
+pub const MAX_ITEM_FLOPS: u32 = 1_048_576;
+
+/// The greatest number of bytes of a signature file.
+pub const MAX_SIGNATURE_BYTES: u32 = 1_048_576;
+
+/// The items of a signature, each a list of flip-flop numbers.
 #[derive(Drop)]
 pub struct Choice {
     width: usize,
@@ -43,8 +53,8 @@ impl Choice {
     /// The items that a signature file names, by the keys of the flip-flops' output nets
     /// (docs/FORMATS.md, "Signature").
     pub fn read(alloc: Global, bytes: &[u8], net: &Netlist) -> Result<Choice, ChoiceFault>
-        requires { length bytes.now ≤ 2 ^ 20 }
-        ensures { Answers (λ choice. choice) result (choice_of net.now.raw (lines_of bytes.now)) }
+        requires { length bytes.now ≤ MAX_SIGNATURE_BYTES }
+        ensures { Answers ChoiceFault.NoMemory (λ choice. choice) result (choice_of net.now.raw (lines_of bytes.now)) }
     {
         let flops = FlopNames::new(alloc, net)?;
         let items = read_items(alloc, bytes, &flops)?;

@@ -1,10 +1,12 @@
 //! The text of a signature file, read line by line.
-ghost use Rattle.std.specs.Prelude.{◌≡◌, ◌<◌, ◌≤◌, ◌^◌, length, All, IsTrue, IfOk, option_map};
+ghost use Rattle.std.specs.Prelude.{◌≡◌, ◌<◌, ◌≤◌, length, All, IsTrue, IfOk, option_map};
 ghost use Rattle.std.specs.List.{list_all};
+ghost use Rattle.bs_bits.specs.Reading.{Answers};
 ghost use Rattle.bs_bits.specs.Lines.{lines_of, words_of, is_name as is_name_text};
 ghost use Rattle.bs_scan.specs.Choice.{IsChoice};
-ghost use Rattle.bs_scan.specs.ChoiceText.{names_of, flops_of, item_of, items_of, chosen, Answers};
+ghost use Rattle.bs_scan.specs.ChoiceText.{names_of, flops_of, item_of, items_of, chosen};
 
+use crate::choice::{MAX_ITEMS, MAX_SIGNATURE_BYTES};
 use crate::fault::ChoiceFault;
 use crate::flops::FlopNames;
 use crate::words::{item_names, split_word};
@@ -19,7 +21,7 @@ fn read_flops(
     flops: &FlopNames<'_>,
 ) -> Result<List<u32>, ChoiceFault>
     requires { IsTrue (list_all is_name_text (words_of names.now)) }
-    ensures reads { Answers (λ item. item) result (flops_of flops.now number (words_of names.now)) }
+    ensures reads { Answers ChoiceFault.NoMemory (λ item. item) result (flops_of flops.now number (words_of names.now)) }
     ensures range { IfOk result (λ item. All (λ flop. flop < length flops.now.flops) item) }
     ensures count { IfOk result (λ item. length item ≡ length (words_of names.now)) }
 {
@@ -43,15 +45,15 @@ fn read_item(
     number: u32,
     flops: &FlopNames<'_>,
 ) -> Result<List<u32>, ChoiceFault>
-    ensures reads { Answers (λ item. item) result (item_of flops.now number (names_of (words_of line.now))) }
+    ensures reads { Answers ChoiceFault.NoMemory (λ item. item) result (item_of flops.now number (names_of (words_of line.now))) }
     ensures range { IfOk result (λ item. All (λ flop. flop < length flops.now.flops) item) }
     ensures short { IfOk result (λ item. length item ≤ length line.now) }
-    ensures few { IfOk result (λ _. number ≤ 256) }
+    ensures few { IfOk result (λ _. number ≤ MAX_ITEMS) }
 {
     match item_names(line) {
         None => Err(ChoiceFault::Line(number)),
         Some(names) => {
-            if number > 256 {
+            if number > MAX_ITEMS {
                 return Err(ChoiceFault::TooMany(number));
             }
             read_flops(alloc, names, number, flops)
@@ -65,8 +67,8 @@ pub fn read_items(
     bytes: &[u8],
     flops: &FlopNames<'_>,
 ) -> Result<List<List<u32>>, ChoiceFault>
-    requires { length bytes.now ≤ 2 ^ 20 }
-    ensures reads { Answers (λ items. items) result (items_of flops.now 1 (lines_of bytes.now)) }
+    requires { length bytes.now ≤ MAX_SIGNATURE_BYTES }
+    ensures reads { Answers ChoiceFault.NoMemory (λ items. items) result (items_of flops.now 1 (lines_of bytes.now)) }
     ensures sound { IfOk result (λ items. IsChoice (chosen (length flops.now.flops) items)) }
 {
     let mut items = List::new(alloc);

@@ -1,7 +1,8 @@
 //! The lines of a dump, read and written one by one.
 ghost use Rattle.std.specs.Prelude.{◌≡◌, ◌==◌, length, true, drop, codes, Bool, slice_get, option_map, option_and_then, ◌++◌, IfOk, OnOk, OnErr};
-ghost use Rattle.bs_scan.specs.DumpText.{behind, of_width as bits_of_width, bits_line as bits_line_of, stored_line as stored_line_of, end_line as end_line_of, is_text as is_text_of, signature_text, lines_text, Answers};
+ghost use Rattle.bs_scan.specs.DumpText.{behind, of_width as bits_of_width, bits_line as bits_line_of, stored_line as stored_line_of, end_line as end_line_of, is_text as is_text_of, signature_text, lines_text};
 ghost use Rattle.bs_bits.specs.Lines.{lines_of, line as written_line};
+ghost use Rattle.bs_bits.specs.Reading.{Answers};
 ghost use Rattle.bs_bits.specs.Text.{bits_of, bits_text};
 ghost use Rattle.bs_stim.specs.Appending.{Begins};
 
@@ -84,7 +85,7 @@ pub fn bits_line(
     width: usize,
     line: Option<&[u8]>,
 ) -> Result<Bits, DumpFault>
-    ensures { Answers (λ bits. bits) result (bits_line_of word.now number width (option_map (λ line. line.now) line.entry)) }
+    ensures { Answers DumpFault.NoMemory (λ bits. bits) result (bits_line_of word.now number width (option_map (λ line. line.now) line.entry)) }
 {
     of_width(number, width, bits_behind(alloc, word, line)?)
 }
@@ -95,7 +96,7 @@ pub fn stored_line(
     items: usize,
     line: Option<&[u8]>,
 ) -> Result<Option<Bits>, DumpFault>
-    ensures { Answers (λ stored. stored) result (stored_line_of items (option_map (λ line. line.now) line.entry)) }
+    ensures { Answers DumpFault.NoMemory (λ stored. stored) result (stored_line_of items (option_map (λ line. line.now) line.entry)) }
 {
     if is_line(line, b"sig none") {
         return Ok(None);
@@ -115,7 +116,7 @@ fn is_finished(text: &[u8]) -> bool
 
 /// The last line, with none behind it.
 pub fn end_line(text: &[u8]) -> Result<(), DumpFault>
-    ensures { Answers (λ _. true) result (end_line_of (lines_of text.now)) }
+    ensures { Answers DumpFault.NoMemory (λ _. true) result (end_line_of (lines_of text.now)) }
 {
     let (line, rest) = first_line(text);
     if !is_line(line, b"end") {

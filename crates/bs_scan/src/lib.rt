@@ -9,14 +9,18 @@ mod dump_text;
 mod fault;
 mod flops;
 mod law;
+mod moment;
 mod register;
-#[cfg(test)]
-mod tests;
+mod shown;
 mod words;
 
 pub use chain::Chain;
-pub use choice::Choice;
+pub use choice::{Choice, MAX_ITEM_FLOPS, MAX_ITEMS, MAX_SIGNATURE_BYTES};
 pub use dump::Dump;
 pub use fault::{ChoiceFault, DumpFault};
-pub use law::{dumps_read_back, first_moment_is_the_least, full_shifts_unload};
+pub use law::{
+    dump_texts_are_exact, dumps_read_back, first_moment_is_the_least, full_shifts_unload,
+};
+pub use moment::Moment;
 pub use register::SigReg;
+pub use shown::HasState;

@@ -1,6 +1,7 @@
 use Rattle.std.proofs.Common.{◌≡◌, ◌<◌, ◌≤◌, ◌+◌, length}
 use Rattle.std.specs.Prelude.{All}
 use Rattle.bs_bits.specs.Lines.{lines_of}
+use Rattle.bs_scan.specs.declared.choice.TheConstants.{MAX_ITEMS}
 use Rattle.bs_scan.specs.Choice.{numbers_of}
 use Rattle.bs_scan.specs.ChoiceText.{items_of}
 use Rattle.bs_scan.specs.Reading.{with_front, bytes_in}
@@ -10,7 +11,7 @@ abbrev pub invariant-lines : goal.invariant-lines
 invariant-lines l = record {
   whole : items_of l.flops 1 (lines_of l.bytes) ≡ with_front l.items (items_of l.flops l.number (lines_of l.rest));
   numbered : l.number ≡ 1 + length l.items;
-  few : length l.items ≤ 256;
+  few : length l.items ≤ MAX_ITEMS;
   range : All (λ item. All (λ flop. flop < length l.flops.flops) item) l.items;
   bytes : numbers_of l.items + bytes_in (lines_of l.rest) ≤ length l.bytes;
 }
