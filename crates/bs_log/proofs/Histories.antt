@@ -125,14 +125,14 @@ pub record IsInRange (p : Problem) (h : History) : Type 0 where
   pub next : step_of h ≤ length p.steps + 1
   pub inside : is_between_steps (phase_of h) ≡ false → step_of h ≤ length p.steps
 
-solve_is_inside : (phase : Phase) → in_solve phase ≡ true → is_between_steps phase ≡ false
+pub solve_is_inside : (phase : Phase) → in_solve phase ≡ true → is_between_steps phase ≡ false
 solve_is_inside BetweenSteps h = absurd (false≢true h)
 solve_is_inside InSolve h = refl
 solve_is_inside AfterBlock h = refl
 solve_is_inside AfterFinish h = refl
 solve_is_inside AfterRetire h = absurd (false≢true h)
 
-block_is_inside : (phase : Phase) → is_after_block phase ≡ true → is_between_steps phase ≡ false
+pub block_is_inside : (phase : Phase) → is_after_block phase ≡ true → is_between_steps phase ≡ false
 block_is_inside BetweenSteps h = absurd (false≢true h)
 block_is_inside InSolve h = refl
 block_is_inside AfterBlock h = refl
@@ -192,7 +192,7 @@ next_given = next_id
 abbrev pub with_step : Problem → Clause → Problem
 with_step p member = record { vars = p.vars; clauses = p.clauses; steps = p.steps ++ member ∷ [] }
 
-same_added : (p : Problem) (member : Clause) (h : History) → added (with_step p member) h ≡ added p h
+pub same_added : (p : Problem) (member : Clause) (h : History) → added (with_step p member) h ≡ added p h
 same_added p member [] = refl
 same_added p member (Solve ∷ h) = same_added p member h
 same_added p member (Finish id ∷ h) = same_added p member h
@@ -202,7 +202,10 @@ same_added p member (Block id lits ∷ h) = ap (λ es. es ++ record { id = id; o
 same_added p member (Retire id ∷ h) =
     ap (λ es. es ++ record { id = id; origin = Retired; literals = negation (guard_of p (step_of h)) ∷ [] } ∷ []) (same_added p member h)
 
-same_last : (p : Problem) (member : Clause) (h : History) → last_id (with_step p member) h ≡ last_id p h
+pub same_live : (p : Problem) (member : Clause) (h : History) → live (with_step p member) h ≡ live p h
+same_live p member h = ap (filter (λ (e : Entry). not (is_deleted h e.id))) (same_added p member h)
+
+pub same_last : (p : Problem) (member : Clause) (h : History) → last_id (with_step p member) h ≡ last_id p h
 same_last p member [] = refl
 same_last p member (Solve ∷ h) = same_last p member h
 same_last p member (Finish id ∷ h) = same_last p member h
@@ -211,12 +214,12 @@ same_last p member (Lemma id lits hints ∷ h) = refl
 same_last p member (Block id lits ∷ h) = refl
 same_last p member (Retire id ∷ h) = refl
 
-same_state_of : (p : Problem) (member : Clause) (h : History) → state_of (with_step p member) h ≡ state_of p h
+pub same_state_of : (p : Problem) (member : Clause) (h : History) → state_of (with_step p member) h ≡ state_of p h
 same_state_of p member h =
-    λ i. record { phase = phase_of h; step = step_of h; last_id = same_last p member h i; live = filter (λ e. not (is_deleted h e.id)) (same_added p member h i) }
+    λ i. record { phase = phase_of h; step = step_of h; last_id = same_last p member h i; live = same_live p member h i }
 
 -- the assumptions of a step that is there are the same
-same_assumptions : (p : Problem) (member : Clause) (step : ℕ) → 1 ≤ step → step ≤ length p.steps → assumptions_of (with_step p member) step ≡ assumptions_of p step
+pub same_assumptions : (p : Problem) (member : Clause) (step : ℕ) → 1 ≤ step → step ≤ length p.steps → assumptions_of (with_step p member) step ≡ assumptions_of p step
 same_assumptions p member step low high = ap (λ o. unwrap_or o []) (get_left p.steps member (step - 1) (omega arith))
   where
     get_left : (xs : List Clause) (x : Clause) (i : ℕ) → i < length xs → slice_get (xs ++ x ∷ []) i ≡ slice_get xs i

@@ -101,12 +101,12 @@ added_holds p step v (Retire id ∷ h) right before g axioms blocks =
     push_holds (Holds v) (added p h) _ (added_holds p step v h right.1 earlier g axioms blocks)
     (or_left (literal_value v (negation (guard_of p (step_of h)))) false (retired_is_true p step v h g earlier other))
 
-NoneRefused-tail : (p : Problem) (xs ys : History) → NoneRefused p (xs ++ ys) → NoneRefused p ys
+pub NoneRefused-tail : (p : Problem) (xs ys : History) → NoneRefused p (xs ++ ys) → NoneRefused p ys
 NoneRefused-tail p [] ys h = h
 NoneRefused-tail p (x ∷ xs) ys h = NoneRefused-tail p xs ys h.1
 
 -- of an accepted log, no line of a front part is refused
-front_is_right : (p : Problem) (log before after : List Line) → IsAccepted p log → log ≡ before ++ after → NoneRefused p (history_of before)
+pub front_is_right : (p : Problem) (log before after : List Line) → IsAccepted p log → log ≡ before ++ after → NoneRefused p (history_of before)
 front_is_right p log before after ok e =
     NoneRefused-tail p (reverse after) (reverse before)
     (subst (NoneRefused p) (ap reverse e ∙ reverse-append before after) ok.lines)

@@ -8,5 +8,6 @@ pub mod Propagates
 pub mod Tests
 pub mod Laws
 pub mod Histories
+pub mod Finishes
 pub mod StepLemmas
 pub mod FirstRefusals

@@ -1,6 +1,7 @@
 -- The line of a log that a text is (docs/FORMATS.md, "The log").
-use Rattle.std.specs.Prelude.{ℕ, ◌==◌, ◌^◌, nat_lt, nat_le, Bool, false, true, ◌&&◌, List, [], ◌∷◌, length, Option, Some, None, option_map, option_and_then, if◌then◌else◌}
+use Rattle.std.specs.Prelude.{ℕ, ◌==◌, nat_lt, nat_le, Bool, false, true, ◌&&◌, List, [], ◌∷◌, length, Option, Some, None, option_map, option_and_then, if◌then◌else◌}
 use Rattle.bs_bits.specs.Lines.{words_of, number_in}
+use Rattle.bs_clause.specs.declared.literal.TheConstants.{VARIABLE_LIMIT}
 use Rattle.bs_clause.specs.Literal.{Literal}
 use Rattle.bs_log.specs.declared.line.Line.{Line}
 use Rattle.bs_log.specs.declared.line.Line.TheVariants.{Solve, Lemma, Block, Finish, Retire, Delete}
@@ -21,10 +22,10 @@ from_one (Some n) = if n == 0 then None else Some n
 abbrev pub id_in : List ℕ → Option ℕ
 id_in word = from_one (number_in word)
 
--- a variable: a number from 1 to 2 ^ 30 - 1
+-- a variable: a number from 1 to VARIABLE_LIMIT - 1
 abbrev pub variable_of : Option ℕ → Option ℕ
 variable_of None = None
-variable_of (Some n) = if nat_le 1 n && nat_lt n (2 ^ 30) then Some n else None
+variable_of (Some n) = if nat_le 1 n && nat_lt n VARIABLE_LIMIT then Some n else None
 
 abbrev pub signed : Bool → Option ℕ → Option Literal
 signed positive None = None

@@ -8,10 +8,7 @@ mod line_text;
 mod log;
 mod origin;
 mod phase;
-#[cfg(test)]
-mod samples;
 mod why;
-mod words;
 
 pub use law::{accepted_logs_refute, reading_inverts_writing, the_first_refused_line_is_exact};
 pub use line::Line;

@@ -1,14 +1,13 @@
 //! The lines of a log that texts are.
-ghost use Rattle.std.specs.Prelude.{◌≡◌, IfOk, IfSome, Some, None, MatchOption, option_map, OnOk, ◌++◌, ◌∷◌, [], ◌&&◌, nat_lt, length, if◌then◌else◌};
+ghost use Rattle.std.specs.Prelude.{◌≡◌, IfOk, IfSome, Some, None, MatchOption, option_map, ◌&&◌, nat_lt, length, if◌then◌else◌};
 ghost use Rattle.bs_bits.specs.Lines.{number_in};
 ghost use Rattle.bs_clause.specs.Literal.{IsVariable};
 ghost use Rattle.bs_log.specs.LineForms.{IsLineOf};
-ghost use Rattle.bs_log.specs.LineReading.{block_in, id_in, lemma_in, line_in, literal_in, signed, sole_id, solve_in, some_to_end, up_to_zero, variable_of, with_hints};
+ghost use Rattle.bs_log.specs.LineReading.{block_in, id_in, is_letter, lemma_in, line_in, literal_in, signed, sole_id, solve_in, some_to_end, up_to_zero, variable_of, with_hints};
 
 use crate::line::Line;
-use crate::words::{Words, is_letter};
-use bs_bits::{List, NoMemory, read_number};
-use bs_clause::{Lit, Lits, Var};
+use bs_bits::{List, NoMemory, Words, read_number};
+use bs_clause::{Lit, Lits, VARIABLE_LIMIT, Var};
 use std::alloc::Global;
 
 impl Line {
@@ -207,19 +206,19 @@ fn literals<'a>(alloc: Global, words: &mut Words<'a>) -> Result<Option<Lits>, No
         }
         match read_literal(word) {
             None => return Ok(None),
-            Some(literal) => push_literal(&mut lits, literal)?,
+            Some(literal) => lits.push(literal)?,
         }
     }
     Ok(None)
 }
 
-/// One literal more, with this crate's want of memory.
-fn push_literal(lits: &mut Lits, literal: Lit) -> Result<(), NoMemory>
-    ensures { OnOk result (lits.new ≡ lits.old ++ literal ∷ []) }
+/// Whether a word is this one character.
+fn is_letter(word: &[u8], letter: u8) -> bool
+    ensures { result ≡ is_letter letter word.now }
 {
-    match lits.push(literal) {
-        Ok(()) => Ok(()),
-        Err(_) => Err(NoMemory),
+    match word {
+        [only] => *only == letter,
+        _ => false,
     }
 }
 
@@ -267,7 +266,7 @@ fn read_variable(digits: &[u8]) -> Option<u32>
     match read_number(digits) {
         None => None,
         Some(number) => {
-            if 1 <= number && number < 1 << 30 {
+            if 1 <= number && number < u64::from(VARIABLE_LIMIT) {
                 Some(number as u32)
             } else {
                 None

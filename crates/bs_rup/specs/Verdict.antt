@@ -24,5 +24,5 @@ refused_by Accepted = None
 refused_by (Rejected line why) = Some (line, why)
 
 -- the same as a function of the log: the verdict refuses the first refused line, and none where there is none
-abbrev pub IsFirst : Problem → List Line → Verdict → Type 0
-IsFirst p log verdict = refused_by verdict ≡ first_refused p log
+abbrev pub RefusesTheFirst : Problem → List Line → Verdict → Type 0
+RefusesTheFirst p log verdict = refused_by verdict ≡ first_refused p log

@@ -1,12 +1,12 @@
 //! The state of the checker between two lines, and the rules that a line is tried by.
-ghost use Rattle.std.specs.Prelude.{◌≡◌, ◌+◌, ◌<◌, ◌≤◌, ◌^◌, ◌-◌, [], ◌∷◌, length, unwrap_or, slice_get, IfOk, OnOk, IsSome, Some, option_map, false};
+ghost use Rattle.std.specs.Prelude.{◌≡◌, ◌+◌, ◌≤◌, ◌-◌, [], ◌∷◌, length, unwrap_or, slice_get, IfOk, OnOk, IsSome, Some, option_map, false};
 ghost use Rattle.bs_log.specs.History.{State, state_of};
 ghost use Rattle.bs_log.specs.Refusal.{is_block_of, assumptions_of, in_order, is_complete, refusal, is_between_steps};
 ghost use Rattle.bs_rup.specs.LiveClauses.{live_from};
 ghost use Rattle.bs_rup.specs.Problem.{meaning};
 ghost use Rattle.bs_rup.specs.Retired.{retired_unit};
 ghost use Rattle.bs_rup.specs.Rules.{all_may_go, all_stand, block_refusal, delete_refusal, finish_refusal, lemma_refusal};
-ghost use Rattle.bs_rup.specs.Follows.{IsRetire, NamesGivenIds, Follows};
+ghost use Rattle.bs_rup.specs.Follows.{IsAfter, IsRetire, NamesGivenIds};
 
 use crate::hints::{hints_fault, is_false};
 use crate::line_forms::{is_ascending, is_block_of};
@@ -14,7 +14,7 @@ use crate::live_clauses::{Stored, add, axioms, entry_at, remove};
 use crate::problem::Problem;
 use crate::trail::{Trail, set_false, set_true};
 use bs_bits::NoMemory;
-use bs_clause::{Lit, Lits};
+use bs_clause::{Lit, Lits, VARIABLE_LIMIT};
 use bs_log::{Line, Origin, Phase, Why};
 use std::alloc::Global;
 use std::marker::Model;
@@ -57,7 +57,7 @@ impl<'a> Checker<'a> {
         problem: &Problem<'a>,
         line: &Line,
     ) -> Result<Option<Why>, NoMemory>
-        requires { problem.now.vars + self.now.step < 2 ^ 31 }
+        requires { problem.now.vars + self.now.step ≤ VARIABLE_LIMIT }
         ensures { IfOk result (λ why. why ≡ refusal (meaning problem.now) self.now line.now) }
     {
         if !self.in_order(problem, line) {
@@ -75,7 +75,7 @@ impl<'a> Checker<'a> {
 
     /// Whether the line stands where it may, gives the next id, and lists ids that ascend.
     fn in_order(&self, problem: &Problem<'a>, line: &Line) -> bool
-        requires { self.now.step < 2 ^ 31 }
+        requires { self.now.step ≤ VARIABLE_LIMIT }
         ensures { result ≡ in_order (meaning problem.now) self.now line.now }
     {
         let next = self.stored.len() as u64 + 1;
@@ -117,7 +117,7 @@ impl<'a> Checker<'a> {
         problem: &Problem<'a>,
         lits: &[Lit],
     ) -> Result<Option<Why>, NoMemory>
-        requires { problem.now.vars + self.now.step < 2 ^ 31 }
+        requires { problem.now.vars + self.now.step ≤ VARIABLE_LIMIT }
         ensures { IfOk result (λ why. why ≡ block_refusal (meaning problem.now) self.now.step lits.now) }
     {
         if !set_false(trail, lits)? {
@@ -175,10 +175,10 @@ impl<'a> Checker<'a> {
 
     /// Goes on past a line that is not refused. A retire line adds the unit.
     pub fn add(&mut self, vars: u32, retired: &'a [Lit], line: &'a Line) -> Result<(), NoMemory>
-        requires guard { (1 ≤ self.old.step) × (vars + self.old.step ≤ 2 ^ 30) }
+        requires guard { (1 ≤ self.old.step) × (vars + self.old.step ≤ VARIABLE_LIMIT) }
         requires retire { IsRetire line.now → slice_get retired.now (self.old.step - 1) ≡ Some (retired_unit vars self.old.step) }
         requires ids { NamesGivenIds self.old.last_id line.now }
-        ensures { OnOk result (Follows vars self.old line.now self.new) }
+        ensures { OnOk result (IsAfter vars self.old line.now self.new) }
     {
         match line {
             Line::Solve => self.phase = Phase::InSolve,

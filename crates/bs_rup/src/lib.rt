@@ -7,8 +7,6 @@ mod line_forms;
 mod live_clauses;
 mod marks;
 mod problem;
-#[cfg(test)]
-mod tests;
 mod trail;
 mod verdict;
 

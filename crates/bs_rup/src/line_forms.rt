@@ -1,10 +1,10 @@
 //! The tests of a line's own form.
-ghost use Rattle.std.specs.Prelude.{◌≡◌, ◌+◌, ◌<◌, ◌^◌, nat_le};
+ghost use Rattle.std.specs.Prelude.{◌≡◌, ◌+◌, ◌≤◌, nat_le};
 ghost use Rattle.std.specs.List.{list_all};
 ghost use Rattle.bs_log.specs.Refusal.{is_ascending, is_block_of};
 ghost use Rattle.bs_log.specs.History.{Problem};
 
-use bs_clause::Lit;
+use bs_clause::{Lit, VARIABLE_LIMIT};
 
 /// Whether each id is greater than the one before it.
 pub fn is_ascending(ids: &[u64]) -> bool
@@ -32,7 +32,7 @@ fn is_over(lits: &[Lit], vars: u32) -> bool
 
 /// Whether the clause is the negation of the step's guard and then literals of the clauses' own variables.
 pub fn is_block_of(vars: u32, step: u64, lits: &[Lit]) -> bool
-    requires { vars + step < 2 ^ 31 }
+    requires { vars + step ≤ VARIABLE_LIMIT }
     ensures { (p : Problem) → p.vars ≡ vars → result ≡ is_block_of p step lits.now }
 {
     match lits {

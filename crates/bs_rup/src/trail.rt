@@ -1,11 +1,11 @@
 //! The literals that are true, of which any is found in constant time.
-ghost use Rattle.std.specs.Prelude.{◌≡◌, [], ◌∷◌, ◌||◌, ◌≤◌, ◌^◌, IfOk, OnOk, OnErr};
+ghost use Rattle.std.specs.Prelude.{◌≡◌, [], ◌∷◌, ◌||◌, ◌≤◌, IfOk, OnOk, OnErr};
 ghost use Rattle.bs_clause.specs.Literal.{Literal, negation, has_literal};
 ghost use Rattle.bs_rup.specs.Trail.{IsSetFalse};
 
 use crate::marks::Marks;
 use bs_bits::NoMemory;
-use bs_clause::Lit;
+use bs_clause::{Lit, VARIABLE_LIMIT};
 use std::alloc::Global;
 use std::marker::Model;
 
@@ -31,7 +31,7 @@ impl Model for Trail {
 impl Trail {
     /// No literal is true. There is room for marks of the variables below this count.
     pub fn new(alloc: Global, variables: usize) -> Result<Trail, NoMemory>
-        requires { variables ≤ 2 ^ 31 }
+        requires { variables ≤ VARIABLE_LIMIT }
         ensures { IfOk result (λ trail. trail ≡ []) }
     {
         let marks = Marks::new(alloc, 2 * variables)?;
@@ -48,7 +48,7 @@ impl Trail {
     {
         self.literals.reserve(1)?;
         self.marks.add(literal.code())?;
-        let _ = self.literals.push(literal);
+        self.literals.push_reserved(literal);
         Ok(())
     }
 

@@ -1,13 +1,13 @@
 //! The verdict on a log, found line by line.
-ghost use Rattle.std.specs.Prelude.{◌≡◌, ◌+◌, ◌<◌, ◌^◌, length, IfOk};
+ghost use Rattle.std.specs.Prelude.{◌≡◌, ◌+◌, ◌<◌, length, IfOk};
 ghost use Rattle.bs_rup.specs.Retired.{retired_units};
-ghost use Rattle.bs_rup.specs.Verdict.{IsFirst, IsVerdict, problem_of};
+ghost use Rattle.bs_rup.specs.Verdict.{IsVerdict, RefusesTheFirst, problem_of};
 
 use crate::checker::Checker;
 use crate::problem::Problem;
 use crate::trail::Trail;
 use bs_bits::{List, NoMemory};
-use bs_clause::{Clauses, Lit, Lits, Var};
+use bs_clause::{Clauses, Lit, Lits, VARIABLE_LIMIT, Var};
 use bs_log::{Log, Why};
 use std::alloc::Global;
 
@@ -31,9 +31,9 @@ pub fn check(
     steps: &List<Lits>,
     log: &Log,
 ) -> Result<Verdict, NoMemory>
-    requires { vars + length steps.now < 2 ^ 30 }
+    requires { vars + length steps.now < VARIABLE_LIMIT }
     ensures verdict { IfOk result (IsVerdict (problem_of vars clauses.now steps.now) log.now) }
-    ensures first { IfOk result (IsFirst (problem_of vars clauses.now steps.now) log.now) }
+    ensures first { IfOk result (RefusesTheFirst (problem_of vars clauses.now steps.now) log.now) }
 {
     verdict_of(alloc, vars, clauses, steps, log)
 }
@@ -46,7 +46,7 @@ fn verdict_of(
     steps: &List<Lits>,
     log: &Log,
 ) -> Result<Verdict, NoMemory>
-    requires { vars + length steps.now < 2 ^ 30 }
+    requires { vars + length steps.now < VARIABLE_LIMIT }
     ensures { IfOk result (IsVerdict (problem_of vars clauses.now steps.now) log.now) }
 {
     let problem = Problem {
@@ -82,15 +82,13 @@ fn verdict_of(
 
 /// The negations of the guards of this many steps, in order.
 fn retired(alloc: Global, vars: u32, count: usize) -> Result<Lits, NoMemory>
-    requires { vars + count < 2 ^ 30 }
+    requires { vars + count < VARIABLE_LIMIT }
     ensures { IfOk result (λ units. units ≡ retired_units vars count) }
 {
     let mut units = Lits::new(alloc);
     for i in 0..count {
         let guard = vars + i as u32 + 1;
-        if units.push(Lit::new(Var(guard), false)).is_err() {
-            return Err(NoMemory);
-        }
+        units.push(Lit::new(Var(guard), false))?;
     }
     Ok(units)
 }

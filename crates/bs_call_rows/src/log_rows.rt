@@ -1,5 +1,5 @@
 //! Texts that are lines and texts that are none, and a log that grows.
-use crate::{Line, Log};
+use bs_log::{Line, Log};
 use std::test::Fail;
 
 #[test]

@@ -1,8 +1,8 @@
 //! Logs of one step and of two, each with one line changed, and their verdicts.
-use crate::{Verdict, Why, check};
 use bs_bits::List;
 use bs_clause::{Clauses, Lit, Lits, Var};
 use bs_log::{Line, Log};
+use bs_rup::{Verdict, Why, check};
 use std::alloc::Global;
 use std::test::Fail;
 
