@@ -18,14 +18,6 @@ use Rattle.bs_watch.proofs.Rows.{row_now}
 use Rattle.bs_watch.proofs.Steps.{SameClauses, same_clauses_set, blocked, forced_one}
 use Rattle.bs_watch.proofs.Advancing.{met_still, met_more}
 
--- the code of a literal of the trail's variables has a list
-pub code_within : (vars n : ℕ) (l : Literal) → l.variable ≤ vars → n ≡ 2 * vars + 2 → code_of l < n
-code_within vars n l h is = by_sign l.variable l.positive h
-  where
-    by_sign : (v : ℕ) (b : Bool) → v ≤ vars → 2 * v + cond b 0 1 < n
-    by_sign v true h = omega (arith, h, is)
-    by_sign v false h = omega (arith, h, is)
-
 pub in_range : (vars : ℕ) (c : Clause) (l : Literal) → HasVariables vars c → Contains c l → l.variable ≤ vars
 in_range vars c l all there = (All-contains (IsWithin vars) c l all there).1
 

@@ -1,7 +1,7 @@
 -- The trail with its reasons: the literals that are true, the oldest first.
-use Rattle.bs_arena.specs.Renaming.{new_name}
-use Rattle.std.specs.Prelude.{◌≡◌, ℕ, ◌-◌, ◌<◌, ◌≤◌, Bool, List, [], ◌∷◌, ◌++◌, map, take, length, Option, option_map, unwrap_or, Some, None, slice_get, slice_index_or}
+use Rattle.std.specs.Prelude.{◌≡◌, ◌⊎◌, ℕ, ◌<◌, ◌≤◌, List, [], ◌∷◌, ◌++◌, map, take, length, Option, option_map, unwrap_or, Some, None, slice_get}
 use Rattle.bs_clause.specs.Literal.{Literal}
+use Rattle.bs_arena.specs.Renaming.{new_name}
 use Rattle.bs_watch.specs.declared.place.Place.{Place}
 use Rattle.bs_watch.specs.Trail.{IsOpenOn}
 
@@ -30,26 +30,8 @@ pub record IsUnassigned (s : TrailState) (l : Literal) : Type 0 where
 
 -- no variable stands in two places
 pub record AreApart (places : List Place) : Type 0 where
-  pub apart : (i j : ℕ) (p q : Place) → slice_get places i ≡ Some p → slice_get places j ≡ Some q → variable_of p ≡ variable_of q → i ≡ j
-
--- a table over the variables has what f says of the one place that holds each
-pub record HasTable {X : Type 0} (f : ℕ → Place → X) (table : List (Option X)) (places : List Place) : Type 0 where
-  pub given : (k : ℕ) (p : Place) → slice_get places k ≡ Some p → slice_index_or table (variable_of p - 1) None ≡ Some (f k p)
-  pub in_range : (k : ℕ) (p : Place) → slice_get places k ≡ Some p → (1 ≤ variable_of p) × (variable_of p ≤ length table)
-  pub held : (v : ℕ) (x : X) → slice_index_or table v None ≡ Some x → (k : ℕ) × (p : Place) × (slice_get places k ≡ Some p) × (variable_of p - 1 ≡ v) × (f k p ≡ x)
-
-abbrev pub sign_of : ℕ → Place → Bool
-sign_of k p = p.literal.positive
-
-abbrev pub number_of : ℕ → Place → ℕ
-number_of k p = k
-
--- the tables of values and of positions are right, and there is room for a place a variable
-pub record IsTrail (values : List (Option Bool)) (positions : List (Option ℕ)) (places : List Place) (capacity : ℕ) : Type 0 where
-  pub values_are : HasTable sign_of values places
-  pub positions_are : HasTable number_of positions places
-  pub as_long : length values ≡ length positions
-  pub room : length positions ≤ capacity
+  pub apart : (i j : ℕ) (p q : Place) → slice_get places i ≡ Some p →
+      slice_get places j ≡ Some q → variable_of p ≡ variable_of q → i ≡ j
 
 -- the place that holds the literal's variable
 pub record IsPlaceOf (places : List Place) (l : Literal) (p : Place) : Type 0 where
@@ -57,6 +39,26 @@ pub record IsPlaceOf (places : List Place) (l : Literal) (p : Place) : Type 0 wh
   pub there : slice_get places at ≡ Some p
   pub same : variable_of p ≡ l.variable
 
+-- the variable of the literal was assigned on the level
+abbrev pub IsOnLevel : List Place → Literal → ℕ → Type 0
+IsOnLevel places l level = (p : Place) × IsPlaceOf places l p × (p.level ≡ level)
+
+-- the variable of the literal was forced by the clause
+abbrev pub IsForcedBy : List Place → Literal → ℕ → Type 0
+IsForcedBy places l r = (p : Place) × IsPlaceOf places l p × (p.reason ≡ Some r)
+
+-- no clause forced the variable of the literal
+pub record HasNoReason (places : List Place) (l : Literal) : Type 0 where
+  pub none : (p : Place) → IsPlaceOf places l p → p.reason ≡ None
+
+-- the literal in the place
+abbrev pub IsLiteralAt : List Place → ℕ → Literal → Type 0
+IsLiteralAt places k l = (p : Place) × (slice_get places k ≡ Some p) × (p.literal ≡ l)
+
 -- with its reason's new reference
 abbrev pub renamed_place : List (ℕ × ℕ) → Place → Place
-renamed_place names p = record { literal = p.literal; reason = option_map (λ r. unwrap_or (new_name names r) r) p.reason; level = p.level }
+renamed_place names p = record {
+  literal = p.literal;
+  reason = option_map (λ r. unwrap_or (new_name names r) r) p.reason;
+  level = p.level;
+}

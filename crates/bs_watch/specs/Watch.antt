@@ -81,7 +81,7 @@ pub record MayAttach (w : WatchState) (c : Clause) : Type 0 where
   pub guarded : IsGuarded (literals_of w.trail.places) (literals_of (take w.head w.trail.places)) c
   pub levels : (k : ℕ) (v : Level) → slice_get w.levels k ≡ Some v →
       IsGuarded (literals_of (take v.start w.trail.places))
-      (literals_of (take v.looked (take v.start w.trail.places))) c
+        (literals_of (take v.looked (take v.start w.trail.places))) c
 
 -- the clause is attached, and nothing else has changed
 pub record HasAttached (old new : WatchState) (clauses : List Held) (r : ℕ) : Type 0 where

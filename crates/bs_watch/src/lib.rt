@@ -7,6 +7,7 @@ mod look;
 mod place;
 mod propagation;
 mod renaming;
+mod tables;
 mod trail;
 mod visit;
 mod watch;

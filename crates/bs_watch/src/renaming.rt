@@ -1,11 +1,11 @@
 //! The watchers' clauses have new references.
-ghost use Rattle.std.specs.Prelude.{◌≡◌, map, option_map, unwrap_or, vec_capacity};
+ghost use Rattle.std.specs.Prelude.{◌≡◌, map, option_map, unwrap_or};
 ghost use Rattle.bs_arena.specs.Renaming.{new_name};
 ghost use Rattle.bs_watch.specs.Lists.{renamed, renamed_lists};
-ghost use Rattle.bs_watch.specs.Places.{renamed_place};
+ghost use Rattle.bs_watch.specs.Tables.{renamed_cause};
 
 use crate::lists::Watcher;
-use crate::place::Place;
+use crate::place::Cause;
 use bs_arena::{Ref, Renaming};
 
 /// The watcher of the clause under its new reference.
@@ -33,7 +33,7 @@ pub fn rename_row(row: &mut Vec<Watcher>, names: &Renaming)
 /// Each watcher of each row.
 pub fn rename_rows(rows: &mut Vec<Vec<Watcher>>, names: &Renaming)
     ensures { map (λ v. v.items) rows.new.items
-        ≡ renamed_lists names.now.names (map (λ v. v.items) rows.old.items) }
+              ≡ renamed_lists names.now.names (map (λ v. v.items) rows.old.items) }
 {
     'rows: for code in 0..rows.len() {
         rename_row(&mut rows[code], names);
@@ -52,19 +52,21 @@ fn rename_reason(reason: Option<Ref>, names: &Renaming) -> Option<Ref>
     }
 }
 
-/// Each place's reason.
-pub fn rename_places(places: &mut Vec<Place>, names: &Renaming)
-    ensures places { places.new.items ≡ map (renamed_place names.now.names) places.old.items }
-    ensures capacity { vec_capacity places.new ≡ vec_capacity places.old }
+// The cause with its clause under its new reference.
+fn rename_cause(cause: Cause, names: &Renaming) -> Cause
+    ensures { result ≡ renamed_cause names.now.names cause }
 {
-    'places: for at in 0..places.len() {
-        let literal = places[at].literal;
-        let level = places[at].level;
-        let reason = rename_reason(places[at].reason, names);
-        places[at] = Place {
-            literal,
-            reason,
-            level,
-        };
+    Cause {
+        reason: rename_reason(cause.reason, names),
+        level: cause.level,
+    }
+}
+
+/// Each cause of a table.
+pub fn rename_causes(causes: &mut Vec<Cause>, names: &Renaming)
+    ensures { causes.new.items ≡ map (renamed_cause names.now.names) causes.old.items }
+{
+    'causes: for at in 0..causes.len() {
+        causes[at] = rename_cause(causes[at], names);
     }
 }

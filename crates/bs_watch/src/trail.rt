@@ -1,47 +1,58 @@
 //! The trail: the literals that are true, the oldest first, each with its reason and its level.
-ghost use Rattle.std.specs.Prelude.{◌≡◌, ◌↔◌, ◌-◌, ◌<◌, ◌≤◌, [], ◌∷◌, ◌++◌, length, map, take, replicate, slice_get, slice_set, vec_len, vec_capacity, Option, Some, None, IfOk, IfSome, IfNone, IsTrue};
-ghost use Rattle.bs_watch.specs.Trail.{IsTrueOn, IsFalseOn, IsOpenOn};
-ghost use Rattle.bs_watch.specs.Places.{IsUnassigned, IsPlaceOf, AreApart, literals_of, renamed_place};
+ghost use Rattle.std.specs.Prelude.{◌≡◌, ◌↔◌, ◌-◌, ◌+◌, ◌*◌, ◌^◌, ◌<◌, ◌≤◌, [], ◌∷◌, ◌++◌, false, length, map, take, replicate, slice_get, slice_set, vec_len, vec_capacity, Option, Some, None, IfOk, IfSome, IfNone, IsTrue, OnErr};
+ghost use Rattle.bs_clause.specs.Literal.{code_of};
+ghost use Rattle.bs_watch.specs.Trail.{IsTrueOn, IsFalseOn, IsOpenOn, IsAssignedOn, IsValueOn, IsFirstOpen, AreAssignedBelow};
+ghost use Rattle.bs_watch.specs.Places.{IsUnassigned, IsOnLevel, IsForcedBy, HasNoReason, IsLiteralAt, AreApart, literals_of, renamed_place, with_place};
+ghost use Rattle.bs_watch.specs.Tables.{no_cause};
 
-use crate::place::Place;
-use crate::renaming::rename_places;
+use crate::place::{Cause, Place};
+use crate::renaming::rename_causes;
+use crate::tables::{lower, next_open, no_causes, no_values, push_literal, set_cause, set_value};
 use bs_arena::{Ref, Renaming};
-use bs_clause::{Lit, NoMemory};
+use bs_clause::{Lit, NoMemory, Var};
 use std::alloc::Global;
 use std::marker::Model;
 
-/// The literals that are true, in the order in which they were assigned, over variables 1 to a number.
+/// The literals that are true, in the order in which they were assigned, over the variables 1 to
+/// `vars`. Values stand by literal code, causes by variable. Each variable below `first` has a
+/// value.
 #[derive(Drop)]
 pub struct Trail {
-    values: Vec<Option<bool>>,
-    positions: Vec<Option<usize>>,
-    places: Vec<Place>,
+    vars: u32,
+    values: Vec<bool>,
+    causes: Vec<Cause>,
+    literals: Vec<Lit>,
+    first: u32,
 }
 
 impl Model for Trail {
-    ghost use Rattle.std.specs.Prelude.{length, vec_capacity};
-    ghost use Rattle.bs_watch.specs.Places.{TrailState, IsTrail};
+    ghost use Rattle.std.specs.Prelude.{vec_capacity};
+    ghost use Rattle.bs_watch.specs.Places.{TrailState};
+    ghost use Rattle.bs_watch.specs.Tables.{IsTrail, places_in};
 
     ghost Value = { TrailState };
 
-    ghost view = { λ t. record { vars = length t.positions.items; places = t.places.items } };
+    ghost view = { λ t. record { vars = t.vars; places = places_in t.causes.items t.literals.items } };
 
-    ghost invariant = { λ t. IsTrail t.values.items t.positions.items t.places.items (vec_capacity t.places) };
+    ghost invariant = { λ t. IsTrail t.vars t.values.items t.causes.items t.literals.items t.first (vec_capacity t.literals) };
 }
 
 impl Trail {
     /// The empty trail over so many variables.
     pub fn new(alloc: Global, vars: u32) -> Result<Trail, NoMemory>
+        requires { vars < 2 ^ 30 }
         ensures { IfOk result (λ t. t ≡ record { vars = vars; places = [] }) }
     {
-        let values = no_values(alloc, vars as usize)?;
-        let positions = no_positions(alloc, vars as usize)?;
-        let mut places = Vec::new(alloc);
-        places.reserve(vars as usize)?;
+        let values = no_values(alloc, 2 * vars as usize + 2)?;
+        let causes = no_causes(alloc, vars as usize + 1)?;
+        let mut literals = Vec::new(alloc);
+        literals.reserve(vars as usize)?;
         Ok(Trail {
+            vars,
             values,
-            positions,
-            places,
+            causes,
+            literals,
+            first: 1,
         })
     }
 
@@ -51,16 +62,23 @@ impl Trail {
         ensures room { length self.now.places ≤ self.now.vars }
         ensures apart { AreApart self.now.places }
     {
-        self.places.len()
+        self.literals.len()
     }
 
-    /// The place of a number, from 0.
-    pub fn place(&self, at: usize) -> Place
-        requires { at < length self.now.places }
-        ensures place { slice_get self.now.places at ≡ Some result }
-        ensures range { result.literal.variable ≤ self.now.vars }
+    /// The literals that are true, the oldest first.
+    pub fn literals(&self) -> &[Lit]
+        ensures { result.now ≡ literals_of self.now.places }
     {
-        self.places[at]
+        self.literals.as_slice()
+    }
+
+    /// The literal in a place, which counts from 0.
+    pub fn literal(&self, at: usize) -> Lit
+        requires { at < length self.now.places }
+        ensures literal { IsLiteralAt self.now.places at result }
+        ensures range { result.variable ≤ self.now.vars }
+    {
+        self.literals[at]
     }
 
     /// Whether the literal is true.
@@ -68,104 +86,92 @@ impl Trail {
         requires { l.variable ≤ self.now.vars }
         ensures { IsTrue result ↔ IsTrueOn (literals_of self.now.places) l }
     {
-        match self.values[l.var().0 as usize - 1] {
-            Some(value) => value == l.positive(),
-            None => false,
+        self.values[l.code() as usize]
+    }
+
+    /// Whether the literal is true or false, if its variable has a value.
+    pub fn value(&self, l: Lit) -> Option<bool>
+        requires { l.variable ≤ self.now.vars }
+        ensures { IsValueOn (literals_of self.now.places) l result }
+    {
+        if self.is_true(l) {
+            Some(true)
+        } else if self.is_true(l.negate()) {
+            Some(false)
+        } else {
+            None
         }
     }
 
-    /// The place of the literal's variable, if it is assigned.
-    pub fn find(&self, l: Lit) -> Option<Place>
-        requires { l.variable ≤ self.now.vars }
-        ensures some { IfSome result (IsPlaceOf self.now.places l) }
-        ensures none { IfNone result (IsOpenOn (literals_of self.now.places) l) }
+    /// The level of a variable that has a value.
+    pub fn level_of(&self, l: Lit) -> u32
+        requires { IsAssignedOn (literals_of self.now.places) l }
+        ensures { IsOnLevel self.now.places l result }
     {
-        match self.positions[l.var().0 as usize - 1] {
-            Some(at) => Some(self.places[at]),
+        self.causes[l.var().0 as usize].level
+    }
+
+    /// The clause that forced the literal's variable, if it has a value and was forced.
+    pub fn reason(&self, l: Lit) -> Option<Ref>
+        requires { l.variable ≤ self.now.vars }
+        ensures some { IfSome result (IsForcedBy self.now.places l) }
+        ensures none { IfNone result (HasNoReason self.now.places l) }
+    {
+        match self.value(l) {
+            Some(_) => self.causes[l.var().0 as usize].reason,
             None => None,
+        }
+    }
+
+    /// The lowest variable without a value. The search begins at the first that can be one.
+    pub fn first_open(&mut self) -> Option<Var>
+        ensures same { self.new ≡ self.old }
+        ensures some { IfSome result (λ v. IsFirstOpen (literals_of self.old.places) self.old.vars v.0) }
+        ensures none { IfNone result (AreAssignedBelow (literals_of self.old.places) (self.old.vars + 1)) }
+    {
+        self.first = next_open(self.values.as_slice(), self.first, self.vars);
+        if self.first <= self.vars {
+            Some(Var(self.first))
+        } else {
+            None
         }
     }
 
     /// Takes the next place. It takes no memory.
     pub fn assign(&mut self, literal: Lit, reason: Option<Ref>, level: u32)
         requires { IsUnassigned self.old literal }
-        ensures { self.new ≡ record { vars = self.old.vars; places = self.old.places ++ record { literal = literal; reason = reason; level = level } ∷ [] } }
+        ensures { self.new ≡ with_place self.old literal reason level }
     {
-        let at = self.places.len();
-        set_value(&mut self.values, literal, Some(literal.positive()));
-        set_position(&mut self.positions, literal, Some(at));
-        push_place(&mut self.places, literal, reason, level);
+        set_value(&mut self.values, literal, true);
+        set_cause(&mut self.causes, literal, reason, level);
+        push_literal(&mut self.literals, literal);
     }
 
     /// Goes back to so many places.
     pub fn cut(&mut self, end: usize)
-        ensures { self.new ≡ record { vars = self.old.vars; places = take end self.old.places } }
+        ensures { self.new ≡ record self.old { places = take end self.old.places } }
     {
-        while self.places.len() > end {
+        while self.literals.len() > end {
             self.undo();
         }
-    }
-
-    /// Each reason has its new reference.
-    pub fn rename(&mut self, names: &Renaming)
-        ensures { self.new ≡ record { vars = self.old.vars; places = map (renamed_place names.now.names) self.old.places } }
-    {
-        rename_places(&mut self.places, names);
     }
 
     // Gives up the newest place.
     fn undo(&mut self)
         requires { 0 < length self.old.places }
-        ensures { self.new ≡ record { vars = self.old.vars; places = take (length self.old.places - 1) self.old.places } }
+        ensures { self.new ≡ record self.old { places = take (length self.old.places - 1) self.old.places } }
     {
-        let last = self.places.len() - 1;
-        let literal = self.places[last].literal;
-        set_value(&mut self.values, literal, None);
-        set_position(&mut self.positions, literal, None);
-        self.places.truncate(last);
+        let last = self.literals.len() - 1;
+        let literal = self.literals[last];
+        set_value(&mut self.values, literal, false);
+        self.literals.truncate(last);
+        self.first = lower(self.first, literal.var().0);
     }
-}
 
-// The value of the literal's variable.
-fn set_value(values: &mut Vec<Option<bool>>, l: Lit, value: Option<bool>)
-    requires { l.variable ≤ length values.old.items }
-    ensures set { values.new.items ≡ slice_set values.old.items (l.variable - 1) value }
-{
-    values[l.var().0 as usize - 1] = value;
-}
-
-// The place of the literal's variable.
-fn set_position(positions: &mut Vec<Option<usize>>, l: Lit, at: Option<usize>)
-    requires { l.variable ≤ length positions.old.items }
-    ensures set { positions.new.items ≡ slice_set positions.old.items (l.variable - 1) at }
-    ensures low { 1 ≤ l.variable }
-{
-    positions[l.var().0 as usize - 1] = at;
-}
-
-// One more place where there is room.
-fn push_place(places: &mut Vec<Place>, literal: Lit, reason: Option<Ref>, level: u32)
-    requires { vec_len places.old < vec_capacity places.old }
-    ensures items { places.new.items ≡ places.old.items ++ record { literal = literal; reason = reason; level = level } ∷ [] }
-    ensures capacity { vec_capacity places.old ≤ vec_capacity places.new }
-{
-    let _ = places.push(Place {
-        literal,
-        reason,
-        level,
-    });
-}
-
-fn no_values(alloc: Global, count: usize) -> Result<Vec<Option<bool>>, NoMemory>
-    ensures { IfOk result (λ v. v.items ≡ replicate count None) }
-{
-    let values = vec![in alloc; None; count]?;
-    Ok(values)
-}
-
-fn no_positions(alloc: Global, count: usize) -> Result<Vec<Option<usize>>, NoMemory>
-    ensures { IfOk result (λ v. v.items ≡ replicate count None) }
-{
-    let positions = vec![in alloc; None; count]?;
-    Ok(positions)
+    /// Each reason has its new reference.
+    pub fn rename(&mut self, names: &Renaming)
+        ensures { self.new ≡ record self.old { places = map (renamed_place names.now.names) self.old.places } }
+    {
+        rename_causes(&mut self.causes, names);
+    }
 }

@@ -79,12 +79,7 @@ impl Watch {
         ensures err { OnErr result (self.new ≡ self.old) }
     {
         let codes = arena.lits(r);
-        join_two(
-            &mut self.lists,
-            r,
-            Lit::from_code(codes[0]),
-            Lit::from_code(codes[1]),
-        )
+        join_two(&mut self.lists, r, Lit::from_code(codes[0]), Lit::from_code(codes[1]))
     }
 
     /// The number of the present level.
@@ -122,18 +117,12 @@ impl Watch {
         requires { Serves self.old arena.old.clauses }
         ensures serves { Serves self.new arena.new.clauses }
         ensures advances { Advances (length self.old.levels) (scene self.old arena.old.clauses)
-            (scene self.new arena.new.clauses) }
+                             (scene self.new arena.new.clauses) }
         ensures levels { self.new.levels ≡ self.old.levels }
         ensures ok { IfOk result (Propagated (scene self.new arena.new.clauses)) }
     {
         let level = self.levels.len() as u32;
-        look_on(
-            &mut self.trail,
-            &mut self.lists,
-            arena,
-            level,
-            &mut self.head,
-        )
+        look_on(&mut self.trail, &mut self.lists, arena, level, &mut self.head)
     }
 
     /// Goes back to the end of a level.

@@ -10,8 +10,8 @@ use Rattle.bs_watch.specs.Lists.{row}
 use Rattle.bs_watch.specs.Scene.{IsWatcher, IsWatchable, Scene, Advances, AreMet}
 use Rattle.std.proofs.lemmas.List.{length-map}
 use Rattle.bs_watch.proofs.Gets.{get_within}
-use Rattle.bs_watch.proofs.Codes.{literals_back, range_at}
-use Rattle.bs_watch.proofs.Visits.{code_within, in_range, met_here, met_blocked, met_forced, conflict_of}
+use Rattle.bs_watch.proofs.Codes.{literals_back, range_at, code_within}
+use Rattle.bs_watch.proofs.Visits.{in_range, met_here, met_blocked, met_forced, conflict_of}
 use Rattle.bs_watch.proofs.Advancing.{advances_refl, met_still}
 use Rattle.bs_watch.proofs.Steps.{blocked, forced_one, IsSwapped}
 use Rattle.bs_watch.proofs.Moved.{Move, moved, moved_front, moved_length}

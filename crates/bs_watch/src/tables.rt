@@ -1,0 +1,83 @@
+//! The tables of a trail: values by literal code, causes by variable.
+ghost use Rattle.std.specs.Prelude.{◌≡◌, ◌⊎◌, ◌-◌, ◌+◌, ◌*◌, ◌^◌, ◌<◌, ◌≤◌, [], ◌∷◌, ◌++◌, false, length, replicate, slice_set, vec_len, vec_capacity, IfOk};
+ghost use Rattle.bs_clause.specs.Literal.{code_of};
+ghost use Rattle.bs_watch.specs.Tables.{no_cause, either, IsNextOpen};
+
+use crate::place::Cause;
+use bs_arena::Ref;
+use bs_clause::{Lit, NoMemory};
+use std::alloc::Global;
+
+/// So many values, none true.
+pub fn no_values(alloc: Global, count: usize) -> Result<Vec<bool>, NoMemory>
+    ensures { IfOk result (λ v. v.items ≡ replicate count false) }
+{
+    let values = vec![in alloc; false; count]?;
+    Ok(values)
+}
+
+/// So many causes, which say nothing.
+pub fn no_causes(alloc: Global, count: usize) -> Result<Vec<Cause>, NoMemory>
+    ensures { IfOk result (λ v. v.items ≡ replicate count no_cause) }
+{
+    let causes = vec![in alloc; Cause { reason: None, level: 0 }; count]?;
+    Ok(causes)
+}
+
+/// Notes whether the literal is true.
+pub fn set_value(values: &mut Vec<bool>, l: Lit, value: bool)
+    requires { code_of l < length values.old.items }
+    ensures { values.new.items ≡ slice_set values.old.items (code_of l) value }
+{
+    values[l.code() as usize] = value;
+}
+
+/// Notes the cause of the literal's variable.
+pub fn set_cause(causes: &mut Vec<Cause>, l: Lit, reason: Option<Ref>, level: u32)
+    requires { l.variable < length causes.old.items }
+    ensures cause { causes.new.items ≡ slice_set causes.old.items l.variable (record { reason = reason; level = level }) }
+    ensures low { 1 ≤ l.variable }
+{
+    causes[l.var().0 as usize] = Cause { reason, level };
+}
+
+/// One more literal where there is room.
+pub fn push_literal(literals: &mut Vec<Lit>, l: Lit)
+    requires { vec_len literals.old < vec_capacity literals.old }
+    ensures items { literals.new.items ≡ literals.old.items ++ l ∷ [] }
+    ensures capacity { vec_capacity literals.old ≤ vec_capacity literals.new }
+{
+    let _ = literals.push(l);
+}
+
+/// The lower one of two variables' numbers.
+pub fn lower(first: u32, second: u32) -> u32
+    ensures first { result ≤ first }
+    ensures second { result ≤ second }
+    ensures one_of { (result ≡ first) ⊎ (result ≡ second) }
+{
+    if second < first { second } else { first }
+}
+
+// Whether one of a variable's two literals is true.
+fn has_value(values: &[bool], variable: u32) -> bool
+    requires { 2 * variable + 1 < length values.now }
+    ensures { result ≡ either values.now variable }
+{
+    let code = 2 * variable as usize;
+    values[code] || values[code + 1]
+}
+
+/// The lowest variable from one on whose two literals are not true, or the one past the last.
+pub fn next_open(values: &[bool], from: u32, last: u32) -> u32
+    requires small { last < 2 ^ 30 }
+    requires long { length values.now ≡ 2 * last + 2 }
+    requires high { from ≤ last + 1 }
+    ensures { IsNextOpen values.now from last result }
+{
+    let mut variable = from;
+    'variables: while variable <= last && has_value(values, variable) {
+        variable += 1;
+    }
+    variable
+}
