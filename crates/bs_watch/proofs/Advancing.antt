@@ -6,9 +6,8 @@ use Rattle.std.proofs.lemmas.List.{take_all}
 use Rattle.std.proofs.lemmas.List.Sorted.{IsPermutation-refl, IsPermutation-trans, Contains-permutation, All-permutation}
 use Rattle.bs_clause.specs.Literal.{Literal, Clause, negation}
 use Rattle.bs_arena.specs.Arena.{Held, held_at, literals_at}
-use Rattle.bs_watch.specs.declared.place.Place.{Place}
 use Rattle.bs_watch.specs.Trail.{IsTrueOn, IsFalseOn, Forces}
-use Rattle.bs_watch.specs.Places.{literals_of}
+use Rattle.bs_watch.specs.Places.{Place, literals_of}
 use Rattle.bs_watch.specs.Look.{IsFirstTwo, HasTrue}
 use Rattle.bs_watch.specs.Lists.{row, IsAttached}
 use Rattle.bs_watch.specs.declared.lists.Watcher.{Watcher}

@@ -5,13 +5,12 @@ use Rattle.bs_clause.specs.Literal.{Literal, Clause}
 use Rattle.bs_arena.specs.Arena.{Held, held_at, literals_at, meaning}
 use Rattle.bs_arena.specs.Renaming.{new_name, IsRenaming}
 use Rattle.bs_arena.proofs.Lookups.{renamed_is_live}
-use Rattle.bs_watch.specs.declared.place.Place.{Place}
 use Rattle.bs_watch.specs.declared.lists.Watcher.{Watcher}
-use Rattle.bs_watch.specs.Places.{literals_of}
+use Rattle.bs_watch.specs.Places.{Place, literals_of}
 use Rattle.bs_watch.specs.Look.{IsFirstTwo}
 use Rattle.bs_watch.specs.Lists.{row, IsIn, IsAttached}
 use Rattle.bs_watch.specs.Scene.{IsWatchable, AreGuarded, IsGuarded}
-use Rattle.bs_watch.specs.Watch.{WatchState, Serves, AreNamedApart, IsRenamed}
+use Rattle.bs_watch.specs.Watch.{WatchState, Serves, IsRenamed}
 use Rattle.std.proofs.Common.{get_or}
 use Rattle.std.proofs.lemmas.Bool.{false≢true}
 use Rattle.std.proofs.lemmas.List.{length-map}
@@ -57,8 +56,8 @@ new_in names old new n l r s is i =
     let (x, there, named) = n.on l i.at i.watcher i.there in
     record { at = i.at; watcher = x; there = there; same = same_some x.clause s (sym named ∙ ap (new_name names) i.same ∙ is) }
 
-pub renamed_serves : (w new : WatchState) (clauses after : List Held) (names : List (ℕ × ℕ)) → Serves w clauses → IsRenaming clauses after names → AreNamedApart names → IsRenamed names w new → Serves new after
-renamed_serves w new clauses after names s renames apart n = record {
+pub renamed_serves : (w new : WatchState) (clauses after : List Held) (names : List (ℕ × ℕ)) → Serves w clauses → IsRenaming clauses after names → IsRenamed names w new → Serves new after
+renamed_serves w new clauses after names s renames n = record {
   listed = record {
     rows = n.rows ∙ s.listed.rows ∙ ap (λ v. 2 * v + 2) (sym n.vars);
     listed = λ l k x e.
@@ -79,7 +78,7 @@ renamed_serves w new clauses after names s renames apart n = record {
       once = λ i j x y a b same.
           let (u, there_i, named_i, _) = n.back l i x a in
           let (v, there_j, named_j, _) = n.back l j y b in
-          (s.listed.once l).once i j u v there_i there_j (apart.apart u.clause v.clause x.clause named_i (named_j ∙ ap Some (sym same)));
+          (s.listed.once l).once i j u v there_i there_j (renames.apart u.clause v.clause x.clause named_i (named_j ∙ ap Some (sym same)));
     };
   };
   guarded = subst (AreGuarded new.lists after new.trail.places) (sym n.head) (guards w.trail.places new.trail.places w.head n.literals s.guarded);
@@ -117,11 +116,11 @@ named (Some s) d e = refl
 pub serves_renamed : (w : WatchState) (names : List (ℕ × ℕ)) →
     ServesRenamed w (record { trail = record { vars = w.trail.vars; places = map (renamed_place names) w.trail.places }; levels = w.levels; head = w.head; lists = map (λ ws. map (renamed names) ws) w.lists }) names
 serves_renamed w names = record {
-  serves = λ clauses after s renames apart.
+  serves = λ clauses after s renames.
       let new : WatchState = record { trail = record { vars = w.trail.vars; places = map (renamed_place names) w.trail.places }; levels = w.levels; head = w.head; lists = map (λ ws. map (renamed names) ws) w.lists } in
       let has_name : (l : Literal) (k : ℕ) (v : Watcher) → slice_get (row w.lists l) k ≡ Some v → new_name names v.clause ≡ Some (unwrap_or (new_name names v.clause) v.clause) =
       λ l k v e. named (new_name names v.clause) v.clause (renames.named v.clause ∙ (s.listed.listed l k v e).live) in
-      renamed_serves w new clauses after names s renames apart (record {
+      renamed_serves w new clauses after names s renames (record {
         vars = refl;
         literals = literals_mapped names w.trail.places;
         levels = refl;

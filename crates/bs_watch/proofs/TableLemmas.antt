@@ -3,16 +3,15 @@ use Rattle.std.proofs.Common.{◌≡◌, ◌≢◌, ℕ, zero, suc, ◌+◌, ◌
 use Rattle.std.specs.Prelude.{Contains, slice_get, IfSome, IfNone}
 use Rattle.std.specs.List.{list_any, IsDistinct}
 use Rattle.std.proofs.lemmas.Bool.{cases_lt, ne_eqb, eqb-true, or_cases, false≢true}
-use Rattle.std.proofs.lemmas.List.{get_or-set_same, get_or-set_other, length-set, length-map, get_or-replicate, get_or_past, length-replicate, map-append}
+use Rattle.std.proofs.lemmas.List.{get_or-set_same, get_or-set_other, length-set, length-map, get_or-replicate, get_or_past, length-replicate, length_push, map-append}
 use Rattle.std.proofs.lemmas.Option.{get_or_from_slice_get}
 use Rattle.std.proofs.lemmas.Map.Keys.{IsDistinct-from_apart}
 use Rattle.std.proofs.lemmas.Map.Steps.{length-le_from_distinct_below}
 use Rattle.bs_clause.specs.Literal.{Literal, negation, code_of}
-use Rattle.bs_clause.specs.Range.{HasVariables}
-use Rattle.bs_watch.specs.declared.place.Place.{Place}
-use Rattle.bs_watch.specs.declared.place.Cause.{Cause}
+use Rattle.bs_clause.specs.Range.{HasVariables, IsWithin}
+use Rattle.bs_watch.specs.declared.cause.Cause.{Cause}
 use Rattle.bs_watch.specs.Trail.{IsOpenOn, IsAssignedOn, IsValueOn, AreAssignedBelow}
-use Rattle.bs_watch.specs.Places.{AreApart, IsPlaceOf, IsOnLevel, IsForcedBy, HasNoReason, literals_of, variable_of, renamed_place}
+use Rattle.bs_watch.specs.Places.{Place, AreApart, IsPlaceOf, IsOnLevel, IsForcedBy, HasNoReason, literals_of, variable_of, renamed_place}
 use Rattle.bs_watch.specs.Tables.{IsTrail, HasValues, AreDistinct, IsNextOpen, no_cause, cause_of, place_with, places_in, value_of, renamed_cause}
 use Rattle.bs_watch.proofs.Gets.{none_is_not_some, same_some, get_left, get_last, get_push_cases, get_from_Contains, Contains_from_get, get_map_cases, get_within, get_map}
 use Rattle.bs_watch.proofs.Literals.{cases_literal, same_variable, negation-negation, code_of-injective}
@@ -359,3 +358,66 @@ neither_true values l v is even odd = by_sign l.positive refl
       ap (λ k. get_or values k false) (ap (λ x. 2 * l.variable + cond x 0 1) s ∙ omega (arith, is)) ∙ odd,
       ap (λ k. get_or values k false) (ap (λ x. 2 * l.variable + cond (not x) 0 1) s ∙ omega (arith, is)) ∙ even,
     )
+
+pub if_some_more : {X : Type 0} (P Q : X → Type 0) (o : Option X) → ((x : X) → P x → Q x) → IfSome o P → IfSome o Q
+if_some_more P Q None more h = tt
+if_some_more P Q (Some x) more h = more x h
+
+pub if_none_more : {X : Type 0} (P Q : Type 0) (o : Option X) → (P → Q) → IfNone o P → IfNone o Q
+if_none_more P Q None more h = more h
+if_none_more P Q (Some x) more h = tt
+
+-- ---- one more variable
+
+get_past : {X : Type 0} (xs : List X) (x : X) (k : ℕ) → get_or (xs ++ x ∷ []) k x ≡ get_or xs k x
+get_past [] x zero = refl
+get_past [] x (suc k) = refl
+get_past (y ∷ xs) x zero = refl
+get_past (y ∷ xs) x (suc k) = get_past xs x k
+
+get_past_two : {X : Type 0} (xs : List X) (x : X) (k : ℕ) → get_or (xs ++ x ∷ x ∷ []) k x ≡ get_or xs k x
+get_past_two [] x zero = refl
+get_past_two [] x (suc zero) = refl
+get_past_two [] x (suc (suc k)) = refl
+get_past_two (y ∷ xs) x zero = refl
+get_past_two (y ∷ xs) x (suc k) = get_past_two xs x k
+
+pub grown_places : (causes : List Cause) (ls : List Literal) → places_in (causes ++ no_cause ∷ []) ls ≡ places_in causes ls
+grown_places causes [] = refl
+grown_places causes (l ∷ ls) = λ i. place_with l (get_past causes no_cause l.variable i) ∷ grown_places causes ls i
+
+pub length_two : {X : Type 0} (xs : List X) (x y : X) → length (xs ++ x ∷ y ∷ []) ≡ length xs + 2
+length_two [] x y = refl
+length_two (z ∷ xs) x y = let h = length_two xs x y in omega (arith, h)
+
+pub grown_trail : (vars : ℕ) (values : List Bool) (causes : List Cause) (ls : List Literal) (first capacity after : ℕ) → IsTrail vars values causes ls first capacity → vars + 1 < 2 ^ 30 → vars + 1 ≤ after →
+    IsTrail (vars + 1) (values ++ false ∷ false ∷ []) (causes ++ no_cause ∷ []) ls first after
+grown_trail vars values causes ls first capacity after t small room = record {
+  small = small;
+  values_are = record {
+    holds = λ l e. t.values_are.holds l (sym (get_past_two values false (code_of l)) ∙ e);
+    noted = λ l there. get_past_two values false (code_of l) ∙ t.values_are.noted l there;
+  };
+  distinct = t.distinct;
+  in_range = all_from_gets (IsWithin (vars + 1)) ls (λ k l e. let h = range_at vars ls k l t.in_range e in (h.0, omega (arith, h.1)));
+  by_code = omega (arith, t.by_code, length_two values false false);
+  by_variable = omega (arith, t.by_variable, length_push causes no_cause);
+  low = t.low;
+  high = omega (arith, t.high);
+  below = t.below;
+  room = room;
+}
+
+pub roomier_trail : (vars : ℕ) (values : List Bool) (causes : List Cause) (ls : List Literal) (first capacity after : ℕ) → IsTrail vars values causes ls first capacity → capacity ≤ after → IsTrail vars values causes ls first after
+roomier_trail vars values causes ls first capacity after t more = record {
+  small = t.small;
+  values_are = t.values_are;
+  distinct = t.distinct;
+  in_range = t.in_range;
+  by_code = t.by_code;
+  by_variable = t.by_variable;
+  low = t.low;
+  high = t.high;
+  below = t.below;
+  room = omega (arith, t.room, more);
+}

@@ -6,10 +6,9 @@ use Rattle.std.proofs.lemmas.List.Elements.{All-contains}
 use Rattle.bs_clause.specs.Literal.{Literal, Clause, negation, code_of}
 use Rattle.bs_clause.specs.Range.{HasVariables, IsWithin}
 use Rattle.bs_arena.specs.Arena.{Held, held_at, literals_at}
-use Rattle.bs_watch.specs.declared.place.Place.{Place}
 use Rattle.bs_watch.specs.declared.lists.Watcher.{Watcher}
 use Rattle.bs_watch.specs.Trail.{IsTrueOn, IsFalseOn, IsConflict, Forces}
-use Rattle.bs_watch.specs.Places.{literals_of, TrailState}
+use Rattle.bs_watch.specs.Places.{Place, literals_of, TrailState}
 use Rattle.bs_watch.specs.Look.{IsFirstTwo, HasTrue}
 use Rattle.bs_watch.specs.Lists.{row, IsIn, IsAttached}
 use Rattle.bs_watch.specs.Scene.{Scene, trues, IsWatcher, IsWatchable, AreListed, Advances, AreMet, IsConflictOf}

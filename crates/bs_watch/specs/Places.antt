@@ -2,8 +2,14 @@
 use Rattle.std.specs.Prelude.{◌≡◌, ◌⊎◌, ℕ, ◌<◌, ◌≤◌, List, [], ◌∷◌, ◌++◌, map, take, length, Option, option_map, unwrap_or, Some, None, slice_get}
 use Rattle.bs_clause.specs.Literal.{Literal}
 use Rattle.bs_arena.specs.Renaming.{new_name}
-use Rattle.bs_watch.specs.declared.place.Place.{Place}
 use Rattle.bs_watch.specs.Trail.{IsOpenOn}
+
+-- a literal that is true, with the clause that forced it and its level; a decision and an
+-- assumption have no clause
+pub record Place : Type 0 where
+  pub literal : Literal
+  pub reason : Option ℕ
+  pub level : ℕ
 
 -- the places that are taken, over variables 1 to vars
 pub record TrailState : Type 0 where

@@ -3,14 +3,13 @@ use Rattle.std.specs.Prelude.{◌≡◌, ◌⊎◌, ◌↔◌, ℕ, ◌+◌, ◌
 use Rattle.bs_clause.specs.Literal.{Literal, Clause}
 use Rattle.bs_clause.specs.Range.{HasVariables}
 use Rattle.bs_arena.specs.Arena.{Content, Held, held_at, literals_at}
-use Rattle.bs_watch.specs.declared.place.Place.{Place}
 use Rattle.bs_watch.specs.declared.lists.Watcher.{Watcher}
 use Rattle.bs_watch.specs.declared.visit.Visit.{Visit}
 use Rattle.bs_watch.specs.declared.visit.Visit.TheVariants.{Stays, Moves, Conflict as IsFalse}
 use Rattle.bs_watch.specs.declared.visit.Outcome.{Outcome}
 use Rattle.bs_watch.specs.declared.visit.Outcome.TheVariants.{Quiet, Conflict}
 use Rattle.bs_watch.specs.Trail.{IsFalseOn, IsConflict, IsUnit, Forces}
-use Rattle.bs_watch.specs.Places.{literals_of, TrailState}
+use Rattle.bs_watch.specs.Places.{Place, literals_of, TrailState}
 use Rattle.bs_watch.specs.Lists.{row, IsIn, IsAttached, IsOnce}
 use Rattle.bs_watch.specs.Look.{IsFirstTwo, HasTrue}
 

@@ -4,8 +4,8 @@ use Rattle.std.specs.Prelude.{◌≡◌, ◌⊎◌, ◌↔◌, ℕ, ◌+◌, ◌
 use Rattle.bs_clause.specs.Literal.{Literal, code_of, negation}
 use Rattle.bs_clause.specs.Range.{HasVariables}
 use Rattle.bs_arena.specs.Renaming.{new_name}
-use Rattle.bs_watch.specs.declared.place.Place.{Place}
-use Rattle.bs_watch.specs.declared.place.Cause.{Cause}
+use Rattle.bs_watch.specs.Places.{Place}
+use Rattle.bs_watch.specs.declared.cause.Cause.{Cause}
 use Rattle.bs_watch.specs.Trail.{AreAssignedBelow}
 
 -- the cause that stands where there is none

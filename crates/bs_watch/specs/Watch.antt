@@ -5,7 +5,7 @@ use Rattle.bs_arena.specs.Arena.{Held, literals_at}
 use Rattle.bs_arena.specs.Renaming.{new_name, IsRenaming}
 use Rattle.bs_watch.specs.declared.lists.Watcher.{Watcher}
 use Rattle.bs_watch.specs.declared.watch.Level.{Level}
-use Rattle.bs_watch.specs.Places.{TrailState, literals_of, with_place, renamed_place}
+use Rattle.bs_watch.specs.Places.{Place, TrailState, literals_of, with_place, renamed_place}
 use Rattle.bs_watch.specs.Lists.{row, IsAttached, renamed_lists}
 use Rattle.bs_watch.specs.Scene.{Scene, AreListed, AreGuarded, IsGuarded}
 
@@ -20,6 +20,14 @@ pub record WatchState : Type 0 where
 abbrev pub scene : WatchState → List Held → Scene
 scene w clauses = record { trail = w.trail; lists = w.lists; clauses = clauses }
 
+-- the level of a place is the number of levels that began no later than it was taken
+pub record AreLevelled (places : List Place) (levels : List Level) : Type 0 where
+  pub few : (k : ℕ) (p : Place) → slice_get places k ≡ Some p → p.level ≤ length levels
+  pub above : (j k : ℕ) (v : Level) (p : Place) → slice_get levels j ≡ Some v →
+      slice_get places k ≡ Some p → v.start ≤ k → j < p.level
+  pub below : (j k : ℕ) (v : Level) (p : Place) → slice_get levels j ≡ Some v →
+      slice_get places k ≡ Some p → k < v.start → p.level ≤ j
+
 -- what holds of every watch
 pub record IsWatch (w : WatchState) (capacity : ℕ) : Type 0 where
   pub small : w.trail.vars < 2 ^ 30
@@ -29,6 +37,7 @@ pub record IsWatch (w : WatchState) (capacity : ℕ) : Type 0 where
   pub ascends : (i j : ℕ) (u v : Level) → i < j → slice_get w.levels i ≡ Some u →
       slice_get w.levels j ≡ Some v → u.start ≤ v.start
   pub few : length w.levels ≤ w.trail.vars + 1
+  pub levelled : AreLevelled w.trail.places w.levels
   pub room : w.trail.vars + 1 ≤ capacity
 
 -- The attached clauses stand in the arena, each in the lists of its first two literals, and what
@@ -51,6 +60,15 @@ pub record KeepsService (old new : WatchState) : Type 0 where
   pub keeps : (clauses : List Held) → Serves old clauses → Serves new clauses
 
 -- ---- what calls do
+
+-- with one more variable
+abbrev pub grown : WatchState → WatchState
+grown w = record {
+  trail = record { vars = w.trail.vars + 1; places = w.trail.places };
+  levels = w.levels;
+  head = w.head;
+  lists = w.lists ++ [] ∷ [] ∷ [];
+}
 
 -- with one more level
 abbrev pub decided : WatchState → WatchState
@@ -81,7 +99,7 @@ pub record MayAttach (w : WatchState) (c : Clause) : Type 0 where
   pub guarded : IsGuarded (literals_of w.trail.places) (literals_of (take w.head w.trail.places)) c
   pub levels : (k : ℕ) (v : Level) → slice_get w.levels k ≡ Some v →
       IsGuarded (literals_of (take v.start w.trail.places))
-        (literals_of (take v.looked (take v.start w.trail.places))) c
+      (literals_of (take v.looked (take v.start w.trail.places))) c
 
 -- the clause is attached, and nothing else has changed
 pub record HasAttached (old new : WatchState) (clauses : List Held) (r : ℕ) : Type 0 where
@@ -92,10 +110,6 @@ pub record HasAttached (old new : WatchState) (clauses : List Held) (r : ℕ) : 
   pub head : new.head ≡ old.head
 
 -- ---- compaction
-
--- no two references have the same new one
-pub record AreNamedApart (names : List (ℕ × ℕ)) : Type 0 where
-  pub apart : (q r s : ℕ) → new_name names q ≡ Some s → new_name names r ≡ Some s → q ≡ r
 
 -- each watcher's clause has its new reference, and nothing else has changed
 pub record IsRenamed (names : List (ℕ × ℕ)) (old new : WatchState) : Type 0 where
@@ -114,4 +128,4 @@ pub record IsRenamed (names : List (ℕ × ℕ)) (old new : WatchState) : Type 0
 -- after a compaction that gave these names, it serves what it served before
 pub record ServesRenamed (old new : WatchState) (names : List (ℕ × ℕ)) : Type 0 where
   pub serves : (clauses after : List Held) → Serves old clauses →
-      IsRenaming clauses after names → AreNamedApart names → Serves new after
+      IsRenaming clauses after names → Serves new after

@@ -2,9 +2,9 @@
 #![tactic(auto)]
 
 mod attachment;
+mod cause;
 mod lists;
 mod look;
-mod place;
 mod propagation;
 mod renaming;
 mod tables;
@@ -12,6 +12,5 @@ mod trail;
 mod visit;
 mod watch;
 
-pub use place::Place;
 pub use visit::Outcome;
 pub use watch::{Level, Watch};

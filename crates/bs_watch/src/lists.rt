@@ -1,5 +1,5 @@
 //! The watch lists: for each literal the clauses that watch it.
-ghost use Rattle.std.specs.Prelude.{◌≡◌, ◌<◌, [], length, replicate, slice_get, slice_set, Some, IfOk, OnOk, OnErr, map, swap_remove};
+ghost use Rattle.std.specs.Prelude.{◌≡◌, ◌<◌, [], ◌∷◌, ◌++◌, length, take, replicate, slice_get, slice_set, Some, IfOk, OnOk, OnErr, map, swap_remove};
 ghost use Rattle.bs_clause.specs.Literal.{code_of};
 ghost use Rattle.bs_watch.specs.Lists.{row, with_row, with_watcher, renamed_lists};
 
@@ -11,7 +11,7 @@ use std::marker::Model;
 
 /// A clause in a watch list, with one of its literals, the blocker: where that is true, the clause
 /// need not be read.
-#[derive(Clone, Copy, Debug, PartialEq, Eq)]
+#[derive(Clone, Copy)]
 pub struct Watcher {
     pub clause: Ref,
     pub blocker: Lit,
@@ -42,6 +42,31 @@ impl Lists {
             rows.push(Vec::new(alloc))?;
         }
         Ok(Lists { rows })
+    }
+
+    /// The number of lists.
+    pub fn rows(&self) -> usize
+        ensures { result ≡ length self.now }
+    {
+        self.rows.len()
+    }
+
+    /// Two more lists, which are empty.
+    pub fn grow(&mut self, alloc: Global) -> Result<(), NoMemory>
+        ensures ok { OnOk result (self.new ≡ self.old ++ [] ∷ [] ∷ []) }
+        ensures err { OnErr result (self.new ≡ self.old) }
+    {
+        self.rows.reserve(2)?;
+        let _ = self.rows.push(Vec::new(alloc));
+        let _ = self.rows.push(Vec::new(alloc));
+        Ok(())
+    }
+
+    /// Gives up all lists but the first so many.
+    pub fn cut(&mut self, count: usize)
+        ensures { self.new ≡ take count self.old }
+    {
+        self.rows.truncate(count);
     }
 
     /// The number of watchers of a literal.

@@ -10,7 +10,7 @@ use crate::trail::Trail;
 use bs_clause::Lit;
 
 /// What a look at a clause finds.
-#[derive(Clone, Copy, Debug, PartialEq, Eq)]
+#[derive(Clone, Copy)]
 pub enum Look {
     /// This literal of it is true.
     True(Lit),
@@ -32,9 +32,9 @@ fn free_place(trail: &Trail, codes: &[u32]) -> Option<usize>
     requires range { HasVariables trail.now.vars (map literal_of codes.now) }
     ensures found { IfSome result (λ k. (2 ≤ k) × (k < length codes.now)) }
     ensures free { IfSome result (λ k. ¬ IsFalseOn (literals_of trail.now.places)
-                     (literal_of (slice_index codes.now k))) }
+        (literal_of (slice_index codes.now k))) }
     ensures none { IfNone result (AreFalseFrom (literals_of trail.now.places)
-                     (map literal_of codes.now) 2) }
+        (map literal_of codes.now) 2) }
 {
     for place in 2..codes.len() {
         if !trail.is_true(Lit::from_code(codes[place]).negate()) {

@@ -21,7 +21,7 @@ pub fn look_on(
     requires guarded { AreGuarded lists.old arena.old.clauses trail.old.places head.old }
     requires head { head.old ≤ length trail.old.places }
     ensures advances { Advances level (scene_in trail.old lists.old arena.old)
-                         (scene_in trail.new lists.new arena.new) }
+        (scene_in trail.new lists.new arena.new) }
     ensures guarded { AreGuarded lists.new arena.new.clauses trail.new.places head.new }
     ensures head { head.new ≤ length trail.new.places }
     ensures ok { IfOk result (Propagated (scene_in trail.new lists.new arena.new)) }

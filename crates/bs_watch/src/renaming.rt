@@ -4,8 +4,8 @@ ghost use Rattle.bs_arena.specs.Renaming.{new_name};
 ghost use Rattle.bs_watch.specs.Lists.{renamed, renamed_lists};
 ghost use Rattle.bs_watch.specs.Tables.{renamed_cause};
 
+use crate::cause::Cause;
 use crate::lists::Watcher;
-use crate::place::Cause;
 use bs_arena::{Ref, Renaming};
 
 /// The watcher of the clause under its new reference.
@@ -33,7 +33,7 @@ pub fn rename_row(row: &mut Vec<Watcher>, names: &Renaming)
 /// Each watcher of each row.
 pub fn rename_rows(rows: &mut Vec<Vec<Watcher>>, names: &Renaming)
     ensures { map (λ v. v.items) rows.new.items
-              ≡ renamed_lists names.now.names (map (λ v. v.items) rows.old.items) }
+        ≡ renamed_lists names.now.names (map (λ v. v.items) rows.old.items) }
 {
     'rows: for code in 0..rows.len() {
         rename_row(&mut rows[code], names);

@@ -1,11 +1,11 @@
 //! The tables of a trail: values by literal code, causes by variable.
-ghost use Rattle.std.specs.Prelude.{◌≡◌, ◌⊎◌, ◌-◌, ◌+◌, ◌*◌, ◌^◌, ◌<◌, ◌≤◌, [], ◌∷◌, ◌++◌, false, length, replicate, slice_set, vec_len, vec_capacity, IfOk};
+ghost use Rattle.std.specs.Prelude.{◌≡◌, ◌⊎◌, ◌-◌, ◌+◌, ◌*◌, ◌^◌, ◌<◌, ◌≤◌, [], ◌∷◌, ◌++◌, false, length, replicate, slice_set, vec_len, vec_capacity, IfOk, IfSome, IfNone, OnOk};
 ghost use Rattle.bs_clause.specs.Literal.{code_of};
 ghost use Rattle.bs_watch.specs.Tables.{no_cause, either, IsNextOpen};
 
-use crate::place::Cause;
+use crate::cause::Cause;
 use bs_arena::Ref;
-use bs_clause::{Lit, NoMemory};
+use bs_clause::{Lit, NoMemory, Var};
 use std::alloc::Global;
 
 /// So many values, none true.
@@ -20,7 +20,10 @@ pub fn no_values(alloc: Global, count: usize) -> Result<Vec<bool>, NoMemory>
 pub fn no_causes(alloc: Global, count: usize) -> Result<Vec<Cause>, NoMemory>
     ensures { IfOk result (λ v. v.items ≡ replicate count no_cause) }
 {
-    let causes = vec![in alloc; Cause { reason: None, level: 0 }; count]?;
+    let causes = vec![in alloc; Cause {
+        reason: None,
+        level: 0
+    }; count]?;
     Ok(causes)
 }
 
@@ -80,4 +83,57 @@ pub fn next_open(values: &[bool], from: u32, last: u32) -> u32
         variable += 1;
     }
     variable
+}
+
+/// The variable, if it is not past the last.
+pub fn up_to(variable: u32, last: u32) -> Option<Var>
+    ensures some { IfSome result (λ v. (v.0 ≡ variable) × (variable ≤ last)) }
+    ensures none { IfNone result (last < variable) }
+{
+    if variable <= last {
+        Some(Var(variable))
+    } else {
+        None
+    }
+}
+
+/// Makes room in the tables for one more variable, so that there is room for a literal of each.
+pub fn make_room(
+    values: &mut Vec<bool>,
+    causes: &mut Vec<Cause>,
+    literals: &mut Vec<Lit>,
+    vars: usize,
+) -> Result<(), NoMemory>
+    ensures values { values.new.items ≡ values.old.items }
+    ensures causes { causes.new.items ≡ causes.old.items }
+    ensures literals { literals.new.items ≡ literals.old.items }
+    ensures kept { vec_capacity literals.old ≤ vec_capacity literals.new }
+    ensures for_values { OnOk result (vec_len values.new + 2 ≤ vec_capacity values.new) }
+    ensures for_causes { OnOk result (vec_len causes.new + 1 ≤ vec_capacity causes.new) }
+    ensures for_literals { OnOk result (vars ≤ vec_capacity literals.new) }
+{
+    values.reserve(2)?;
+    causes.reserve(1)?;
+    literals.reserve(vars.saturating_sub(literals.len()))?;
+    Ok(())
+}
+
+/// The values of one more variable where there is room.
+pub fn push_values(values: &mut Vec<bool>)
+    requires { vec_len values.old + 2 ≤ vec_capacity values.old }
+    ensures { values.new.items ≡ values.old.items ++ false ∷ false ∷ [] }
+{
+    let _ = values.push(false);
+    let _ = values.push(false);
+}
+
+/// The cause of one more variable where there is room.
+pub fn push_cause(causes: &mut Vec<Cause>)
+    requires { vec_len causes.old + 1 ≤ vec_capacity causes.old }
+    ensures { causes.new.items ≡ causes.old.items ++ no_cause ∷ [] }
+{
+    let _ = causes.push(Cause {
+        reason: None,
+        level: 0,
+    });
 }

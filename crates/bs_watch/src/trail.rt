@@ -1,13 +1,16 @@
 //! The trail: the literals that are true, the oldest first, each with its reason and its level.
-ghost use Rattle.std.specs.Prelude.{◌≡◌, ◌↔◌, ◌-◌, ◌+◌, ◌*◌, ◌^◌, ◌<◌, ◌≤◌, [], ◌∷◌, ◌++◌, false, length, map, take, replicate, slice_get, slice_set, vec_len, vec_capacity, Option, Some, None, IfOk, IfSome, IfNone, IsTrue, OnErr};
+ghost use Rattle.std.specs.Prelude.{◌≡◌, ◌↔◌, ◌-◌, ◌+◌, ◌*◌, ◌^◌, ◌<◌, ◌≤◌, [], ◌∷◌, ◌++◌, false, length, map, take, replicate, slice_get, slice_set, vec_len, vec_capacity, Option, Some, None, IfOk, IfSome, IfNone, IsTrue, OnOk, OnErr};
 ghost use Rattle.bs_clause.specs.Literal.{code_of};
 ghost use Rattle.bs_watch.specs.Trail.{IsTrueOn, IsFalseOn, IsOpenOn, IsAssignedOn, IsValueOn, IsFirstOpen, AreAssignedBelow};
 ghost use Rattle.bs_watch.specs.Places.{IsUnassigned, IsOnLevel, IsForcedBy, HasNoReason, IsLiteralAt, AreApart, literals_of, renamed_place, with_place};
 ghost use Rattle.bs_watch.specs.Tables.{no_cause};
 
-use crate::place::{Cause, Place};
+use crate::cause::Cause;
 use crate::renaming::rename_causes;
-use crate::tables::{lower, next_open, no_causes, no_values, push_literal, set_cause, set_value};
+use crate::tables::{
+    lower, make_room, next_open, no_causes, no_values, push_cause, push_literal, push_values,
+    set_cause, set_value, up_to,
+};
 use bs_arena::{Ref, Renaming};
 use bs_clause::{Lit, NoMemory, Var};
 use std::alloc::Global;
@@ -54,6 +57,27 @@ impl Trail {
             literals,
             first: 1,
         })
+    }
+
+    /// The number of variables.
+    pub fn vars(&self) -> u32
+        ensures { result ≡ self.now.vars }
+    {
+        self.vars
+    }
+
+    /// One more variable, which has no value.
+    pub fn grow(&mut self) -> Result<(), NoMemory>
+        requires { self.old.vars + 1 < 2 ^ 30 }
+        ensures ok { OnOk result (self.new ≡ record self.old { vars = self.old.vars + 1 }) }
+        ensures err { OnErr result (self.new ≡ self.old) }
+    {
+        let vars = self.vars as usize + 1;
+        make_room(&mut self.values, &mut self.causes, &mut self.literals, vars)?;
+        push_values(&mut self.values);
+        push_cause(&mut self.causes);
+        self.vars += 1;
+        Ok(())
     }
 
     /// The number of places that are taken, at most one a variable.
@@ -129,12 +153,9 @@ impl Trail {
         ensures some { IfSome result (λ v. IsFirstOpen (literals_of self.old.places) self.old.vars v.0) }
         ensures none { IfNone result (AreAssignedBelow (literals_of self.old.places) (self.old.vars + 1)) }
     {
-        self.first = next_open(self.values.as_slice(), self.first, self.vars);
-        if self.first <= self.vars {
-            Some(Var(self.first))
-        } else {
-            None
-        }
+        let next = next_open(self.values.as_slice(), self.first, self.vars);
+        self.first = next;
+        up_to(next, self.vars)
     }
 
     /// Takes the next place. It takes no memory.

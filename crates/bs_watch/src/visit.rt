@@ -21,7 +21,7 @@ pub enum Outcome {
 }
 
 /// What a visit does.
-#[derive(Clone, Copy, Debug, PartialEq, Eq)]
+#[derive(Clone, Copy)]
 pub enum Visit {
     /// The clause stays in the list: one of its literals is true.
     Stays,
@@ -46,9 +46,9 @@ pub fn visit_at(
     requires at { at < length (row lists.old falsified) }
     requires met { AreMet (scene_in trail.old lists.old arena.old) falsified at }
     ensures advances { Advances level (scene_in trail.old lists.old arena.old)
-                         (scene_in trail.new lists.new arena.new) }
+        (scene_in trail.new lists.new arena.new) }
     ensures ok { IfOk result (Visited (scene_in trail.old lists.old arena.old)
-                   (scene_in trail.new lists.new arena.new) falsified at) }
+        (scene_in trail.new lists.new arena.new) falsified at) }
 {
     let watcher = lists.get(falsified, at);
     if trail.is_true(watcher.blocker) {
@@ -102,7 +102,7 @@ pub fn visit_all(
     requires range { falsified.variable ≤ trail.old.vars }
     requires lost { IsFalseOn (literals_of trail.old.places) falsified }
     ensures advances { Advances level (scene_in trail.old lists.old arena.old)
-                         (scene_in trail.new lists.new arena.new) }
+        (scene_in trail.new lists.new arena.new) }
     ensures ok { IfOk result (AllVisited (scene_in trail.new lists.new arena.new) falsified) }
 {
     let mut at = 0;

@@ -1,20 +1,19 @@
 //! A trail with levels and reasons, and the watched literals of clauses.
-ghost use Rattle.std.specs.Prelude.{◌≡◌, ◌↔◌, ◌+◌, ◌^◌, ◌<◌, ◌≤◌, [], length, take, slice_get, IfOk, IfSome, IfNone, Some, IsSome, IsTrue, OnOk, OnErr};
-ghost use Rattle.bs_watch.specs.Trail.{IsTrueOn, IsOpenOn};
-ghost use Rattle.bs_watch.specs.Places.{IsUnassigned, IsPlaceOf, literals_of};
+ghost use Rattle.std.specs.Prelude.{◌≡◌, ◌+◌, ◌^◌, ◌<◌, ◌≤◌, [], length, take, slice_get, IfOk, IfSome, IfNone, IsSome, OnOk, OnErr};
+ghost use Rattle.bs_watch.specs.Trail.{IsAssignedOn, IsValueOn, IsFirstOpen, AreAssignedBelow};
+ghost use Rattle.bs_watch.specs.Places.{IsUnassigned, IsOnLevel, IsForcedBy, HasNoReason, AreApart, literals_of};
 ghost use Rattle.bs_watch.specs.Scene.{IsWatchable, Advances, Propagated};
 ghost use Rattle.bs_watch.specs.Lists.{IsAttached};
 ghost use Rattle.bs_arena.specs.Arena.{held_at, literals_at};
-ghost use Rattle.bs_watch.specs.Watch.{Serves, ServesAll, HasNone, KeepsService, MayAttach, HasAttached, HasGoneBack, ServesRenamed, scene, decided, assigned, renamed_watch};
+ghost use Rattle.bs_watch.specs.Watch.{Serves, ServesAll, HasNone, KeepsService, MayAttach, HasAttached, HasGoneBack, ServesRenamed, AreLevelled, scene, grown, decided, assigned, renamed_watch};
 
 use crate::attachment::join_two;
 use crate::lists::Lists;
-use crate::place::Place;
 use crate::propagation::look_on;
 use crate::trail::Trail;
 use crate::visit::Outcome;
 use bs_arena::{Arena, Ref, Renaming};
-use bs_clause::{Lit, NoMemory};
+use bs_clause::{Lit, NoMemory, Var};
 use std::alloc::Global;
 use std::marker::Model;
 
@@ -67,6 +66,28 @@ impl Watch {
         })
     }
 
+    /// One more variable, the last, which has no value and no clause.
+    pub fn grow(&mut self, alloc: Global) -> Result<Var, NoMemory>
+        requires { self.old.trail.vars + 1 < 2 ^ 30 }
+        ensures variable { IfOk result (λ v. v.0 ≡ self.old.trail.vars + 1) }
+        ensures ok { OnOk result (self.new ≡ grown self.old) }
+        ensures serves { OnOk result (KeepsService self.old self.new) }
+        ensures err { OnErr result (self.new ≡ self.old) }
+    {
+        let vars = self.trail.vars() + 1;
+        self.levels
+            .reserve((vars as usize + 1).saturating_sub(self.levels.len()))?;
+        let rows = self.lists.rows();
+        self.lists.grow(alloc)?;
+        match self.trail.grow() {
+            Ok(()) => Ok(Var(vars)),
+            Err(fault) => {
+                self.lists.cut(rows);
+                Err(fault)
+            }
+        }
+    }
+
     /// Attaches a clause whose first two literals are guarded: where one of them is false and has
     /// been looked at, the clause has a true literal.
     pub fn attach(&mut self, arena: &Arena, r: Ref) -> Result<(), NoMemory>
@@ -79,7 +100,71 @@ impl Watch {
         ensures err { OnErr result (self.new ≡ self.old) }
     {
         let codes = arena.lits(r);
-        join_two(&mut self.lists, r, Lit::from_code(codes[0]), Lit::from_code(codes[1]))
+        join_two(
+            &mut self.lists,
+            r,
+            Lit::from_code(codes[0]),
+            Lit::from_code(codes[1]),
+        )
+    }
+
+    /// The number of variables.
+    pub fn vars(&self) -> u32
+        ensures { result ≡ self.now.trail.vars }
+    {
+        self.trail.vars()
+    }
+
+    /// The literals that are true, in the order in which they were assigned.
+    pub fn trail(&self) -> &[Lit]
+        ensures { result.now ≡ literals_of self.now.trail.places }
+    {
+        self.trail.literals()
+    }
+
+    /// Whether the literal is true or false, if its variable has a value.
+    pub fn value(&self, lit: Lit) -> Option<bool>
+        requires { lit.variable ≤ self.now.trail.vars }
+        ensures { IsValueOn (literals_of self.now.trail.places) lit result }
+    {
+        self.trail.value(lit)
+    }
+
+    /// The level of a variable that has a value.
+    pub fn level_of(&self, lit: Lit) -> u32
+        requires { IsAssignedOn (literals_of self.now.trail.places) lit }
+        ensures { IsOnLevel self.now.trail.places lit result }
+    {
+        self.trail.level_of(lit)
+    }
+
+    /// The clause that forced the literal's variable, if it has a value and was forced.
+    pub fn reason(&self, lit: Lit) -> Option<Ref>
+        requires { lit.variable ≤ self.now.trail.vars }
+        ensures some { IfSome result (IsForcedBy self.now.trail.places lit) }
+        ensures none { IfNone result (HasNoReason self.now.trail.places lit) }
+    {
+        self.trail.reason(lit)
+    }
+
+    /// The lowest variable without a value. The search begins where it ended before, and goes back
+    /// only as far as the trail does.
+    pub fn first_open(&mut self) -> Option<Var>
+        ensures same { self.new ≡ self.old }
+        ensures some { IfSome result (λ v. IsFirstOpen (literals_of self.old.trail.places) self.old.trail.vars v.0) }
+        ensures none { IfNone result (AreAssignedBelow (literals_of self.old.trail.places) (self.old.trail.vars + 1)) }
+    {
+        self.trail.first_open()
+    }
+
+    /// What holds of every watch.
+    pub fn holds_levels(&self)
+        ensures levels { AreLevelled self.now.trail.places self.now.levels }
+        ensures apart { AreApart self.now.trail.places }
+        ensures room { length self.now.trail.places ≤ self.now.trail.vars }
+        ensures looked { self.now.head ≤ length self.now.trail.places }
+    {
+        let _ = self.trail.len();
     }
 
     /// The number of the present level.
@@ -117,12 +202,18 @@ impl Watch {
         requires { Serves self.old arena.old.clauses }
         ensures serves { Serves self.new arena.new.clauses }
         ensures advances { Advances (length self.old.levels) (scene self.old arena.old.clauses)
-                             (scene self.new arena.new.clauses) }
+            (scene self.new arena.new.clauses) }
         ensures levels { self.new.levels ≡ self.old.levels }
         ensures ok { IfOk result (Propagated (scene self.new arena.new.clauses)) }
     {
         let level = self.levels.len() as u32;
-        look_on(&mut self.trail, &mut self.lists, arena, level, &mut self.head)
+        look_on(
+            &mut self.trail,
+            &mut self.lists,
+            arena,
+            level,
+            &mut self.head,
+        )
     }
 
     /// Goes back to the end of a level.

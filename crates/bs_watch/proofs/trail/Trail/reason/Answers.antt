@@ -1,8 +1,8 @@
-use Rattle.std.proofs.Common.{◌≡◌, ◌≤◌, ◌<◌, ◌+◌, List, length, ap, ◌∙◌, sym, subst, arith, get_or}
+use Rattle.std.proofs.Common.{◌≡◌, ◌≤◌, ◌<◌, ◌+◌, List, length, ap, ◌∙◌, sym, subst, arith, get_or, Some}
 use Rattle.std.specs.Prelude.{IfSome, IfNone}
 use Rattle.std.proofs.lemmas.List.{get_or_default}
 use Rattle.bs_clause.specs.Literal.{Literal}
-use Rattle.bs_watch.specs.declared.place.Cause.{Cause}
+use Rattle.bs_watch.specs.declared.cause.Cause.{Cause}
 use Rattle.bs_watch.specs.Trail.{IsAssignedOn, IsOpenOn, IsValueOn}
 use Rattle.bs_watch.specs.Places.{TrailState, IsForcedBy, HasNoReason, literals_of}
 use Rattle.bs_watch.specs.Tables.{cause_of, no_cause}

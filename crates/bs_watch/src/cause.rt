@@ -1,0 +1,9 @@
+//! Why a variable has a value.
+use bs_arena::Ref;
+
+/// The clause that forced a variable, and its level. A decision and an assumption have no clause.
+#[derive(Clone, Copy)]
+pub struct Cause {
+    pub reason: Option<Ref>,
+    pub level: u32,
+}
