@@ -7,13 +7,13 @@ use Rattle.std.proofs.lemmas.List.{take_more, take_all, length-drop, drop_more, 
 use Rattle.std.proofs.lemmas.List.Folds.{list_any-append}
 use Rattle.std.proofs.lemmas.List.Sums.{length-filter}
 use Rattle.bs_log.specs.Refusal.{denies}
-use Rattle.bs_report.specs.Valid.{is_spent, finishes_in}
+use Rattle.bs_good.specs.Valid.{finishes_in}
 use Rattle.std.proofs.lemmas.List.Elements.{filter_map-append}
 use Rattle.bs_audit.specs.Logged.{ends_step}
 use Rattle.bs_clause.specs.Literal.{Clause}
 use Rattle.bs_log.specs.declared.line.Line.{Line}
 use Rattle.bs_log.specs.declared.line.Line.TheVariants.{Solve, Lemma, Block, Finish, Retire, Delete}
-use Rattle.bs_log.specs.Steps.{steps_of, onto_step, last_solve, is_lemma_line, block_of_line, lemma_of_line, finish_of_line}
+use Rattle.bs_log.specs.Steps.{steps_of, onto_step, last_solve, is_lemma_line, block_of_line, lemma_of_line, finish_of_line, is_spent}
 use Rattle.bs_audit.specs.StepLines.{is_retire, is_delete, undeleted, IsSplit}
 
 -- ---- the first step

@@ -7,12 +7,12 @@ use Rattle.bs_scan.specs.Dump.{signatures_of}
 use Rattle.bs_scan.specs.declared.dump.Dump.{Dump}
 use Rattle.bs_log.specs.Shown.{Basis}
 use Rattle.bs_encode.specs.Assuming.{basis_of}
-use Rattle.bs_report.specs.declared.part.Part.{Part}
+use Rattle.bs_good.specs.declared.part.Part.{Part}
 use Rattle.bs_report.specs.declared.report.Report.{Report}
-use Rattle.bs_report.specs.Chain.{present_of}
-use Rattle.bs_report.specs.Crash.{Crash}
-use Rattle.bs_report.specs.Good.{IsGood}
-use Rattle.bs_report.specs.Valid.{IsValid}
+use Rattle.bs_good.specs.Chain.{present_of}
+use Rattle.bs_scan.specs.Crash.{Crash}
+use Rattle.bs_good.specs.Good.{IsGood}
+use Rattle.bs_good.specs.Valid.{IsValid}
 use Rattle.bs_audit.specs.declared.finding.Finding.{Finding}
 use Rattle.bs_audit.specs.declared.finding.Finding.TheVariants.{Accepted, Rejected}
 

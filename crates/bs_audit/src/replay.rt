@@ -25,7 +25,7 @@ pub struct Replay<'a> {
 impl<'a> Model for Replay<'a> {
     ghost use Rattle.std.specs.Prelude.{◌≡◌, length};
     ghost use Rattle.bs_net.specs.Netlist.{circuit};
-    ghost use Rattle.bs_report.specs.Crash.{Crash};
+    ghost use Rattle.bs_scan.specs.Crash.{Crash};
     ghost use Rattle.bs_audit.specs.Finding.{crash_for};
 
     ghost Value = { Crash };

@@ -2,7 +2,7 @@
 ghost use Rattle.std.specs.Prelude.{◌≡◌, ◌&&◌, nat_le, length, None, option_map};
 ghost use Rattle.std.specs.List.{last_or};
 ghost use Rattle.std.specs.Option.{option_to_list};
-ghost use Rattle.bs_report.specs.Valid.{cause_after, cause_at, cause_of_end, is_cause};
+ghost use Rattle.bs_good.specs.Valid.{cause_after, cause_at, cause_of_end, is_cause};
 ghost use Rattle.bs_scan.specs.Present.{present_in};
 
 use bs_bits::Bits;

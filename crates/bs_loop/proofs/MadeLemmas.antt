@@ -17,11 +17,11 @@ use Rattle.bs_encode.proofs.AssumingLemmas.{length_steps_from, steps_from_more}
 use Rattle.bs_report.specs.declared.report.ListEnd.TheVariants.{Conflicts}
 use Rattle.bs_report.specs.declared.report.Step.{Step}
 use Rattle.bs_report.specs.declared.report.Budgets.{Budgets}
-use Rattle.bs_report.specs.Crash.{Crash}
-use Rattle.bs_report.specs.Step.{IsRightStep}
-use Rattle.bs_report.specs.Chain.{present_of}
-use Rattle.bs_report.specs.Valid.{blocks_due, are_right_blocks, blocks_in, is_right_finish, finishes_in}
-use Rattle.bs_report.proofs.LoopLemmas.{follow_more}
+use Rattle.bs_scan.specs.Crash.{Crash}
+use Rattle.bs_good.specs.Step.{IsRightStep}
+use Rattle.bs_good.specs.Chain.{present_of}
+use Rattle.bs_good.specs.Valid.{blocks_due, are_right_blocks, blocks_in, is_right_finish, finishes_in}
+use Rattle.bs_good.proofs.LoopLemmas.{follow_more}
 use Rattle.bs_preimage.specs.Preimage.{PreimageState, next_guard}
 use Rattle.bs_preimage.specs.Listed.{HasListed}
 use Rattle.bs_loop.specs.Crash.{crash_of}

@@ -15,9 +15,9 @@ use Rattle.bs_chip.specs.declared.replay.Hit.{Hit}
 use Rattle.bs_chip.specs.Chip.{Chipped, circuit_in, runs_in, moment_of, IsDumpOf}
 use Rattle.bs_report.specs.declared.report.Cand.{Cand}
 use Rattle.bs_report.specs.declared.report.HitLine.{HitLine}
-use Rattle.bs_report.specs.Step.{listed, hit_of, IsCandidate}
-use Rattle.bs_report.specs.Chain.{present_of_hit}
-use Rattle.bs_report.proofs.ExecutionLemmas.{led_widths}
+use Rattle.bs_good.specs.Step.{listed, hit_of, IsCandidate}
+use Rattle.bs_good.specs.Chain.{present_of_hit}
+use Rattle.bs_good.proofs.ExecutionLemmas.{led_widths}
 use Rattle.bs_loop.specs.Crash.{chip_alone, IsDumpFor}
 use Rattle.bs_loop.specs.Turn.{IsMetAt}
 

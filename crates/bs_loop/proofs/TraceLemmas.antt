@@ -12,11 +12,11 @@ use Rattle.bs_report.specs.declared.report.Cand.{Cand}
 use Rattle.bs_report.specs.declared.report.HitLine.{HitLine}
 use Rattle.bs_report.specs.declared.report.Step.{Step}
 use Rattle.bs_report.specs.declared.report.Report.{Report}
-use Rattle.bs_report.specs.Crash.{Crash}
-use Rattle.bs_report.specs.Step.{listed, IsRightStep}
-use Rattle.bs_report.specs.Trace.{hit_state, input_for}
-use Rattle.bs_report.specs.Good.{IsGood}
-use Rattle.bs_report.proofs.ProgressLemmas.{hit_at}
+use Rattle.bs_scan.specs.Crash.{Crash}
+use Rattle.bs_good.specs.Step.{listed, IsRightStep}
+use Rattle.bs_good.specs.Trace.{hit_state, input_for}
+use Rattle.bs_good.specs.Good.{IsGood}
+use Rattle.bs_good.proofs.ProgressLemmas.{hit_at}
 
 record Found (cands : List Cand) (s : List Bool) : Type 0 where
   cand : Cand

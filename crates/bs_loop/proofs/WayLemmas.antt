@@ -10,9 +10,9 @@ use Rattle.bs_report.specs.declared.report.Step.{Step}
 use Rattle.bs_report.specs.declared.report.Stop.{Stop}
 use Rattle.bs_report.specs.declared.report.Stop.TheVariants.{Reset, Length}
 use Rattle.bs_report.specs.declared.report.Budgets.{Budgets}
-use Rattle.bs_report.specs.Step.{IsRightStep}
-use Rattle.bs_report.specs.Stop.{StopsFor}
-use Rattle.bs_report.proofs.LoopLemmas.{last_present_more}
+use Rattle.bs_good.specs.Step.{IsRightStep}
+use Rattle.bs_good.specs.Stop.{StopsFor}
+use Rattle.bs_good.proofs.LoopLemmas.{last_present_more}
 use Rattle.bs_preimage.specs.Preimage.{PreimageState, fresh}
 use Rattle.bs_loop.specs.Crash.{crash_of, IsBudget, IsDumpFor}
 use Rattle.bs_loop.specs.Made.{HasMade}

@@ -6,7 +6,7 @@ use Rattle.bs_chip.specs.Chip.{Chipped, IsFitting, circuit_in, runs_in}
 use Rattle.bs_scan.specs.declared.dump.Dump.{Dump}
 use Rattle.bs_scan.specs.Dump.{signatures_of}
 use Rattle.bs_report.specs.declared.report.Budgets.{Budgets}
-use Rattle.bs_report.specs.Crash.{Crash}
+use Rattle.bs_scan.specs.Crash.{Crash}
 
 -- the chip, its recorded runs, and a dump of it
 abbrev pub crash_of : Chipped → Dump → Crash

@@ -14,10 +14,10 @@ use Rattle.bs_encode.specs.Assuming.{assumptions_for, block_for, problem_of}
 use Rattle.bs_report.specs.declared.report.ListEnd.TheVariants.{Conflicts}
 use Rattle.bs_report.specs.declared.report.Step.{Step}
 use Rattle.bs_report.specs.declared.report.Budgets.{Budgets}
-use Rattle.bs_report.specs.Crash.{Crash}
-use Rattle.bs_report.specs.Step.{asked_of, IsRightStep, IsRightEnd}
-use Rattle.bs_report.specs.Chain.{present_of, last_present, Follow}
-use Rattle.bs_report.specs.Valid.{blocks_due, are_right_blocks, blocks_in, is_right_finish, finishes_in}
+use Rattle.bs_scan.specs.Crash.{Crash}
+use Rattle.bs_good.specs.Step.{asked_of, IsRightStep, IsRightEnd}
+use Rattle.bs_good.specs.Chain.{present_of, last_present, Follow}
+use Rattle.bs_good.specs.Valid.{blocks_due, are_right_blocks, blocks_in, is_right_finish, finishes_in}
 use Rattle.bs_preimage.specs.Preimage.{PreimageState}
 
 -- the clauses of the crash's circuit and signature

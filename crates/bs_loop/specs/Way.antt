@@ -5,8 +5,8 @@ use Rattle.bs_chip.specs.Chip.{Chipped}
 use Rattle.bs_report.specs.declared.report.Step.{Step}
 use Rattle.bs_report.specs.declared.report.Stop.{Stop}
 use Rattle.bs_report.specs.declared.report.Budgets.{Budgets}
-use Rattle.bs_report.specs.Crash.{Crash}
-use Rattle.bs_report.specs.Stop.{StopsFor}
+use Rattle.bs_scan.specs.Crash.{Crash}
+use Rattle.bs_good.specs.Stop.{StopsFor}
 use Rattle.bs_preimage.specs.Preimage.{PreimageState}
 use Rattle.bs_loop.specs.Crash.{crash_of, IsDumpFor}
 use Rattle.bs_loop.specs.Made.{HasMade, StandsAt}

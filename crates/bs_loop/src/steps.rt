@@ -3,8 +3,8 @@ ghost use Rattle.std.specs.Prelude.{◌≡◌, ◌≤◌, ◌<◌, ◌∷◌, �
 ghost use Rattle.bs_scan.specs.Dump.{signatures_of};
 ghost use Rattle.bs_scan.specs.Moments.{first_moment};
 ghost use Rattle.bs_chip.specs.Chip.{circuit_in, runs_in, moment_of, IsDumpOf};
-ghost use Rattle.bs_report.specs.Step.{listed, hit_of};
-ghost use Rattle.bs_report.specs.Valid.{cause_of_end};
+ghost use Rattle.bs_good.specs.Step.{listed, hit_of};
+ghost use Rattle.bs_good.specs.Valid.{cause_of_end};
 ghost use Rattle.bs_loop.specs.Crash.{chip_alone, IsBudget, IsDumpFor};
 ghost use Rattle.bs_loop.specs.Turn.{IsMetAt, IsStepBack, HasStepped, HasStopped};
 

@@ -14,7 +14,7 @@ use Rattle.bs_log.specs.declared.line.Line.{Line}
 use Rattle.bs_log.specs.declared.line.Line.TheVariants.{Solve, Lemma, Block, Finish, Retire, Delete}
 use Rattle.bs_log.specs.History.{History, step_of}
 use Rattle.bs_log.specs.Refusal.{denies}
-use Rattle.bs_log.specs.Steps.{is_lemma_line, block_of_line, lemma_of_line, last_solve}
+use Rattle.bs_log.specs.Steps.{is_lemma_line, block_of_line, lemma_of_line, last_solve, is_spent}
 use Rattle.bs_net.proofs.NextLemmas.{bits_eq_Decides}
 use Rattle.bs_scan.proofs.SignatureLemmas.{bits_same_is}
 use Rattle.bs_scan.proofs.MomentLemmas.{each_append}
@@ -29,8 +29,8 @@ use Rattle.bs_encode.specs.Assuming.{block_for}
 use Rattle.bs_report.specs.declared.report.Cand.{Cand}
 use Rattle.bs_report.specs.declared.report.ListEnd.{ListEnd}
 use Rattle.bs_report.specs.declared.report.ListEnd.TheVariants.{Finished, Candidates, Conflicts}
-use Rattle.bs_report.specs.Step.{listed}
-use Rattle.bs_report.specs.Valid.{blocks_due, is_spent}
+use Rattle.bs_good.specs.Step.{listed}
+use Rattle.bs_good.specs.Valid.{blocks_due}
 use Rattle.bs_preimage.specs.Turn.{Extends, Keeps, HasSearched, MayTurn, HasListedOne, HasRefutedAll, HasSpent, IsShownIn, block_in, guard_in, steps_after}
 use Rattle.bs_preimage.specs.Finding.{is_inner, HasLogged, IsAgain, IsUnderWay, HasEndedSearch}
 use Rattle.bs_preimage.proofs.BoundLemmas.{runs_over}

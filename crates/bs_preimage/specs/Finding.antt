@@ -6,14 +6,14 @@ use Rattle.bs_clause.specs.Literal.{Literal, Clause}
 use Rattle.bs_clause.specs.UnitRun.{IsUnitRun}
 use Rattle.bs_log.specs.declared.line.Line.{Line}
 use Rattle.bs_log.specs.declared.line.Line.TheVariants.{Solve, Lemma, Block}
-use Rattle.bs_log.specs.Steps.{block_of_line, last_solve}
+use Rattle.bs_log.specs.Steps.{block_of_line, last_solve, is_spent}
 use Rattle.bs_encode.specs.Encoded.{Encoded}
 use Rattle.bs_encode.specs.Assuming.{block_for}
 use Rattle.bs_report.specs.declared.report.Cand.{Cand}
 use Rattle.bs_report.specs.declared.report.ListEnd.{ListEnd}
 use Rattle.bs_report.specs.declared.report.ListEnd.TheVariants.{Finished, Candidates, Conflicts}
-use Rattle.bs_report.specs.Step.{listed}
-use Rattle.bs_report.specs.Valid.{blocks_due, is_spent}
+use Rattle.bs_good.specs.Step.{listed}
+use Rattle.bs_good.specs.Valid.{blocks_due}
 use Rattle.bs_solve.specs.declared.stage.Stage.TheVariants.{Blocked, Ended, Stopped}
 use Rattle.bs_solve.specs.Book.{standing}
 use Rattle.bs_solve.specs.Search.{assumed}

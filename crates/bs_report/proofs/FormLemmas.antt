@@ -7,6 +7,7 @@ use Rattle.std.proofs.lemmas.Bool.{and_parts, and_from, le-leb, leb-true, lt-ltb
 use Rattle.bs_bits.specs.Text.{bits_text, bits_of, digit_of}
 use Rattle.bs_bits.specs.Lines.{words_of, number_in, digits_in, is_digits, is_canonical}
 use Rattle.bs_bits.proofs.TextLemmas.{bits_again}
+use Rattle.bs_bits.proofs.LineTextLemmas.{Lacks, lacks_append, bits_lack, number_lacks}
 use Rattle.bs_bits.proofs.NumberLemmas.{decimal_canonical, number_of_decimal}
 use Rattle.bs_clause.specs.Literal.{Literal}
 use Rattle.bs_log.specs.declared.line.Line.{Line}
@@ -15,6 +16,7 @@ use Rattle.bs_log.specs.LineForms.{IsId, HasVariable, HasText}
 use Rattle.bs_log.specs.LineReading.{id_in}
 use Rattle.bs_log.specs.LineText.{line_text, literal_text, id_text}
 use Rattle.bs_log.proofs.WordLemmas.{id_of_decimal, IsWord, words_joined}
+use Rattle.bs_report.specs.declared.limits.TheConstants.{MAX_STEPS, MAX_CANDIDATES, MAX_CONFLICTS}
 use Rattle.bs_report.specs.declared.report.Budgets.{Budgets}
 use Rattle.bs_report.specs.declared.report.Cand.{Cand}
 use Rattle.bs_report.specs.declared.report.HitLine.{HitLine}
@@ -24,41 +26,6 @@ use Rattle.bs_report.specs.declared.report.Stop.{Stop}
 use Rattle.bs_report.specs.declared.report.Stop.TheVariants.{Reset, Length, Nohit, Empty, Candidates, Conflicts}
 use Rattle.bs_report.specs.Forms.{◌>>=◌, next_in, behind, at_end, within, number_within, number_behind, bits_behind, count_in, bits_in, budgets_in, cand_in, end_of, end_in, moment_in, hit_in, stop_in}
 use Rattle.bs_report.specs.Text.{end_word, stop_word, HasEndText}
-
--- ---- bytes that do not occur
-
-abbrev pub Lacks : ℕ → List ℕ → Type 0
-Lacks byte text = Each (λ b. (b == byte) ≡ false) text
-
-pub both_lack : (byte : ℕ) (a b : List ℕ) → Lacks byte a → Lacks byte b → Lacks byte (a ++ b)
-both_lack byte [] b ha hb = hb
-both_lack byte (x ∷ a) b ha hb = (ha.0, both_lack byte a b ha.1 hb)
-
-digits_lack : (byte : ℕ) (text : List ℕ) → byte < 46 → is_digits text ≡ true → Lacks byte text
-digits_lack byte [] low e = tt
-digits_lack byte (b ∷ bs) low e =
-    let all = and_parts (nat_le 48 b && nat_le b 57) (is_digits bs) e in
-    let range = and_parts (nat_le 48 b) (nat_le b 57) all.0 in
-    (ne_eqb b byte (λ (same : b ≡ byte). omega (arith, leb-true 48 b range.0, same, low)), digits_lack byte bs low all.1)
-
-canonical_digits : (text : List ℕ) → is_canonical text ≡ true → is_digits text ≡ true
-canonical_digits [] e = cc
-canonical_digits (d ∷ ds) e = (and_parts (is_digits (d ∷ ds)) _ e).0
-
-pub number_lacks : (byte n : ℕ) → byte < 46 → n < 2 ^ 64 → Lacks byte (decimal n)
-number_lacks byte n low h = digits_lack byte (decimal n) low (canonical_digits (decimal n) (decimal_canonical n h))
-
-digit_lacks : (byte : ℕ) (b : Bool) → byte < 46 → (digit_of b == byte) ≡ false
-digit_lacks byte false low = ne_eqb 48 byte (λ (same : 48 ≡ byte). omega (arith, same, low))
-digit_lacks byte true low = ne_eqb 49 byte (λ (same : 49 ≡ byte). omega (arith, same, low))
-
-all_digits_lack : (byte : ℕ) (bs : List Bool) → byte < 46 → Lacks byte (map digit_of bs)
-all_digits_lack byte [] low = tt
-all_digits_lack byte (b ∷ bs) low = (digit_lacks byte b low, all_digits_lack byte bs low)
-
-pub bits_lack : (byte : ℕ) (bs : List Bool) → byte < 46 → Lacks byte (bits_text bs)
-bits_lack byte [] low = (ne_eqb 46 byte (λ (same : 46 ≡ byte). omega (arith, same, low)), tt)
-bits_lack byte (b ∷ bs) low = all_digits_lack byte (b ∷ bs) low
 
 -- ---- words
 
@@ -118,13 +85,13 @@ bits_line_again tag text bs w t =
     ap (λ (ws : List (List ℕ)). bits_behind tag ws >>= λ found. at_end found.1 found.0) w
     ∙ given (bits_behind tag (tag ∷ bits_text bs ∷ [])) (bs, []) (λ found. at_end found.1 found.0) (bits_behind_again tag bs [] t)
 
-pub budgets_again : (b : Budgets) → 1 ≤ b.steps → b.steps ≤ 65536 → 1 ≤ b.candidates → b.candidates ≤ 65536 → 1 ≤ b.conflicts → b.conflicts ≤ 2 ^ 40 →
+pub budgets_again : (b : Budgets) → 1 ≤ b.steps → b.steps ≤ MAX_STEPS → 1 ≤ b.candidates → b.candidates ≤ MAX_CANDIDATES → 1 ≤ b.conflicts → b.conflicts ≤ MAX_CONFLICTS →
     budgets_in (codes "asked " ++ (decimal b.steps ++ (codes " candidates " ++ (decimal b.candidates ++ (codes " conflicts " ++ decimal b.conflicts))))) ≡ Some b
 budgets_again b sl su cl cu fl fu =
-    ap (λ (ws : List (List ℕ)). number_behind (codes "asked") 1 65536 ws >>= first) words
-    ∙ (given _ (b.steps, after_steps) first (number_behind_again (codes "asked") 1 65536 b.steps after_steps refl sl su (omega (arith, su)))
-    ∙ (given _ (b.candidates, after_candidates) (second b.steps) (number_behind_again (codes "candidates") 1 65536 b.candidates after_candidates refl cl cu (omega (arith, cu)))
-    ∙ given _ (b.conflicts, []) (third b.steps b.candidates) (number_behind_again (codes "conflicts") 1 (2 ^ 40) b.conflicts [] refl fl fu (omega (arith, fu)))))
+    ap (λ (ws : List (List ℕ)). number_behind (codes "asked") 1 MAX_STEPS ws >>= first) words
+    ∙ (given _ (b.steps, after_steps) first (number_behind_again (codes "asked") 1 MAX_STEPS b.steps after_steps refl sl su (omega (arith, su)))
+    ∙ (given _ (b.candidates, after_candidates) (second b.steps) (number_behind_again (codes "candidates") 1 MAX_CANDIDATES b.candidates after_candidates refl cl cu (omega (arith, cu)))
+    ∙ given _ (b.conflicts, []) (third b.steps b.candidates) (number_behind_again (codes "conflicts") 1 MAX_CONFLICTS b.conflicts [] refl fl fu (omega (arith, fu)))))
   where
     after_candidates : List (List ℕ)
     after_candidates = codes "conflicts" ∷ decimal b.conflicts ∷ []
@@ -136,10 +103,10 @@ budgets_again b sl su cl cu fl fu =
     third s c conflicts = at_end conflicts.1 (record { steps = s; candidates = c; conflicts = conflicts.0 })
 
     second : ℕ → ℕ × List (List ℕ) → Option Budgets
-    second s candidates = number_behind (codes "conflicts") 1 (2 ^ 40) candidates.1 >>= third s candidates.0
+    second s candidates = number_behind (codes "conflicts") 1 MAX_CONFLICTS candidates.1 >>= third s candidates.0
 
     first : ℕ × List (List ℕ) → Option Budgets
-    first steps = number_behind (codes "candidates") 1 65536 steps.1 >>= second steps.0
+    first steps = number_behind (codes "candidates") 1 MAX_CANDIDATES steps.1 >>= second steps.0
 
     words : words_of (codes "asked " ++ (decimal b.steps ++ (codes " candidates " ++ (decimal b.candidates ++ (codes " conflicts " ++ decimal b.conflicts))))) ≡ codes "asked" ∷ decimal b.steps ∷ after_steps
     words =
@@ -213,16 +180,16 @@ words_of_bits tag bs w = words_joined tag (bits_text bs ∷ []) (w, (bits_word b
 -- ---- log lines
 
 id_lacks : (n : ℕ) → IsId n → Lacks 10 (id_text n)
-id_lacks n h = both_lack 10 (decimal n) (codes " ") (number_lacks 10 n (omega arith) h.1) (refl, tt)
+id_lacks n h = lacks_append 10 (decimal n) (codes " ") (number_lacks 10 n (omega arith) h.1) (refl, tt)
 
 ids_lack : (ids : List ℕ) → Each IsId ids → Lacks 10 (flat_map id_text ids)
 ids_lack [] h = tt
-ids_lack (n ∷ ns) h = both_lack 10 (id_text n) (flat_map id_text ns) (id_lacks n h.0) (ids_lack ns h.1)
+ids_lack (n ∷ ns) h = lacks_append 10 (id_text n) (flat_map id_text ns) (id_lacks n h.0) (ids_lack ns h.1)
 
 literal_lacks : (l : Literal) → HasVariable l → Lacks 10 (literal_text l)
 literal_lacks l h =
-    both_lack 10 (cond l.positive [] (codes "-")) (decimal l.variable ++ codes " ") (by l.positive)
-    (both_lack 10 (decimal l.variable) (codes " ") (number_lacks 10 l.variable (omega arith) (let small = h.1 in omega (arith, small))) (refl, tt))
+    lacks_append 10 (cond l.positive [] (codes "-")) (decimal l.variable ++ codes " ") (by l.positive)
+    (lacks_append 10 (decimal l.variable) (codes " ") (number_lacks 10 l.variable (omega arith) (let small = h.1 in omega (arith, small))) (refl, tt))
   where
     by : (b : Bool) → Lacks 10 (cond b [] (codes "-"))
     by true = tt
@@ -230,19 +197,19 @@ literal_lacks l h =
 
 literals_lack : (ls : List Literal) → Each HasVariable ls → Lacks 10 (flat_map literal_text ls)
 literals_lack [] h = tt
-literals_lack (l ∷ ls) h = both_lack 10 (literal_text l) (flat_map literal_text ls) (literal_lacks l h.0) (literals_lack ls h.1)
+literals_lack (l ∷ ls) h = lacks_append 10 (literal_text l) (flat_map literal_text ls) (literal_lacks l h.0) (literals_lack ls h.1)
 
 pub log_line_lacks : (l : Line) → HasText l → Lacks 10 (line_text l)
 log_line_lacks lines.Solve h = (refl, tt)
 log_line_lacks (lines.Lemma id lits hints) h =
-    both_lack 10 (id_text id) _ (id_lacks id h.0)
-    (both_lack 10 (flat_map literal_text lits) _ (literals_lack lits h.1)
-    (both_lack 10 (codes "0 ") _ (refl, (refl, tt))
-    (both_lack 10 (flat_map id_text hints) (codes "0") (ids_lack hints h.2) (refl, tt))))
+    lacks_append 10 (id_text id) _ (id_lacks id h.0)
+    (lacks_append 10 (flat_map literal_text lits) _ (literals_lack lits h.1)
+    (lacks_append 10 (codes "0 ") _ (refl, (refl, tt))
+    (lacks_append 10 (flat_map id_text hints) (codes "0") (ids_lack hints h.2) (refl, tt))))
 log_line_lacks (lines.Block id lits) h =
-    both_lack 10 (codes "b ") _ (refl, (refl, tt))
-    (both_lack 10 (id_text id) _ (id_lacks id h.0) (both_lack 10 (flat_map literal_text lits) (codes "0") (literals_lack lits h.1) (refl, tt)))
-log_line_lacks (lines.Finish id) h = both_lack 10 (codes "e ") (decimal id) (refl, (refl, tt)) (number_lacks 10 id (omega arith) h.1)
-log_line_lacks (lines.Retire id) h = both_lack 10 (codes "r ") (decimal id) (refl, (refl, tt)) (number_lacks 10 id (omega arith) h.1)
+    lacks_append 10 (codes "b ") _ (refl, (refl, tt))
+    (lacks_append 10 (id_text id) _ (id_lacks id h.0) (lacks_append 10 (flat_map literal_text lits) (codes "0") (literals_lack lits h.1) (refl, tt)))
+log_line_lacks (lines.Finish id) h = lacks_append 10 (codes "e ") (decimal id) (refl, (refl, tt)) (number_lacks 10 id (omega arith) h.1)
+log_line_lacks (lines.Retire id) h = lacks_append 10 (codes "r ") (decimal id) (refl, (refl, tt)) (number_lacks 10 id (omega arith) h.1)
 log_line_lacks (lines.Delete ids) h =
-    both_lack 10 (codes "d ") _ (refl, (refl, tt)) (both_lack 10 (flat_map id_text ids) (codes "0") (ids_lack ids h.0) (refl, tt))
+    lacks_append 10 (codes "d ") _ (refl, (refl, tt)) (lacks_append 10 (flat_map id_text ids) (codes "0") (ids_lack ids h.0) (refl, tt))

@@ -6,7 +6,9 @@ use Rattle.std.proofs.lemmas.Bool.{eq-eqb, ne_eqb}
 use Rattle.std.proofs.lemmas.List.{append-nil, length-append}
 use Rattle.std.proofs.lemmas.List.Elements.{recursion_from_All}
 use Rattle.bs_bits.specs.Text.{bits_text}
-use Rattle.bs_bits.specs.Lines.{line, onto_first}
+use Rattle.bs_bits.specs.Lines.{line, pieces_of}
+use Rattle.bs_bits.specs.Reading.{◌>>=◌}
+use Rattle.bs_bits.proofs.LineTextLemmas.{Lacks, lacks_append, piece_first, bits_lack, number_lacks}
 use Rattle.bs_log.specs.declared.line.Line.{Line}
 use Rattle.bs_log.specs.LineForms.{HasText}
 use Rattle.bs_log.specs.LineText.{line_text}
@@ -23,11 +25,10 @@ use Rattle.bs_report.specs.declared.report.Stop.{Stop}
 use Rattle.bs_report.specs.declared.report.Stop.TheVariants as stops
 use Rattle.bs_report.specs.declared.report.Step.{Step}
 use Rattle.bs_report.specs.declared.report.Report.{Report}
-use Rattle.bs_report.specs.Forms.{pieces_of}
-use Rattle.bs_report.specs.Reading.{Reached, begins, turned, more_listed, with_step, behind_state, log_place, taken, is_done, line_or_fault, onward, ended, report_from, nothing_read, report_in}
+use Rattle.bs_report.specs.Reading.{Reached, begins, turned, more_listed, with_step, behind_state, log_place, taken, is_done, line_or_fault, ended, report_from, nothing_read, report_in}
 use Rattle.bs_report.specs.Text.{cand_text, end_word, hit_text, step_text, steps_text, stop_word, state_text, move_text, trace_text, budgets_text, head_text, tail_text, HasEndText, HasHitText, HasStepText, HasReportText}
 use Rattle.bs_report.specs.ReadingLaw.{ReportsReadBack}
-use Rattle.bs_report.proofs.FormLemmas.{Lacks, both_lack, number_lacks, bits_lack, count_again, bits_line_again, budgets_again, cand_again, end_again, hit_again, stop_again, words_of_count, words_of_bits, log_line_lacks}
+use Rattle.bs_report.proofs.FormLemmas.{count_again, bits_line_again, budgets_again, cand_again, end_again, hit_again, stop_again, words_of_count, words_of_bits, log_line_lacks}
 use Rattle.bs_report.proofs.ReadingLemmas.{line_from}
 
 -- ---- lines one after another
@@ -42,11 +43,6 @@ stays place r text = record { to = λ n. (n, refl) }
 on : {place next last : Place} {r after end : Report} {text rest behind : List ℕ} → Goes place r text next after rest → Goes next after rest last end behind → Goes place r text last end behind
 on g h = record { to = λ n. let a = g.to n in let b = h.to a.0 in (b.0, a.1 ∙ b.1) }
 
-first_piece : (a rest : List ℕ) → Lacks 10 a → pieces_of (line a ++ rest) ≡ a ∷ pieces_of rest
-first_piece [] rest h = refl
-first_piece (b ∷ bs) rest h =
-    ap (λ t. cond t ([] ∷ pieces_of (line bs ++ rest)) (onto_first b (pieces_of (line bs ++ rest)))) h.0 ∙ ap (onto_first b) (first_piece bs rest h.1)
-
 -- one line
 one : (place next : Place) (r after : Report) (a rest : List ℕ) → Lacks 10 a → is_done place ≡ false → taken place r a ≡ Some (next, after) →
     Goes place r (line a ++ rest) next after rest
@@ -54,10 +50,10 @@ one place next r after a rest lacks undone t =
     record {
       to = λ n. (
         n + 1,
-        ap (report_from n place r) (first_piece a rest lacks)
+        ap (report_from n place r) (piece_first a rest lacks)
             ∙ (line_from n place r a rest
-            ∙ (ap (λ (b : Bool). onward (cond b (Err extra) (line_or_fault n (taken place r a))) (λ place r. report_from (n + 1) place r (pieces_of rest))) undone
-            ∙ ap (λ (o : Option Reached). onward (line_or_fault n o) (λ place r. report_from (n + 1) place r (pieces_of rest))) t)),
+            ∙ (ap (λ (b : Bool). ◌>>=◌ (cond b (Err extra) (line_or_fault n (taken place r a))) (λ (y : Reached). report_from (n + 1) y.0 y.1 (pieces_of rest))) undone
+            ∙ ap (λ (o : Option Reached). ◌>>=◌ (line_or_fault n o) (λ (y : Reached). report_from (n + 1) y.0 y.1 (pieces_of rest))) t)),
       );
     }
   where
@@ -84,9 +80,9 @@ cands_go p s done (c ∷ cs) r rest =
   where
     lacks : Lacks 10 (codes "cand " ++ (bits_text c.state ++ (codes " input " ++ bits_text c.input)))
     lacks =
-        both_lack 10 (codes "cand ") _ (refl, (refl, (refl, (refl, (refl, tt)))))
-        (both_lack 10 (bits_text c.state) _ (bits_lack 10 c.state (omega arith))
-        (both_lack 10 (codes " input ") (bits_text c.input) (refl, (refl, (refl, (refl, (refl, (refl, (refl, tt))))))) (bits_lack 10 c.input (omega arith))))
+        lacks_append 10 (codes "cand ") _ (refl, (refl, (refl, (refl, (refl, tt)))))
+        (lacks_append 10 (bits_text c.state) _ (bits_lack 10 c.state (omega arith))
+        (lacks_append 10 (codes " input ") (bits_text c.input) (refl, (refl, (refl, (refl, (refl, (refl, (refl, tt))))))) (bits_lack 10 c.input (omega arith))))
 
 list_goes : (p s : List Bool) (cands : List Cand) (e : ListEnd) (r : Report) (b rest : List ℕ) → HasEndText e →
     Goes (places.Listing p s cands) r ((line (codes "list " ++ end_word e) ++ b) ++ rest) (places.Hit p s cands e) r (b ++ rest)
@@ -110,11 +106,11 @@ hit_goes p s cands e (Some hit) r rest h =
   where
     lacks : Lacks 10 (codes "hit " ++ (decimal hit.run ++ (codes " " ++ (decimal hit.cycle ++ (codes " " ++ bits_text hit.state)))))
     lacks =
-        both_lack 10 (codes "hit ") _ (refl, (refl, (refl, (refl, tt))))
-        (both_lack 10 (decimal hit.run) _ (number_lacks 10 hit.run (omega arith) (let u = h.1 in omega (arith, u)))
-        (both_lack 10 (codes " ") _ (refl, tt)
-        (both_lack 10 (decimal hit.cycle) _ (number_lacks 10 hit.cycle (omega arith) (let u = h.2 in omega (arith, u)))
-        (both_lack 10 (codes " ") (bits_text hit.state) (refl, tt) (bits_lack 10 hit.state (omega arith))))))
+        lacks_append 10 (codes "hit ") _ (refl, (refl, (refl, (refl, tt))))
+        (lacks_append 10 (decimal hit.run) _ (number_lacks 10 hit.run (omega arith) (let u = h.1 in omega (arith, u)))
+        (lacks_append 10 (codes " ") _ (refl, tt)
+        (lacks_append 10 (decimal hit.cycle) _ (number_lacks 10 hit.cycle (omega arith) (let u = h.2 in omega (arith, u)))
+        (lacks_append 10 (codes " ") (bits_text hit.state) (refl, tt) (bits_lack 10 hit.state (omega arith))))))
 
 abbrev with_steps : Report → List Step → Report
 with_steps r steps = record r { steps = steps }
@@ -124,15 +120,15 @@ step_goes : (r : Report) (number : ℕ) (step : Step) (rest : List ℕ) → HasS
 step_goes r number step rest h e small =
     on
     (one_of places.Turn places.Present r r (codes "step " ++ decimal number) rest1 rest
-    (both_lack 10 (codes "step ") (decimal number) (refl, (refl, (refl, (refl, (refl, tt))))) (number_lacks 10 number (omega arith) small)) refl begun)
+    (lacks_append 10 (codes "step ") (decimal number) (refl, (refl, (refl, (refl, (refl, tt))))) (number_lacks 10 number (omega arith) small)) refl begun)
     (on
     (one_of places.Present (places.Stored step.present) r r (codes "present " ++ bits_text step.present) rest2 rest
-    (both_lack 10 (codes "present ") (bits_text step.present) (refl, (refl, (refl, (refl, (refl, (refl, (refl, (refl, tt)))))))) (bits_lack 10 step.present (omega arith))) refl
+    (lacks_append 10 (codes "present ") (bits_text step.present) (refl, (refl, (refl, (refl, (refl, (refl, (refl, (refl, tt)))))))) (bits_lack 10 step.present (omega arith))) refl
     (ap (λ (o : Option (List Bool)). option_map (λ (place : Place). (place, r)) (option_map (λ (s : List Bool). places.Stored s) o))
     (bits_line_again (codes "present") (codes "present " ++ bits_text step.present) step.present (words_of_bits (codes "present") step.present refl) refl)))
     (on
     (one_of (places.Stored step.present) (places.Listing step.present step.stored []) r r (codes "stored " ++ bits_text step.stored) rest3 rest
-    (both_lack 10 (codes "stored ") (bits_text step.stored) (refl, (refl, (refl, (refl, (refl, (refl, (refl, tt))))))) (bits_lack 10 step.stored (omega arith))) refl
+    (lacks_append 10 (codes "stored ") (bits_text step.stored) (refl, (refl, (refl, (refl, (refl, (refl, (refl, tt))))))) (bits_lack 10 step.stored (omega arith))) refl
     (ap (λ (o : Option (List Bool)). option_map (λ (place : Place). (place, r)) (option_map (λ (s : List Bool). places.Listing step.present s []) o))
     (bits_line_again (codes "stored") (codes "stored " ++ bits_text step.stored) step.stored (words_of_bits (codes "stored") step.stored refl) refl)))
     (on
@@ -180,7 +176,7 @@ state_goes : (r : Report) (s : List Bool) (left : ℕ) (next : Place) (rest : Li
     Goes (places.State left) r (state_text s ++ rest) next (with_trace r (r.states ++ s ∷ []) r.inputs) rest
 state_goes r s left next rest e =
     one (places.State left) next r (with_trace r (r.states ++ s ∷ []) r.inputs) (codes "state " ++ bits_text s) rest
-    (both_lack 10 (codes "state ") (bits_text s) (refl, (refl, (refl, (refl, (refl, (refl, tt)))))) (bits_lack 10 s (omega arith))) refl
+    (lacks_append 10 (codes "state ") (bits_text s) (refl, (refl, (refl, (refl, (refl, (refl, tt)))))) (bits_lack 10 s (omega arith))) refl
     (ap (option_map (λ (s : List Bool). (behind_state left, record r { states = r.states ++ s ∷ [] })))
     (bits_line_again (codes "state") (codes "state " ++ bits_text s) s (words_of_bits (codes "state") s refl) refl)
     ∙ ap (λ (place : Place). Some (place, with_trace r (r.states ++ s ∷ []) r.inputs)) e)
@@ -189,7 +185,7 @@ input_goes : (r : Report) (x : List Bool) (left : ℕ) (b rest : List ℕ) →
     Goes (places.Input left) r ((line (codes "input " ++ bits_text x) ++ b) ++ rest) (places.State (left - 1)) (with_trace r r.states (r.inputs ++ x ∷ [])) (b ++ rest)
 input_goes r x left b rest =
     one_of (places.Input left) (places.State (left - 1)) r (with_trace r r.states (r.inputs ++ x ∷ [])) (codes "input " ++ bits_text x) b rest
-    (both_lack 10 (codes "input ") (bits_text x) (refl, (refl, (refl, (refl, (refl, (refl, tt)))))) (bits_lack 10 x (omega arith))) refl
+    (lacks_append 10 (codes "input ") (bits_text x) (refl, (refl, (refl, (refl, (refl, (refl, tt)))))) (bits_lack 10 x (omega arith))) refl
     (ap (option_map (λ (x : List Bool). (places.State (left - 1), record r { inputs = r.inputs ++ x ∷ [] })))
     (bits_line_again (codes "input") (codes "input " ++ bits_text x) x (words_of_bits (codes "input") x refl) refl))
 
@@ -305,11 +301,11 @@ head_goes r rest h =
 
     asked_lacks : Lacks 10 asked
     asked_lacks =
-        both_lack 10 (codes "asked ") _ (refl, (refl, (refl, (refl, (refl, (refl, tt))))))
-        (both_lack 10 (decimal r.budgets.steps) _ (number_lacks 10 r.budgets.steps (omega arith) (omega (arith, h.max_steps)))
-        (both_lack 10 (codes " candidates ") _ (refl, (refl, (refl, (refl, (refl, (refl, (refl, (refl, (refl, (refl, (refl, (refl, tt))))))))))))
-        (both_lack 10 (decimal r.budgets.candidates) _ (number_lacks 10 r.budgets.candidates (omega arith) (omega (arith, h.max_candidates)))
-        (both_lack 10 (codes " conflicts ") _ (refl, (refl, (refl, (refl, (refl, (refl, (refl, (refl, (refl, (refl, (refl, tt)))))))))))
+        lacks_append 10 (codes "asked ") _ (refl, (refl, (refl, (refl, (refl, (refl, tt))))))
+        (lacks_append 10 (decimal r.budgets.steps) _ (number_lacks 10 r.budgets.steps (omega arith) (omega (arith, h.max_steps)))
+        (lacks_append 10 (codes " candidates ") _ (refl, (refl, (refl, (refl, (refl, (refl, (refl, (refl, (refl, (refl, (refl, (refl, tt))))))))))))
+        (lacks_append 10 (decimal r.budgets.candidates) _ (number_lacks 10 r.budgets.candidates (omega arith) (omega (arith, h.max_candidates)))
+        (lacks_append 10 (codes " conflicts ") _ (refl, (refl, (refl, (refl, (refl, (refl, (refl, (refl, (refl, (refl, (refl, tt)))))))))))
         (number_lacks 10 r.budgets.conflicts (omega arith) (omega (arith, h.max_conflicts)))))))
 
     stop_lacks : (stop : Stop) → Lacks 10 (codes "stop " ++ stop_word stop)
@@ -352,7 +348,7 @@ trace_goes q r rest no_states no_inputs e few =
     subst (λ (t : List ℕ). Goes places.Trace q (t ++ rest) places.Log (with_trace q r.states r.inputs) rest) (sym text)
     (on
     (one_of places.Trace (places.State n) q q (codes "trace " ++ decimal n) (state_text f.first ++ moves_text r.inputs f.others) rest
-    (both_lack 10 (codes "trace ") (decimal n) (refl, (refl, (refl, (refl, (refl, (refl, tt)))))) (number_lacks 10 n (omega arith) few)) refl
+    (lacks_append 10 (codes "trace ") (decimal n) (refl, (refl, (refl, (refl, (refl, (refl, tt)))))) (number_lacks 10 n (omega arith) few)) refl
     (ap (λ (o : Option ℕ). option_map (λ (place : Place). (place, q)) (option_map (λ (n : ℕ). places.State n) o))
     (count_again (codes "trace") (codes "trace " ++ decimal n) n (words_of_count (codes "trace") n refl few) refl few)))
     (subst (λ (t : List ℕ). Goes (places.State n) q t places.Log (with_trace q r.states r.inputs) rest) (sym (append_assoc (state_text f.first) (moves_text r.inputs f.others) rest))
@@ -371,7 +367,7 @@ tail_goes q r h no_states no_inputs no_log =
     on (trace_goes q r (line (codes "log " ++ decimal n) ++ (flat_map (λ l. line (line_text l)) r.log ++ line (codes "end"))) no_states no_inputs h.one_state_more h.few_inputs)
     (on
     (one places.Log (log_place n) (with_trace q r.states r.inputs) (with_trace q r.states r.inputs) (codes "log " ++ decimal n) (flat_map (λ l. line (line_text l)) r.log ++ line (codes "end"))
-    (both_lack 10 (codes "log ") (decimal n) (refl, (refl, (refl, (refl, tt)))) (number_lacks 10 n (omega arith) h.few_lines)) undone
+    (lacks_append 10 (codes "log ") (decimal n) (refl, (refl, (refl, (refl, tt)))) (number_lacks 10 n (omega arith) h.few_lines)) undone
     (ap (λ (o : Option ℕ). option_map (λ (place : Place). (place, with_trace q r.states r.inputs)) (option_map (λ (n : ℕ). log_place n) o))
     (count_again (codes "log") (codes "log " ++ decimal n) n (words_of_count (codes "log") n refl h.few_lines) refl h.few_lines)))
     (on

@@ -1,13 +1,13 @@
 -- A report read line by line.
 use Rattle.std.proofs.Common.{◌≡◌, ℕ, ◌+◌, Bool, true, false, cond, List, [], ◌∷◌, refl, ap, ◌∙◌, ◌⊎◌, inl, inr}
 use Rattle.std.specs.Prelude.{◌==◌, Result, Ok, Err}
-use Rattle.bs_bits.specs.Lines.{onto_first}
+use Rattle.bs_bits.specs.Lines.{onto_first, pieces_of}
+use Rattle.bs_bits.specs.Reading.{◌>>=◌}
 use Rattle.bs_report.specs.declared.place.Place.{Place}
 use Rattle.bs_report.specs.declared.fault.ReportFault.{ReportFault}
 use Rattle.bs_report.specs.declared.fault.ReportFault.TheVariants.{NoMemory}
 use Rattle.bs_report.specs.declared.report.Report.{Report}
-use Rattle.bs_report.specs.Forms.{pieces_of}
-use Rattle.bs_report.specs.Reading.{Reached, followed, ended, onward, report_from}
+use Rattle.bs_report.specs.Reading.{Reached, followed, ended, report_from}
 
 -- each text has a piece
 pub some_piece : (bs : List ℕ) → (p : List ℕ) × (ps : List (List ℕ)) × (pieces_of bs ≡ p ∷ ps)
@@ -21,11 +21,11 @@ some_piece (b ∷ bs) = by (b == 10) refl (pieces_of bs) refl
 
 -- one whole line
 pub line_from : (n : ℕ) (place : Place) (r : Report) (line rest : List ℕ) →
-    report_from n place r (line ∷ pieces_of rest) ≡ onward (followed n place r line) (λ place r. report_from (n + 1) place r (pieces_of rest))
+    report_from n place r (line ∷ pieces_of rest) ≡ ◌>>=◌ (followed n place r line) (λ (y : Reached). report_from (n + 1) y.0 y.1 (pieces_of rest))
 line_from n place r line rest = by (pieces_of rest) (some_piece rest)
   where
     by : (pieces : List (List ℕ)) → ((p : List ℕ) × (ps : List (List ℕ)) × (pieces ≡ p ∷ ps)) →
-        report_from n place r (line ∷ pieces) ≡ onward (followed n place r line) (λ place r. report_from (n + 1) place r pieces)
+        report_from n place r (line ∷ pieces) ≡ ◌>>=◌ (followed n place r line) (λ (y : Reached). report_from (n + 1) y.0 y.1 pieces)
     by [] s = cc
     by (p ∷ ps) s = refl
 
@@ -33,12 +33,12 @@ pub line_read : (all : Result Report ReportFault) (n : ℕ) (place next : Place)
     all ≡ report_from n place r (pieces_of bytes) → pieces_of bytes ≡ line ∷ pieces_of rest → followed n place r line ≡ Ok (next, after) →
     all ≡ report_from (n + 1) next after (pieces_of rest)
 line_read all n place next r after bytes line rest e f g =
-    e ∙ (ap (report_from n place r) f ∙ (line_from n place r line rest ∙ ap (λ (x : Result Reached ReportFault). onward x (λ place r. report_from (n + 1) place r (pieces_of rest))) g))
+    e ∙ (ap (report_from n place r) f ∙ (line_from n place r line rest ∙ ap (λ (x : Result Reached ReportFault). ◌>>=◌ x (λ (y : Reached). report_from (n + 1) y.0 y.1 (pieces_of rest))) g))
 
 pub line_refused : (all : Result Report ReportFault) (n : ℕ) (place : Place) (r : Report) (bytes line rest : List ℕ) (fault : ReportFault) →
     all ≡ report_from n place r (pieces_of bytes) → pieces_of bytes ≡ line ∷ pieces_of rest → followed n place r line ≡ Err fault → all ≡ Err fault
 line_refused all n place r bytes line rest fault e f g =
-    e ∙ (ap (report_from n place r) f ∙ (line_from n place r line rest ∙ ap (λ (x : Result Reached ReportFault). onward x (λ place r. report_from (n + 1) place r (pieces_of rest))) g))
+    e ∙ (ap (report_from n place r) f ∙ (line_from n place r line rest ∙ ap (λ (x : Result Reached ReportFault). ◌>>=◌ x (λ (y : Reached). report_from (n + 1) y.0 y.1 (pieces_of rest))) g))
 
 pub lines_end : (all : Result Report ReportFault) (n : ℕ) (place : Place) (r : Report) (bytes : List ℕ) →
     all ≡ report_from n place r (pieces_of bytes) → pieces_of bytes ≡ bytes ∷ [] → all ≡ ended place r bytes

@@ -7,7 +7,9 @@ use Rattle.std.proofs.lemmas.Bool.{false≢true, eqb-true, eqb-false}
 use Rattle.std.proofs.lemmas.List.{append-nil, length-append}
 use Rattle.std.proofs.lemmas.List.Elements.{All-from_recursion}
 use Rattle.bs_bits.specs.Text.{bits_text}
-use Rattle.bs_bits.specs.Lines.{line, onto_first}
+use Rattle.bs_bits.specs.Lines.{line, onto_first, pieces_of}
+use Rattle.bs_bits.specs.Reading.{◌>>=◌}
+use Rattle.bs_bits.proofs.LineLemmas.{nothing_left}
 use Rattle.bs_log.specs.declared.line.Line.{Line}
 use Rattle.bs_log.specs.LineForms.{HasText}
 use Rattle.bs_log.specs.LineReading.{line_in}
@@ -23,15 +25,14 @@ use Rattle.bs_report.specs.declared.report.ListEnd.{ListEnd}
 use Rattle.bs_report.specs.declared.report.Stop.{Stop}
 use Rattle.bs_report.specs.declared.report.Step.{Step}
 use Rattle.bs_report.specs.declared.report.Report.{Report}
-use Rattle.bs_report.specs.Forms.{pieces_of, count_in, bits_in, cand_in, end_in, hit_in, stop_in, budgets_in}
-use Rattle.bs_report.specs.Reading.{Reached, begins, turned, more_listed, with_step, behind_state, log_place, taken, is_done, line_or_fault, onward, ended, report_from, nothing_read, report_in}
-use Rattle.bs_report.specs.Text.{cand_text, end_word, step_text, steps_text, stop_word, state_text, move_text, trace_text, budgets_text, head_text, tail_text, HasEndText, HasStepText}
+use Rattle.bs_report.specs.Forms.{count_in, bits_in, cand_in, end_in, hit_in, stop_in, budgets_in}
+use Rattle.bs_report.specs.Reading.{Reached, begins, turned, more_listed, with_step, behind_state, log_place, taken, is_done, line_or_fault, ended, report_from, nothing_read, report_in}
+use Rattle.bs_report.specs.Text.{cand_text, end_word, step_text, steps_text, stop_word, state_text, move_text, trace_text, budgets_text, head_text, tail_text, report_text, HasEndText, HasStepText, HasReportText}
 use Rattle.bs_report.specs.ReadingLaw.{TextsAreReports}
 use Rattle.bs_report.proofs.TextLemmas.{steps_text_append}
 use Rattle.bs_report.proofs.ReadBackLemmas.{moves_text, range_moves, first_state}
 use Rattle.bs_report.proofs.ReadingLemmas.{some_piece}
 use Rattle.bs_report.proofs.SpellingLemmas.{unmap, same_text, count_is, bits_line_is, AreBudgets, budgets_are, cand_is, end_is, hit_is, stop_is, log_line_is}
-use Rattle.bs_report.proofs.PieceLemmas.{nothing_left}
 
 -- ---- the text so far
 
@@ -73,34 +74,34 @@ woven (s ∷ ss) [] = state_text s ++ woven ss []
 woven (s ∷ ss) (x ∷ xs) = state_text s ++ (input_text x ++ woven ss xs)
 
 -- the budgets are in their ranges, and each step has a text
-record HasHead (r : Report) : Type 0 where
-  budgets : AreBudgets (codes "asked " ++ (decimal r.budgets.steps ++ (codes " candidates " ++ (decimal r.budgets.candidates ++ (codes " conflicts " ++ decimal r.budgets.conflicts))))) r.budgets
-  steps : Each HasStepText r.steps
-  few : length r.steps < 2 ^ 64
+pub record HasHead (r : Report) : Type 0 where
+  pub budgets : AreBudgets (codes "asked " ++ (decimal r.budgets.steps ++ (codes " candidates " ++ (decimal r.budgets.candidates ++ (codes " conflicts " ++ decimal r.budgets.conflicts))))) r.budgets
+  pub steps : Each HasStepText r.steps
+  pub few : length r.steps < 2 ^ 64
 
 -- nothing is read behind the head
-record NoTail (r : Report) : Type 0 where
-  states : r.states ≡ []
-  inputs : r.inputs ≡ []
-  log : r.log ≡ []
+pub record NoTail (r : Report) : Type 0 where
+  pub states : r.states ≡ []
+  pub inputs : r.inputs ≡ []
+  pub log : r.log ≡ []
 
-record InStep (r : Report) : Type 0 where
-  head : HasHead r
-  tail : NoTail r
-  counted : length r.steps + 1 < 2 ^ 64
+pub record InStep (r : Report) : Type 0 where
+  pub head : HasHead r
+  pub tail : NoTail r
+  pub counted : length r.steps + 1 < 2 ^ 64
 
-record InTrace (r : Report) (n : ℕ) : Type 0 where
-  head : HasHead r
-  log : r.log ≡ []
-  small : n < 2 ^ 64
+pub record InTrace (r : Report) (n : ℕ) : Type 0 where
+  pub head : HasHead r
+  pub log : r.log ≡ []
+  pub small : n < 2 ^ 64
 
-record BehindTrace (r : Report) : Type 0 where
-  head : HasHead r
-  small : length r.inputs < 2 ^ 64
-  more : length r.states ≡ length r.inputs + 1
+pub record BehindTrace (r : Report) : Type 0 where
+  pub head : HasHead r
+  pub small : length r.inputs < 2 ^ 64
+  pub more : length r.states ≡ length r.inputs + 1
 
 -- what is read, and the text of it
-abbrev Fits : Place → Report → List ℕ → Type 0
+abbrev pub Fits : Place → Report → List ℕ → Type 0
 Fits places.Title r text = (r ≡ nothing_read) × (text ≡ [])
 Fits places.Asked r text = (r ≡ nothing_read) × (text ≡ title)
 Fits places.Turn r text = HasHead r × NoTail r × (text ≡ top r)
@@ -461,7 +462,7 @@ at_end r text a y h e =
           ∙ ap (λ t. head_text r ++ (trace_line (length r.inputs) ++ (woven r.states r.inputs ++ (log_line (length r.log) ++ (lines_text r.log ++ line t))))) (same_text a (codes "end") z.0),
     )
 
-line_fits : (place : Place) (r : Report) (text a : List ℕ) (y : Reached) → Fits place r text → taken place r a ≡ Some y → Next y text a
+pub line_fits : (place : Place) (r : Report) (text a : List ℕ) (y : Reached) → Fits place r text → taken place r a ≡ Some y → Next y text a
 line_fits places.Title r text a y h e = at_title r text a y h e
 line_fits places.Asked r text a y h e = at_asked r text a y h e
 line_fits places.Turn r text a y h e = at_turn r text a y h e
@@ -480,7 +481,7 @@ line_fits places.Done r text a y h e = cc
 -- ---- all lines
 
 -- a text from its pieces
-abbrev glued : List (List ℕ) → List ℕ
+abbrev pub glued : List (List ℕ) → List ℕ
 glued [] = []
 glued (rest ∷ []) = rest
 glued (p ∷ q ∷ ps) = line p ++ glued (q ∷ ps)
@@ -500,7 +501,7 @@ glue_empty bs = by (pieces_of bs) (some_piece bs)
     by [] s = cc
     by (p ∷ ps) s = refl
 
-glued_pieces : (bs : List ℕ) → glued (pieces_of bs) ≡ bs
+pub glued_pieces : (bs : List ℕ) → glued (pieces_of bs) ≡ bs
 glued_pieces [] = refl
 glued_pieces (b ∷ bs) = by (b == 10) refl (glued_pieces bs)
   where
@@ -508,7 +509,7 @@ glued_pieces (b ∷ bs) = by (b == 10) refl (glued_pieces bs)
     by true z rest = glue_empty bs ∙ (ap (λ t. 10 ∷ t) rest ∙ ap (λ c. c ∷ bs) (sym (eqb-true b 10 z)))
     by false z rest = glue_first b (pieces_of bs) ∙ ap (λ t. b ∷ t) rest
 
-done_is : (place : Place) → is_done place ≡ true → place ≡ places.Done
+pub done_is : (place : Place) → is_done place ≡ true → place ≡ places.Done
 done_is places.Title e = absurd (false≢true e)
 done_is places.Asked e = absurd (false≢true e)
 done_is places.Turn e = absurd (false≢true e)
@@ -545,19 +546,17 @@ pieces_fit (a ∷ q ∷ ps) n place r text all h e = by (λ y text h e. pieces_f
     Rest = (y : Reached) (text : List ℕ) → Fits y.0 y.1 text → report_from (n + 1) y.0 y.1 (q ∷ ps) ≡ Ok all → Fits places.Done all (text ++ glued (q ∷ ps))
 
     by : Rest → (d : Bool) (o : Option Reached) → taken place r a ≡ o →
-        onward (cond {A = Result Reached ReportFault} d (Err extra) (line_or_fault n o)) (λ place r. report_from (n + 1) place r (q ∷ ps)) ≡ Ok all → Fits places.Done all (text ++ (line a ++ glued (q ∷ ps)))
+        ◌>>=◌ (cond {A = Result Reached ReportFault} d (Err extra) (line_or_fault n o)) (λ (y : Reached). report_from (n + 1) y.0 y.1 (q ∷ ps)) ≡ Ok all → Fits places.Done all (text ++ (line a ++ glued (q ∷ ps)))
     by rest true o t e = cc
     by rest false None t e = cc
     by rest false (Some y) t e =
         subst (λ (text : List ℕ). Fits places.Done all text) (append_assoc text (line a) (glued (q ∷ ps))) (rest y (text ++ line a) (line_fits place r text a y h t) e)
 
-pub texts_are_reports : TextsAreReports
-unfolding report_in head_text tail_text
-texts_are_reports bytes r e =
-    let h = pieces_fit (pieces_of bytes) 1 places.Title nothing_read [] r (refl, refl) e in
+-- what is read up to the end is a report that has the text
+pub done_is_report : (r : Report) (bytes : List ℕ) → Fits places.Done r bytes → HasReportText r × (report_text r ≡ bytes)
+unfolding head_text tail_text
+done_is_report r bytes h =
     let b = h.0 in
-    let text : bytes ≡ head_text r ++ (trace_line (length r.inputs) ++ (woven r.states r.inputs ++ (log_line (length r.log) ++ (lines_text r.log ++ line (codes "end"))))) =
-    sym (glued_pieces bytes) ∙ h.3 in
     let trace : trace_text r ≡ trace_line (length r.inputs) ++ woven r.states r.inputs = trace_is_woven r b.more in
     let tail : tail_text r ≡ trace_line (length r.inputs) ++ (woven r.states r.inputs ++ (log_line (length r.log) ++ (lines_text r.log ++ line (codes "end")))) =
     ap (λ t. t ++ (log_line (length r.log) ++ (lines_text r.log ++ line (codes "end")))) trace
@@ -576,5 +575,11 @@ texts_are_reports bytes r e =
         each_line = All-from_recursion HasText r.log h.1;
         few_lines = h.2;
       },
-      ap (λ t. head_text r ++ t) tail ∙ sym text,
+      ap (λ t. head_text r ++ t) tail ∙ sym h.3,
     )
+
+pub texts_are_reports : TextsAreReports
+unfolding report_in
+texts_are_reports bytes r e =
+    done_is_report r bytes
+    (subst (λ (t : List ℕ). Fits places.Done r t) (glued_pieces bytes) (pieces_fit (pieces_of bytes) 1 places.Title nothing_read [] r (refl, refl) e))

@@ -14,6 +14,7 @@ use Rattle.bs_log.specs.LineReading.{id_in, line_in}
 use Rattle.bs_log.specs.LineText.{line_text}
 use Rattle.bs_log.proofs.WordLemmas.{id_is, joined, joined_words, number_text, number_below}
 use Rattle.bs_log.proofs.RoundTrip.{texts_are_lines}
+use Rattle.bs_report.specs.declared.limits.TheConstants.{MAX_STEPS, MAX_CANDIDATES, MAX_CONFLICTS}
 use Rattle.bs_report.specs.declared.report.Budgets.{Budgets}
 use Rattle.bs_report.specs.declared.report.Cand.{Cand}
 use Rattle.bs_report.specs.declared.report.HitLine.{HitLine}
@@ -146,21 +147,21 @@ bits_line_is tag text bs e =
 pub record AreBudgets (text : List ℕ) (b : Budgets) : Type 0 where
   pub spells : text ≡ codes "asked " ++ (decimal b.steps ++ (codes " candidates " ++ (decimal b.candidates ++ (codes " conflicts " ++ decimal b.conflicts))))
   pub some_steps : 1 ≤ b.steps
-  pub max_steps : b.steps ≤ 65536
+  pub max_steps : b.steps ≤ MAX_STEPS
   pub some_candidates : 1 ≤ b.candidates
-  pub max_candidates : b.candidates ≤ 65536
+  pub max_candidates : b.candidates ≤ MAX_CANDIDATES
   pub some_conflicts : 1 ≤ b.conflicts
-  pub max_conflicts : b.conflicts ≤ 2 ^ 40
+  pub max_conflicts : b.conflicts ≤ MAX_CONFLICTS
 
 pub budgets_are : (text : List ℕ) (b : Budgets) → budgets_in text ≡ Some b → AreBudgets text b
 budgets_are text b e =
-    let s = bound (number_behind (codes "asked") 1 65536 (words_of text)) first b e in
-    let c = bound (number_behind (codes "candidates") 1 65536 s.value.1) (second s.value.0) b s.gives in
-    let f = bound (number_behind (codes "conflicts") 1 (2 ^ 40) c.value.1) (third s.value.0 c.value.0) b c.gives in
+    let s = bound (number_behind (codes "asked") 1 MAX_STEPS (words_of text)) first b e in
+    let c = bound (number_behind (codes "candidates") 1 MAX_CANDIDATES s.value.1) (second s.value.0) b s.gives in
+    let f = bound (number_behind (codes "conflicts") 1 MAX_CONFLICTS c.value.1) (third s.value.0 c.value.0) b c.gives in
     let z = end_is_here f.value.1 (record { steps = s.value.0; candidates = c.value.0; conflicts = f.value.0 }) b f.gives in
-    let ps = number_behind_is (codes "asked") 1 65536 (words_of text) s.value s.is in
-    let pc = number_behind_is (codes "candidates") 1 65536 s.value.1 c.value c.is in
-    let pf = number_behind_is (codes "conflicts") 1 (2 ^ 40) c.value.1 f.value f.is in
+    let ps = number_behind_is (codes "asked") 1 MAX_STEPS (words_of text) s.value s.is in
+    let pc = number_behind_is (codes "candidates") 1 MAX_CANDIDATES s.value.1 c.value c.is in
+    let pf = number_behind_is (codes "conflicts") 1 MAX_CONFLICTS c.value.1 f.value f.is in
     subst (AreBudgets text) z.1
     (record {
       spells =
@@ -181,10 +182,10 @@ budgets_are text b e =
     third s c conflicts = at_end conflicts.1 (record { steps = s; candidates = c; conflicts = conflicts.0 })
 
     second : ℕ → ℕ × List (List ℕ) → Option Budgets
-    second s candidates = number_behind (codes "conflicts") 1 (2 ^ 40) candidates.1 >>= third s candidates.0
+    second s candidates = number_behind (codes "conflicts") 1 MAX_CONFLICTS candidates.1 >>= third s candidates.0
 
     first : ℕ × List (List ℕ) → Option Budgets
-    first steps = number_behind (codes "candidates") 1 65536 steps.1 >>= second steps.0
+    first steps = number_behind (codes "candidates") 1 MAX_CANDIDATES steps.1 >>= second steps.0
 
 pub cand_is : (text : List ℕ) (c : Cand) → cand_in text ≡ Some c → text ≡ codes "cand " ++ (bits_text c.state ++ (codes " input " ++ bits_text c.input))
 cand_is text c e =

@@ -1,9 +1,10 @@
 -- The forms of a report's lines (docs/FORMATS.md, "Report").
-use Rattle.std.specs.Prelude.{ℕ, ◌==◌, ◌^◌, nat_le, Bool, ◌&&◌, List, [], ◌∷◌, length, codes, Option, Some, None, option_map, if◌then◌else◌}
+use Rattle.std.specs.Prelude.{ℕ, ◌==◌, nat_le, Bool, ◌&&◌, List, [], ◌∷◌, length, codes, Option, Some, None, option_map, if◌then◌else◌}
 use Rattle.std.specs.Str.{bytes_eq}
-use Rattle.bs_bits.specs.Lines.{onto_first, words_of, number_in}
+use Rattle.bs_bits.specs.Lines.{words_of, number_in}
 use Rattle.bs_bits.specs.Text.{bits_of}
 use Rattle.bs_log.specs.LineReading.{id_in}
+use Rattle.bs_report.specs.declared.limits.TheConstants.{MAX_STEPS, MAX_CANDIDATES, MAX_CONFLICTS}
 use Rattle.bs_report.specs.declared.report.Cand.{Cand}
 use Rattle.bs_report.specs.declared.report.HitLine.{HitLine}
 use Rattle.bs_report.specs.declared.report.ListEnd.{ListEnd}
@@ -11,11 +12,6 @@ use Rattle.bs_report.specs.declared.report.ListEnd.TheVariants.{Finished, Candid
 use Rattle.bs_report.specs.declared.report.Stop.{Stop}
 use Rattle.bs_report.specs.declared.report.Stop.TheVariants.{Reset, Length, Nohit, Empty, Candidates, Conflicts}
 use Rattle.bs_report.specs.declared.report.Budgets.{Budgets}
-
--- What stands before, between and behind the line feeds of a text: each of these but the last is a whole line.
-abbrev pub pieces_of : List ℕ → List (List ℕ)
-pieces_of [] = [] ∷ []
-pieces_of (b ∷ bs) = if b == 10 then [] ∷ pieces_of bs else onto_first b (pieces_of bs)
 
 -- ---- words
 
@@ -75,9 +71,9 @@ bits_in tag text = do
 
 abbrev pub budgets_in : List ℕ → Option Budgets
 budgets_in text = do
-  steps ← number_behind (codes "asked") 1 65536 (words_of text)
-  candidates ← number_behind (codes "candidates") 1 65536 steps.1
-  conflicts ← number_behind (codes "conflicts") 1 (2 ^ 40) candidates.1
+  steps ← number_behind (codes "asked") 1 MAX_STEPS (words_of text)
+  candidates ← number_behind (codes "candidates") 1 MAX_CANDIDATES steps.1
+  conflicts ← number_behind (codes "conflicts") 1 MAX_CONFLICTS candidates.1
   at_end conflicts.1 (record { steps = steps.0; candidates = candidates.0; conflicts = conflicts.0 })
 
 abbrev pub cand_in : List ℕ → Option Cand

@@ -1,5 +1,5 @@
 -- What report a text is, or the first fault of a text that is none (docs/FORMATS.md, "Report").
-use Rattle.std.specs.Prelude.{◌≡◌, ◌⊎◌, ℕ, ◌+◌, ◌-◌, ◌==◌, Bool, true, false, List, [], ◌∷◌, ◌++◌, length, codes, Option, Some, None, option_map, Result, Ok, Err, MatchResult, if◌then◌else◌}
+use Rattle.std.specs.Prelude.{ℕ, ◌+◌, ◌-◌, ◌==◌, Bool, true, false, List, [], ◌∷◌, ◌++◌, length, codes, Option, Some, None, option_map, Result, Ok, Err, if◌then◌else◌}
 use Rattle.std.specs.Str.{bytes_eq}
 use Rattle.bs_log.specs.LineReading.{line_in}
 use Rattle.bs_report.specs.declared.fault.ReportFault.{ReportFault}
@@ -12,7 +12,9 @@ use Rattle.bs_report.specs.declared.report.Stop.{Stop}
 use Rattle.bs_report.specs.declared.report.Stop.TheVariants as stops
 use Rattle.bs_report.specs.declared.report.Cand.{Cand}
 use Rattle.bs_report.specs.declared.report.Report.{Report}
-use Rattle.bs_report.specs.Forms.{pieces_of, count_in, bits_in, budgets_in, cand_in, end_in, hit_in, stop_in}
+use Rattle.bs_bits.specs.Lines.{pieces_of}
+use Rattle.bs_bits.specs.Reading.{◌>>=◌}
+use Rattle.bs_report.specs.Forms.{count_in, bits_in, budgets_in, cand_in, end_in, hit_in, stop_in}
 
 -- ---- a line at its place
 
@@ -101,16 +103,12 @@ followed number place r text = if is_done place then Err faults.Extra else line_
 abbrev pub ended : Place → Report → List ℕ → Result Report ReportFault
 ended place r rest = if is_done place then (if length rest == 0 then Ok r else Err faults.Extra) else Err faults.Short
 
-abbrev pub onward : {A : Type 0} → Result Reached ReportFault → (Place → Report → Result A ReportFault) → Result A ReportFault
-onward (Ok reached) f = f reached.0 reached.1
-onward (Err fault) f = Err fault
-
 -- the pieces of a text from a place on, where the first of them has this number
 abbrev pub report_from : ℕ → Place → Report → List (List ℕ) → Result Report ReportFault
 report_from number place r [] = ended place r []
 report_from number place r (rest ∷ []) = ended place r rest
 report_from number place r (text ∷ next ∷ pieces) =
-    onward (followed number place r text) (λ place r. report_from (number + 1) place r (next ∷ pieces))
+    followed number place r text >>= λ reached. report_from (number + 1) reached.0 reached.1 (next ∷ pieces)
 
 -- before the first line
 abbrev pub nothing_read : Report
@@ -127,8 +125,3 @@ nothing_read =
 -- the report whose text this is, or the first fault
 unfoldable pub report_in : List ℕ → Result Report ReportFault
 report_in bytes = report_from 1 places.Title nothing_read (pieces_of bytes)
-
--- what is answered is the expected value or the expected fault, unless memory ran out
-abbrev pub Answers : {A B : Type 0} → (A → B) → Result A ReportFault → Result B ReportFault → Type 0
-Answers f result expected =
-    MatchResult result (λ value. expected ≡ Ok (f value)) (λ fault. (fault ≡ faults.NoMemory) ⊎ (expected ≡ Err fault))

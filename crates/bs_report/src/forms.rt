@@ -5,9 +5,9 @@ ghost use Rattle.bs_bits.specs.Lines.{words_of};
 ghost use Rattle.bs_log.specs.LineReading.{id_in};
 ghost use Rattle.bs_report.specs.Forms.{at_end as at_end_of, behind, bits_behind, bits_in, budgets_in, cand_in, count_in, end_in, end_of, finished_in, hit_in, moment_in, number_behind, number_within, run_cycle_in, stop_in, stop_of};
 
+use crate::limits::{MAX_CANDIDATES, MAX_CONFLICTS, MAX_STEPS};
 use crate::report::{Budgets, Cand, HitLine, ListEnd, Stop};
-use crate::words::Words;
-use bs_bits::{Bits, NoMemory, read_number};
+use bs_bits::{Bits, NoMemory, Words, read_number};
 use std::alloc::Global;
 
 /// Whether the two are the same bytes.
@@ -102,9 +102,9 @@ pub fn read_budgets(line: &[u8]) -> Option<Budgets>
     ensures { result ≡ budgets_in line.now }
 {
     let mut words = Words::of(line);
-    let steps = read_behind(&mut words, b"asked", 1, 65_536)?;
-    let candidates = read_behind(&mut words, b"candidates", 1, 65_536)?;
-    let conflicts = read_behind(&mut words, b"conflicts", 1, 1_099_511_627_776)?;
+    let steps = read_behind(&mut words, b"asked", 1, MAX_STEPS)?;
+    let candidates = read_behind(&mut words, b"candidates", 1, MAX_CANDIDATES)?;
+    let conflicts = read_behind(&mut words, b"conflicts", 1, MAX_CONFLICTS)?;
     at_end(
         &mut words,
         Budgets {

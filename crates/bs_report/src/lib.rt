@@ -1,22 +1,16 @@
-//! A backtrace's report: what it says, when it is good, its one text, and when it is valid.
+//! A backtrace's report: what it says, and its one text, both ways.
 #![tactic(auto)]
 
 mod fault;
 mod forms;
 mod law;
-mod part;
+mod limits;
 mod place;
 mod reading;
 mod report;
-#[cfg(test)]
-mod tests;
 mod text;
-mod words;
 
 pub use fault::ReportFault;
-pub use law::{
-    a_good_report_is_valid, a_trace_ends_an_execution, a_valid_report_is_good,
-    finished_lists_reach_reset, later_hits_are_earlier, reports_read_back,
-};
-pub use part::Part;
+pub use law::{faults_are_exact, reports_read_back};
+pub use limits::{MAX_CANDIDATES, MAX_CONFLICTS, MAX_REPORT_BYTES, MAX_STEPS};
 pub use report::{Budgets, Cand, HitLine, ListEnd, Report, Step, Stop};

@@ -1,7 +1,9 @@
 //! The places of a report's text, and what a line gives at each.
 ghost use Rattle.std.specs.Prelude.{◌≡◌, IfOk, codes, option_map, Some, None, if◌then◌else◌};
 ghost use Rattle.bs_report.specs.Forms.{count_in};
-ghost use Rattle.bs_report.specs.Reading.{Answers, behind_state as behind_state_of, begins as begins_number, ended, followed, is_done as is_done_place, listed_place, log_place as log_place_of, present_place, stored_place, taken};
+ghost use Rattle.bs_bits.specs.Reading.{Answers};
+ghost use Rattle.bs_report.specs.Reading.{behind_state as behind_state_of, begins as begins_number, ended, followed, is_done as is_done_place, listed_place, log_place as log_place_of, present_place, stored_place, taken};
+ghost use Rattle.bs_report.specs.declared.fault.ReportFault.TheVariants.{NoMemory as Want};
 ghost use Rattle.bs_report.specs.declared.place.Place.TheVariants as places;
 
 use crate::fault::ReportFault;
@@ -304,7 +306,7 @@ pub fn follow(
     report: &mut Report,
     line: &[u8],
 ) -> Result<Place, ReportFault>
-    ensures { Answers (λ next. (next, report.new)) result (followed number place report.old line.now) }
+    ensures { Answers Want (λ next. (next, report.new)) result (followed number place report.old line.now) }
 {
     if is_done(&place) {
         return Err(ReportFault::Extra);

@@ -1,12 +1,14 @@
 //! A report, read from its text line by line.
 ghost use Rattle.std.specs.Prelude.{◌≡◌, ◌≤◌, ◌^◌, length};
-ghost use Rattle.bs_report.specs.Reading.{Answers, nothing_read, report_in};
+ghost use Rattle.bs_bits.specs.Reading.{Answers};
+ghost use Rattle.bs_report.specs.Reading.{nothing_read, report_in};
+ghost use Rattle.bs_report.specs.declared.fault.ReportFault.TheVariants.{NoMemory as Want};
 
 use crate::fault::ReportFault;
+use crate::limits::MAX_REPORT_BYTES;
 use crate::place::{Place, finish, follow};
 use crate::report::{Budgets, Report, Stop};
-use crate::words::whole_line;
-use bs_bits::List;
+use bs_bits::{List, whole_line};
 use bs_log::Log;
 use std::alloc::Global;
 
@@ -30,8 +32,8 @@ fn nothing(alloc: Global) -> Report
 
 /// The report whose text this is, read line by line.
 fn read_lines(alloc: Global, bytes: &[u8]) -> Result<Report, ReportFault>
-    requires { length bytes.now ≤ 2 ^ 29 }
-    ensures { Answers (λ report. report) result (report_in bytes.now) }
+    requires { length bytes.now ≤ MAX_REPORT_BYTES }
+    ensures { Answers Want (λ report. report) result (report_in bytes.now) }
 {
     let mut report = nothing(alloc);
     let mut place = Place::Title;
@@ -49,8 +51,8 @@ impl Report {
     /// The report whose text this is, or why it is none (docs/FORMATS.md, "Report"). The widths of bit texts are not
     /// looked at.
     pub fn read(alloc: Global, bytes: &[u8]) -> Result<Report, ReportFault>
-        requires { length bytes.now ≤ 2 ^ 29 }
-        ensures { Answers (λ report. report) result (report_in bytes.now) }
+        requires { length bytes.now ≤ MAX_REPORT_BYTES }
+        ensures { Answers Want (λ report. report) result (report_in bytes.now) }
     {
         read_lines(alloc, bytes)
     }

@@ -2,6 +2,7 @@
 
 use bs_bits::{Bits, List};
 use bs_log::Log;
+use bs_scan::HasState;
 
 /// Why a backtrace stopped (docs/DEFINITIONS.md, "Stop").
 #[derive(Clone, Copy, Debug, PartialEq, Eq)]
@@ -25,6 +26,14 @@ pub enum Stop {
 pub struct Cand {
     pub state: Bits,
     pub input: Bits,
+}
+
+impl HasState for Cand {
+    ghost shown = { λ cand. cand.state };
+
+    fn state(&self) -> &Bits {
+        &self.state
+    }
 }
 
 /// How a list of candidates ended.

@@ -13,7 +13,7 @@ use Rattle.bs_scan.specs.Signature.{stored_at, signature, parity_of}
 use Rattle.bs_scan.proofs.SignatureLemmas.{length_state}
 use Rattle.bs_report.specs.declared.report.Budgets.{Budgets}
 use Rattle.bs_report.specs.declared.report.Report.{Report}
-use Rattle.bs_report.specs.Crash.{Crash}
+use Rattle.bs_scan.specs.Crash.{Crash}
 use Rattle.bs_job.specs.declared.walk.Stop.{Stop}
 use Rattle.bs_job.specs.declared.answer.Answer.{Answer}
 use Rattle.bs_job.specs.Plan.{Plan}

@@ -12,13 +12,13 @@ use Rattle.bs_log.specs.Refusal.{history_of}
 use Rattle.bs_encode.specs.Assuming.{basis_of}
 use Rattle.bs_report.specs.declared.report.Budgets.{Budgets}
 use Rattle.bs_report.specs.declared.report.Report.{Report}
-use Rattle.bs_report.specs.Chain.{present_of}
-use Rattle.bs_report.specs.Crash.{Crash, IsCrash}
-use Rattle.bs_report.specs.Good.{IsGood}
-use Rattle.bs_report.specs.Valid.{first_failing, IsValid}
-use Rattle.bs_report.proofs.EndLemmas.{unhit_is_first, finished_reach_reset}
-use Rattle.bs_report.proofs.ProgressLemmas.{progress}
-use Rattle.bs_report.proofs.ExecutionLemmas.{executed}
+use Rattle.bs_good.specs.Chain.{present_of}
+use Rattle.bs_scan.specs.Crash.{Crash, IsCrash}
+use Rattle.bs_good.specs.Good.{IsGood}
+use Rattle.bs_good.specs.Valid.{first_failing, IsValid}
+use Rattle.bs_good.proofs.EndLemmas.{unhit_is_first, finished_reach_reset}
+use Rattle.bs_good.proofs.ProgressLemmas.{progress}
+use Rattle.bs_good.proofs.ExecutionLemmas.{executed}
 use Rattle.bs_report.specs.Text.{HasReportText}
 use Rattle.bs_loop.specs.Bound.{HasBound}
 use Rattle.bs_loop.specs.Crash.{crash_of}

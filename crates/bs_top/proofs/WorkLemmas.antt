@@ -4,7 +4,7 @@ use Rattle.std.specs.Prelude.{IfOk}
 use Rattle.bs_outside.specs.declared.shelf.NoMemory.{NoMemory}
 use Rattle.bs_report.specs.declared.report.Stop.{Stop}
 use Rattle.bs_report.specs.declared.report.Stop.TheVariants.{Reset, Length, Nohit, Empty, Candidates, Conflicts}
-use Rattle.bs_report.specs.declared.part.Part.{Part}
+use Rattle.bs_good.specs.declared.part.Part.{Part}
 use Rattle.bs_top.specs.Rejected.{finding_status}
 use Rattle.bs_net.specs.Parts.{Parts}
 use Rattle.bs_job.specs.declared.file.Status.{Status}

@@ -10,10 +10,10 @@ use Rattle.bs_report.specs.declared.report.Budgets.{Budgets}
 use Rattle.bs_report.specs.declared.report.Report.{Report}
 use Rattle.bs_report.specs.declared.report.Stop.{Stop}
 use Rattle.bs_report.specs.declared.report.Stop.TheVariants.{Reset, Length, Nohit, Empty, Candidates, Conflicts}
-use Rattle.bs_report.specs.Crash.{Crash}
+use Rattle.bs_scan.specs.Crash.{Crash}
 use Rattle.bs_report.specs.Text.{report_text, HasReportText}
-use Rattle.bs_report.specs.declared.part.Part.{Part}
-use Rattle.bs_report.specs.Valid.{first_failing}
+use Rattle.bs_good.specs.declared.part.Part.{Part}
+use Rattle.bs_good.specs.Valid.{first_failing}
 use Rattle.bs_job.specs.declared.file.Status.{Status}
 use Rattle.bs_job.specs.declared.file.Status.TheVariants as S
 use Rattle.bs_loop.specs.Bound.{HasBound}

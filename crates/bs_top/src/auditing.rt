@@ -16,7 +16,7 @@ use bs_entry::{Claimed, Names, take_claimed};
 use bs_job::{Answer, Status, stopped};
 use bs_log::Why;
 use bs_outside::{NoMemory, Shelf};
-use bs_report::Part;
+use bs_good::Part;
 use bs_words::AuditJob;
 use std::alloc::Global;
 

@@ -1,5 +1,5 @@
 use Rattle.std.proofs.Common.{◌≡◌, take}
-use Rattle.bs_report.specs.Step.{listed}
+use Rattle.bs_good.specs.Step.{listed}
 use Rattle.bs_audit.proofs.candidates.states_of.Given as goal
 
 abbrev pub invariant-cands : goal.invariant-cands

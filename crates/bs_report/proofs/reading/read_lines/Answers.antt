@@ -2,7 +2,7 @@ use Rattle.std.proofs.Common.{ap, sym, arith}
 use Rattle.std.proofs.lemmas.Result.{err_from_is_err_and}
 use Rattle.bs_report.specs.declared.place.Place.TheVariants.{Title}
 use Rattle.bs_report.specs.declared.report.Report.{Report}
-use Rattle.bs_report.specs.Forms.{pieces_of}
+use Rattle.bs_bits.specs.Lines.{pieces_of}
 use Rattle.bs_report.specs.Reading.{report_from, report_in}
 use Rattle.bs_report.proofs.ReadingLemmas.{line_read, line_faulty}
 use Rattle.bs_report.proofs.reading.read_lines.Goals as goal

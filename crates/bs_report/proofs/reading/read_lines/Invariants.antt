@@ -1,5 +1,5 @@
 use Rattle.std.proofs.Common.{◌≡◌, ◌+◌, ◌≤◌, length}
-use Rattle.bs_report.specs.Forms.{pieces_of}
+use Rattle.bs_bits.specs.Lines.{pieces_of}
 use Rattle.bs_report.specs.Reading.{report_from, report_in}
 use Rattle.bs_report.proofs.reading.read_lines.Given as goal
 

@@ -1,0 +1,10 @@
+pub mod SortedLemmas
+pub mod ProgressLemmas
+pub mod ExecutionLemmas
+pub mod EndLemmas
+pub mod ValidLemmas
+pub mod WholeLemmas
+pub mod GoodLemmas
+pub mod LoggedLemmas
+pub mod LoopLemmas
+pub mod Examples
