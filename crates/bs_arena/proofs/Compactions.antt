@@ -52,38 +52,48 @@ pub record Next (words : List ℕ) (from : ℕ) (rest : List Stored) : Type 0 wh
   pub is : rest ≡ clause ∷ later
   pub header : Header words from clause
 
-next_of : (done gone : List ℕ) (rest : List Stored) (words : List ℕ) (from : ℕ) → words ≡ done ++ (gone ++ spelling_of rest) → from ≡ length done + length gone → from < length words → Next words from rest
+next_of : (done gone : List ℕ) (rest : List Stored) (words : List ℕ) (from : ℕ) → words ≡ done ++ (gone ++ spelling_of rest) →
+    from ≡ length done + length gone → from < length words → Next words from rest
 next_of done gone [] words from now source lt = absurd (omega (arith, lt, source, ap length now, length-append done (gone ++ []), length-append gone []))
 next_of done gone (c ∷ cs) words from now source lt = record {
   clause = c;
   later = cs;
   is = refl;
-  header = header words (done ++ gone) (spelling_of cs) from c (omega (arith, source, length-append done gone)) (now ∙ sym (append_assoc done gone (spelling c ++ spelling_of cs)));
+  header =
+      header words (done ++ gone) (spelling_of cs) from c (omega (arith, source, length-append done gone))
+      (now ∙ sym (append_assoc done gone (spelling c ++ spelling_of cs)));
 }
 
-pub next : (stored : List Stored) (words : List ℕ) (from to : ℕ) (names : List (ℕ × ℕ)) (k : Compacting stored words from to names) → from < length words → Next words from k.rest
+pub next : (stored : List Stored) (words : List ℕ) (from to : ℕ) (names : List (ℕ × ℕ)) (k : Compacting stored words from to names) →
+    from < length words → Next words from k.rest
 next stored words from to names k lt = next_of (spelling_of k.done) k.gone k.rest words from k.now (omega (arith, k.source, k.target)) lt
 
 weaker : (low high : ℕ) (names : List (ℕ × ℕ)) → low ≤ high → AllByRecursion (λ (n : ℕ × ℕ). n.0 < low) names → AllByRecursion (λ (n : ℕ × ℕ). n.0 < high) names
 weaker low high [] le all = tt
 weaker low high (n ∷ names) le all = (omega (arith, le, all.0), weaker low high names le all.1)
 
-pushed : (high : ℕ) (names : List (ℕ × ℕ)) (name : ℕ × ℕ) → AllByRecursion (λ (n : ℕ × ℕ). n.0 < high) names → name.0 < high → AllByRecursion (λ (n : ℕ × ℕ). n.0 < high) (names ++ name ∷ [])
+pushed : (high : ℕ) (names : List (ℕ × ℕ)) (name : ℕ × ℕ) → AllByRecursion (λ (n : ℕ × ℕ). n.0 < high) names → name.0 < high →
+    AllByRecursion (λ (n : ℕ × ℕ). n.0 < high) (names ++ name ∷ [])
 pushed high [] name all is = (is, tt)
 pushed high (n ∷ names) name all is = (all.0, pushed high names name all.1 is)
 
 -- a dead clause is passed over
-pub skips : (stored : List Stored) (words : List ℕ) (from to : ℕ) (names : List (ℕ × ℕ)) (k : Compacting stored words from to names) (n : Next words from k.rest) → n.clause.live ≡ false →
+pub skips : (stored : List Stored) (words : List ℕ) (from to : ℕ) (names : List (ℕ × ℕ)) (k : Compacting stored words from to names)
+    (n : Next words from k.rest) → n.clause.live ≡ false →
     Compacting stored words (from + size n.clause) to names
 skips stored words from to names k n dead = record {
   done = k.done;
   gone = k.gone ++ spelling n.clause;
   rest = n.later;
-  now = k.now ∙ ap (λ cs. spelling_of k.done ++ (k.gone ++ spelling_of cs)) n.is ∙ ap (λ ws. spelling_of k.done ++ ws) (sym (append_assoc k.gone (spelling n.clause) (spelling_of n.later)));
+  now =
+      k.now ∙ ap (λ cs. spelling_of k.done ++ (k.gone ++ spelling_of cs)) n.is
+      ∙ ap (λ ws. spelling_of k.done ++ ws) (sym (append_assoc k.gone (spelling n.clause) (spelling_of n.later)));
   target = k.target;
   source = omega (arith, k.source, length-append k.gone (spelling n.clause));
   whole = ap (λ b. k.done ++ cond b (n.clause ∷ kept n.later) (kept n.later)) (sym dead) ∙ ap (λ cs. k.done ++ kept cs) (sym n.is) ∙ k.whole;
-  named = ap (λ b. names ++ cond b ((from, to) ∷ names_of (from + size n.clause) (to + size n.clause) n.later) (names_of (from + size n.clause) to n.later)) (sym dead) ∙
+  named =
+      ap (λ b. names ++ cond b ((from, to) ∷ names_of (from + size n.clause) (to + size n.clause) n.later)
+      (names_of (from + size n.clause) to n.later)) (sym dead) ∙
       ap (λ cs. names ++ names_of from to cs) (sym n.is) ∙ k.named;
   below = weaker from (from + size n.clause) names (omega arith) k.below;
 }
@@ -95,7 +105,8 @@ moved done gone piece rest to from n target source size_is =
     let all : List ℕ = done ++ (gone ++ (piece ++ rest)) in
     let width : from + n - from ≡ n = omega arith in
     let read : drop from all ≡ piece ++ rest =
-    ap (drop from) (sym (append_assoc done gone (piece ++ rest))) ∙ drop_at (done ++ gone) (piece ++ rest) from (omega (arith, length-append done gone, target, source)) in
+    ap (drop from) (sym (append_assoc done gone (piece ++ rest)))
+    ∙ drop_at (done ++ gone) (piece ++ rest) from (omega (arith, length-append done gone, target, source)) in
     let head : take to all ≡ done = take_at done (gone ++ (piece ++ rest)) to (sym target) in
     let tail : drop (to + n) all ≡ drop n (gone ++ piece) ++ rest =
     sym (drop-drop n to all) ∙ ap (drop n) (drop_at done (gone ++ (piece ++ rest)) to (sym target)) ∙ ap (drop n) (sym (append_assoc gone piece rest)) ∙
@@ -104,13 +115,15 @@ moved done gone piece rest to from n target source size_is =
     (λ i. head i ++ take n (read i) ++ tail i) ∙
     ap (λ p. done ++ p ++ (drop n (gone ++ piece) ++ rest)) (take_at piece rest n (sym size_is))
 
-pub moves : (stored : List Stored) (words : List ℕ) (from to : ℕ) (names : List (ℕ × ℕ)) (k : Compacting stored words from to names) (n : Next words from k.rest) → n.clause.live ≡ true →
+pub moves : (stored : List Stored) (words : List ℕ) (from to : ℕ) (names : List (ℕ × ℕ)) (k : Compacting stored words from to names)
+    (n : Next words from k.rest) → n.clause.live ≡ true →
     Compacting stored (copy_within words from (from + size n.clause) to) (from + size n.clause) (to + size n.clause) (names ++ (from, to) ∷ [])
 moves stored words from to names k n alive =
     let wide : size n.clause ≡ length (spelling n.clause) = omega arith in
     let grown : spelling_of (k.done ++ n.clause ∷ []) ≡ spelling_of k.done ++ spelling n.clause =
     spelling_of-append k.done (n.clause ∷ []) ∙ ap (λ r. spelling_of k.done ++ r) (append-nil (spelling n.clause)) in
-    let opened : words ≡ spelling_of k.done ++ (k.gone ++ (spelling n.clause ++ spelling_of n.later)) = k.now ∙ ap (λ cs. spelling_of k.done ++ (k.gone ++ spelling_of cs)) n.is in
+    let opened : words ≡ spelling_of k.done ++ (k.gone ++ (spelling n.clause ++ spelling_of n.later)) =
+    k.now ∙ ap (λ cs. spelling_of k.done ++ (k.gone ++ spelling_of cs)) n.is in
     record {
       done = k.done ++ n.clause ∷ [];
       gone = drop (size n.clause) (k.gone ++ spelling n.clause);
@@ -120,9 +133,12 @@ moves stored words from to names k n alive =
           ap (λ ws. ws ++ (drop (size n.clause) (k.gone ++ spelling n.clause) ++ spelling_of n.later)) (sym grown);
       target = omega (arith, k.target, ap length grown, length-append (spelling_of k.done) (spelling n.clause));
       source = omega (arith, k.source, length-drop (size n.clause) (k.gone ++ spelling n.clause), length-append k.gone (spelling n.clause));
-      whole = append_assoc k.done (n.clause ∷ []) (kept n.later) ∙ ap (λ b. k.done ++ cond b (n.clause ∷ kept n.later) (kept n.later)) (sym alive) ∙ ap (λ cs. k.done ++ kept cs) (sym n.is) ∙ k.whole;
+      whole =
+          append_assoc k.done (n.clause ∷ []) (kept n.later) ∙ ap (λ b. k.done ++ cond b (n.clause ∷ kept n.later) (kept n.later)) (sym alive)
+          ∙ ap (λ cs. k.done ++ kept cs) (sym n.is) ∙ k.whole;
       named = append_assoc names ((from, to) ∷ []) (names_of (from + size n.clause) (to + size n.clause) n.later) ∙
-          ap (λ b. names ++ cond b ((from, to) ∷ names_of (from + size n.clause) (to + size n.clause) n.later) (names_of (from + size n.clause) to n.later)) (sym alive) ∙
+          ap (λ b. names ++ cond b ((from, to) ∷ names_of (from + size n.clause) (to + size n.clause) n.later)
+          (names_of (from + size n.clause) to n.later)) (sym alive) ∙
           ap (λ cs. names ++ names_of from to cs) (sym n.is) ∙ k.named;
       below = pushed (from + size n.clause) names (from, to) (weaker from (from + size n.clause) names (omega arith) k.below) (omega arith);
     }
@@ -130,13 +146,17 @@ moves stored words from to names k n alive =
 pub order : (stored : List Stored) (words : List ℕ) (from to : ℕ) (names : List (ℕ × ℕ)) → Compacting stored words from to names → to ≤ from
 order stored words from to names k = omega (arith, k.source)
 
-pub same_far : (stored : List Stored) (words ws : List ℕ) (from f to t : ℕ) (names ns : List (ℕ × ℕ)) → ws ≡ words → f ≡ from → t ≡ to → ns ≡ names → Compacting stored words from to names → Compacting stored ws f t ns
+pub same_far : (stored : List Stored) (words ws : List ℕ) (from f to t : ℕ) (names ns : List (ℕ × ℕ)) → ws ≡ words → f ≡ from → t ≡ to → ns ≡ names →
+    Compacting stored words from to names → Compacting stored ws f t ns
 same_far stored words ws from f to t names ns p q r s k =
-    subst (λ x. Compacting stored x f t ns) (sym p) (subst (λ x. Compacting stored words x t ns) (sym q) (subst (λ x. Compacting stored words from x ns) (sym r) (subst (λ x. Compacting stored words from to x) (sym s) k)))
+    subst (λ x. Compacting stored x f t ns) (sym p)
+    (subst (λ x. Compacting stored words x t ns) (sym q)
+    (subst (λ x. Compacting stored words from x ns) (sym r) (subst (λ x. Compacting stored words from to x) (sym s) k)))
 
 -- ---- the end
 
-at_end : (stored : List Stored) (words : List ℕ) (from to : ℕ) (names : List (ℕ × ℕ)) (k : Compacting stored words from to names) (rest : List Stored) → k.rest ≡ rest → length words ≤ from → rest ≡ []
+at_end : (stored : List Stored) (words : List ℕ) (from to : ℕ) (names : List (ℕ × ℕ)) (k : Compacting stored words from to names) (rest : List Stored) →
+    k.rest ≡ rest → length words ≤ from → rest ≡ []
 at_end stored words from to names k [] is le = refl
 at_end stored words from to names k (c ∷ cs) is le =
     absurd (omega (
@@ -155,7 +175,8 @@ pub record Ended (stored : List Stored) (words : List ℕ) (to : ℕ) (names : L
   pub words_are : take to words ≡ spelling_of (kept stored)
   pub names_are : names ≡ names_of 0 0 stored
 
-pub ends : (stored : List Stored) (words : List ℕ) (from to : ℕ) (names : List (ℕ × ℕ)) → Compacting stored words from to names → length words ≤ from → Ended stored words to names
+pub ends : (stored : List Stored) (words : List ℕ) (from to : ℕ) (names : List (ℕ × ℕ)) → Compacting stored words from to names →
+    length words ≤ from → Ended stored words to names
 ends stored words from to names k le =
     let none : k.rest ≡ [] = at_end stored words from to names k k.rest refl le in
     record {
@@ -165,17 +186,22 @@ ends stored words from to names k le =
     }
 
 -- the names are the references of the old and of the new clauses
-zip_names : (from to : ℕ) (cs : List Stored) → names_of from to cs ≡ zip (map (λ h. h.ref) (live_in (placed_from from cs))) (map (λ h. h.ref) (live_in (placed_from to (kept cs))))
+zip_names : (from to : ℕ) (cs : List Stored) →
+    names_of from to cs ≡ zip (map (λ h. h.ref) (live_in (placed_from from cs))) (map (λ h. h.ref) (live_in (placed_from to (kept cs))))
 zip_names from to [] = refl
 zip_names from to (c ∷ cs) =
     elim (c.live) as (λ b. c.live ≡ b →
     cond b ((from, to) ∷ names_of (from + size c) (to + size c) cs) (names_of (from + size c) to cs) ≡
-    zip (map (λ h. h.ref) (map held (cond b (record { place = from; clause = c } ∷ filter (λ p. p.clause.live) (placed_from (from + size c) cs)) (filter (λ p. p.clause.live) (placed_from (from + size c) cs)))))
+    zip (map (λ h. h.ref)
+    (map held (cond b (record { place = from; clause = c } ∷ filter (λ p. p.clause.live) (placed_from (from + size c) cs))
+    (filter (λ p. p.clause.live) (placed_from (from + size c) cs)))))
     (map (λ h. h.ref) (live_in (placed_from to (cond b (c ∷ kept cs) (kept cs)))))) [
       | true ↦ λ is.
           ap (λ r. (from, to) ∷ r) (zip_names (from + size c) (to + size c) cs) ∙
           ap (λ b. zip (from ∷ map (λ h. h.ref) (live_in (placed_from (from + size c) cs)))
-          (map (λ h. h.ref) (map held (cond b (record { place = to; clause = c } ∷ filter (λ p. p.clause.live) (placed_from (to + size c) (kept cs))) (filter (λ p. p.clause.live) (placed_from (to + size c) (kept cs))))))) (sym is)
+          (map (λ h. h.ref) (map held
+          (cond b (record { place = to; clause = c } ∷ filter (λ p. p.clause.live) (placed_from (to + size c) (kept cs)))
+          (filter (λ p. p.clause.live) (placed_from (to + size c) (kept cs))))))) (sym is)
       | false ↦ λ _. zip_names (from + size c) to cs
     ] refl
 
@@ -184,9 +210,13 @@ same_meanings : (from to : ℕ) (cs : List Stored) → map meaning (live_in (pla
 same_meanings from to [] = refl
 same_meanings from to (c ∷ cs) =
     elim (c.live) as (λ b. c.live ≡ b → map meaning (live_in (placed_from to (cond b (c ∷ kept cs) (kept cs)))) ≡
-    map meaning (map held (cond b (record { place = from; clause = c } ∷ filter (λ p. p.clause.live) (placed_from (from + size c) cs)) (filter (λ p. p.clause.live) (placed_from (from + size c) cs))))) [
+    map meaning (map held
+    (cond b (record { place = from; clause = c } ∷ filter (λ p. p.clause.live) (placed_from (from + size c) cs))
+    (filter (λ p. p.clause.live) (placed_from (from + size c) cs))))) [
       | true ↦ λ is.
-          ap (λ b. map meaning (map held (cond b (record { place = to; clause = c } ∷ filter (λ p. p.clause.live) (placed_from (to + size c) (kept cs))) (filter (λ p. p.clause.live) (placed_from (to + size c) (kept cs)))))) is ∙
+          ap (λ b. map meaning (map held
+          (cond b (record { place = to; clause = c } ∷ filter (λ p. p.clause.live) (placed_from (to + size c) (kept cs)))
+          (filter (λ p. p.clause.live) (placed_from (to + size c) (kept cs)))))) is ∙
           ap (λ r. (c.id, map literal_of c.codes) ∷ r) (same_meanings (from + size c) (to + size c) cs)
       | false ↦ λ _. same_meanings (from + size c) to cs
     ] refl
@@ -197,7 +227,8 @@ all_words at [] = refl
 all_words at (c ∷ cs) =
     let rest = all_words (at + size c) cs in
     elim (c.live) as (λ b. length (spelling_of (cond b (c ∷ kept cs) (kept cs))) ≡
-    live_words (map held (cond b (record { place = at; clause = c } ∷ filter (λ p. p.clause.live) (placed_from (at + size c) cs)) (filter (λ p. p.clause.live) (placed_from (at + size c) cs))))) [
+    live_words (map held (cond b (record { place = at; clause = c } ∷ filter (λ p. p.clause.live) (placed_from (at + size c) cs))
+    (filter (λ p. p.clause.live) (placed_from (at + size c) cs))))) [
       | true ↦ omega (
         arith,
         rest,
@@ -223,11 +254,14 @@ pub refs_are : (words after : List ℕ) (stored : List Stored) → words ≡ spe
     names_of 0 0 stored ≡ zip (map (λ h. h.ref) (clauses_of words)) (map (λ h. h.ref) (clauses_of after))
 refs_are words after stored is now =
     zip_names 0 0 stored ∙
-    sym (λ i. zip (map (λ (h : Held). h.ref) ((ap clauses_of is ∙ ap live_in (read_back 0 stored)) i)) (map (λ (h : Held). h.ref) ((ap clauses_of now ∙ ap live_in (read_back 0 (kept stored))) i)))
+    sym (λ i. zip (map (λ (h : Held). h.ref) ((ap clauses_of is ∙ ap live_in (read_back 0 stored)) i))
+    (map (λ (h : Held). h.ref) ((ap clauses_of now ∙ ap live_in (read_back 0 (kept stored))) i)))
 
-pub meanings_are : (words after : List ℕ) (stored : List Stored) → words ≡ spelling_of stored → after ≡ spelling_of (kept stored) → map meaning (clauses_of after) ≡ map meaning (clauses_of words)
+pub meanings_are : (words after : List ℕ) (stored : List Stored) → words ≡ spelling_of stored → after ≡ spelling_of (kept stored) →
+    map meaning (clauses_of after) ≡ map meaning (clauses_of words)
 meanings_are words after stored is now =
-    ap (map meaning) (ap clauses_of now ∙ ap live_in (read_back 0 (kept stored))) ∙ same_meanings 0 0 stored ∙ sym (ap (map meaning) (ap clauses_of is ∙ ap live_in (read_back 0 stored)))
+    ap (map meaning) (ap clauses_of now ∙ ap live_in (read_back 0 (kept stored))) ∙ same_meanings 0 0 stored
+    ∙ sym (ap (map meaning) (ap clauses_of is ∙ ap live_in (read_back 0 stored)))
 
 -- ---- what is needed on the way
 
@@ -235,18 +269,21 @@ number_of_names : (from to : ℕ) (cs : List Stored) → length (names_of from t
 number_of_names from to [] = refl
 number_of_names from to (c ∷ cs) =
     elim (c.live) as (λ b. length (cond b ((from, to) ∷ names_of (from + size c) (to + size c) cs) (names_of (from + size c) to cs)) ≡
-    length (map held (cond b (record { place = from; clause = c } ∷ filter (λ p. p.clause.live) (placed_from (from + size c) cs)) (filter (λ p. p.clause.live) (placed_from (from + size c) cs))))) [
+    length (map held (cond b (record { place = from; clause = c } ∷ filter (λ p. p.clause.live) (placed_from (from + size c) cs))
+    (filter (λ p. p.clause.live) (placed_from (from + size c) cs))))) [
       | true ↦ ap (λ n. suc n) (number_of_names (from + size c) (to + size c) cs)
       | false ↦ number_of_names (from + size c) to cs
     ]
 
 -- there is room for one more name
-pub names_left : (stored : List Stored) (words : List ℕ) (from to : ℕ) (names : List (ℕ × ℕ)) (k : Compacting stored words from to names) (n : Next words from k.rest) → n.clause.live ≡ true →
+pub names_left : (stored : List Stored) (words : List ℕ) (from to : ℕ) (names : List (ℕ × ℕ)) (k : Compacting stored words from to names)
+    (n : Next words from k.rest) → n.clause.live ≡ true →
     length names < length (live_in (placed_from 0 stored))
 names_left stored words from to names k n alive =
     let tail : List (ℕ × ℕ) = names_of (from + size n.clause) (to + size n.clause) n.later in
     let all : names ++ (from, to) ∷ tail ≡ names_of 0 0 stored =
-    ap (λ b. names ++ cond b ((from, to) ∷ tail) (names_of (from + size n.clause) to n.later)) (sym alive) ∙ ap (λ cs. names ++ names_of from to cs) (sym n.is) ∙ k.named in
+    ap (λ b. names ++ cond b ((from, to) ∷ tail) (names_of (from + size n.clause) to n.later)) (sym alive)
+    ∙ ap (λ cs. names ++ names_of from to cs) (sym n.is) ∙ k.named in
     omega (arith, ap length all, length-append names ((from, to) ∷ tail), number_of_names 0 0 stored)
 
 stored_kept : (cs : List Stored) → All IsStored cs → All IsStored (kept cs)
@@ -258,10 +295,12 @@ meaning_words m = length m.1 + 4
 words_by_meaning : (hs : List Held) → sum_by meaning_words (map meaning hs) ≡ live_words hs
 words_by_meaning [] = refl
 words_by_meaning (h ∷ hs) =
-    sum_by-cons meaning_words (meaning h) (map meaning hs) ∙ ap (λ n. length h.literals + 4 + n) (words_by_meaning hs) ∙ sym (sum_by-cons (λ (g : Held). length g.literals + 4) h hs)
+    sum_by-cons meaning_words (meaning h) (map meaning hs) ∙ ap (λ n. length h.literals + 4 + n) (words_by_meaning hs)
+    ∙ sym (sum_by-cons (λ (g : Held). length g.literals + 4) h hs)
 
 -- the words of the arena after a compaction
-pub arena_compact : (words after : List ℕ) (live count : ℕ) → IsArena words live count → length after ≤ length words → after ≡ spelling_of (kept_in words) → IsArena after live count
+pub arena_compact : (words after : List ℕ) (live count : ℕ) → IsArena words live count → length after ≤ length words →
+    after ≡ spelling_of (kept_in words) → IsArena after live count
 arena_compact words after live count a le now =
     let same : map meaning (clauses_of after) ≡ map meaning (clauses_of words) = meanings_are words after (stored_in words) (spelled_by words a.form) now in
     record {
@@ -275,7 +314,8 @@ arena_compact words after live count a le now =
 pub no_dead_word : (words after : List ℕ) → (w : IsWellFormed words) → after ≡ spelling_of (kept_in words) → length after ≡ live_words (clauses_of after)
 no_dead_word words after w now =
     let same : map meaning (clauses_of after) ≡ map meaning (clauses_of words) = meanings_are words after (stored_in words) (spelled_by words w) now in
-    ap length now ∙ all_words 0 (stored_in words) ∙ ap (λ ps. live_words (live_in ps)) (sym (read_back 0 (stored_in words))) ∙ ap (λ ws. live_words (clauses_of ws)) (sym (spelled_by words w)) ∙
+    ap length now ∙ all_words 0 (stored_in words) ∙ ap (λ ps. live_words (live_in ps)) (sym (read_back 0 (stored_in words)))
+    ∙ ap (λ ws. live_words (clauses_of ws)) (sym (spelled_by words w)) ∙
     sym (words_by_meaning (clauses_of words)) ∙ ap (sum_by meaning_words) (sym same) ∙ words_by_meaning (clauses_of after)
 
 pub listed_number : (words : List ℕ) (w : IsWellFormed words) → length (live_in (placed_from 0 (stored_in words))) ≡ length (clauses_of words)

@@ -1,5 +1,5 @@
 -- What holds of the clauses that words spell.
-use Rattle.std.proofs.Common.{◌≡◌, ℕ, ◌+◌, ◌/◌, ◌^◌, ◌<◌, ◌≤◌, arith, true, false, cond, List, [], ◌∷◌, ◌++◌, map, filter, length, sym, ap, subst, ◌∙◌, All, AllPairs}
+use Rattle.std.proofs.Common.{◌≡◌, ℕ, ◌+◌, ◌/◌, ◌<◌, ◌≤◌, arith, true, false, cond, List, [], ◌∷◌, ◌++◌, map, filter, length, sym, ap, subst, ◌∙◌, All, AllPairs}
 use Rattle.std.specs.List.{AllByRecursion}
 use Rattle.std.proofs.lemmas.List.{length-append, length-map}
 use Rattle.std.proofs.lemmas.List.Sums.{sum_by-cons, sum_by-append}
@@ -8,14 +8,18 @@ use Rattle.std.proofs.lemmas.List.Elements.{All-from_recursion, All-nil, All-con
 use Rattle.bs_clause.specs.Literal.{Literal, IsVariable, IsCode, AreCodes, literal_of}
 use Rattle.bs_arena.specs.declared.reference.TheConstants.{WORD_LIMIT}
 use Rattle.bs_arena.specs.Words.{Stored, spelling, spelling_of, placed_from, size}
-use Rattle.bs_arena.specs.Arena.{Held, IsArena, held, live_in, live_words, clauses_of, IsContent, IsHeld, IsWellFormed, IsStored}
+use Rattle.bs_arena.specs.Arena.{Held, IsArena, held, live_in, live_words, clauses_of, places_of, IsContent, IsHeld, IsWellFormed, IsStored}
+use Rattle.bs_arena.proofs.Places.{clauses_placed}
 use Rattle.bs_arena.proofs.Spellings.{read_back, well_formed_push, clauses_of-push}
 
 -- a fact of all clauses from the ones that are live
-by_life : (P : List Held → Type 0) (at : ℕ) (c : Stored) (cs : List Stored) → P (held (record { place = at; clause = c }) ∷ live_in (placed_from (at + size c) cs)) → P (live_in (placed_from (at + size c) cs)) →
+by_life : (P : List Held → Type 0) (at : ℕ) (c : Stored) (cs : List Stored) →
+    P (held (record { place = at; clause = c }) ∷ live_in (placed_from (at + size c) cs)) → P (live_in (placed_from (at + size c) cs)) →
     P (live_in (placed_from at (c ∷ cs)))
 by_life P at c cs alive gone =
-    elim (c.live) as (λ b. P (map held (cond b (record { place = at; clause = c } ∷ filter (λ p. p.clause.live) (placed_from (at + size c) cs)) (filter (λ p. p.clause.live) (placed_from (at + size c) cs))))) [
+    elim (c.live) as (λ b. P
+    (map held (cond b (record { place = at; clause = c } ∷ filter (λ p. p.clause.live) (placed_from (at + size c) cs))
+    (filter (λ p. p.clause.live) (placed_from (at + size c) cs))))) [
       | true ↦ alive
       | false ↦ gone
     ]
@@ -30,7 +34,13 @@ words_fit at (c ∷ cs) =
     let rest = words_fit (at + size c) cs in
     let here : length (held (record { place = at; clause = c })).literals ≡ length c.codes = length-map c.codes literal_of in
     by_life (λ hs. live_words hs ≤ length (spelling_of (c ∷ cs))) at c cs
-    (omega (arith, rest, here, long c cs, sum_by-cons (λ (h : Held). length h.literals + 4) (held (record { place = at; clause = c })) (live_in (placed_from (at + size c) cs))))
+    (omega (
+      arith,
+      rest,
+      here,
+      long c cs,
+      sum_by-cons (λ (h : Held). length h.literals + 4) (held (record { place = at; clause = c })) (live_in (placed_from (at + size c) cs)),
+    ))
     (omega (arith, rest, long c cs))
 
 pub count_fits : (at : ℕ) (cs : List Stored) → length (live_in (placed_from at cs)) ≤ length (spelling_of cs)
@@ -52,7 +62,8 @@ ascends at (c ∷ cs) =
     let rest = ascends (at + size c) cs in
     let above : All (λ (h : Held). at < h.ref) (live_in (placed_from (at + size c) cs)) =
     All-weaker (λ (h : Held). at + size c ≤ h.ref) (λ (h : Held). at < h.ref) (λ h le. omega (arith, le)) (live_in (placed_from (at + size c) cs))
-    (All-from_recursion (λ (h : Held). at + size c ≤ h.ref) (live_in (placed_from (at + size c) cs)) (from_here (at + size c) (at + size c) cs (omega arith))) in
+    (All-from_recursion (λ (h : Held). at + size c ≤ h.ref) (live_in (placed_from (at + size c) cs))
+    (from_here (at + size c) (at + size c) cs (omega arith))) in
     by_life (AllPairs (λ (g h : Held). g.ref < h.ref)) at c cs
     (AllPairs-cons (λ (g h : Held). g.ref < h.ref) (held (record { place = at; clause = c })) (live_in (placed_from (at + size c) cs)) above rest) rest
 
@@ -68,7 +79,8 @@ each_held : (at : ℕ) (cs : List Stored) → All IsStored cs → All IsHeld (li
 each_held at [] all = All-nil IsHeld
 each_held at (c ∷ cs) all =
     let rest = each_held (at + size c) cs (All-tail IsStored c cs all) in
-    by_life (All IsHeld) at c cs (All-cons IsHeld (held (record { place = at; clause = c })) (live_in (placed_from (at + size c) cs)) (held_is at c (All-head IsStored c cs all)) rest) rest
+    by_life (All IsHeld) at c cs
+    (All-cons IsHeld (held (record { place = at; clause = c })) (live_in (placed_from (at + size c) cs)) (held_is at c (All-head IsStored c cs all)) rest) rest
 
 listed : (words : List ℕ) (w : IsWellFormed words) → clauses_of words ≡ live_in (placed_from 0 w.stored)
 listed words w = ap clauses_of w.spelled ∙ ap live_in (read_back 0 w.stored)
@@ -79,8 +91,10 @@ live_fits words w = omega (arith, ap live_words (listed words w), words_fit 0 w.
 pub number_fits : (words : List ℕ) → IsWellFormed words → length (clauses_of words) ≤ length words
 number_fits words w = omega (arith, ap length (listed words w), count_fits 0 w.stored, ap length w.spelled)
 
-pub content_is : (words : List ℕ) (count spare : ℕ) → IsWellFormed words → length words ≤ count → IsContent (record { clauses = clauses_of words; words = count; spare = spare })
+pub content_is : (words : List ℕ) (count spare : ℕ) → IsWellFormed words → length words ≤ count →
+    IsContent (record { clauses = clauses_of words; places = places_of words; words = count; spare = spare })
 content_is words count spare w le = record {
+  placed = clauses_placed words w;
   ascends = subst (AllPairs (λ (g h : Held). g.ref < h.ref)) (sym (listed words w)) (ascends 0 w.stored);
   each = subst (All IsHeld) (sym (listed words w)) (each_held 0 w.stored w.each);
   fits = omega (arith, live_fits words w, le);
@@ -90,10 +104,18 @@ content_is words count spare w le = record {
 pub arena_push : (words : List ℕ) (live count : ℕ) (c : Stored) → IsArena words live count → length words + size c ≤ WORD_LIMIT → IsStored c → c.live ≡ true →
     IsArena (words ++ spelling c) (live + (length c.codes + 4)) (count + 1)
 arena_push words live count c a le ok alive =
-    let more : clauses_of (words ++ spelling c) ≡ clauses_of words ++ held (record { place = length words; clause = c }) ∷ [] = clauses_of-push a.form.stored c words a.form.spelled alive in
+    let more : clauses_of (words ++ spelling c) ≡ clauses_of words ++ held (record { place = length words; clause = c }) ∷ [] =
+    clauses_of-push a.form.stored c words a.form.spelled alive in
     record {
       form = well_formed_push words c a.form ok;
       few = omega (arith, le, length-append words (spelling c));
-      live_is = omega (arith, a.live_is, ap live_words more, sum_by-append (λ (h : Held). length h.literals + 4) (clauses_of words) (held (record { place = length words; clause = c }) ∷ []), length-map c.codes literal_of);
+      live_is =
+          omega (
+            arith,
+            a.live_is,
+            ap live_words more,
+            sum_by-append (λ (h : Held). length h.literals + 4) (clauses_of words) (held (record { place = length words; clause = c }) ∷ []),
+            length-map c.codes literal_of,
+          );
       count_is = omega (arith, a.count_is, ap length more, length-append (clauses_of words) (held (record { place = length words; clause = c }) ∷ []));
     }

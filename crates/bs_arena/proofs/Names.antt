@@ -8,7 +8,8 @@ use Rattle.std.proofs.Math.Seq.{get_or-append_seam}
 use Rattle.bs_arena.specs.Renaming.{new_name, IsAscending, IsPlaceOf}
 
 -- the first that passes
-find_here : {X : Type 0} (p : X → Bool) (xs : List X) (i : ℕ) (d : X) → ((k : ℕ) → k < i → p (get_or xs k d) ≡ false) → i < length xs → p (get_or xs i d) ≡ true →
+find_here : {X : Type 0} (p : X → Bool) (xs : List X) (i : ℕ) (d : X) → ((k : ℕ) → k < i → p (get_or xs k d) ≡ false) → i < length xs →
+    p (get_or xs i d) ≡ true →
     find p xs ≡ Some (get_or xs i d)
 find_here p [] i d fails lt passes = absurd (omega (arith, lt))
 find_here p (x ∷ xs) zero d fails lt passes = ap (λ b. cond b (Some x) (find p xs)) passes
@@ -28,7 +29,8 @@ named_here names r place d at lt same =
     (eq-eqb (get_or names place d).0 r same))
 
 -- the place is past the end, or holds another reference
-pub named_nowhere : (names : List (ℕ × ℕ)) (r place : ℕ) (d : ℕ × ℕ) → IsAscending names → IsPlaceOf names r place → (place < length names → (get_or names place d).0 ≡ r → ⊥) →
+pub named_nowhere : (names : List (ℕ × ℕ)) (r place : ℕ) (d : ℕ × ℕ) → IsAscending names → IsPlaceOf names r place →
+    (place < length names → (get_or names place d).0 ≡ r → ⊥) →
     new_name names r ≡ None
 named_nowhere names r place d up at other =
     let elsewhere : (k : ℕ) → k < length names → (get_or names k d).0 ≡ r → ⊥ = λ k h e.

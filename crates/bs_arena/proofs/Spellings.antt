@@ -3,11 +3,10 @@ use Rattle.std.proofs.Common.{◌≡◌, ℕ, zero, suc, ◌+◌, ◌*◌, ◌/�
 use Rattle.std.proofs.lemmas.List.{take_at, drop_at, append_assoc, append-nil, length-append, map-append, get_or-append-add}
 use Rattle.std.proofs.Common.{Some, map}
 use Rattle.std.specs.List.{find, filter}
-use Rattle.std.proofs.Common.{◌-◌, get_or, inl, inr}
-use Rattle.std.proofs.lemmas.Bool.{eqb-true, eq-eqb, ne_eqb, cases_eq}
+use Rattle.std.proofs.Common.{◌-◌, get_or}
+use Rattle.std.proofs.lemmas.Bool.{eqb-true}
 use Rattle.std.proofs.lemmas.List.Elements.{filter-append, All-push}
 use Rattle.bs_arena.specs.Arena.{Held, held, held_at, live_in, clauses_of, IsWellFormed, IsStored}
-use Rattle.bs_clause.specs.Literal.{Literal, code_of}
 use Rattle.bs_arena.specs.Words.{Stored, Placed, spelling, spelling_of, placed_from, clauses_in, size}
 
 -- skipped words are not read
@@ -47,7 +46,8 @@ pub placed_from-append : (at : ℕ) (xs ys : List Stored) → placed_from at (xs
 placed_from-append at [] ys = ap (λ a. placed_from a ys) (omega arith)
 placed_from-append at (x ∷ xs) ys =
     ap (λ r. record { place = at; clause = x } ∷ r)
-    (placed_from-append (at + size x) xs ys ∙ ap (λ a. placed_from (at + size x) xs ++ placed_from a ys) (omega (arith, length-append (spelling x) (spelling_of xs))))
+    (placed_from-append (at + size x) xs ys
+    ∙ ap (λ a. placed_from (at + size x) xs ++ placed_from a ys) (omega (arith, length-append (spelling x) (spelling_of xs))))
 
 -- the clause of a reference, with the clauses before and after it
 pub record Found (at : ℕ) (cs : List Stored) (r : ℕ) (h : Held) : Type 0 where
@@ -74,19 +74,33 @@ found_from at (c ∷ cs) r h e =
       live = f.live;
     } in
     elim (c.live) as (λ b. c.live ≡ b →
-    find (λ x. eqb x.ref r) (map held (cond b (record { place = at; clause = c } ∷ filter (λ p. p.clause.live) (placed_from (at + size c) cs)) (filter (λ p. p.clause.live) (placed_from (at + size c) cs)))) ≡ Some h → Found at (c ∷ cs) r h) [
-      | true ↦ λ live. elim (eqb at r) as (λ t. eqb at r ≡ t → cond t (Some (held (record { place = at; clause = c }))) (held_at (live_in (placed_from (at + size c) cs)) r) ≡ Some h → Found at (c ∷ cs) r h) [
-        | true ↦ λ same some.
-            let place : at ≡ r = eqb-true at r same in
-            let is : held (record { place = at; clause = c }) ≡ h = cc in
-            record { before = []; clause = c; after = cs; parts = refl; place = omega (arith, place); is = sym is ∙ ap (λ p. held (record { place = p; clause = c })) place; live = live }
-        | false ↦ λ _ later. further later
-      ] refl
+    find (λ x. eqb x.ref r)
+    (map held (cond b (record { place = at; clause = c } ∷ filter (λ p. p.clause.live) (placed_from (at + size c) cs))
+    (filter (λ p. p.clause.live) (placed_from (at + size c) cs)))) ≡ Some h → Found at (c ∷ cs) r h) [
+      | true ↦ λ live. elim (eqb at r) as
+          (λ t. eqb at r ≡ t → cond t (Some (held (record { place = at; clause = c }))) (held_at (live_in (placed_from (at + size c) cs)) r) ≡ Some h →
+          Found at (c ∷ cs) r h) [
+            | true ↦ λ same some.
+                let place : at ≡ r = eqb-true at r same in
+                let is : held (record { place = at; clause = c }) ≡ h = cc in
+                record {
+                  before = [];
+                  clause = c;
+                  after = cs;
+                  parts = refl;
+                  place = omega (arith, place);
+                  is = sym is
+                      ∙ ap (λ p. held (record { place = p; clause = c })) place;
+                  live = live;
+                }
+            | false ↦ λ _ later. further later
+          ] refl
       | false ↦ λ _ later. further later
     ] refl e
 
 pub live_in-append : (xs ys : List Placed) → live_in (xs ++ ys) ≡ live_in xs ++ live_in ys
-live_in-append xs ys = ap (map held) (filter-append (λ p. p.clause.live) xs ys) ∙ map-append held (filter (λ p. p.clause.live) xs) (filter (λ p. p.clause.live) ys)
+live_in-append xs ys =
+    ap (map held) (filter-append (λ p. p.clause.live) xs ys) ∙ map-append held (filter (λ p. p.clause.live) xs) (filter (λ p. p.clause.live) ys)
 
 -- one more clause
 pub clauses_of-push : (cs : List Stored) (c : Stored) (words : List ℕ) → words ≡ spelling_of cs → c.live ≡ true →
@@ -108,7 +122,8 @@ pub well_formed_push : (words : List ℕ) (c : Stored) → IsWellFormed words �
 well_formed_push words c w ok = record {
   stored = w.stored ++ c ∷ [];
   each = All-push IsStored w.stored c w.each ok;
-  spelled = ap (λ ws. ws ++ spelling c) w.spelled ∙ ap (λ r. spelling_of w.stored ++ r) (sym (append-nil (spelling c))) ∙ sym (spelling_of-append w.stored (c ∷ []));
+  spelled =
+      ap (λ ws. ws ++ spelling c) w.spelled ∙ ap (λ r. spelling_of w.stored ++ r) (sym (append-nil (spelling c))) ∙ sym (spelling_of-append w.stored (c ∷ []));
 }
 
 -- the length and the codes of the clause at a place
@@ -122,7 +137,9 @@ reads words before rest at c place parts =
     let whole : words ≡ before ++ (spelling c ++ rest) = parts ∙ append_assoc before (spelling c) rest in
     let split : words ≡ (before ++ header) ++ (c.codes ++ rest) = whole ∙ sym (append_assoc before header (c.codes ++ rest)) in
     record {
-      count = ap (λ w. get_or w (at + 2) 0) whole ∙ ap (λ n. get_or (before ++ (spelling c ++ rest)) (n + 2) 0) place ∙ get_or-append-add before (spelling c ++ rest) 2 0;
+      count =
+          ap (λ w. get_or w (at + 2) 0) whole ∙ ap (λ n. get_or (before ++ (spelling c ++ rest)) (n + 2) 0) place
+          ∙ get_or-append-add before (spelling c ++ rest) 2 0;
       codes = ap (drop (at + 4)) split ∙ drop_at (before ++ header) (c.codes ++ rest) (at + 4) (omega (arith, length-append before header));
     }
 

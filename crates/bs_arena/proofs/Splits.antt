@@ -58,16 +58,20 @@ back words r s = live_in (placed_from (r + size s.clause) s.after)
 one_first : (c : Stored) (r n : ℕ) (after : List Stored) → r + size c ≡ n →
     live_in (placed_from r (c ∷ after)) ≡ cond c.live (held (record { place = r; clause = c }) ∷ []) [] ++ live_in (placed_from n after)
 one_first c r n after is =
-    ap (λ m. map held (cond c.live (record { place = r; clause = c } ∷ filter (λ p. p.clause.live) (placed_from m after)) (filter (λ p. p.clause.live) (placed_from m after)))) is ∙
-    (elim (c.live) as (λ b. map held (cond b (record { place = r; clause = c } ∷ filter (λ p. p.clause.live) (placed_from n after)) (filter (λ p. p.clause.live) (placed_from n after)))
+    ap (λ m. map held (cond c.live (record { place = r; clause = c } ∷ filter (λ p. p.clause.live) (placed_from m after))
+    (filter (λ p. p.clause.live) (placed_from m after)))) is ∙
+    (elim (c.live) as (λ b. map held
+    (cond b (record { place = r; clause = c } ∷ filter (λ p. p.clause.live) (placed_from n after)) (filter (λ p. p.clause.live) (placed_from n after)))
     ≡ cond b (held (record { place = r; clause = c }) ∷ []) [] ++ live_in (placed_from n after)) [ true ↦ refl | false ↦ refl ])
 
-replaced : (before after : List Stored) (c : Stored) (r n : ℕ) → r ≡ length (spelling_of before) → r + size c ≡ n →
-    clauses_of (spelling_of (before ++ c ∷ after)) ≡ live_in (placed_from 0 before) ++ (cond c.live (held (record { place = r; clause = c }) ∷ []) [] ++ live_in (placed_from n after))
+pub replaced : (before after : List Stored) (c : Stored) (r n : ℕ) → r ≡ length (spelling_of before) → r + size c ≡ n →
+    clauses_of (spelling_of (before ++ c ∷ after)) ≡ live_in
+    (placed_from 0 before) ++ (cond c.live (held (record { place = r; clause = c }) ∷ []) [] ++ live_in (placed_from n after))
 replaced before after c r n place is =
     ap live_in (read_back 0 (before ++ c ∷ after) ∙ placed_from-append 0 before (c ∷ after)) ∙
     live_in-append (placed_from 0 before) (placed_from (0 + length (spelling_of before)) (c ∷ after)) ∙
-    ap (λ at. live_in (placed_from 0 before) ++ live_in (placed_from at (c ∷ after))) (let at : 0 + length (spelling_of before) ≡ r = omega (arith, place) in at) ∙
+    ap (λ at. live_in (placed_from 0 before) ++ live_in (placed_from at (c ∷ after)))
+    (let at : 0 + length (spelling_of before) ≡ r = omega (arith, place) in at) ∙
     ap (λ l. live_in (placed_from 0 before) ++ l) (one_first c r n after is)
 
 -- the clauses that the words hold
@@ -77,15 +81,18 @@ parts words r s =
     ap (λ b. front words r s ++ (cond b (held (record { place = r; clause = s.clause }) ∷ []) [] ++ back words r s)) s.live
 
 -- no other clause has the reference
-pub misses : (at r : ℕ) (cs : List Stored) → (r < at) ⊎ (at + length (spelling_of cs) ≤ r) → AllByRecursion (λ (h : Held). eqb h.ref r ≡ false) (live_in (placed_from at cs))
+pub misses : (at r : ℕ) (cs : List Stored) → (r < at) ⊎ (at + length (spelling_of cs) ≤ r) →
+    AllByRecursion (λ (h : Held). eqb h.ref r ≡ false) (live_in (placed_from at cs))
 misses at r [] apart = tt
 misses at r (c ∷ cs) apart =
     let long : length (spelling c ++ spelling_of cs) ≡ size c + length (spelling_of cs) = omega (arith, length-append (spelling c) (spelling_of cs)) in
-    let later : (r < at + size c) ⊎ (at + size c + length (spelling_of cs) ≤ r) = elim apart [ inl less ↦ inl (omega (arith, less)) | inr past ↦ inr (omega (arith, past, long)) ] in
+    let later : (r < at + size c) ⊎ (at + size c + length (spelling_of cs) ≤ r) =
+    elim apart [ inl less ↦ inl (omega (arith, less)) | inr past ↦ inr (omega (arith, past, long)) ] in
     let rest = misses (at + size c) r cs later in
     let here : eqb at r ≡ false = ne_eqb at r (λ e. elim apart [ inl less ↦ omega (arith, less, e) | inr past ↦ omega (arith, past, long, e) ]) in
     elim (c.live) as (λ b. AllByRecursion (λ (h : Held). eqb h.ref r ≡ false)
-    (map held (cond b (record { place = at; clause = c } ∷ filter (λ p. p.clause.live) (placed_from (at + size c) cs)) (filter (λ p. p.clause.live) (placed_from (at + size c) cs))))) [
+    (map held (cond b (record { place = at; clause = c } ∷ filter (λ p. p.clause.live) (placed_from (at + size c) cs))
+    (filter (λ p. p.clause.live) (placed_from (at + size c) cs))))) [
       | true ↦ (here, rest)
       | false ↦ rest
     ]
@@ -111,8 +118,10 @@ others words r s =
     let c : Held = held (record { place = r; clause = s.clause }) in
     ap (filter (λ (h : Held). not (eqb h.ref r))) (parts words r s) ∙
     filter-append (λ (h : Held). not (eqb h.ref r)) (front words r s) (c ∷ back words r s) ∙
-    ap (λ l. l ++ filter (λ (h : Held). not (eqb h.ref r)) (c ∷ back words r s)) (kept_all (λ (h : Held). eqb h.ref r) (front words r s) (front_misses words r s)) ∙
-    ap (λ b. front words r s ++ cond (not b) (c ∷ filter (λ (h : Held). not (eqb h.ref r)) (back words r s)) (filter (λ (h : Held). not (eqb h.ref r)) (back words r s))) (eq-eqb r r refl) ∙
+    ap (λ l. l ++ filter (λ (h : Held). not (eqb h.ref r)) (c ∷ back words r s))
+    (kept_all (λ (h : Held). eqb h.ref r) (front words r s) (front_misses words r s)) ∙
+    ap (λ b. front words r s ++ cond (not b) (c ∷ filter (λ (h : Held). not (eqb h.ref r)) (back words r s))
+    (filter (λ (h : Held). not (eqb h.ref r)) (back words r s))) (eq-eqb r r refl) ∙
     ap (λ l. front words r s ++ l) (kept_all (λ (h : Held). eqb h.ref r) (back words r s) (back_misses words r s))
 
 -- all of them, with a change to this one
@@ -122,7 +131,8 @@ changed words r s f =
     let c : Held = held (record { place = r; clause = s.clause }) in
     ap (map (λ (h : Held). cond (eqb h.ref r) (f h) h)) (parts words r s) ∙
     map-append (λ (h : Held). cond (eqb h.ref r) (f h) h) (front words r s) (c ∷ back words r s) ∙
-    ap (λ l. l ++ map (λ (h : Held). cond (eqb h.ref r) (f h) h) (c ∷ back words r s)) (same_all (λ (h : Held). eqb h.ref r) f (front words r s) (front_misses words r s)) ∙
+    ap (λ l. l ++ map (λ (h : Held). cond (eqb h.ref r) (f h) h) (c ∷ back words r s))
+    (same_all (λ (h : Held). eqb h.ref r) f (front words r s) (front_misses words r s)) ∙
     ap (λ b. front words r s ++ cond b (f c) c ∷ map (λ (h : Held). cond (eqb h.ref r) (f h) h) (back words r s)) (eq-eqb r r refl) ∙
     ap (λ l. front words r s ++ f c ∷ l) (same_all (λ (h : Held). eqb h.ref r) f (back words r s) (back_misses words r s))
 
@@ -131,7 +141,8 @@ changed words r s f =
 stored_again : (before after : List Stored) (c d : Stored) → All IsStored (before ++ c ∷ after) → IsStored d → All IsStored (before ++ d ∷ after)
 stored_again [] after c d all is = All-cons IsStored d after is (All-tail IsStored c after all)
 stored_again (b ∷ before) after c d all is =
-    All-cons IsStored b (before ++ d ∷ after) (All-head IsStored b (before ++ c ∷ after) all) (stored_again before after c d (All-tail IsStored b (before ++ c ∷ after) all) is)
+    All-cons IsStored b (before ++ d ∷ after) (All-head IsStored b (before ++ c ∷ after) all)
+    (stored_again before after c d (All-tail IsStored b (before ++ c ∷ after) all) is)
 
 stored_here : (before after : List Stored) (c : Stored) → All IsStored (before ++ c ∷ after) → IsStored c
 stored_here [] after c all = All-head IsStored c after all
@@ -140,7 +151,8 @@ stored_here (b ∷ before) after c all = stored_here before after c (All-tail Is
 pub stored_is : (words : List ℕ) (r : ℕ) (s : Split words r) → IsStored s.clause
 stored_is words r s = stored_here s.before s.after s.clause s.each
 
-killed_words : (words : List ℕ) (r : ℕ) (s : Split words r) → set words (r + 3) 0 ≡ spelling_of (s.before ++ record { id = s.clause.id; live = false; codes = s.clause.codes } ∷ s.after)
+pub killed_words : (words : List ℕ) (r : ℕ) (s : Split words r) →
+    set words (r + 3) 0 ≡ spelling_of (s.before ++ record { id = s.clause.id; live = false; codes = s.clause.codes } ∷ s.after)
 killed_words words r s =
     let three : r + 3 - r ≡ 3 = omega arith in
     ap (λ ws. set ws (r + 3) 0) (inside words r s) ∙
@@ -149,14 +161,18 @@ killed_words words r s =
     sym (spelling_of-append s.before (record { id = s.clause.id; live = false; codes = s.clause.codes } ∷ s.after))
 
 pub killed : (words : List ℕ) (r : ℕ) (s : Split words r) → clauses_of (set words (r + 3) 0) ≡ front words r s ++ back words r s
-killed words r s = ap clauses_of (killed_words words r s) ∙ replaced s.before s.after (record { id = s.clause.id; live = false; codes = s.clause.codes }) r (r + size s.clause) s.place refl
+killed words r s =
+    ap clauses_of (killed_words words r s)
+    ∙ replaced s.before s.after (record { id = s.clause.id; live = false; codes = s.clause.codes }) r (r + size s.clause) s.place refl
 
 pub well_formed_kill : (words : List ℕ) (r : ℕ) → Split words r → IsWellFormed (set words (r + 3) 0)
 well_formed_kill words r s =
     let was : IsStored s.clause = stored_is words r s in
     record {
       stored = s.before ++ record { id = s.clause.id; live = false; codes = s.clause.codes } ∷ s.after;
-      each = stored_again s.before s.after s.clause (record { id = s.clause.id; live = false; codes = s.clause.codes }) s.each (record { id = was.id; codes = was.codes; short = was.short });
+      each =
+          stored_again s.before s.after s.clause (record { id = s.clause.id; live = false; codes = s.clause.codes }) s.each
+          (record { id = was.id; codes = was.codes; short = was.short });
       spelled = killed_words words r s;
     }
 
@@ -169,14 +185,23 @@ words_of_parts xs ys h =
 pub count_of_parts : (xs ys : List Held) (h : Held) → length (xs ++ h ∷ ys) ≡ length (xs ++ ys) + 1
 count_of_parts xs ys h = omega (arith, length-append xs (h ∷ ys), length-append xs ys)
 
-pub arena_kill : (words : List ℕ) (r live count : ℕ) → IsArena words live count → (s : Split words r) → IsArena (set words (r + 3) 0) (live - (length s.clause.codes + 4)) (count - 1)
+pub arena_kill : (words : List ℕ) (r live count : ℕ) → IsArena words live count → (s : Split words r) →
+    IsArena (set words (r + 3) 0) (live - (length s.clause.codes + 4)) (count - 1)
 arena_kill words r live count a s =
     let c : Held = held (record { place = r; clause = s.clause }) in
     let long : length c.literals ≡ length s.clause.codes = length-map s.clause.codes literal_of in
     record {
       form = well_formed_kill words r s;
       few = omega (arith, a.few, length-set words (r + 3) 0);
-      live_is = omega (arith, a.live_is, ap live_words (parts words r s), words_of_parts (front words r s) (back words r s) c, long, ap live_words (killed words r s));
+      live_is =
+          omega (
+            arith,
+            a.live_is,
+            ap live_words (parts words r s),
+            words_of_parts (front words r s) (back words r s) c,
+            long,
+            ap live_words (killed words r s),
+          );
       count_is = omega (arith, a.count_is, ap length (parts words r s), count_of_parts (front words r s) (back words r s) c, ap length (killed words r s));
     }
 
@@ -191,11 +216,14 @@ fits_kill words r live count a s =
 
 -- ---- two literals are exchanged
 
-swap_inside : {X : Type 0} (xs ys zs : List X) (n i j : ℕ) (d : X) → length xs ≡ n → i < length ys → j < length ys → swap (xs ++ (ys ++ zs)) (n + i) (n + j) ≡ xs ++ (swap ys i j ++ zs)
+swap_inside : {X : Type 0} (xs ys zs : List X) (n i j : ℕ) (d : X) → length xs ≡ n → i < length ys → j < length ys →
+    swap (xs ++ (ys ++ zs)) (n + i) (n + j) ≡ xs ++ (swap ys i j ++ zs)
 swap_inside {X} xs ys zs n i j d long li lj =
     let all = xs ++ (ys ++ zs) in
-    let a : get_or all (n + j) d ≡ get_or ys j d = ap (λ k. get_or all (k + j) d) (sym long) ∙ get_or-append-add xs (ys ++ zs) j d ∙ get_or_append_left ys zs d j lj in
-    let b : get_or all (n + i) d ≡ get_or ys i d = ap (λ k. get_or all (k + i) d) (sym long) ∙ get_or-append-add xs (ys ++ zs) i d ∙ get_or_append_left ys zs d i li in
+    let a : get_or all (n + j) d ≡ get_or ys j d =
+    ap (λ k. get_or all (k + j) d) (sym long) ∙ get_or-append-add xs (ys ++ zs) j d ∙ get_or_append_left ys zs d j lj in
+    let b : get_or all (n + i) d ≡ get_or ys i d =
+    ap (λ k. get_or all (k + i) d) (sym long) ∙ get_or-append-add xs (ys ++ zs) i d ∙ get_or_append_left ys zs d i li in
     let total : length all ≡ n + (length ys + length zs) = omega (arith, length-append xs (ys ++ zs), length-append ys zs, long) in
     let put : (vs : List X) (k : ℕ) (v : X) → k < length vs → set (xs ++ (vs ++ zs)) (n + k) v ≡ xs ++ (set vs k v ++ zs) = λ vs k v lt.
     let at : n + k - n ≡ k = omega arith in
@@ -208,16 +236,18 @@ swap_inside {X} xs ys zs n i j d long li lj =
 
 map_swap : {X Y : Type 0} (f : X → Y) (xs : List X) (i j : ℕ) (d : X) → i < length xs → j < length xs → map f (swap xs i j) ≡ swap (map f xs) i j
 map_swap f xs i j d li lj =
-    ap (map f) (sym (swap_is xs i j d li lj)) ∙ map-set f (set xs i (get_or xs j d)) j (get_or xs i d) ∙ ap (λ l. set l j (f (get_or xs i d))) (map-set f xs i (get_or xs j d)) ∙
+    ap (map f) (sym (swap_is xs i j d li lj)) ∙ map-set f (set xs i (get_or xs j d)) j (get_or xs i d)
+    ∙ ap (λ l. set l j (f (get_or xs i d))) (map-set f xs i (get_or xs j d)) ∙
     sym (λ t. set (set (map f xs) i (get_or-map f xs j d (f d) lj t)) j (get_or-map f xs i d (f d) li t)) ∙
     swap_is (map f xs) i j (f d) (omega (arith, li, length-map xs f)) (omega (arith, lj, length-map xs f))
 
 codes_swap : (codes : List ℕ) (i j : ℕ) → i < length codes → j < length codes → AreCodes codes → AreCodes (swap codes i j)
 codes_swap codes i j li lj all =
     subst AreCodes (swap_is codes i j 0 li lj)
-    (All-set IsCode (set codes i (get_or codes j 0)) j (get_or codes i 0) (All-get_or IsCode codes i 0 li all) (All-set IsCode codes i (get_or codes j 0) (All-get_or IsCode codes j 0 lj all) all))
+    (All-set IsCode (set codes i (get_or codes j 0)) j (get_or codes i 0) (All-get_or IsCode codes i 0 li all)
+    (All-set IsCode codes i (get_or codes j 0) (All-get_or IsCode codes j 0 lj all) all))
 
-swapped_words : (words : List ℕ) (r i j : ℕ) (s : Split words r) → i < length s.clause.codes → j < length s.clause.codes →
+pub swapped_words : (words : List ℕ) (r i j : ℕ) (s : Split words r) → i < length s.clause.codes → j < length s.clause.codes →
     swap words (r + 4 + i) (r + 4 + j) ≡ spelling_of (s.before ++ record { id = s.clause.id; live = s.clause.live; codes = swap s.clause.codes i j } ∷ s.after)
 swapped_words words r i j s li lj =
     let header : List ℕ = s.clause.id % 2 ^ 32 ∷ s.clause.id / 2 ^ 32 ∷ length s.clause.codes ∷ cond s.clause.live 1 0 ∷ [] in
@@ -228,7 +258,8 @@ swapped_words words r i j s li lj =
     ap (λ ws. swap ws (r + 4 + i) (r + 4 + j)) opened ∙
     swap_inside (spelling_of s.before ++ header) s.clause.codes (spelling_of s.after) (r + 4) i j 0 long li lj ∙
     append_assoc (spelling_of s.before) header (swap s.clause.codes i j ++ spelling_of s.after) ∙
-    ap (λ n. spelling_of s.before ++ (s.clause.id % 2 ^ 32 ∷ s.clause.id / 2 ^ 32 ∷ n ∷ cond s.clause.live 1 0 ∷ (swap s.clause.codes i j ++ spelling_of s.after))) (sym (length-swap s.clause.codes i j)) ∙
+    ap (λ n. spelling_of s.before ++ (s.clause.id % 2 ^ 32 ∷ s.clause.id / 2 ^ 32 ∷ n ∷ cond s.clause.live 1 0 ∷ (swap s.clause.codes i j ++ spelling_of s.after)))
+    (sym (length-swap s.clause.codes i j)) ∙
     sym (spelling_of-append s.before (swapped_clause ∷ s.after))
 
 pub swapped_are : (words : List ℕ) (r i j : ℕ) (s : Split words r) → i < length s.clause.codes → j < length s.clause.codes →
@@ -241,7 +272,8 @@ swapped_are words r i j s li lj =
     ap (λ b. front words r s ++ (cond b (held (record { place = r; clause = d }) ∷ []) [] ++ back words r s)) s.live ∙
     ap (λ ls. front words r s ++ record { ref = r; id = s.clause.id; literals = ls } ∷ back words r s) (map_swap literal_of s.clause.codes i j 0 li lj)
 
-pub arena_swap : (words : List ℕ) (r i j live count : ℕ) → IsArena words live count → (s : Split words r) → i < length s.clause.codes → j < length s.clause.codes →
+pub arena_swap : (words : List ℕ) (r i j live count : ℕ) → IsArena words live count → (s : Split words r) → i < length s.clause.codes →
+    j < length s.clause.codes →
     IsArena (swap words (r + 4 + i) (r + 4 + j)) live count
 arena_swap words r i j live count a s li lj =
     let c : Held = held (record { place = r; clause = s.clause }) in
@@ -287,7 +319,8 @@ pub record Header (words : List ℕ) (at : ℕ) (c : Stored) : Type 0 where
 pub header : (words before rest : List ℕ) (at : ℕ) (c : Stored) → at ≡ length before → words ≡ before ++ (spelling c ++ rest) → Header words at c
 header words before rest at c place parts =
     let read : (n : ℕ) → get_or words (at + n) 0 ≡ get_or (spelling c ++ rest) n 0 = λ n.
-    ap (λ ws. get_or ws (at + n) 0) parts ∙ ap (λ k. get_or (before ++ (spelling c ++ rest)) (k + n) 0) place ∙ get_or-append-add before (spelling c ++ rest) n 0 in
+    ap (λ ws. get_or ws (at + n) 0) parts ∙ ap (λ k. get_or (before ++ (spelling c ++ rest)) (k + n) 0) place
+    ∙ get_or-append-add before (spelling c ++ rest) n 0 in
     let first : at + 0 ≡ at = omega arith in
     record {
       low = ap (λ k. get_or words k 0) (sym first) ∙ read 0;
@@ -308,5 +341,6 @@ pub place_of : (words : List ℕ) (r i : ℕ) (s : Split words r) → i < length
 place_of words r i s lt = omega (arith, lt, ap length (literals_of words r s), length-map s.clause.codes literal_of)
 
 -- its words are those of the live clause in an arena's view
-pub split_of : (words : List ℕ) (clauses : List Held) (r : ℕ) → IsWellFormed words → clauses_of words ≡ clauses → is_some (held_at clauses r) ≡ true → Split words r
+pub split_of : (words : List ℕ) (clauses : List Held) (r : ℕ) → IsWellFormed words → clauses_of words ≡ clauses → is_some (held_at clauses r) ≡ true →
+    Split words r
 split_of words clauses r w same some = split_at words r w (subst (λ cs. is_some (held_at cs r) ≡ true) (sym same) some)

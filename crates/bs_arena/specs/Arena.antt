@@ -1,5 +1,5 @@
 -- What an arena holds.
-use Rattle.std.specs.Prelude.{◌≡◌, ◌≢◌, IsSome, ℕ, ◌+◌, ◌-◌, ◌==◌, ◌<◌, ◌≤◌, ◌^◌, min, List, [], length, map, Option, sum_by, swap, option_map, All, AllPairs}
+use Rattle.std.specs.Prelude.{◌≡◌, ◌≢◌, IsSome, ℕ, ◌+◌, ◌-◌, ◌==◌, ◌<◌, ◌≤◌, ◌^◌, min, List, [], length, map, Option, sum_by, swap, option_map, All, AllPairs, Contains}
 use Rattle.std.specs.List.{find, filter}
 use Rattle.std.specs.Option.{unwrap_or}
 use Rattle.bs_clause.specs.Literal.{Literal, IsVariable}
@@ -13,9 +13,11 @@ pub record Held : Type 0 where
   pub id : ℕ
   pub literals : List Literal
 
--- the live clauses in order, how many words are in use, and how many there is room for
+-- the live clauses in order, the references of these and of the dead ones since the last compaction, how many words are in
+-- use, and how many more there is room for
 pub record Content : Type 0 where
   pub clauses : List Held
+  pub places : List ℕ
   pub words : ℕ
   pub spare : ℕ
 
@@ -59,6 +61,7 @@ pub record IsHeld (h : Held) : Type 0 where
 
 -- what holds of every arena
 pub record IsContent (c : Content) : Type 0 where
+  pub placed : All (λ h. Contains c.places h.ref) c.clauses
   pub ascends : AllPairs (λ g h. g.ref < h.ref) c.clauses
   pub each : All IsHeld c.clauses
   pub fits : live_words c.clauses ≤ c.words
@@ -73,6 +76,10 @@ live_in ps = map held (filter (λ p. p.clause.live) ps)
 
 abbrev pub clauses_of : List ℕ → List Held
 clauses_of words = live_in (clauses_in 0 0 words)
+
+-- where clauses begin, dead ones among them
+abbrev pub places_of : List ℕ → List ℕ
+places_of words = map (λ p. p.place) (clauses_in 0 0 words)
 
 -- the clauses as they are stored, and the live ones among them
 abbrev pub stored_in : List ℕ → List Stored

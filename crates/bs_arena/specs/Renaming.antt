@@ -3,7 +3,7 @@ use Rattle.std.specs.Prelude.{◌≡◌, ℕ, ◌<◌, ◌≤◌, ◌==◌, List
 use Rattle.bs_arena.specs.Arena.{Held, held_at, meaning}
 
 -- the old and the new reference of each clause, and how many such pairs there is room for
-pub record Names : Type 0 where
+pub record NewNames : Type 0 where
   pub names : List (ℕ × ℕ)
   pub spare : ℕ
 

@@ -1,11 +1,13 @@
 //! The arena, a list of live clauses in one vector.
-ghost use Rattle.std.specs.Prelude.{◌≡◌, ◌+◌, ◌<◌, ◌≤◌, ◌==◌, not, [], ◌∷◌, ◌++◌, map, length, filter, if◌then◌else◌, zip, option_map, Some, None, IsSome, IsOk, OnOk, OnErr, IfOk};
+ghost use Rattle.std.specs.Prelude.{◌≡◌, ◌+◌, ◌<◌, ◌≤◌, ◌==◌, not, [], ◌∷◌, ◌++◌, map, length, filter, if◌then◌else◌, zip, option_map, Some, None, Contains, IsSome, is_some, IsOk, OnOk, OnErr, IfOk};
 ghost use Rattle.bs_clause.specs.Literal.{AreCodes, code_of};
 ghost use Rattle.bs_arena.specs.Arena.{IsContent, Keeps, KeepsOthers, held_at, literals_at, live_words, meaning, swapped};
 ghost use Rattle.bs_arena.specs.Renaming.{IsRenaming};
 
 use crate::compaction::move_together;
-use crate::header::{HEADER, LIVE, codes_at, id_at, push_clause, reserve_words, size_at};
+use crate::header::{
+    HEADER, LIVE, codes_at, id_at, is_live_at, push_clause, reserve_words, size_at,
+};
 use crate::reference::{Ref, WORD_LIMIT};
 use crate::renaming::Renaming;
 use bs_clause::{Lit, NoMemory};
@@ -13,8 +15,8 @@ use std::alloc::Global;
 use std::marker::Model;
 
 /// The clauses of a run, one after another in one vector of words. Contracts see the live clauses
-/// in order, each with its reference, its id and its literals, and how many words are in use and
-/// how many more there is room for. There are never more than `WORD_LIMIT` words.
+/// in order, each with its reference, its id and its literals, the references of all clauses since
+/// the last compaction, and how many words are in use and how many more there is room for. There are never more than `WORD_LIMIT` words.
 #[derive(Drop)]
 pub struct Arena {
     words: Vec<u32>,
@@ -24,11 +26,11 @@ pub struct Arena {
 
 impl Model for Arena {
     ghost use Rattle.std.specs.Prelude.{length, vec_capacity, vec_len};
-    ghost use Rattle.bs_arena.specs.Arena.{Content, clauses_of, spare_of, IsArena};
+    ghost use Rattle.bs_arena.specs.Arena.{Content, clauses_of, places_of, spare_of, IsArena};
 
     ghost Value = { Content };
 
-    ghost view = { λ a. record { clauses = clauses_of a.words.items; words = vec_len a.words; spare = spare_of (vec_capacity a.words) (vec_len a.words) } };
+    ghost view = { λ a. record { clauses = clauses_of a.words.items; places = places_of a.words.items; words = vec_len a.words; spare = spare_of (vec_capacity a.words) (vec_len a.words) } };
 
     ghost invariant = { λ a. IsArena a.words.items a.live a.count };
 }
@@ -37,6 +39,7 @@ impl Arena {
     /// An arena without clauses.
     pub fn new(alloc: Global) -> Arena
         ensures clauses { result.clauses ≡ [] }
+        ensures places { result.places ≡ [] }
         ensures words { result.words ≡ 0 }
     {
         Arena {
@@ -52,6 +55,7 @@ impl Arena {
         ensures kept { self.old.spare ≤ self.new.spare }
         ensures succeeds { words ≤ self.old.spare → IsOk result }
         ensures clauses { self.new.clauses ≡ self.old.clauses }
+        ensures places { self.new.places ≡ self.old.places }
         ensures words { self.new.words ≡ self.old.words }
         ensures err { OnErr result (self.new ≡ self.old) }
     {
@@ -90,6 +94,7 @@ impl Arena {
     /// would be more than `WORD_LIMIT` words.
     pub fn add(&mut self, id: u64, lits: &[Lit]) -> Result<Ref, NoMemory>
         ensures clauses { IfOk result (λ r. self.new.clauses ≡ self.old.clauses ++ record { ref = r; id = id; literals = lits.now } ∷ []) }
+        ensures places { IfOk result (λ r. self.new.places ≡ self.old.places ++ r ∷ []) }
         ensures found { IfOk result (λ r. held_at self.new.clauses r ≡ Some (record { ref = r; id = id; literals = lits.now })) }
         ensures fresh { IfOk result (λ r. held_at self.old.clauses r ≡ None) }
         ensures keeps { Keeps self.old.clauses self.new.clauses }
@@ -129,6 +134,7 @@ impl Arena {
         requires first { i < length (literals_at self.old.clauses r) }
         requires second { j < length (literals_at self.old.clauses r) }
         ensures clauses { self.new.clauses ≡ map (λ h. if h.ref == r then swapped h i j else h) self.old.clauses }
+        ensures places { self.new.places ≡ self.old.places }
         ensures found { held_at self.new.clauses r ≡ option_map (λ h. swapped h i j) (held_at self.old.clauses r) }
         ensures others { KeepsOthers self.old.clauses self.new.clauses r }
         ensures words { self.new.words ≡ self.old.words }
@@ -137,10 +143,19 @@ impl Arena {
         self.words.swap(r.at() + HEADER + i, r.at() + HEADER + j);
     }
 
+    /// Whether a clause is live that was so at some time since the last compaction.
+    pub fn is_live(&self, r: Ref) -> bool
+        requires { Contains self.now.places r }
+        ensures { result ≡ is_some (held_at self.now.clauses r) }
+    {
+        is_live_at(self.words.as_slice(), r.at())
+    }
+
     /// Takes a live clause out. Its words stay in use until the next compaction.
     pub fn kill(&mut self, r: Ref)
         requires { IsSome (held_at self.old.clauses r) }
         ensures clauses { self.new.clauses ≡ filter (λ h. not (h.ref == r)) self.old.clauses }
+        ensures places { self.new.places ≡ self.old.places }
         ensures gone { held_at self.new.clauses r ≡ None }
         ensures others { KeepsOthers self.old.clauses self.new.clauses r }
         ensures words { self.new.words ≡ self.old.words }
@@ -157,6 +172,7 @@ impl Arena {
     pub fn compact(&mut self, renaming: &mut Renaming)
         requires { length self.old.clauses ≤ renaming.old.spare }
         ensures clauses { map meaning self.new.clauses ≡ map meaning self.old.clauses }
+        ensures places { self.new.places ≡ map (λ h. h.ref) self.new.clauses }
         ensures names { renaming.new.names ≡ zip (map (λ h. h.ref) self.old.clauses) (map (λ h. h.ref) self.new.clauses) }
         ensures renames { IsRenaming self.old.clauses self.new.clauses renaming.new.names }
         ensures words { self.new.words ≡ live_words self.new.clauses }

@@ -16,9 +16,9 @@ pub struct Renaming {
 
 impl Model for Renaming {
     ghost use Rattle.std.specs.Prelude.{vec_capacity};
-    ghost use Rattle.bs_arena.specs.Renaming.{Names, IsAscending};
+    ghost use Rattle.bs_arena.specs.Renaming.{NewNames, IsAscending};
 
-    ghost Value = { Names };
+    ghost Value = { NewNames };
 
     ghost view = { λ map. record { names = map.names.items; spare = vec_capacity map.names } };
 

@@ -42,7 +42,8 @@ last-stays m c l =
     elim (has_literal c l) as (λ b. without m (cond b [] (l ∷ [])) ≡ cond (same_literal l m || b) [] (l ∷ [])) [
       | true ↦ sym (ap (λ b. cond b [] (l ∷ [])) (or_right (same_literal l m) true refl))
       | false ↦ elim (same_literal l m) as (λ b. same_literal l m ≡ b → cond (not (same_literal m l)) (l ∷ []) [] ≡ cond (b || false) [] (l ∷ [])) [
-        | true ↦ λ same. ap (λ x. cond (not (same_literal m x)) (l ∷ []) []) (same_literal-true l m same) ∙ ap (λ b. cond (not b) (l ∷ []) []) (same_literal-refl m)
+        | true ↦ λ same. ap (λ x. cond (not (same_literal m x)) (l ∷ []) []) (same_literal-true l m same)
+            ∙ ap (λ b. cond (not b) (l ∷ []) []) (same_literal-refl m)
         | false ↦ λ other. ap (λ b. cond (not b) (l ∷ []) []) (same_literal-sym l m other)
       ] refl
     ]
@@ -79,14 +80,18 @@ pub old_literal : (there into c : Clause) (i : ℕ) (l : Literal) → i < length
     has_literal into l ≡ true → into ≡ there ++ news there (take (i + 1) c)
 old_literal there into c i l lt is so_far h =
     let more : take (i + 1) c ≡ take i c ++ l ∷ [] = take_more c i l lt ∙ ap (λ x. take i c ++ x ∷ []) (sym is) in
-    let stands : (has_literal there l || has_literal (take i c) l) ≡ true = sym (has_literal-news there (take i c) l) ∙ ap (λ x. has_literal x l) (sym so_far) ∙ h in
-    so_far ∙ ap (λ r. there ++ r) (sym (ap (news there) more ∙ news-push there (take i c) l ∙ ap (λ b. news there (take i c) ++ cond b [] (l ∷ [])) stands ∙ append-nil (news there (take i c))))
+    let stands : (has_literal there l || has_literal (take i c) l) ≡ true =
+    sym (has_literal-news there (take i c) l) ∙ ap (λ x. has_literal x l) (sym so_far) ∙ h in
+    so_far ∙ ap (λ r. there ++ r)
+    (sym (ap (news there) more ∙ news-push there (take i c) l ∙ ap (λ b. news there (take i c) ++ cond b [] (l ∷ [])) stands
+    ∙ append-nil (news there (take i c))))
 
 -- one that does not stands at the end
 pub new_literal : (there into c : Clause) (i : ℕ) (l : Literal) → i < length c → l ≡ slice_index_or c i l → into ≡ there ++ news there (take i c) →
     has_literal into l ≡ false → into ++ l ∷ [] ≡ there ++ news there (take (i + 1) c)
 new_literal there into c i l lt is so_far h =
     let more : take (i + 1) c ≡ take i c ++ l ∷ [] = take_more c i l lt ∙ ap (λ x. take i c ++ x ∷ []) (sym is) in
-    let misses : (has_literal there l || has_literal (take i c) l) ≡ false = sym (has_literal-news there (take i c) l) ∙ ap (λ x. has_literal x l) (sym so_far) ∙ h in
+    let misses : (has_literal there l || has_literal (take i c) l) ≡ false =
+    sym (has_literal-news there (take i c) l) ∙ ap (λ x. has_literal x l) (sym so_far) ∙ h in
     ap (λ x. x ++ l ∷ []) so_far ∙ append_assoc there (news there (take i c)) (l ∷ []) ∙
     ap (λ r. there ++ r) (sym (ap (news there) more ∙ news-push there (take i c) l ∙ ap (λ b. news there (take i c) ++ cond b [] (l ∷ [])) misses))

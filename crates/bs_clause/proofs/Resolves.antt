@@ -10,7 +10,8 @@ use Rattle.bs_clause.proofs.Values.{Satisfies-filter}
 
 -- a clause is met without a literal that is false
 pub Satisfies-without : (v : ℕ → Bool) (l : Literal) (c : Clause) → literal_value v l ≡ false → Satisfies v c → Satisfies v (without l c)
-Satisfies-without v l c f h = Satisfies-filter v (λ m. not (same_literal l m)) (λ m gone. ap (literal_value v) (sym (same_literal-true l m (not-false (same_literal l m) gone))) ∙ f) c h
+Satisfies-without v l c f h =
+    Satisfies-filter v (λ m. not (same_literal l m)) (λ m gone. ap (literal_value v) (sym (same_literal-true l m (not-false (same_literal l m) gone))) ∙ f) c h
 
 -- a true literal that stands in the clause makes it true
 has_literal-meets : (v : ℕ → Bool) (c : Clause) (l : Literal) → has_literal c l ≡ true → literal_value v l ≡ true → Satisfies v c
@@ -37,7 +38,8 @@ new_or_there v there (m ∷ c) h =
     let here : Bool = list_any (literal_value v) there in
     let new : Bool = list_any (literal_value v) (filter (λ m. not (has_literal there m)) c) in
     elim (has_literal there m) as (λ b. has_literal there m ≡ b →
-    (list_any (literal_value v) there || list_any (literal_value v) (cond (not b) (m ∷ filter (λ m. not (has_literal there m)) c) (filter (λ m. not (has_literal there m)) c))) ≡ true) [
+    (list_any (literal_value v) there || list_any (literal_value v)
+    (cond (not b) (m ∷ filter (λ m. not (has_literal there m)) c) (filter (λ m. not (has_literal there m)) c))) ≡ true) [
       | true ↦ λ stands. elim (or_cases (literal_value v m) (list_any (literal_value v) c) h) [
         | inl is ↦ or_left here new (has_literal-meets v there m stands is)
         | inr later ↦ new_or_there v there c later
@@ -52,7 +54,8 @@ new_or_there v there (m ∷ c) h =
 Satisfies-once : (v : ℕ → Bool) (c : Clause) → Satisfies v c → Satisfies v (once c)
 Satisfies-once v [] h = h
 Satisfies-once v (m ∷ c) h =
-    elim (literal_value v m) as (λ b. literal_value v m ≡ b → (b || list_any (literal_value v) c) ≡ true → (b || list_any (literal_value v) (without m (once c))) ≡ true) [
+    elim (literal_value v m) as
+    (λ b. literal_value v m ≡ b → (b || list_any (literal_value v) c) ≡ true → (b || list_any (literal_value v) (without m (once c))) ≡ true) [
       | true ↦ λ _ _. refl
       | false ↦ λ is later. Satisfies-without v m (once c) is (Satisfies-once v c later)
     ] refl h

@@ -1,5 +1,5 @@
 -- Literals and their codes.
-use Rattle.std.proofs.Common.{◌≡◌, ℕ, ◌+◌, ◌*◌, ◌/◌, ◌%◌, Bool, true, false, cond, List, [], ◌∷◌, map, eqb, refl, arith, ap, sym, ◌∙◌, inl, inr}
+use Rattle.std.proofs.Common.{◌≡◌, ℕ, ◌+◌, ◌*◌, ◌/◌, ◌%◌, true, false, cond, List, [], ◌∷◌, map, eqb, refl, arith, ap, sym, ◌∙◌, inl, inr}
 use Rattle.std.proofs.lemmas.Bool.{eq-eqb, ne_eqb, cases_eq}
 use Rattle.bs_clause.specs.Literal.{Literal, code_of, literal_of}
 
@@ -14,6 +14,10 @@ literal_back l =
           let p : eqb ((2 * l.variable + 1) % 2) 0 ≡ false = ne_eqb ((2 * l.variable + 1) % 2) 0 (λ e. omega arith) in
           λ i. record { variable = v i; positive = p i }
     ]
+
+-- literals of one code are the same
+pub literals_same : (a b : Literal) → code_of a ≡ code_of b → a ≡ b
+literals_same a b e = sym (literal_back a) ∙ ap literal_of e ∙ literal_back b
 
 pub literals_back : (ls : List Literal) → map literal_of (map code_of ls) ≡ ls
 literals_back [] = refl

@@ -42,11 +42,21 @@ record Found (p : Problem) (h : History) (n : ℕ) (rest : List Line) (m : ℕ) 
   right : NoneRefused p (reverse_aux before h)
   refused : IsRefusedNext p (reverse_aux before h) after why
 
-found_later : (p : Problem) (h : History) (n : ℕ) (line : Line) (rest : List Line) (m : ℕ) (why : Why) → Found p (line ∷ h) (n + 1) rest m why → Found p h n (line ∷ rest) m why
+found_later : (p : Problem) (h : History) (n : ℕ) (line : Line) (rest : List Line) (m : ℕ) (why : Why) → Found p (line ∷ h) (n + 1) rest m why →
+    Found p h n (line ∷ rest) m why
 found_later p h n line rest m why f =
-    record { before = line ∷ f.before; after = f.after; parts = ap (λ (ls : List Line). line ∷ ls) f.parts; number = omega (arith, f.number); right = f.right; refused = f.refused }
+    record {
+      before = line ∷ f.before;
+      after = f.after;
+      parts = ap (λ (ls : List Line). line ∷ ls) f.parts;
+      number = omega
+          (arith, f.number);
+      right = f.right;
+      refused = f.refused;
+    }
 
-found : (p : Problem) (h : History) (n : ℕ) (rest : List Line) (m : ℕ) (why : Why) → NoneRefused p h → refused_from p h n rest ≡ Some (m, why) → Found p h n rest m why
+found : (p : Problem) (h : History) (n : ℕ) (rest : List Line) (m : ℕ) (why : Why) → NoneRefused p h → refused_from p h n rest ≡ Some (m, why) →
+    Found p h n rest m why
 found p h n [] m why right e = by (is_complete p (state_of p h)) refl e
   where
     by : (b : Bool) → is_complete p (state_of p h) ≡ b → cond {A = Option (ℕ × Why)} b None (Some (n, Order)) ≡ Some (m, why) → Found p h n [] m why
@@ -56,10 +66,13 @@ found p h n [] m why right e = by (is_complete p (state_of p h)) refl e
         let number : n ≡ m = ap (λ (t : ℕ × Why). t.0) both in
         let reason : why ≡ Order = ap (λ (t : ℕ × Why). t.1) (sym both) in
         record { before = []; after = []; parts = refl; number = sym number ∙ none_yet n; right = right; refused = (c, reason) }
-found p h n (line ∷ rest) m why right e = by (refusal p (state_of p h) line) refl e (λ none later. found_later p h n line rest m why (found p (line ∷ h) (n + 1) rest m why (none, right) later))
+found p h n (line ∷ rest) m why right e =
+    by (refusal p (state_of p h) line) refl e (λ none later. found_later p h n line rest m why (found p (line ∷ h) (n + 1) rest m why (none, right) later))
   where
-    by : (o : Option Why) → refusal p (state_of p h) line ≡ o → option_or (option_map (λ w. (n, w)) o) (refused_from p (line ∷ h) (n + 1) rest) ≡ Some (m, why) →
-        (refusal p (state_of p h) line ≡ None → refused_from p (line ∷ h) (n + 1) rest ≡ Some (m, why) → Found p h n (line ∷ rest) m why) → Found p h n (line ∷ rest) m why
+    by : (o : Option Why) → refusal p (state_of p h) line ≡ o →
+        option_or (option_map (λ w. (n, w)) o) (refused_from p (line ∷ h) (n + 1) rest) ≡ Some (m, why) →
+        (refusal p (state_of p h) line ≡ None → refused_from p (line ∷ h) (n + 1) rest ≡ Some (m, why) → Found p h n (line ∷ rest) m why) →
+        Found p h n (line ∷ rest) m why
     by None r e go = go r e
     by (Some w) r e go =
         let both : (n, w) ≡ (m, why) = cc in

@@ -39,7 +39,8 @@ axioms_given n (c ∷ cs) last h = (omega arith, axioms_given (n + 1) cs last (o
 next_id : (p : Problem) (h : History) (t : Bool) (id : ℕ) → (t && eqb id (last_id p h + 1)) ≡ true → id ≡ last_id p h + 1
 next_id p h t id e = eqb-true id (last_id p h + 1) (and_parts t (eqb id (last_id p h + 1)) e).1
 
-one_more : (p : Problem) (h : History) (id : ℕ) (e : Entry) → AllByRecursion (IsGiven (last_id p h)) (added p h) → id ≡ last_id p h + 1 → e.id ≡ id → AllByRecursion (IsGiven id) (added p h ++ e ∷ [])
+one_more : (p : Problem) (h : History) (id : ℕ) (e : Entry) → AllByRecursion (IsGiven (last_id p h)) (added p h) → id ≡ last_id p h + 1 → e.id ≡ id →
+    AllByRecursion (IsGiven id) (added p h ++ e ∷ [])
 one_more p h id e all next is = push_given id (added p h) e (weaker (last_id p h) id (added p h) (omega arith) all) (omega arith)
 
 pub added_ids : (p : Problem) (h : History) → NoneRefused p h → AllByRecursion (IsGiven (last_id p h)) (added p h)
@@ -48,11 +49,13 @@ added_ids p (Solve ∷ h) right = added_ids p h right.1
 added_ids p (Finish id ∷ h) right = added_ids p h right.1
 added_ids p (Delete ids ∷ h) right = added_ids p h right.1
 added_ids p (Lemma id lits hints ∷ h) right =
-    one_more p h id _ (added_ids p h right.1) (next_id p h (in_solve (phase_of h)) id (right_from_none p (state_of p h) (Lemma id lits hints) right.0).order) refl
+    one_more p h id _ (added_ids p h right.1)
+    (next_id p h (in_solve (phase_of h)) id (right_from_none p (state_of p h) (Lemma id lits hints) right.0).order) refl
 added_ids p (Block id lits ∷ h) right =
     one_more p h id _ (added_ids p h right.1) (next_id p h (in_solve (phase_of h)) id (right_from_none p (state_of p h) (Block id lits) right.0).order) refl
 added_ids p (Retire id ∷ h) right =
-    one_more p h id _ (added_ids p h right.1) (next_id p h (not (is_between_steps (phase_of h))) id (right_from_none p (state_of p h) (Retire id) right.0).order) refl
+    one_more p h id _ (added_ids p h right.1)
+    (next_id p h (not (is_between_steps (phase_of h))) id (right_from_none p (state_of p h) (Retire id) right.0).order) refl
 
 -- an entry that is found has its id, and is one of the list
 found_given : (last : ℕ) (test : Entry → Bool) (es : List Entry) (id : ℕ) → AllByRecursion (IsGiven last) es → passes test (entry_of es id) ≡ true → id ≤ last
@@ -105,7 +108,8 @@ deleted_ids p (Delete ids ∷ h) id right gone =
 pub live-push : (p : Problem) (h : History) (e : Entry) → NoneRefused p h → e.id ≡ last_id p h + 1 →
     filter (λ x. not (is_deleted h x.id)) (added p h ++ e ∷ []) ≡ live p h ++ e ∷ []
 live-push p h e right next =
-    let stays : is_deleted h e.id ≡ false = false_from_ne_true (is_deleted h e.id) (λ gone. let given = deleted_ids p h e.id right gone in omega (arith, given)) in
+    let stays : is_deleted h e.id ≡ false =
+    false_from_ne_true (is_deleted h e.id) (λ gone. let given = deleted_ids p h e.id right gone in omega (arith, given)) in
     filter-append (λ x. not (is_deleted h x.id)) (added p h) (e ∷ []) ∙ ap (λ b. live p h ++ cond (not b) (e ∷ []) []) stays
 
 -- the clauses that a delete line names are taken away
@@ -115,9 +119,12 @@ filter-twice f g (e ∷ es) =
     let rest : filter (λ x. not (f x.id || g x.id)) es ≡ filter (λ x. not (f x.id)) (filter (λ x. not (g x.id)) es) = filter-twice f g es in
     elim (g e.id) as (λ b. cond (not (f e.id || b)) (e ∷ filter (λ x. not (f x.id || g x.id)) es) (filter (λ x. not (f x.id || g x.id)) es) ≡
     filter (λ x. not (f x.id)) (cond (not b) (e ∷ filter (λ x. not (g x.id)) es) (filter (λ x. not (g x.id)) es))) [
-      | true ↦ elim (f e.id) as (λ a. cond (not (a || true)) (e ∷ filter (λ x. not (f x.id || g x.id)) es) (filter (λ x. not (f x.id || g x.id)) es) ≡ filter (λ x. not (f x.id)) (filter (λ x. not (g x.id)) es)) [ true ↦ rest | false ↦ rest ]
+      | true ↦ elim (f e.id) as
+          (λ a. cond (not (a || true)) (e ∷ filter (λ x. not (f x.id || g x.id)) es) (filter (λ x. not (f x.id || g x.id)) es) ≡ filter
+          (λ x. not (f x.id)) (filter (λ x. not (g x.id)) es)) [ true ↦ rest | false ↦ rest ]
       | false ↦ elim (f e.id) as (λ a. cond (not (a || false)) (e ∷ filter (λ x. not (f x.id || g x.id)) es) (filter (λ x. not (f x.id || g x.id)) es) ≡
-          cond (not a) (e ∷ filter (λ x. not (f x.id)) (filter (λ x. not (g x.id)) es)) (filter (λ x. not (f x.id)) (filter (λ x. not (g x.id)) es))) [ true ↦ rest | false ↦ ap (λ r. e ∷ r) rest ]
+          cond (not a) (e ∷ filter (λ x. not (f x.id)) (filter (λ x. not (g x.id)) es))
+          (filter (λ x. not (f x.id)) (filter (λ x. not (g x.id)) es))) [ true ↦ rest | false ↦ ap (λ r. e ∷ r) rest ]
     ]
 
 -- a step that is under way is one of the problem's, and the next is at most one more
@@ -154,11 +161,19 @@ in_range p (Solve ∷ h) right =
 in_range p (Lemma id lits hints ∷ h) right =
     let before : IsInRange p h = in_range p h right.1 in
     let order = (right_from_none p (state_of p h) (Lemma id lits hints) right.0).order in
-    record { next = before.next; inside = λ _. before.inside (solve_is_inside (phase_of h) (and_parts (in_solve (phase_of h)) (eqb id (last_id p h + 1)) order).0) }
+    record {
+      next = before.next;
+      inside = λ _. before.inside
+          (solve_is_inside (phase_of h) (and_parts (in_solve (phase_of h)) (eqb id (last_id p h + 1)) order).0);
+    }
 in_range p (Block id lits ∷ h) right =
     let before : IsInRange p h = in_range p h right.1 in
     let order = (right_from_none p (state_of p h) (Block id lits) right.0).order in
-    record { next = before.next; inside = λ _. before.inside (solve_is_inside (phase_of h) (and_parts (in_solve (phase_of h)) (eqb id (last_id p h + 1)) order).0) }
+    record {
+      next = before.next;
+      inside = λ _. before.inside
+          (solve_is_inside (phase_of h) (and_parts (in_solve (phase_of h)) (eqb id (last_id p h + 1)) order).0);
+    }
 in_range p (Finish id ∷ h) right =
     let before : IsInRange p h = in_range p h right.1 in
     let order = (right_from_none p (state_of p h) (Finish id) right.0).order in
@@ -166,7 +181,8 @@ in_range p (Finish id ∷ h) right =
 in_range p (Retire id ∷ h) right =
     let before : IsInRange p h = in_range p h right.1 in
     let order = (right_from_none p (state_of p h) (Retire id) right.0).order in
-    let now : step_of h ≤ length p.steps = before.inside (not-true (is_between_steps (phase_of h)) (and_parts (not (is_between_steps (phase_of h))) (eqb id (last_id p h + 1)) order).0) in
+    let now : step_of h ≤ length p.steps =
+    before.inside (not-true (is_between_steps (phase_of h)) (and_parts (not (is_between_steps (phase_of h))) (eqb id (last_id p h + 1)) order).0) in
     record { next = omega (arith, now); inside = λ e. absurd (true≢false e) }
 in_range p (Delete ids ∷ h) right =
     let before : IsInRange p h = in_range p h right.1 in
@@ -219,7 +235,8 @@ same_state_of p member h =
     λ i. record { phase = phase_of h; step = step_of h; last_id = same_last p member h i; live = same_live p member h i }
 
 -- the assumptions of a step that is there are the same
-pub same_assumptions : (p : Problem) (member : Clause) (step : ℕ) → 1 ≤ step → step ≤ length p.steps → assumptions_of (with_step p member) step ≡ assumptions_of p step
+pub same_assumptions : (p : Problem) (member : Clause) (step : ℕ) → 1 ≤ step → step ≤ length p.steps →
+    assumptions_of (with_step p member) step ≡ assumptions_of p step
 same_assumptions p member step low high = ap (λ o. unwrap_or o []) (get_left p.steps member (step - 1) (omega arith))
   where
     get_left : (xs : List Clause) (x : Clause) (i : ℕ) → i < length xs → slice_get (xs ++ x ∷ []) i ≡ slice_get xs i
@@ -227,7 +244,8 @@ same_assumptions p member step low high = ap (λ o. unwrap_or o []) (get_left p.
     get_left (y ∷ ys) x zero h = refl
     get_left (y ∷ ys) x (suc i) h = get_left ys x i (omega arith)
 
-still_right : (p : Problem) (member : Clause) (h : History) (line : Line) → NoneRefused p h → IsRight p (state_of p h) line → IsRight (with_step p member) (state_of p h) line
+still_right : (p : Problem) (member : Clause) (h : History) (line : Line) → NoneRefused p h → IsRight p (state_of p h) line →
+    IsRight (with_step p member) (state_of p h) line
 still_right p member h Solve right r = record {
   order = elim (or_cases (is_after_block (phase_of h)) (is_between_steps (phase_of h) && leb (step_of h) (length p.steps)) r.order) [
     | inl block ↦ or_left (is_after_block (phase_of h)) (is_between_steps (phase_of h) && leb (step_of h) (length (p.steps ++ member ∷ []))) block
@@ -235,7 +253,8 @@ still_right p member h Solve right r = record {
         let parts = and_parts (is_between_steps (phase_of h)) (leb (step_of h) (length p.steps)) fits in
         or_right (is_after_block (phase_of h)) (is_between_steps (phase_of h) && leb (step_of h) (length (p.steps ++ member ∷ [])))
         (and_from (is_between_steps (phase_of h)) (leb (step_of h) (length (p.steps ++ member ∷ []))) parts.0
-        (le-leb (step_of h) (length (p.steps ++ member ∷ [])) (omega (arith, leb-true (step_of h) (length p.steps) parts.1, length-append p.steps (member ∷ [])))))
+        (le-leb (step_of h) (length (p.steps ++ member ∷ []))
+        (omega (arith, leb-true (step_of h) (length p.steps) parts.1, length-append p.steps (member ∷ [])))))
   ];
   names = r.names;
   distinct = r.distinct;
@@ -244,10 +263,14 @@ still_right p member h Solve right r = record {
   last = r.last;
   finish = r.finish;
 }
-still_right p member h (Lemma id lits hints) right r = record { order = r.order; names = r.names; distinct = r.distinct; block = r.block; unit = r.unit; last = r.last; finish = r.finish }
-still_right p member h (Block id lits) right r = record { order = r.order; names = r.names; distinct = r.distinct; block = r.block; unit = r.unit; last = r.last; finish = r.finish }
-still_right p member h (Retire id) right r = record { order = r.order; names = r.names; distinct = r.distinct; block = r.block; unit = r.unit; last = r.last; finish = r.finish }
-still_right p member h (Delete ids) right r = record { order = r.order; names = r.names; distinct = r.distinct; block = r.block; unit = r.unit; last = r.last; finish = r.finish }
+still_right p member h (Lemma id lits hints) right r =
+    record { order = r.order; names = r.names; distinct = r.distinct; block = r.block; unit = r.unit; last = r.last; finish = r.finish }
+still_right p member h (Block id lits) right r =
+    record { order = r.order; names = r.names; distinct = r.distinct; block = r.block; unit = r.unit; last = r.last; finish = r.finish }
+still_right p member h (Retire id) right r =
+    record { order = r.order; names = r.names; distinct = r.distinct; block = r.block; unit = r.unit; last = r.last; finish = r.finish }
+still_right p member h (Delete ids) right r =
+    record { order = r.order; names = r.names; distinct = r.distinct; block = r.block; unit = r.unit; last = r.last; finish = r.finish }
 still_right p member h (Finish id) right r =
     let here : step_of h ≤ length p.steps = (in_range p h right).inside (solve_is_inside (phase_of h) r.order) in
     record {
@@ -257,7 +280,8 @@ still_right p member h (Finish id) right r =
       block = r.block;
       unit = r.unit;
       last = r.last;
-      finish = ap (λ a. passes (λ e. denies a e.literals) (entry_of (live p h) id)) (same_assumptions p member (step_of h) (step_of-positive h) here) ∙ r.finish;
+      finish =
+          ap (λ a. passes (λ e. denies a e.literals) (entry_of (live p h) id)) (same_assumptions p member (step_of h) (step_of-positive h) here) ∙ r.finish;
     }
 
 -- No line is refused for one more step.

@@ -58,7 +58,8 @@ retired_is_true : (p : Problem) (step : ℕ) (v : ℕ → Bool) (h : History) �
 retired_is_true p step v h g before other =
     let lost : v (p.vars + step_of h) ≡ false = g.others (step_of h) (step_of-positive h) (omega (arith, g.in_range)) other in
     literal_value-negation v (guard_of p (step_of h)) ∙
-    elim (v (p.vars + step_of h)) as (λ b. b ≡ false → not (literal_value (λ _. b) (guard_of p (step_of h))) ≡ true) [ true ↦ λ e. sym e | false ↦ λ _. refl ] lost
+    elim (v (p.vars + step_of h)) as
+    (λ b. b ≡ false → not (literal_value (λ _. b) (guard_of p (step_of h))) ≡ true) [ true ↦ λ e. sym e | false ↦ λ _. refl ] lost
 
 block_holds : (p : Problem) (step : ℕ) (v : ℕ → Bool) (h : History) (lits : Clause) → Guards p step v → step_of h ≤ step → step_of h ≢ step →
     is_block_of p (step_of h) lits ≡ true → Satisfies v lits
@@ -89,7 +90,8 @@ added_holds p step v (Block id lits ∷ h) right before g axioms blocks =
           push_holds (Holds v) (added p h) _ (added_holds p step v h right.1 before g axioms both.1) both.0
       | inr other ↦
           let rest : AllByRecursion (Satisfies v) (blocks_of h step) =
-          elim (eqb (step_of h) step) as (λ t. AllByRecursion (Satisfies v) (cond t (lits ∷ blocks_of h step) (blocks_of h step)) → AllByRecursion (Satisfies v) (blocks_of h step)) [
+          elim (eqb (step_of h) step) as
+          (λ t. AllByRecursion (Satisfies v) (cond t (lits ∷ blocks_of h step) (blocks_of h step)) → AllByRecursion (Satisfies v) (blocks_of h step)) [
             | true ↦ λ x. x.1
             | false ↦ λ x. x
           ] blocks in

@@ -21,7 +21,8 @@ sole_is_true v trues (m ∷ []) l e h =
 sole_is_true v trues (m ∷ n ∷ ns) l e h = absurd (cc)
 
 -- the literal of a unit clause that is met is true
-unit_is_true : (v : ℕ → Bool) (trues : List Literal) (c : Clause) (l : Literal) → AllTrue v trues → unit_literal trues c ≡ Some l → Satisfies v c → literal_value v l ≡ true
+unit_is_true : (v : ℕ → Bool) (trues : List Literal) (c : Clause) (l : Literal) → AllTrue v trues → unit_literal trues c ≡ Some l → Satisfies v c →
+    literal_value v l ≡ true
 unit_is_true v trues c l all e h =
     sole_is_true v trues (open_literals trues c) l e
     (Satisfies-filter v (λ m. not (has_literal trues (negation m)))

@@ -12,7 +12,8 @@ pub nothing_before : {A : Type 0} (o : Option (List A × List (List ℕ))) → o
 nothing_before None = refl
 nothing_before (Some found) = refl
 
-one_more : {A : Type 0} (front : List A) (a : A) (o : Option (List A × List (List ℕ))) → with_front front (onto_found (Some a) o) ≡ with_front (front ++ a ∷ []) o
+one_more : {A : Type 0} (front : List A) (a : A) (o : Option (List A × List (List ℕ))) →
+    with_front front (onto_found (Some a) o) ≡ with_front (front ++ a ∷ []) o
 one_more front a None = refl
 one_more front a (Some found) = ap (λ xs. Some (xs, found.1)) (sym (append_assoc front (a ∷ []) found.0))
 
@@ -43,3 +44,6 @@ none_left read words front is = ap (λ ws. with_front front (up_to_zero read ws)
 
 pub shorter : (words next : List (List ℕ)) (w : List ℕ) → words ≡ w ∷ next → length next < length words
 shorter words next w is = omega (arith, ap length is)
+
+-- how a list of words is read, word by word
+pub ruleset words_read = (step_found, end_found, lost, none_left, nothing_before, shorter)

@@ -76,7 +76,8 @@ words_each P item good (a ∷ xs) all ws rest = (good a all.0, words_each P item
 ids_words : (ids : List ℕ) → AllByRecursion IsId ids → (ws : List (List ℕ)) → AllByRecursion IsWord ws → AllByRecursion IsWord (map decimal ids ++ ws)
 ids_words ids all ws rest = words_each IsId decimal id_word ids all ws rest
 
-literals_words : (lits : Clause) → AllByRecursion HasVariable lits → (ws : List (List ℕ)) → AllByRecursion IsWord ws → AllByRecursion IsWord (map literal_word lits ++ ws)
+literals_words : (lits : Clause) → AllByRecursion HasVariable lits → (ws : List (List ℕ)) → AllByRecursion IsWord ws →
+    AllByRecursion IsWord (map literal_word lits ++ ws)
 literals_words lits all ws rest = words_each HasVariable literal_word literal_is_word lits all ws rest
 
 words_back : (line : Line) → HasText line → words_of (joined (line_words line)) ≡ line_words line
@@ -85,7 +86,8 @@ words_back (Finish id) h = words_joined (codes "e") (decimal id ∷ []) (refl, (
 words_back (Retire id) h = words_joined (codes "r") (decimal id ∷ []) (refl, (id_word id h, tt))
 words_back (Delete ids) h = words_joined (codes "d") (map decimal ids ++ zero_word ∷ []) (refl, ids_words ids h.0 (zero_word ∷ []) (refl, tt))
 words_back (Block id lits) h =
-    words_joined (codes "b") (decimal id ∷ (map literal_word lits ++ zero_word ∷ [])) (refl, (id_word id h.0, literals_words lits h.1 (zero_word ∷ []) (refl, tt)))
+    words_joined (codes "b") (decimal id ∷ (map literal_word lits ++ zero_word ∷ []))
+    (refl, (id_word id h.0, literals_words lits h.1 (zero_word ∷ []) (refl, tt)))
 words_back (Lemma id lits hints) h =
     words_joined (decimal id) (map literal_word lits ++ zero_word ∷ (map decimal hints ++ zero_word ∷ []))
     (id_word id h.0, literals_words lits h.1 (zero_word ∷ (map decimal hints ++ zero_word ∷ [])) (refl, ids_words hints h.2 (zero_word ∷ []) (refl, tt)))
@@ -107,13 +109,15 @@ record Reads {A : Type 0} (read : List ℕ → Option A) (item : A → List ℕ)
   back : (a : A) → P a → read (item a) ≡ Some a
   only : (w : List ℕ) (a : A) → read w ≡ Some a → P a × (item a ≡ w)
 
-items_back : {A : Type 0} (read : List ℕ → Option A) (item : A → List ℕ) (P : A → Type 0) → Reads read item P → (xs : List A) → AllByRecursion P xs → (rest : List (List ℕ)) →
+items_back : {A : Type 0} (read : List ℕ → Option A) (item : A → List ℕ) (P : A → Type 0) → Reads read item P → (xs : List A) → AllByRecursion P xs →
+    (rest : List (List ℕ)) →
     up_to_zero read (map item xs ++ zero_word ∷ rest) ≡ Some (xs, rest)
 items_back read item P r [] all rest = refl
 items_back {A} read item P r (a ∷ xs) all rest =
     let here : read (item a) ≡ Some a = r.back a all.0 in
     let later : Option (List A × List (List ℕ)) = up_to_zero read (map item xs ++ zero_word ∷ rest) in
-    ap (λ b. cond {A = Option (List A × List (List ℕ))} b (Some ([], map item xs ++ zero_word ∷ rest)) (onto_found (read (item a)) later)) (not_zero read (item a) a r.zero_is_none here) ∙
+    ap (λ b. cond {A = Option (List A × List (List ℕ))} b (Some ([], map item xs ++ zero_word ∷ rest)) (onto_found (read (item a)) later))
+    (not_zero read (item a) a r.zero_is_none here) ∙
     ap (λ o. onto_found o later) here ∙ ap (λ o. onto_found (Some a) o) (items_back read item P r xs all.1 rest)
 
 record AreItems {A : Type 0} (item : A → List ℕ) (P : A → Type 0) (ws : List (List ℕ)) (found : List A × List (List ℕ)) : Type 0 where
@@ -125,7 +129,8 @@ letter_is c [] h = cc
 letter_is c (b ∷ []) h = ap (λ x. x ∷ []) (eqb-true b c h)
 letter_is c (b ∷ d ∷ ds) h = cc
 
-one_item : {A : Type 0} (read : List ℕ → Option A) (item : A → List ℕ) (P : A → Type 0) → Reads read item P → (w : List ℕ) (ws : List (List ℕ)) (o : Option A) (u : Option (List A × List (List ℕ))) (found : List A × List (List ℕ)) →
+one_item : {A : Type 0} (read : List ℕ → Option A) (item : A → List ℕ) (P : A → Type 0) → Reads read item P →
+    (w : List ℕ) (ws : List (List ℕ)) (o : Option A) (u : Option (List A × List (List ℕ))) (found : List A × List (List ℕ)) →
     read w ≡ o → ((f : List A × List (List ℕ)) → u ≡ Some f → AreItems item P ws f) → onto_found o u ≡ Some found → AreItems item P (w ∷ ws) found
 one_item read item P r w ws None u found is later e = cc
 one_item read item P r w ws (Some a) None found is later e = cc
@@ -133,15 +138,18 @@ one_item read item P r w ws (Some a) (Some f) found is later e =
     let same : (a ∷ f.0, f.1) ≡ found = cc in
     let here : P a × (item a ≡ w) = r.only w a is in
     let rest : AreItems item P ws f = later f refl in
-    let whole : AreItems item P (w ∷ ws) (a ∷ f.0, f.1) = record { good = (here.0, rest.good); parts = ap (λ x. x ∷ ws) (sym here.1) ∙ ap (λ xs. item a ∷ xs) rest.parts } in
+    let whole : AreItems item P (w ∷ ws) (a ∷ f.0, f.1) =
+    record { good = (here.0, rest.good); parts = ap (λ x. x ∷ ws) (sym here.1) ∙ ap (λ xs. item a ∷ xs) rest.parts } in
     subst (AreItems item P (w ∷ ws)) same whole
 
-items_are : {A : Type 0} (read : List ℕ → Option A) (item : A → List ℕ) (P : A → Type 0) → Reads read item P → (ws : List (List ℕ)) (found : List A × List (List ℕ)) →
+items_are : {A : Type 0} (read : List ℕ → Option A) (item : A → List ℕ) (P : A → Type 0) → Reads read item P →
+    (ws : List (List ℕ)) (found : List A × List (List ℕ)) →
     up_to_zero read ws ≡ Some found → AreItems item P ws found
 items_are read item P r [] found e = cc
 items_are {A} read item P r (w ∷ ws) found e = by (is_letter 48 w) refl e (λ f. items_are read item P r ws f)
   where
-    by : (b : Bool) → is_letter 48 w ≡ b → cond {A = Option (List A × List (List ℕ))} b (Some ([], ws)) (onto_found (read w) (up_to_zero read ws)) ≡ Some found →
+    by : (b : Bool) → is_letter 48 w ≡ b →
+        cond {A = Option (List A × List (List ℕ))} b (Some ([], ws)) (onto_found (read w) (up_to_zero read ws)) ≡ Some found →
         ((f : List A × List (List ℕ)) → up_to_zero read ws ≡ Some f → AreItems item P ws f) → AreItems item P (w ∷ ws) found
     by true zero e later =
         let same : ([], ws) ≡ found = cc in
@@ -149,7 +157,8 @@ items_are {A} read item P r (w ∷ ws) found e = by (is_letter 48 w) refl e (λ 
         subst (AreItems item P (w ∷ ws)) same whole
     by false other e later = one_item read item P r w ws (read w) (up_to_zero read ws) found refl later e
 
-some_back : {A : Type 0} (read : List ℕ → Option A) (item : A → List ℕ) (P : A → Type 0) → Reads read item P → (xs : List A) → AllByRecursion P xs → 0 < length xs →
+some_back : {A : Type 0} (read : List ℕ → Option A) (item : A → List ℕ) (P : A → Type 0) → Reads read item P → (xs : List A) → AllByRecursion P xs →
+    0 < length xs →
     some_to_end read (map item xs ++ zero_word ∷ []) ≡ Some xs
 some_back {A} read item P r xs all some =
     ap (λ o. option_and_then (λ (found : List A × List (List ℕ)). some_and_end found.0 found.1) o) (items_back read item P r xs all []) ∙
@@ -164,19 +173,28 @@ none_behind : (ws : List (List ℕ)) → eqb (length ws) 0 ≡ true → ws ≡ [
 none_behind [] h = refl
 none_behind (w ∷ ws) h = let z : length (w ∷ ws) ≡ 0 = eqb-true (length (w ∷ ws)) 0 h in absurd (omega (arith, z))
 
-some_from : {A : Type 0} (item : A → List ℕ) (P : A → Type 0) (ws : List (List ℕ)) (found : List A × List (List ℕ)) (xs : List A) (b c : Bool) → AreItems item P ws found →
+some_from : {A : Type 0} (item : A → List ℕ) (P : A → Type 0) (ws : List (List ℕ)) (found : List A × List (List ℕ)) (xs : List A) (b c : Bool) →
+    AreItems item P ws found →
     nat_lt 0 (length found.0) ≡ b → eqb (length found.1) 0 ≡ c → cond {A = Option (List A)} (b && c) (Some found.0) None ≡ Some xs → AreSome item P ws xs
 some_from item P ws found xs false c items is end e = cc
 some_from item P ws found xs true false items is end e = cc
 some_from item P ws found xs true true items is end e =
     let same : found.0 ≡ xs = cc in
-    let whole : AreSome item P ws found.0 = record { good = items.good; some = ltb-true 0 (length found.0) is; parts = items.parts ∙ ap (λ r. map item found.0 ++ zero_word ∷ r) (none_behind found.1 end) } in
+    let whole : AreSome item P ws found.0 =
+    record {
+      good = items.good;
+      some = ltb-true 0 (length found.0) is;
+      parts = items.parts
+          ∙ ap (λ r. map item found.0 ++ zero_word ∷ r) (none_behind found.1 end);
+    } in
     subst (AreSome item P ws) same whole
 
-some_are : {A : Type 0} (read : List ℕ → Option A) (item : A → List ℕ) (P : A → Type 0) → Reads read item P → (ws : List (List ℕ)) (xs : List A) → some_to_end read ws ≡ Some xs → AreSome item P ws xs
+some_are : {A : Type 0} (read : List ℕ → Option A) (item : A → List ℕ) (P : A → Type 0) → Reads read item P → (ws : List (List ℕ)) (xs : List A) →
+    some_to_end read ws ≡ Some xs → AreSome item P ws xs
 some_are {A} read item P r ws xs e = by (up_to_zero read ws) refl e
   where
-    by : (o : Option (List A × List (List ℕ))) → up_to_zero read ws ≡ o → option_and_then (λ (found : List A × List (List ℕ)). some_and_end found.0 found.1) o ≡ Some xs → AreSome item P ws xs
+    by : (o : Option (List A × List (List ℕ))) → up_to_zero read ws ≡ o →
+        option_and_then (λ (found : List A × List (List ℕ)). some_and_end found.0 found.1) o ≡ Some xs → AreSome item P ws xs
     by None is e = cc
     by (Some found) is e = some_from item P ws found xs (nat_lt 0 (length found.0)) (eqb (length found.1) 0) (items_are read item P r ws found is) refl refl e
 
@@ -235,7 +253,8 @@ solve_is w [] line is e =
     subst (IsRead (w ∷ [])) same here
 solve_is w (v ∷ vs) line is e = cc
 
-finish_is : (w : List ℕ) (ws : List (List ℕ)) (line : Line) (o : Option ℕ) → w ≡ codes "e" → sole_id ws ≡ o → option_map (λ n. Finish n) o ≡ Some line → IsRead (w ∷ ws) line
+finish_is : (w : List ℕ) (ws : List (List ℕ)) (line : Line) (o : Option ℕ) → w ≡ codes "e" → sole_id ws ≡ o →
+    option_map (λ n. Finish n) o ≡ Some line → IsRead (w ∷ ws) line
 finish_is w ws line None is ids e = cc
 finish_is w ws line (Some n) is ids e =
     let same : Finish n ≡ line = cc in
@@ -243,7 +262,8 @@ finish_is w ws line (Some n) is ids e =
     let here : IsRead (w ∷ ws) (Finish n) = record { good = found.0; words = ap (λ x. x ∷ ws) is ∙ ap (λ r. codes "e" ∷ r) found.1 } in
     subst (IsRead (w ∷ ws)) same here
 
-retire_is : (w : List ℕ) (ws : List (List ℕ)) (line : Line) (o : Option ℕ) → w ≡ codes "r" → sole_id ws ≡ o → option_map (λ n. Retire n) o ≡ Some line → IsRead (w ∷ ws) line
+retire_is : (w : List ℕ) (ws : List (List ℕ)) (line : Line) (o : Option ℕ) → w ≡ codes "r" → sole_id ws ≡ o →
+    option_map (λ n. Retire n) o ≡ Some line → IsRead (w ∷ ws) line
 retire_is w ws line None is ids e = cc
 retire_is w ws line (Some n) is ids e =
     let same : Retire n ≡ line = cc in
@@ -251,7 +271,8 @@ retire_is w ws line (Some n) is ids e =
     let here : IsRead (w ∷ ws) (Retire n) = record { good = found.0; words = ap (λ x. x ∷ ws) is ∙ ap (λ r. codes "r" ∷ r) found.1 } in
     subst (IsRead (w ∷ ws)) same here
 
-delete_is : (w : List ℕ) (ws : List (List ℕ)) (line : Line) (o : Option (List ℕ)) → w ≡ codes "d" → some_to_end id_in ws ≡ o → option_map (λ xs. Delete xs) o ≡ Some line → IsRead (w ∷ ws) line
+delete_is : (w : List ℕ) (ws : List (List ℕ)) (line : Line) (o : Option (List ℕ)) → w ≡ codes "d" → some_to_end id_in ws ≡ o →
+    option_map (λ xs. Delete xs) o ≡ Some line → IsRead (w ∷ ws) line
 delete_is w ws line None is ids e = cc
 delete_is w ws line (Some xs) is ids e =
     let same : Delete xs ≡ line = cc in
@@ -259,7 +280,8 @@ delete_is w ws line (Some xs) is ids e =
     let here : IsRead (w ∷ ws) (Delete xs) = record { good = (found.good, found.some); words = ap (λ x. x ∷ ws) is ∙ ap (λ r. codes "d" ∷ r) found.parts } in
     subst (IsRead (w ∷ ws)) same here
 
-block_from : (w v : List ℕ) (ws : List (List ℕ)) (line : Line) (o : Option ℕ) (u : Option Clause) → w ≡ codes "b" → id_in v ≡ o → some_to_end literal_in ws ≡ u →
+block_from : (w v : List ℕ) (ws : List (List ℕ)) (line : Line) (o : Option ℕ) (u : Option Clause) → w ≡ codes "b" → id_in v ≡ o →
+    some_to_end literal_in ws ≡ u →
     option_and_then (λ n. option_map (λ ls. Block n ls) u) o ≡ Some line → IsRead (w ∷ v ∷ ws) line
 block_from w v ws line None u is id lits e = cc
 block_from w v ws line (Some n) None is id lits e = cc
@@ -268,14 +290,19 @@ block_from w v ws line (Some n) (Some ls) is id lits e =
     let first : IsId n × (decimal n ≡ v) = id_is v n id in
     let found : AreSome literal_word HasVariable ws ls = some_are literal_in literal_word HasVariable literals_read ws ls lits in
     let here : IsRead (w ∷ v ∷ ws) (Block n ls) =
-    record { good = (first.0, found.good, found.some); words = ap (λ x. x ∷ v ∷ ws) is ∙ ap (λ x. codes "b" ∷ x ∷ ws) (sym first.1) ∙ ap (λ r. codes "b" ∷ decimal n ∷ r) found.parts } in
+    record {
+      good = (first.0, found.good, found.some);
+      words = ap (λ x. x ∷ v ∷ ws) is ∙ ap (λ x. codes "b" ∷ x ∷ ws) (sym first.1)
+          ∙ ap (λ r. codes "b" ∷ decimal n ∷ r) found.parts;
+    } in
     subst (IsRead (w ∷ v ∷ ws)) same here
 
 block_is : (w : List ℕ) (ws : List (List ℕ)) (line : Line) → w ≡ codes "b" → block_in ws ≡ Some line → IsRead (w ∷ ws) line
 block_is w [] line is e = cc
 block_is w (v ∷ ws) line is e = block_from w v ws line (id_in v) (some_to_end literal_in ws) is refl refl e
 
-hints_from : (w : List ℕ) (ws : List (List ℕ)) (line : Line) (n : ℕ) (found : Clause × List (List ℕ)) (o : Option (List ℕ)) → IsId n × (decimal n ≡ w) → AreItems literal_word HasVariable ws found →
+hints_from : (w : List ℕ) (ws : List (List ℕ)) (line : Line) (n : ℕ) (found : Clause × List (List ℕ)) (o : Option (List ℕ)) →
+    IsId n × (decimal n ≡ w) → AreItems literal_word HasVariable ws found →
     some_to_end id_in found.1 ≡ o → option_map (λ hs. Lemma n found.0 hs) o ≡ Some line → IsRead (w ∷ ws) line
 hints_from w ws line n found None first lits ids e = cc
 hints_from w ws line n found (Some hs) first lits ids e =
@@ -284,7 +311,8 @@ hints_from w ws line n found (Some hs) first lits ids e =
     let here : IsRead (w ∷ ws) (Lemma n found.0 hs) =
     record {
       good = (first.0, lits.good, last.good, last.some);
-      words = ap (λ x. x ∷ ws) (sym first.1) ∙ ap (λ r. decimal n ∷ r) lits.parts ∙ ap (λ r. decimal n ∷ (map literal_word found.0 ++ zero_word ∷ r)) last.parts;
+      words =
+          ap (λ x. x ∷ ws) (sym first.1) ∙ ap (λ r. decimal n ∷ r) lits.parts ∙ ap (λ r. decimal n ∷ (map literal_word found.0 ++ zero_word ∷ r)) last.parts;
     } in
     subst (IsRead (w ∷ ws)) same here
 
@@ -295,7 +323,8 @@ lemma_from w ws line (Some n) None id lits e = cc
 lemma_from w ws line (Some n) (Some found) id lits e =
     hints_from w ws line n found (some_to_end id_in found.1) (id_is w n id) (items_are literal_in literal_word HasVariable literals_read ws found lits) refl e
 
-branch : {G : Type 0} (b : Bool) (x y : Option Line) (line : Line) → cond b x y ≡ Some line → (b ≡ true → x ≡ Some line → G) → (b ≡ false → y ≡ Some line → G) → G
+branch : {G : Type 0} (b : Bool) (x y : Option Line) (line : Line) → cond b x y ≡ Some line → (b ≡ true → x ≡ Some line → G) →
+    (b ≡ false → y ≡ Some line → G) → G
 branch true x y line e holds fails = holds refl e
 branch false x y line e holds fails = fails refl e
 
@@ -311,7 +340,8 @@ words_read (w ∷ ws) line e =
     branch (is_letter 98 w) (block_in ws) f line e (λ is e. block_is w ws line (letter_is 98 w is) e) (λ _ e.
     branch (is_letter 101 w) (option_map (λ n. Finish n) (sole_id ws)) r line e (λ is e. finish_is w ws line (sole_id ws) (letter_is 101 w is) refl e) (λ _ e.
     branch (is_letter 114 w) (option_map (λ n. Retire n) (sole_id ws)) d line e (λ is e. retire_is w ws line (sole_id ws) (letter_is 114 w is) refl e) (λ _ e.
-    branch (is_letter 100 w) (option_map (λ xs. Delete xs) (some_to_end id_in ws)) last line e (λ is e. delete_is w ws line (some_to_end id_in ws) (letter_is 100 w is) refl e) (λ _ e.
+    branch (is_letter 100 w) (option_map (λ xs. Delete xs) (some_to_end id_in ws)) last line e
+    (λ is e. delete_is w ws line (some_to_end id_in ws) (letter_is 100 w is) refl e) (λ _ e.
     lemma_from w ws line (id_in w) (up_to_zero literal_in ws) refl refl e)))))
 
 texts_from : (text : List ℕ) (o : Option Line) → line_in text ≡ o → IsLineOf text o

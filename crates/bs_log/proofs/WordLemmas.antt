@@ -6,6 +6,7 @@ use Rattle.std.proofs.lemmas.Bool.{and_parts, and_from, eqb-true, eqb-false, ne_
 use Rattle.std.proofs.lemmas.Fmt.{decimal_injective, first_decimal}
 use Rattle.bs_bits.specs.Lines.{words_of, onto_first, number_in, number_of, digits_in, is_canonical, is_digits}
 use Rattle.bs_bits.proofs.NumberLemmas.{canonical, not_canonical}
+use Rattle.bs_clause.specs.declared.literal.TheConstants.{VARIABLE_LIMIT}
 use Rattle.bs_clause.specs.Literal.{Literal, IsVariable}
 use Rattle.bs_log.specs.LineReading.{from_one, id_in, variable_of, signed, literal_in, is_letter}
 use Rattle.bs_log.specs.LineForms.{IsId, HasVariable}
@@ -25,7 +26,8 @@ number_text text n e = subst (λ (o : Option ℕ). MatchOption o ((m : ℕ) → 
 pub number_below : (text : List ℕ) (n : ℕ) → number_in text ≡ Some n → n < 2 ^ 64
 number_below text n e = by (is_canonical text) (nat_lt (number_of text) (2 ^ 64)) refl e
   where
-    by : (b c : Bool) → nat_lt (number_of text) (2 ^ 64) ≡ c → cond {A = Option ℕ} b (cond {A = Option ℕ} c (Some (number_of text)) None) None ≡ Some n → n < 2 ^ 64
+    by : (b c : Bool) → nat_lt (number_of text) (2 ^ 64) ≡ c →
+        cond {A = Option ℕ} b (cond {A = Option ℕ} c (Some (number_of text)) None) None ≡ Some n → n < 2 ^ 64
     by true true small e = let same : number_of text ≡ n = cc in omega (arith, same, ltb-true (number_of text) (2 ^ 64) small)
     by true false small e = cc
     by false c small e = cc
@@ -34,7 +36,9 @@ number_of_decimal : (n : ℕ) → n < 2 ^ 64 → number_in (decimal n) ≡ Some 
 number_of_decimal n h = by (number_in (decimal n)) refl
   where
     by : (o : Option ℕ) → number_in (decimal n) ≡ o → o ≡ Some n
-    by None e = absurd (subst (λ (o : Option ℕ). MatchOption o ((m : ℕ) → m < 2 ^ 64 → decimal m ≢ decimal n) (λ m. decimal m ≡ decimal n)) e (number_exact (decimal n)) n h refl)
+    by None e =
+        absurd (subst (λ (o : Option ℕ). MatchOption o ((m : ℕ) → m < 2 ^ 64 → decimal m ≢ decimal n) (λ m. decimal m ≡ decimal n)) e
+        (number_exact (decimal n)) n h refl)
     by (Some m) e = ap (λ k. Some k) (decimal_injective m n (number_below (decimal n) m e) h (number_text (decimal n) m e))
 
 number_digits : (w : List ℕ) (n : ℕ) → number_in w ≡ Some n → is_digits w ≡ true
@@ -74,24 +78,25 @@ id_of_decimal n h =
 abbrev pub literal_word : Literal → List ℕ
 literal_word l = cond l.positive [] (codes "-") ++ decimal l.variable
 
-variable_from : (w : List ℕ) (m n : ℕ) (b : Bool) → number_in w ≡ Some m → (nat_le 1 m && nat_lt m (2 ^ 30)) ≡ b → cond {A = Option ℕ} b (Some m) None ≡ Some n → IsVariable n × (decimal n ≡ w)
+variable_from : (w : List ℕ) (m n : ℕ) (b : Bool) → number_in w ≡ Some m → (nat_le 1 m && nat_lt m VARIABLE_LIMIT) ≡ b →
+    cond {A = Option ℕ} b (Some m) None ≡ Some n → IsVariable n × (decimal n ≡ w)
 variable_from w m n false is z e = cc
 variable_from w m n true is z e =
     let same : m ≡ n = cc in
-    let parts : (nat_le 1 m ≡ true) × (nat_lt m (2 ^ 30) ≡ true) = and_parts (nat_le 1 m) (nat_lt m (2 ^ 30)) z in
-    subst (λ (k : ℕ). IsVariable k × (decimal k ≡ w)) same ((leb-true 1 m parts.0, ltb-true m (2 ^ 30) parts.1), number_text w m is)
+    let parts : (nat_le 1 m ≡ true) × (nat_lt m VARIABLE_LIMIT ≡ true) = and_parts (nat_le 1 m) (nat_lt m VARIABLE_LIMIT) z in
+    subst (λ (k : ℕ). IsVariable k × (decimal k ≡ w)) same ((leb-true 1 m parts.0, ltb-true m VARIABLE_LIMIT parts.1), number_text w m is)
 
 variable_is : (w : List ℕ) (n : ℕ) → variable_of (number_in w) ≡ Some n → IsVariable n × (decimal n ≡ w)
 variable_is w n e = by (number_in w) refl e
   where
     by : (o : Option ℕ) → number_in w ≡ o → variable_of o ≡ Some n → IsVariable n × (decimal n ≡ w)
     by None is e = cc
-    by (Some m) is e = variable_from w m n (nat_le 1 m && nat_lt m (2 ^ 30)) is refl e
+    by (Some m) is e = variable_from w m n (nat_le 1 m && nat_lt m VARIABLE_LIMIT) is refl e
 
 variable_of_decimal : (n : ℕ) → IsVariable n → variable_of (number_in (decimal n)) ≡ Some n
 variable_of_decimal n h =
     ap variable_of (number_of_decimal n (let small = h.1 in omega (arith, small))) ∙
-    ap (λ b. cond {A = Option ℕ} b (Some n) None) (and_from (nat_le 1 n) (nat_lt n (2 ^ 30)) (le-leb 1 n h.0) (lt-ltb n (2 ^ 30) h.1))
+    ap (λ b. cond {A = Option ℕ} b (Some n) None) (and_from (nat_le 1 n) (nat_lt n VARIABLE_LIMIT) (le-leb 1 n h.0) (lt-ltb n VARIABLE_LIMIT h.1))
 
 record IsSigned (s : Bool) (w : List ℕ) (l : Literal) : Type 0 where
   range : HasVariable l
@@ -114,7 +119,8 @@ pub literal_is : (w : List ℕ) (l : Literal) → literal_in w ≡ Some l → Ha
 literal_is [] l e = cc
 literal_is (b ∷ bs) l e = by (eqb b 45) refl e
   where
-    by : (t : Bool) → eqb b 45 ≡ t → cond {A = Option Literal} t (signed false (variable_of (number_in bs))) (signed true (variable_of (number_in (b ∷ bs)))) ≡ Some l →
+    by : (t : Bool) → eqb b 45 ≡ t →
+        cond {A = Option Literal} t (signed false (variable_of (number_in bs))) (signed true (variable_of (number_in (b ∷ bs)))) ≡ Some l →
         HasVariable l × (literal_word l ≡ b ∷ bs)
     by true minus e =
         let s : IsSigned false bs l = signed_is false bs l e in
@@ -126,7 +132,8 @@ literal_is (b ∷ bs) l e = by (eqb b 45) refl e
 positive_in : (w : List ℕ) → 48 < get_or w 0 0 → literal_in w ≡ signed true (variable_of (number_in w))
 positive_in [] h = absurd (omega arith)
 positive_in (b ∷ bs) h =
-    ap (λ t. cond {A = Option Literal} t (signed false (variable_of (number_in bs))) (signed true (variable_of (number_in (b ∷ bs))))) (ne_eqb b 45 (λ e. omega (arith, e, h)))
+    ap (λ t. cond {A = Option Literal} t (signed false (variable_of (number_in bs))) (signed true (variable_of (number_in (b ∷ bs)))))
+    (ne_eqb b 45 (λ e. omega (arith, e, h)))
 
 pub literal_of_word : (l : Literal) → HasVariable l → literal_in (literal_word l) ≡ Some l
 literal_of_word l h = by l.positive refl
@@ -156,7 +163,9 @@ pub id_word : (n : ℕ) → IsId n → IsWord (decimal n)
 id_word n h = digits_word (decimal n) (number_digits (decimal n) n (number_of_decimal n h.1))
 
 pub literal_is_word : (l : Literal) → HasVariable l → IsWord (literal_word l)
-literal_is_word l h = by l.positive (digits_word (decimal l.variable) (number_digits (decimal l.variable) l.variable (number_of_decimal l.variable (let small = h.1 in omega (arith, small)))))
+literal_is_word l h =
+    by l.positive (digits_word (decimal l.variable)
+    (number_digits (decimal l.variable) l.variable (number_of_decimal l.variable (let small = h.1 in omega (arith, small)))))
   where
     by : (s : Bool) → IsWord (decimal l.variable) → IsWord (cond s [] (codes "-") ++ decimal l.variable)
     by true w = w
@@ -218,7 +227,8 @@ word_then : (w t : List ℕ) → IsWord w → words_of (w ++ 32 ∷ t) ≡ w ∷
 word_then [] t h = refl
 word_then (b ∷ bs) t h =
     let parts : (not (eqb b 32) ≡ true) × (IsWord bs) = and_parts (not (eqb b 32)) (list_all (λ c. not (eqb c 32)) bs) h in
-    ap (λ c. cond c ([] ∷ words_of (bs ++ 32 ∷ t)) (onto_first b (words_of (bs ++ 32 ∷ t)))) (not-true (eqb b 32) parts.0) ∙ ap (onto_first b) (word_then bs t parts.1)
+    ap (λ c. cond c ([] ∷ words_of (bs ++ 32 ∷ t)) (onto_first b (words_of (bs ++ 32 ∷ t)))) (not-true (eqb b 32) parts.0)
+    ∙ ap (onto_first b) (word_then bs t parts.1)
 
 word_only : (w : List ℕ) → IsWord w → words_of w ≡ w ∷ []
 word_only [] h = refl

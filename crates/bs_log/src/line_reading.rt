@@ -177,7 +177,7 @@ fn ids_if(ids: List<u64>, ended: bool) -> Option<List<u64>>
 }
 
 /// The ids up to a word `0`, which is taken out too.
-#[tactic(auto, using(crate::proofs::Reading::step_found, crate::proofs::Reading::end_found, crate::proofs::Reading::lost, crate::proofs::Reading::none_left, crate::proofs::Reading::nothing_before, crate::proofs::Reading::shorter))]
+#[tactic(auto, using(crate::proofs::Reading::words_read))]
 fn ids<'a>(alloc: Global, words: &mut Words<'a>) -> Result<Option<List<u64>>, NoMemory>
     ensures { IfOk result (λ found. MatchOption found (up_to_zero id_in words.old ≡ None) (λ ids. up_to_zero id_in words.old ≡ Some (ids, words.new))) }
 {
@@ -195,7 +195,7 @@ fn ids<'a>(alloc: Global, words: &mut Words<'a>) -> Result<Option<List<u64>>, No
 }
 
 /// The literals up to a word `0`, which is taken out too.
-#[tactic(auto, using(crate::proofs::Reading::step_found, crate::proofs::Reading::end_found, crate::proofs::Reading::lost, crate::proofs::Reading::none_left, crate::proofs::Reading::nothing_before, crate::proofs::Reading::shorter))]
+#[tactic(auto, using(crate::proofs::Reading::words_read))]
 fn literals<'a>(alloc: Global, words: &mut Words<'a>) -> Result<Option<Lits>, NoMemory>
     ensures { IfOk result (λ found. MatchOption found (up_to_zero literal_in words.old ≡ None) (λ lits. up_to_zero literal_in words.old ≡ Some (lits, words.new))) }
 {

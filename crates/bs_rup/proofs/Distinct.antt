@@ -30,7 +30,8 @@ assigned_in : (rest : Clause) (l : Literal) →
     (has_literal (map negation rest) l || has_literal (map negation rest) (negation l)) ≡ list_any (λ m. eqb m.variable l.variable) rest
 assigned_in [] l = refl
 assigned_in (m ∷ rest) l =
-    regroup (same_literal l (negation m)) (has_literal (map negation rest) l) (same_literal (negation l) (negation m)) (has_literal (map negation rest) (negation l)) ∙
+    regroup (same_literal l (negation m)) (has_literal (map negation rest) l) (same_literal (negation l) (negation m))
+    (has_literal (map negation rest) (negation l)) ∙
     ap (λ b. b || (has_literal (map negation rest) l || has_literal (map negation rest) (negation l)))
     (one_sign (eqb l.variable m.variable) l.positive m.positive ∙ eqb_turned l.variable m.variable) ∙
     ap (λ b. eqb m.variable l.variable || b) (assigned_in rest l)

@@ -39,7 +39,8 @@ two_open trues clause i l (Some x) h at unfalse first some =
     let kept : filter test (l ∷ drop (i + 1) clause) ≡ l ∷ filter test (drop (i + 1) clause) =
     ap (λ b. cond (not b) (l ∷ filter test (drop (i + 1) clause)) (filter test (drop (i + 1) clause))) unfalse in
     ap (unit_literal trues) parts ∙
-    ap (sole_unassigned trues) (filter-append test (take i clause) (l ∷ drop (i + 1) clause) ∙ ap (λ a. a ++ filter test (l ∷ drop (i + 1) clause)) first ∙ ap (λ a. x ∷ a) kept)
+    ap (sole_unassigned trues)
+    (filter-append test (take i clause) (l ∷ drop (i + 1) clause) ∙ ap (λ a. a ++ filter test (l ∷ drop (i + 1) clause)) first ∙ ap (λ a. x ∷ a) kept)
 
 pub short_ascending : (xs : List ℕ) → length xs ≤ 1 → is_ascending xs ≡ true
 short_ascending [] h = refl
@@ -47,7 +48,8 @@ short_ascending (x ∷ []) h = refl
 short_ascending (x ∷ y ∷ xs) h = absurd (omega arith)
 
 -- a slice of one element is that element
-pub one_taken : {X : Type 0} (xs : List X) (k : ℕ) → is_some (slice_get xs k) ≡ true → option_map (λ (x : X). x ∷ []) (slice_get xs k) ≡ Some (take 1 (drop k xs))
+pub one_taken : {X : Type 0} (xs : List X) (k : ℕ) → is_some (slice_get xs k) ≡ true →
+    option_map (λ (x : X). x ∷ []) (slice_get xs k) ≡ Some (take 1 (drop k xs))
 one_taken [] k h = absurd (false≢true h)
 one_taken (x ∷ xs) zero h = refl
 one_taken (x ∷ xs) (suc k) h = one_taken xs k h

@@ -31,7 +31,8 @@ entry_at_place n (s ∷ ss) zero id at =
 entry_at_place n (s ∷ ss) (suc k) id at =
     let other : eqb n id ≡ false = ne_eqb n id (λ e. omega arith) in
     let later : entry_of (live_from (n + 1) ss) id ≡ option_and_then (entry_if id) (slice_get ss k) = entry_at_place (n + 1) ss k id (omega arith) in
-    elim (s.live) as (λ b. entry_of (cond b (entry_from n s ∷ live_from (n + 1) ss) (live_from (n + 1) ss)) id ≡ option_and_then (entry_if id) (slice_get ss k)) [
+    elim (s.live) as (λ b. entry_of (cond b (entry_from n s ∷ live_from (n + 1) ss) (live_from (n + 1) ss)) id ≡ option_and_then (entry_if id)
+    (slice_get ss k)) [
       | true ↦ ap (λ b. cond b (Some (entry_from n s)) (entry_of (live_from (n + 1) ss) id)) other ∙ later
       | false ↦ later
     ]

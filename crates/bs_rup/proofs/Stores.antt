@@ -11,7 +11,8 @@ use Rattle.bs_log.specs.History.{Entry, axioms_from}
 use Rattle.bs_rup.specs.declared.live_clauses.Stored.{Stored}
 use Rattle.bs_rup.specs.LiveClauses.{entry_from, live_from}
 
-pub live_from-push : (n : ℕ) (ss : List Stored) (s : Stored) (id : ℕ) → s.live ≡ true → id ≡ n + length ss → live_from n (ss ++ s ∷ []) ≡ live_from n ss ++ entry_from id s ∷ []
+pub live_from-push : (n : ℕ) (ss : List Stored) (s : Stored) (id : ℕ) → s.live ≡ true → id ≡ n + length ss →
+    live_from n (ss ++ s ∷ []) ≡ live_from n ss ++ entry_from id s ∷ []
 live_from-push n [] s id live at =
     ap (λ b. cond b (entry_from n s ∷ []) []) live ∙ ap (λ k. entry_from k s ∷ []) (let e : n ≡ id = omega arith in e)
 live_from-push n (x ∷ xs) s id live at =
@@ -28,8 +29,10 @@ others_stay n [] id h = refl
 others_stay n (s ∷ ss) id h =
     let other : eqb n id ≡ false = ne_eqb n id (λ e. omega arith) in
     let rest : filter (λ e. not (eqb e.id id)) (live_from (n + 1) ss) ≡ live_from (n + 1) ss = others_stay (n + 1) ss id (omega arith) in
-    elim (s.live) as (λ b. filter (λ e. not (eqb e.id id)) (cond b (entry_from n s ∷ live_from (n + 1) ss) (live_from (n + 1) ss)) ≡ cond b (entry_from n s ∷ live_from (n + 1) ss) (live_from (n + 1) ss)) [
-      | true ↦ ap (λ b. cond (not b) (entry_from n s ∷ filter (λ e. not (eqb e.id id)) (live_from (n + 1) ss)) (filter (λ e. not (eqb e.id id)) (live_from (n + 1) ss))) other ∙ ap (λ r. entry_from n s ∷ r) rest
+    elim (s.live) as (λ b. filter (λ e. not (eqb e.id id)) (cond b (entry_from n s ∷ live_from (n + 1) ss) (live_from (n + 1) ss)) ≡ cond b
+    (entry_from n s ∷ live_from (n + 1) ss) (live_from (n + 1) ss)) [
+      | true ↦ ap (λ b. cond (not b) (entry_from n s ∷ filter (λ e. not (eqb e.id id)) (live_from (n + 1) ss))
+          (filter (λ e. not (eqb e.id id)) (live_from (n + 1) ss))) other ∙ ap (λ r. entry_from n s ∷ r) rest
       | false ↦ rest
     ]
 
@@ -40,35 +43,49 @@ live_from-kill n (x ∷ xs) zero id s dead h at =
     let here : eqb n id ≡ true = eq-eqb n id (omega arith) in
     let rest : filter (λ e. not (eqb e.id id)) (live_from (n + 1) xs) ≡ live_from (n + 1) xs = others_stay (n + 1) xs id (omega arith) in
     ap (λ b. cond b (entry_from n s ∷ live_from (n + 1) xs) (live_from (n + 1) xs)) dead ∙
-    sym (elim (x.live) as (λ b. filter (λ e. not (eqb e.id id)) (cond b (entry_from n x ∷ live_from (n + 1) xs) (live_from (n + 1) xs)) ≡ live_from (n + 1) xs) [
-      | true ↦ ap (λ b. cond (not b) (entry_from n x ∷ filter (λ e. not (eqb e.id id)) (live_from (n + 1) xs)) (filter (λ e. not (eqb e.id id)) (live_from (n + 1) xs))) here ∙ rest
+    sym (elim (x.live) as
+    (λ b. filter (λ e. not (eqb e.id id)) (cond b (entry_from n x ∷ live_from (n + 1) xs) (live_from (n + 1) xs)) ≡ live_from (n + 1) xs) [
+      | true ↦ ap (λ b. cond (not b) (entry_from n x ∷ filter (λ e. not (eqb e.id id)) (live_from (n + 1) xs))
+          (filter (λ e. not (eqb e.id id)) (live_from (n + 1) xs))) here ∙ rest
       | false ↦ rest
     ])
 live_from-kill n (x ∷ xs) (suc k) id s dead h at =
     let other : eqb n id ≡ false = ne_eqb n id (λ e. omega arith) in
-    let rest : live_from (n + 1) (set xs k s) ≡ filter (λ e. not (eqb e.id id)) (live_from (n + 1) xs) = live_from-kill (n + 1) xs k id s dead (omega arith) (omega arith) in
+    let rest : live_from (n + 1) (set xs k s) ≡ filter (λ e. not (eqb e.id id)) (live_from (n + 1) xs) =
+    live_from-kill (n + 1) xs k id s dead (omega arith) (omega arith) in
     elim (x.live) as (λ b. cond b (entry_from n x ∷ live_from (n + 1) (set xs k s)) (live_from (n + 1) (set xs k s)) ≡
     filter (λ e. not (eqb e.id id)) (cond b (entry_from n x ∷ live_from (n + 1) xs) (live_from (n + 1) xs))) [
-      | true ↦ ap (λ r. entry_from n x ∷ r) rest ∙ sym (ap (λ b. cond (not b) (entry_from n x ∷ filter (λ e. not (eqb e.id id)) (live_from (n + 1) xs)) (filter (λ e. not (eqb e.id id)) (live_from (n + 1) xs))) other)
+      | true ↦ ap (λ r. entry_from n x ∷ r) rest
+          ∙ sym (ap (λ b. cond (not b) (entry_from n x ∷ filter (λ e. not (eqb e.id id)) (live_from (n + 1) xs))
+          (filter (λ e. not (eqb e.id id)) (live_from (n + 1) xs))) other)
       | false ↦ rest
     ]
 
 -- one id more is taken away
 pub filter_one_more : (done : List ℕ) (id : ℕ) (es : List Entry) →
-    filter (λ e. not (eqb e.id id)) (filter (λ e. not (list_any (λ d. eqb e.id d) done)) es) ≡ filter (λ e. not (list_any (λ d. eqb e.id d) (done ++ id ∷ []))) es
+    filter (λ e. not (eqb e.id id)) (filter (λ e. not (list_any (λ d. eqb e.id d) done)) es) ≡ filter
+    (λ e. not (list_any (λ d. eqb e.id d) (done ++ id ∷ []))) es
 filter_one_more done id [] = refl
 filter_one_more done id (e ∷ es) =
-    let rest : filter (λ e. not (eqb e.id id)) (filter (λ e. not (list_any (λ d. eqb e.id d) done)) es) ≡ filter (λ e. not (list_any (λ d. eqb e.id d) (done ++ id ∷ []))) es = filter_one_more done id es in
-    let joined : list_any (λ d. eqb e.id d) (done ++ id ∷ []) ≡ (list_any (λ d. eqb e.id d) done || (eqb e.id id || false)) = list_any-append (λ d. eqb e.id d) done (id ∷ []) in
+    let rest : filter (λ e. not (eqb e.id id)) (filter (λ e. not (list_any (λ d. eqb e.id d) done)) es) ≡ filter
+    (λ e. not (list_any (λ d. eqb e.id d) (done ++ id ∷ []))) es =
+    filter_one_more done id es in
+    let joined : list_any (λ d. eqb e.id d) (done ++ id ∷ []) ≡ (list_any (λ d. eqb e.id d) done || (eqb e.id id || false)) =
+    list_any-append (λ d. eqb e.id d) done (id ∷ []) in
     (elim (list_any (λ d. eqb e.id d) done) as (λ a.
-    filter (λ e. not (eqb e.id id)) (cond (not a) (e ∷ filter (λ e. not (list_any (λ d. eqb e.id d) done)) es) (filter (λ e. not (list_any (λ d. eqb e.id d) done)) es)) ≡
-    cond (not (a || (eqb e.id id || false))) (e ∷ filter (λ e. not (list_any (λ d. eqb e.id d) (done ++ id ∷ []))) es) (filter (λ e. not (list_any (λ d. eqb e.id d) (done ++ id ∷ []))) es)) [
+    filter (λ e. not (eqb e.id id))
+    (cond (not a) (e ∷ filter (λ e. not (list_any (λ d. eqb e.id d) done)) es) (filter (λ e. not (list_any (λ d. eqb e.id d) done)) es)) ≡
+    cond (not (a || (eqb e.id id || false))) (e ∷ filter (λ e. not (list_any (λ d. eqb e.id d) (done ++ id ∷ []))) es)
+    (filter (λ e. not (list_any (λ d. eqb e.id d) (done ++ id ∷ []))) es)) [
       | true ↦ rest
       | false ↦ elim (eqb e.id id) as (λ b.
-          cond (not b) (e ∷ filter (λ e. not (eqb e.id id)) (filter (λ e. not (list_any (λ d. eqb e.id d) done)) es)) (filter (λ e. not (eqb e.id id)) (filter (λ e. not (list_any (λ d. eqb e.id d) done)) es)) ≡
-          cond (not (b || false)) (e ∷ filter (λ e. not (list_any (λ d. eqb e.id d) (done ++ id ∷ []))) es) (filter (λ e. not (list_any (λ d. eqb e.id d) (done ++ id ∷ []))) es)) [ true ↦ rest | false ↦ ap (λ r. e ∷ r) rest ]
+          cond (not b) (e ∷ filter (λ e. not (eqb e.id id)) (filter (λ e. not (list_any (λ d. eqb e.id d) done)) es))
+          (filter (λ e. not (eqb e.id id)) (filter (λ e. not (list_any (λ d. eqb e.id d) done)) es)) ≡
+          cond (not (b || false)) (e ∷ filter (λ e. not (list_any (λ d. eqb e.id d) (done ++ id ∷ []))) es)
+          (filter (λ e. not (list_any (λ d. eqb e.id d) (done ++ id ∷ []))) es)) [ true ↦ rest | false ↦ ap (λ r. e ∷ r) rest ]
     ]) ∙
-    ap (λ t. cond (not t) (e ∷ filter (λ e. not (list_any (λ d. eqb e.id d) (done ++ id ∷ []))) es) (filter (λ e. not (list_any (λ d. eqb e.id d) (done ++ id ∷ []))) es)) (sym joined)
+    ap (λ t. cond (not t) (e ∷ filter (λ e. not (list_any (λ d. eqb e.id d) (done ++ id ∷ []))) es)
+    (filter (λ e. not (list_any (λ d. eqb e.id d) (done ++ id ∷ []))) es)) (sym joined)
 
 pub keep_all : (es : List Entry) → es ≡ filter (λ e. not (list_any (λ d. eqb e.id d) [])) es
 keep_all [] = refl
@@ -91,7 +108,8 @@ each_at P [] i all h = absurd (omega arith)
 each_at P (x ∷ xs) zero all h = all.0
 each_at P (x ∷ xs) (suc i) all h = each_at P xs i all.1 (omega arith)
 
-axioms_from-push : (n : ℕ) (cs : List Clause) (c : Clause) (id : ℕ) → id ≡ n + length cs → axioms_from n (cs ++ c ∷ []) ≡ axioms_from n cs ++ record { id = id; origin = Axiom; literals = c } ∷ []
+axioms_from-push : (n : ℕ) (cs : List Clause) (c : Clause) (id : ℕ) → id ≡ n + length cs →
+    axioms_from n (cs ++ c ∷ []) ≡ axioms_from n cs ++ record { id = id; origin = Axiom; literals = c } ∷ []
 axioms_from-push n [] c id at = ap (λ k. record { id = k; origin = Axiom; literals = c } ∷ []) (let e : n ≡ id = omega arith in e)
 axioms_from-push n (x ∷ xs) c id at = ap (λ r. record { id = n; origin = Axiom; literals = x } ∷ r) (axioms_from-push (n + 1) xs c id (omega arith))
 

@@ -33,7 +33,8 @@ unit_of vars (suc n) k h = by (nat_lt k n) refl (unit_of vars n k)
         at_end (retired_units vars n) k (record { variable = vars + suc n; positive = false }) (omega (arith, last, units_counted vars n)) ∙
         ap (λ m. Some (record { variable = vars + suc m; positive = false })) last
 
-pub unit_of_step : (vars n step : ℕ) (units : Clause) → units ≡ retired_units vars n → 1 ≤ step → step ≤ n → slice_get units (step - 1) ≡ Some (record { variable = vars + step; positive = false })
+pub unit_of_step : (vars n step : ℕ) (units : Clause) → units ≡ retired_units vars n → 1 ≤ step → step ≤ n →
+    slice_get units (step - 1) ≡ Some (record { variable = vars + step; positive = false })
 unit_of_step vars n step units is first inside =
     let same : vars + suc (step - 1) ≡ vars + step = omega arith in
     ap (λ us. slice_get us (step - 1)) is ∙ unit_of vars n (step - 1) (omega arith) ∙ ap (λ v. Some (record { variable = v; positive = false })) same

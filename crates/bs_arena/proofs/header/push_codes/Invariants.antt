@@ -1,4 +1,4 @@
-use Rattle.std.proofs.Common.{◌≡◌, ◌+◌, ◌≤◌, ◌<◌, ◌^◌, ◌++◌, take, map, vec_len}
+use Rattle.std.proofs.Common.{◌≡◌, ◌+◌, ◌≤◌, ◌++◌, take, map, vec_len}
 use Rattle.std.specs.Prelude.{vec_capacity, All}
 use Rattle.bs_clause.specs.Literal.{code_of, IsCode}
 use Rattle.bs_arena.proofs.header.push_codes.Given as goal

@@ -14,7 +14,9 @@ returns-in-None c =
     let lost : after_hints c.args.trail.now (clauses_of live c.args.hints.now) ≡ None =
     c.loop-i.invariant.after ∙ after_step c.loop-i.trail live c.args.hints.now c.loop-i.i c.lits_at.result.now c.requires within c.lits_at.ensures ∙
     ap (option_and_then (λ l. after_hints (l ∷ c.loop-i.trail) (clauses_of live (drop (c.loop-i.i + 1) c.args.hints.now)))) (sym c.in-None.ensures) in
-    sym (ap (λ o. cond (is_some o) (cond (ends_false_after (clauses_of live c.args.hints.now) (after_hints c.args.trail.now (clauses_of live c.args.hints.now))) None (Some NotFalse)) (Some NotUnit)) lost)
+    sym (ap (λ o. cond (is_some o)
+    (cond (ends_false_after (clauses_of live c.args.hints.now) (after_hints c.args.trail.now (clauses_of live c.args.hints.now))) None
+    (Some NotFalse)) (Some NotUnit)) lost)
 
 pub loop-i-preserved : goal.loop-i-preserved
 loop-i-preserved c =

@@ -9,5 +9,6 @@ use Rattle.bs_rup.proofs.hints.hints_fault.Given as goal
 abbrev pub invariant-loop-i : goal.invariant-loop-i
 invariant-loop-i l = record {
   after : after_hints l.fn.trail (clauses_of (live_from 1 l.stored) l.hints) ≡ after_hints l.trail (clauses_of (live_from 1 l.stored) (drop l.i l.hints));
-  ends : (trues : List Literal) → ends_false (clauses_of (live_from 1 l.stored) l.hints) trues ≡ ends_false (clauses_of (live_from 1 l.stored) (drop l.i l.hints)) trues;
+  ends : (trues : List Literal) →
+      ends_false (clauses_of (live_from 1 l.stored) l.hints) trues ≡ ends_false (clauses_of (live_from 1 l.stored) (drop l.i l.hints)) trues;
 }

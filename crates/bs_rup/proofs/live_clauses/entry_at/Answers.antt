@@ -17,11 +17,13 @@ returns-then-place-stored c =
 pub returns-then-entry : goal.returns-then-entry
 returns-then-entry c =
     entry_at_place 1 c.args.stored.now (c.args.id - 1) c.args.id (omega arith) ∙
-    ap (option_and_then (entry_if c.args.id)) (slice_get_read c.args.stored.now _ (c.args.id - 1) c.index-stored-place.result refl c.if-place-stored.false c.index-stored-place.is) ∙
+    ap (option_and_then (entry_if c.args.id))
+    (slice_get_read c.args.stored.now _ (c.args.id - 1) c.index-stored-place.result refl c.if-place-stored.false c.index-stored-place.is) ∙
     ap (λ b. cond b (Some (entry_from c.args.id c.index-stored-place.result)) None) c.if-entry.true
 
 pub returns-else-entry : goal.returns-else-entry
 returns-else-entry c =
     entry_at_place 1 c.args.stored.now (c.args.id - 1) c.args.id (omega arith) ∙
-    ap (option_and_then (entry_if c.args.id)) (slice_get_read c.args.stored.now _ (c.args.id - 1) c.index-stored-place.result refl c.if-place-stored.false c.index-stored-place.is) ∙
+    ap (option_and_then (entry_if c.args.id))
+    (slice_get_read c.args.stored.now _ (c.args.id - 1) c.index-stored-place.result refl c.if-place-stored.false c.index-stored-place.is) ∙
     ap (λ b. cond b (Some (entry_from c.args.id c.index-stored-place.result)) None) c.if-entry.false

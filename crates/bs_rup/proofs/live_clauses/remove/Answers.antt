@@ -8,9 +8,13 @@ loop-id-init c = record { live = keep_all (live_from 1 c.args.stored.now.items);
 
 pub loop-id-preserved : goal.loop-id-preserved
 loop-id-preserved c = record {
-  live = one_more_gone c.args.ids.now c.loop-id.id-index (live_from 1 c.args.stored.now.items) (live_from 1 c.loop-id.stored.items) _ c.loop-id-test.true c.remove_one.ensures.live c.loop-id.invariant.live;
+  live =
+      one_more_gone c.args.ids.now c.loop-id.id-index (live_from 1 c.args.stored.now.items)
+      (live_from 1 c.loop-id.stored.items) _ c.loop-id-test.true c.remove_one.ensures.live c.loop-id.invariant.live;
   same_length = c.remove_one.ensures.length ∙ c.loop-id.invariant.same_length;
 }
 
 pub returns-clause-live : goal.returns-clause-live
-returns-clause-live c = all_gone c.args.ids.now c.loop-id.id-index (live_from 1 c.args.stored.now.items) (live_from 1 c.loop-id.stored.items) c.loop-id-test.false c.loop-id.invariant.live
+returns-clause-live c =
+    all_gone c.args.ids.now c.loop-id.id-index (live_from 1 c.args.stored.now.items)
+    (live_from 1 c.loop-id.stored.items) c.loop-id-test.false c.loop-id.invariant.live

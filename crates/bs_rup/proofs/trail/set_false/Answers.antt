@@ -15,7 +15,11 @@ literals-preserved c =
     let parts : drop k clause ≡ l ∷ drop c.literals.i clause =
     drop_more clause k l (omega arith) ∙ ap (λ x. x ∷ drop (k + 1) clause) (sym c.index-clause-i.is) ∙ ap (λ n. l ∷ drop n clause) next in
     record {
-      trues = c.in_ok-set.ensures.ok ∙ ap (λ m. m ∷ c.literals.trail) c.negate.ensures ∙ ap (λ ts. negation l ∷ ts) c.literals.invariant.trues ∙ ap (map negation) (sym parts);
-      distinct = ap (λ b. not b && c.literals.distinct) (c.is_assigned.ensures ∙ assigned (drop c.literals.i clause) l c.literals.trail c.literals.invariant.trues) ∙
-          ap (λ b. not (list_any (λ m. eqb m.variable l.variable) (drop c.literals.i clause)) && b) c.literals.invariant.distinct ∙ ap has_distinct_variables (sym parts);
+      trues =
+          c.in_ok-set.ensures.ok ∙ ap (λ m. m ∷ c.literals.trail) c.negate.ensures ∙ ap (λ ts. negation l ∷ ts) c.literals.invariant.trues
+          ∙ ap (map negation) (sym parts);
+      distinct =
+          ap (λ b. not b && c.literals.distinct) (c.is_assigned.ensures ∙ assigned (drop c.literals.i clause) l c.literals.trail c.literals.invariant.trues) ∙
+          ap (λ b. not (list_any (λ m. eqb m.variable l.variable) (drop c.literals.i clause)) && b) c.literals.invariant.distinct
+          ∙ ap has_distinct_variables (sym parts);
     }

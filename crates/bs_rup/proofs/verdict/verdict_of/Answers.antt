@@ -21,14 +21,16 @@ returns-in-Some c =
     let lines : List Line = c.slice-lines.result.now in
     let h : History = history_of (take c.loop-i.i lines) in
     subst (λ (log : List Line). IsFirstRefused p log (c.loop-i.i + 1) c.in-Some.why) c.slice-lines.ensures
-    (first_refused p lines c.loop-i.i c.index-lines-i.result c.loop-i.state c.in-Some.why c.loop-i-test.true c.index-lines-i.is c.loop-i.invariant.state c.loop-i.invariant.right (sym c.in_ok-why.ensures ∙ c.in-Some.is))
+    (first_refused p lines c.loop-i.i c.index-lines-i.result c.loop-i.state c.in-Some.why c.loop-i-test.true c.index-lines-i.is c.loop-i.invariant.state
+    c.loop-i.invariant.right (sym c.in_ok-why.ensures ∙ c.in-Some.is))
 
 pub add-requires-clause-guard : goal.add-requires-clause-guard
 add-requires-clause-guard c =
     let p : Problem = record { vars = c.args.vars; clauses = c.args.clauses.now; steps = c.args.steps.now } in
     let lines : List Line = c.slice-lines.result.now in
     let h : History = history_of (take c.loop-i.i lines) in
-    let g : Goes p h c.index-lines-i.result c.loop-i.state = goes p h c.index-lines-i.result c.loop-i.state c.loop-i.invariant.state c.loop-i.invariant.right (sym c.in_ok-why.ensures ∙ c.in-None.is) in
+    let g : Goes p h c.index-lines-i.result c.loop-i.state =
+    goes p h c.index-lines-i.result c.loop-i.state c.loop-i.invariant.state c.loop-i.invariant.right (sym c.in_ok-why.ensures ∙ c.in-None.is) in
     (g.started, omega (arith, g.in_range, c.requires))
 
 pub add-requires-clause-retire : goal.add-requires-clause-retire
@@ -36,15 +38,18 @@ add-requires-clause-retire c =
     let p : Problem = record { vars = c.args.vars; clauses = c.args.clauses.now; steps = c.args.steps.now } in
     let lines : List Line = c.slice-lines.result.now in
     let h : History = history_of (take c.loop-i.i lines) in
-    let g : Goes p h c.index-lines-i.result c.loop-i.state = goes p h c.index-lines-i.result c.loop-i.state c.loop-i.invariant.state c.loop-i.invariant.right (sym c.in_ok-why.ensures ∙ c.in-None.is) in
-    λ r. unit_of_step c.args.vars (length c.args.steps.now) c.loop-i.state.step c.slice.result.now (c.slice.ensures ∙ c.in_ok-retired.ensures ∙ ap (retired_units c.args.vars) c.len.ensures) g.started (g.retire r)
+    let g : Goes p h c.index-lines-i.result c.loop-i.state =
+    goes p h c.index-lines-i.result c.loop-i.state c.loop-i.invariant.state c.loop-i.invariant.right (sym c.in_ok-why.ensures ∙ c.in-None.is) in
+    λ r. unit_of_step c.args.vars (length c.args.steps.now) c.loop-i.state.step c.slice.result.now
+    (c.slice.ensures ∙ c.in_ok-retired.ensures ∙ ap (retired_units c.args.vars) c.len.ensures) g.started (g.retire r)
 
 pub add-requires-clause-ids : goal.add-requires-clause-ids
 add-requires-clause-ids c =
     let p : Problem = record { vars = c.args.vars; clauses = c.args.clauses.now; steps = c.args.steps.now } in
     let lines : List Line = c.slice-lines.result.now in
     let h : History = history_of (take c.loop-i.i lines) in
-    let g : Goes p h c.index-lines-i.result c.loop-i.state = goes p h c.index-lines-i.result c.loop-i.state c.loop-i.invariant.state c.loop-i.invariant.right (sym c.in_ok-why.ensures ∙ c.in-None.is) in
+    let g : Goes p h c.index-lines-i.result c.loop-i.state =
+    goes p h c.index-lines-i.result c.loop-i.state c.loop-i.invariant.state c.loop-i.invariant.right (sym c.in_ok-why.ensures ∙ c.in-None.is) in
     g.ids
 
 pub loop-i-preserved : goal.loop-i-preserved
@@ -52,10 +57,13 @@ loop-i-preserved c =
     let p : Problem = record { vars = c.args.vars; clauses = c.args.clauses.now; steps = c.args.steps.now } in
     let lines : List Line = c.slice-lines.result.now in
     let h : History = history_of (take c.loop-i.i lines) in
-    let g : Goes p h c.index-lines-i.result c.loop-i.state = goes p h c.index-lines-i.result c.loop-i.state c.loop-i.invariant.state c.loop-i.invariant.right (sym c.in_ok-why.ensures ∙ c.in-None.is) in
+    let g : Goes p h c.index-lines-i.result c.loop-i.state =
+    goes p h c.index-lines-i.result c.loop-i.state c.loop-i.invariant.state c.loop-i.invariant.right (sym c.in_ok-why.ensures ∙ c.in-None.is) in
     let more : history_of (take (c.loop-i.i + 1) lines) ≡ c.index-lines-i.result ∷ h =
     history_more lines c.loop-i.i c.index-lines-i.result c.loop-i-test.true ∙ ap (λ x. x ∷ h) (sym c.index-lines-i.is) in
     record {
-      state = state_follows p h c.index-lines-i.result c.loop-i.state c.add.new.self c.loop-i.invariant.state g.right c.in_ok-add-in-None.ensures ∙ ap (state_of p) (sym more);
+      state =
+          state_follows p h c.index-lines-i.result c.loop-i.state c.add.new.self c.loop-i.invariant.state g.right c.in_ok-add-in-None.ensures
+          ∙ ap (state_of p) (sym more);
       right = subst (NoneRefused p) (sym more) g.right;
     }

@@ -33,4 +33,5 @@ returns-clause-codes c =
     let words : List ℕ = c.self.inside.words.items in
     let s : Split words c.args.r = split_of words c.args.self.now.clauses c.args.r c.self.invariant.form (ap (λ v. v.clauses) c.self.view_is) c.requires in
     subst AreCodes (sym (c.codes_at.ensures (spelling_of s.before) (spelling_of s.after) s.clause (c.at.ensures ∙ s.place)
-    (c.as_slice.ensures.value ∙ inside words c.args.r s ∙ sym (append_assoc (spelling_of s.before) (spelling s.clause) (spelling_of s.after))))) (stored_is words c.args.r s).codes
+    (c.as_slice.ensures.value ∙ inside words c.args.r s ∙ sym (append_assoc (spelling_of s.before) (spelling s.clause) (spelling_of s.after)))))
+    (stored_is words c.args.r s).codes

@@ -12,7 +12,9 @@ loop-low-preserved-then-at c =
     record {
       bound = c.loop-low.invariant.bound;
       order = omega arith;
-      before = before_more names c.args.r middle c.index.result.now (subst IsAscending same c.self.invariant) (omega (arith, c.loop-low.invariant.bound)) read (omega (arith, c.at.ensures, c.at-in-loop-low.ensures, c.if-at.true));
+      before =
+          before_more names c.args.r middle c.index.result.now (subst IsAscending same c.self.invariant)
+          (omega (arith, c.loop-low.invariant.bound)) read (omega (arith, c.at.ensures, c.at-in-loop-low.ensures, c.if-at.true));
       after = c.loop-low.invariant.after;
     }
 
@@ -26,5 +28,7 @@ loop-low-preserved c =
       bound = omega (arith, c.loop-low.invariant.bound);
       order = omega arith;
       before = c.loop-low.invariant.before;
-      after = after_more names c.args.r middle c.index.result.now (subst IsAscending same c.self.invariant) (omega (arith, c.loop-low.invariant.bound)) read (omega (arith, c.at.ensures, c.at-in-loop-low.ensures, c.if-at.false));
+      after =
+          after_more names c.args.r middle c.index.result.now (subst IsAscending same c.self.invariant)
+          (omega (arith, c.loop-low.invariant.bound)) read (omega (arith, c.at.ensures, c.at-in-loop-low.ensures, c.if-at.false));
     }
