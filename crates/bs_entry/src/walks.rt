@@ -22,7 +22,7 @@ use std::alloc::Global;
 
 /// The netlist.
 fn take_netlist<S: Shelf>(alloc: Global, shelf: &mut S, name: &str) -> Result<Netlist, Stop>
-    ensures { Walks CheckSays (S.held shelf.old) (S.held shelf.new) (S.faults shelf.old) (S.faults shelf.new) (netlist_of name.now) (λ net. net.raw) result }
+    ensures { Walks CheckSays S.held S.faults S.leads shelf.old shelf.new (netlist_of name.now) (λ net. net.raw) result }
 {
     let bytes = fetch_file(alloc, shelf, File::Netlist, name)?;
     settle(File::Netlist, read_netlist(alloc, &bytes))
@@ -35,7 +35,7 @@ fn take_signature<S: Shelf>(
     name: &str,
     net: &Netlist,
 ) -> Result<Choice, Stop>
-    ensures walks { Walks CheckSays (S.held shelf.old) (S.held shelf.new) (S.faults shelf.old) (S.faults shelf.new) (signature_of net.now.raw name.now) (λ choice. choice) result }
+    ensures walks { Walks CheckSays S.held S.faults S.leads shelf.old shelf.new (signature_of net.now.raw name.now) (λ choice. choice) result }
     ensures width { IfOk result (λ choice. choice.width ≡ length (circuit net.now).flops) }
 {
     let bytes = fetch_file(alloc, shelf, File::Signature, name)?;
@@ -49,7 +49,7 @@ fn take_stimulus<S: Shelf>(
     name: &str,
     net: &Netlist,
 ) -> Result<Runs, Stop>
-    ensures walks { Walks CheckSays (S.held shelf.old) (S.held shelf.new) (S.faults shelf.old) (S.faults shelf.new) (stimulus_of net.now.raw name.now) (λ runs. runs) result }
+    ensures walks { Walks CheckSays S.held S.faults S.leads shelf.old shelf.new (stimulus_of net.now.raw name.now) (λ runs. runs) result }
     ensures width { IfOk result (λ runs. runs.width ≡ length (circuit net.now).inputs) }
 {
     let bytes = fetch_file(alloc, shelf, File::Stimulus, name)?;
@@ -63,7 +63,7 @@ fn take_dump<S: Shelf>(
     name: &str,
     setup: &Setup,
 ) -> Result<Dump, Stop>
-    ensures walks { Walks CheckSays (S.held shelf.old) (S.held shelf.new) (S.faults shelf.old) (S.faults shelf.new) (dump_of (setup_in setup.now) name.now) (λ dump. dump) result }
+    ensures walks { Walks CheckSays S.held S.faults S.leads shelf.old shelf.new (dump_of (setup_in setup.now) name.now) (λ dump. dump) result }
     ensures fits { IfOk result (λ dump. IsDump setup.now.net.raw setup.now.choice dump) }
 {
     let bytes = fetch_file(alloc, shelf, File::Dump, name)?;
@@ -75,7 +75,7 @@ fn take_dump<S: Shelf>(
 
 /// The netlist, the signature and the stimulus of a job, by the names of their files.
 pub fn take_setup<S: Shelf>(alloc: Global, shelf: &mut S, names: &Names<'_>) -> Result<Setup, Stop>
-    ensures { Walks CheckSays (S.held shelf.old) (S.held shelf.new) (S.faults shelf.old) (S.faults shelf.new) (setup_of (names_in names.now)) setup_in result }
+    ensures { Walks CheckSays S.held S.faults S.leads shelf.old shelf.new (setup_of (names_in names.now)) setup_in result }
 {
     let net = take_netlist(alloc, shelf, names.netlist)?;
     let choice = take_signature(alloc, shelf, names.signature, &net)?;
@@ -91,7 +91,7 @@ pub fn take_placed<S: Shelf>(
     run: u64,
     cycle: u64,
 ) -> Result<Placed, Stop>
-    ensures { Walks CheckSays (S.held shelf.old) (S.held shelf.new) (S.faults shelf.old) (S.faults shelf.new) (placed_of (names_in names.now) run cycle) placed_in result }
+    ensures { Walks CheckSays S.held S.faults S.leads shelf.old shelf.new (placed_of (names_in names.now) run cycle) placed_in result }
 {
     let setup = take_setup(alloc, shelf, names)?;
     let moment = settle(File::Dump, read_moment(alloc, &setup.runs, run, cycle))?;
@@ -105,7 +105,7 @@ pub fn take_crashed<S: Shelf>(
     names: &Names<'_>,
     dump: &str,
 ) -> Result<Crashed, Stop>
-    ensures { Walks CheckSays (S.held shelf.old) (S.held shelf.new) (S.faults shelf.old) (S.faults shelf.new) (crashed_of (names_in names.now) dump.now) crashed_in result }
+    ensures { Walks CheckSays S.held S.faults S.leads shelf.old shelf.new (crashed_of (names_in names.now) dump.now) crashed_in result }
 {
     let setup = take_setup(alloc, shelf, names)?;
     let dump = take_dump(alloc, shelf, dump, &setup)?;
@@ -114,7 +114,7 @@ pub fn take_crashed<S: Shelf>(
 
 /// The report of a backtrace.
 fn take_report<S: Shelf>(alloc: Global, shelf: &mut S, name: &str) -> Result<Report, Stop>
-    ensures walks { Walks CheckSays (S.held shelf.old) (S.held shelf.new) (S.faults shelf.old) (S.faults shelf.new) (report_of name.now) (λ report. report) result }
+    ensures walks { Walks CheckSays S.held S.faults S.leads shelf.old shelf.new (report_of name.now) (λ report. report) result }
     ensures steps { IfOk result (λ report. report.budgets.steps ≤ 65536) }
 {
     let bytes = fetch_file(alloc, shelf, File::Report, name)?;
@@ -129,7 +129,7 @@ pub fn take_claimed<S: Shelf>(
     dump: &str,
     report: &str,
 ) -> Result<Claimed, Stop>
-    ensures { Walks CheckSays (S.held shelf.old) (S.held shelf.new) (S.faults shelf.old) (S.faults shelf.new) (claimed_of (names_in names.now) dump.now report.now) claimed_in result }
+    ensures { Walks CheckSays S.held S.faults S.leads shelf.old shelf.new (claimed_of (names_in names.now) dump.now report.now) claimed_in result }
 {
     let crashed = take_crashed(alloc, shelf, names, dump)?;
     let report = take_report(alloc, shelf, report)?;

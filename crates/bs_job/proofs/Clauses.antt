@@ -1,7 +1,9 @@
 -- The clauses of a call that does a job, from the answer that was prepared and what was delivered.
-use Rattle.std.proofs.Common.{◌≡◌, ◌≢◌, ◌↔◌, ℕ, true, refl, List, Option, Some, None, sym, ◌∙◌, ap, subst, codes}
+use Rattle.std.proofs.Common.{◌≡◌, ◌≢◌, ◌↔◌, ℕ, true, refl, List, Option, Some, None, Ok, Err, sym, ◌∙◌, ap, subst, codes}
 use Rattle.std.specs.Prelude.{IfSome}
 use Rattle.std.specs.Io.KnownBytes.{Appends}
+use Rattle.bs_bits.specs.declared.memory.NoMemory.{NoMemory}
+use Rattle.bs_outside.specs.Calls.{FetchCall, PutCall}
 use Rattle.bs_job.specs.declared.file.File.{File}
 use Rattle.bs_job.specs.declared.file.File.TheVariants.{Netlist, Signature, Stimulus, Dump, Report}
 use Rattle.bs_job.specs.declared.file.Status.{Status}
@@ -10,9 +12,9 @@ use Rattle.bs_job.specs.declared.answer.Answer.{Answer}
 use Rattle.bs_job.specs.Files.{refusal_line, refusal_status, refused_file, is_work_status}
 use Rattle.bs_job.specs.Plan.{Tells, Counts, Reason, Plan, Outcome, ready, refused, faulted, Ends, told_end}
 use Rattle.bs_job.specs.Answers.{Answers, CallsFor, CallsByTold}
-use Rattle.bs_job.specs.Prepared.{Prepares, IsWork}
-use Rattle.bs_job.specs.Delivery.{Delivers}
-use Rattle.bs_job.specs.Clauses.{Answered, AnsweredAsTold, FailedToRead, ReadFaultOf, IsCalm, IsWordsOnlyFor, Refuses, RefusesFirstOf}
+use Rattle.bs_job.specs.Prepared.{Prepares, Prepared, IsWork}
+use Rattle.bs_job.specs.Delivery.{Delivers, PutsLines}
+use Rattle.bs_job.specs.Clauses.{Answered, AnsweredAsTold, AnsweredWhole, CallByCall, CallsWanting, FailedToRead, ReadFaultOf, IsCalm, IsWordsOnlyFor, Refuses, RefusesFirstOf}
 use Rattle.bs_job.proofs.Plans.{ready_in, refused_in, faulted_in, ends_as_told, ends_by_fault}
 use Rattle.bs_job.proofs.Preparing.{IsPlain, work_plain, refusal_plain, refused_again}
 use Rattle.std.specs.Option.{option_map}
@@ -170,3 +172,36 @@ pub refuses_first_of : {R W : Type 0} {allows : R → List ℕ → Type 0} {fini
 refuses_first_of {allows = allows} {finishes = finishes} {told = told} {before = before} {now = now} {plan = plan} {answer = answer} kind made sent read write =
     let whole = sent.whole write in
     subst (λ s. RefusesFirstOf told before now plan s) (sym whole.0) (refuses_first allows finishes told before now plan answer.status answer.text.items kind made.calls (λ e. read (whole.0 ∙ e)))
+
+-- ---- whole answers, and calls
+
+-- with no fault the whole text is written, whatever the shelf tells
+pub complete_whole : {R W : Type 0} {allows : R → List ℕ → Type 0} {finishes : W → Status → List ℕ → Type 0} {told : Tells} {before now : Counts} {plan : Option (Plan R W)} {answer : Answer} {w0 w1 : Option (List ℕ)} {f0 f1 : ℕ} {status : Status} → IsWork finishes → Prepares allows finishes told before now plan answer → Delivers answer.status answer.text.items w0 w1 f0 f1 status → IsCalm told before now plan f0 f1 → AnsweredWhole allows finishes told before now plan w0 w1 status
+complete_whole {allows = allows} {finishes = finishes} {told = told} {before = before} {now = now} {plan = plan} {answer = answer} {w0 = w0} {w1 = w1} {f0 = f0} {f1 = f1} {status = status} kind made sent calm = record {
+  text = answer.text.items;
+  calls = subst (λ s. CallsFor allows finishes told before now plan s answer.text.items) (sym whole.0) made.calls;
+  wrote = subst (λ (l : List ℕ). Appends w0 w1 l) whole.1 sent.wrote;
+  read = λ is. no_read_fault told before now plan w0 w1 f0 f1 calm (read_fault_of kind made sent is);
+  write = no_write;
+}
+  where
+    no_write : status ≢ WriteFault
+    no_write is = calm.sink (sent.fault is)
+
+    whole : (status ≡ answer.status) × (sent.part ≡ answer.text.items)
+    whole = sent.whole no_write
+
+-- call by call
+pub call_by_call : {S K R W : Type 0} {allows : R → List ℕ → Type 0} {finishes : W → Status → List ℕ → Type 0} {held : S → Tells} {faults : S → Counts} {leads : S → FetchCall → S → Type 0} {before now : S} {put_leads : K → PutCall → K → Type 0} {sink_before sink_now : K} {plan : Option (Plan R W)} {answer : Answer} {w0 w1 : Option (List ℕ)} {f0 f1 : ℕ} {status : Status} → Prepared allows finishes held faults leads before now plan (Ok answer) → Delivers answer.status answer.text.items w0 w1 f0 f1 status → PutsLines put_leads sink_before sink_now answer.text.items status → CallByCall allows finishes leads before now put_leads sink_before sink_now plan status
+call_by_call {answer = answer} made sent lines = record {
+  called_for = answer.status;
+  text = answer.text.items;
+  fetches = made.fetches;
+  asked = made.asked;
+  along = made.along;
+  lines = lines;
+  answered = λ write. (sent.whole write).0;
+}
+
+pub calls_wanting : {S K R W : Type 0} {allows : R → List ℕ → Type 0} {finishes : W → Status → List ℕ → Type 0} {held : S → Tells} {faults : S → Counts} {leads : S → FetchCall → S → Type 0} {before now : S} {sink : K} {plan : Option (Plan R W)} {want : NoMemory} → Prepared allows finishes held faults leads before now plan (Err want) → CallsWanting leads before now sink sink plan
+calls_wanting made = record { fetches = made.fetches; asked = made.asked; along = made.along; none_put = refl }

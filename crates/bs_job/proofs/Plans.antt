@@ -1,7 +1,7 @@
 -- How plans end.
 use Rattle.std.proofs.Common.{◌≡◌, ◌≢◌, inl, inr, ℕ, ◌<◌, ◌≤◌, List, length, codes, Option, Some, None, refl, sym, ap, subst, arith}
 use Rattle.std.proofs.lemmas.Bool.{le-ltb, lt-ltb}
-use Rattle.std.specs.Prelude.{IfSome}
+use Rattle.std.specs.Prelude.{Bool, true, false, nat_lt, if◌then◌else◌, IfSome}
 use Rattle.bs_outside.specs.Faults.{Rose}
 use Rattle.bs_job.specs.declared.file.File.{File}
 use Rattle.bs_job.specs.Files.{limit_of}
@@ -28,16 +28,16 @@ refused_in R A file why = refused file why
 abbrev pub faulted_in : (R A : Type 0) → File → Outcome R A
 faulted_in R A file = faulted file
 
-ready_same : (R A : Type 0) (x y : A) → ready_in R A x ≡ ready_in R A y → x ≡ y
+pub ready_same : (R A : Type 0) (x y : A) → ready_in R A x ≡ ready_in R A y → x ≡ y
 ready_same R A x y e = cc
 
-refused_same : (R A B : Type 0) (file file' : File) (why why' : Reason R) → refused_in R A file why ≡ refused_in R A file' why' → refused_in R B file why ≡ refused_in R B file' why'
+pub refused_same : (R A B : Type 0) (file file' : File) (why why' : Reason R) → refused_in R A file why ≡ refused_in R A file' why' → refused_in R B file why ≡ refused_in R B file' why'
 refused_same R A B file file' why why' e =
     let f : file ≡ file' = cc in
     let w : why ≡ why' = cc in
     cc
 
-faulted_same : (R A : Type 0) (file file' : File) → faulted_in R A file ≡ faulted_in R A file' → file ≡ file'
+pub faulted_same : (R A : Type 0) (file file' : File) → faulted_in R A file ≡ faulted_in R A file' → file ≡ file'
 faulted_same R A file file' e = cc
 
 -- a plan that went to its end goes on
@@ -94,3 +94,62 @@ ends_by_fault told before now (fetch w next) file (inl (bytes, comes, rest)) =
     record { wanted = f.wanted; is = f.is; reached = inr (bytes, comes, f.reached); cause = f.cause }
 ends_by_fault told before now (fetch w next) file (inr (inl (over, ended))) = absurd (cc)
 ends_by_fault {R} {V} told before now (fetch w next) file (inr (inr (rose, ended))) = record { wanted = w; is = sym (faulted_same R V file w.file ended); reached = inl refl; cause = rose }
+
+-- ---- how a plan ends by what the shelf tells, one part after the other
+
+next_some : {R A B : Type 0} (w : Wanted) (t : Option (List ℕ)) (go : List ℕ → Option (Outcome R A)) (on : List ℕ → Option (Outcome R B)) (a : A) (z : Option (Outcome R B)) → told_next w t go ≡ Some (ready_in R A a) → ((bytes : List ℕ) → go bytes ≡ Some (ready_in R A a) → on bytes ≡ z) → told_next w t on ≡ z
+next_some {R} {A} w None go on a z h step = absurd (wrong h)
+  where
+    wrong : None ≡ Some (ready_in R A a) → ⊥
+    wrong e = cc
+next_some {R} {A} {B} w (Some bytes) go on a z h step = by (nat_lt (limit_of w.file) (length bytes)) h
+  where
+    wrong : Some (refused_in R A w.file (exactly (codes "TooLong"))) ≡ Some (ready_in R A a) → ⊥
+    wrong e = cc
+
+    by : (long : Bool) → (if long then Some (refused w.file (exactly (codes "TooLong"))) else go bytes) ≡ Some (ready_in R A a) → (if long then Some (refused w.file (exactly (codes "TooLong"))) else on bytes) ≡ z
+    by true e = absurd (wrong e)
+    by false e = step bytes e
+
+some_same : (R A : Type 0) (x y : A) → Some (ready_in R A x) ≡ Some (ready_in R A y) → x ≡ y
+some_same R A x y e = cc
+
+-- a part that comes to a value goes on from it
+pub told_end_then : {R A B : Type 0} (told : Tells) (plan : Plan R A) (f : A → Plan R B) (a : A) → told_end told plan ≡ Some (ready a) → told_end told (plan >>= f) ≡ told_end told (f a)
+told_end_then {R} {A} told (end v) f a h = ap (λ x. told_end told (f x)) (some_same R A v a h)
+told_end_then {R} {A} told (refuse file why) f a h = absurd (wrong h)
+  where
+    wrong : Some (refused_in R A file why) ≡ Some (ready_in R A a) → ⊥
+    wrong e = cc
+told_end_then told (fetch w next) f a h = next_some w (told w.name) (λ bytes. told_end told (next bytes)) (λ bytes. told_end told (next bytes >>= f)) a (told_end told (f a)) h (λ bytes e. told_end_then told (next bytes) f a e)
+
+-- a plan whose value is made of another's comes to it only where that one comes to its own
+pub record CameFrom {R A B : Type 0} (told : Tells) (plan : Plan R A) (g : A → B) (b : B) : Type 0 where
+  pub value : A
+  pub came : told_end told plan ≡ Some (ready value)
+  pub is : b ≡ g value
+
+from_next : {R A B : Type 0} (w : Wanted) (t : Option (List ℕ)) (go : List ℕ → Option (Outcome R A)) (on : List ℕ → Option (Outcome R B)) (g : A → B) (b : B) → told_next w t on ≡ Some (ready_in R B b) → ((bytes : List ℕ) → on bytes ≡ Some (ready_in R B b) → (a : A) × (go bytes ≡ Some (ready_in R A a)) × (b ≡ g a)) → (a : A) × (told_next w t go ≡ Some (ready_in R A a)) × (b ≡ g a)
+from_next {R} {A} {B} w None go on g b h step = absurd (wrong h)
+  where
+    wrong : None ≡ Some (ready_in R B b) → ⊥
+    wrong e = cc
+from_next {R} {A} {B} w (Some bytes) go on g b h step = by (nat_lt (limit_of w.file) (length bytes)) h
+  where
+    wrong : Some (refused_in R B w.file (exactly (codes "TooLong"))) ≡ Some (ready_in R B b) → ⊥
+    wrong e = cc
+
+    by : (long : Bool) → (if long then Some (refused w.file (exactly (codes "TooLong"))) else on bytes) ≡ Some (ready_in R B b) → (a : A) × ((if long then Some (refused w.file (exactly (codes "TooLong"))) else go bytes) ≡ Some (ready_in R A a)) × (b ≡ g a)
+    by true e = absurd (wrong e)
+    by false e = step bytes e
+
+came_from : {R A B : Type 0} (told : Tells) (plan : Plan R A) (g : A → B) (b : B) → told_end told (plan >>= (λ v. end (g v))) ≡ Some (ready_in R B b) → (a : A) × (told_end told plan ≡ Some (ready_in R A a)) × (b ≡ g a)
+came_from {R} {A} {B} told (end v) g b h = (v, refl, sym (some_same R B (g v) b h))
+came_from {R} {A} {B} told (refuse file why) g b h = absurd (wrong h)
+  where
+    wrong : Some (refused_in R B file why) ≡ Some (ready_in R B b) → ⊥
+    wrong e = cc
+came_from told (fetch w next) g b h = from_next w (told w.name) (λ bytes. told_end told (next bytes)) (λ bytes. told_end told (next bytes >>= (λ v. end (g v)))) g b h (λ bytes e. came_from told (next bytes) g b e)
+
+pub told_came_from : {R A B : Type 0} (told : Tells) (plan : Plan R A) (g : A → B) (b : B) → told_end told (plan >>= (λ v. end (g v))) ≡ Some (ready b) → CameFrom told plan g b
+told_came_from told plan g b h = let c = came_from told plan g b h in record { value = c.0; came = c.1; is = c.2 }

@@ -1,7 +1,8 @@
 -- From the end of a plan to the answer of the job.
-use Rattle.std.proofs.Common.{◌≡◌, ◌≢◌, ℕ, true, false, List, Some, None, Result, Ok, Err, refl, sym, ◌∙◌, ap}
+use Rattle.std.proofs.Common.{◌≡◌, ◌≢◌, ℕ, true, false, List, [], Option, Some, None, Result, Ok, Err, refl, sym, ◌∙◌, ap}
 use Rattle.std.specs.Prelude.{IfOk}
-use Rattle.bs_outside.specs.declared.shelf.NoMemory.{NoMemory}
+use Rattle.bs_bits.specs.declared.memory.NoMemory.{NoMemory}
+use Rattle.bs_outside.specs.Calls.{FetchCall, InTurn}
 use Rattle.bs_job.specs.declared.file.File.{File}
 use Rattle.bs_job.specs.declared.file.File.TheVariants.{Netlist, Signature, Stimulus, Dump, Report}
 use Rattle.bs_job.specs.declared.file.Status.{Status}
@@ -13,7 +14,9 @@ use Rattle.bs_job.specs.Files.{refusal_status, refused_file, is_work_status}
 use Rattle.bs_job.specs.Plan.{Tells, Counts, Plan, ready, refused, faulted}
 use Rattle.bs_job.specs.Walks.{WalksTo, Walks, WalksAlone}
 use Rattle.bs_job.specs.Answers.{RefusesWords}
-use Rattle.bs_job.specs.Prepared.{Prepares, PreparesAlone, AnswersStop, IsWork}
+use Rattle.bs_job.specs.Asking.{Along, AsksTo, GoesTo}
+use Rattle.bs_job.specs.Prepared.{Prepares, PreparesAlone, Prepared, AnswersStop, IsWork}
+use Rattle.bs_job.proofs.AskingLemmas.{along_none, along_weak}
 
 -- a status of a refusal is of no other kind
 pub refused_again : (file : File) → refused_file (refusal_status file) ≡ Some file
@@ -52,11 +55,25 @@ refusal_plain status file is = record {
         cc
 
 -- the work that a walk made ready for
-pub prepares_work : {R W T : Type 0} {allows : R → List ℕ → Type 0} {finishes : W → Status → List ℕ → Type 0} {told told' : Tells} {before now : Counts} {plan : Plan R W} {view : T → W} {t : T} {answer : Answer} → IsWork finishes → Walks allows told told' before now plan view (Ok t) → finishes (view t) answer.status answer.text.items → Prepares allows finishes told before now (Some plan) answer
-prepares_work {view = view} {t = t} {answer = answer} kind walks done = record {
-  calls = record { outcome = ready (view t); ends = walks.is.1; answers = done };
-  steady = λ _. walks.is.0.counts;
+work_prepares : {R W T : Type 0} (allows : R → List ℕ → Type 0) (finishes : W → Status → List ℕ → Type 0) (told told' : Tells) (before now : Counts) (plan : Plan R W) (view : T → W) (t : T) (answer : Answer) → IsWork finishes → WalksTo allows told told' before now plan view (Ok t) → finishes (view t) answer.status answer.text.items → Prepares allows finishes told before now (Some plan) answer
+work_prepares allows finishes told told' before now plan view t answer kind walks done = record {
+  calls = record { outcome = ready (view t); ends = walks.1; answers = done };
+  steady = λ _. walks.0.counts;
   no_write = (work_plain answer.status (kind.status (view t) answer.status answer.text.items done)).write;
+}
+
+pub prepares_work : {R W T : Type 0} {allows : R → List ℕ → Type 0} {finishes : W → Status → List ℕ → Type 0} {S : Type 0} {held : S → Tells} {faults : S → Counts} {leads : S → FetchCall → S → Type 0} {before now : S} {plan : Plan R W} {view : T → W} {t : T} (r : Result Answer NoMemory) → IsWork finishes → Walks allows held faults leads before now plan view (Ok t) → IfOk r (λ answer. finishes (view t) answer.status answer.text.items) → Prepared allows finishes held faults leads before now (Some plan) r
+prepares_work {allows = allows} {finishes = finishes} {held = held} {faults = faults} {before = before} {now = now} {plan = plan} {view = view} {t = t} (Ok answer) kind walks done = record {
+  answer = work_prepares allows finishes (held before) (held now) (faults before) (faults now) plan view t answer kind walks.is done;
+  fetches = walks.fetches;
+  asked = walks.asked;
+  along = record { outcome = ready (view t); along = walks.along; answers = done };
+}
+prepares_work {plan = plan} {view = view} {t = t} (Err want) kind walks done = record {
+  answer = tt;
+  fetches = walks.fetches;
+  asked = walks.asked;
+  along = along_weak plan walks.fetches (ready (view t)) walks.along;
 }
 
 -- a stop of the walk
@@ -76,25 +93,54 @@ stop_prepares allows finishes told told' before now plan view (S.Refused file wh
   no_write = (refusal_plain answer.status file line.0).write;
 }
 
-if_ok : {A E : Type 0} (r : Result A E) (P Q : A → Type 0) → ((a : A) → P a → Q a) → IfOk r P → IfOk r Q
-if_ok (Ok a) P Q step h = step a h
-if_ok (Err e) P Q step h = tt
+-- what a stopped walk asked for
+stop_asks : {R W T : Type 0} (allows : R → List ℕ → Type 0) (finishes : W → Status → List ℕ → Type 0) (plan : Plan R W) (view : T → W) (calls : List FetchCall) (stop : Stop) (status : Status) (text : List ℕ) → GoesTo allows plan view calls (Err stop) → AnswersStop stop status text → AsksTo allows finishes plan calls status text
+stop_asks allows finishes plan view calls S.NoMemory status text h line = absurd line
+stop_asks allows finishes plan view calls (S.Faulted file) status text h line = record { outcome = faulted file; along = h; answers = line }
+stop_asks allows finishes plan view calls (S.Refused file why) status text h line = record { outcome = refused file h.0; along = h.2; answers = (line.0, (why.items, h.1, line.1)) }
 
-pub prepares_stop : {R W T : Type 0} {allows : R → List ℕ → Type 0} {told told' : Tells} {before now : Counts} {plan : Plan R W} {view : T → W} {stop : Stop} (finishes : W → Status → List ℕ → Type 0) (r : Result Answer NoMemory) → Walks allows told told' before now plan view (Err stop) → IfOk r (λ answer. AnswersStop stop answer.status answer.text.items) → IfOk r (Prepares allows finishes told before now (Some plan))
-prepares_stop {allows = allows} {told = told} {told' = told'} {before = before} {now = now} {plan = plan} {view = view} {stop = stop} finishes r walks line =
-    if_ok r (λ answer. AnswersStop stop answer.status answer.text.items) (Prepares allows finishes told before now (Some plan)) (λ answer h. stop_prepares allows finishes told told' before now plan view stop answer walks.is h) line
+stop_short : {R W T : Type 0} (allows : R → List ℕ → Type 0) (plan : Plan R W) (view : T → W) (calls : List FetchCall) (stop : Stop) → GoesTo allows plan view calls (Err stop) → Along plan calls None
+stop_short allows plan view calls S.NoMemory h = h
+stop_short allows plan view calls (S.Faulted file) h = along_weak plan calls (faulted file) h
+stop_short allows plan view calls (S.Refused file why) h = along_weak plan calls (refused file h.0) h.2
+
+pub prepares_stop : {R W T : Type 0} {allows : R → List ℕ → Type 0} {S : Type 0} {held : S → Tells} {faults : S → Counts} {leads : S → FetchCall → S → Type 0} {before now : S} {plan : Plan R W} {view : T → W} {stop : Stop} (finishes : W → Status → List ℕ → Type 0) (r : Result Answer NoMemory) → Walks allows held faults leads before now plan view (Err stop) → IfOk r (λ answer. AnswersStop stop answer.status answer.text.items) → Prepared allows finishes held faults leads before now (Some plan) r
+prepares_stop {allows = allows} {held = held} {faults = faults} {before = before} {now = now} {plan = plan} {view = view} {stop = stop} finishes (Ok answer) walks line = record {
+  answer = stop_prepares allows finishes (held before) (held now) (faults before) (faults now) plan view stop answer walks.is line;
+  fetches = walks.fetches;
+  asked = walks.asked;
+  along = stop_asks allows finishes plan view walks.fetches stop answer.status answer.text.items walks.along line;
+}
+prepares_stop {allows = allows} {plan = plan} {view = view} {stop = stop} finishes (Err want) walks line = record {
+  answer = tt;
+  fetches = walks.fetches;
+  asked = walks.asked;
+  along = stop_short allows plan view walks.fetches stop walks.along;
+}
 
 -- the same of a plan that asks no shelf
-pub alone_work : {R W T : Type 0} {allows : R → List ℕ → Type 0} {finishes : W → Status → List ℕ → Type 0} {plan : Plan R W} {view : T → W} {t : T} {answer : Answer} → IsWork finishes → WalksAlone allows plan view (Ok t) → finishes (view t) answer.status answer.text.items → PreparesAlone allows finishes plan answer
-alone_work kind walks done = record { is = λ told before. prepares_work kind (walks.is told before) done }
+pub alone_work : {R W T : Type 0} {allows : R → List ℕ → Type 0} {finishes : W → Status → List ℕ → Type 0} {plan : Plan R W} {view : T → W} {t : T} (r : Result Answer NoMemory) → IsWork finishes → WalksAlone allows plan view (Ok t) → IfOk r (λ answer. finishes (view t) answer.status answer.text.items) → IfOk r (PreparesAlone allows finishes plan)
+alone_work {allows = allows} {finishes = finishes} {plan = plan} {view = view} {t = t} (Ok answer) kind walks done = record {
+  is = λ told before. work_prepares allows finishes told told before before plan view t answer kind (walks.is told before) done;
+  along = record { outcome = ready (view t); along = walks.along; answers = done };
+}
+alone_work (Err want) kind walks done = tt
 
 pub alone_stop : {R W T : Type 0} {allows : R → List ℕ → Type 0} {plan : Plan R W} {view : T → W} {stop : Stop} (finishes : W → Status → List ℕ → Type 0) (r : Result Answer NoMemory) → WalksAlone allows plan view (Err stop) → IfOk r (λ answer. AnswersStop stop answer.status answer.text.items) → IfOk r (PreparesAlone allows finishes plan)
-alone_stop {allows = allows} {plan = plan} {view = view} {stop = stop} finishes r walks line =
-    if_ok r (λ answer. AnswersStop stop answer.status answer.text.items) (PreparesAlone allows finishes plan) (λ answer h. record { is = λ told before. stop_prepares allows finishes told told before before plan view stop answer (walks.is told before).is h }) line
+alone_stop {allows = allows} {plan = plan} {view = view} {stop = stop} finishes (Ok answer) walks line = record {
+  is = λ told before. stop_prepares allows finishes told told before before plan view stop answer (walks.is told before) line;
+  along = stop_asks allows finishes plan view [] stop answer.status answer.text.items walks.along line;
+}
+alone_stop finishes (Err want) walks line = tt
+
+-- a job that asks no shelf, over any shelf
+pub prepares_alone : {R W : Type 0} {allows : R → List ℕ → Type 0} {finishes : W → Status → List ℕ → Type 0} {S : Type 0} {held : S → Tells} {faults : S → Counts} {leads : S → FetchCall → S → Type 0} {before : S} {plan : Plan R W} (r : Result Answer NoMemory) → IfOk r (PreparesAlone allows finishes plan) → Prepared allows finishes held faults leads before before (Some plan) r
+prepares_alone {held = held} {faults = faults} {before = before} (Ok answer) h = record { answer = h.is (held before) (faults before); fetches = []; asked = refl; along = h.along }
+prepares_alone {plan = plan} (Err want) h = record { answer = tt; fetches = []; asked = refl; along = along_none plan }
 
 -- words that are no job
-pub prepares_words : {R W : Type 0} {allows : R → List ℕ → Type 0} {finishes : W → Status → List ℕ → Type 0} {told : Tells} {before : Counts} {answer : Answer} → RefusesWords answer.status answer.text.items → Prepares allows finishes told before before None answer
-prepares_words refuses = record {
+words_prepare : {R W : Type 0} (allows : R → List ℕ → Type 0) (finishes : W → Status → List ℕ → Type 0) (told : Tells) (before : Counts) (answer : Answer) → RefusesWords answer.status answer.text.items → Prepares {R = R} allows finishes told before before None answer
+words_prepare allows finishes told before answer refuses = record {
   calls = refuses;
   steady = λ _ name. refl;
   no_write = λ e. words_no_write (sym refuses.0 ∙ e);
@@ -102,3 +148,12 @@ prepares_words refuses = record {
   where
     words_no_write : T.Words ≡ T.WriteFault → ⊥
     words_no_write e = cc
+
+pub prepares_words : {R W : Type 0} {allows : R → List ℕ → Type 0} {finishes : W → Status → List ℕ → Type 0} {S : Type 0} {held : S → Tells} {faults : S → Counts} {leads : S → FetchCall → S → Type 0} {before : S} (r : Result Answer NoMemory) → IfOk r (λ answer. RefusesWords answer.status answer.text.items) → Prepared {R = R} allows finishes held faults leads before before None r
+prepares_words {allows = allows} {finishes = finishes} {held = held} {faults = faults} {before = before} (Ok answer) h = record { answer = words_prepare allows finishes (held before) (faults before) answer h; fetches = []; asked = refl; along = (refl, h) }
+prepares_words (Err want) h = record { answer = tt; fetches = []; asked = refl; along = refl }
+
+-- words that could not be read for want of memory
+pub prepares_nothing : {R W : Type 0} {allows : R → List ℕ → Type 0} {finishes : W → Status → List ℕ → Type 0} {S : Type 0} {held : S → Tells} {faults : S → Counts} {leads : S → FetchCall → S → Type 0} {before : S} {want : NoMemory} (plan : Option (Plan R W)) → Prepared allows finishes held faults leads before before plan (Err want)
+prepares_nothing None = record { answer = tt; fetches = []; asked = refl; along = refl }
+prepares_nothing (Some plan) = record { answer = tt; fetches = []; asked = refl; along = along_none plan }

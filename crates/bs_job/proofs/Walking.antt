@@ -1,26 +1,29 @@
 -- A plan is followed a file at a time.
-use Rattle.std.proofs.Common.{◌≡◌, inl, inr, ℕ, ◌<◌, ◌≤◌, List, [], ◌++◌, length, Option, Some, None, Result, Ok, Err, codes, refl, sym, ◌∙◌, ap, subst, arith, Vec}
+use Rattle.std.proofs.Common.{◌≡◌, inl, inr, ℕ, ◌<◌, ◌≤◌, List, [], ◌∷◌, ◌++◌, length, drop, Option, Some, None, Result, Ok, Err, codes, refl, sym, ◌∙◌, ap, subst, arith, Vec}
 use Rattle.std.proofs.lemmas.Bool.{le-ltb, lt-ltb, false≢true}
 use Rattle.std.proofs.lemmas.List.{length-take}
 use Rattle.std.specs.Prelude.{IfSome, IsSome, MatchResult}
-use Rattle.std.specs.Io.{StartsWith}
+use Rattle.std.specs.Io.{StartsWith, appended_bytes}
 use Rattle.std.specs.declared.alloc.Global.{Global}
+use Rattle.bs_outside.specs.Calls.{FetchCall}
 use Rattle.bs_outside.specs.Faults.{Rose}
 use Rattle.std.specs.Option.{option_and_then}
 use Rattle.bs_outside.specs.declared.sure.SureShelf.{SureShelf}
 use Rattle.bs_outside.specs.Files.{sure_count}
 use Rattle.bs_outside.specs.Memory.{sure_held, sure_faults}
 use Rattle.bs_outside.specs.Fetching.{FetchesAll, FetchesTooMany, CountsFaults}
-use Rattle.bs_outside.specs.declared.shelf.Fetch.TheVariants.{Done, Failed, TooLong}
+use Rattle.bs_outside.specs.declared.shelf.Fetch.TheVariants.{Done, Failed, TooLong, NoMemory as Unfilled}
 use Rattle.bs_job.specs.declared.file.File.{File}
 use Rattle.bs_job.specs.declared.walk.Refusal.{Refusal}
 use Rattle.bs_job.specs.declared.walk.Refusal.TheVariants as Q
 use Rattle.bs_job.specs.declared.walk.Stop.{Stop}
 use Rattle.bs_job.specs.declared.walk.Stop.TheVariants as S
 use Rattle.bs_job.specs.Files.{limit_of}
-use Rattle.bs_job.specs.Plan.{Tells, Counts, Comes, Reason, exactly, Says, Plan, fetch, refuse, end, ◌>>=◌, fetched, given, given_next, with_texts, AllTold, read_as, Outcome, ready, refused, faulted, Ends}
-use Rattle.bs_job.specs.Walks.{IsSame, IsLater, IsTooLong, ComesTo, FetchedTo, GivenTo, WalksTo, Walks, WalksAlone, Reads, settled}
+use Rattle.bs_job.specs.Plan.{Tells, Counts, Wanted, Comes, Reason, exactly, Says, Plan, fetch, refuse, end, ◌>>=◌, fetched, given_next, with_texts, AllTold, read_as, Outcome, ready, refused, faulted, Ends}
+use Rattle.bs_job.specs.Asking.{AsksFor, CallTo}
+use Rattle.bs_job.specs.Walks.{IsSame, IsLater, IsTooLong, ComesTo, FetchedTo, WalksTo, Walks, WalksAlone, Reads, settled}
 use Rattle.bs_job.proofs.Plans.{ends_along, ends_then, ends_refused, ends_faulted}
+use Rattle.bs_job.proofs.AskingLemmas.{in_turn_then, file_goes, read_goes, stop_goes, then_goes, goes_as, texts_ask_nothing, alone_goes}
 
 if_some_weaker : (told : Option (List ℕ)) (P Q : List ℕ → Type 0) → ((all : List ℕ) → P all → Q all) → IfSome told P → IfSome told Q
 if_some_weaker None P Q step h = h
@@ -52,6 +55,20 @@ fetched_long told told' before now file name old new limit (Err (S.Refused other
 pub fetched_failed : (told told' : Tells) (before now : Counts) (file : File) (name : List ℕ) → ((other : List ℕ) → told' other ≡ told other) → CountsFaults before now name Failed → ComesTo told told' before now (record { file = file; name = name }) (Err (S.Faulted file))
 fetched_failed told told' before now file name same counts = (record { told = same; counts = counts.later }, counts.failed refl, refl)
 
+pub fetched_none : (told told' : Tells) (before now : Counts) (name : List ℕ) → ((other : List ℕ) → told' other ≡ told other) → CountsFaults before now name Unfilled → IsSame told told' before now
+fetched_none told told' before now name same counts = record { told = same; counts = counts.steady (λ e. cc) }
+
+-- all was appended to nothing
+pub all_appended : (old new : List ℕ) → old ≡ [] → appended_bytes old new ≡ new
+all_appended old new none = ap (λ (l : List ℕ). drop (length l) new) none
+
+-- the call for a file that is too long
+pub long_call : (file : File) (w : Wanted) (call : FetchCall) (result : Result (Vec ℕ Global) Stop) → IsTooLong file result → AsksFor w call → call.answer ≡ TooLong → CallTo w call result
+long_call file w call (Ok v) long asks is = absurd long
+long_call file w call (Err S.NoMemory) long asks is = asks
+long_call file w call (Err (S.Faulted other)) long asks is = absurd long
+long_call file w call (Err (S.Refused other why)) long asks is = (asks, is)
+
 -- a fetch is the plan of one file
 fetch_to : {R : Type 0} (allows : R → List ℕ → Type 0) (told told' : Tells) (before now : Counts) (file : File) (name : List ℕ) (result : Result (Vec ℕ Global) Stop) → ComesTo told told' before now (record { file = file; name = name }) result → WalksTo allows told told' before now (fetched file name) (λ (b : Vec ℕ Global). b.items) result
 fetch_to allows told told' before now file name (Ok bytes) h = (h.0, inl (bytes.items, h.1, refl))
@@ -65,23 +82,13 @@ fetch_to {R = R} allows told told' before now file name (Err (S.Refused other wh
     long_of : (P : Type 0) → File → Outcome P (List ℕ)
     long_of P f = refused f (exactly (codes "TooLong"))
 
-pub fetch_walks : {R : Type 0} {allows : R → List ℕ → Type 0} {told told' : Tells} {before now : Counts} {file : File} {name : List ℕ} {result : Result (Vec ℕ Global) Stop} → FetchedTo told told' before now file name result → Walks allows told told' before now (fetched file name) (λ (b : Vec ℕ Global). b.items) result
-fetch_walks {R} {allows} {told} {told'} {before} {now} {file} {name} {result} h = record { is = fetch_to allows told told' before now file name result h.is }
-
--- ---- a text of the program's own
-
-given_to : {R : Type 0} (allows : R → List ℕ → Type 0) (told : Tells) (before : Counts) (file : File) (bytes : List ℕ) (result : Result (Unit {0}) Stop) → GivenTo file bytes result → WalksTo allows told told before before (given file bytes) (λ (u : Unit {0}). bytes) result
-given_to allows told before file bytes (Ok v) h = rw (le-ltb (limit_of file) (length bytes) h) (record { told = λ n. refl; counts = λ n. refl }, refl)
-given_to allows told before file bytes (Err S.NoMemory) h = record { told = λ n. refl; counts = λ n. refl }
-given_to allows told before file bytes (Err (S.Faulted other)) h = absurd h.1
-given_to {R = R} allows told before file bytes (Err (S.Refused other why)) h =
-    rw (lt-ltb (limit_of file) (length bytes) h.0) (record { told = λ n. refl; counts = λ n. refl }, (exactly (codes "TooLong"), h.1.1, ap (λ f. long_of R f) h.1.0))
-  where
-    long_of : (P : Type 0) → File → Outcome P (List ℕ)
-    long_of P f = refused f (exactly (codes "TooLong"))
-
-pub given_walks : {R : Type 0} {allows : R → List ℕ → Type 0} {told : Tells} {before : Counts} {result : Result (Unit {0}) Stop} (file : File) (bytes : List ℕ) → GivenTo file bytes result → Walks allows told told before before (given file bytes) (λ (u : Unit {0}). bytes) result
-given_walks {allows = allows} {told = told} {before = before} {result = result} file bytes h = record { is = given_to allows told before file bytes result h }
+pub fetch_walks : {R : Type 0} {allows : R → List ℕ → Type 0} {S : Type 0} {held : S → Tells} {faults : S → Counts} {leads : S → FetchCall → S → Type 0} {before now : S} {file : File} {name : List ℕ} {result : Result (Vec ℕ Global) Stop} → FetchedTo held faults leads before now file name result → Walks allows held faults leads before now (fetched file name) (λ (b : Vec ℕ Global). b.items) result
+fetch_walks {R} {allows} {S} {held} {faults} {leads} {before} {now} {file} {name} {result} h = record {
+  is = fetch_to allows (held before) (held now) (faults before) (faults now) file name result h.is;
+  fetches = h.call ∷ [];
+  asked = (now, h.asked, refl);
+  along = file_goes allows (held before) (held now) (faults before) (faults now) file name h.call result h.is h.answer;
+}
 
 -- ---- readers
 
@@ -98,8 +105,13 @@ reads_to {R = R} {V = V} allows told before file wanted view (Err (Q.Why why)) i
     (record { told = λ n. refl; counts = λ n. refl }, (r.0, r.1, subst (λ (x : Result V (Reason R)). Ends told before before (read_as file x) (refused file r.0)) (sym r.2) refl))
 
 -- what a reader answers is a plan of its own
-pub reads_walk : {R T V : Type 0} {allows : R → List ℕ → Type 0} {told : Tells} {before : Counts} {view : T → V} {result : Result T Stop} (file : File) (wanted : Result V (Reason R)) (r : Result T Refusal) → result ≡ settled file r → Reads allows view wanted r → Walks allows told told before before (read_as file wanted) view result
-reads_walk {allows = allows} {told = told} {before = before} {view = view} file wanted r settles reads = record { is = rw settles (reads_to allows told before file wanted view r reads) }
+pub reads_walk : {R T V : Type 0} {allows : R → List ℕ → Type 0} {S : Type 0} {held : S → Tells} {faults : S → Counts} {leads : S → FetchCall → S → Type 0} {before : S} {view : T → V} {result : Result T Stop} (file : File) (wanted : Result V (Reason R)) (r : Result T Refusal) → result ≡ settled file r → Reads allows view wanted r → Walks allows held faults leads before before (read_as file wanted) view result
+reads_walk {allows = allows} {held = held} {faults = faults} {before = before} {view = view} file wanted r settles reads = record {
+  is = rw settles (reads_to allows (held before) (faults before) file wanted view r reads);
+  fetches = [];
+  asked = refl;
+  along = rw settles (read_goes allows file wanted view r reads);
+}
 
 -- ---- one part, and then the next
 
@@ -109,8 +121,13 @@ stops_to allows told told' before now plan f view next_view S.NoMemory h = h
 stops_to allows told told' before now plan f view next_view (S.Faulted file) h = (h.0, ends_faulted told before now plan f file h.1)
 stops_to allows told told' before now plan f view next_view (S.Refused file why) h = (h.0, (h.1.0, h.1.1, ends_refused told before now plan f file h.1.0 h.1.2))
 
-pub walks_stop : {R A B T U : Type 0} {allows : R → List ℕ → Type 0} {told told' : Tells} {before now : Counts} {plan : Plan R A} {view : T → A} {next_view : U → B} {stop : Stop} (f : A → Plan R B) → Walks allows told told' before now plan view (Err stop) → Walks allows told told' before now (plan >>= f) next_view (Err stop)
-walks_stop {allows = allows} {told = told} {told' = told'} {before = before} {now = now} {plan = plan} {view = view} {next_view = next_view} {stop = stop} f h = record { is = stops_to allows told told' before now plan f view next_view stop h.is }
+pub walks_stop : {R A B T U : Type 0} {allows : R → List ℕ → Type 0} {S : Type 0} {held : S → Tells} {faults : S → Counts} {leads : S → FetchCall → S → Type 0} {before now : S} {plan : Plan R A} {view : T → A} {next_view : U → B} {stop : Stop} (f : A → Plan R B) → Walks allows held faults leads before now plan view (Err stop) → Walks allows held faults leads before now (plan >>= f) next_view (Err stop)
+walks_stop {allows = allows} {held = held} {faults = faults} {before = before} {now = now} {plan = plan} {view = view} {next_view = next_view} {stop = stop} f h = record {
+  is = stops_to allows (held before) (held now) (faults before) (faults now) plan f view next_view stop h.is;
+  fetches = h.fetches;
+  asked = h.asked;
+  along = stop_goes allows plan f view next_view h.fetches stop h.along;
+}
 
 same_then : (told told' told'' : Tells) (before mid now : Counts) → IsSame told told' before mid → IsSame told' told'' mid now → IsSame told told'' before now
 same_then told told' told'' before mid now first next = record { told = λ n. next.told n ∙ first.told n; counts = λ n. next.counts n ∙ first.counts n }
@@ -129,41 +146,45 @@ then_to allows told told' told'' before mid now plan f a next_view (Err (S.Fault
 then_to allows told told' told'' before mid now plan f a next_view (Err (S.Refused file why)) first h = (same_then told told' told'' before mid now first.0 h.0, (h.1.0, h.1.1, ends_on told told' before mid now plan f a (refused file h.1.0) first.0 (λ n. omega (arith, h.0.counts n)) first.1 h.1.2))
 
 -- a part that went to its end, and then the rest
-pub walks_then : {R A B T U : Type 0} {allows : R → List ℕ → Type 0} {told told' told'' : Tells} {before mid now : Counts} {plan : Plan R A} {view : T → A} {a : T} {next_view : U → B} {result : Result U Stop} (f : A → Plan R B) → Walks allows told told' before mid plan view (Ok a) → Walks allows told' told'' mid now (f (view a)) next_view result → Walks allows told told'' before now (plan >>= f) next_view result
-walks_then {allows = allows} {told = told} {told' = told'} {told'' = told''} {before = before} {mid = mid} {now = now} {plan = plan} {view = view} {a = a} {next_view = next_view} {result = result} f first h =
-    record { is = then_to allows told told' told'' before mid now plan f (view a) next_view result first.is h.is }
+pub walks_then : {R A B T U : Type 0} {allows : R → List ℕ → Type 0} {S : Type 0} {held : S → Tells} {faults : S → Counts} {leads : S → FetchCall → S → Type 0} {before mid now : S} {plan : Plan R A} {view : T → A} {a : T} {next_view : U → B} {result : Result U Stop} (f : A → Plan R B) → Walks allows held faults leads before mid plan view (Ok a) → Walks allows held faults leads mid now (f (view a)) next_view result → Walks allows held faults leads before now (plan >>= f) next_view result
+walks_then {allows = allows} {held = held} {faults = faults} {leads = leads} {before = before} {mid = mid} {now = now} {plan = plan} {view = view} {a = a} {next_view = next_view} {result = result} f first h = record {
+  is = then_to allows (held before) (held mid) (held now) (faults before) (faults mid) (faults now) plan f (view a) next_view result first.is h.is;
+  fetches = first.fetches ++ h.fetches;
+  asked = in_turn_then leads before mid now first.fetches h.fetches first.asked h.asked;
+  along = then_goes allows plan f (view a) next_view first.fetches h.fetches result first.along h.along;
+}
 
 -- the end of a plan
-pub walks_end : {R B U : Type 0} {allows : R → List ℕ → Type 0} {told : Tells} {before : Counts} {view : U → B} {u : U} → Walks allows told told before before (end (view u)) view (Ok u)
-walks_end {R} {B} {U} {allows} {told} {before} {view} {u} = record { is = (record { told = λ n. refl; counts = λ n. refl }, refl) }
+pub walks_end : {R B U : Type 0} {allows : R → List ℕ → Type 0} {S : Type 0} {held : S → Tells} {faults : S → Counts} {leads : S → FetchCall → S → Type 0} {before : S} {view : U → B} {u : U} → Walks allows held faults leads before before (end (view u)) view (Ok u)
+walks_end {R} {B} {U} {allows} {S} {held} {faults} {leads} {before} {view} {u} = record { is = (record { told = λ n. refl; counts = λ n. refl }, refl); fetches = []; asked = refl; along = (refl, refl) }
 
 -- a file that is fetched and then read
-pub reads_then : {R T V : Type 0} {allows : R → List ℕ → Type 0} {told told' : Tells} {before now : Counts} {file : File} {name : List ℕ} {bytes : Vec ℕ Global} {view : T → V} {result : Result T Stop} (read : List ℕ → Result V (Reason R)) (seen : List ℕ) (r : Result T Refusal) → seen ≡ bytes.items → result ≡ settled file r → FetchedTo told told' before now file name (Ok bytes) → Reads allows view (read seen) r → Walks allows told told' before now (fetched file name >>= (λ b. read_as file (read b))) view result
+pub reads_then : {R T V : Type 0} {allows : R → List ℕ → Type 0} {S : Type 0} {held : S → Tells} {faults : S → Counts} {leads : S → FetchCall → S → Type 0} {before now : S} {file : File} {name : List ℕ} {bytes : Vec ℕ Global} {view : T → V} {result : Result T Stop} (read : List ℕ → Result V (Reason R)) (seen : List ℕ) (r : Result T Refusal) → seen ≡ bytes.items → result ≡ settled file r → FetchedTo held faults leads before now file name (Ok bytes) → Reads allows view (read seen) r → Walks allows held faults leads before now (fetched file name >>= (λ b. read_as file (read b))) view result
 reads_then {allows = allows} {file = file} {bytes = bytes} {view = view} read seen r same settles so_far reads =
     walks_then (λ b. read_as file (read b)) (fetch_walks so_far) (reads_walk file (read bytes.items) r settles (subst (λ (b : List ℕ). Reads allows view (read b) r) same reads))
 
 -- one whose fetch stops the job
-pub fetch_stop : {R B U : Type 0} {allows : R → List ℕ → Type 0} {told told' : Tells} {before now : Counts} {file : File} {name : List ℕ} {next_view : U → B} {stop : Stop} (f : List ℕ → Plan R B) → FetchedTo told told' before now file name (Err stop) → Walks allows told told' before now (fetched file name >>= f) next_view (Err stop)
+pub fetch_stop : {R B U : Type 0} {allows : R → List ℕ → Type 0} {S : Type 0} {held : S → Tells} {faults : S → Counts} {leads : S → FetchCall → S → Type 0} {before now : S} {file : File} {name : List ℕ} {next_view : U → B} {stop : Stop} (f : List ℕ → Plan R B) → FetchedTo held faults leads before now file name (Err stop) → Walks allows held faults leads before now (fetched file name >>= f) next_view (Err stop)
 fetch_stop f h = walks_stop f (fetch_walks h)
-
--- the same of a text of the program's own
-pub given_then : {R T V : Type 0} {allows : R → List ℕ → Type 0} {view : T → V} {result : Result T Stop} (file : File) (bytes : List ℕ) (u : Unit {0}) (read : List ℕ → Result V (Reason R)) (r : Result T Refusal) → result ≡ settled file r → GivenTo file bytes (Ok u) → Reads allows view (read bytes) r → WalksAlone allows (given file bytes >>= (λ b. read_as file (read b))) view result
-given_then file bytes u read r settles so_far reads =
-    record { is = λ told before. walks_then (λ b. read_as file (read b)) (given_walks file bytes so_far) (reads_walk file (read bytes) r settles reads) }
-
-pub given_stop : {R B U : Type 0} {allows : R → List ℕ → Type 0} {next_view : U → B} {stop : Stop} (file : File) (bytes : List ℕ) (f : List ℕ → Plan R B) → GivenTo file bytes (Err stop) → WalksAlone allows (given file bytes >>= f) next_view (Err stop)
-given_stop file bytes f h = record { is = λ told before. walks_stop f (given_walks file bytes h) }
 
 -- the value of a plan, seen as the work that it makes ready for
 as_to : {R A B T : Type 0} (allows : R → List ℕ → Type 0) (told told' : Tells) (before now : Counts) (plan : Plan R A) (g : A → B) (view : T → A) (result : Result T Stop) → WalksTo allows told told' before now plan view result → WalksTo allows told told' before now (plan >>= (λ v. end (g v))) (λ t. g (view t)) result
 as_to allows told told' before now plan g view (Ok t) h = (h.0, ends_then told before now plan (λ v. end (g v)) (view t) (ready (g (view t))) h.1 refl)
 as_to allows told told' before now plan g view (Err stop) h = stops_to allows told told' before now plan (λ v. end (g v)) view (λ t. g (view t)) stop h
 
-pub walks_as : {R A B T : Type 0} {allows : R → List ℕ → Type 0} {told told' : Tells} {before now : Counts} {plan : Plan R A} {view : T → A} {result : Result T Stop} (g : A → B) → Walks allows told told' before now plan view result → Walks allows told told' before now (plan >>= (λ v. end (g v))) (λ t. g (view t)) result
-walks_as {allows = allows} {told = told} {told' = told'} {before = before} {now = now} {plan = plan} {view = view} {result = result} g h = record { is = as_to allows told told' before now plan g view result h.is }
+pub walks_as : {R A B T : Type 0} {allows : R → List ℕ → Type 0} {S : Type 0} {held : S → Tells} {faults : S → Counts} {leads : S → FetchCall → S → Type 0} {before now : S} {plan : Plan R A} {view : T → A} {result : Result T Stop} (g : A → B) → Walks allows held faults leads before now plan view result → Walks allows held faults leads before now (plan >>= (λ v. end (g v))) (λ t. g (view t)) result
+walks_as {allows = allows} {held = held} {faults = faults} {before = before} {now = now} {plan = plan} {view = view} {result = result} g h = record {
+  is = as_to allows (held before) (held now) (faults before) (faults now) plan g view result h.is;
+  fetches = h.fetches;
+  asked = h.asked;
+  along = goes_as allows plan g view h.fetches result h.along;
+}
 
 pub alone_as : {R A B T : Type 0} {allows : R → List ℕ → Type 0} {plan : Plan R A} {view : T → A} {result : Result T Stop} (g : A → B) → WalksAlone allows plan view result → WalksAlone allows (plan >>= (λ v. end (g v))) (λ t. g (view t)) result
-alone_as g h = record { is = λ told before. walks_as g (h.is told before) }
+alone_as {allows = allows} {plan = plan} {view = view} {result = result} g h = record {
+  is = λ told before. as_to allows told told before before plan g view result (h.is told before);
+  along = goes_as allows plan g view [] result h.along;
+}
 
 -- ---- texts of the program's own, walked over a shelf that tells them and does not fail
 
@@ -219,9 +240,11 @@ alone_to allows told told' told2 before now before2 plan view (Err (S.Refused fi
     (same_here told2 before2, (h.1.0, h.1.1, ends_with_texts told told2 before now before2 plan (refused file h.1.0) all (sure_now told told' before now sure h.0.told) h.1.2))
 
 -- a walk over such a shelf is one over the texts alone
-pub walks_alone : {R T V : Type 0} {allows : R → List ℕ → Type 0} {told told' : Tells} {before now : Counts} {plan : Plan R V} {view : T → V} {result : Result T Stop} → AllTold told plan → IsSure told told' before now → Walks allows told told' before now plan view result → WalksAlone allows (with_texts told plan) view result
-walks_alone {allows = allows} {told = told} {told' = told'} {before = before} {now = now} {plan = plan} {view = view} {result = result} all sure h =
-    record { is = λ told2 before2. record { is = alone_to allows told told' told2 before now before2 plan view result all sure h.is } }
+pub walks_alone : {R T V : Type 0} {allows : R → List ℕ → Type 0} {S : Type 0} {held : S → Tells} {faults : S → Counts} {leads : S → FetchCall → S → Type 0} {before now : S} {plan : Plan R V} {view : T → V} {result : Result T Stop} → AllTold (held before) plan → IsSure (held before) (held now) (faults before) (faults now) → Walks allows held faults leads before now plan view result → WalksAlone allows (with_texts (held before) plan) view result
+walks_alone {allows = allows} {held = held} {faults = faults} {before = before} {now = now} {plan = plan} {view = view} {result = result} all sure h =
+    let is : (told2 : Tells) (before2 : Counts) → WalksTo allows told2 told2 before2 before2 (with_texts (held before) plan) view result =
+    λ told2 before2. alone_to allows (held before) (held now) told2 (faults before) (faults now) before2 plan view result all sure h.is in
+    record { is = is; along = alone_goes allows (λ _. None) (λ _. 0) (with_texts (held before) plan) view result (texts_ask_nothing (held before) plan all) (is (λ _. None) (λ _. 0)) }
 
 -- a `SureShelf` is such a shelf
 zero_faults : (place : Option ℕ) (f : ℕ → Option (List ℕ)) → IsSome (option_and_then f place) → sure_count place ≡ 0

@@ -2,13 +2,16 @@
 use Rattle.std.specs.Prelude.{◌≡◌, ◌≢◌, ◌↔◌, ℕ, List, codes, Option, Some, None, IfSome}
 use Rattle.std.specs.Io.{StartsWith}
 use Rattle.std.specs.Io.KnownBytes.{Appends}
+use Rattle.bs_outside.specs.Calls.{FetchCall, PutCall, InTurn}
 use Rattle.bs_outside.specs.Faults.{Rose}
 use Rattle.bs_job.specs.declared.file.File.{File}
 use Rattle.bs_job.specs.declared.file.Status.{Status}
-use Rattle.bs_job.specs.declared.file.Status.TheVariants.{Words, WriteFault}
+use Rattle.bs_job.specs.declared.file.Status.TheVariants.{Words, ReadFault, WriteFault}
 use Rattle.bs_job.specs.Files.{refusal_line, refusal_status}
 use Rattle.bs_job.specs.Plan.{Tells, Counts, Wanted, Reason, Plan, Outcome, refused, Ends, told_end, Reaches}
 use Rattle.bs_job.specs.Answers.{CallsFor, CallsByTold}
+use Rattle.bs_job.specs.Asking.{AsksWhole, AsksShort}
+use Rattle.bs_job.specs.Delivery.{PutsLines}
 
 -- What the words call for was written whole, or its front, where a put failed.
 pub record Answered {R W : Type 0} (allows : R → List ℕ → Type 0) (finishes : W → Status → List ℕ → Type 0) (told : Tells) (before now : Counts) (plan : Option (Plan R W)) (written_before written_now : Option (List ℕ)) (status : Status) : Type 0 where
@@ -66,3 +69,29 @@ ComesToFile told (Some plan) wanted = Reaches told plan wanted
 pub record IsCalm {R W : Type 0} (told : Tells) (before now : Counts) (plan : Option (Plan R W)) (sink_before sink_now : ℕ) : Type 0 where
   pub files : (w : Wanted) → ComesToFile told plan w → Rose (before w.name) (now w.name) → ⊥
   pub sink : Rose sink_before sink_now → ⊥
+
+-- The whole text was written that the words call for, in some way that agrees with the shelf, and no fault is answered.
+pub record AnsweredWhole {R W : Type 0} (allows : R → List ℕ → Type 0) (finishes : W → Status → List ℕ → Type 0) (told : Tells) (before now : Counts) (plan : Option (Plan R W)) (written_before written_now : Option (List ℕ)) (status : Status) : Type 0 where
+  pub text : List ℕ
+  pub calls : CallsFor allows finishes told before now plan status text
+  pub wrote : Appends written_before written_now text
+  pub read : status ≢ ReadFault
+  pub write : status ≢ WriteFault
+
+-- What was asked of the shelf and put into the sink, call by call: the files of the job in their order, each once, up to the one that
+-- stopped it; then the lines of the text that this calls for, one by one, up to and with one that failed.
+pub record CallByCall {S K R W : Type 0} (allows : R → List ℕ → Type 0) (finishes : W → Status → List ℕ → Type 0) (fetch_leads : S → FetchCall → S → Type 0) (shelf_before shelf_now : S) (put_leads : K → PutCall → K → Type 0) (sink_before sink_now : K) (plan : Option (Plan R W)) (status : Status) : Type 0 where
+  pub called_for : Status
+  pub text : List ℕ
+  pub fetches : List FetchCall
+  pub asked : InTurn fetch_leads shelf_before fetches shelf_now
+  pub along : AsksWhole allows finishes plan fetches called_for text
+  pub lines : PutsLines put_leads sink_before sink_now text status
+  pub answered : status ≢ WriteFault → status ≡ called_for
+
+-- The same after want of memory: the first of those files, and no put.
+pub record CallsWanting {S K R W : Type 0} (fetch_leads : S → FetchCall → S → Type 0) (shelf_before shelf_now : S) (sink_before sink_now : K) (plan : Option (Plan R W)) : Type 0 where
+  pub fetches : List FetchCall
+  pub asked : InTurn fetch_leads shelf_before fetches shelf_now
+  pub along : AsksShort plan fetches
+  pub none_put : sink_now ≡ sink_before

@@ -43,10 +43,6 @@ end v >>= f = f v
 abbrev pub fetched : {R : Type 0} → File → List ℕ → Plan R (List ℕ)
 fetched file name = fetch record { file = file; name = name } (λ bytes. end bytes)
 
--- a text of the program's own in place of a file, with the file's limit
-abbrev pub given : {R : Type 0} → File → List ℕ → Plan R (List ℕ)
-given file bytes = if nat_lt (limit_of file) (length bytes) then refuse file (exactly (codes "TooLong")) else end bytes
-
 -- a text of the program's own in place of one file of a plan, where there is one
 abbrev pub given_next : {R V : Type 0} → Wanted → Option (List ℕ) → (List ℕ → Plan R V) → Plan R V
 given_next w None next = fetch w next

@@ -1,14 +1,15 @@
 -- What the program's walk along a plan has done.
-use Rattle.std.specs.Prelude.{◌≡◌, ◌<◌, ◌≤◌, ℕ, List, length, codes, Result, Ok, Err, MatchResult, Vec}
+use Rattle.std.specs.Prelude.{◌≡◌, ◌≤◌, ℕ, List, [], codes, Result, Ok, Err, MatchResult, Vec}
 use Rattle.std.specs.declared.alloc.Global.{Global}
+use Rattle.bs_outside.specs.Calls.{FetchCall, InTurn}
 use Rattle.bs_outside.specs.Faults.{Rose}
 use Rattle.bs_job.specs.declared.file.File.{File}
 use Rattle.bs_job.specs.declared.walk.Stop.{Stop}
 use Rattle.bs_job.specs.declared.walk.Stop.TheVariants.{NoMemory, Faulted, Refused}
 use Rattle.bs_job.specs.declared.walk.Refusal.{Refusal}
 use Rattle.bs_job.specs.declared.walk.Refusal.TheVariants as Q
-use Rattle.bs_job.specs.Files.{limit_of}
 use Rattle.bs_job.specs.Plan.{Tells, Counts, Wanted, Comes, IsLong, Reason, Says, Plan, ready, refused, faulted, Ends}
+use Rattle.bs_job.specs.Asking.{CallTo, GoesTo}
 
 -- the shelf tells and counts as before
 pub record IsSame (told_before told_now : Tells) (before now : Counts) : Type 0 where
@@ -33,14 +34,12 @@ ComesTo told_before told_now before now w (Err NoMemory) = IsSame told_before to
 ComesTo told_before told_now before now w (Err (Faulted other)) = IsLater told_before told_now before now × Rose (before w.name) (now w.name) × (other ≡ w.file)
 ComesTo told_before told_now before now w (Err (Refused other why)) = IsSame told_before told_now before now × IsLong told_before w × (other ≡ w.file) × (why.items ≡ codes "TooLong")
 
--- the file was fetched: its bytes came, it failed, or it is too long, unless memory ran out
-pub record FetchedTo (told_before told_now : Tells) (before now : Counts) (file : File) (name : List ℕ) (result : Result (Vec ℕ Global) Stop) : Type 0 where
-  pub is : ComesTo told_before told_now before now (record { file = file; name = name }) result
-
--- a text of the program's own is within the file's limit, or refused as too long, unless memory ran out
-abbrev pub GivenTo : File → List ℕ → Result (Unit {0}) Stop → Type 0
-GivenTo file bytes (Ok v) = length bytes ≤ limit_of file
-GivenTo file bytes (Err stop) = (limit_of file < length bytes) × IsTooLong {T = Unit {0}} file (Err stop)
+-- the file was fetched, in one call: its bytes came, it failed, or it is too long, unless memory ran out
+pub record FetchedTo {S : Type 0} (held : S → Tells) (faults : S → Counts) (leads : S → FetchCall → S → Type 0) (before now : S) (file : File) (name : List ℕ) (result : Result (Vec ℕ Global) Stop) : Type 0 where
+  pub is : ComesTo (held before) (held now) (faults before) (faults now) (record { file = file; name = name }) result
+  pub call : FetchCall
+  pub asked : leads before call now
+  pub answer : CallTo (record { file = file; name = name }) call result
 
 abbrev pub WalksTo : {R T V : Type 0} → (R → List ℕ → Type 0) → (told_before told_now : Tells) (before now : Counts) (plan : Plan R V) (view : T → V) → Result T Stop → Type 0
 WalksTo allows told_before told_now before now plan view (Ok v) = IsSame told_before told_now before now × Ends told_before before now plan (ready (view v))
@@ -48,13 +47,17 @@ WalksTo allows told_before told_now before now plan view (Err NoMemory) = IsSame
 WalksTo allows told_before told_now before now plan view (Err (Faulted file)) = IsLater told_before told_now before now × Ends told_before before now plan (faulted file)
 WalksTo {R = R} allows told_before told_now before now plan view (Err (Refused file why)) = IsSame told_before told_now before now × ((reason : Reason R) × Says allows reason why.items × Ends told_before before now plan (refused file reason))
 
--- the plan was followed to this end, or memory ran out
-pub record Walks {R T V : Type 0} (allows : R → List ℕ → Type 0) (told_before told_now : Tells) (before now : Counts) (plan : Plan R V) (view : T → V) (result : Result T Stop) : Type 0 where
-  pub is : WalksTo allows told_before told_now before now plan view result
+-- the plan was followed to this end, or memory ran out; and the shelf was asked for the plan's files alone, each once
+pub record Walks {S R T V : Type 0} (allows : R → List ℕ → Type 0) (held : S → Tells) (faults : S → Counts) (leads : S → FetchCall → S → Type 0) (before now : S) (plan : Plan R V) (view : T → V) (result : Result T Stop) : Type 0 where
+  pub is : WalksTo allows (held before) (held now) (faults before) (faults now) plan view result
+  pub fetches : List FetchCall
+  pub asked : InTurn leads before fetches now
+  pub along : GoesTo allows plan view fetches result
 
 -- a plan over the program's own texts, which asks no shelf: so it goes with any
 pub record WalksAlone {R T V : Type 0} (allows : R → List ℕ → Type 0) (plan : Plan R V) (view : T → V) (result : Result T Stop) : Type 0 where
-  pub is : (told : Tells) (before : Counts) → Walks allows told told before before plan view result
+  pub is : (told : Tells) (before : Counts) → WalksTo allows told told before before plan view result
+  pub along : GoesTo allows plan view [] result
 
 -- a reader's answer is the one wanted, value or reason, unless memory ran out
 abbrev pub Reads : {R T V : Type 0} → (R → List ℕ → Type 0) → (view : T → V) → Result V (Reason R) → Result T Refusal → Type 0

@@ -18,7 +18,7 @@ pub struct Answer {
 }
 
 /// The line `refused FILE WHY`.
-fn refusal_line(alloc: Global, file: File, why: &[u8]) -> Result<Vec<u8>, bs_bits::NoMemory>
+fn refusal_line(alloc: Global, file: File, why: &[u8]) -> Result<Vec<u8>, NoMemory>
     ensures { IfOk result (λ line. line.items ≡ refusal_line file why.now) }
 {
     let mut line = Vec::new(alloc);
@@ -46,10 +46,8 @@ fn refused(alloc: Global, status: Status, file: File, why: &[u8]) -> Result<Answ
     ensures status { IfOk result (λ answer. answer.status ≡ status) }
     ensures text { IfOk result (λ answer. answer.text.items ≡ refusal_line file why.now) }
 {
-    match refusal_line(alloc, file, why) {
-        Ok(text) => Ok(Answer { status, text }),
-        Err(_) => Err(NoMemory),
-    }
+    let text = refusal_line(alloc, file, why)?;
+    Ok(Answer { status, text })
 }
 
 /// The answer to words that are no job.

@@ -4,11 +4,9 @@
 mod answer;
 mod file;
 mod output;
-#[cfg(test)]
-mod tests;
 mod walk;
 
 pub use answer::{Answer, refused_words, stopped};
 pub use file::{File, Status};
 pub use output::deliver;
-pub use walk::{Refusal, Stop, check_given, fetch_file, settle};
+pub use walk::{Refusal, Stop, fetch_file, settle};

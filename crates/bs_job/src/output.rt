@@ -1,27 +1,55 @@
 //! The finished text goes out, each line in a put of its own.
-ghost use Rattle.std.specs.Prelude.{◌≢◌, ◌<◌, ◌≤◌, length};
+ghost use Rattle.std.specs.Prelude.{◌≡◌, ◌≢◌, ◌<◌, ◌≤◌, ◌+◌, ◌-◌, ◌==◌, ◌∷◌, ℕ, length, take, drop, slice_index, true, false};
 ghost use Rattle.bs_outside.specs.Putting.{Puts};
-ghost use Rattle.bs_job.specs.Delivery.{Delivers};
+ghost use Rattle.bs_job.specs.Delivery.{Delivers, put_lines_of, PutsLines, PutsTo};
 
 use crate::answer::Answer;
 use crate::file::Status;
 use bs_outside::{Put, Sink};
 
-/// The place behind the next line feed, or the end.
+/// The place of the first line feed, or the text's length where there is none.
+fn feed_place(text: &[u8]) -> usize
+    ensures within { result ≤ length text.now }
+    ensures before { (k : ℕ) → k < result → (slice_index text.now k == 10) ≡ false }
+    ensures ended { result < length text.now → (slice_index text.now result == 10) ≡ true }
+{
+    for (i, byte) in text.iter().enumerate() {
+        if *byte == b'\n' {
+            return i;
+        }
+    }
+    text.len()
+}
+
+/// How many bytes the first line has, with its line feed.
+fn line_len(text: &[u8]) -> usize
+    requires { 0 < length text.now }
+    ensures some { 0 < result }
+    ensures within { result ≤ length text.now }
+    ensures line { put_lines_of text.now ≡ take result text.now ∷ put_lines_of (drop result text.now) }
+{
+    let at = feed_place(text);
+    if at < text.len() {
+        at + 1
+    } else {
+        text.len()
+    }
+}
+
+/// The place behind the next line.
 fn line_end(text: &[u8], at: usize) -> usize
     requires { at < length text.now }
     ensures after { at < result }
     ensures within { result ≤ length text.now }
+    ensures line { put_lines_of (drop at text.now) ≡ take (result - at) (drop at text.now) ∷ put_lines_of (drop result text.now) }
 {
-    match text[at..].iter().position(|byte| *byte == b'\n') {
-        Some(count) => at + count + 1,
-        None => text.len(),
-    }
+    at + line_len(&text[at..])
 }
 
 /// Puts the lines of a text. After one that fails there is no other.
 fn put_lines<K: Sink>(text: &[u8], out: &mut K) -> Put
-    ensures { Puts (K.written out.old) (K.written out.new) (K.faults out.old) (K.faults out.new) text.now result }
+    ensures puts { Puts (K.written out.old) (K.written out.new) (K.faults out.old) (K.faults out.new) text.now result }
+    ensures lines { PutsTo K.leads out.old out.new text.now result }
 {
     let mut at = 0;
     while at < text.len() {
@@ -38,7 +66,8 @@ fn put_lines<K: Sink>(text: &[u8], out: &mut K) -> Put
 /// the status is then `WriteFault`.
 pub fn deliver<K: Sink>(answer: &Answer, out: &mut K) -> Status
     requires { answer.now.status ≢ Status.WriteFault }
-    ensures { Delivers answer.now.status answer.now.text.items (K.written out.old) (K.written out.new) (K.faults out.old) (K.faults out.new) result }
+    ensures sent { Delivers answer.now.status answer.now.text.items (K.written out.old) (K.written out.new) (K.faults out.old) (K.faults out.new) result }
+    ensures lines { PutsLines K.leads out.old out.new answer.now.text.items result }
 {
     match put_lines(&answer.text, out) {
         Put::Done => answer.status,

@@ -2,10 +2,10 @@
 ghost use Rattle.std.specs.Prelude.{◌≡◌};
 ghost use Rattle.bs_job.specs.declared.walk.Stop.TheVariants.{NoMemory as StopNoMemory};
 ghost use Rattle.bs_job.specs.declared.walk.Refusal.TheVariants.{NoMemory as ReadNoMemory};
-ghost use Rattle.bs_job.specs.Walks.{FetchedTo, GivenTo, IsTooLong, settled};
+ghost use Rattle.bs_job.specs.Walks.{FetchedTo, IsTooLong, settled};
 
 use crate::file::File;
-use bs_outside::{Fetch, Shelf};
+use bs_outside::{Fetch, NoMemory, Shelf};
 use std::alloc::{AllocError, Global};
 
 /// Why a job stops before it is ready.
@@ -26,10 +26,10 @@ impl From<AllocError> for Stop {
     }
 }
 
-impl From<bs_bits::NoMemory> for Stop {
+impl From<NoMemory> for Stop {
     ghost from_gives = { λ _ stop. stop ≡ StopNoMemory };
 
-    fn from(_wanting: bs_bits::NoMemory) -> Stop {
+    fn from(_wanting: NoMemory) -> Stop {
         Stop::NoMemory
     }
 }
@@ -50,10 +50,10 @@ impl From<AllocError> for Refusal {
     }
 }
 
-impl From<bs_bits::NoMemory> for Refusal {
+impl From<NoMemory> for Refusal {
     ghost from_gives = { λ _ refusal. refusal ≡ ReadNoMemory };
 
-    fn from(_wanting: bs_bits::NoMemory) -> Refusal {
+    fn from(_wanting: NoMemory) -> Refusal {
         Refusal::NoMemory
     }
 }
@@ -76,7 +76,7 @@ pub fn fetch_file<S: Shelf>(
     file: File,
     name: &str,
 ) -> Result<Vec<u8>, Stop>
-    ensures { FetchedTo (S.held shelf.old) (S.held shelf.new) (S.faults shelf.old) (S.faults shelf.new) file name.now result }
+    ensures { FetchedTo S.held S.faults S.leads shelf.old shelf.new file name.now result }
 {
     let mut bytes = Vec::new(alloc);
     match shelf.fetch(name, file.limit(), &mut bytes) {
@@ -92,14 +92,4 @@ fn too_long<T>(alloc: Global, file: File) -> Result<T, Stop>
     ensures { IsTooLong file result }
 {
     Err(Stop::Refused(file, b"TooLong".to_vec(alloc)?))
-}
-
-/// A text of the program's own in place of a file: it has the file's limit.
-pub fn check_given(alloc: Global, file: File, bytes: &[u8]) -> Result<(), Stop>
-    ensures { GivenTo file bytes.now result }
-{
-    if bytes.len() as u64 > file.limit() {
-        return too_long(alloc, file);
-    }
-    Ok(())
 }

@@ -1,8 +1,9 @@
 -- What the shelves and the sink in memory tell.
-use Rattle.std.specs.Prelude.{◌+◌, ◌-◌, ◌^◌, ℕ, List, length, min, Option, Contains, if◌then◌else◌}
+use Rattle.std.specs.Prelude.{◌≡◌, ◌+◌, ◌-◌, ◌^◌, ℕ, List, length, min, Option, Contains, if◌then◌else◌}
 use Rattle.std.specs.Option.{option_eq}
 use Rattle.std.specs.Prelude.{nat_eq}
 use Rattle.bs_outside.specs.declared.sink.Put.{Put}
+use Rattle.bs_outside.specs.Calls.{FetchCall, PutCall}
 use Rattle.bs_outside.specs.Cuts.{cut_of, put_answer}
 use Rattle.bs_outside.specs.Files.{Files, held_in, place_of, count_of, sure_count}
 use Rattle.bs_outside.specs.declared.memory.MemShelf.{MemShelf}
@@ -32,6 +33,10 @@ mem_fail shelf = shelf.fail.items
 abbrev pub IsDue : MemShelf → Type 0
 IsDue shelf = Contains (mem_fail shelf) (min (mem_calls shelf + 1) (2 ^ 64 - 1))
 
+-- each call is counted
+abbrev pub mem_leads : MemShelf → FetchCall → MemShelf → Type 0
+mem_leads before call now = mem_calls now ≡ min (mem_calls before + 1) (2 ^ 64 - 1)
+
 -- the count of another name once a fetch of a name failed: one more where both name one file, or both none
 abbrev pub counts_one : MemShelf → List ℕ → List ℕ → ℕ
 counts_one shelf name other =
@@ -48,6 +53,10 @@ sure_held shelf name = held_in (sure_files shelf) name
 abbrev pub sure_faults : SureShelf → List ℕ → ℕ
 sure_faults shelf name = sure_count (place_of (sure_files shelf) name)
 
+-- a call leaves the files as they are
+abbrev pub sure_leads : SureShelf → FetchCall → SureShelf → Type 0
+sure_leads before call now = sure_files now ≡ sure_files before
+
 abbrev pub sink_bytes : MemSink → List ℕ
 sink_bytes sink = sink.written.items
 
@@ -57,6 +66,10 @@ sink_faults sink = sink.faults
 -- the number of calls so far, which stops at the greatest `u64`
 abbrev pub sink_calls : MemSink → ℕ
 sink_calls sink = sink.calls
+
+-- each call is counted
+abbrev pub sink_leads : MemSink → PutCall → MemSink → Type 0
+sink_leads before call now = sink_calls now ≡ min (sink_calls before + 1) (2 ^ 64 - 1)
 
 -- the bytes that the sink takes in all
 abbrev pub sink_room : MemSink → ℕ

@@ -3,16 +3,21 @@
 
 mod files;
 mod memory;
+mod reading;
 mod shelf;
 mod sink;
 mod streams;
 mod sure;
 #[cfg(test)]
 mod tests;
+mod writing;
 
+pub use bs_bits::NoMemory;
 pub use files::FileShelf;
 pub use memory::{MemShelf, MemSink};
-pub use shelf::{Fetch, NoMemory, Shelf};
+pub use reading::{fetch_opened, read_whole};
+pub use shelf::{Fetch, Shelf};
 pub use sink::{Put, Sink};
 pub use streams::StdSink;
 pub use sure::{SureShelf, SureSink};
+pub use writing::write_whole;

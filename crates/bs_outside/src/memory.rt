@@ -4,8 +4,9 @@ ghost use Rattle.bs_outside.specs.Cuts.{cut_of};
 ghost use Rattle.bs_outside.specs.Fetching.{Fetches};
 ghost use Rattle.bs_outside.specs.Files.{place_of};
 
-use crate::shelf::{Fetch, NoMemory, Shelf};
+use crate::shelf::{Fetch, Shelf};
 use crate::sink::{Put, Sink};
+use bs_bits::NoMemory;
 use std::alloc::Global;
 
 /// Files in memory. It tells what it holds: of two files with one name the first. It keeps one count of faults for each
@@ -73,18 +74,22 @@ pub fn hand_over(bytes: &[u8], limit: u64, into: &mut Vec<u8>) -> Fetch
 
 impl Shelf for MemShelf {
     ghost use Rattle.std.specs.Prelude.{◌↔◌, ◌⊎◌, ◌+◌, ◌-◌, ◌^◌, ℕ, List, min, None};
+    ghost use Rattle.bs_outside.specs.Calls.{fetch_call};
     ghost use Rattle.bs_outside.specs.Fetching.{CountsFaults};
     ghost use Rattle.bs_outside.specs.Memory.{IsDue, mem_calls, mem_fail, mem_files};
-    ghost use Rattle.bs_outside.specs.Memory.{counts_one, mem_faults, mem_held};
+    ghost use Rattle.bs_outside.specs.Memory.{counts_one, mem_faults, mem_held, mem_leads};
 
     ghost held = { mem_held };
 
     ghost faults = { mem_faults };
 
+    ghost leads = { mem_leads };
+
     fn fetch(&mut self, name: &str, limit: u64, into: &mut Vec<u8>) -> Fetch
         ensures bytes { Fetches (mem_held self.old name.now) limit into.old.items into.new.items result }
         ensures held { (other : List ℕ) → mem_held self.new other ≡ mem_held self.old other }
         ensures cause { CountsFaults (mem_faults self.old) (mem_faults self.new) name.now result }
+        ensures call { mem_leads self.old (fetch_call name.now limit result into.old.items into.new.items) self.new }
 
         // Which calls fail, and which count rises then.
         ensures fails { (result ≡ Fetch.Failed) ↔ (IsDue self.old ⊎ (mem_held self.old name.now ≡ None)) }
@@ -162,14 +167,18 @@ fn cut_at(fail: &[(u64, usize)], call: u64) -> Option<usize>
 impl Sink for MemSink {
     ghost use Rattle.std.specs.Prelude.{◌+◌, ◌-◌, ◌^◌, min};
     ghost use Rattle.bs_outside.specs.Putting.{Puts};
-    ghost use Rattle.bs_outside.specs.Memory.{next_answer, sink_bytes, sink_calls, sink_fail, sink_faults, sink_room};
+    ghost use Rattle.bs_outside.specs.Calls.{put_call};
+    ghost use Rattle.bs_outside.specs.Memory.{next_answer, sink_bytes, sink_calls, sink_fail, sink_faults, sink_leads, sink_room};
 
     ghost written = { λ sink. Some (sink_bytes sink) };
 
     ghost faults = { sink_faults };
 
+    ghost leads = { sink_leads };
+
     fn put(&mut self, bytes: &[u8]) -> Put
         ensures puts { Puts (Some (sink_bytes self.old)) (Some (sink_bytes self.new)) (sink_faults self.old) (sink_faults self.new) bytes.now result }
+        ensures call { sink_leads self.old (put_call bytes.now result) self.new }
         ensures exact { result ≡ next_answer self.old (length bytes.now) }
 
         // What the next calls rest on.

@@ -1,25 +1,8 @@
 //! Files by name, as the program sees them.
 ghost use Rattle.std.specs.Prelude.{◌≡◌, ℕ, List};
 ghost use Rattle.std.specs.declared.option.Option.{Option};
+ghost use Rattle.bs_outside.specs.Calls.{fetch_call, FetchCall};
 ghost use Rattle.bs_outside.specs.Fetching.{CountsFaults, Fetches};
-
-use std::alloc::{AllocError, AllocFailed};
-
-/// Want of memory.
-#[derive(Clone, Copy, Debug, PartialEq, Eq)]
-pub struct NoMemory;
-
-impl From<AllocError> for NoMemory {
-    fn from(_refused: AllocError) -> NoMemory {
-        NoMemory
-    }
-}
-
-impl<T: Drop> From<AllocFailed<T>> for NoMemory {
-    fn from(_refused: AllocFailed<T>) -> NoMemory {
-        NoMemory
-    }
-}
 
 /// How a fetch ended.
 #[derive(Clone, Copy, Debug, PartialEq, Eq)]
@@ -42,11 +25,16 @@ pub trait Shelf {
     /// How often a fetch of a name has failed.
     ghost faults: { Self → List ℕ → ℕ };
 
+    /// A call leads from the shelf as it was to the shelf as it is. So a clause can name the calls that were made, in their
+    /// order (`InTurn`).
+    ghost leads: { Self → FetchCall → Self → Type 0 };
+
     /// Appends the bytes of a name to `into`, read to the end, or more than `limit` of them. It fails only where the
     /// count of that name rises or stands at the greatest `u64`. After `Failed` and `NoMemory` the old content still
     /// stands in front, and some bytes may follow it.
     fn fetch(&mut self, name: &str, limit: u64, into: &mut Vec<u8>) -> Fetch
         ensures bytes { Fetches (held self.old name.now) limit into.old.items into.new.items result }
         ensures held { (other : List ℕ) → held self.new other ≡ held self.old other }
-        ensures cause { CountsFaults (faults self.old) (faults self.new) name.now result };
+        ensures cause { CountsFaults (faults self.old) (faults self.new) name.now result }
+        ensures call { leads self.old (fetch_call name.now limit result into.old.items into.new.items) self.new };
 }

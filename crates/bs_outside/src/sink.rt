@@ -1,6 +1,7 @@
 //! The output, as the program sees it.
 ghost use Rattle.std.specs.Prelude.{ℕ, List};
 ghost use Rattle.std.specs.declared.option.Option.{Option};
+ghost use Rattle.bs_outside.specs.Calls.{put_call, PutCall};
 ghost use Rattle.bs_outside.specs.Putting.{Puts};
 
 /// How a put ended.
@@ -20,7 +21,12 @@ pub trait Sink {
     /// How often a put has failed.
     ghost faults: { Self → ℕ };
 
+    /// A call leads from the sink as it was to the sink as it is. So a clause can name the calls that were made, in their
+    /// order (`InTurn`).
+    ghost leads: { Self → PutCall → Self → Type 0 };
+
     /// Writes the bytes, and takes no memory. It fails only where the count rises or stands at the greatest `u64`.
     fn put(&mut self, bytes: &[u8]) -> Put
-        ensures { Puts (written self.old) (written self.new) (faults self.old) (faults self.new) bytes.now result };
+        ensures puts { Puts (written self.old) (written self.new) (faults self.old) (faults self.new) bytes.now result }
+        ensures call { leads self.old (put_call bytes.now result) self.new };
 }

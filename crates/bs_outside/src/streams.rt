@@ -2,7 +2,26 @@
 ghost use Rattle.std.specs.Prelude.{◌≡◌, None};
 
 use crate::sink::{Put, Sink};
+use crate::writing::write_whole;
+use std::io;
+use std::io::Write;
 use std::marker::Model;
+
+/// Standard output as a writer.
+#[derive(Drop)]
+struct Printer<'a, R: Print> {
+    rt: &'a R,
+}
+
+impl<'a, R: Print> Write for Printer<'a, R> {
+    fn write(&mut self, bytes: &[u8]) -> io::Result<usize> {
+        self.rt.write_some(bytes)
+    }
+
+    fn flush(&mut self) -> io::Result<()> {
+        Ok(())
+    }
+}
 
 /// Standard output. It doesn't tell what was written. Contracts see its count of faults.
 #[derive(Drop)]
@@ -29,22 +48,15 @@ impl<'a, R: Print> StdSink<'a, R> {
 }
 
 impl<'a, R: Print> Sink for StdSink<'a, R> {
+    ghost use Rattle.bs_outside.specs.Opening.{put_faults};
+
     ghost written = { λ _. None };
 
     ghost faults = { λ sink. sink };
 
+    ghost leads = { λ before call now. now ≡ put_faults before call.answer };
+
     fn put(&mut self, bytes: &[u8]) -> Put {
-        let mut at = 0;
-        // A write may take a part of the piece. One that takes nothing of it is a fault, or this would not end.
-        while at < bytes.len() {
-            match self.rt.write_some(&bytes[at..]) {
-                Ok(count) if count > 0 => at += count,
-                _ => {
-                    self.faults = self.faults.saturating_add(1);
-                    return Put::Failed(at);
-                }
-            }
-        }
-        Put::Done
+        write_whole(&mut Printer { rt: self.rt }, &mut self.faults, bytes)
     }
 }

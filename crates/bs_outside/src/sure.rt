@@ -27,16 +27,20 @@ impl SureShelf {
 
 impl Shelf for SureShelf {
     ghost use Rattle.std.specs.Prelude.{◌↔◌};
-    ghost use Rattle.bs_outside.specs.Memory.{sure_faults, sure_files, sure_held};
+    ghost use Rattle.bs_outside.specs.Calls.{fetch_call};
+    ghost use Rattle.bs_outside.specs.Memory.{sure_faults, sure_files, sure_held, sure_leads};
 
     ghost held = { sure_held };
 
     ghost faults = { sure_faults };
 
+    ghost leads = { sure_leads };
+
     fn fetch(&mut self, name: &str, limit: u64, into: &mut Vec<u8>) -> Fetch
         ensures bytes { Fetches (sure_held self.old name.now) limit into.old.items into.new.items result }
         ensures held { (other : List ℕ) → sure_held self.new other ≡ sure_held self.old other }
         ensures cause { CountsFaults (sure_faults self.old) (sure_faults self.new) name.now result }
+        ensures call { sure_leads self.old (fetch_call name.now limit result into.old.items into.new.items) self.new }
         ensures fails { (result ≡ Fetch.Failed) ↔ (sure_held self.old name.now ≡ None) }
         ensures files { sure_files self.new ≡ sure_files self.old }
     {
@@ -59,12 +63,18 @@ impl SureSink {
 }
 
 impl Sink for SureSink {
+    ghost use Rattle.bs_outside.specs.Calls.{put_call};
+    ghost use Rattle.bs_outside.specs.declared.sink.Put.TheVariants.{Done};
+
     ghost written = { λ _. None };
 
     ghost faults = { λ _. 0 };
 
+    ghost leads = { λ _ call _. call.answer ≡ Done };
+
     fn put(&mut self, bytes: &[u8]) -> Put
         ensures puts { Puts None None 0 0 bytes.now result }
+        ensures call { (put_call bytes.now result).answer ≡ Put.Done }
         ensures sure { result ≡ Put.Done }
     {
         let _dropped = bytes;

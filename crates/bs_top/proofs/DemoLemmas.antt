@@ -4,7 +4,6 @@ use Rattle.std.specs.Prelude.{slice_get, All, IfOk}
 use Rattle.std.specs.Option.{option_to_list}
 use Rattle.std.proofs.lemmas.List.{length-map}
 use Rattle.std.proofs.lemmas.List.Elements.{All-from_recursion}
-use Rattle.bs_outside.specs.declared.shelf.NoMemory.{NoMemory}
 use Rattle.bs_net.specs.Circuit.{Circuit, reset_state}
 use Rattle.bs_net.specs.Parts.{Parts}
 use Rattle.bs_scan.specs.Choice.{Chosen}
@@ -14,20 +13,11 @@ use Rattle.bs_scan.proofs.SignatureLemmas.{length_state}
 use Rattle.bs_report.specs.declared.report.Budgets.{Budgets}
 use Rattle.bs_report.specs.declared.report.Report.{Report}
 use Rattle.bs_scan.specs.Crash.{Crash}
-use Rattle.bs_job.specs.declared.walk.Stop.{Stop}
-use Rattle.bs_job.specs.declared.answer.Answer.{Answer}
-use Rattle.bs_job.specs.Plan.{Plan}
-use Rattle.bs_job.specs.Walks.{WalksAlone}
-use Rattle.bs_job.specs.Prepared.{PreparesAlone, AnswersStop}
-use Rattle.bs_job.proofs.Preparing.{prepares_work, prepares_stop}
 use Rattle.bs_loop.specs.Crash.{IsBudget}
 use Rattle.bs_entry.specs.Entry.{Setup, circuit_in, runs_in}
 use Rattle.bs_entry.specs.Fitting.{IsDump}
-use Rattle.bs_entry.specs.Refusals.{CheckSays}
-use Rattle.bs_demo.proofs.SizeLemmas.{few_steps, few_listed}
-use Rattle.bs_top.specs.Work.{Work}
-use Rattle.bs_top.specs.Finishes.{dump_at, demo_budgets, finishes, IsBacktrace}
-use Rattle.bs_top.proofs.WorkLemmas.{is_work}
+use Rattle.bs_top.proofs.SizeLemmas.{few_steps, few_listed}
+use Rattle.bs_top.specs.Finishes.{dump_at, demo_budgets, IsBacktrace}
 
 stored_fits : (c : Circuit) (choice : Chosen) (run : Run) (cycle : ℕ) → All (λ t. length t ≡ length choice.items) (option_to_list (slice_get (stored_at c choice run cycle) 0))
 stored_fits c choice run zero = All-from_recursion (λ (t : List Bool). length t ≡ length choice.items) [] tt
@@ -56,12 +46,3 @@ demo_steps crash r is = few_steps crash r is.sound.good (subst (λ (b : Budgets)
 
 pub demo_listed : (crash : Crash) (r : Report) → IsBacktrace crash demo_budgets r → All (λ step. length step.cands ≤ 65536) r.steps
 demo_listed crash r is = few_listed crash r is.sound.good (subst (λ (b : Budgets). b.candidates ≤ 65536) (sym is.asked) (lit≤ tt))
-
--- the answer to a walk that asked no shelf
-pub alone_done : {T : Type 0} {plan : Plan Parts Work} {view : T → Work} {t : T} (r : Result Answer NoMemory) → WalksAlone CheckSays plan view (Ok t) → IfOk r (λ answer. finishes (view t) answer.status answer.text.items) → IfOk r (PreparesAlone CheckSays finishes plan)
-alone_done (Ok answer) walks done = record { is = λ told before. prepares_work is_work (walks.is told before) done }
-alone_done (Err want) walks done = tt
-
-pub alone_stop : {T : Type 0} {plan : Plan Parts Work} {view : T → Work} {stop : Stop} (r : Result Answer NoMemory) → WalksAlone CheckSays plan view (Err stop) → IfOk r (λ answer. AnswersStop stop answer.status answer.text.items) → IfOk r (PreparesAlone CheckSays finishes plan)
-alone_stop (Ok answer) walks line = record { is = λ told before. prepares_stop finishes (Ok answer) (walks.is told before) line }
-alone_stop (Err want) walks line = tt

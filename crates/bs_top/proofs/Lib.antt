@@ -1,3 +1,5 @@
+pub mod ToldLemmas
+pub mod SizeLemmas
 pub mod DumpingLemmas
 pub mod WorkLemmas
 pub mod AskedLemmas

@@ -1,7 +1,8 @@
 -- Work that is done has a status of its own kind.
 use Rattle.std.proofs.Common.{◌≡◌, ℕ, true, List, Option, Some, None, Result, Ok, Err, refl, ap, ◌∙◌}
 use Rattle.std.specs.Prelude.{IfOk}
-use Rattle.bs_outside.specs.declared.shelf.NoMemory.{NoMemory}
+use Rattle.bs_bits.specs.declared.memory.NoMemory.{NoMemory}
+use Rattle.bs_outside.specs.Calls.{FetchCall}
 use Rattle.bs_report.specs.declared.report.Stop.{Stop}
 use Rattle.bs_report.specs.declared.report.Stop.TheVariants.{Reset, Length, Nohit, Empty, Candidates, Conflicts}
 use Rattle.bs_good.specs.declared.part.Part.{Part}
@@ -12,7 +13,7 @@ use Rattle.bs_job.specs.declared.answer.Answer.{Answer}
 use Rattle.bs_job.specs.Files.{is_work_status}
 use Rattle.bs_job.specs.Plan.{Tells, Counts, Plan}
 use Rattle.bs_job.specs.Walks.{Walks}
-use Rattle.bs_job.specs.Prepared.{Prepares, IsWork}
+use Rattle.bs_job.specs.Prepared.{Prepared, IsWork}
 use Rattle.bs_job.proofs.Preparing.{prepares_work}
 use Rattle.bs_entry.specs.Refusals.{CheckSays}
 use Rattle.bs_top.specs.Work.{Work, to_run, to_audit, to_dump, to_demo}
@@ -40,6 +41,5 @@ pub is_work : IsWork finishes
 is_work = record { status = work_status }
 
 -- the work that a walk made ready for, if it is done
-pub prepares_done : {T : Type 0} {told told' : Tells} {before now : Counts} {plan : Plan Parts Work} {view : T → Work} {t : T} (r : Result Answer NoMemory) → Walks CheckSays told told' before now plan view (Ok t) → IfOk r (λ answer. finishes (view t) answer.status answer.text.items) → IfOk r (Prepares CheckSays finishes told before now (Some plan))
-prepares_done (Ok answer) walks done = prepares_work is_work walks done
-prepares_done (Err want) walks done = tt
+pub prepares_done : {S T : Type 0} {held : S → Tells} {faults : S → Counts} {leads : S → FetchCall → S → Type 0} {before now : S} {plan : Plan Parts Work} {view : T → Work} {t : T} (r : Result Answer NoMemory) → Walks CheckSays held faults leads before now plan view (Ok t) → IfOk r (λ answer. finishes (view t) answer.status answer.text.items) → Prepared CheckSays finishes held faults leads before now (Some plan) r
+prepares_done r walks done = prepares_work r is_work walks done

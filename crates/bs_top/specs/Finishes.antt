@@ -18,7 +18,7 @@ use Rattle.bs_job.specs.declared.file.Status.{Status}
 use Rattle.bs_job.specs.declared.file.Status.TheVariants as S
 use Rattle.bs_loop.specs.Bound.{HasBound}
 use Rattle.bs_entry.specs.Entry.{Setup, circuit_in, runs_in}
-use Rattle.bs_demo.specs.Summary.{summary_text}
+use Rattle.bs_top.specs.Summary.{summary_text}
 use Rattle.bs_top.specs.Rejected.{finding_status, finding_text}
 use Rattle.bs_audit.specs.Finding.{basis_for}
 use Rattle.bs_top.specs.Sound.{IsSound}

@@ -1,5 +1,7 @@
-pub mod Asked
 pub mod Words
+pub mod Demo
+pub mod Texts
+pub mod Summary
 pub mod Work
 pub mod Rejected
 pub mod Sound

@@ -2,11 +2,10 @@
 use Rattle.std.specs.Prelude.{ℕ}
 use Rattle.bs_net.specs.Parts.{Parts}
 use Rattle.bs_report.specs.declared.report.Budgets.{Budgets}
-use Rattle.bs_words.specs.Job.{RunJob, AuditJob, DumpJob}
+use Rattle.bs_words.specs.Job.{RunJob, AuditJob, DumpJob, Job, Run, Audit, Dump, Demo}
 use Rattle.bs_job.specs.Plan.{Plan, end, ◌>>=◌}
 use Rattle.bs_entry.specs.Entry.{Names, Placed, placed_of, Crashed, crashed_of, Claimed, claimed_of}
-use Rattle.bs_demo.specs.Demo.{demo_of}
-use Rattle.bs_top.specs.Asked.{Offer, a_run, an_audit, a_dump, a_demo}
+use Rattle.bs_top.specs.Demo.{demo_of}
 
 -- the backtrace of a dump within budgets, what an audit finds of a report, the dump of a moment, or the line of a generated
 -- job's backtrace is to be written
@@ -29,16 +28,16 @@ abbrev pub dump_names : DumpJob → Names
 dump_names job = record { netlist = job.netlist; signature = job.signature; stimulus = job.stimulus }
 
 -- the plan of a job
-abbrev pub plan_of : Offer → Plan Parts Work
-plan_of (a_run job) = do
+abbrev pub plan_of : Job → Plan Parts Work
+plan_of (Run job) = do
   crashed ← crashed_of (run_names job) job.dump
   end (to_run (budgets_of job) crashed)
-plan_of (an_audit job) = do
+plan_of (Audit job) = do
   claimed ← claimed_of (audit_names job) job.dump job.report
   end (to_audit claimed)
-plan_of (a_dump job) = do
+plan_of (Dump job) = do
   placed ← placed_of (dump_names job) job.run job.cycle
   end (to_dump placed)
-plan_of (a_demo number) = do
+plan_of (Demo number) = do
   placed ← demo_of number
   end (to_demo number placed)

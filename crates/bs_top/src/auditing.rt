@@ -1,17 +1,17 @@
 //! The command `audit`: whether a report is valid, or the first part of it that fails.
 ghost use Rattle.std.specs.Prelude.{◌≡◌, ◌++◌, codes, decimal, IfOk, OnOk, Some};
-ghost use Rattle.bs_job.specs.Prepared.{Prepares};
+ghost use Rattle.bs_job.specs.Prepared.{Prepared};
 ghost use Rattle.bs_audit.specs.Finding.{part_of};
 ghost use Rattle.bs_entry.specs.Ready.{claimed_in};
 ghost use Rattle.bs_entry.specs.Refusals.{CheckSays};
-ghost use Rattle.bs_top.specs.Asked.{an_audit};
+ghost use Rattle.bs_words.specs.Job.{Audit};
 ghost use Rattle.bs_top.specs.Work.{plan_of, to_audit};
 ghost use Rattle.bs_top.specs.Words.{audit_job};
 ghost use Rattle.bs_top.specs.Rejected.{finding_status, finding_text, part_words, rejected_text, step_words, why_word};
 ghost use Rattle.bs_top.specs.Finishes.{crash_of, finishes, Finds};
 
 use bs_audit::Finding;
-use bs_bits::{NoMemory as WantsMemory, end_line, push_number, push_piece};
+use bs_bits::{end_line, push_number, push_piece};
 use bs_entry::{Claimed, Names, take_claimed};
 use bs_job::{Answer, Status, stopped};
 use bs_log::Why;
@@ -36,7 +36,7 @@ fn why_word(why: Why) -> &'static str
 }
 
 /// Appends the words for a part of a step.
-fn push_step(text: &mut Vec<u8>, step: u64, word: &[u8]) -> Result<(), WantsMemory>
+fn push_step(text: &mut Vec<u8>, step: u64, word: &[u8]) -> Result<(), NoMemory>
     ensures { OnOk result (text.new.items ≡ text.old.items ++ step_words step word.now) }
 {
     push_piece(text, b"step ")?;
@@ -45,7 +45,7 @@ fn push_step(text: &mut Vec<u8>, step: u64, word: &[u8]) -> Result<(), WantsMemo
 }
 
 /// Appends the words for a candidate.
-fn push_candidate(text: &mut Vec<u8>, step: u64, candidate: u64) -> Result<(), WantsMemory>
+fn push_candidate(text: &mut Vec<u8>, step: u64, candidate: u64) -> Result<(), NoMemory>
     ensures { OnOk result (text.new.items ≡ text.old.items ++ (step_words step (codes " candidate ") ++ decimal candidate)) }
 {
     push_step(text, step, b" candidate ")?;
@@ -53,7 +53,7 @@ fn push_candidate(text: &mut Vec<u8>, step: u64, candidate: u64) -> Result<(), W
 }
 
 /// Appends the words for a line of the log.
-fn push_log(text: &mut Vec<u8>, line: u64, why: Why) -> Result<(), WantsMemory>
+fn push_log(text: &mut Vec<u8>, line: u64, why: Why) -> Result<(), NoMemory>
     ensures { OnOk result (text.new.items ≡ text.old.items ++ (codes "log " ++ (decimal line ++ (codes " " ++ why_word why)))) }
 {
     push_piece(text, b"log ")?;
@@ -63,7 +63,7 @@ fn push_log(text: &mut Vec<u8>, line: u64, why: Why) -> Result<(), WantsMemory>
 }
 
 /// Appends the words for a part that fails.
-fn push_part(text: &mut Vec<u8>, part: Part) -> Result<(), WantsMemory>
+fn push_part(text: &mut Vec<u8>, part: Part) -> Result<(), NoMemory>
     ensures { OnOk result (text.new.items ≡ text.old.items ++ part_words part) }
 {
     match part {
@@ -81,7 +81,7 @@ fn push_part(text: &mut Vec<u8>, part: Part) -> Result<(), WantsMemory>
 }
 
 /// The line for a part that fails.
-fn rejected(alloc: Global, part: Part) -> Result<Vec<u8>, WantsMemory>
+fn rejected(alloc: Global, part: Part) -> Result<Vec<u8>, NoMemory>
     ensures { IfOk result (λ text. text.items ≡ rejected_text part) }
 {
     let mut text = Vec::new(alloc);
@@ -92,7 +92,7 @@ fn rejected(alloc: Global, part: Part) -> Result<Vec<u8>, WantsMemory>
 }
 
 /// The line for what an audit finds.
-fn finding_text(alloc: Global, finding: Finding) -> Result<Vec<u8>, WantsMemory>
+fn finding_text(alloc: Global, finding: Finding) -> Result<Vec<u8>, NoMemory>
     ensures { IfOk result (λ text. text.items ≡ finding_text (part_of finding)) }
 {
     match finding {
@@ -112,7 +112,7 @@ fn finding_status(finding: Finding) -> Status
 }
 
 /// What an audit finds of a report.
-fn find(alloc: Global, claimed: &Claimed) -> Result<Finding, WantsMemory>
+fn find(alloc: Global, claimed: &Claimed) -> Result<Finding, NoMemory>
     ensures { IfOk result (λ finding. Finds (crash_of (claimed_in claimed.now).crashed.setup claimed.now.crashed.dump) claimed.now.report (part_of finding)) }
 {
     let crashed = &claimed.crashed;
@@ -129,8 +129,8 @@ fn find(alloc: Global, claimed: &Claimed) -> Result<Finding, WantsMemory>
     )
 }
 
-/// The status and the text for a report.
-fn found(alloc: Global, claimed: &Claimed) -> Result<Answer, WantsMemory>
+/// What is written for a report.
+fn found(alloc: Global, claimed: &Claimed) -> Result<Answer, NoMemory>
     ensures { IfOk result (λ answer. finishes (to_audit (claimed_in claimed.now)) answer.status answer.text.items) }
 {
     let finding = find(alloc, claimed)?;
@@ -141,19 +141,9 @@ fn found(alloc: Global, claimed: &Claimed) -> Result<Answer, WantsMemory>
     })
 }
 
-/// What is written for a report.
-fn audited(alloc: Global, claimed: &Claimed) -> Result<Answer, NoMemory>
-    ensures { IfOk result (λ answer. finishes (to_audit (claimed_in claimed.now)) answer.status answer.text.items) }
-{
-    match found(alloc, claimed) {
-        Ok(answer) => Ok(answer),
-        Err(_) => Err(NoMemory),
-    }
-}
-
 /// The answer of the command.
 pub fn audit<S: Shelf>(alloc: Global, shelf: &mut S, job: &AuditJob<'_>) -> Result<Answer, NoMemory>
-    ensures { IfOk result (Prepares CheckSays finishes (S.held shelf.old) (S.faults shelf.old) (S.faults shelf.new) (Some (plan_of (an_audit (audit_job job.now))))) }
+    ensures { Prepared CheckSays finishes S.held S.faults S.leads shelf.old shelf.new (Some (plan_of (Audit (audit_job job.now)))) result }
 {
     let names = Names {
         netlist: job.netlist,
@@ -161,7 +151,7 @@ pub fn audit<S: Shelf>(alloc: Global, shelf: &mut S, job: &AuditJob<'_>) -> Resu
         stimulus: job.stimulus,
     };
     match take_claimed(alloc, shelf, &names, job.dump, job.report) {
-        Ok(claimed) => audited(alloc, &claimed),
+        Ok(claimed) => found(alloc, &claimed),
         Err(stop) => stopped(alloc, stop),
     }
 }

@@ -1,16 +1,15 @@
 //! The command `run`: the backtrace of a dump, and its report.
 ghost use Rattle.std.specs.Prelude.{◌≡◌, ◌+◌, length, IfOk, Some};
-ghost use Rattle.bs_job.specs.Prepared.{Prepares};
+ghost use Rattle.bs_job.specs.Prepared.{Prepared};
 ghost use Rattle.bs_loop.specs.Crash.{IsBudget};
 ghost use Rattle.bs_entry.specs.Fitting.{IsDump};
 ghost use Rattle.bs_entry.specs.Ready.{crashed_in, setup_in};
 ghost use Rattle.bs_entry.specs.Refusals.{CheckSays};
-ghost use Rattle.bs_top.specs.Asked.{a_run};
+ghost use Rattle.bs_words.specs.Job.{Run};
 ghost use Rattle.bs_top.specs.Work.{budgets_of, plan_of, to_run};
 ghost use Rattle.bs_top.specs.Words.{run_job};
 ghost use Rattle.bs_top.specs.Finishes.{crash_of, finishes, IsBacktrace, stop_status};
 
-use bs_bits::NoMemory as WantsMemory;
 use bs_chip::Chip;
 use bs_entry::{Crashed, Names, Setup, take_crashed};
 use bs_job::{Answer, Status, stopped};
@@ -40,7 +39,7 @@ pub fn report_of(
     setup: &Setup,
     dump: &Dump,
     budgets: &Budgets,
-) -> Result<Report, WantsMemory>
+) -> Result<Report, NoMemory>
     requires dump { IsDump setup.now.net.raw setup.now.choice dump.now }
     requires budgets { IsBudget budgets.now }
     ensures backtrace { IfOk result (IsBacktrace (crash_of (setup_in setup.now) dump.now) budgets.now) }
@@ -53,8 +52,8 @@ pub fn report_of(
     backtrace(alloc, &mut chip, preimage, dump, budgets)
 }
 
-/// The status and the text of that report.
-fn reported(alloc: Global, crashed: &Crashed, budgets: &Budgets) -> Result<Answer, WantsMemory>
+/// What is written for a dump.
+fn reported(alloc: Global, crashed: &Crashed, budgets: &Budgets) -> Result<Answer, NoMemory>
     requires { IsBudget budgets.now }
     ensures { IfOk result (λ answer. finishes (to_run budgets.now (crashed_in crashed.now)) answer.status answer.text.items) }
 {
@@ -67,21 +66,10 @@ fn reported(alloc: Global, crashed: &Crashed, budgets: &Budgets) -> Result<Answe
     })
 }
 
-/// What is written for a dump.
-fn traced(alloc: Global, crashed: &Crashed, budgets: &Budgets) -> Result<Answer, NoMemory>
-    requires { IsBudget budgets.now }
-    ensures { IfOk result (λ answer. finishes (to_run budgets.now (crashed_in crashed.now)) answer.status answer.text.items) }
-{
-    match reported(alloc, crashed, budgets) {
-        Ok(answer) => Ok(answer),
-        Err(_) => Err(NoMemory),
-    }
-}
-
 /// The answer of the command.
 pub fn run<S: Shelf>(alloc: Global, shelf: &mut S, job: &RunJob<'_>) -> Result<Answer, NoMemory>
     requires { IsBudget (budgets_of (run_job job.now)) }
-    ensures { IfOk result (Prepares CheckSays finishes (S.held shelf.old) (S.faults shelf.old) (S.faults shelf.new) (Some (plan_of (a_run (run_job job.now))))) }
+    ensures { Prepared CheckSays finishes S.held S.faults S.leads shelf.old shelf.new (Some (plan_of (Run (run_job job.now)))) result }
 {
     let names = Names {
         netlist: job.netlist,
@@ -94,7 +82,7 @@ pub fn run<S: Shelf>(alloc: Global, shelf: &mut S, job: &RunJob<'_>) -> Result<A
         conflicts: job.conflicts,
     };
     match take_crashed(alloc, shelf, &names, job.dump) {
-        Ok(crashed) => traced(alloc, &crashed, &budgets),
+        Ok(crashed) => reported(alloc, &crashed, &budgets),
         Err(stop) => stopped(alloc, stop),
     }
 }

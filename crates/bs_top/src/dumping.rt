@@ -1,14 +1,13 @@
 //! The command `dump`: the dump of a moment of the recorded runs.
 ghost use Rattle.std.specs.Prelude.{◌≡◌, IfOk, Some};
-ghost use Rattle.bs_job.specs.Prepared.{Prepares};
+ghost use Rattle.bs_job.specs.Prepared.{Prepared};
 ghost use Rattle.bs_entry.specs.Ready.{names_in, placed_in};
 ghost use Rattle.bs_entry.specs.Refusals.{CheckSays};
-ghost use Rattle.bs_top.specs.Asked.{a_dump};
+ghost use Rattle.bs_words.specs.Job.{Dump};
 ghost use Rattle.bs_top.specs.Work.{dump_names, plan_of, to_dump};
 ghost use Rattle.bs_top.specs.Words.{dump_job};
 ghost use Rattle.bs_top.specs.Finishes.{dump_at, finishes};
 
-use bs_bits::NoMemory as WantsMemory;
 use bs_chip::Chip;
 use bs_entry::{Names, Placed, take_placed};
 use bs_job::{Answer, Status, stopped};
@@ -18,7 +17,7 @@ use bs_words::DumpJob;
 use std::alloc::Global;
 
 /// The dump of a moment.
-pub fn dump_of(alloc: Global, placed: &Placed) -> Result<Dump, WantsMemory>
+pub fn dump_of(alloc: Global, placed: &Placed) -> Result<Dump, NoMemory>
     ensures { IfOk result (λ dump. dump ≡ dump_at (placed_in placed.now).setup (placed_in placed.now).moment) }
 {
     let setup = &placed.setup;
@@ -27,7 +26,7 @@ pub fn dump_of(alloc: Global, placed: &Placed) -> Result<Dump, WantsMemory>
 }
 
 /// The text of that dump.
-fn dump_text(alloc: Global, placed: &Placed) -> Result<Vec<u8>, WantsMemory>
+fn dump_text(alloc: Global, placed: &Placed) -> Result<Vec<u8>, NoMemory>
     ensures { IfOk result (λ text. finishes (to_dump (placed_in placed.now)) Status.Done text.items) }
 {
     let dump = dump_of(alloc, placed)?;
@@ -40,18 +39,16 @@ fn dump_text(alloc: Global, placed: &Placed) -> Result<Vec<u8>, WantsMemory>
 fn dumped(alloc: Global, placed: &Placed) -> Result<Answer, NoMemory>
     ensures { IfOk result (λ answer. finishes (to_dump (placed_in placed.now)) answer.status answer.text.items) }
 {
-    match dump_text(alloc, placed) {
-        Ok(text) => Ok(Answer {
-            status: Status::Done,
-            text,
-        }),
-        Err(_) => Err(NoMemory),
-    }
+    let text = dump_text(alloc, placed)?;
+    Ok(Answer {
+        status: Status::Done,
+        text,
+    })
 }
 
 /// The answer of the command.
 pub fn dump<S: Shelf>(alloc: Global, shelf: &mut S, job: &DumpJob<'_>) -> Result<Answer, NoMemory>
-    ensures { IfOk result (Prepares CheckSays finishes (S.held shelf.old) (S.faults shelf.old) (S.faults shelf.new) (Some (plan_of (a_dump (dump_job job.now))))) }
+    ensures { Prepared CheckSays finishes S.held S.faults S.leads shelf.old shelf.new (Some (plan_of (Dump (dump_job job.now)))) result }
 {
     let names = Names {
         netlist: job.netlist,

@@ -4,7 +4,9 @@
 mod auditing;
 mod backtracing;
 mod dumping;
+mod generated;
 mod law;
+mod summary;
 mod summing;
 mod top;
 

@@ -3,14 +3,14 @@ ghost use Rattle.std.specs.Prelude.{◌≡◌, IfOk};
 ghost use Rattle.bs_job.specs.Prepared.{PreparesAlone};
 ghost use Rattle.bs_entry.specs.Ready.{placed_in};
 ghost use Rattle.bs_entry.specs.Refusals.{CheckSays};
-ghost use Rattle.bs_top.specs.Asked.{a_demo};
+ghost use Rattle.bs_words.specs.Job.{Demo};
 ghost use Rattle.bs_top.specs.Work.{plan_of, to_demo};
 ghost use Rattle.bs_top.specs.Finishes.{finishes};
 
 use crate::backtracing::report_of;
 use crate::dumping::dump_of;
-use bs_bits::NoMemory as WantsMemory;
-use bs_demo::{summary_line, take_demo};
+use crate::generated::take_demo;
+use crate::summary::summary_line;
 use bs_entry::Placed;
 use bs_job::{Answer, Status, stopped};
 use bs_outside::NoMemory;
@@ -18,7 +18,7 @@ use bs_report::Budgets;
 use std::alloc::Global;
 
 /// The line of the backtrace of a moment's dump.
-fn summary_of(alloc: Global, number: u64, placed: &Placed) -> Result<Vec<u8>, WantsMemory>
+fn summary_of(alloc: Global, number: u64, placed: &Placed) -> Result<Vec<u8>, NoMemory>
     ensures { IfOk result (λ text. finishes (to_demo number (placed_in placed.now)) Status.Done text.items) }
 {
     let dump = dump_of(alloc, placed)?;
@@ -36,18 +36,16 @@ fn summary_of(alloc: Global, number: u64, placed: &Placed) -> Result<Vec<u8>, Wa
 fn summed(alloc: Global, number: u64, placed: &Placed) -> Result<Answer, NoMemory>
     ensures { IfOk result (λ answer. finishes (to_demo number (placed_in placed.now)) answer.status answer.text.items) }
 {
-    match summary_of(alloc, number, placed) {
-        Ok(text) => Ok(Answer {
-            status: Status::Done,
-            text,
-        }),
-        Err(_) => Err(NoMemory),
-    }
+    let text = summary_of(alloc, number, placed)?;
+    Ok(Answer {
+        status: Status::Done,
+        text,
+    })
 }
 
 /// The answer of the command. It asks no shelf.
 pub fn demo(alloc: Global, number: u64) -> Result<Answer, NoMemory>
-    ensures { IfOk result (PreparesAlone CheckSays finishes (plan_of (a_demo number))) }
+    ensures { IfOk result (PreparesAlone CheckSays finishes (plan_of (Demo number))) }
 {
     match take_demo(alloc, number) {
         Ok(placed) => summed(alloc, number, &placed),

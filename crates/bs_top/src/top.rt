@@ -2,10 +2,10 @@
 ghost use Rattle.std.specs.Prelude.{◌≡◌, ◌≢◌, ℕ, List, map, string_bytes, option_map, IfOk, OnErr};
 ghost use Rattle.std.specs.Io.KnownBytes.{Keeps};
 ghost use Rattle.bs_outside.specs.Faults.{Rose};
-ghost use Rattle.bs_job.specs.Clauses.{Answered, AnsweredAsTold, IsCalm, IsWordsOnlyFor, ReadFaultOf, RefusesFirstOf};
-ghost use Rattle.bs_job.specs.Prepared.{Prepares};
+ghost use Rattle.bs_job.specs.Clauses.{Answered, AnsweredAsTold, AnsweredWhole, CallByCall, CallsWanting, IsCalm, IsWordsOnlyFor, ReadFaultOf, RefusesFirstOf};
+ghost use Rattle.bs_job.specs.Prepared.{Prepared};
 ghost use Rattle.bs_entry.specs.Refusals.{CheckSays};
-ghost use Rattle.bs_top.specs.Asked.{asked};
+ghost use Rattle.bs_words.specs.Job.{job_of};
 ghost use Rattle.bs_top.specs.Work.{plan_of};
 ghost use Rattle.bs_top.specs.Finishes.{finishes};
 
@@ -21,7 +21,7 @@ use std::alloc::Global;
 /// What is to be answered and written.
 #[tactic(auto, using(crate::proofs::AskedLemmas::budget_is))]
 fn prepare<S: Shelf>(alloc: Global, words: &[String], shelf: &mut S) -> Result<Answer, NoMemory>
-    ensures { IfOk result (Prepares CheckSays finishes (S.held shelf.old) (S.faults shelf.old) (S.faults shelf.new) (option_map plan_of (asked (map string_bytes words.now)))) }
+    ensures { Prepared CheckSays finishes S.held S.faults S.leads shelf.old shelf.new (option_map plan_of (job_of (map string_bytes words.now))) result }
 {
     match read_words(alloc, words)? {
         Some(Job::Dump(job)) => dump(alloc, shelf, &job),
@@ -42,21 +42,21 @@ pub fn backspace<S: Shelf, K: Sink>(
 ) -> Result<Status, NoMemory>
     // Whatever the files were: what was written is what the words call for, or its front where a put failed.
     ensures answered { IfOk result (λ status. Answered CheckSays finishes (S.held shelf.old) (S.faults shelf.old) (S.faults shelf.new)
-        (option_map plan_of (asked (map string_bytes words.now))) (K.written out.old) (K.written out.new) status) }
-    ensures words { IfOk result (λ status. status ≢ Status.WriteFault → IsWordsOnlyFor (asked (map string_bytes words.now)) status) }
+        (option_map plan_of (job_of (map string_bytes words.now))) (K.written out.old) (K.written out.new) status) }
+    ensures words { IfOk result (λ status. status ≢ Status.WriteFault → IsWordsOnlyFor (job_of (map string_bytes words.now)) status) }
 
     // Where the shelf tells the files, they settle the answer, but for a fault.
     ensures told { IfOk result (λ status. status ≢ Status.ReadFault → status ≢ Status.WriteFault →
-        AnsweredAsTold CheckSays finishes (S.held shelf.old) (option_map plan_of (asked (map string_bytes words.now)))
+        AnsweredAsTold CheckSays finishes (S.held shelf.old) (option_map plan_of (job_of (map string_bytes words.now)))
         (K.written out.old) (K.written out.new) status) }
 
     // The status of a file's refusal comes exactly where the first refusal of the walk is of that file.
     ensures refusals { IfOk result (λ status. status ≢ Status.ReadFault → status ≢ Status.WriteFault →
-        RefusesFirstOf (S.held shelf.old) (S.faults shelf.old) (S.faults shelf.new) (option_map plan_of (asked (map string_bytes words.now))) status) }
+        RefusesFirstOf (S.held shelf.old) (S.faults shelf.old) (S.faults shelf.new) (option_map plan_of (job_of (map string_bytes words.now))) status) }
 
     // A fault is answered only where one was counted, and one that was counted is answered.
     ensures read_fault { IfOk result (λ status. status ≡ Status.ReadFault →
-        ReadFaultOf (S.held shelf.old) (S.faults shelf.old) (S.faults shelf.new) (option_map plan_of (asked (map string_bytes words.now)))
+        ReadFaultOf (S.held shelf.old) (S.faults shelf.old) (S.faults shelf.new) (option_map plan_of (job_of (map string_bytes words.now)))
         (K.written out.old) (K.written out.new)) }
     ensures read_counted { IfOk result (λ status. status ≢ Status.ReadFault → status ≢ Status.WriteFault →
         (name : List ℕ) → S.faults shelf.new name ≡ S.faults shelf.old name) }
@@ -64,10 +64,22 @@ pub fn backspace<S: Shelf, K: Sink>(
     ensures write_counted { IfOk result (λ status. status ≢ Status.WriteFault → K.faults out.new ≡ K.faults out.old) }
 
     // With no fault, the answer is whole.
-    ensures complete { IsCalm (S.held shelf.old) (S.faults shelf.old) (S.faults shelf.new) (option_map plan_of (asked (map string_bytes words.now)))
+    ensures complete { IsCalm (S.held shelf.old) (S.faults shelf.old) (S.faults shelf.new) (option_map plan_of (job_of (map string_bytes words.now)))
         (K.faults out.old) (K.faults out.new) →
-        IfOk result (λ status. AnsweredAsTold CheckSays finishes (S.held shelf.old) (option_map plan_of (asked (map string_bytes words.now)))
+        IfOk result (λ status. AnsweredAsTold CheckSays finishes (S.held shelf.old) (option_map plan_of (job_of (map string_bytes words.now)))
         (K.written out.old) (K.written out.new) status) }
+
+    ensures whole { IsCalm (S.held shelf.old) (S.faults shelf.old) (S.faults shelf.new) (option_map plan_of (job_of (map string_bytes words.now)))
+        (K.faults out.old) (K.faults out.new) →
+        IfOk result (λ status. AnsweredWhole CheckSays finishes (S.held shelf.old) (S.faults shelf.old) (S.faults shelf.new)
+        (option_map plan_of (job_of (map string_bytes words.now))) (K.written out.old) (K.written out.new) status) }
+
+    // Call by call: each file of the job is asked for once, in its order, up to the one that stops it, and then each line of the
+    // text is put, up to and with one whose put fails; after want of memory none is put.
+    ensures calls { IfOk result (λ status. CallByCall CheckSays finishes S.leads shelf.old shelf.new K.leads out.old out.new
+        (option_map plan_of (job_of (map string_bytes words.now))) status) }
+    ensures calls_wanting { OnErr result (CallsWanting S.leads shelf.old shelf.new out.old out.new
+        (option_map plan_of (job_of (map string_bytes words.now)))) }
 
     // After want of memory nothing was written, and no fault of the sink was counted.
     ensures no_memory { OnErr result (Keeps (K.written out.old) (K.written out.new) × (K.faults out.new ≡ K.faults out.old)) }

@@ -6,7 +6,7 @@ use Rattle.bs_top.proofs.WorkLemmas.{prepares_done}
 use Rattle.bs_top.proofs.auditing.audit.Goals as goal
 
 pub returns-in-Ok : goal.returns-in-Ok
-returns-in-Ok g c = prepares_done _ (walks_as to_audit c.in-Ok.ensures) c.audited.ensures
+returns-in-Ok g c = prepares_done _ (walks_as to_audit c.in-Ok.ensures) c.found.ensures
 
 pub returns-in-Err : goal.returns-in-Err
 returns-in-Err g c = prepares_stop finishes _ (walks_as to_audit c.in-Err.ensures) c.stopped.ensures

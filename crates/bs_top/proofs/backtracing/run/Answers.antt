@@ -7,7 +7,7 @@ use Rattle.bs_top.proofs.WorkLemmas.{prepares_done}
 use Rattle.bs_top.proofs.backtracing.run.Goals as goal
 
 pub returns-in-Ok : goal.returns-in-Ok
-returns-in-Ok g c = prepares_done _ (walks_as (to_run (budgets_of (run_job c.args.job.now))) c.in-Ok.ensures) c.traced.ensures
+returns-in-Ok g c = prepares_done _ (walks_as (to_run (budgets_of (run_job c.args.job.now))) c.in-Ok.ensures) c.reported.ensures
 
 pub returns-in-Err : goal.returns-in-Err
 returns-in-Err g c = prepares_stop finishes _ (walks_as (to_run (budgets_of (run_job c.args.job.now))) c.in-Err.ensures) c.stopped.ensures

@@ -1,9 +1,0 @@
-use Rattle.std.proofs.Common.{◌≡◌, ◌≤◌, ◌*◌, take}
-use Rattle.bs_demo.specs.Summary.{listed_in}
-use Rattle.bs_demo.proofs.summary.listed.Given as goal
-
-abbrev pub invariant-steps : goal.invariant-steps
-invariant-steps l = record {
-  sum : l.sum ≡ listed_in (take l.step-index l.steps);
-  small : l.sum ≤ 65536 * l.step-index;
-}

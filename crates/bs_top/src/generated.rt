@@ -1,0 +1,52 @@
+//! The generated texts, walked as the files of a job are.
+ghost use Rattle.std.specs.Prelude.{◌≡◌, IfOk, string_bytes};
+ghost use Rattle.bs_job.specs.Walks.{WalksAlone};
+ghost use Rattle.bs_entry.specs.Ready.{placed_in};
+ghost use Rattle.bs_entry.specs.Refusals.{CheckSays};
+ghost use Rattle.bs_top.specs.Demo.{demo_of};
+ghost use Rattle.bs_top.specs.Texts.{AreTexts};
+
+use bs_entry::{Names, Placed, take_placed};
+use bs_gen::{Job, make};
+use bs_job::Stop;
+use bs_outside::SureShelf;
+use std::alloc::{AllocError, Global};
+
+/// A text under a name.
+fn file(alloc: Global, name: &str, text: &[u8]) -> Result<(String, Vec<u8>), AllocError>
+    ensures name { IfOk result (λ file. string_bytes file.0 ≡ name.now) }
+    ensures text { IfOk result (λ file. file.1.items ≡ text.now) }
+{
+    let name = String::from_str(alloc, name)?;
+    let text = text.to_vec(alloc)?;
+    Ok((name, text))
+}
+
+/// The texts of a job under their names.
+fn files(alloc: Global, job: &Job) -> Result<Vec<(String, Vec<u8>)>, AllocError>
+    ensures { IfOk result (λ files. AreTexts files.items job.now.netlist job.now.signature job.now.stimulus) }
+{
+    let netlist = file(alloc, "netlist", job.netlist.slice())?;
+    let signature = file(alloc, "signature", job.signature.slice())?;
+    let stimulus = file(alloc, "stimulus", job.stimulus.slice())?;
+    let mut files = Vec::new(alloc);
+    files.push(netlist)?;
+    files.push(signature)?;
+    files.push(stimulus)?;
+    Ok(files)
+}
+
+/// What the texts of the number make ready: a setup, and the moment of run 1 at cycle 256. No shelf is asked.
+pub fn take_demo(alloc: Global, number: u64) -> Result<Placed, Stop>
+    ensures { WalksAlone CheckSays (demo_of number) placed_in result }
+{
+    let job = make(alloc, number)?;
+    let files = files(alloc, &job)?;
+    let mut shelf = SureShelf::new(files);
+    let names = Names {
+        netlist: "netlist",
+        signature: "signature",
+        stimulus: "stimulus",
+    };
+    take_placed(alloc, &mut shelf, &names, 1, 256)
+}
