@@ -1,5 +1,5 @@
 -- The fetches along a plan.
-use Rattle.std.proofs.Common.{◌≡◌, inl, inr, ℕ, Bool, true, false, ◌<◌, ◌≤◌, List, [], ◌∷◌, ◌++◌, codes, length, Option, Some, None, Result, Ok, Err, refl, sym, ◌∙◌, ap, subst, Vec}
+use Rattle.std.proofs.Common.{◌≡◌, ℕ, Bool, true, false, List, [], ◌∷◌, ◌++◌, codes, length, Option, Some, None, Result, Ok, Err, refl, sym, ap, subst, Vec}
 use Rattle.std.proofs.lemmas.Bool.{false≢true}
 use Rattle.std.proofs.lemmas.List.{append-nil}
 use Rattle.std.specs.Prelude.{IfSome, IsSome, MatchResult, nat_lt, if◌then◌else◌}
@@ -15,7 +15,7 @@ use Rattle.bs_job.specs.declared.walk.Stop.TheVariants as S
 use Rattle.bs_job.specs.Files.{limit_of}
 use Rattle.bs_job.specs.Plan.{Tells, Counts, Wanted, Reason, exactly, Says, Plan, fetch, refuse, end, ◌>>=◌, fetched, given_next, with_texts, AllTold, read_as, Outcome, ready, refused, faulted, Ends}
 use Rattle.bs_job.specs.Walks.{ComesTo, WalksTo, Reads, settled}
-use Rattle.bs_job.specs.Asking.{AfterFetch, FromFetch, Along, CallTo, GoesTo}
+use Rattle.bs_job.specs.Asking.{AfterFetch, Along, CallTo, GoesTo}
 use Rattle.bs_job.proofs.Plans.{ready_in, refused_in, faulted_in, ready_same, refused_same, faulted_same}
 
 -- ---- calls in turn

@@ -29,11 +29,7 @@ fn line_len(text: &[u8]) -> usize
     ensures line { put_lines_of text.now ≡ take result text.now ∷ put_lines_of (drop result text.now) }
 {
     let at = feed_place(text);
-    if at < text.len() {
-        at + 1
-    } else {
-        text.len()
-    }
+    if at < text.len() { at + 1 } else { text.len() }
 }
 
 /// The place behind the next line.

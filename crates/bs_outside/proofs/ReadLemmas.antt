@@ -6,7 +6,7 @@ use Rattle.std.specs.Io.{StartsWith, appended_bytes}
 use Rattle.std.specs.Io.KnownBytes.{Consumes, IsAtEnd}
 use Rattle.bs_outside.specs.declared.shelf.Fetch.{Fetch}
 use Rattle.bs_outside.specs.declared.shelf.Fetch.TheVariants.{Done, Failed, TooLong, NoMemory}
-use Rattle.bs_outside.specs.Fetching.{FetchesAll, FetchesTooMany, Fetches}
+use Rattle.bs_outside.specs.Fetching.{Fetches}
 use Rattle.bs_outside.specs.Opening.{ReadsPiece, ReadsNone}
 
 consumes_none : (u : Option (List ℕ)) → Consumes u u []

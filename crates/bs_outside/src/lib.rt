@@ -8,8 +8,6 @@ mod shelf;
 mod sink;
 mod streams;
 mod sure;
-#[cfg(test)]
-mod tests;
 mod writing;
 
 pub use bs_bits::NoMemory;
