@@ -25,7 +25,8 @@ drop_none (b ∷ bs) zero h = absurd (omega arith)
 drop_none (b ∷ bs) (suc n) h = drop_none bs n (omega arith)
 
 -- the same wherever the bits are cut
-front_last : (bs : List Bool) (f : ℕ) (s : Bool) → f < length bs → (drop f bs ++ take f bs) ++ s ∷ [] ≡ get_or bs f false ∷ (drop (suc f) (set bs f s) ++ take (suc f) (set bs f s))
+front_last : (bs : List Bool) (f : ℕ) (s : Bool) → f < length bs →
+    (drop f bs ++ take f bs) ++ s ∷ [] ≡ get_or bs f false ∷ (drop (suc f) (set bs f s) ++ take (suc f) (set bs f s))
 front_last bs f s h =
     append_assoc (drop f bs) (take f bs) (s ∷ [])
     ∙ (ap (λ t. t ++ (take f bs ++ s ∷ [])) (drop_first bs f h)
@@ -38,7 +39,8 @@ wrapped bs n e =
     let all : take n bs ≡ bs = sym (append-nil (take n bs)) ∙ (ap (λ t. take n bs ++ t) (sym none) ∙ take-append-drop n bs) in
     ap (λ t. t ++ take n bs) none ∙ (all ∙ sym (append-nil bs))
 
-pub shifted : (chain bs new : List Bool) (f next : ℕ) (s out : Bool) → f < length bs → chain ≡ drop f bs ++ take f bs → out ≡ get_or bs f false → new ≡ set bs f s →
+pub shifted : (chain bs new : List Bool) (f next : ℕ) (s out : Bool) → f < length bs → chain ≡ drop f bs ++ take f bs → out ≡ get_or bs f false →
+    new ≡ set bs f s →
     ((next ≡ f + 1) × (f + 1 < length new)) ⊎ ((next ≡ 0) × (f + 1 ≡ length new)) →
     chain ++ s ∷ [] ≡ out ∷ (drop next new ++ take next new)
 shifted chain bs new f next s out h e o w (inl p) =

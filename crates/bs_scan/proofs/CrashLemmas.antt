@@ -1,5 +1,5 @@
 -- Moments of recorded runs, and the dump of one.
-use Rattle.std.proofs.Common.{◌≡◌, ℕ, suc, zero, ◌≤◌, ◌-◌, Bool, List, [], ◌∷◌, length, map, get_or, refl, arith, ap, subst, Option, None}
+use Rattle.std.proofs.Common.{◌≡◌, ℕ, suc, zero, ◌≤◌, ◌-◌, Bool, List, [], ◌∷◌, length, map, get_or, refl, arith, ap, subst, sym, Option, None}
 use Rattle.std.specs.Prelude.{All, slice_get}
 use Rattle.std.specs.Option.{option_to_list}
 use Rattle.std.proofs.lemmas.List.{length-map}
@@ -44,13 +44,15 @@ lasts_is s m h = omega (arith, h.lasts, ap length (run_inputs s m.run))
 
 -- ---- what files tell
 
-inputs_fit : (c : Circuit) (s : Stimulus) → IsStimulus s → s.width ≡ length c.inputs → All (λ run. All (λ input. length input ≡ length c.inputs) run) (inputs_of s)
+inputs_fit : (c : Circuit) (s : Stimulus) → IsStimulus s → s.width ≡ length c.inputs →
+    All (λ run. All (λ input. length input ≡ length c.inputs) run) (inputs_of s)
 inputs_fit c s sound width =
     All-map (λ (run : Run). All (λ (input : List Bool). length input ≡ length c.inputs) run) (λ (run : Recorded). run.inputs) s.runs
     (All-weaker (IsRecorded s.width) (λ (run : Recorded). All (λ (input : List Bool). length input ≡ length c.inputs) run.inputs)
     (λ run is. subst (λ (n : ℕ). All (λ (input : List Bool). length input ≡ n) run.inputs) width is.widths) s.runs sound.recorded)
 
-pub recording_is : (raw : Parts) (choice : Chosen) (s : Stimulus) → IsChecked (circuit_of raw) → IsStimulus s → choice.width ≡ length (circuit_of raw).flops → s.width ≡ length (circuit_of raw).inputs →
+pub recording_is : (raw : Parts) (choice : Chosen) (s : Stimulus) → IsChecked (circuit_of raw) → IsStimulus s →
+    choice.width ≡ length (circuit_of raw).flops → s.width ≡ length (circuit_of raw).inputs →
     IsRecording (recording_of raw choice s)
 recording_is raw choice s checked sound states inputs =
     record {
@@ -71,20 +73,27 @@ crash_is r dump is fits = record { checked = is.checked; inputs = is.inputs; fit
 abbrev Widths : Chosen → List (List Bool) → Type 0
 Widths choice stored = All (λ t. length t ≡ length choice.items) stored
 
+-- what the register holds at a moment has a bit for each item
+pub stored_widths : (c : Circuit) (choice : Chosen) (run : Run) (cycle : ℕ) → Widths choice (stored_at c choice run cycle)
+stored_widths c choice run zero = All-from_recursion (λ (t : List Bool). length t ≡ length choice.items) [] tt
+stored_widths c choice run (suc cycle) =
+    All-from_recursion (λ (t : List Bool). length t ≡ length choice.items) (signature choice (state_at c run cycle) ∷ [])
+    (length-map choice.items (parity_of (state_at c run cycle)), tt)
+
 abbrev held : Circuit → Chosen → Run → ℕ → Option (List Bool)
 held c choice run cycle = slice_get (stored_at c choice run cycle) 0
 
-stored_fits : (c : Circuit) (choice : Chosen) (run : Run) (cycle : ℕ) → Widths choice (option_to_list (held c choice run cycle))
-stored_fits c choice run zero = All-from_recursion (λ (t : List Bool). length t ≡ length choice.items) [] tt
-stored_fits c choice run (suc cycle) =
-    All-from_recursion (λ (t : List Bool). length t ≡ length choice.items) (signature choice (state_at c run cycle) ∷ [])
-    (length-map choice.items (parity_of (state_at c run cycle)), tt)
+all_held : (c : Circuit) (choice : Chosen) (run : Run) (cycle : ℕ) → option_to_list (held c choice run cycle) ≡ stored_at c choice run cycle
+all_held c choice run zero = refl
+all_held c choice run (suc cycle) = refl
 
 pub dump_at_fits : (r : Recording) (m : Moment) → DumpFits r.circuit r.choice (dump_at r m)
 dump_at_fits r m =
     record {
       state = length_state r.circuit (run_of r.runs m.run) m.cycle;
-      signatures = stored_fits r.circuit r.choice (run_of r.runs m.run) m.cycle;
+      signatures =
+          subst (Widths r.choice) (sym (all_held r.circuit r.choice (run_of r.runs m.run) m.cycle))
+          (stored_widths r.circuit r.choice (run_of r.runs m.run) m.cycle);
     }
 
 stored_none : (c : Circuit) (choice : Chosen) (run : Run) (cycle : ℕ) → held c choice run cycle ≡ None → state_at c run cycle ≡ reset_state c
@@ -95,10 +104,6 @@ stored_none c choice run (suc cycle) e = cc
 -- without a signature it is of the reset state
 pub dump_at_rests : (r : Recording) (m : Moment) → (dump_at r m).stored ≡ None → (dump_at r m).state ≡ reset_state r.circuit
 dump_at_rests r m = stored_none r.circuit r.choice (run_of r.runs m.run) m.cycle
-
-all_held : (c : Circuit) (choice : Chosen) (run : Run) (cycle : ℕ) → option_to_list (held c choice run cycle) ≡ stored_at c choice run cycle
-all_held c choice run zero = refl
-all_held c choice run (suc cycle) = refl
 
 -- what a dump shows of its moment
 pub present_at : (r : Recording) (m : Moment) →

@@ -17,7 +17,8 @@ use Rattle.bs_scan.proofs.SignatureLemmas.{bits_same}
 
 width_is : (number width : ℕ) (bits : List Bool) → length bits ≡ width → of_width number width (bits_of (bits_text bits)) ≡ Ok bits
 width_is number width bits e =
-    ap (of_width number width) (bits_again bits) ∙ ap (λ t. cond {A = Result (List Bool) DumpFault} t (Ok bits) (Err (Width number))) (eq-eqb (length bits) width e)
+    ap (of_width number width) (bits_again bits)
+    ∙ ap (λ t. cond {A = Result (List Bool) DumpFault} t (Ok bits) (Err (Width number))) (eq-eqb (length bits) width e)
 
 not_none : (t : List Bool) → is_text (codes "sig none") (Some (codes "sig " ++ bits_text t)) ≡ false
 not_none [] = refl
@@ -40,14 +41,16 @@ reset_is reset s None h =
     ap (λ t. cond {A = Result Dump DumpFault} t (Ok (record { state = s; stored = None })) (Err NotReset)) (ap (bits_eq s) (sym (h refl)) ∙ bits_same s)
 
 -- a dump of these widths, at reset where it has no signature
-pub dump_again : (reset : List Bool) (items : ℕ) (s : List Bool) (o : Option (List Bool)) → length s ≡ length reset → IfSome o (λ t. length t ≡ items) → (o ≡ None → s ≡ reset) →
+pub dump_again : (reset : List Bool) (items : ℕ) (s : List Bool) (o : Option (List Bool)) → length s ≡ length reset →
+    IfSome o (λ t. length t ≡ items) → (o ≡ None → s ≡ reset) →
     dump_of reset items (lines_of (dump_text (record { state = s; stored = o }))) ≡ Ok (record { state = s; stored = o })
 unfolding dump_of
 dump_again reset items s o ls lo zero_at =
     let a : List ℕ = codes "state " ++ bits_text s in
     let b : List ℕ = codes "sig " ++ signature_text o in
     let whole : lines_of (dump_text (record { state = s; stored = o })) ≡ a ∷ b ∷ codes "end" ∷ [] =
-    line_first a (line b ++ line (codes "end")) (lacks_append 10 (codes "state ") (bits_text s) (refl, (refl, (refl, (refl, (refl, (refl, tt)))))) (bits_lack_feed s))
+    line_first a (line b ++ line (codes "end"))
+    (lacks_append 10 (codes "state ") (bits_text s) (refl, (refl, (refl, (refl, (refl, (refl, tt)))))) (bits_lack_feed s))
     ∙ ap (λ (l : List (List ℕ)). a ∷ l)
     (line_first b (line (codes "end")) (lacks_append 10 (codes "sig ") (signature_text o) (refl, (refl, (refl, (refl, tt)))) (signature_lacks_feed o))) in
     ap (dump_of reset items) whole

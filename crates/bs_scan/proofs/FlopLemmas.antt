@@ -27,7 +27,8 @@ position_push {X} p xs x = by (nat_lt (position_or_len p xs) (length xs)) refl
     by true e =
         let lt : position_or_len p xs < length xs = ltb-true _ _ e in
         let here : position_or_len p (xs ++ x ∷ []) ≡ position_or_len p xs =
-        position_or_len_push p xs x ∙ ap (λ z. cond z (length xs + cond (p x) 0 1) (position_or_len p xs)) (ne_eqb _ _ (λ (q : position_or_len p xs ≡ length xs). omega (arith, q, lt))) in
+        position_or_len_push p xs x
+        ∙ ap (λ z. cond z (length xs + cond (p x) 0 1) (position_or_len p xs)) (ne_eqb _ _ (λ (q : position_or_len p xs ≡ length xs). omega (arith, q, lt))) in
         rw (here, lt-ltb (position_or_len p xs) (length (xs ++ x ∷ [])) (omega (arith, longer, lt))) refl
     by false e =
         let le : length xs ≤ position_or_len p xs = ltb-false _ _ e in
@@ -56,7 +57,8 @@ or_none : (o : Option ℕ) → o ≡ or_else o None
 or_none None = refl
 or_none (Some x) = refl
 
-same_net : (t : List (Option ℕ)) (n i : ℕ) → n < length t → (o : Option ℕ) → get_or t n None ≡ o → get_or (cond (is_none o) (set t n (Some i)) t) n None ≡ or_else o (Some i)
+same_net : (t : List (Option ℕ)) (n i : ℕ) → n < length t → (o : Option ℕ) → get_or t n None ≡ o →
+    get_or (cond (is_none o) (set t n (Some i)) t) n None ≡ or_else o (Some i)
 same_net t n i h None f = get_or-set_same t n (Some i) None h
 same_net t n i h (Some x) f = f
 

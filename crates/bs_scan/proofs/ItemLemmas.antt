@@ -28,7 +28,8 @@ abbrev Flops : Type 0
 Flops = Result (List ℕ) ChoiceFault
 
 pub flop_step : (whole : Flops) (net : Parts) (number : ℕ) (item : List ℕ) (ws more : List (List ℕ)) (name : List ℕ) (flop : ℕ) →
-    whole ≡ with_front item (flops_of net number ws) → ws ≡ name ∷ more → Some flop ≡ flop_named net name → whole ≡ with_front (item ++ flop ∷ []) (flops_of net number more)
+    whole ≡ with_front item (flops_of net number ws) → ws ≡ name ∷ more → Some flop ≡ flop_named net name →
+    whole ≡ with_front (item ++ flop ∷ []) (flops_of net number more)
 unfolding flops_of
 flop_step whole net number item ws more name flop e l r =
     e ∙ (ap (λ ws. with_front item (flops_of net number ws)) l
@@ -38,7 +39,8 @@ pub flop_fault : (whole : Flops) (net : Parts) (number : ℕ) (item : List ℕ) 
     whole ≡ with_front item (flops_of net number ws) → ws ≡ name ∷ more → None ≡ flop_named net name → whole ≡ Err (UnknownFlop number)
 unfolding flops_of
 flop_fault whole net number item ws more name e l r =
-    e ∙ (ap (λ ws. with_front item (flops_of net number ws)) l ∙ ap (λ o. with_front item (known number o >>= λ flop. flops_of net number more >>= put flop)) (sym r))
+    e ∙ (ap (λ ws. with_front item (flops_of net number ws)) l
+    ∙ ap (λ o. with_front item (known number o >>= λ flop. flops_of net number more >>= put flop)) (sym r))
 
 pub flops_end : (whole : Flops) (net : Parts) (number : ℕ) (item : List ℕ) (ws : List (List ℕ)) →
     whole ≡ with_front item (flops_of net number ws) → ws ≡ [] → whole ≡ Ok item
@@ -64,7 +66,8 @@ pub item_refused : (whole : Items) (net : Parts) (number : ℕ) (items : List (L
 unfolding items_of
 item_refused whole net number items lines more line f e l (inl none) = inl none
 item_refused whole net number items lines more line f e l (inr r) =
-    inr (e ∙ (ap (λ ls. with_front items (items_of net number ls)) l ∙ ap (λ o. with_front items (o >>= λ item. items_of net (number + 1) more >>= put item)) r))
+    inr (e ∙ (ap (λ ls. with_front items (items_of net number ls)) l
+    ∙ ap (λ o. with_front items (o >>= λ item. items_of net (number + 1) more >>= put item)) r))
 
 pub items_end : (whole : Items) (net : Parts) (number : ℕ) (items : List (List ℕ)) (lines : List (List ℕ)) →
     whole ≡ with_front items (items_of net number lines) → lines ≡ [] → whole ≡ Ok items
@@ -85,7 +88,8 @@ pub no_numbers : (bs : List ℕ) → numbers_of [] + bytes_in (lines_of bs) ≤ 
 no_numbers bs = omega (arith, bytes_within bs)
 
 -- an item has no more numbers than its line has bytes
-pub bytes_step : (items : List (List ℕ)) (item : List ℕ) (lines : List (List ℕ)) (line : List ℕ) (more : List (List ℕ)) (n : ℕ) → lines ≡ line ∷ more → length item ≤ length line →
+pub bytes_step : (items : List (List ℕ)) (item : List ℕ) (lines : List (List ℕ)) (line : List ℕ) (more : List (List ℕ)) (n : ℕ) →
+    lines ≡ line ∷ more → length item ≤ length line →
     numbers_of items + bytes_in lines ≤ n → numbers_of (items ++ item ∷ []) + bytes_in more ≤ n
 bytes_step items item lines line more n e short h =
     let cut : bytes_in lines ≡ length line + bytes_in more = ap bytes_in e ∙ sum_by-cons (λ (l : List ℕ). length l) line more in

@@ -36,9 +36,11 @@ mapped_more f (y ∷ ys) zero x e = let same : y ≡ x = cc in ap (λ z. f z ∷
 mapped_more f (y ∷ ys) (suc i) x e = ap (λ t. f y ∷ t) (mapped_more f ys i x e)
 
 -- one bit more is pushed
-pub bit_pushed : (choice : Chosen) (state bits : List Bool) (i : ℕ) (item : List ℕ) → slice_get choice.items i ≡ Some item → bits ≡ take i (signature choice state) →
+pub bit_pushed : (choice : Chosen) (state bits : List Bool) (i : ℕ) (item : List ℕ) → slice_get choice.items i ≡ Some item →
+    bits ≡ take i (signature choice state) →
     bits ++ parity_of state item ∷ [] ≡ take (i + 1) (signature choice state)
 bit_pushed choice state bits i item e so = rw add-one (ap (λ t. t ++ parity_of state item ∷ []) so ∙ sym (mapped_more (parity_of state) choice.items i item e))
 
-pub all_pushed : (choice : Chosen) (state bits : List Bool) (i : ℕ) → length choice.items ≤ i → bits ≡ take i (signature choice state) → bits ≡ signature choice state
+pub all_pushed : (choice : Chosen) (state bits : List Bool) (i : ℕ) → length choice.items ≤ i → bits ≡ take i (signature choice state) →
+    bits ≡ signature choice state
 all_pushed choice state bits i le so = so ∙ take_all i (signature choice state) (omega (arith, le, length-map choice.items (parity_of state)))

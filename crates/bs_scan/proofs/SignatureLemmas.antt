@@ -66,7 +66,8 @@ came_from c choice run k e =
     (bits_same s)
 
 -- a state with the signatures that an input leads to p is a predecessor
-pub is_predecessor : (c : Circuit) (choice : Chosen) (p : List Bool) (stored : List (List Bool)) (s x : List Bool) → length s ≡ length c.flops → length x ≡ length c.inputs →
+pub is_predecessor : (c : Circuit) (choice : Chosen) (p : List Bool) (stored : List (List Bool)) (s x : List Bool) → length s ≡ length c.flops →
+    length x ≡ length c.inputs →
     agrees c choice stored s ≡ true → next c s x ≡ p → is_listed (predecessors c choice p stored) s ≡ true
 unfolding predecessors
 is_predecessor c choice p stored s x ls lx ag e =

@@ -44,9 +44,11 @@ short_behind line names w e =
     omega (arith, one_more, words_within line)
 
 -- `xor` and names are an item
-pub any_item : (word : List ℕ) (text : List ℕ) (r : Bool) → list_all is_name (words_of text) ≡ true → bytes_eq word (codes "xor") ≡ true → r ≡ true → r ≡ is_item word (words_of text)
+pub any_item : (word : List ℕ) (text : List ℕ) (r : Bool) → list_all is_name (words_of text) ≡ true → bytes_eq word (codes "xor") ≡ true → r ≡ true →
+    r ≡ is_item word (words_of text)
 any_item word text r named any e =
     e
-    ∙ sym (ap (λ b. b && ((bytes_eq word (codes "xor") && nat_le 1 (length (words_of text))) || (bytes_eq word (codes "bit") && (length (words_of text) == 1)))) named
+    ∙ sym (ap (λ b. b && ((bytes_eq word (codes "xor") && nat_le 1 (length (words_of text))) || (bytes_eq word
+    (codes "bit") && (length (words_of text) == 1)))) named
     ∙ (ap (λ b. (b && nat_le 1 (length (words_of text))) || (bytes_eq word (codes "bit") && (length (words_of text) == 1))) any
     ∙ ap (λ b. b || (bytes_eq word (codes "bit") && (length (words_of text) == 1))) (sym (some_words text))))

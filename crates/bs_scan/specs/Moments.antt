@@ -3,13 +3,16 @@ use Rattle.std.specs.Prelude.{ℕ, zero, suc, ◌+◌, ◌-◌, ◌≤◌, Bool,
 use Rattle.std.specs.List.{list_any, range_with_len, flat_map}
 use Rattle.bs_bits.specs.Bits.{bits_eq}
 use Rattle.bs_net.specs.Circuit.{Circuit, reset_state, next}
-pub use Rattle.bs_scan.specs.declared.moment.Moment.{Moment}
+use Rattle.bs_scan.specs.declared.moment.Moment.{Moment as CodeMoment}
 
 -- a run: the input of each of its cycles
 abbrev pub Run : Type 0
 Run = List (List Bool)
 
--- a moment is a run, numbered from 1, and a cycle
+-- a moment: a run, numbered from 1, and a cycle
+abbrev pub Moment : Type 0
+Moment = CodeMoment
+
 abbrev pub moment : ℕ → ℕ → Moment
 moment run cycle = record { run = run; cycle = cycle }
 

@@ -22,7 +22,8 @@ pub returns-in_err-read_item-clause-reads : goal.returns-in_err-read_item-clause
 returns-in_err-read_item-clause-reads c =
     let p = err_from_is_err_and c.from_residual.result c.from_residual.ensures.1 in
     rw (p.1, p.2)
-    (item_refused (items_of c.args.flops.now 1 (lines_of c.args.bytes.now)) c.args.flops.now c.lines.number c.lines.items (lines_of c.lines.rest.now) (lines_of c.in-Some.behind.now) c.in-Some.line.now _
+    (item_refused (items_of c.args.flops.now 1 (lines_of c.args.bytes.now)) c.args.flops.now c.lines.number c.lines.items (lines_of c.lines.rest.now)
+    (lines_of c.in-Some.behind.now) c.in-Some.line.now _
     c.lines.invariant.whole c.in-Some.ensures c.in_err-read_item.ensures.reads)
 
 pub lines-preserved : goal.lines-preserved
@@ -31,14 +32,21 @@ lines-preserved c =
     record {
       whole =
           rw c.in_ok-push.ensures.ok
-          (item_step (items_of c.args.flops.now 1 (lines_of c.args.bytes.now)) c.args.flops.now c.lines.number c.lines.items (lines_of c.lines.rest.now) (lines_of c.in-Some.behind.now) c.in-Some.line.now _
+          (item_step (items_of c.args.flops.now 1 (lines_of c.args.bytes.now)) c.args.flops.now c.lines.number c.lines.items
+          (lines_of c.lines.rest.now) (lines_of c.in-Some.behind.now) c.in-Some.line.now _
           c.lines.invariant.whole c.in-Some.ensures c.in_ok-read_item.ensures.reads);
       numbered = omega (arith, more, c.lines.invariant.numbered);
       few = omega (arith, more, c.lines.invariant.numbered, c.in_ok-read_item.ensures.few);
-      range = rw c.in_ok-push.ensures.ok (All-push (All (λ (flop : ℕ). flop < length c.args.flops.now.flops)) c.lines.items _ c.lines.invariant.range c.in_ok-read_item.ensures.range);
-      bytes = rw c.in_ok-push.ensures.ok (bytes_step c.lines.items _ (lines_of c.lines.rest.now) c.in-Some.line.now (lines_of c.in-Some.behind.now) (length c.args.bytes.now) c.in-Some.ensures c.in_ok-read_item.ensures.short c.lines.invariant.bytes);
+      range =
+          rw c.in_ok-push.ensures.ok
+          (All-push (All (λ (flop : ℕ). flop < length c.args.flops.now.flops)) c.lines.items _ c.lines.invariant.range c.in_ok-read_item.ensures.range);
+      bytes =
+          rw c.in_ok-push.ensures.ok
+          (bytes_step c.lines.items _ (lines_of c.lines.rest.now) c.in-Some.line.now (lines_of c.in-Some.behind.now) (length c.args.bytes.now)
+          c.in-Some.ensures c.in_ok-read_item.ensures.short c.lines.invariant.bytes);
     }
 
 pub returns-clause-reads : goal.returns-clause-reads
 returns-clause-reads c =
-    items_end (items_of c.args.flops.now 1 (lines_of c.args.bytes.now)) c.args.flops.now c.lines.number c.lines.items (lines_of c.lines.rest.now) c.lines.invariant.whole c.in_default.ensures
+    items_end (items_of c.args.flops.now 1 (lines_of c.args.bytes.now)) c.args.flops.now c.lines.number c.lines.items (lines_of c.lines.rest.now)
+    c.lines.invariant.whole c.in_default.ensures

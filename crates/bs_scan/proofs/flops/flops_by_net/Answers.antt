@@ -10,5 +10,6 @@ flops-preserved c =
       every_net = ap length c.note.ensures ∙ (length_noted c.flops.table.items _ _ ∙ c.flops.invariant.every_net);
       noted = λ n h.
           ap (λ t. get_or t n None) put
-          ∙ noted_step c.args.net.now.raw.flops c.flops.i _ c.flops.table.items (length c.args.net.now.raw.names) (rw same at c.flops-test.true) c.flops.invariant.every_net c.flops.invariant.noted n h;
+          ∙ noted_step c.args.net.now.raw.flops c.flops.i _ c.flops.table.items (length c.args.net.now.raw.names) (rw same at c.flops-test.true)
+          c.flops.invariant.every_net c.flops.invariant.noted n h;
     }
