@@ -1,6 +1,6 @@
 //! Files that come, fail or are too long, and the lines that are written for them.
 use bs_job::{
-    Answer, File, Refusal, Status, deliver, fetch_file, refused_words, settle, stopped,
+    Reply, File, Refusal, Status, deliver, fetch_file, refused_words, settle, stopped,
 };
 use bs_outside::{MemShelf, MemSink, NoMemory};
 use std::alloc::{AllocError, Global};
@@ -27,14 +27,14 @@ fn read_three(alloc: Global, bytes: &[u8]) -> Result<usize, Refusal> {
 }
 
 /// The answer of a job that reads one file, and says how many bytes it has.
-fn answer(alloc: Global, file: File, name: &str, fail: u64) -> Result<Answer, Fail> {
+fn answer(alloc: Global, file: File, name: &str, fail: u64) -> Result<Reply, Fail> {
     let mut shelf = MemShelf::new(alloc, files(alloc)?, vec![in alloc; fail]?)?;
     let read = match fetch_file(alloc, &mut shelf, file, name) {
         Ok(bytes) => settle(file, read_three(alloc, &bytes)),
         Err(stop) => Err(stop),
     };
     match read {
-        Ok(_count) => Ok(Answer {
+        Ok(_count) => Ok(Reply {
             status: Status::Done,
             text: b"three\n".to_vec(alloc)?,
         }),
@@ -89,7 +89,7 @@ fn ends_of_a_job(rt: HostRuntime) -> Result<(), Fail> {
 #[test]
 fn second_line_is_cut_after_three_bytes(rt: HostRuntime) -> Result<(), Fail> {
     let alloc = rt.alloc();
-    let report = Answer {
+    let report = Reply {
         status: Status::Done,
         text: b"backspace 1\nasked 64\nend\n".to_vec(alloc)?,
     };

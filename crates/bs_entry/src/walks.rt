@@ -12,7 +12,7 @@ use crate::readings::{
     read_dump, read_moment, read_netlist, read_report, read_signature, read_stimulus,
 };
 use crate::ready::{Claimed, Crashed, Names, Placed, Setup};
-use bs_job::{File, Stop, fetch_file, settle};
+use bs_job::{File, JobFault, fetch_file, settle};
 use bs_net::Netlist;
 use bs_outside::Shelf;
 use bs_report::Report;
@@ -21,7 +21,7 @@ use bs_stim::Runs;
 use std::alloc::Global;
 
 /// The netlist.
-fn take_netlist<S: Shelf>(alloc: Global, shelf: &mut S, name: &str) -> Result<Netlist, Stop>
+fn take_netlist<S: Shelf>(alloc: Global, shelf: &mut S, name: &str) -> Result<Netlist, JobFault>
     ensures { Walks CheckSays S.held S.faults S.leads shelf.old shelf.new (netlist_of name.now) (λ net. net.raw) result }
 {
     let bytes = fetch_file(alloc, shelf, File::Netlist, name)?;
@@ -34,7 +34,7 @@ fn take_signature<S: Shelf>(
     shelf: &mut S,
     name: &str,
     net: &Netlist,
-) -> Result<Choice, Stop>
+) -> Result<Choice, JobFault>
     ensures walks { Walks CheckSays S.held S.faults S.leads shelf.old shelf.new (signature_of net.now.raw name.now) (λ choice. choice) result }
     ensures width { IfOk result (λ choice. choice.width ≡ length (circuit net.now).flops) }
 {
@@ -48,7 +48,7 @@ fn take_stimulus<S: Shelf>(
     shelf: &mut S,
     name: &str,
     net: &Netlist,
-) -> Result<Runs, Stop>
+) -> Result<Runs, JobFault>
     ensures walks { Walks CheckSays S.held S.faults S.leads shelf.old shelf.new (stimulus_of net.now.raw name.now) (λ runs. runs) result }
     ensures width { IfOk result (λ runs. runs.width ≡ length (circuit net.now).inputs) }
 {
@@ -62,7 +62,7 @@ fn take_dump<S: Shelf>(
     shelf: &mut S,
     name: &str,
     setup: &Setup,
-) -> Result<Dump, Stop>
+) -> Result<Dump, JobFault>
     ensures walks { Walks CheckSays S.held S.faults S.leads shelf.old shelf.new (dump_of (setup_in setup.now) name.now) (λ dump. dump) result }
     ensures fits { IfOk result (λ dump. IsDump setup.now.net.raw setup.now.choice dump) }
 {
@@ -74,7 +74,7 @@ fn take_dump<S: Shelf>(
 }
 
 /// The netlist, the signature and the stimulus of a job, by the names of their files.
-pub fn take_setup<S: Shelf>(alloc: Global, shelf: &mut S, names: &Names<'_>) -> Result<Setup, Stop>
+pub fn take_setup<S: Shelf>(alloc: Global, shelf: &mut S, names: &Names<'_>) -> Result<Setup, JobFault>
     ensures { Walks CheckSays S.held S.faults S.leads shelf.old shelf.new (setup_of (names_in names.now)) setup_in result }
 {
     let net = take_netlist(alloc, shelf, names.netlist)?;
@@ -90,7 +90,7 @@ pub fn take_placed<S: Shelf>(
     names: &Names<'_>,
     run: u64,
     cycle: u64,
-) -> Result<Placed, Stop>
+) -> Result<Placed, JobFault>
     ensures { Walks CheckSays S.held S.faults S.leads shelf.old shelf.new (placed_of (names_in names.now) run cycle) placed_in result }
 {
     let setup = take_setup(alloc, shelf, names)?;
@@ -104,7 +104,7 @@ pub fn take_crashed<S: Shelf>(
     shelf: &mut S,
     names: &Names<'_>,
     dump: &str,
-) -> Result<Crashed, Stop>
+) -> Result<Crashed, JobFault>
     ensures { Walks CheckSays S.held S.faults S.leads shelf.old shelf.new (crashed_of (names_in names.now) dump.now) crashed_in result }
 {
     let setup = take_setup(alloc, shelf, names)?;
@@ -113,7 +113,7 @@ pub fn take_crashed<S: Shelf>(
 }
 
 /// The report of a backtrace.
-fn take_report<S: Shelf>(alloc: Global, shelf: &mut S, name: &str) -> Result<Report, Stop>
+fn take_report<S: Shelf>(alloc: Global, shelf: &mut S, name: &str) -> Result<Report, JobFault>
     ensures walks { Walks CheckSays S.held S.faults S.leads shelf.old shelf.new (report_of name.now) (λ report. report) result }
     ensures steps { IfOk result (λ report. report.budgets.steps ≤ 65536) }
 {
@@ -128,7 +128,7 @@ pub fn take_claimed<S: Shelf>(
     names: &Names<'_>,
     dump: &str,
     report: &str,
-) -> Result<Claimed, Stop>
+) -> Result<Claimed, JobFault>
     ensures { Walks CheckSays S.held S.faults S.leads shelf.old shelf.new (claimed_of (names_in names.now) dump.now report.now) claimed_in result }
 {
     let crashed = take_crashed(alloc, shelf, names, dump)?;

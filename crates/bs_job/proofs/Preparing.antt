@@ -5,11 +5,11 @@ use Rattle.bs_bits.specs.declared.memory.NoMemory.{NoMemory}
 use Rattle.bs_outside.specs.Calls.{FetchCall}
 use Rattle.bs_job.specs.declared.file.File.{File}
 use Rattle.bs_job.specs.declared.file.File.TheVariants.{Netlist, Signature, Stimulus, Dump, Report}
-use Rattle.bs_job.specs.declared.file.Status.{Status}
-use Rattle.bs_job.specs.declared.file.Status.TheVariants as T
-use Rattle.bs_job.specs.declared.answer.Answer.{Answer}
-use Rattle.bs_job.specs.declared.walk.Stop.{Stop}
-use Rattle.bs_job.specs.declared.walk.Stop.TheVariants as S
+use Rattle.bs_job.specs.declared.status.Status.{Status}
+use Rattle.bs_job.specs.declared.status.Status.TheVariants as T
+use Rattle.bs_job.specs.declared.reply.Reply.{Reply}
+use Rattle.bs_job.specs.declared.walk.JobFault.{JobFault}
+use Rattle.bs_job.specs.declared.walk.JobFault.TheVariants as S
 use Rattle.bs_job.specs.Files.{refusal_status, refused_file, is_work_status}
 use Rattle.bs_job.specs.Plan.{Tells, Counts, Plan, ready, refused, faulted}
 use Rattle.bs_job.specs.Walks.{WalksTo, Walks, WalksAlone}
@@ -55,20 +55,27 @@ refusal_plain status file is = record {
         cc
 
 -- the work that a walk made ready for
-work_prepares : {R W T : Type 0} (allows : R → List ℕ → Type 0) (finishes : W → Status → List ℕ → Type 0) (told told' : Tells) (before now : Counts) (plan : Plan R W) (view : T → W) (t : T) (answer : Answer) → IsWork finishes → WalksTo allows told told' before now plan view (Ok t) → finishes (view t) answer.status answer.text.items → Prepares allows finishes told before now (Some plan) answer
+work_prepares : {R W T : Type 0} (allows : R → List ℕ → Type 0) (finishes : W → Status → List ℕ →
+    Type 0) (told told' : Tells) (before now : Counts) (plan : Plan R W) (view : T → W) (t : T) (answer : Reply) → IsWork finishes →
+    WalksTo allows told told' before now plan view (Ok t) → finishes (view t) answer.status answer.text.items →
+    Prepares allows finishes told before now (Some plan) answer
 work_prepares allows finishes told told' before now plan view t answer kind walks done = record {
   calls = record { outcome = ready (view t); ends = walks.1; answers = done };
   steady = λ _. walks.0.counts;
   no_write = (work_plain answer.status (kind.status (view t) answer.status answer.text.items done)).write;
 }
 
-pub prepares_work : {R W T : Type 0} {allows : R → List ℕ → Type 0} {finishes : W → Status → List ℕ → Type 0} {S : Type 0} {held : S → Tells} {faults : S → Counts} {leads : S → FetchCall → S → Type 0} {before now : S} {plan : Plan R W} {view : T → W} {t : T} (r : Result Answer NoMemory) → IsWork finishes → Walks allows held faults leads before now plan view (Ok t) → IfOk r (λ answer. finishes (view t) answer.status answer.text.items) → Prepared allows finishes held faults leads before now (Some plan) r
-prepares_work {allows = allows} {finishes = finishes} {held = held} {faults = faults} {before = before} {now = now} {plan = plan} {view = view} {t = t} (Ok answer) kind walks done = record {
-  answer = work_prepares allows finishes (held before) (held now) (faults before) (faults now) plan view t answer kind walks.is done;
-  fetches = walks.fetches;
-  asked = walks.asked;
-  along = record { outcome = ready (view t); along = walks.along; answers = done };
-}
+pub prepares_work : {R W T : Type 0} {allows : R → List ℕ → Type 0} {finishes : W → Status → List ℕ → Type 0} {S : Type 0} {held : S →
+    Tells} {faults : S → Counts} {leads : S → FetchCall → S → Type 0} {before now : S} {plan : Plan R W} {view : T →
+    W} {t : T} (r : Result Reply NoMemory) → IsWork finishes → Walks allows held faults leads before now plan view (Ok t) →
+    IfOk r (λ answer. finishes (view t) answer.status answer.text.items) → Prepared allows finishes held faults leads before now (Some plan) r
+prepares_work {allows = allows} {finishes = finishes} {held = held} {faults = faults} {before = before} {now = now} {plan = plan} {view = view} {t = t} (Ok answer) kind walks done =
+    record {
+      answer = work_prepares allows finishes (held before) (held now) (faults before) (faults now) plan view t answer kind walks.is done;
+      fetches = walks.fetches;
+      asked = walks.asked;
+      along = record { outcome = ready (view t); along = walks.along; answers = done };
+    }
 prepares_work {plan = plan} {view = view} {t = t} (Err want) kind walks done = record {
   answer = tt;
   fetches = walks.fetches;
@@ -77,7 +84,10 @@ prepares_work {plan = plan} {view = view} {t = t} (Err want) kind walks done = r
 }
 
 -- a stop of the walk
-stop_prepares : {R W T : Type 0} (allows : R → List ℕ → Type 0) (finishes : W → Status → List ℕ → Type 0) (told told' : Tells) (before now : Counts) (plan : Plan R W) (view : T → W) (stop : Stop) (answer : Answer) → WalksTo allows told told' before now plan view (Err stop) → AnswersStop stop answer.status answer.text.items → Prepares allows finishes told before now (Some plan) answer
+stop_prepares : {R W T : Type 0} (allows : R → List ℕ → Type 0) (finishes : W → Status → List ℕ →
+    Type 0) (told told' : Tells) (before now : Counts) (plan : Plan R W) (view : T → W) (stop : JobFault) (answer : Reply) →
+    WalksTo allows told told' before now plan view (Err stop) → AnswersStop stop answer.status answer.text.items →
+    Prepares allows finishes told before now (Some plan) answer
 stop_prepares allows finishes told told' before now plan view S.NoMemory answer h line = absurd line
 stop_prepares allows finishes told told' before now plan view (S.Faulted file) answer h line = record {
   calls = record { outcome = faulted file; ends = h.1; answers = line };
@@ -94,23 +104,32 @@ stop_prepares allows finishes told told' before now plan view (S.Refused file wh
 }
 
 -- what a stopped walk asked for
-stop_asks : {R W T : Type 0} (allows : R → List ℕ → Type 0) (finishes : W → Status → List ℕ → Type 0) (plan : Plan R W) (view : T → W) (calls : List FetchCall) (stop : Stop) (status : Status) (text : List ℕ) → GoesTo allows plan view calls (Err stop) → AnswersStop stop status text → AsksTo allows finishes plan calls status text
+stop_asks : {R W T : Type 0} (allows : R → List ℕ → Type 0) (finishes : W → Status → List ℕ → Type 0) (plan : Plan R W) (view : T →
+    W) (calls : List FetchCall) (stop : JobFault) (status : Status) (text : List ℕ) → GoesTo allows plan view calls (Err stop) →
+    AnswersStop stop status text → AsksTo allows finishes plan calls status text
 stop_asks allows finishes plan view calls S.NoMemory status text h line = absurd line
 stop_asks allows finishes plan view calls (S.Faulted file) status text h line = record { outcome = faulted file; along = h; answers = line }
-stop_asks allows finishes plan view calls (S.Refused file why) status text h line = record { outcome = refused file h.0; along = h.2; answers = (line.0, (why.items, h.1, line.1)) }
+stop_asks allows finishes plan view calls (S.Refused file why) status text h line =
+    record { outcome = refused file h.0; along = h.2; answers = (line.0, (why.items, h.1, line.1)) }
 
-stop_short : {R W T : Type 0} (allows : R → List ℕ → Type 0) (plan : Plan R W) (view : T → W) (calls : List FetchCall) (stop : Stop) → GoesTo allows plan view calls (Err stop) → Along plan calls None
+stop_short : {R W T : Type 0} (allows : R → List ℕ → Type 0) (plan : Plan R W) (view : T → W) (calls : List FetchCall) (stop : JobFault) →
+    GoesTo allows plan view calls (Err stop) → Along plan calls None
 stop_short allows plan view calls S.NoMemory h = h
 stop_short allows plan view calls (S.Faulted file) h = along_weak plan calls (faulted file) h
 stop_short allows plan view calls (S.Refused file why) h = along_weak plan calls (refused file h.0) h.2
 
-pub prepares_stop : {R W T : Type 0} {allows : R → List ℕ → Type 0} {S : Type 0} {held : S → Tells} {faults : S → Counts} {leads : S → FetchCall → S → Type 0} {before now : S} {plan : Plan R W} {view : T → W} {stop : Stop} (finishes : W → Status → List ℕ → Type 0) (r : Result Answer NoMemory) → Walks allows held faults leads before now plan view (Err stop) → IfOk r (λ answer. AnswersStop stop answer.status answer.text.items) → Prepared allows finishes held faults leads before now (Some plan) r
-prepares_stop {allows = allows} {held = held} {faults = faults} {before = before} {now = now} {plan = plan} {view = view} {stop = stop} finishes (Ok answer) walks line = record {
-  answer = stop_prepares allows finishes (held before) (held now) (faults before) (faults now) plan view stop answer walks.is line;
-  fetches = walks.fetches;
-  asked = walks.asked;
-  along = stop_asks allows finishes plan view walks.fetches stop answer.status answer.text.items walks.along line;
-}
+pub prepares_stop : {R W T : Type 0} {allows : R → List ℕ → Type 0} {S : Type 0} {held : S → Tells} {faults : S → Counts} {leads : S → FetchCall → S →
+    Type 0} {before now : S} {plan : Plan R W} {view : T → W} {stop : JobFault} (finishes : W → Status → List ℕ → Type 0)
+    (r : Result Reply NoMemory) → Walks allows held faults leads before now plan view (Err stop) →
+    IfOk r (λ answer. AnswersStop stop answer.status answer.text.items) → Prepared allows finishes held faults leads before now (Some plan) r
+prepares_stop {allows = allows} {held = held} {faults = faults} {before = before} {now = now} {plan = plan} {view = view} {stop = stop} finishes
+    (Ok answer) walks line =
+    record {
+      answer = stop_prepares allows finishes (held before) (held now) (faults before) (faults now) plan view stop answer walks.is line;
+      fetches = walks.fetches;
+      asked = walks.asked;
+      along = stop_asks allows finishes plan view walks.fetches stop answer.status answer.text.items walks.along line;
+    }
 prepares_stop {allows = allows} {plan = plan} {view = view} {stop = stop} finishes (Err want) walks line = record {
   answer = tt;
   fetches = walks.fetches;
@@ -119,14 +138,18 @@ prepares_stop {allows = allows} {plan = plan} {view = view} {stop = stop} finish
 }
 
 -- the same of a plan that asks no shelf
-pub alone_work : {R W T : Type 0} {allows : R → List ℕ → Type 0} {finishes : W → Status → List ℕ → Type 0} {plan : Plan R W} {view : T → W} {t : T} (r : Result Answer NoMemory) → IsWork finishes → WalksAlone allows plan view (Ok t) → IfOk r (λ answer. finishes (view t) answer.status answer.text.items) → IfOk r (PreparesAlone allows finishes plan)
+pub alone_work : {R W T : Type 0} {allows : R → List ℕ → Type 0} {finishes : W → Status → List ℕ → Type 0} {plan : Plan R W} {view : T →
+    W} {t : T} (r : Result Reply NoMemory) → IsWork finishes → WalksAlone allows plan view (Ok t) →
+    IfOk r (λ answer. finishes (view t) answer.status answer.text.items) → IfOk r (PreparesAlone allows finishes plan)
 alone_work {allows = allows} {finishes = finishes} {plan = plan} {view = view} {t = t} (Ok answer) kind walks done = record {
   is = λ told before. work_prepares allows finishes told told before before plan view t answer kind (walks.is told before) done;
   along = record { outcome = ready (view t); along = walks.along; answers = done };
 }
 alone_work (Err want) kind walks done = tt
 
-pub alone_stop : {R W T : Type 0} {allows : R → List ℕ → Type 0} {plan : Plan R W} {view : T → W} {stop : Stop} (finishes : W → Status → List ℕ → Type 0) (r : Result Answer NoMemory) → WalksAlone allows plan view (Err stop) → IfOk r (λ answer. AnswersStop stop answer.status answer.text.items) → IfOk r (PreparesAlone allows finishes plan)
+pub alone_stop : {R W T : Type 0} {allows : R → List ℕ → Type 0} {plan : Plan R W} {view : T → W} {stop : JobFault} (finishes : W → Status → List ℕ →
+    Type 0) (r : Result Reply NoMemory) → WalksAlone allows plan view (Err stop) →
+    IfOk r (λ answer. AnswersStop stop answer.status answer.text.items) → IfOk r (PreparesAlone allows finishes plan)
 alone_stop {allows = allows} {plan = plan} {view = view} {stop = stop} finishes (Ok answer) walks line = record {
   is = λ told before. stop_prepares allows finishes told told before before plan view stop answer (walks.is told before) line;
   along = stop_asks allows finishes plan view [] stop answer.status answer.text.items walks.along line;
@@ -134,12 +157,17 @@ alone_stop {allows = allows} {plan = plan} {view = view} {stop = stop} finishes 
 alone_stop finishes (Err want) walks line = tt
 
 -- a job that asks no shelf, over any shelf
-pub prepares_alone : {R W : Type 0} {allows : R → List ℕ → Type 0} {finishes : W → Status → List ℕ → Type 0} {S : Type 0} {held : S → Tells} {faults : S → Counts} {leads : S → FetchCall → S → Type 0} {before : S} {plan : Plan R W} (r : Result Answer NoMemory) → IfOk r (PreparesAlone allows finishes plan) → Prepared allows finishes held faults leads before before (Some plan) r
-prepares_alone {held = held} {faults = faults} {before = before} (Ok answer) h = record { answer = h.is (held before) (faults before); fetches = []; asked = refl; along = h.along }
+pub prepares_alone : {R W : Type 0} {allows : R → List ℕ → Type 0} {finishes : W → Status → List ℕ → Type 0} {S : Type 0} {held : S →
+    Tells} {faults : S → Counts} {leads : S → FetchCall → S → Type 0} {before : S} {plan : Plan R W} (r : Result Reply NoMemory) →
+    IfOk r (PreparesAlone allows finishes plan) → Prepared allows finishes held faults leads before before (Some plan) r
+prepares_alone {held = held} {faults = faults} {before = before} (Ok answer) h =
+    record { answer = h.is (held before) (faults before); fetches = []; asked = refl; along = h.along }
 prepares_alone {plan = plan} (Err want) h = record { answer = tt; fetches = []; asked = refl; along = along_none plan }
 
 -- words that are no job
-words_prepare : {R W : Type 0} (allows : R → List ℕ → Type 0) (finishes : W → Status → List ℕ → Type 0) (told : Tells) (before : Counts) (answer : Answer) → RefusesWords answer.status answer.text.items → Prepares {R = R} allows finishes told before before None answer
+words_prepare : {R W : Type 0} (allows : R → List ℕ → Type 0) (finishes : W → Status → List ℕ →
+    Type 0) (told : Tells) (before : Counts) (answer : Reply) → RefusesWords answer.status answer.text.items → Prepares {R =
+    R} allows finishes told before before None answer
 words_prepare allows finishes told before answer refuses = record {
   calls = refuses;
   steady = λ _ name. refl;
@@ -149,11 +177,17 @@ words_prepare allows finishes told before answer refuses = record {
     words_no_write : T.Words ≡ T.WriteFault → ⊥
     words_no_write e = cc
 
-pub prepares_words : {R W : Type 0} {allows : R → List ℕ → Type 0} {finishes : W → Status → List ℕ → Type 0} {S : Type 0} {held : S → Tells} {faults : S → Counts} {leads : S → FetchCall → S → Type 0} {before : S} (r : Result Answer NoMemory) → IfOk r (λ answer. RefusesWords answer.status answer.text.items) → Prepared {R = R} allows finishes held faults leads before before None r
-prepares_words {allows = allows} {finishes = finishes} {held = held} {faults = faults} {before = before} (Ok answer) h = record { answer = words_prepare allows finishes (held before) (faults before) answer h; fetches = []; asked = refl; along = (refl, h) }
+pub prepares_words : {R W : Type 0} {allows : R → List ℕ → Type 0} {finishes : W → Status → List ℕ → Type 0} {S : Type 0} {held : S →
+    Tells} {faults : S → Counts} {leads : S → FetchCall → S → Type 0} {before : S} (r : Result Reply NoMemory) →
+    IfOk r (λ answer. RefusesWords answer.status answer.text.items) → Prepared {R =
+    R} allows finishes held faults leads before before None r
+prepares_words {allows = allows} {finishes = finishes} {held = held} {faults = faults} {before = before} (Ok answer) h =
+    record { answer = words_prepare allows finishes (held before) (faults before) answer h; fetches = []; asked = refl; along = (refl, h) }
 prepares_words (Err want) h = record { answer = tt; fetches = []; asked = refl; along = refl }
 
 -- words that could not be read for want of memory
-pub prepares_nothing : {R W : Type 0} {allows : R → List ℕ → Type 0} {finishes : W → Status → List ℕ → Type 0} {S : Type 0} {held : S → Tells} {faults : S → Counts} {leads : S → FetchCall → S → Type 0} {before : S} {want : NoMemory} (plan : Option (Plan R W)) → Prepared allows finishes held faults leads before before plan (Err want)
+pub prepares_nothing : {R W : Type 0} {allows : R → List ℕ → Type 0} {finishes : W → Status → List ℕ → Type 0} {S : Type 0} {held : S →
+    Tells} {faults : S → Counts} {leads : S → FetchCall → S → Type 0} {before : S} {want : NoMemory} (plan : Option (Plan R W)) →
+    Prepared allows finishes held faults leads before before plan (Err want)
 prepares_nothing None = record { answer = tt; fetches = []; asked = refl; along = refl }
 prepares_nothing (Some plan) = record { answer = tt; fetches = []; asked = refl; along = along_none plan }

@@ -4,9 +4,9 @@ use Rattle.std.specs.declared.alloc.Global.{Global}
 use Rattle.bs_outside.specs.Calls.{FetchCall}
 use Rattle.bs_outside.specs.declared.shelf.Fetch.{Fetch}
 use Rattle.bs_outside.specs.declared.shelf.Fetch.TheVariants as F
-use Rattle.bs_job.specs.declared.file.Status.{Status}
-use Rattle.bs_job.specs.declared.walk.Stop.{Stop}
-use Rattle.bs_job.specs.declared.walk.Stop.TheVariants.{NoMemory, Faulted, Refused}
+use Rattle.bs_job.specs.declared.status.Status.{Status}
+use Rattle.bs_job.specs.declared.walk.JobFault.{JobFault}
+use Rattle.bs_job.specs.declared.walk.JobFault.TheVariants.{NoMemory, Faulted, Refused}
 use Rattle.bs_job.specs.Files.{limit_of}
 use Rattle.bs_job.specs.Answers.{Answers, RefusesWords}
 use Rattle.bs_job.specs.Plan.{Wanted, Reason, exactly, Says, Plan, fetch, refuse, end, Outcome, ready, refused, faulted}
@@ -34,18 +34,19 @@ Along (refuse file why) calls outcome = (calls ≡ []) × IfSome outcome (λ o. 
 Along (fetch w next) calls outcome = FromFetch w calls outcome (λ bytes rest. Along (next bytes) rest outcome)
 
 -- the one fetch of a file, by what was made of its answer
-abbrev pub CallTo : Wanted → FetchCall → Result (Vec ℕ Global) Stop → Type 0
+abbrev pub CallTo : Wanted → FetchCall → Result (Vec ℕ Global) JobFault → Type 0
 CallTo w call (Ok bytes) = AsksFor w call × (call.answer ≡ F.Done) × (call.bytes ≡ bytes.items)
 CallTo w call (Err NoMemory) = AsksFor w call
 CallTo w call (Err (Faulted other)) = AsksFor w call × (call.answer ≡ F.Failed)
 CallTo w call (Err (Refused other why)) = AsksFor w call × (call.answer ≡ F.TooLong)
 
 -- the fetches go along the plan to this result
-abbrev pub GoesTo : {R T V : Type 0} → (R → List ℕ → Type 0) → Plan R V → (view : T → V) → List FetchCall → Result T Stop → Type 0
+abbrev pub GoesTo : {R T V : Type 0} → (R → List ℕ → Type 0) → Plan R V → (view : T → V) → List FetchCall → Result T JobFault → Type 0
 GoesTo allows plan view calls (Ok v) = Along plan calls (Some (ready (view v)))
 GoesTo allows plan view calls (Err NoMemory) = Along plan calls None
 GoesTo allows plan view calls (Err (Faulted file)) = Along plan calls (Some (faulted file))
-GoesTo {R = R} allows plan view calls (Err (Refused file why)) = (reason : Reason R) × Says allows reason why.items × Along plan calls (Some (refused file reason))
+GoesTo {R = R} allows plan view calls (Err (Refused file why)) =
+    (reason : Reason R) × Says allows reason why.items × Along plan calls (Some (refused file reason))
 
 -- the fetches go along the plan to an end that calls for this status and text
 pub record AsksTo {R W : Type 0} (allows : R → List ℕ → Type 0) (finishes : W → Status → List ℕ → Type 0) (plan : Plan R W) (calls : List FetchCall) (status : Status) (text : List ℕ) : Type 0 where

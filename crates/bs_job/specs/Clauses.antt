@@ -5,8 +5,8 @@ use Rattle.std.specs.Io.KnownBytes.{Appends}
 use Rattle.bs_outside.specs.Calls.{FetchCall, PutCall, InTurn}
 use Rattle.bs_outside.specs.Faults.{Rose}
 use Rattle.bs_job.specs.declared.file.File.{File}
-use Rattle.bs_job.specs.declared.file.Status.{Status}
-use Rattle.bs_job.specs.declared.file.Status.TheVariants.{Words, ReadFault, WriteFault}
+use Rattle.bs_job.specs.declared.status.Status.{Status}
+use Rattle.bs_job.specs.declared.status.Status.TheVariants.{Words, ReadFault, WriteFault}
 use Rattle.bs_job.specs.Files.{refusal_line, refusal_status}
 use Rattle.bs_job.specs.Plan.{Tells, Counts, Wanted, Reason, Plan, Outcome, refused, Ends, told_end, Reaches}
 use Rattle.bs_job.specs.Answers.{CallsFor, CallsByTold}

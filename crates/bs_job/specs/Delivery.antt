@@ -7,8 +7,8 @@ use Rattle.bs_outside.specs.Calls.{PutCall, put_call, InTurn}
 use Rattle.bs_outside.specs.Faults.{Rose}
 use Rattle.bs_outside.specs.declared.sink.Put.{Put}
 use Rattle.bs_outside.specs.declared.sink.Put.TheVariants.{Done, Failed}
-use Rattle.bs_job.specs.declared.file.Status.{Status}
-use Rattle.bs_job.specs.declared.file.Status.TheVariants.{WriteFault}
+use Rattle.bs_job.specs.declared.status.Status.{Status}
+use Rattle.bs_job.specs.declared.status.Status.TheVariants.{WriteFault}
 
 -- the text was written whole and its status answered, or its front, where a put failed
 pub record Delivers (status : Status) (text : List ℕ) (written_before written_now : Option (List ℕ)) (faults_before faults_now : ℕ) (answered : Status) : Type 0 where

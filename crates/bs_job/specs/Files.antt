@@ -1,9 +1,10 @@
--- The files of a job: the word that names each, its limit, the status of its refusal, and the exit codes (docs/FORMATS.md, "Statuses").
+-- The files of a job: the word that names each, its limit, and the status of its refusal (docs/FORMATS.md, "Statuses").
 use Rattle.std.specs.Prelude.{ℕ, List, ◌++◌, codes, Bool, true, false, Option, Some, None}
 use Rattle.bs_job.specs.declared.file.File.{File}
 use Rattle.bs_job.specs.declared.file.File.TheVariants.{Netlist, Signature, Stimulus, Dump, Report}
-use Rattle.bs_job.specs.declared.file.Status.{Status}
-use Rattle.bs_job.specs.declared.file.Status.TheVariants as S
+use Rattle.bs_job.specs.declared.limits.TheConstants.{MAX_NETLIST_BYTES, MAX_SIGNATURE_BYTES, MAX_STIMULUS_BYTES, MAX_DUMP_BYTES, MAX_REPORT_BYTES}
+use Rattle.bs_job.specs.declared.status.Status.{Status}
+use Rattle.bs_job.specs.declared.status.Status.TheVariants as S
 
 abbrev pub file_word : File → List ℕ
 file_word Netlist = codes "netlist"
@@ -12,13 +13,13 @@ file_word Stimulus = codes "stimulus"
 file_word Dump = codes "dump"
 file_word Report = codes "report"
 
--- the most bytes that the file may have: 16, 1, 64, 1 and 512 times 1,048,576
+-- the most bytes that the file may have
 abbrev pub limit_of : File → ℕ
-limit_of Netlist = 16777216
-limit_of Signature = 1048576
-limit_of Stimulus = 67108864
-limit_of Dump = 1048576
-limit_of Report = 536870912
+limit_of Netlist = MAX_NETLIST_BYTES
+limit_of Signature = MAX_SIGNATURE_BYTES
+limit_of Stimulus = MAX_STIMULUS_BYTES
+limit_of Dump = MAX_DUMP_BYTES
+limit_of Report = MAX_REPORT_BYTES
 
 abbrev pub refusal_status : File → Status
 refusal_status Netlist = S.Netlist
@@ -48,19 +49,3 @@ is_work_status _ = false
 -- `refused FILE WHY`, with its line feed
 abbrev pub refusal_line : File → List ℕ → List ℕ
 refusal_line file why = codes "refused " ++ (file_word file ++ (codes " " ++ (why ++ codes "\n")))
-
--- the exit code of the program
-abbrev pub code_of : Status → ℕ
-code_of S.Done = 0
-code_of S.Words = 2
-code_of S.Nohit = 3
-code_of S.Empty = 4
-code_of S.Spent = 5
-code_of S.Netlist = 6
-code_of S.Signature = 7
-code_of S.Stimulus = 8
-code_of S.Dump = 9
-code_of S.Report = 10
-code_of S.Rejected = 11
-code_of S.ReadFault = 12
-code_of S.WriteFault = 13

@@ -1,4 +1,5 @@
 pub mod Files
+pub mod Statuses
 pub mod Plan
 pub mod Answers
 pub mod Asking

@@ -1,6 +1,11 @@
-//! The files of a job, and the statuses of a call.
+//! The files of a job: the word that names each, its limit, and the status of its refusal.
 ghost use Rattle.std.specs.Prelude.{◌≡◌};
-ghost use Rattle.bs_job.specs.Files.{code_of, file_word, limit_of, refusal_status};
+ghost use Rattle.bs_job.specs.Files.{file_word, limit_of, refusal_status};
+
+use crate::limits::{
+    MAX_DUMP_BYTES, MAX_NETLIST_BYTES, MAX_REPORT_BYTES, MAX_SIGNATURE_BYTES, MAX_STIMULUS_BYTES,
+};
+use crate::status::Status;
 
 /// A file of a job. A job that has several fetches them in this order.
 #[derive(Clone, Copy, Debug, PartialEq, Eq)]
@@ -10,33 +15,6 @@ pub enum File {
     Stimulus,
     Dump,
     Report,
-}
-
-/// How a call ended. A status of a file's name says that this file is refused.
-#[derive(Clone, Copy, Debug, PartialEq, Eq)]
-pub enum Status {
-    /// A run stopped by length or reset; a report is accepted; a dump or a summary is written.
-    Done,
-    /// The words are no job.
-    Words,
-    /// A run stopped since no recorded run hits a listed state.
-    Nohit,
-    /// A run stopped since no candidate exists.
-    Empty,
-    /// A run stopped since a budget is spent.
-    Spent,
-    Netlist,
-    Signature,
-    Stimulus,
-    /// The dump is refused, or there is no such moment to dump.
-    Dump,
-    Report,
-    /// The report is not valid.
-    Rejected,
-    /// A fetch failed.
-    ReadFault,
-    /// A put failed.
-    WriteFault,
 }
 
 impl File {
@@ -58,10 +36,11 @@ impl File {
         ensures { result ≡ limit_of self }
     {
         match self {
-            File::Netlist => 16 << 20,
-            File::Signature | File::Dump => 1 << 20,
-            File::Stimulus => 64 << 20,
-            File::Report => 512 << 20,
+            File::Netlist => MAX_NETLIST_BYTES,
+            File::Signature => MAX_SIGNATURE_BYTES,
+            File::Stimulus => MAX_STIMULUS_BYTES,
+            File::Dump => MAX_DUMP_BYTES,
+            File::Report => MAX_REPORT_BYTES,
         }
     }
 
@@ -75,29 +54,6 @@ impl File {
             File::Stimulus => Status::Stimulus,
             File::Dump => Status::Dump,
             File::Report => Status::Report,
-        }
-    }
-}
-
-impl Status {
-    /// The exit code of the program. Want of memory, which has no status, is 14.
-    pub fn code(&self) -> u8
-        ensures { result ≡ code_of self.now }
-    {
-        match self {
-            Status::Done => 0,
-            Status::Words => 2,
-            Status::Nohit => 3,
-            Status::Empty => 4,
-            Status::Spent => 5,
-            Status::Netlist => 6,
-            Status::Signature => 7,
-            Status::Stimulus => 8,
-            Status::Dump => 9,
-            Status::Report => 10,
-            Status::Rejected => 11,
-            Status::ReadFault => 12,
-            Status::WriteFault => 13,
         }
     }
 }

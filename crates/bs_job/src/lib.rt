@@ -1,12 +1,18 @@
 //! A job as a plan: the files that it comes to one after the other, how it may end, and what is written for each end.
 #![tactic(auto)]
 
-mod answer;
 mod file;
+mod limits;
 mod output;
+mod reply;
+mod status;
 mod walk;
 
-pub use answer::{Answer, refused_words, stopped};
-pub use file::{File, Status};
+pub use file::File;
+pub use limits::{
+    MAX_DUMP_BYTES, MAX_NETLIST_BYTES, MAX_REPORT_BYTES, MAX_SIGNATURE_BYTES, MAX_STIMULUS_BYTES,
+};
 pub use output::deliver;
-pub use walk::{Refusal, Stop, fetch_file, settle};
+pub use reply::{Reply, refused_words, stopped};
+pub use status::{NO_MEMORY_CODE, Status};
+pub use walk::{JobFault, Refusal, fetch_file, settle};

@@ -3,8 +3,8 @@ ghost use Rattle.std.specs.Prelude.{◌≡◌, ◌≢◌, ◌<◌, ◌≤◌, �
 ghost use Rattle.bs_outside.specs.Putting.{Puts};
 ghost use Rattle.bs_job.specs.Delivery.{Delivers, put_lines_of, PutsLines, PutsTo};
 
-use crate::answer::Answer;
-use crate::file::Status;
+use crate::reply::Reply;
+use crate::status::Status;
 use bs_outside::{Put, Sink};
 
 /// The place of the first line feed, or the text's length where there is none.
@@ -60,7 +60,7 @@ fn put_lines<K: Sink>(text: &[u8], out: &mut K) -> Put
 
 /// Writes the text of an answer, a put for each line, and gives the answer's status. A put that fails is the last, and
 /// the status is then `WriteFault`.
-pub fn deliver<K: Sink>(answer: &Answer, out: &mut K) -> Status
+pub fn deliver<K: Sink>(answer: &Reply, out: &mut K) -> Status
     requires { answer.now.status ≢ Status.WriteFault }
     ensures sent { Delivers answer.now.status answer.now.text.items (K.written out.old) (K.written out.new) (K.faults out.old) (K.faults out.new) result }
     ensures lines { PutsLines K.leads out.old out.new answer.now.text.items result }

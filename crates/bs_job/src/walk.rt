@@ -1,6 +1,6 @@
 //! A plan is followed a file at a time, up to the first that stops it.
 ghost use Rattle.std.specs.Prelude.{◌≡◌};
-ghost use Rattle.bs_job.specs.declared.walk.Stop.TheVariants.{NoMemory as StopNoMemory};
+ghost use Rattle.bs_job.specs.declared.walk.JobFault.TheVariants.{NoMemory as FaultNoMemory};
 ghost use Rattle.bs_job.specs.declared.walk.Refusal.TheVariants.{NoMemory as ReadNoMemory};
 ghost use Rattle.bs_job.specs.Walks.{FetchedTo, IsTooLong, settled};
 
@@ -10,7 +10,7 @@ use std::alloc::{AllocError, Global};
 
 /// Why a job stops before it is ready.
 #[derive(Drop)]
-pub enum Stop {
+pub enum JobFault {
     NoMemory,
     /// A fetch of the file failed.
     Faulted(File),
@@ -18,19 +18,19 @@ pub enum Stop {
     Refused(File, Vec<u8>),
 }
 
-impl From<AllocError> for Stop {
-    ghost from_gives = { λ _ stop. stop ≡ StopNoMemory };
+impl From<AllocError> for JobFault {
+    ghost from_gives = { λ _ stop. stop ≡ FaultNoMemory };
 
-    fn from(_refused: AllocError) -> Stop {
-        Stop::NoMemory
+    fn from(_refused: AllocError) -> JobFault {
+        JobFault::NoMemory
     }
 }
 
-impl From<NoMemory> for Stop {
-    ghost from_gives = { λ _ stop. stop ≡ StopNoMemory };
+impl From<NoMemory> for JobFault {
+    ghost from_gives = { λ _ stop. stop ≡ FaultNoMemory };
 
-    fn from(_wanting: NoMemory) -> Stop {
-        Stop::NoMemory
+    fn from(_wanting: NoMemory) -> JobFault {
+        JobFault::NoMemory
     }
 }
 
@@ -59,13 +59,13 @@ impl From<NoMemory> for Refusal {
 }
 
 /// What a reader's answer is to the job: a refusal is one of this file.
-pub fn settle<T>(file: File, read: Result<T, Refusal>) -> Result<T, Stop>
+pub fn settle<T>(file: File, read: Result<T, Refusal>) -> Result<T, JobFault>
     ensures { result ≡ settled file read }
 {
     match read {
         Ok(value) => Ok(value),
-        Err(Refusal::NoMemory) => Err(Stop::NoMemory),
-        Err(Refusal::Why(why)) => Err(Stop::Refused(file, why)),
+        Err(Refusal::NoMemory) => Err(JobFault::NoMemory),
+        Err(Refusal::Why(why)) => Err(JobFault::Refused(file, why)),
     }
 }
 
@@ -75,21 +75,21 @@ pub fn fetch_file<S: Shelf>(
     shelf: &mut S,
     file: File,
     name: &str,
-) -> Result<Vec<u8>, Stop>
+) -> Result<Vec<u8>, JobFault>
     ensures { FetchedTo S.held S.faults S.leads shelf.old shelf.new file name.now result }
 {
     let mut bytes = Vec::new(alloc);
     match shelf.fetch(name, file.limit(), &mut bytes) {
         Fetch::Done => Ok(bytes),
-        Fetch::Failed => Err(Stop::Faulted(file)),
+        Fetch::Failed => Err(JobFault::Faulted(file)),
         Fetch::TooLong => too_long(alloc, file),
-        Fetch::NoMemory => Err(Stop::NoMemory),
+        Fetch::NoMemory => Err(JobFault::NoMemory),
     }
 }
 
 /// The refusal of a file that is longer than its limit.
-fn too_long<T>(alloc: Global, file: File) -> Result<T, Stop>
+fn too_long<T>(alloc: Global, file: File) -> Result<T, JobFault>
     ensures { IsTooLong file result }
 {
-    Err(Stop::Refused(file, b"TooLong".to_vec(alloc)?))
+    Err(JobFault::Refused(file, b"TooLong".to_vec(alloc)?))
 }

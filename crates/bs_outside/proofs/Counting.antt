@@ -6,8 +6,10 @@ use Rattle.bs_outside.specs.Faults.{Rose}
 use Rattle.bs_outside.specs.Fetching.{CountsFaults}
 use Rattle.bs_outside.specs.Opening.{fetch_faults}
 
-pub counts_all : (before now : ℕ) (name : List ℕ) (answer : Fetch) → now ≡ fetch_faults before answer → before ≤ now → CountsFaults (λ _. before) (λ _. now) name answer
-counts_all before now name answer counts later = record { later = λ _. later; steady = λ calm _. steady answer counts calm; failed = λ is. failed answer counts is }
+pub counts_all : (before now : ℕ) (name : List ℕ) (answer : Fetch) → now ≡ fetch_faults before answer → before ≤ now →
+    CountsFaults (λ _. before) (λ _. now) name answer
+counts_all before now name answer counts later =
+    record { later = λ _. later; steady = λ calm _. steady answer counts calm; failed = λ is. failed answer counts is }
   where
     steady : (a : Fetch) → now ≡ fetch_faults before a → a ≢ Failed → now ≡ before
     steady Done e calm = e

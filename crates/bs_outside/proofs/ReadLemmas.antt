@@ -41,7 +41,8 @@ pub record IsReading (limit left : ℕ) (left_before left_now : Option (List ℕ
 pub reading_starts : (limit : ℕ) (told : Option (List ℕ)) (old : List ℕ) → IsReading limit limit told told old old
 reading_starts limit told old = record { bytes = []; appended = sym (append-nil old); counted = omega arith; taken = consumes_none told }
 
-pub reading_more : {limit left most count : ℕ} {u v w : Option (List ℕ)} {old now new : List ℕ} → IsReading limit left u v old now → ReadsPiece v w now new most count → count ≤ left → IsReading limit (left - count) u w old new
+pub reading_more : {limit left most count : ℕ} {u v w : Option (List ℕ)} {old now new : List ℕ} → IsReading limit left u v old now →
+    ReadsPiece v w now new most count → count ≤ left → IsReading limit (left - count) u w old new
 reading_more {limit} {left} {most} {count} {u} {v} {w} {old} {now} {new} so_far piece within = record {
   bytes = so_far.bytes ++ piece.bytes;
   appended = piece.appended ∙ ap (λ (l : List ℕ). l ++ piece.bytes) so_far.appended ∙ append_assoc old so_far.bytes piece.bytes;
@@ -56,32 +57,39 @@ pub record HasRead (limit : ℕ) (left_before left_now : Option (List ℕ)) (old
   pub within : length new ≤ length old + (limit + 1)
 
 behind : (old new bytes : List ℕ) (u v : Option (List ℕ)) → new ≡ old ++ bytes → Consumes u v bytes → Consumes u v (appended_bytes old new)
-behind old new bytes u v appended taken = subst (λ (l : List ℕ). Consumes u v l) (sym (ap (λ (l : List ℕ). drop (length old) l) appended ∙ drop_at old bytes (length old) refl)) taken
+behind old new bytes u v appended taken =
+    subst (λ (l : List ℕ). Consumes u v l) (sym (ap (λ (l : List ℕ). drop (length old) l) appended ∙ drop_at old bytes (length old) refl)) taken
 
-pub reading_ends : {limit left most : ℕ} {u v w : Option (List ℕ)} {old now new : List ℕ} → IsReading limit left u v old now → ReadsPiece v w now new most 0 → HasRead limit u w old new Done
+pub reading_ends : {limit left most : ℕ} {u v w : Option (List ℕ)} {old now new : List ℕ} → IsReading limit left u v old now →
+    ReadsPiece v w now new most 0 → HasRead limit u w old new Done
 reading_ends {limit} {left} {most} {u} {v} {w} {old} {now} {new} so_far piece =
     let all : List ℕ = so_far.bytes ++ piece.bytes in
     let appended : new ≡ old ++ all = piece.appended ∙ ap (λ (l : List ℕ). l ++ piece.bytes) so_far.appended ∙ append_assoc old so_far.bytes piece.bytes in
     let taken : Consumes u w all = consumes_then u v w so_far.bytes piece.bytes so_far.taken piece.taken in
     record {
-      bytes = record { bytes = all; appended = appended; within = omega (arith, so_far.counted, piece.counted, length-append so_far.bytes piece.bytes); told = told_all u w all taken (piece.end refl) };
+      bytes =
+          record { bytes = all; appended = appended; within = omega (arith, so_far.counted, piece.counted, length-append so_far.bytes piece.bytes); told = told_all u w all taken (piece.end refl) };
       taken = λ _. behind old new all u w appended taken;
       within = omega (arith, ap length appended, length-append old all, length-append so_far.bytes piece.bytes, so_far.counted, piece.counted);
     }
 
-pub reading_over : {limit left most count : ℕ} {u v w : Option (List ℕ)} {old now new : List ℕ} → IsReading limit left u v old now → ReadsPiece v w now new most count → left < count → most ≤ left + 1 → HasRead limit u w old new TooLong
+pub reading_over : {limit left most count : ℕ} {u v w : Option (List ℕ)} {old now new : List ℕ} → IsReading limit left u v old now →
+    ReadsPiece v w now new most count → left < count → most ≤ left + 1 → HasRead limit u w old new TooLong
 reading_over {limit} {left} {most} {count} {u} {v} {w} {old} {now} {new} so_far piece over few =
     let all : List ℕ = so_far.bytes ++ piece.bytes in
     let appended : new ≡ old ++ all = piece.appended ∙ ap (λ (l : List ℕ). l ++ piece.bytes) so_far.appended ∙ append_assoc old so_far.bytes piece.bytes in
     let taken : Consumes u w all = consumes_then u v w so_far.bytes piece.bytes so_far.taken piece.taken in
     record {
-      bytes = record { bytes = all; appended = appended; beyond = omega (arith, so_far.counted, piece.counted, over, length-append so_far.bytes piece.bytes); told = told_front u w all taken };
+      bytes =
+          record { bytes = all; appended = appended; beyond = omega (arith, so_far.counted, piece.counted, over, length-append so_far.bytes piece.bytes); told = told_front u w all taken };
       taken = λ _. behind old new all u w appended taken;
-      within = omega (arith, ap length appended, length-append old all, length-append so_far.bytes piece.bytes, so_far.counted, piece.counted, piece.within, few);
+      within =
+          omega (arith, ap length appended, length-append old all, length-append so_far.bytes piece.bytes, so_far.counted, piece.counted, piece.within, few);
     }
 
 -- an answer without a piece
-pub reading_stops : {limit left : ℕ} {u v w : Option (List ℕ)} {old now new : List ℕ} (answer : Fetch) → IsReading limit left u v old now → ReadsNone v w now new answer → HasRead limit u w old new answer
+pub reading_stops : {limit left : ℕ} {u v w : Option (List ℕ)} {old now new : List ℕ} (answer : Fetch) → IsReading limit left u v old now →
+    ReadsNone v w now new answer → HasRead limit u w old new answer
 reading_stops {limit} {left} {u} {v} {w} {old} {now} {new} answer so_far none = by answer none.cause
   where
     appended : new ≡ old ++ so_far.bytes
@@ -96,7 +104,9 @@ reading_stops {limit} {left} {u} {v} {w} {old} {now} {new} answer so_far none = 
     by : (a : Fetch) → (a ≢ NoMemory → (a ≡ Failed) × Consumes v w []) → HasRead limit u w old new a
     by Failed cause = record {
       bytes = starts;
-      taken = λ _. behind old new so_far.bytes u w appended (subst (λ (l : List ℕ). Consumes u w l) (append-nil so_far.bytes) (consumes_then u v w so_far.bytes [] so_far.taken (cause (λ e. cc)).1));
+      taken =
+          λ _. behind old new so_far.bytes u w appended
+          (subst (λ (l : List ℕ). Consumes u w l) (append-nil so_far.bytes) (consumes_then u v w so_far.bytes [] so_far.taken (cause (λ e. cc)).1));
       within = within;
     }
     by NoMemory cause = record { bytes = starts; taken = λ other. absurd (other refl); within = within }

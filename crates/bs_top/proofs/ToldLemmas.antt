@@ -7,8 +7,8 @@ use Rattle.std.specs.Str.{bytes_eq}
 use Rattle.std.specs.declared.alloc.Global.{Global}
 use Rattle.bs_outside.specs.Files.{Files, held_in}
 use Rattle.bs_net.specs.Parts.{Parts}
-use Rattle.bs_job.specs.declared.walk.Stop.{Stop}
-use Rattle.bs_job.specs.declared.walk.Stop.TheVariants.{NoMemory}
+use Rattle.bs_job.specs.declared.walk.JobFault.{JobFault}
+use Rattle.bs_job.specs.declared.walk.JobFault.TheVariants.{NoMemory}
 use Rattle.bs_job.specs.declared.file.File.TheVariants as files
 use Rattle.bs_job.specs.Plan.{Tells, AllTold, with_texts, end, fetched, read_as, ◌>>=◌}
 use Rattle.bs_job.specs.Walks.{Walks, WalksAlone}
@@ -74,7 +74,7 @@ all_told netlist signature stimulus =
         (λ choice. told_then told (stimulus_of raw (codes "stimulus")) (λ (r : Stimulus). end record { raw = raw; choice = choice; runs = r }) (runs raw) (λ r. tt)))
 
 -- a walk over a shelf of the texts is one that asks no shelf
-pub alone_of : (number : ℕ) (before now : SureShelf) (listed : Files) (netlist signature stimulus : List ℕ) (result : Result CodePlaced Stop) →
+pub alone_of : (number : ℕ) (before now : SureShelf) (listed : Files) (netlist signature stimulus : List ℕ) (result : Result CodePlaced JobFault) →
     sure_files before ≡ listed → AreTexts listed netlist signature stimulus → netlist ≡ netlist_for number → signature ≡ signature_text → stimulus ≡ stimulus_for number →
     Walks CheckSays sure_held sure_faults sure_leads before now (placed_of demo_names 1 256) placed_in result →
     WalksAlone CheckSays (demo_of number) placed_in result

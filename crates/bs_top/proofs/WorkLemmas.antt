@@ -8,8 +8,8 @@ use Rattle.bs_report.specs.declared.report.Stop.TheVariants.{Reset, Length, Nohi
 use Rattle.bs_good.specs.declared.part.Part.{Part}
 use Rattle.bs_top.specs.Rejected.{finding_status}
 use Rattle.bs_net.specs.Parts.{Parts}
-use Rattle.bs_job.specs.declared.file.Status.{Status}
-use Rattle.bs_job.specs.declared.answer.Answer.{Answer}
+use Rattle.bs_job.specs.declared.status.Status.{Status}
+use Rattle.bs_job.specs.declared.reply.Reply.{Reply}
 use Rattle.bs_job.specs.Files.{is_work_status}
 use Rattle.bs_job.specs.Plan.{Tells, Counts, Plan}
 use Rattle.bs_job.specs.Walks.{Walks}
@@ -41,5 +41,5 @@ pub is_work : IsWork finishes
 is_work = record { status = work_status }
 
 -- the work that a walk made ready for, if it is done
-pub prepares_done : {S T : Type 0} {held : S → Tells} {faults : S → Counts} {leads : S → FetchCall → S → Type 0} {before now : S} {plan : Plan Parts Work} {view : T → Work} {t : T} (r : Result Answer NoMemory) → Walks CheckSays held faults leads before now plan view (Ok t) → IfOk r (λ answer. finishes (view t) answer.status answer.text.items) → Prepared CheckSays finishes held faults leads before now (Some plan) r
+pub prepares_done : {S T : Type 0} {held : S → Tells} {faults : S → Counts} {leads : S → FetchCall → S → Type 0} {before now : S} {plan : Plan Parts Work} {view : T → Work} {t : T} (r : Result Reply NoMemory) → Walks CheckSays held faults leads before now plan view (Ok t) → IfOk r (λ answer. finishes (view t) answer.status answer.text.items) → Prepared CheckSays finishes held faults leads before now (Some plan) r
 prepares_done r walks done = prepares_work r is_work walks done

@@ -14,8 +14,8 @@ use Rattle.bs_scan.specs.Crash.{Crash}
 use Rattle.bs_report.specs.Text.{report_text, HasReportText}
 use Rattle.bs_good.specs.declared.part.Part.{Part}
 use Rattle.bs_good.specs.Valid.{first_failing}
-use Rattle.bs_job.specs.declared.file.Status.{Status}
-use Rattle.bs_job.specs.declared.file.Status.TheVariants as S
+use Rattle.bs_job.specs.declared.status.Status.{Status}
+use Rattle.bs_job.specs.declared.status.Status.TheVariants as S
 use Rattle.bs_loop.specs.Bound.{HasBound}
 use Rattle.bs_entry.specs.Entry.{Setup, circuit_in, runs_in}
 use Rattle.bs_top.specs.Summary.{summary_text}

@@ -13,7 +13,7 @@ ghost use Rattle.bs_top.specs.Finishes.{crash_of, finishes, Finds};
 use bs_audit::Finding;
 use bs_bits::{end_line, push_number, push_piece};
 use bs_entry::{Claimed, Names, take_claimed};
-use bs_job::{Answer, Status, stopped};
+use bs_job::{Reply, Status, stopped};
 use bs_log::Why;
 use bs_outside::{NoMemory, Shelf};
 use bs_good::Part;
@@ -130,19 +130,19 @@ fn find(alloc: Global, claimed: &Claimed) -> Result<Finding, NoMemory>
 }
 
 /// What is written for a report.
-fn found(alloc: Global, claimed: &Claimed) -> Result<Answer, NoMemory>
+fn found(alloc: Global, claimed: &Claimed) -> Result<Reply, NoMemory>
     ensures { IfOk result (λ answer. finishes (to_audit (claimed_in claimed.now)) answer.status answer.text.items) }
 {
     let finding = find(alloc, claimed)?;
     let text = finding_text(alloc, finding)?;
-    Ok(Answer {
+    Ok(Reply {
         status: finding_status(finding),
         text,
     })
 }
 
 /// The answer of the command.
-pub fn audit<S: Shelf>(alloc: Global, shelf: &mut S, job: &AuditJob<'_>) -> Result<Answer, NoMemory>
+pub fn audit<S: Shelf>(alloc: Global, shelf: &mut S, job: &AuditJob<'_>) -> Result<Reply, NoMemory>
     ensures { Prepared CheckSays finishes S.held S.faults S.leads shelf.old shelf.new (Some (plan_of (Audit (audit_job job.now)))) result }
 {
     let names = Names {

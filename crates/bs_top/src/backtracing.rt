@@ -12,7 +12,7 @@ ghost use Rattle.bs_top.specs.Finishes.{crash_of, finishes, IsBacktrace, stop_st
 
 use bs_chip::Chip;
 use bs_entry::{Crashed, Names, Setup, take_crashed};
-use bs_job::{Answer, Status, stopped};
+use bs_job::{Reply, Status, stopped};
 use bs_loop::backtrace;
 use bs_outside::{NoMemory, Shelf};
 use bs_preimage::Preimage;
@@ -53,21 +53,21 @@ pub fn report_of(
 }
 
 /// What is written for a dump.
-fn reported(alloc: Global, crashed: &Crashed, budgets: &Budgets) -> Result<Answer, NoMemory>
+fn reported(alloc: Global, crashed: &Crashed, budgets: &Budgets) -> Result<Reply, NoMemory>
     requires { IsBudget budgets.now }
     ensures { IfOk result (λ answer. finishes (to_run budgets.now (crashed_in crashed.now)) answer.status answer.text.items) }
 {
     let report = report_of(alloc, &crashed.setup, &crashed.dump, budgets)?;
     let mut text = Vec::new(alloc);
     report.text(&mut text)?;
-    Ok(Answer {
+    Ok(Reply {
         status: stop_status(report.stop),
         text,
     })
 }
 
 /// The answer of the command.
-pub fn run<S: Shelf>(alloc: Global, shelf: &mut S, job: &RunJob<'_>) -> Result<Answer, NoMemory>
+pub fn run<S: Shelf>(alloc: Global, shelf: &mut S, job: &RunJob<'_>) -> Result<Reply, NoMemory>
     requires { IsBudget (budgets_of (run_job job.now)) }
     ensures { Prepared CheckSays finishes S.held S.faults S.leads shelf.old shelf.new (Some (plan_of (Run (run_job job.now)))) result }
 {

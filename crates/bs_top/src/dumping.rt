@@ -10,7 +10,7 @@ ghost use Rattle.bs_top.specs.Finishes.{dump_at, finishes};
 
 use bs_chip::Chip;
 use bs_entry::{Names, Placed, take_placed};
-use bs_job::{Answer, Status, stopped};
+use bs_job::{Reply, Status, stopped};
 use bs_outside::{NoMemory, Shelf};
 use bs_scan::Dump;
 use bs_words::DumpJob;
@@ -36,18 +36,18 @@ fn dump_text(alloc: Global, placed: &Placed) -> Result<Vec<u8>, NoMemory>
 }
 
 /// What is written for a moment.
-fn dumped(alloc: Global, placed: &Placed) -> Result<Answer, NoMemory>
+fn dumped(alloc: Global, placed: &Placed) -> Result<Reply, NoMemory>
     ensures { IfOk result (λ answer. finishes (to_dump (placed_in placed.now)) answer.status answer.text.items) }
 {
     let text = dump_text(alloc, placed)?;
-    Ok(Answer {
+    Ok(Reply {
         status: Status::Done,
         text,
     })
 }
 
 /// The answer of the command.
-pub fn dump<S: Shelf>(alloc: Global, shelf: &mut S, job: &DumpJob<'_>) -> Result<Answer, NoMemory>
+pub fn dump<S: Shelf>(alloc: Global, shelf: &mut S, job: &DumpJob<'_>) -> Result<Reply, NoMemory>
     ensures { Prepared CheckSays finishes S.held S.faults S.leads shelf.old shelf.new (Some (plan_of (Dump (dump_job job.now)))) result }
 {
     let names = Names {

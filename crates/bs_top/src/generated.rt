@@ -8,7 +8,7 @@ ghost use Rattle.bs_top.specs.Texts.{AreTexts};
 
 use bs_entry::{Names, Placed, take_placed};
 use bs_gen::{Job, make};
-use bs_job::Stop;
+use bs_job::JobFault;
 use bs_outside::SureShelf;
 use std::alloc::{AllocError, Global};
 
@@ -37,7 +37,7 @@ fn files(alloc: Global, job: &Job) -> Result<Vec<(String, Vec<u8>)>, AllocError>
 }
 
 /// What the texts of the number make ready: a setup, and the moment of run 1 at cycle 256. No shelf is asked.
-pub fn take_demo(alloc: Global, number: u64) -> Result<Placed, Stop>
+pub fn take_demo(alloc: Global, number: u64) -> Result<Placed, JobFault>
     ensures { WalksAlone CheckSays (demo_of number) placed_in result }
 {
     let job = make(alloc, number)?;

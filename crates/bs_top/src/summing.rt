@@ -12,7 +12,7 @@ use crate::dumping::dump_of;
 use crate::generated::take_demo;
 use crate::summary::summary_line;
 use bs_entry::Placed;
-use bs_job::{Answer, Status, stopped};
+use bs_job::{Reply, Status, stopped};
 use bs_outside::NoMemory;
 use bs_report::Budgets;
 use std::alloc::Global;
@@ -33,18 +33,18 @@ fn summary_of(alloc: Global, number: u64, placed: &Placed) -> Result<Vec<u8>, No
 }
 
 /// What is written for a generated job.
-fn summed(alloc: Global, number: u64, placed: &Placed) -> Result<Answer, NoMemory>
+fn summed(alloc: Global, number: u64, placed: &Placed) -> Result<Reply, NoMemory>
     ensures { IfOk result (λ answer. finishes (to_demo number (placed_in placed.now)) answer.status answer.text.items) }
 {
     let text = summary_of(alloc, number, placed)?;
-    Ok(Answer {
+    Ok(Reply {
         status: Status::Done,
         text,
     })
 }
 
 /// The answer of the command. It asks no shelf.
-pub fn demo(alloc: Global, number: u64) -> Result<Answer, NoMemory>
+pub fn demo(alloc: Global, number: u64) -> Result<Reply, NoMemory>
     ensures { IfOk result (PreparesAlone CheckSays finishes (plan_of (Demo number))) }
 {
     match take_demo(alloc, number) {

@@ -13,14 +13,14 @@ use crate::auditing::audit;
 use crate::backtracing::run;
 use crate::dumping::dump;
 use crate::summing::demo;
-use bs_job::{Answer, Status, deliver, refused_words};
+use bs_job::{Reply, Status, deliver, refused_words};
 use bs_outside::{NoMemory, Shelf, Sink};
 use bs_words::{Job, read_words};
 use std::alloc::Global;
 
 /// What is to be answered and written.
 #[tactic(auto, using(crate::proofs::AskedLemmas::budget_is))]
-fn prepare<S: Shelf>(alloc: Global, words: &[String], shelf: &mut S) -> Result<Answer, NoMemory>
+fn prepare<S: Shelf>(alloc: Global, words: &[String], shelf: &mut S) -> Result<Reply, NoMemory>
     ensures { Prepared CheckSays finishes S.held S.faults S.leads shelf.old shelf.new (option_map plan_of (job_of (map string_bytes words.now))) result }
 {
     match read_words(alloc, words)? {

@@ -3,4 +3,6 @@ use Rattle.bs_outside.proofs.Counting.{counts_all}
 use Rattle.bs_outside.proofs.files.FileShelfShelf.fetch.Goals as goal
 
 pub returns-clause-cause : goal.returns-clause-cause
-returns-clause-cause g c = counts_all c.args.self.now c.fetch_opened.new.faults _ _ (cc (c.self.view_is, c.fetch_opened.ensures.counts)) (omega (arith, c.self.view_is, c.fetch_opened.ensures.later))
+returns-clause-cause g c =
+    counts_all c.args.self.now c.fetch_opened.new.faults _ _ (cc (c.self.view_is, c.fetch_opened.ensures.counts))
+    (omega (arith, c.self.view_is, c.fetch_opened.ensures.later))

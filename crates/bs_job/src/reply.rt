@@ -4,15 +4,16 @@ ghost use Rattle.bs_job.specs.Prepared.{AnswersStop};
 ghost use Rattle.bs_job.specs.Answers.{RefusesWords};
 ghost use Rattle.bs_job.specs.Files.{refusal_line};
 
-use crate::file::{File, Status};
-use crate::walk::Stop;
+use crate::file::File;
+use crate::status::Status;
+use crate::walk::JobFault;
 use bs_bits::push_piece;
 use bs_outside::NoMemory;
 use std::alloc::Global;
 
 /// A status, and the text that is to be written with it.
 #[derive(Drop)]
-pub struct Answer {
+pub struct Reply {
     pub status: Status,
     pub text: Vec<u8>,
 }
@@ -31,30 +32,30 @@ fn refusal_line(alloc: Global, file: File, why: &[u8]) -> Result<Vec<u8>, NoMemo
 }
 
 /// The answer of a job that stopped: its refusal line.
-pub fn stopped(alloc: Global, stop: Stop) -> Result<Answer, NoMemory>
+pub fn stopped(alloc: Global, stop: JobFault) -> Result<Reply, NoMemory>
     ensures { IfOk result (λ answer. AnswersStop stop answer.status answer.text.items) }
 {
     match stop {
-        Stop::NoMemory => Err(NoMemory),
-        Stop::Faulted(file) => refused(alloc, Status::ReadFault, file, b"ReadFault"),
-        Stop::Refused(file, why) => refused(alloc, file.refusal(), file, &why),
+        JobFault::NoMemory => Err(NoMemory),
+        JobFault::Faulted(file) => refused(alloc, Status::ReadFault, file, b"ReadFault"),
+        JobFault::Refused(file, why) => refused(alloc, file.refusal(), file, &why),
     }
 }
 
 /// A status with the refusal line of a file.
-fn refused(alloc: Global, status: Status, file: File, why: &[u8]) -> Result<Answer, NoMemory>
+fn refused(alloc: Global, status: Status, file: File, why: &[u8]) -> Result<Reply, NoMemory>
     ensures status { IfOk result (λ answer. answer.status ≡ status) }
     ensures text { IfOk result (λ answer. answer.text.items ≡ refusal_line file why.now) }
 {
     let text = refusal_line(alloc, file, why)?;
-    Ok(Answer { status, text })
+    Ok(Reply { status, text })
 }
 
 /// The answer to words that are no job.
-pub fn refused_words(alloc: Global) -> Result<Answer, NoMemory>
+pub fn refused_words(alloc: Global) -> Result<Reply, NoMemory>
     ensures { IfOk result (λ answer. RefusesWords answer.status answer.text.items) }
 {
-    Ok(Answer {
+    Ok(Reply {
         status: Status::Words,
         text: b"refused words\n".to_vec(alloc)?,
     })
