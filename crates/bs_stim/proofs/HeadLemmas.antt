@@ -1,12 +1,12 @@
 -- The first line of a run.
-use Rattle.std.proofs.Common.{◌≡◌, ℕ, suc, zero, ◌<◌, ◌≤◌, ◌+◌, ◌-◌, ◌*◌, Bool, true, false, cond, not, ◌&&◌, List, [], ◌∷◌, ◌++◌, length, take, get_or, refl, arith, ap, sym, subst, ◌∙◌, Option, Some, None, min, add-one}
-use Rattle.std.specs.Prelude.{◌==◌, fold, nat_lt, nat_le, IsTrue, Result, Ok, Err}
-use Rattle.std.specs.List.{list_all}
-use Rattle.std.specs.Str.{IsUtf8, IsAscii}
-use Rattle.std.proofs.lemmas.Bool.{true≢false, leb-true, and_parts}
+use Rattle.std.proofs.Common.{◌≡◌, ℕ, suc, zero, ◌<◌, ◌+◌, ◌-◌, ◌*◌, Bool, true, false, cond, ◌&&◌, List, [], ◌∷◌, length, take, get_or, refl, arith, ap, sym, ◌∙◌, None, min}
+use Rattle.std.specs.Prelude.{◌==◌, fold, nat_lt, nat_le}
+use Rattle.std.specs.Str.{IsUtf8}
+use Rattle.std.proofs.lemmas.Bool.{leb-true, and_parts}
 use Rattle.std.proofs.lemmas.Str.{IsUtf8-from_ascii}
 use Rattle.bs_bits.specs.Lines.{words_of, onto_first, is_name, is_visible, number_of}
-use Rattle.bs_stim.specs.StimulusText.{Head, head, head_of}
+use Rattle.bs_stim.specs.declared.limits.TheConstants.{MAX_CYCLES}
+use Rattle.bs_stim.specs.StimulusText.{head_of}
 
 -- ---- words
 
@@ -48,9 +48,11 @@ after_more n [] i h = absurd (omega arith)
 after_more n (d ∷ ds) zero h = refl
 after_more n (d ∷ ds) (suc i) h = after_more (10 * n + (d - 48)) ds i (omega arith)
 
-least : (cycles n d m : ℕ) → cycles ≡ min 65537 n → m ≡ 10 * n + d → min (10 * cycles + d) 65537 ≡ min 65537 m
+least : (cycles n d m : ℕ) → cycles ≡ min (MAX_CYCLES + 1) n → m ≡ 10 * n + d → min (10 * cycles + d) (MAX_CYCLES + 1) ≡ min (MAX_CYCLES + 1) m
 least cycles n d m e f = omega arith
 
-pub number_more : (cycles : ℕ) (ds : List ℕ) (i : ℕ) → i < length ds → cycles ≡ min 65537 (number_of (take i ds)) →
-    min (10 * cycles + (get_or ds i 0 - 48)) 65537 ≡ min 65537 (number_of (take (i + 1) ds))
-number_more cycles ds i h e = rw add-one (least cycles (number_of (take i ds)) (get_or ds i 0 - 48) (number_of (take (suc i) ds)) e (after_more 0 ds i h))
+pub number_more : (cycles : ℕ) (ds : List ℕ) (i : ℕ) → i < length ds → cycles ≡ min (MAX_CYCLES + 1) (number_of (take i ds)) →
+    min (10 * cycles + (get_or ds i 0 - 48)) (MAX_CYCLES + 1) ≡ min (MAX_CYCLES + 1) (number_of (take (i + 1) ds))
+number_more cycles ds i h e =
+    let next : i + 1 ≡ suc i = omega arith in
+    least cycles (number_of (take i ds)) (get_or ds i 0 - 48) (number_of (take (i + 1) ds)) e (ap (λ k. number_of (take k ds)) next ∙ after_more 0 ds i h)

@@ -1,5 +1,6 @@
 pub mod HeadLemmas
 pub mod RunLemmas
 pub mod WritingLemmas
-pub mod LineTextLemmas
+pub mod PackingLemmas
+pub mod CharacterLemmas
 pub mod ReadBackLemmas

@@ -1,20 +1,22 @@
 -- The text of runs stands for them.
-use Rattle.std.proofs.Common.{◌≡◌, ℕ, zero, suc, ◌<◌, ◌≤◌, ◌+◌, Bool, true, false, cond, not, ◌&&◌, List, [], ◌∷◌, ◌++◌, map, length, refl, arith, ap, sym, ◌∙◌, Option, Some, None, append_assoc}
-use Rattle.std.specs.Prelude.{◌==◌, codes, decimal, nat_le, nat_lt, Result, Ok, Err, IsTrue, All}
+use Rattle.std.proofs.Common.{◌≡◌, ℕ, ◌<◌, ◌≤◌, ◌+◌, Bool, true, false, cond, not, List, [], ◌∷◌, ◌++◌, map, length, refl, arith, ap, sym, ◌∙◌, Some, None, append_assoc}
+use Rattle.std.specs.Prelude.{codes, decimal, nat_le, nat_lt, Result, Ok, Err, All}
 use Rattle.std.specs.List.{flat_map}
 use Rattle.std.specs.Str.{bytes_eq}
-use Rattle.std.proofs.lemmas.Bool.{and_parts, and_from, le-leb, eq-eqb, lt-leb, le-ltb, true≢false}
+use Rattle.std.proofs.lemmas.Bool.{and_parts, and_from, le-leb, eq-eqb, lt-leb, le-ltb}
 use Rattle.std.proofs.lemmas.List.Elements.{All-head, All-tail}
 use Rattle.bs_bits.specs.Text.{bits_text, bits_of}
-use Rattle.bs_bits.specs.Lines.{line, lines_of, words_of, is_name, is_visible, is_canonical, number_of}
+use Rattle.bs_bits.specs.Reading.{◌>>=◌}
+use Rattle.bs_stim.specs.declared.limits.TheConstants.{MAX_RUNS, MAX_CYCLES, MAX_NAME}
+use Rattle.bs_bits.specs.Lines.{line, lines_of, words_of, is_name, is_visible, number_of}
 use Rattle.bs_bits.proofs.TextLemmas.{bits_again}
 use Rattle.bs_stim.specs.declared.fault.StimFault.{StimFault}
 use Rattle.bs_stim.specs.declared.fault.StimFault.TheVariants.{Line, Width, Count, TooManyRuns, TooManyCycles}
-use Rattle.bs_stim.specs.Runs.{Recorded, Stimulus, IsRecorded, IsStimulus}
-use Rattle.bs_stim.specs.StimulusText.{◌>>=◌, First, Head, Rest, head, first, head_of, is_head, first_of, input_of, of_width, end_of, rest_of, runs_of, stimulus_of, head_text, inputs_text, run_text, stimulus_text}
+use Rattle.bs_stim.specs.Runs.{Recorded, Stimulus, IsRecorded}
+use Rattle.bs_stim.specs.StimulusText.{First, Head, Rest, head, first, head_of, is_head, first_of, input_of, of_width, rest_of, stimulus_of, head_text, inputs_text, run_text}
 use Rattle.bs_stim.specs.Law.{StimuliReadBack}
 use Rattle.bs_stim.proofs.RunLemmas.{onto, named}
-use Rattle.bs_stim.proofs.LineTextLemmas.{Lacks, lacks_append, line_first, bits_lack_feed, word_first, word_only, visible_lacks, digits_lack, canonical_digits}
+use Rattle.bs_bits.proofs.LineTextLemmas.{Lacks, lacks_append, line_first, bits_lack_feed, word_first, word_only, visible_lacks, digits_lack, canonical_digits}
 use Rattle.bs_bits.proofs.NumberLemmas.{decimal_canonical, number_of_decimal}
 
 abbrev only_runs : Rest → Result (List Recorded) StimFault
@@ -34,14 +36,14 @@ lines_of_inputs (x ∷ xs) rest =
 name_visible : (name : List ℕ) → is_name name ≡ true → is_visible name ≡ true
 name_visible name e = (and_parts (nat_lt 0 (length name)) (is_visible name) e).1
 
-head_lacks_feed : (run : Recorded) → is_name run.name ≡ true → length run.inputs ≤ 65536 → Lacks 10 (head_text run)
+head_lacks_feed : (run : Recorded) → is_name run.name ≡ true → length run.inputs ≤ MAX_CYCLES → Lacks 10 (head_text run)
 head_lacks_feed run e few =
     lacks_append 10 (codes "run ") (run.name ++ (codes " " ++ decimal (length run.inputs))) (refl, (refl, (refl, (refl, tt))))
     (lacks_append 10 run.name (codes " " ++ decimal (length run.inputs)) (visible_lacks 10 run.name (omega arith) (name_visible run.name e))
     (lacks_append 10 (codes " ") (decimal (length run.inputs)) (refl, tt)
     (digits_lack 10 (decimal (length run.inputs)) (omega arith) (canonical_digits (decimal (length run.inputs)) (decimal_canonical (length run.inputs) (omega (arith, few)))))))
 
-lines_of_run : (run : Recorded) (rest : List ℕ) → is_name run.name ≡ true → length run.inputs ≤ 65536 →
+lines_of_run : (run : Recorded) (rest : List ℕ) → is_name run.name ≡ true → length run.inputs ≤ MAX_CYCLES →
     lines_of (run_text run ++ rest) ≡ head_text run ∷ (map bits_text run.inputs ++ codes "end" ∷ lines_of rest)
 lines_of_run run rest e few =
     ap lines_of (append_assoc (line (head_text run)) (inputs_text run.inputs ++ line (codes "end")) rest)
@@ -53,28 +55,28 @@ lines_of_run run rest e few =
 
 -- ---- the first line
 
-words_of_head : (run : Recorded) → is_name run.name ≡ true → length run.inputs ≤ 65536 → words_of (head_text run) ≡ codes "run" ∷ run.name ∷ decimal (length run.inputs) ∷ []
+words_of_head : (run : Recorded) → is_name run.name ≡ true → length run.inputs ≤ MAX_CYCLES → words_of (head_text run) ≡ codes "run" ∷ run.name ∷ decimal (length run.inputs) ∷ []
 words_of_head run e few =
     let number : List ℕ = decimal (length run.inputs) in
     let last : words_of number ≡ number ∷ [] = word_only number (digits_lack 32 number (omega arith) (canonical_digits number (decimal_canonical (length run.inputs) (omega (arith, few))))) in
     let name : words_of (run.name ++ 32 ∷ number) ≡ run.name ∷ words_of number = word_first run.name number (visible_lacks 32 run.name (omega arith) (name_visible run.name e)) in
     word_first (codes "run") (run.name ++ 32 ∷ number) (refl, (refl, (refl, tt))) ∙ ap (λ ws. codes "run" ∷ ws) (name ∙ ap (λ ws. run.name ∷ ws) last)
 
-head_is : (name : List ℕ) (n : ℕ) → is_name name ≡ true → length name ≤ 64 → n ≤ 65536 → is_head (head (codes "run") name (decimal n)) ≡ true
+head_is : (name : List ℕ) (n : ℕ) → is_name name ≡ true → length name ≤ MAX_NAME → n ≤ MAX_CYCLES → is_head (head (codes "run") name (decimal n)) ≡ true
 head_is name n e short few =
-    and_from _ _ (and_from _ _ (and_from (bytes_eq (codes "run") (codes "run")) (is_name name) refl e) (le-leb (length name) 64 short)) (decimal_canonical n (omega (arith, few)))
+    and_from _ _ (and_from _ _ (and_from (bytes_eq (codes "run") (codes "run")) (is_name name) refl e) (le-leb (length name) MAX_NAME short)) (decimal_canonical n (omega (arith, few)))
 
-first_back : (number begun : ℕ) (run : Recorded) → begun < 256 → is_name run.name ≡ true → length run.name ≤ 64 → length run.inputs ≤ 65536 →
+first_back : (number begun : ℕ) (run : Recorded) → begun < MAX_RUNS → is_name run.name ≡ true → length run.name ≤ MAX_NAME → length run.inputs ≤ MAX_CYCLES →
     first_of number begun (head_of (words_of (head_text run))) ≡ Ok (first run.name (length run.inputs))
 first_back number begun run room e short few =
     let n : ℕ = length run.inputs in
     let words : Head = head (codes "run") run.name (decimal n) in
     let same : number_of (decimal n) ≡ n = number_of_decimal n (omega (arith, few)) in
     ap (λ ws. first_of number begun (head_of ws)) (words_of_head run e few)
-    ∙ (ap (λ b. cond {A = Result First StimFault} (not b) (Err (Line number)) (cond (nat_le 256 begun) (Err (TooManyRuns number)) (cond (nat_lt 65536 (number_of (decimal n))) (Err (TooManyCycles number)) (Ok (first run.name (number_of (decimal n))))))) (head_is run.name n e short few)
-    ∙ (ap (λ b. cond {A = Result First StimFault} b (Err (TooManyRuns number)) (cond (nat_lt 65536 (number_of (decimal n))) (Err (TooManyCycles number)) (Ok (first run.name (number_of (decimal n)))))) (lt-leb 256 begun room)
-    ∙ (ap (λ m. cond {A = Result First StimFault} (nat_lt 65536 m) (Err (TooManyCycles number)) (Ok (first run.name m))) same
-    ∙ ap (λ b. cond {A = Result First StimFault} b (Err (TooManyCycles number)) (Ok (first run.name n))) (le-ltb 65536 n few))))
+    ∙ (ap (λ b. cond {A = Result First StimFault} (not b) (Err (Line number)) (cond (nat_le MAX_RUNS begun) (Err (TooManyRuns number)) (cond (nat_lt MAX_CYCLES (number_of (decimal n))) (Err (TooManyCycles number)) (Ok (first run.name (number_of (decimal n))))))) (head_is run.name n e short few)
+    ∙ (ap (λ b. cond {A = Result First StimFault} b (Err (TooManyRuns number)) (cond (nat_lt MAX_CYCLES (number_of (decimal n))) (Err (TooManyCycles number)) (Ok (first run.name (number_of (decimal n)))))) (lt-leb MAX_RUNS begun room)
+    ∙ (ap (λ m. cond {A = Result First StimFault} (nat_lt MAX_CYCLES m) (Err (TooManyCycles number)) (Ok (first run.name m))) same
+    ∙ ap (λ b. cond {A = Result First StimFault} b (Err (TooManyCycles number)) (Ok (first run.name n))) (le-ltb MAX_CYCLES n few))))
 
 -- ---- inputs
 
@@ -101,7 +103,7 @@ inputs_back width n m begun (x ∷ xs) more runs all e back =
 
 -- ---- runs
 
-run_back : (width number m begun : ℕ) (run : Recorded) (runs : List Recorded) (more : List (List ℕ)) → begun < 256 → IsRecorded width run → m ≡ number + length run.inputs + 2 →
+run_back : (width number m begun : ℕ) (run : Recorded) (runs : List Recorded) (more : List (List ℕ)) → begun < MAX_RUNS → IsRecorded width run → m ≡ number + length run.inputs + 2 →
     rest_of width m (begun + 1) None more ≡ Ok (record { inputs = []; runs = runs }) →
     rest_of width number begun None (head_text run ∷ (map bits_text run.inputs ++ codes "end" ∷ more)) ≡ Ok (record { inputs = []; runs = run ∷ runs })
 unfolding rest_of
@@ -110,7 +112,7 @@ run_back width number m begun run runs more room h e back =
     ap (λ o. o >>= λ first. rest_of width (number + 1) (begun + 1) (Some first.cycles) texts >>= named first.name) (first_back number begun run room h.named h.short_name h.few_cycles)
     ∙ ap (λ o. o >>= named run.name) (inputs_back width (number + 1) m (begun + 1) run.inputs more runs h.widths (omega (arith, e)) back)
 
-runs_back : (width number begun : ℕ) (runs : List Recorded) → begun + length runs ≤ 256 → All (IsRecorded width) runs →
+runs_back : (width number begun : ℕ) (runs : List Recorded) → begun + length runs ≤ MAX_RUNS → All (IsRecorded width) runs →
     rest_of width number begun None (lines_of (flat_map run_text runs)) ≡ Ok (record { inputs = []; runs = runs })
 unfolding rest_of
 runs_back width number begun [] few all = refl
@@ -120,7 +122,7 @@ runs_back width number begun (run ∷ runs) few all =
     ∙ run_back width number (number + length run.inputs + 2) begun run runs (lines_of (flat_map run_text runs)) (omega (arith, few)) h refl
     (runs_back width (number + length run.inputs + 2) (begun + 1) runs (omega (arith, few)) (All-tail (IsRecorded width) run runs all))
 
-some_back : (width : ℕ) (runs : List Recorded) → 1 ≤ length runs → length runs ≤ 256 → All (IsRecorded width) runs →
+some_back : (width : ℕ) (runs : List Recorded) → 1 ≤ length runs → length runs ≤ MAX_RUNS → All (IsRecorded width) runs →
     stimulus_of width (lines_of (flat_map run_text runs)) ≡ Ok (record { width = width; runs = runs })
 some_back width [] some few all = absurd (omega arith)
 some_back width (run ∷ runs) some few all =

@@ -1,12 +1,13 @@
 -- The lines of a stimulus, run by run.
-use Rattle.std.proofs.Common.{◌≡◌, ◌⊎◌, inl, inr, ℕ, suc, zero, ◌<◌, ◌≤◌, ◌+◌, ◌-◌, Bool, true, false, List, [], ◌∷◌, ◌++◌, length, refl, arith, ap, sym, subst, ◌∙◌, Option, Some, None, append-nil, append_assoc}
+use Rattle.std.proofs.Common.{◌≡◌, ◌⊎◌, inl, inr, ℕ, suc, zero, ◌<◌, ◌≤◌, ◌+◌, ◌-◌, Bool, true, false, List, [], ◌∷◌, ◌++◌, length, refl, arith, ap, sym, ◌∙◌, Some, None, append-nil, append_assoc}
 use Rattle.std.specs.Prelude.{◌==◌, cond, Result, Ok, Err}
 use Rattle.bs_bits.specs.Lines.{words_of, lines_of, onto_first}
+use Rattle.bs_bits.specs.Reading.{◌>>=◌}
 use Rattle.bs_stim.specs.declared.fault.StimFault.{StimFault}
 use Rattle.bs_stim.specs.declared.fault.StimFault.TheVariants.{Count, NoRun, NoMemory}
 use Rattle.bs_stim.specs.Runs.{Recorded}
-use Rattle.bs_stim.specs.StimulusText.{◌>>=◌, First, Rest, head_of, first_of, input_of, end_of, rest_of, runs_of}
-use Rattle.bs_stim.specs.RunText.{Taken, taken, inputs_from, end_from, run_from, with_runs, with_inputs}
+use Rattle.bs_stim.specs.StimulusText.{First, Rest, head_of, first_of, input_of, end_of, rest_of, runs_of}
+use Rattle.bs_stim.specs.RunText.{AreShort, Taken, taken, inputs_from, end_from, run_from, with_runs, with_inputs}
 
 -- ---- inputs
 
@@ -268,3 +269,18 @@ lines_within (b ∷ bs) = by (b == 10) (lines_of bs) (lines_within bs)
     by true ls h = omega arith
     by false [] h = omega arith
     by false (l ∷ ls) h = omega arith
+
+shorter : (m n : ℕ) → m ≤ n → (lines : List (List ℕ)) → AreShort m lines → AreShort n lines
+shorter m n le [] h = tt
+shorter m n le (l ∷ ls) h = (omega (arith, le, h.0), shorter m n le ls h.1)
+
+-- no line is longer than the text
+pub lines_short : (bs : List ℕ) (n : ℕ) → length bs ≤ n → AreShort n (lines_of bs)
+lines_short [] n le = tt
+lines_short (b ∷ bs) zero le = absurd (omega (arith, le))
+lines_short (b ∷ bs) (suc n) le = by (b == 10) (lines_of bs) (lines_short bs n (omega (arith, le)))
+  where
+    by : (z : Bool) (ls : List (List ℕ)) → AreShort n ls → AreShort (suc n) (cond z ([] ∷ ls) (onto_first b ls))
+    by true ls h = (omega arith, shorter n (suc n) (omega arith) ls h)
+    by false [] h = (omega arith, tt)
+    by false (l ∷ ls) h = (omega (arith, h.0), shorter n (suc n) (omega arith) ls h.1)

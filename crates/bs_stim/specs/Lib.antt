@@ -4,4 +4,5 @@ pub mod StimulusText
 pub mod Law
 -- what inner functions promise each other
 pub mod RunText
+pub mod Packing
 pub mod Appending

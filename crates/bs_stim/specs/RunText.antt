@@ -1,16 +1,23 @@
 -- One run of a stimulus text: what the functions that read it promise each other.
 use Rattle.std.specs.Prelude.{ℕ, zero, suc, ◌+◌, ◌≤◌, Bool, IsTrue, length, List, [], ◌∷◌, ◌++◌, Result, Ok, Err}
+use Rattle.std.specs.List.{AllByRecursion}
 use Rattle.bs_bits.specs.Lines.{words_of, is_name}
+use Rattle.bs_bits.specs.Reading.{◌>>=◌}
+use Rattle.bs_stim.specs.declared.limits.TheConstants.{MAX_CYCLES, MAX_NAME}
 use Rattle.bs_stim.specs.declared.fault.StimFault.{StimFault}
 use Rattle.bs_stim.specs.declared.fault.StimFault.TheVariants.{Count}
 use Rattle.bs_stim.specs.Runs.{Recorded}
-use Rattle.bs_stim.specs.StimulusText.{◌>>=◌, First, Rest, head_of, first_of, input_of, end_of}
+use Rattle.bs_stim.specs.StimulusText.{First, Rest, head_of, first_of, input_of, end_of}
 
 -- what is right of a first line that is accepted
-pub record IsFirst (first : First) : Type 0 where
+pub record IsFirstLine (first : First) : Type 0 where
   pub named : IsTrue (is_name first.name)
-  pub short_name : length first.name ≤ 64
-  pub few_cycles : first.cycles ≤ 65536
+  pub short_name : length first.name ≤ MAX_NAME
+  pub few_cycles : first.cycles ≤ MAX_CYCLES
+
+-- no line has more than so many bytes
+abbrev pub AreShort : ℕ → List (List ℕ) → Type 0
+AreShort most lines = AllByRecursion (λ text. length text ≤ most) lines
 
 -- a value, and the lines behind its text
 pub record Taken (A : Type 0) : Type 0 where

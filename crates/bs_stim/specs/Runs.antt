@@ -1,6 +1,7 @@
 -- Recorded runs (docs/DEFINITIONS.md, "Run").
 use Rattle.std.specs.Prelude.{◌≡◌, ℕ, ◌-◌, ◌≤◌, Bool, List, [], length, map, All, IsTrue, slice_index_or}
 use Rattle.bs_bits.specs.Lines.{is_name}
+use Rattle.bs_stim.specs.declared.limits.TheConstants.{MAX_RUNS, MAX_CYCLES, MAX_NAME}
 
 -- a run: the bytes of its name, and the input of each cycle
 pub record Recorded : Type 0 where
@@ -16,17 +17,17 @@ pub record Stimulus : Type 0 where
 abbrev pub inputs_of : Stimulus → List (List (List Bool))
 inputs_of stimulus = map (λ run. run.inputs) stimulus.runs
 
--- a run has a name of at most 64 bytes, at most 65,536 cycles, and inputs of one width
+-- a run has a name of at most `MAX_NAME` bytes, at most `MAX_CYCLES` cycles, and inputs of one width
 pub record IsRecorded (width : ℕ) (run : Recorded) : Type 0 where
   pub named : IsTrue (is_name run.name)
-  pub short_name : length run.name ≤ 64
-  pub few_cycles : length run.inputs ≤ 65536
+  pub short_name : length run.name ≤ MAX_NAME
+  pub few_cycles : length run.inputs ≤ MAX_CYCLES
   pub widths : All (λ input. length input ≡ width) run.inputs
 
--- there are 1 to 256 runs
+-- there are 1 to `MAX_RUNS` runs
 pub record IsStimulus (stimulus : Stimulus) : Type 0 where
   pub some_run : 1 ≤ length stimulus.runs
-  pub few_runs : length stimulus.runs ≤ 256
+  pub few_runs : length stimulus.runs ≤ MAX_RUNS
   pub recorded : All (IsRecorded stimulus.width) stimulus.runs
 
 abbrev pub no_run : Recorded

@@ -1,11 +1,13 @@
 -- The text of a stimulus (docs/FORMATS.md, "Stimulus"): for each run the line `run NAME CYCLES`, that many lines of bits, and the line `end`.
-use Rattle.std.specs.Prelude.{◌≡◌, ◌⊎◌, ℕ, zero, suc, ◌+◌, ◌==◌, nat_lt, nat_le, Bool, true, not, ◌&&◌, List, [], ◌∷◌, ◌++◌, length, codes, decimal, Option, Some, None, Result, Ok, Err, MatchResult, if◌then◌else◌}
+use Rattle.std.specs.Prelude.{ℕ, zero, suc, ◌+◌, ◌==◌, nat_lt, nat_le, Bool, true, not, ◌&&◌, List, [], ◌∷◌, ◌++◌, length, codes, decimal, Option, Some, None, Result, Ok, Err, if◌then◌else◌}
 use Rattle.std.specs.List.{flat_map}
 use Rattle.std.specs.Str.{bytes_eq}
 use Rattle.bs_bits.specs.Text.{bits_text, bits_of}
-use Rattle.bs_bits.specs.Lines.{line, lines_of, words_of, is_name, is_canonical, number_of}
+use Rattle.bs_bits.specs.Reading.{◌>>=◌}
+use Rattle.bs_bits.specs.Lines.{line, words_of, is_name, is_canonical, number_of}
+use Rattle.bs_stim.specs.declared.limits.TheConstants.{MAX_RUNS, MAX_CYCLES, MAX_NAME}
 use Rattle.bs_stim.specs.declared.fault.StimFault.{StimFault}
-use Rattle.bs_stim.specs.declared.fault.StimFault.TheVariants.{Line, Width, Count, TooManyRuns, TooManyCycles, NoRun, NoMemory}
+use Rattle.bs_stim.specs.declared.fault.StimFault.TheVariants.{Line, Width, Count, TooManyRuns, TooManyCycles, NoRun}
 use Rattle.bs_stim.specs.Runs.{Recorded, Stimulus}
 
 -- ---- what runs spell
@@ -24,11 +26,6 @@ stimulus_text stimulus = flat_map run_text stimulus.runs
 
 -- ---- what a text stands for
 
-infixl 10 ◌>>=◌
-abbrev pub ◌>>=◌ : {A B : Type 0} → Result A StimFault → (A → Result B StimFault) → Result B StimFault
-(Ok x) >>= f = f x
-(Err e) >>= f = Err e
-
 -- the three words of a run's first line
 pub record Head : Type 0 where
   pub word : List ℕ
@@ -42,9 +39,9 @@ abbrev pub head_of : List (List ℕ) → Option Head
 head_of (word ∷ name ∷ cycles ∷ []) = Some (head word name cycles)
 head_of words = None
 
--- `run`, a name of at most 64 bytes, and a canonical number
+-- `run`, a name that is not too long, and a canonical number
 abbrev pub is_head : Head → Bool
-is_head words = bytes_eq words.word (codes "run") && is_name words.name && nat_le (length words.name) 64 && is_canonical words.cycles
+is_head words = bytes_eq words.word (codes "run") && is_name words.name && nat_le (length words.name) MAX_NAME && is_canonical words.cycles
 
 -- what a run's first line says
 pub record First : Type 0 where
@@ -60,9 +57,9 @@ first_of number begun None = Err (Line number)
 first_of number begun (Some words) =
     if not (is_head words)
     then Err (Line number)
-    else if nat_le 256 begun
+    else if nat_le MAX_RUNS begun
     then Err (TooManyRuns number)
-    else if nat_lt 65536 (number_of words.cycles)
+    else if nat_lt MAX_CYCLES (number_of words.cycles)
     then Err (TooManyCycles number)
     else Ok (first words.name (number_of words.cycles))
 
@@ -113,8 +110,3 @@ runs_of width (text ∷ texts) = rest_of width 1 0 None (text ∷ texts) >>= λ 
 -- the stimulus that lines stand for, or their first fault
 abbrev pub stimulus_of : ℕ → List (List ℕ) → Result Stimulus StimFault
 stimulus_of width lines = runs_of width lines >>= λ runs. Ok (record { width = width; runs = runs })
-
--- what is answered is the expected value or the expected fault, unless memory ran out
-abbrev pub Answers : {A B : Type 0} → (A → B) → Result A StimFault → Result B StimFault → Type 0
-Answers f result expected =
-    MatchResult result (λ value. expected ≡ Ok (f value)) (λ fault. (fault ≡ NoMemory) ⊎ (expected ≡ Err fault))

@@ -1,10 +1,13 @@
 //! The first line of a run: `run NAME CYCLES`.
-ghost use Rattle.std.specs.Prelude.{◌≡◌, ◌<◌, option_map, min, Some, IfOk};
+ghost use Rattle.std.specs.Prelude.{◌≡◌, ◌<◌, ◌+◌, option_map, min, Some, IfOk};
 ghost use Rattle.bs_bits.specs.Lines.{words_of, number_of};
-ghost use Rattle.bs_stim.specs.StimulusText.{head, first, head_of, is_head as is_head_text, first_of, Answers};
-ghost use Rattle.bs_stim.specs.RunText.{IsFirst};
+ghost use Rattle.bs_stim.specs.StimulusText.{head, first, head_of, is_head as is_head_text, first_of};
+ghost use Rattle.bs_bits.specs.Reading.{Answers};
+ghost use Rattle.bs_stim.specs.declared.fault.StimFault.TheVariants.{NoMemory as Want};
+ghost use Rattle.bs_stim.specs.RunText.{IsFirstLine};
 
 use crate::fault::StimFault;
+use crate::limits::{MAX_CYCLES, MAX_NAME, MAX_RUNS};
 use bs_bits::{is_canonical, is_name, next_word};
 
 /// The three words of a line, if there are just three.
@@ -35,17 +38,17 @@ fn is_head(word: &[u8], name: &[u8], cycles: &[u8]) -> bool
     let begins = word == b"run".as_slice();
     let named = is_name(name);
     let counted = is_canonical(cycles);
-    begins && named && name.len() <= 64 && counted
+    begins && named && name.len() <= MAX_NAME && counted
 }
 
-/// The number that digits stand for, or 65,537 for all greater ones.
+/// The number that digits stand for, or `MAX_CYCLES` + 1 for all greater ones.
 #[tactic(auto, using(crate::proofs::HeadLemmas::number_more))]
 fn cycles_of(digits: &[u8]) -> u32
-    ensures { result ≡ min 65537 (number_of digits.now) }
+    ensures { result ≡ min (MAX_CYCLES + 1) (number_of digits.now) }
 {
     let mut cycles = 0u32;
     'digits: for digit in digits {
-        cycles = (10 * cycles + u32::from(digit.saturating_sub(b'0'))).min(65_537);
+        cycles = (10 * cycles + u32::from(digit.saturating_sub(b'0'))).min(MAX_CYCLES + 1);
     }
     cycles
 }
@@ -58,18 +61,18 @@ fn read_head<'a>(
     number: u32,
     begun: usize,
 ) -> Result<(&'a [u8], u32), StimFault>
-    ensures reads { Answers (λ f. first f.0.now f.1) result (first_of number begun (Some (head word.now name.now cycles.now))) }
-    ensures sound { IfOk result (λ f. IsFirst (first f.0.now f.1)) }
-    ensures room { IfOk result (λ _. begun < 256) }
+    ensures reads { Answers Want (λ f. first f.0.now f.1) result (first_of number begun (Some (head word.now name.now cycles.now))) }
+    ensures sound { IfOk result (λ f. IsFirstLine (first f.0.now f.1)) }
+    ensures room { IfOk result (λ _. begun < MAX_RUNS) }
 {
     if !is_head(word, name, cycles) {
         return Err(StimFault::Line(number));
     }
-    if begun >= 256 {
+    if begun >= MAX_RUNS as usize {
         return Err(StimFault::TooManyRuns(number));
     }
     let count = cycles_of(cycles);
-    if count > 65_536 {
+    if count > MAX_CYCLES {
         return Err(StimFault::TooManyCycles(number));
     }
     Ok((name, count))
@@ -77,9 +80,9 @@ fn read_head<'a>(
 
 /// The name and the number of cycles in the first line with this number, after so many runs.
 pub fn read_first(line: &[u8], number: u32, begun: usize) -> Result<(&[u8], u32), StimFault>
-    ensures reads { Answers (λ f. first f.0.now f.1) result (first_of number begun (head_of (words_of line.now))) }
-    ensures sound { IfOk result (λ f. IsFirst (first f.0.now f.1)) }
-    ensures room { IfOk result (λ _. begun < 256) }
+    ensures reads { Answers Want (λ f. first f.0.now f.1) result (first_of number begun (head_of (words_of line.now))) }
+    ensures sound { IfOk result (λ f. IsFirstLine (first f.0.now f.1)) }
+    ensures room { IfOk result (λ _. begun < MAX_RUNS) }
 {
     match head_words(line) {
         Some((word, name, cycles)) => read_head(word, name, cycles, number, begun),

@@ -1,7 +1,9 @@
 //! Recorded runs.
-ghost use Rattle.std.specs.Prelude.{◌≡◌, ◌<◌, ◌≤◌, ◌-◌, length, Some, slice_get, slice_index_or, []};
+ghost use Rattle.std.specs.Prelude.{◌≡◌, ◌<◌, ◌≤◌, length, false, Some, slice_get, slice_index_or, []};
+ghost use Rattle.bs_stim.specs.declared.limits.TheConstants.{MAX_CYCLES};
 ghost use Rattle.bs_stim.specs.Runs.{IsRecorded, IsStimulus, run_at};
 
+use crate::inputs::Inputs;
 use bs_bits::{Bits, List};
 use std::marker::Model;
 
@@ -9,19 +11,20 @@ use std::marker::Model;
 #[derive(Drop)]
 pub struct Run {
     pub(crate) name: String,
-    pub(crate) inputs: List<Bits>,
+    pub(crate) inputs: Inputs,
 }
 
 impl Model for Run {
     ghost use Rattle.bs_stim.specs.Runs.{Recorded};
     ghost use Rattle.std.specs.String.{string_bytes};
-    ghost use Rattle.std.specs.Prelude.{length as length_of, ◌≤◌};
+    ghost use Rattle.std.specs.Prelude.{length as length_of, ◌≡◌, ◌≤◌, All};
+    ghost use Rattle.bs_stim.specs.declared.limits.TheConstants.{MAX_CYCLES};
 
     ghost Value = { Recorded };
 
-    ghost view = { λ run. record { name = string_bytes run.name; inputs = run.inputs } };
+    ghost view = { λ run. record { name = string_bytes run.name; inputs = run.inputs.rows } };
 
-    ghost invariant = { λ run. length_of run.inputs ≤ 65536 };
+    ghost invariant = { λ run. (length_of run.inputs.rows ≤ MAX_CYCLES) × All (λ input. length_of input ≡ run.inputs.width) run.inputs.rows };
 }
 
 impl Run {
@@ -32,25 +35,34 @@ impl Run {
         self.name.as_str()
     }
 
-    /// The number of cycles, at most 65,536.
+    /// The number of cycles, at most `MAX_CYCLES`.
     pub(crate) fn cycles(&self) -> u32
         ensures count { result ≡ length self.now.inputs }
-        ensures few { result ≤ 65536 }
+        ensures few { result ≤ MAX_CYCLES }
     {
         self.inputs.len() as u32
     }
 
-    /// The input of a cycle.
-    pub(crate) fn input(&self, cycle: u32) -> &Bits
-        requires { cycle < length self.now.inputs }
-        ensures lookup { slice_get self.now.inputs cycle ≡ Some result.now }
-        ensures value { result.now ≡ slice_index_or self.now.inputs cycle [] }
+    /// A bit of the input of a cycle.
+    pub(crate) fn bit(&self, cycle: u32, place: usize) -> bool
+        requires cycle { cycle < length self.now.inputs }
+        requires place { place < length (slice_index_or self.now.inputs cycle []) }
+        ensures { result ≡ slice_index_or (slice_index_or self.now.inputs cycle []) place false }
     {
-        self.inputs.get(cycle as usize)
+        self.inputs.bit(cycle as usize, place)
+    }
+
+    /// Writes the input of a cycle over a list of as many bits.
+    pub(crate) fn fill(&self, cycle: u32, into: &mut Bits)
+        requires cycle { cycle < length self.now.inputs }
+        requires width { length into.old ≡ length (slice_index_or self.now.inputs cycle []) }
+        ensures { into.new ≡ slice_index_or self.now.inputs cycle [] }
+    {
+        self.inputs.fill(cycle as usize, into)
     }
 }
 
-/// The recorded runs of a stimulus: 1 to 256 of them, numbered from 1, each with at most 65,536 cycles.
+/// The recorded runs of a stimulus: 1 to `MAX_RUNS` of them, numbered from 1, each with at most `MAX_CYCLES` cycles.
 #[derive(Drop)]
 pub struct Runs {
     width: usize,
@@ -93,7 +105,7 @@ impl Runs {
         self.runs.slice()
     }
 
-    /// The number of runs, 1 to 256.
+    /// The number of runs, 1 to `MAX_RUNS`.
     pub fn count(&self) -> u32
         ensures count { result ≡ length self.now.runs }
         ensures sound { IsStimulus self.now }
@@ -108,7 +120,7 @@ impl Runs {
         self.width
     }
 
-    /// The name of a run, 1 to 64 characters `!` to `~`.
+    /// The name of a run, 1 to `MAX_NAME` characters `!` to `~`.
     pub fn name(&self, run: u32) -> &str
         requires from_one { 1 ≤ run }
         requires there { run ≤ length self.now.runs }
@@ -117,25 +129,37 @@ impl Runs {
         self.run(run).name()
     }
 
-    /// The number of cycles of a run, at most 65,536.
+    /// The number of cycles of a run, at most `MAX_CYCLES`.
     pub fn cycles(&self, run: u32) -> u32
         requires from_one { 1 ≤ run }
         requires there { run ≤ length self.now.runs }
         ensures count { result ≡ length (run_at self.now run).inputs }
-        ensures few { result ≤ 65536 }
+        ensures few { result ≤ MAX_CYCLES }
     {
         self.run(run).cycles()
     }
 
-    /// The input of a cycle of a run. Cycles count from 0.
-    pub fn input(&self, run: u32, cycle: u32) -> &Bits
+    /// A bit of the input of a cycle of a run. Cycles and places count from 0.
+    pub fn bit(&self, run: u32, cycle: u32, place: usize) -> bool
         requires from_one { 1 ≤ run }
         requires there { run ≤ length self.now.runs }
         requires recorded { cycle < length (run_at self.now run).inputs }
-        ensures lookup { slice_get (run_at self.now run).inputs cycle ≡ Some result.now }
-        ensures value { result.now ≡ slice_index_or (run_at self.now run).inputs cycle [] }
-        ensures width { length result.now ≡ self.now.width }
+        requires place { place < self.now.width }
+        ensures { result ≡ slice_index_or (slice_index_or (run_at self.now run).inputs cycle []) place false }
     {
-        self.run(run).input(cycle)
+        self.run(run).bit(cycle, place)
+    }
+
+    /// Writes the input of a cycle of a run over a list of as many bits. It takes no memory.
+    pub fn fill(&self, run: u32, cycle: u32, into: &mut Bits)
+        requires from_one { 1 ≤ run }
+        requires there { run ≤ length self.now.runs }
+        requires recorded { cycle < length (run_at self.now run).inputs }
+        requires width { length into.old ≡ self.now.width }
+        ensures lookup { slice_get (run_at self.now run).inputs cycle ≡ Some into.new }
+        ensures value { into.new ≡ slice_index_or (run_at self.now run).inputs cycle [] }
+        ensures width { length into.new ≡ self.now.width }
+    {
+        self.run(run).fill(cycle, into)
     }
 }

@@ -1,13 +1,14 @@
 //! The text of a stimulus, written run by run.
-ghost use Rattle.std.specs.Prelude.{◌≡◌, ◌++◌, codes, OnOk, OnErr};
+ghost use Rattle.std.specs.Prelude.{◌≡◌, ◌<◌, [], ◌∷◌, ◌++◌, codes, length, slice_index_or, OnOk, OnErr};
 ghost use Rattle.std.specs.List.{flat_map};
 ghost use Rattle.bs_bits.specs.Lines.{line};
-ghost use Rattle.bs_bits.specs.Text.{bits_text};
+ghost use Rattle.bs_bits.specs.Text.{bits_text, digit_of};
 ghost use Rattle.bs_stim.specs.Appending.{Begins};
 ghost use Rattle.bs_stim.specs.StimulusText.{head_text, inputs_text, run_text, stimulus_text};
 
+use crate::inputs::Inputs;
 use crate::runs::{Run, Runs};
-use bs_bits::{Bits, NoMemory, end_line, push_number, push_piece};
+use bs_bits::{NoMemory, end_line, push_number, push_piece};
 
 /// Appends the first line of a run.
 fn push_head(run: &Run, into: &mut Vec<u8>) -> Result<(), NoMemory>
@@ -21,23 +22,49 @@ fn push_head(run: &Run, into: &mut Vec<u8>) -> Result<(), NoMemory>
     end_line(into)
 }
 
-/// Appends an input line.
-fn push_input(input: &Bits, into: &mut Vec<u8>) -> Result<(), NoMemory>
-    ensures ok { OnOk result (into.new.items ≡ into.old.items ++ line (bits_text input.now)) }
+/// Appends the character of a bit.
+fn push_bit(bit: bool, into: &mut Vec<u8>) -> Result<(), NoMemory>
+    ensures ok { OnOk result (into.new.items ≡ into.old.items ++ digit_of bit ∷ []) }
+    ensures err { OnErr result (into.new.items ≡ into.old.items) }
+{
+    push_piece(into, if bit { b"1" } else { b"0" })
+}
+
+/// Appends the text of an input.
+#[tactic(auto, using(crate::proofs::WritingLemmas::begins_after, crate::proofs::WritingLemmas::empty_row, crate::proofs::WritingLemmas::one_more_digit, crate::proofs::WritingLemmas::whole_row))]
+fn push_bits(inputs: &Inputs, cycle: usize, into: &mut Vec<u8>) -> Result<(), NoMemory>
+    requires { cycle < length inputs.now.rows }
+    ensures ok { OnOk result (into.new.items ≡ into.old.items ++ bits_text (slice_index_or inputs.now.rows cycle [])) }
     ensures err { OnErr result (Begins into.old.items into.new.items) }
 {
-    input.text(into)?;
+    if inputs.width() == 0 {
+        return push_piece(into, b".");
+    }
+    'places: for place in 0..inputs.width() {
+        push_bit(inputs.bit(cycle, place), into)?;
+    }
+    Ok(())
+}
+
+/// Appends an input line.
+#[tactic(auto, using(crate::proofs::WritingLemmas::begins_after))]
+fn push_input(inputs: &Inputs, cycle: usize, into: &mut Vec<u8>) -> Result<(), NoMemory>
+    requires { cycle < length inputs.now.rows }
+    ensures ok { OnOk result (into.new.items ≡ into.old.items ++ line (bits_text (slice_index_or inputs.now.rows cycle []))) }
+    ensures err { OnErr result (Begins into.old.items into.new.items) }
+{
+    push_bits(inputs, cycle, into)?;
     end_line(into)
 }
 
 /// Appends the input lines of a run.
-#[tactic(auto, using(crate::proofs::WritingLemmas::begins_after))]
-fn push_inputs(inputs: &[Bits], into: &mut Vec<u8>) -> Result<(), NoMemory>
-    ensures ok { OnOk result (into.new.items ≡ into.old.items ++ inputs_text inputs.now) }
+#[tactic(auto, using(crate::proofs::WritingLemmas::begins_after, crate::proofs::WritingLemmas::one_more_line))]
+fn push_inputs(inputs: &Inputs, into: &mut Vec<u8>) -> Result<(), NoMemory>
+    ensures ok { OnOk result (into.new.items ≡ into.old.items ++ inputs_text inputs.now.rows) }
     ensures err { OnErr result (Begins into.old.items into.new.items) }
 {
-    'inputs: for input in inputs {
-        push_input(input, into)?;
+    'cycles: for cycle in 0..inputs.len() {
+        push_input(inputs, cycle, into)?;
     }
     Ok(())
 }
@@ -57,7 +84,7 @@ fn push_run(run: &Run, into: &mut Vec<u8>) -> Result<(), NoMemory>
     ensures err { OnErr result (Begins into.old.items into.new.items) }
 {
     push_head(run, into)?;
-    push_inputs(run.inputs.slice(), into)?;
+    push_inputs(&run.inputs, into)?;
     push_end(into)
 }
 

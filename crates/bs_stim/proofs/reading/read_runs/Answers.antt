@@ -1,4 +1,4 @@
-use Rattle.std.proofs.Common.{◌≡◌, ◌+◌, ◌∙◌, ℕ, length, ap, sym, inr, arith, length-append}
+use Rattle.std.proofs.Common.{◌≡◌, ◌+◌, ◌∙◌, length, ap, arith, length-append}
 use Rattle.std.proofs.lemmas.Result.{err_from_is_err_and}
 use Rattle.std.proofs.lemmas.List.Elements.{All-push}
 use Rattle.bs_bits.specs.Lines.{lines_of}
@@ -9,7 +9,10 @@ use Rattle.bs_stim.proofs.reading.read_runs.Goals as goal
 
 pub read_run-requires : goal.read_run-requires
 read_run-requires c =
-    record { countable = omega (arith, c.runs.invariant.behind, ap length c.in-Some.ensures, lines_within c.args.bytes.now, c.requires) }
+    record {
+      countable = omega (arith, c.runs.invariant.behind, ap length c.in-Some.ensures, lines_within c.args.bytes.now, c.requires);
+      short = (rw c.in-Some.ensures at c.runs.invariant.short).1;
+    }
 
 pub returns-in_err-run-clause-reads : goal.returns-in_err-run-clause-reads
 returns-in_err-run-clause-reads c =
@@ -32,6 +35,7 @@ runs-preserved c =
           (run_step (all_runs c.args.width (lines_of c.args.bytes.now)) c.args.width c.runs.number c.runs.runs (lines_of c.runs.rest.now)
           c.in-Some.line.now (lines_of c.in-Some.behind.now) c.in_ok-run.run' (lines_of c.in_ok-run.left.now) c.runs.invariant.whole c.in-Some.ensures (rw c.len.ensures at c.in_ok-run.ensures.reads));
       behind = omega (arith, c.runs.invariant.behind, ap length c.in-Some.ensures, c.in_ok-run.ensures.behind, c.cycles.ensures.count);
+      short = c.in_ok-run.ensures.short;
       begun = omega (arith, c.runs.invariant.begun, more);
       unbegun = λ none. absurd (omega (arith, none, more));
       few = omega (arith, more, c.len.ensures, c.in_ok-run.ensures.room);

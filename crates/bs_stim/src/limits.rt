@@ -1,0 +1,13 @@
+//! The greatest sizes of a stimulus (docs/FORMATS.md, "Stimulus").
+
+/// How many bytes a text may have.
+pub const MAX_TEXT: usize = 67_108_864;
+
+/// How many runs there may be.
+pub const MAX_RUNS: u32 = 256;
+
+/// How many cycles a run may have.
+pub const MAX_CYCLES: u32 = 65_536;
+
+/// How many bytes the name of a run may have.
+pub const MAX_NAME: usize = 64;
