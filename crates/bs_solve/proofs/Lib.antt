@@ -7,7 +7,11 @@ pub mod Positions
 pub mod Places
 pub mod Looks
 pub mod Clauses
+pub mod Counts
 pub mod Walks
+pub mod Moving
+pub mod Marking
+pub mod Pointing
 pub mod Lessons
 pub mod Books
 pub mod Points

@@ -12,7 +12,7 @@ use Rattle.bs_clause.specs.Literal.{Literal, negation, has_literal}
 use Rattle.bs_clause.proofs.Literals.{literal_from_parts}
 use Rattle.bs_solve.specs.declared.place.Place.{Place}
 use Rattle.bs_solve.specs.Trail.{IsTrueOn, IsOpenOn}
-use Rattle.bs_solve.specs.Places.{HasPositions, literals_of}
+use Rattle.bs_solve.specs.Places.{HasPositions, IsTrueFrom, literals_of}
 use Rattle.bs_solve.proofs.Lists.{none_is_not_some, same_some, get_left, get_last, get_push_cases, get_take, take_get, get_from_Contains, Contains_from_get, get_map_cases, get_within, get_map}
 use Rattle.bs_solve.proofs.Quiet.{Contains-from_has, has-from_Contains}
 
@@ -230,3 +230,31 @@ before_end positions places h end at l p low known there before = elim (beq-case
 
 pub at_within : (positions : List (Option ℕ)) (places : List Place) → HasPositions positions places → (v at : ℕ) → get_or positions v None ≡ Some at → at < length places
 at_within positions places h v at known = let was = h.held v at known in get_within places at was.0 was.1
+
+-- the literal is true from its place on
+pub true_from_place : (positions : List (Option ℕ)) (places : List Place) (l : Literal) (at : ℕ) → HasPositions positions places → IsTrueOn (literals_of places) l →
+    get_or positions (l.variable - 1) None ≡ Some at → IsTrueFrom places l (suc at)
+true_from_place positions places l at h t known =
+    let (k, found) = get_from_Contains (literals_of places) l t in
+    let (p, there, same) = get_map_cases (λ (x : Place). x.literal) places k l found in
+    let one : k ≡ at = same_some k at (sym (ap (λ (x : Literal). get_or positions (x.variable - 1) None) (sym same) ∙ h.given k p there) ∙ known) in
+    record {
+      is = λ end. (
+        (λ has.
+            let held = held_from_has positions places h end l has in
+            let is : held.at ≡ at = same_some held.at at (sym held.known ∙ known) in
+            let before = held.before in
+            omega (arith, is, before)),
+        (λ within.
+            let before : k < end = omega (arith, one, within) in
+            has-from_Contains (literals_of (take end places)) l
+            (Contains_from_get (literals_of (take end places)) k l (get_map (λ (x : Place). x.literal) (take end places) k p (take_get end places k p before there) ∙ ap Some same))),
+      );
+    }
+
+pub true_has_place : (positions : List (Option ℕ)) (places : List Place) (l : Literal) → HasPositions positions places → IsTrueOn (literals_of places) l →
+    get_or positions (l.variable - 1) None ≢ None
+true_has_place positions places l h t nothing =
+    let (k, found) = get_from_Contains (literals_of places) l t in
+    let (p, there, same) = get_map_cases (λ (x : Place). x.literal) places k l found in
+    none_is_not_some k (sym nothing ∙ ap (λ (x : Literal). get_or positions (x.variable - 1) None) (sym same) ∙ h.given k p there)

@@ -332,32 +332,29 @@ has_blocked inside now new lits clause id is well here is_clause next line stand
 
 -- ---- what is logged, whatever the answer
 
-pub follows_same : (b : Book) (a : Clause) → Follows b b a
-follows_same b a = record { lines = []; history = refl; vars = refl; clauses = refl; steps = inl refl }
+pub follows_same : (first : Bool) (b : Book) (a : Clause) → Follows first b b a
+follows_same first b a = record { lines = []; history = refl; vars = refl; clauses = refl; steps = inl refl }
 
-pub follows_member : (b new : Book) (a : Clause) → new ≡ with_member b a → Follows b new a
-follows_member b new a is = subst (λ x. Follows b x a) (sym is) (record { lines = []; history = refl; vars = refl; clauses = refl; steps = inr refl })
+pub follows_member : (b new : Book) (a : Clause) → new ≡ with_member b a → Follows true b new a
+follows_member b new a is = subst (λ x. Follows true b x a) (sym is) (record { lines = []; history = refl; vars = refl; clauses = refl; steps = inr (refl, refl) })
 
-pub follows_begun : (b new : Book) (first : Bool) (a : Clause) → new ≡ begun_book first b a → Follows b new a
-follows_begun b new true a is = subst (λ x. Follows b x a) (sym is) (record { lines = Solve ∷ []; history = refl; vars = refl; clauses = refl; steps = inr refl })
-follows_begun b new false a is = subst (λ x. Follows b x a) (sym is) (record { lines = Solve ∷ []; history = refl; vars = refl; clauses = refl; steps = inl refl })
-
-pub follows_lemmas : (b begun new : Book) (a : Clause) → Follows b begun a → SomeLemmas begun new → Follows b new a
-follows_lemmas b begun new a f l = record {
+pub follows_lemmas : (first : Bool) (b begun new : Book) (a : Clause) → Follows first b begun a → SomeLemmas begun new → Follows first b new a
+follows_lemmas first b begun new a f l = record {
   lines = l.lines ++ f.lines;
   history = l.history ∙ ap (λ h. l.lines ++ h) f.history ∙ sym (append_assoc l.lines f.lines b.history);
   vars = ap (λ (p : Problem). p.vars) l.problem ∙ f.vars;
   clauses = ap (λ (p : Problem). p.clauses) l.problem ∙ f.clauses;
   steps = elim (f.steps) [
     | inl same ↦ inl (ap (λ (p : Problem). p.steps) l.problem ∙ same)
-    | inr more ↦ inr (ap (λ (p : Problem). p.steps) l.problem ∙ more)
+    | inr more ↦ inr (more.0, ap (λ (p : Problem). p.steps) l.problem ∙ more.1)
   ];
 }
 
-follows_line : (b new : Book) (a : Clause) (line : Line) → Follows b new a → Follows b (with_line new line) a
-follows_line b new a line f = record { lines = line ∷ f.lines; history = ap (λ h. line ∷ h) f.history; vars = f.vars; clauses = f.clauses; steps = f.steps }
+follows_line : (first : Bool) (b new : Book) (a : Clause) (line : Line) → Follows first b new a → Follows first b (with_line new line) a
+follows_line first b new a line f = record { lines = line ∷ f.lines; history = ap (λ h. line ∷ h) f.history; vars = f.vars; clauses = f.clauses; steps = f.steps }
 
 -- a line that was logged, if there was memory
-pub follows_log : {T E : Type 0} (r : Result T E) (b middle new : Book) (a : Clause) (line : Line) → OnOk r (new ≡ with_line middle line) → OnErr r (new ≡ middle) → Follows b middle a → Follows b new a
-follows_log (Ok x) b middle new a line ok err f = subst (λ n. Follows b n a) (sym ok) (follows_line b middle a line f)
-follows_log (Err e) b middle new a line ok err f = subst (λ n. Follows b n a) (sym err) f
+pub follows_log : {T E : Type 0} (r : Result T E) (first : Bool) (b middle new : Book) (a : Clause) (line : Line) → OnOk r (new ≡ with_line middle line) → OnErr r (new ≡ middle) →
+    Follows first b middle a → Follows first b new a
+follows_log (Ok x) first b middle new a line ok err f = subst (λ n. Follows first b n a) (sym ok) (follows_line first b middle a line f)
+follows_log (Err e) first b middle new a line ok err f = subst (λ n. Follows first b n a) (sym err) f

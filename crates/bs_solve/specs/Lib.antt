@@ -3,6 +3,7 @@ pub mod Places
 pub mod Grown
 pub mod Scan
 pub mod Walk
+pub mod Marks
 pub mod Point
 pub mod Learning
 pub mod Book

@@ -1,6 +1,6 @@
 -- The trail with its reasons: the literals that are true, the oldest first.
-use Rattle.std.specs.Prelude.{◌≡◌, ℕ, ◌-◌, ◌<◌, ◌≤◌, List, map, take, length, Option, Some, None, Contains, slice_get, slice_index_or}
-use Rattle.bs_clause.specs.Literal.{Literal, Clause}
+use Rattle.std.specs.Prelude.{◌≡◌, ◌↔◌, ℕ, ◌-◌, ◌<◌, ◌≤◌, true, List, map, take, length, Option, Some, None, Contains, slice_get, slice_index_or}
+use Rattle.bs_clause.specs.Literal.{Literal, Clause, has_literal}
 use Rattle.bs_solve.specs.declared.place.Place.{Place}
 use Rattle.bs_solve.specs.Trail.{IsOpenOn, Forces, IsQuiet}
 
@@ -23,6 +23,14 @@ pub record HasPositions (positions : List (Option ℕ)) (places : List Place) : 
   pub given : (k : ℕ) (p : Place) → slice_get places k ≡ Some p → slice_index_or positions (p.literal.variable - 1) None ≡ Some k
   pub in_range : (k : ℕ) (p : Place) → slice_get places k ≡ Some p → (1 ≤ p.literal.variable) × (p.literal.variable ≤ length positions)
   pub held : (v k : ℕ) → slice_index_or positions v None ≡ Some k → (p : Place) × (slice_get places k ≡ Some p) × (p.literal.variable - 1 ≡ v)
+
+-- no variable has two places
+pub record AreApart (places : List Place) : Type 0 where
+  pub one : (i j : ℕ) (p q : Place) → slice_get places i ≡ Some p → slice_get places j ≡ Some q → p.literal.variable ≡ q.literal.variable → i ≡ j
+
+-- the literal is true from this number of places on
+pub record IsTrueFrom (places : List Place) (l : Literal) (from' : ℕ) : Type 0 where
+  pub is : (end : ℕ) → (has_literal (literals_of (take end places)) l ≡ true) ↔ (from' ≤ end)
 
 -- ---- what a trail is worth: clauses, the length of its first level, and the assumptions that stand there
 

@@ -1,13 +1,22 @@
 -- Where conflict analysis stops, and where the trail goes back to.
-use Rattle.std.specs.Prelude.{◌≡◌, ℕ, ◌<◌, ◌≤◌, Bool, true, false, ◌||◌, List, [], take, length, Some, None, is_some, Contains, slice_get, slice_index_or}
+use Rattle.std.specs.Prelude.{◌≡◌, ◌↔◌, ◌⊎◌, ℕ, ◌<◌, ◌≤◌, Bool, true, false, ◌||◌, List, [], take, length, Some, None, is_some, Contains, slice_get, slice_index_or}
 use Rattle.std.specs.List.{list_all}
 use Rattle.bs_clause.specs.Literal.{Literal, Clause, negation, same_literal, has_literal}
 use Rattle.bs_solve.specs.declared.place.Place.{Place}
+use Rattle.bs_solve.specs.Trail.{IsFalseOn}
 use Rattle.bs_solve.specs.Places.{literals_of}
 
 -- each literal of the clause is this one, or was false when the trail had so many places
 abbrev pub is_alone_at : List Place → ℕ → Literal → Clause → Bool
 is_alone_at places end denied c = list_all (λ m. same_literal denied m || has_literal (literals_of (take end places)) (negation m)) c
+
+-- the other literals of the clause are false from this number of places on
+pub record IsAloneFrom (places : List Place) (denied : Literal) (c : Clause) (from' : ℕ) : Type 0 where
+  pub is : (end : ℕ) → (is_alone_at places end denied c ≡ true) ↔ (from' ≤ end)
+
+-- the larger of a number and that from which on the literal is the denied one or false
+pub record IsAloneWith (places : List Place) (denied m : Literal) (low now : ℕ) : Type 0 where
+  pub is : (end : ℕ) → (now ≤ end) ↔ ((low ≤ end) × ((m ≡ denied) ⊎ IsFalseOn (literals_of (take end places)) m))
 
 -- the clause at this place of the list has the literal
 pub record IsReasonAt (clauses : List Clause) (reason : ℕ) (pivot : Literal) : Type 0 where

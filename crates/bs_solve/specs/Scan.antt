@@ -1,5 +1,5 @@
 -- What a scan of clauses finds.
-use Rattle.std.specs.Prelude.{◌≡◌, ℕ, ◌<◌, ◌≤◌, Bool, true, false, List, [], length, Some, slice_get, slice_index_or}
+use Rattle.std.specs.Prelude.{◌≡◌, ℕ, ◌<◌, Bool, true, false, List, [], length, Some, slice_get, slice_index_or}
 use Rattle.bs_clause.specs.Literal.{Literal, Clause}
 use Rattle.bs_solve.specs.declared.place.Place.{Place}
 use Rattle.bs_solve.specs.declared.propagation.Look.{Look}

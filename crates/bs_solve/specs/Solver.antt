@@ -28,13 +28,13 @@ pub record IsReady (s : SolverState) : Type 0 where
   pub distinct : s.failed ≡ false → All (λ c. has_distinct_variables c ≡ true) (standing s.book)
   pub fits : s.failed ≡ false → Fits s.stage s.book s.vars
 
--- further lines were logged, and the assumptions of the step under way may have been added
-pub record Follows (old new : Book) (assumptions : Clause) : Type 0 where
+-- further lines were logged, and at the first solve of a step its assumptions may have been added
+pub record Follows (first : Bool) (old new : Book) (assumptions : Clause) : Type 0 where
   pub lines : List Line
   pub history : new.history ≡ lines ++ old.history
   pub vars : new.problem.vars ≡ old.problem.vars
   pub clauses : new.problem.clauses ≡ old.problem.clauses
-  pub steps : (new.problem.steps ≡ old.problem.steps) ⊎ (new.problem.steps ≡ old.problem.steps ++ assumptions ∷ [])
+  pub steps : (new.problem.steps ≡ old.problem.steps) ⊎ ((first ≡ true) × (new.problem.steps ≡ old.problem.steps ++ assumptions ∷ []))
 
 -- a solve is the first of its step, or a block came since the last one and the assumptions are the step's
 pub record MaySolve (s : SolverState) (assumptions : Clause) : Type 0 where

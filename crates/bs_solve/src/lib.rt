@@ -5,6 +5,7 @@ mod analysis;
 mod decision;
 mod law;
 mod learning;
+mod marks;
 mod place;
 mod propagation;
 mod recording;

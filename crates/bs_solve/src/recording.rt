@@ -42,18 +42,18 @@ impl Model for Recording {
 
 impl Recording {
     /// An empty log over these clauses, whose ids are 1, 2, 3 and so on.
-    pub fn new(alloc: Global, vars: u32, axioms: &Clauses) -> Result<Recording, NoMemory>
-        ensures { IfOk result (λ book. book ≡ record { problem = record { vars = vars; clauses = axioms.now; steps = [] }; history = [] }) }
+    pub fn new(alloc: Global, vars: u32, axioms: Clauses) -> Recording
+        ensures { result ≡ record { problem = record { vars = vars; clauses = axioms; steps = [] }; history = [] } }
     {
-        let clauses = copies(alloc, axioms.slice())?;
-        Ok(Recording {
+        let clauses = axioms.into_vec();
+        Recording {
             vars,
             axioms: clauses.len(),
             clauses,
             lemmas: Vec::new(alloc),
             steps: List::new(alloc),
             log: Log::new(alloc),
-        })
+        }
     }
 
     /// The log. No line of it is refused, its lemmas are lean, and each line has a text.
@@ -223,18 +223,6 @@ fn unit(alloc: Global, l: Lit) -> Result<Lits, NoMemory>
     let mut clause = Lits::new(alloc);
     clause.push(l)?;
     Ok(clause)
-}
-
-// The clauses again.
-fn copies(alloc: Global, clauses: &[Lits]) -> Result<Vec<Lits>, NoMemory>
-    ensures { IfOk result (λ all. all.items ≡ clauses.now) }
-{
-    let mut all = Vec::new(alloc);
-    for clause in clauses {
-        let next = Lits::copy(alloc, clause.slice())?;
-        all.push(next)?;
-    }
-    Ok(all)
 }
 
 // The id that comes after so many.

@@ -1,8 +1,9 @@
 //! The search of one solve: it decides, propagates and learns.
-ghost use Rattle.std.specs.Prelude.{◌≡◌, ◌≤◌, ◌<◌, ◌^◌, [], length, true, All, IfOk};
+ghost use Rattle.std.specs.Prelude.{◌≡◌, ◌+◌, ◌≤◌, ◌<◌, ◌^◌, [], length, true, All, IfOk};
 ghost use Rattle.bs_log.specs.History.{phase_of};
 ghost use Rattle.bs_log.specs.Refusal.{in_solve, has_distinct_variables};
 ghost use Rattle.bs_clause.specs.Range.{HasVariables};
+ghost use Rattle.bs_solve.specs.Marks.{IsClear};
 ghost use Rattle.bs_solve.specs.Book.{standing};
 ghost use Rattle.bs_solve.specs.Search.{assumed, assumption_places};
 ghost use Rattle.bs_solve.specs.Ending.{Ends, SomeLemmas};
@@ -12,6 +13,7 @@ ghost use Rattle.bs_solve.specs.declared.propagation.Outcome.TheVariants.{Quiet}
 use crate::analysis::last_decision;
 use crate::decision::{first_open, values};
 use crate::learning::{learn, refute};
+use crate::marks::Marks;
 use crate::propagation::{Outcome, propagate};
 use crate::recording::Recording;
 use crate::trail::Trail;
@@ -46,11 +48,13 @@ fn take_turns(
     alloc: Global,
     book: &mut Recording,
     trail: &mut Trail,
+    marks: &mut Marks,
     vars: u32,
     limit: u64,
 ) -> Result<Answer, NoMemory>
     requires vars { trail.old.vars ≡ vars }
     requires range { vars < 2 ^ 30 }
+    requires clear { IsClear (vars + 1) marks.old }
     requires turn { InSearch book.old vars (length trail.old.places) 0 limit book.old trail.old.places Quiet }
     ensures ends { IfOk result (λ answer. Ends book.old book.new vars limit answer) }
     ensures lemmas { SomeLemmas book.old book.new }
@@ -74,11 +78,11 @@ fn take_turns(
             },
             Outcome::Conflict(at) => match last_decision(trail, base) {
                 None => {
-                    let id = refute(alloc, book, trail, at, base)?;
+                    let id = refute(alloc, book, trail, marks, at, base)?;
                     return Ok(Answer::Refuted(id));
                 }
                 Some(start) => {
-                    learn(alloc, book, trail, at, base, start)?;
+                    learn(alloc, book, trail, marks, at, base, start)?;
                     conflicts += 1;
                     if conflicts == limit {
                         return Ok(Answer::Spent);
@@ -112,12 +116,13 @@ pub fn search(
     ensures distinct { IfOk result (λ _. All (λ c. has_distinct_variables c ≡ true) (standing book.new)) }
 {
     let mut trail = Trail::new(alloc, vars)?;
+    let mut marks = Marks::new(alloc, vars)?;
     assume(&mut trail, assumptions);
     match propagate(&mut trail, book.clauses()) {
-        Outcome::Quiet => take_turns(alloc, book, &mut trail, vars, limit),
+        Outcome::Quiet => take_turns(alloc, book, &mut trail, &mut marks, vars, limit),
         Outcome::Conflict(at) => {
             let base = trail.len();
-            let id = refute(alloc, book, &trail, at, base)?;
+            let id = refute(alloc, book, &trail, &mut marks, at, base)?;
             Ok(Answer::Refuted(id))
         }
     }

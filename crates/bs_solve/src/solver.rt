@@ -7,7 +7,7 @@ ghost use Rattle.bs_log.specs.LineForms.{HasText};
 ghost use Rattle.bs_solve.specs.declared.stage.Stage.TheVariants.{Idle, Begun, Solved, Ended};
 ghost use Rattle.bs_clause.specs.Range.{HasVariables};
 ghost use Rattle.bs_solve.specs.Book.{standing, lemma_ids};
-ghost use Rattle.bs_solve.specs.Stages.{MayBegin, EndsStep, begun_book, is_solved};
+ghost use Rattle.bs_solve.specs.Stages.{MayBegin, EndsStep, begun_book, is_begun, is_solved};
 ghost use Rattle.bs_solve.specs.Solver.{MaySolve, HasSolved, HasBlocked, HasEnded, Follows, finished};
 
 use crate::recording::Recording;
@@ -41,18 +41,18 @@ impl Model for Solver {
 
 impl Solver {
     /// A solver over the variables 1 to `vars`, with these clauses under the ids 1, 2, 3 and so on.
-    pub fn new(alloc: Global, vars: u32, axioms: &Clauses) -> Result<Solver, NoMemory>
-        requires range { All (HasVariables vars) axioms.now }
-        requires distinct { All (λ c. has_distinct_variables c ≡ true) axioms.now }
+    pub fn new(alloc: Global, vars: u32, axioms: Clauses) -> Result<Solver, NoMemory>
+        requires range { All (HasVariables vars) axioms }
+        requires distinct { All (λ c. has_distinct_variables c ≡ true) axioms }
         requires vars { vars < 2 ^ 30 }
         ensures { IfOk result (λ s. s ≡ record {
-          book = record { problem = record { vars = vars; clauses = axioms.now; steps = [] }; history = [] };
+          book = record { problem = record { vars = vars; clauses = axioms; steps = [] }; history = [] };
           vars = vars;
           stage = Idle;
           failed = false;
         }) }
     {
-        let book = Recording::new(alloc, vars, axioms)?;
+        let book = Recording::new(alloc, vars, axioms);
         Ok(Solver {
             book,
             vars,
@@ -65,6 +65,7 @@ impl Solver {
     pub fn begin_step(&mut self) -> Result<Lit, NoMemory>
         requires stage { self.old.failed ≡ false → self.old.stage ≡ Idle }
         requires room { self.old.vars + 1 < 2 ^ 30 }
+        ensures well { IfOk result (λ _. self.old.failed ≡ false) }
         ensures guard { IfOk result (λ guard. guard ≡ guard_of self.old.book.problem (step_of self.old.book.history)) }
         ensures ok { IfOk result (λ _. self.new ≡ record { book = self.old.book; vars = self.old.vars + 1; stage = Begun; failed = false }) }
         ensures err { IfErr result (λ _. (self.old.failed ≡ true) × (self.new ≡ self.old)) }
@@ -90,7 +91,7 @@ impl Solver {
         requires distinct { has_distinct_variables assumptions.now ≡ true }
         requires limit { 1 ≤ limit }
         ensures ok { IfOk result (HasSolved self.old self.new assumptions.now limit) }
-        ensures lines { Follows self.old.book self.new.book assumptions.now }
+        ensures lines { Follows (is_begun self.old.stage) self.old.book self.new.book assumptions.now }
         ensures err { IfErr result (λ _. self.new.failed ≡ true) }
     {
         if self.failed {
@@ -222,7 +223,7 @@ fn begin_solve(
     requires stage { MayBegin book.old first }
     ensures ok { OnOk result (book.new ≡ begun_book first book.old assumptions.now) }
     ensures stands { OnOk result (standing book.new ≡ standing book.old) }
-    ensures lines { Follows book.old book.new assumptions.now }
+    ensures lines { Follows first book.old book.new assumptions.now }
 {
     if first {
         return begin_first(alloc, book, assumptions);
@@ -235,7 +236,7 @@ fn begin_first(alloc: Global, book: &mut Recording, assumptions: &Lits) -> Resul
     requires stage { MayBegin book.old true }
     ensures ok { OnOk result (book.new ≡ begun_book true book.old assumptions.now) }
     ensures stands { OnOk result (standing book.new ≡ standing book.old) }
-    ensures lines { Follows book.old book.new assumptions.now }
+    ensures lines { Follows true book.old book.new assumptions.now }
 {
     let member = Lits::copy(alloc, assumptions.slice())?;
     book.add_step(member)?;

@@ -113,7 +113,7 @@ fn ending(
     if !are_fit(vars, all.slice()) {
         return Ok(("unfit", 0));
     }
-    let mut solver = Solver::new(alloc, vars, &all)?;
+    let mut solver = Solver::new(alloc, vars, all)?;
     let _ = solver.begin_step()?;
     if !is_over(solver.vars(), given.slice()) {
         return Ok(("unfit", 0));
@@ -143,7 +143,7 @@ fn again(
     if !are_fit(vars, all.slice()) {
         return Ok((0, "unfit", 0));
     }
-    let mut solver = Solver::new(alloc, vars, &all)?;
+    let mut solver = Solver::new(alloc, vars, all)?;
     let _ = solver.begin_step()?;
     if !is_over(solver.vars(), given.slice()) {
         return Ok((0, "unfit", 0));

@@ -1,7 +1,8 @@
 //! The trail: the literals that are true, the oldest first, each with its reason.
 ghost use Rattle.std.specs.Prelude.{◌≡◌, ◌-◌, ◌<◌, ◌≤◌, [], ◌∷◌, ◌++◌, length, take, map, replicate, slice_get, slice_set, vec_len, vec_capacity, Option, Some, None, IfOk};
 ghost use Rattle.bs_clause.specs.Literal.{has_literal};
-ghost use Rattle.bs_solve.specs.Places.{TrailState, IsUnassigned, literals_of};
+ghost use Rattle.bs_solve.specs.Trail.{IsTrueOn};
+ghost use Rattle.bs_solve.specs.Places.{TrailState, IsUnassigned, IsTrueFrom, literals_of};
 
 use crate::place::Place;
 use bs_clause::{Lit, NoMemory};
@@ -48,7 +49,8 @@ impl Trail {
     /// The place of a number, from 0.
     pub fn place(&self, at: usize) -> Place
         requires { at < length self.now.places }
-        ensures { slice_get self.now.places at ≡ Some result }
+        ensures there { slice_get self.now.places at ≡ Some result }
+        ensures range { result.literal.variable ≤ self.now.vars }
     {
         self.places[at]
     }
@@ -70,6 +72,18 @@ impl Trail {
         ensures { result ≡ has_literal (literals_of self.now.places) l }
     {
         self.is_true_before(l, self.places.len())
+    }
+
+    /// The number of places from which on the literal is true.
+    pub fn true_from(&self, l: Lit) -> usize
+        requires range { l.variable ≤ self.now.vars }
+        requires is_true { IsTrueOn (literals_of self.now.places) l }
+        ensures { IsTrueFrom self.now.places l result }
+    {
+        match self.positions[l.var().0 as usize - 1] {
+            Some(at) => at + 1,
+            None => 0,
+        }
     }
 
     /// Takes the next place. It takes no memory.

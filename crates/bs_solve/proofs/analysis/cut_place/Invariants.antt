@@ -1,5 +1,5 @@
-use Rattle.std.proofs.Common.{◌≡◌, ◌-◌, ◌≤◌, ◌<◌, true, ℕ}
-use Rattle.bs_solve.specs.Point.{is_alone_at, IsDecisionAt}
+use Rattle.std.proofs.Common.{◌-◌, ◌≤◌, ◌<◌, ℕ}
+use Rattle.bs_solve.specs.Point.{IsDecisionAt}
 use Rattle.bs_solve.proofs.analysis.cut_place.Given as goal
 
 abbrev pub invariant-loop-down : goal.invariant-loop-down
@@ -8,7 +8,7 @@ invariant-loop-down l = record {
   below : l.down ≤ l.cut;
   high : l.cut ≤ l.start;
   decided : IsDecisionAt l.trail.places l.cut;
-  alone : is_alone_at l.trail.places l.cut l.denied l.clause ≡ true;
+  alone : l.from ≤ l.cut;
   none_between : (j : ℕ) → l.down ≤ j → j < l.cut → ¬ IsDecisionAt l.trail.places j;
 }
 

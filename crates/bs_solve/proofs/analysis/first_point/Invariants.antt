@@ -1,9 +1,8 @@
-use Rattle.std.proofs.Common.{◌-◌}
-use Rattle.bs_solve.proofs.Points.{PointWalk}
+use Rattle.bs_solve.proofs.Pointing.{PointMarks}
 use Rattle.bs_solve.proofs.analysis.first_point.Given as goal
 
-abbrev pub invariant-loop-down : goal.invariant-loop-down
-invariant-loop-down l = PointWalk l.clauses l.trail.places l.start l.down l.left l.hints.items
+abbrev pub invariant-walk : goal.invariant-walk
+invariant-walk l = PointMarks l.clauses l.trail.places l.start l.down l.trail.vars l.marks l.hints.items l.ahead
 
-abbrev pub decreases-loop-down : goal.decreases-loop-down
-decreases-loop-down l = l.down - l.start
+abbrev pub decreases-walk : goal.decreases-walk
+decreases-walk l = l.down

@@ -1,61 +1,95 @@
-use Rattle.std.proofs.Common.{◌≡◌, ◌-◌, ◌<◌, ◌≤◌, ◌++◌, ◌∷◌, [], ap, ◌∙◌, sym, subst, arith, List, inl, inr, true}
+use Rattle.std.proofs.Common.{◌≡◌, ◌+◌, ◌-◌, ◌<◌, ◌≤◌, ◌++◌, ◌∷◌, [], drop, ap, ◌∙◌, sym, subst, arith, inl, inr, true}
 use Rattle.std.specs.Prelude.{Contains}
-use Rattle.std.proofs.lemmas.Bool.{both_ways}
 use Rattle.std.proofs.lemmas.List.Elements.{All-contains}
 use Rattle.std.proofs.lemmas.Option.{get_or_from_slice_get}
-use Rattle.bs_clause.specs.Literal.{Literal, Clause, negation}
+use Rattle.bs_clause.specs.Literal.{Clause}
+use Rattle.bs_clause.specs.Range.{HasVariables}
 use Rattle.bs_log.specs.Refusal.{has_distinct_variables}
+use Rattle.bs_solve.specs.Trail.{IsConflict}
+use Rattle.bs_solve.specs.Places.{literals_of}
+use Rattle.bs_solve.specs.Marks.{HasMarked}
 use Rattle.bs_solve.proofs.Lists.{Contains_from_get}
-use Rattle.bs_solve.proofs.Walks.{walk_end}
-use Rattle.bs_solve.proofs.Points.{final_start, final_past, final_step, final_end, reason_at}
+use Rattle.bs_solve.proofs.Points.{reason_at}
+use Rattle.bs_solve.proofs.Marking.{count_first_marks, sound_apart, touched_all, taken}
+use Rattle.bs_solve.proofs.Pointing.{final_start, final_past, final_step, final_end, reason_known, stands_behind}
 use Rattle.bs_solve.proofs.analysis.to_unforced.Goals as goal
 
-pub loop-down-init : goal.loop-down-init
-loop-down-init c =
-    let clauses = c.args.clauses.now in
-    let places = c.args.trail.now.places in
+pub mark_all-requires-clause-apart : goal.mark_all-requires-clause-apart
+mark_all-requires-clause-apart c = sound_apart c.args.clauses.now c.requires.sound.0 c.requires.sound.1 c.args.trail.now.places c.requires.sound.2
+
+pub mark_all-requires-clause-known : goal.mark_all-requires-clause-known
+mark_all-requires-clause-known c =
     let conflict = c.requires.conflict in
-    final_start clauses places c.args.conflict conflict.clause c.in_ok-left.left c.push.new.self.items c.len-down.result c.len-down.ensures.length
-    (c.in_ok-left.ensures ∙ c.slice.ensures ∙ c.index-clauses-conflict.is ∙ get_or_from_slice_get clauses c.args.conflict conflict.clause c.index-clauses-conflict.result conflict.there)
+    let is_clause : c.slice.result.now ≡ conflict.clause =
+    c.slice.ensures ∙ c.index-clauses-conflict.is ∙ get_or_from_slice_get c.args.clauses.now c.args.conflict conflict.clause c.index-clauses-conflict.result conflict.there in
+    let f : IsConflict (literals_of c.args.trail.now.places) c.slice.result.now = subst (IsConflict (literals_of c.args.trail.now.places)) (sym is_clause) conflict.false_now in
+    λ k d h. inr (f k d h)
+
+pub walk-init : goal.walk-init
+walk-init c =
+    let clauses = c.args.clauses.now in
+    let conflict = c.requires.conflict in
+    let in_clauses : Contains clauses conflict.clause = Contains_from_get clauses c.args.conflict conflict.clause conflict.there in
+    let is_clause : c.slice.result.now ≡ conflict.clause =
+    c.slice.ensures ∙ c.index-clauses-conflict.is ∙ get_or_from_slice_get clauses c.args.conflict conflict.clause c.index-clauses-conflict.result conflict.there in
+    final_start clauses c.requires.sound.0 c.requires.sound.1 c.args.trail.now.places c.args.trail.now.vars c.args.conflict conflict.clause c.args.marks.now c.mark_all.new.marks
+    c.push.new.self.items c.in_ok-ahead.ahead c.len-down.result c.requires.sound.2 conflict.there
+    (All-contains (λ (x : Clause). has_distinct_variables x ≡ true) clauses conflict.clause c.requires.distinct in_clauses) conflict.false_now
+    (All-contains (HasVariables c.args.trail.now.vars) clauses conflict.clause c.requires.range in_clauses) c.requires.clear
+    (subst (HasMarked c.args.marks.now c.mark_all.new.marks) is_clause c.in_ok-ahead.ensures.marked)
+    (count_first_marks (c.args.trail.now.vars + 1) c.in_ok-ahead.ahead c.args.marks.now c.mark_all.new.marks (drop 0 c.args.trail.now.places) c.requires.clear c.in_ok-ahead.ensures.count) c.len-down.ensures.length
     (c.in_ok-push.ensures.items ∙ ap (λ xs. xs ++ c.args.conflict ∷ []) c.new-hints.ensures.items)
-    conflict.there (All-contains (λ (x : Clause). has_distinct_variables x ≡ true) clauses conflict.clause c.requires.distinct (Contains_from_get clauses c.args.conflict conflict.clause conflict.there))
-    conflict.false_now
+
+pub has-requires : goal.has-requires
+has-requires c = (let r = c.place-place.ensures.range in let f = c.walk.invariant.flags in omega (arith, r, f))
+
+pub walk-preserved : goal.walk-preserved
+walk-preserved c =
+    let above : 0 < c.walk.down = c.walk-test.true in
+    final_past c.args.clauses.now c.args.trail.now.places c.walk.down (c.walk.down - 1) c.args.trail.now.vars c.walk.marks c.walk.hints.items c.walk.ahead c.place-place.result
+    (omega (arith, above)) c.place-place.ensures.there (inl (sym c.has.ensures ∙ c.if-has.false)) c.walk.invariant
+
+pub walk-preserved-in-None : goal.walk-preserved-in-None
+walk-preserved-in-None c =
+    let above : 0 < c.walk.down = c.walk-test.true in
+    final_past c.args.clauses.now c.args.trail.now.places c.walk.down (c.walk.down - 1) c.args.trail.now.vars c.walk.marks c.walk.hints.items c.walk.ahead c.place-place.result
+    (omega (arith, above)) c.place-place.ensures.there (inr c.in-None.is) c.walk.invariant
+
+pub trade-requires-clause-apart : goal.trade-requires-clause-apart
+trade-requires-clause-apart c = sound_apart c.args.clauses.now c.requires.sound.0 c.requires.sound.1 c.args.trail.now.places c.requires.sound.2
 
 pub trade-requires-clause-reason : goal.trade-requires-clause-reason
 trade-requires-clause-reason c =
-    reason_at c.args.clauses.now c.requires.sound.0 c.requires.sound.1 c.args.trail.now.places (c.loop-down.down - 1) c.place-place.result c.in-Some.reason c.requires.sound.2
-    c.place-place.ensures c.in-Some.is
+    reason_at c.args.clauses.now c.requires.sound.0 c.requires.sound.1 c.args.trail.now.places (c.walk.down - 1) c.place-place.result c.in-Some.reason c.requires.sound.2
+    c.place-place.ensures.there c.in-Some.is
 
-pub loop-down-preserved-in-Some : goal.loop-down-preserved-in-Some
-loop-down-preserved-in-Some c =
-    let literal = c.place-place.result.literal in
-    let above : 0 < c.loop-down.down = c.loop-down-test.true in
-    final_step c.args.clauses.now c.requires.sound.0 c.requires.sound.1 c.args.trail.now.places c.loop-down.down (c.loop-down.down - 1) c.loop-down.left c.loop-down.hints.items c.place-place.result c.in-Some.reason
-    c.in_ok-left-in-Some.left c.trade.new.hints.items c.requires.sound.2 c.requires.distinct (omega (arith, above)) c.place-place.ensures c.in-Some.is
-    (subst (λ (xs : List Literal). Contains xs (negation literal)) c.slice-in-loop-down.ensures (subst (Contains c.slice-in-loop-down.result.now) c.negate.ensures (c.has_literal.ensures.member.0 c.if-has_literal.true)))
-    c.in_ok-left-in-Some.ensures.lits c.in_ok-left-in-Some.ensures.hints c.loop-down.invariant
+pub trade-requires-clause-known : goal.trade-requires-clause-known
+trade-requires-clause-known c =
+    reason_known c.args.clauses.now c.requires.sound.0 c.requires.sound.1 c.args.trail.now.places (c.walk.down - 1) c.walk.marks c.place-place.result c.in-Some.reason c.requires.sound.2
+    c.place-place.ensures.there c.in-Some.is (sym c.has.ensures ∙ c.if-has.true)
 
-pub loop-down-preserved-in-None : goal.loop-down-preserved-in-None
-loop-down-preserved-in-None c =
-    let above : 0 < c.loop-down.down = c.loop-down-test.true in
-    final_past c.args.clauses.now c.args.trail.now.places c.loop-down.down (c.loop-down.down - 1) c.loop-down.left c.loop-down.hints.items c.place-place.result
-    (omega (arith, above)) c.place-place.ensures (inr c.in-None.is) c.loop-down.invariant
+pub trade-requires-clause-there : goal.trade-requires-clause-there
+trade-requires-clause-there c = stands_behind c.args.trail.now.places 0 (c.walk.down - 1) c.place-place.result (omega arith) c.place-place.ensures.there
 
-pub loop-down-preserved : goal.loop-down-preserved
-loop-down-preserved c =
-    let literal = c.place-place.result.literal in
-    let above : 0 < c.loop-down.down = c.loop-down-test.true in
-    final_past c.args.clauses.now c.args.trail.now.places c.loop-down.down (c.loop-down.down - 1) c.loop-down.left c.loop-down.hints.items c.place-place.result
-    (omega (arith, above)) c.place-place.ensures
-    (inl (λ there. both_ways c.has_literal.result c.if-has_literal.false
-    (c.has_literal.ensures.member.1 (subst (Contains c.slice-in-loop-down.result.now) (sym c.negate.ensures) (subst (λ (xs : List Literal). Contains xs (negation literal)) (sym c.slice-in-loop-down.ensures) there)))))
-    c.loop-down.invariant
+pub walk-preserved-in-Some : goal.walk-preserved-in-Some
+walk-preserved-in-Some c =
+    let above : 0 < c.walk.down = c.walk-test.true in
+    final_step c.args.clauses.now c.requires.sound.0 c.requires.sound.1 c.args.trail.now.places c.walk.down (c.walk.down - 1) c.args.trail.now.vars c.walk.marks c.trade.new.marks
+    c.walk.hints.items c.trade.new.hints.items c.walk.ahead c.in_ok-ahead-in-Some.ahead c.place-place.result c.in-Some.reason c.requires.sound.2 c.requires.distinct c.requires.range
+    (omega (arith, above)) c.place-place.ensures.there c.in-Some.is (sym c.has.ensures ∙ c.if-has.true)
+    c.in_ok-ahead-in-Some.ensures.marks c.in_ok-ahead-in-Some.ensures.count c.in_ok-ahead-in-Some.ensures.hints c.walk.invariant
+
+pub marked_lits-requires : goal.marked_lits-requires
+marked_lits-requires c = touched_all c.args.clauses.now c.args.trail.now.places c.walk.down c.walk.marks c.walk.hints.items c.walk.invariant.walk
 
 pub returns-clause-learnt : goal.returns-clause-learnt
 returns-clause-learnt c =
-    walk_end c.args.clauses.now c.args.trail.now.places c.loop-down.down c.loop-down.left c.loop-down.hints.items c.loop-down.invariant.walk
+    (taken c.args.clauses.now c.requires.sound.0 c.requires.sound.1 c.args.trail.now.places c.walk.down c.walk.marks c.marked_lits.new.marks c.walk.hints.items c.in_ok-lits.lits
+    c.requires.sound.2 c.walk.invariant.walk c.in_ok-lits.ensures).learnt
 
 pub returns-clause-unforced : goal.returns-clause-unforced
 returns-clause-unforced c =
-    let end : c.loop-down.down ≤ 0 = c.loop-down-test.false in
-    final_end c.args.clauses.now c.args.trail.now.places c.loop-down.down c.loop-down.left c.loop-down.hints.items (omega (arith, end)) c.loop-down.invariant
+    let end : c.walk.down ≤ 0 = c.walk-test.false in
+    final_end c.args.clauses.now c.args.trail.now.places c.walk.down c.args.trail.now.vars c.walk.marks c.walk.hints.items c.walk.ahead c.in_ok-lits.lits (omega (arith, end)) c.walk.invariant
+    (taken c.args.clauses.now c.requires.sound.0 c.requires.sound.1 c.args.trail.now.places c.walk.down c.walk.marks c.marked_lits.new.marks c.walk.hints.items c.in_ok-lits.lits
+    c.requires.sound.2 c.walk.invariant.walk c.in_ok-lits.ensures)

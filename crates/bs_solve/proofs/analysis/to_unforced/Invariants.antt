@@ -1,8 +1,8 @@
-use Rattle.bs_solve.proofs.Points.{FinalWalk}
+use Rattle.bs_solve.proofs.Pointing.{FinalMarks}
 use Rattle.bs_solve.proofs.analysis.to_unforced.Given as goal
 
-abbrev pub invariant-loop-down : goal.invariant-loop-down
-invariant-loop-down l = FinalWalk l.clauses l.trail.places l.down l.left l.hints.items
+abbrev pub invariant-walk : goal.invariant-walk
+invariant-walk l = FinalMarks l.clauses l.trail.places l.down l.trail.vars l.marks l.hints.items l.ahead
 
-abbrev pub decreases-loop-down : goal.decreases-loop-down
-decreases-loop-down l = l.down
+abbrev pub decreases-walk : goal.decreases-walk
+decreases-walk l = l.down

@@ -41,7 +41,7 @@ log_lemma-requires-clause-new c =
     let denied = c.negate-denied.result in
     let cut : IsCut places c.args.base c.args.start denied lits c.cut_place-cut.result = subst (λ (xs : Clause). IsCut places c.args.base c.args.start denied xs c.cut_place-cut.result) c.slice.ensures c.cut_place-cut.ensures in
     learnt_is_new c.args.book.now c.args.base c.args.start c.cut_place-cut.result c.in_ok-learnt.learnt.at places lits denied c.requires.sound point
-    (denied_is places c.args.start c.in_ok-learnt.learnt.at lits c.place.result denied point c.place.ensures c.negate-denied.ensures) cut
+    (denied_is places c.args.start c.in_ok-learnt.learnt.at lits c.place.result denied point c.place.ensures.there c.negate-denied.ensures) cut
 
 pub assign-requires : goal.assign-requires
 assign-requires c =
@@ -53,7 +53,7 @@ assign-requires c =
     subst (λ (s : TrailState). IsUnassigned s denied) (sym c.cut.ensures)
     (unassigned_after_cut c.args.book.now c.args.trail.now.vars c.args.base c.args.start c.cut_place-cut.result c.in_ok-learnt.learnt.at places lits c.in_ok-learnt.learnt.hints.items denied c.requires.sound c.requires.range
     (subst (λ cs. IsLearnt cs lits c.in_ok-learnt.learnt.hints.items) c.clauses.ensures c.in_ok-learnt.ensures.learnt) point
-    (denied_is places c.args.start c.in_ok-learnt.learnt.at lits c.place.result denied point c.place.ensures c.negate-denied.ensures) cut)
+    (denied_is places c.args.start c.in_ok-learnt.learnt.at lits c.place.result denied point c.place.ensures.there c.negate-denied.ensures) cut)
 
 pub returns-clause-ok : goal.returns-clause-ok
 returns-clause-ok c =
@@ -68,7 +68,7 @@ returns-clause-ok c =
     (has_learnt c.args.book.now c.log_lemma.new.self c.args.trail.now.vars c.args.base c.args.start c.cut_place-cut.result c.in_ok-learnt.learnt.at c.in_ok-log_lemma.field-0 places lits
     c.in_ok-learnt.learnt.hints.items denied (length c.clauses-reason.result.now) c.requires.sound c.requires.given c.requires.range c.requires.start.0 c.requires.room
     (subst (λ cs. IsLearnt cs lits c.in_ok-learnt.learnt.hints.items) c.clauses.ensures c.in_ok-learnt.ensures.learnt) point
-    (denied_is places c.args.start c.in_ok-learnt.learnt.at lits c.place.result denied point c.place.ensures c.negate-denied.ensures) cut
+    (denied_is places c.args.start c.in_ok-learnt.learnt.at lits c.place.result denied point c.place.ensures.there c.negate-denied.ensures) cut
     (ap length c.clauses-reason.ensures) c.in_ok-log_lemma.ensures.id
     (c.in_ok-log_lemma.ensures.line ∙ ap (λ hs. with_lemma c.args.book.now c.in_ok-log_lemma.field-0 lits (ids_of (reverse hs))) c.as_slice.ensures.value)
     c.in_ok-log_lemma.ensures.stands c.in_ok-log_lemma.ensures.entry)

@@ -1,4 +1,4 @@
-use Rattle.std.proofs.Common.{◌≡◌, ◌≤◌, ◌++◌, ◌∷◌, [], length, ap, ◌∙◌, sym, subst, None, true}
+use Rattle.std.proofs.Common.{◌≡◌, ◌+◌, ◌≤◌, ◌++◌, ◌∷◌, [], length, ap, ◌∙◌, sym, subst, None, true}
 use Rattle.std.specs.Prelude.{All}
 use Rattle.bs_log.specs.Refusal.{has_distinct_variables}
 use Rattle.bs_solve.specs.Places.{TrailState}
@@ -8,6 +8,7 @@ use Rattle.bs_solve.specs.Scan.{Propagates}
 use Rattle.bs_solve.specs.Book.{standing}
 use Rattle.bs_solve.specs.Search.{HasLearnt}
 use Rattle.bs_solve.specs.Ending.{SomeLemmas}
+use Rattle.bs_solve.specs.Marks.{IsClear}
 use Rattle.bs_solve.specs.Turn.{InSearch}
 use Rattle.bs_solve.proofs.Endings.{search_finds, search_decides, search_learns, search_is_spent, learnt_ranges, learnt_distinct, refuted_ranges, refuted_distinct, some_lemmas, some_and_last}
 use Rattle.bs_solve.proofs.search.take_turns.Goals as goal
@@ -28,6 +29,7 @@ pub turns-preserved-in-Some : goal.turns-preserved-in-Some
 turns-preserved-in-Some c = record {
   vars = c.propagate-outcome.ensures.vars ∙ ap (λ (s : TrailState). s.vars) c.assign.ensures ∙ c.turns.invariant.vars;
   room = subst (λ n. length c.propagate-outcome.new.trail.places ≤ n) (c.propagate-outcome.ensures.vars ∙ ap (λ (s : TrailState). s.vars) c.assign.ensures ∙ c.turns.invariant.vars) c.propagate-outcome.ensures.room;
+  clear = c.turns.invariant.clear;
   turn = search_decides c.args.book.now c.args.vars c.len-base.result c.turns.conflicts c.args.limit c.turns.book c.turns.trail.places c.propagate-outcome.new.trail.places c.in-Some.literal c.propagate-outcome.result
       (subst (InSearch c.args.book.now c.args.vars c.len-base.result c.turns.conflicts c.args.limit c.turns.book c.turns.trail.places) c.in-Quiet.is c.turns.invariant.turn)
       c.in-Some.ensures.some.unassigned
@@ -79,6 +81,7 @@ turns-preserved c =
     record {
       vars = vars;
       room = subst (λ n. length c.propagate-outcome-in-Some-last_decision.new.trail.places ≤ n) vars c.propagate-outcome-in-Some-last_decision.ensures.room;
+      clear = subst (λ n. IsClear (n + 1) c.learn.new.marks) c.turns.invariant.vars c.in_ok-learn-in-Some-last_decision.ensures.clear;
       turn = search_learns c.args.book.now c.args.vars c.len-base.result c.turns.conflicts c.args.limit c.turns.book c.learn.new.book c.turns.trail.places c.learn.new.trail
           c.propagate-outcome-in-Some-last_decision.new.trail.places c.turns.outcome c.propagate-outcome-in-Some-last_decision.result
           c.turns.invariant.turn learnt c.if-conflicts-limit.false

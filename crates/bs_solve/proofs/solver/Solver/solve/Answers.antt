@@ -1,4 +1,5 @@
 use Rattle.std.proofs.Common.{sym, subst}
+use Rattle.bs_solve.specs.Stages.{is_begun}
 use Rattle.bs_solve.specs.Solver.{SolverState, MaySolve, Follows}
 use Rattle.bs_solve.proofs.Solving.{ready_after_solve, has_solved, follows_lemmas}
 use Rattle.bs_solve.proofs.solver.Solver.solve.Goals as goal
@@ -19,10 +20,12 @@ returns-clause-ok c =
 
 pub returns-in_err-answer-clause-lines : goal.returns-in_err-answer-clause-lines
 returns-in_err-answer-clause-lines c =
-    follows_lemmas c.args.self.now.book c.begin_solve.new.book c.search.new.book c.args.assumptions.now
-    (subst (λ (s : SolverState). Follows s.book c.begin_solve.new.book c.args.assumptions.now) c.self.view_is c.in_ok-begin_solve.ensures.lines) c.in_err-answer.ensures.lemmas
+    follows_lemmas (is_begun c.args.self.now.stage) c.args.self.now.book c.begin_solve.new.book c.search.new.book c.args.assumptions.now
+    (subst (λ (s : SolverState). Follows (is_begun s.stage) s.book c.begin_solve.new.book c.args.assumptions.now) c.self.view_is
+    (subst (λ b. Follows b c.self.inside.book c.begin_solve.new.book c.args.assumptions.now) c.is_begun.ensures c.in_ok-begin_solve.ensures.lines)) c.in_err-answer.ensures.lemmas
 
 pub returns-clause-lines : goal.returns-clause-lines
 returns-clause-lines c =
-    follows_lemmas c.args.self.now.book c.begin_solve.new.book c.search.new.book c.args.assumptions.now
-    (subst (λ (s : SolverState). Follows s.book c.begin_solve.new.book c.args.assumptions.now) c.self.view_is c.in_ok-begin_solve.ensures.lines) c.in_ok-answer.ensures.lemmas
+    follows_lemmas (is_begun c.args.self.now.stage) c.args.self.now.book c.begin_solve.new.book c.search.new.book c.args.assumptions.now
+    (subst (λ (s : SolverState). Follows (is_begun s.stage) s.book c.begin_solve.new.book c.args.assumptions.now) c.self.view_is
+    (subst (λ b. Follows b c.self.inside.book c.begin_solve.new.book c.args.assumptions.now) c.is_begun.ensures c.in_ok-begin_solve.ensures.lines)) c.in_ok-answer.ensures.lemmas
