@@ -49,8 +49,10 @@ append_distinct k (x ∷ xs) ys below above dx dy =
     let parts = distinct_parts x xs dx in
     let lt : x.variable < k = below.0 in
     let past : names x.variable ys ≡ false =
-    apart_from_each x.variable ys (weaken (λ (m : Literal). k ≤ m.variable) (λ (m : Literal). m.variable ≡ x.variable → ⊥) (λ m le e. omega (arith, le, lt, e)) ys above) in
-    distinct_cons x (xs ++ ys) (list_any-append (λ (m : Literal). eqb m.variable x.variable) xs ys ∙ or_from (names x.variable xs) (names x.variable ys) parts.0 past)
+    apart_from_each x.variable ys (weaken (λ (m : Literal). k ≤ m.variable) (λ (m : Literal). m.variable ≡ x.variable → ⊥)
+    (λ m le e. omega (arith, le, lt, e)) ys above) in
+    distinct_cons x (xs ++ ys) (list_any-append (λ (m : Literal). eqb m.variable x.variable) xs ys
+    ∙ or_from (names x.variable xs) (names x.variable ys) parts.0 past)
     (append_distinct k xs ys below.1 above parts.1 dy)
 
 -- ---- a clause with each literal once, and without a literal and its negation
@@ -71,7 +73,8 @@ distinct_filter test (l ∷ c) h =
     let parts = distinct_parts l c h in
     by (test l) parts.0 (distinct_filter test c parts.1)
   where
-    by : (b : Bool) → names l.variable c ≡ false → has_distinct_variables (filter test c) ≡ true → has_distinct_variables (cond b (l ∷ filter test c) (filter test c)) ≡ true
+    by : (b : Bool) → names l.variable c ≡ false → has_distinct_variables (filter test c) ≡ true →
+        has_distinct_variables (cond b (l ∷ filter test c) (filter test c)) ≡ true
     by true apart rest = distinct_cons l (filter test c) (any_filter (λ (m : Literal). eqb m.variable l.variable) test c apart) rest
     by false apart rest = rest
 
@@ -104,7 +107,8 @@ apart_without l (m ∷ c) h =
     let parts = or_parts (same_literal (negation l) m) (has_literal c (negation l)) h in
     by (same_literal l m) refl parts.0 (apart_without l c parts.1)
   where
-    by : (b : Bool) → same_literal l m ≡ b → same_literal (negation l) m ≡ false → names l.variable (without l c) ≡ false → names l.variable (cond (not b) (m ∷ without l c) (without l c)) ≡ false
+    by : (b : Bool) → same_literal l m ≡ b → same_literal (negation l) m ≡ false → names l.variable (without l c) ≡ false →
+        names l.variable (cond (not b) (m ∷ without l c) (without l c)) ≡ false
     by true e f rest = rest
     by false e f rest = or_from (eqb m.variable l.variable) (names l.variable (without l c)) (other_variable l m e f) rest
 
@@ -130,7 +134,8 @@ tidied_distinct [] = tt
 tidied_distinct (c ∷ cs) = by (is_tautology c) refl (tidied_distinct cs)
   where
     by : (b : Bool) → is_tautology c ≡ b → AllByRecursion (λ (d : Clause). has_distinct_variables d ≡ true) (tidied cs) →
-        AllByRecursion (λ (d : Clause). has_distinct_variables d ≡ true) (map once (cond (not b) (c ∷ filter (λ d. not (is_tautology d)) cs) (filter (λ d. not (is_tautology d)) cs)))
+        AllByRecursion (λ (d : Clause). has_distinct_variables d ≡ true)
+        (map once (cond (not b) (c ∷ filter (λ d. not (is_tautology d)) cs) (filter (λ d. not (is_tautology d)) cs)))
     by true e rest = rest
     by false e rest = (once_distinct c e, rest)
 
@@ -139,7 +144,8 @@ transition_distinct c items = tidied_distinct (table_clauses c items)
 
 -- ---- signs change no variable
 
-pub signed_all : (P : ℕ → Type 0) (c : Clause) (bs : List Bool) → AllByRecursion (λ (l : Literal). P l.variable) c → AllByRecursion (λ (l : Literal). P l.variable) (signed c bs)
+pub signed_all : (P : ℕ → Type 0) (c : Clause) (bs : List Bool) → AllByRecursion (λ (l : Literal). P l.variable) c →
+    AllByRecursion (λ (l : Literal). P l.variable) (signed c bs)
 signed_all P [] bs h = tt
 signed_all P (l ∷ c) [] h = tt
 signed_all P (l ∷ c) (b ∷ bs) h = (h.0, signed_all P c bs h.1)
@@ -173,7 +179,8 @@ numbers_distinct j zero = refl
 numbers_distinct j (suc k) =
     distinct_cons (lit j true) (literals (range_with_len (j + 1) k))
     (apart_from_each j (literals (range_with_len (j + 1) k))
-    (weaken (λ (m : Literal). j + 1 ≤ m.variable) (λ (m : Literal). m.variable ≡ j → ⊥) (λ m le e. omega (arith, le, e)) (literals (range_with_len (j + 1) k)) (above_numbers (j + 1) (j + 1) k (omega arith))))
+    (weaken (λ (m : Literal). j + 1 ≤ m.variable) (λ (m : Literal). m.variable ≡ j → ⊥) (λ m le e. omega (arith, le, e)) (literals (range_with_len (j + 1) k))
+    (above_numbers (j + 1) (j + 1) k (omega arith))))
     (numbers_distinct (j + 1) k)
 
 pub above_items : (m v : ℕ) (items : List (List ℕ)) → m ≤ v → AllByRecursion (λ (l : Literal). m ≤ l.variable) (literals (item_vars v items))
@@ -186,7 +193,8 @@ items_distinct v (item ∷ items) =
     let own : ℕ = v + item_helpers item in
     distinct_cons (lit own true) (literals (item_vars (own + 1) items))
     (apart_from_each own (literals (item_vars (own + 1) items))
-    (weaken (λ (m : Literal). own + 1 ≤ m.variable) (λ (m : Literal). m.variable ≡ own → ⊥) (λ m le e. omega (arith, le, e)) (literals (item_vars (own + 1) items)) (above_items (own + 1) (own + 1) items (omega arith))))
+    (weaken (λ (m : Literal). own + 1 ≤ m.variable) (λ (m : Literal). m.variable ≡ own → ⊥) (λ m le e. omega (arith, le, e))
+    (literals (item_vars (own + 1) items)) (above_items (own + 1) (own + 1) items (omega arith))))
     (items_distinct (own + 1) items)
 
 -- ---- the flip-flops' outputs have one driver each
@@ -209,13 +217,15 @@ right_distinct : (xs ys : List ℕ) → IsDistinct nat_eq (xs ++ ys) → IsDisti
 right_distinct [] ys h = h
 right_distinct (x ∷ xs) ys h = right_distinct xs ys (IsDistinct-tail nat_eq x (xs ++ ys) h)
 
-state_apart : (n : ℕ) (fs : List Flop) → AllByRecursion (λ y. nat_eq n y ≡ false) (map number (map (λ (f : Flop). f.q) fs)) → names (n + 1) (literals (map (λ (f : Flop). net_var f.q) fs)) ≡ false
+state_apart : (n : ℕ) (fs : List Flop) → AllByRecursion (λ y. nat_eq n y ≡ false) (map number (map (λ (f : Flop). f.q) fs)) →
+    names (n + 1) (literals (map (λ (f : Flop). net_var f.q) fs)) ≡ false
 state_apart n [] h = refl
 state_apart n (f ∷ fs) h =
     or_from (eqb (f.q.0 + 1) (n + 1)) (names (n + 1) (literals (map (λ (g : Flop). net_var g.q) fs)))
     (ne_eqb (f.q.0 + 1) (n + 1) (λ e. eqb-false n f.q.0 h.0 (omega (arith, e)))) (state_apart n fs h.1)
 
-nets_distinct : (fs : List Flop) → IsDistinct nat_eq (map number (map (λ (f : Flop). f.q) fs)) → has_distinct_variables (literals (map (λ (f : Flop). net_var f.q) fs)) ≡ true
+nets_distinct : (fs : List Flop) → IsDistinct nat_eq (map number (map (λ (f : Flop). f.q) fs)) →
+    has_distinct_variables (literals (map (λ (f : Flop). net_var f.q) fs)) ≡ true
 nets_distinct [] h = refl
 nets_distinct (f ∷ fs) h =
     let rest = map number (map (λ (g : Flop). g.q) fs) in

@@ -27,14 +27,16 @@ toggle =
     }
 
 toggle_clauses : transition_clauses toggle [] ≡
-    (lit 2 false ∷ lit 3 false ∷ []) ∷ (lit 2 true ∷ lit 3 true ∷ []) ∷ (lit 1 false ∷ []) ∷ (lit 4 false ∷ lit 2 true ∷ []) ∷ (lit 4 true ∷ lit 2 false ∷ []) ∷ []
+    (lit 2 false ∷ lit 3 false ∷ []) ∷ (lit 2 true ∷ lit 3 true ∷ []) ∷ (lit 1 false ∷ []) ∷ (lit 4 false ∷ lit 2 true ∷ []) ∷ (lit 4 true ∷ lit 2 false ∷ [])
+    ∷ []
 toggle_clauses = refl
 
 toggle_variables : variables toggle [] ≡ 4
 toggle_variables = refl
 
 -- two steps: from the state 1, and from the state 0
-toggle_steps : (problem_of (encoding_of toggle []) (record { state = true ∷ []; stored = [] ∷ [] } ∷ record { state = false ∷ []; stored = [] ∷ [] } ∷ [])).steps ≡
+toggle_steps : (problem_of (encoding_of toggle [])
+    (record { state = true ∷ []; stored = [] ∷ [] } ∷ record { state = false ∷ []; stored = [] ∷ [] } ∷ [])).steps ≡
     (lit 5 true ∷ lit 4 true ∷ []) ∷ (lit 6 true ∷ lit 4 false ∷ []) ∷ []
 toggle_steps = refl
 

@@ -15,7 +15,7 @@ use Rattle.bs_net.specs.Netlist.{circuit_of, clock_of}
 use Rattle.bs_net.proofs.NetlistLemmas.{without_placed}
 use Rattle.bs_net.proofs.NextLemmas.{below_from_range, range_from_below}
 use Rattle.bs_encode.specs.Transition.{net_var, first_helper, first_next, first_item, state_vars, gates_clauses, unit_clauses, next_clauses, items_clauses, table_clauses, transition_clauses}
-use Rattle.bs_encode.specs.Meaning.{IsPlaced, ShowsStep, nets_of, ClausesEqualGates}
+use Rattle.bs_encode.specs.Meaning.{IsClosed, ShowsStep, nets_of, ClausesEqualGates}
 use Rattle.bs_encode.proofs.TidyLemmas.{meets, meets_all, meets-tidied}
 use Rattle.bs_encode.proofs.TableLemmas.{and_true, meets_all-append, Has, has_left, has_right}
 use Rattle.bs_encode.proofs.PartLemmas.{OnNets, GatePlaced, FlopPlaced, ItemPlaced, OnState, UnitsSay, gates_bits, length-gates_bits, items_bits, gates-sound, gates-complete, next-sound, next-complete, items-sound, items-complete, unit-sound, unit-complete, flat-sound, flat-complete}
@@ -36,11 +36,12 @@ map_all P Q f (x ∷ xs) h = (f x h.0, map_all P Q f xs h.1)
 
 -- ---- what is placed, by recursion
 
-gates_placed : (nets : ℕ) (gs : List Gate) → AllByRecursion (λ (g : Gate). g.out.0 < nets) gs → AllByRecursion (λ (g : Gate). All (λ (n : NetId). n.0 < nets) g.ins) gs → AllByRecursion (GatePlaced nets) gs
+gates_placed : (nets : ℕ) (gs : List Gate) → AllByRecursion (λ (g : Gate). g.out.0 < nets) gs →
+    AllByRecursion (λ (g : Gate). All (λ (n : NetId). n.0 < nets) g.ins) gs → AllByRecursion (GatePlaced nets) gs
 gates_placed nets [] o i = tt
 gates_placed nets (g ∷ gs) o i = ((o.0, recursion_from_All (λ (n : NetId). n.0 < nets) g.ins i.0), gates_placed nets gs o.1 i.1)
 
-module _ (c : Circuit) (items : List (List ℕ)) (p : IsPlaced c items) where
+module _ (c : Circuit) (items : List (List ℕ)) (p : IsClosed c items) where
   pub gates_in_place : AllByRecursion (GatePlaced c.nets) c.gates
   gates_in_place =
       gates_placed c.nets c.gates (recursion_from_All (λ (g : Gate). g.out.0 < c.nets) c.gates p.outs)
@@ -55,19 +56,22 @@ module _ (c : Circuit) (items : List (List ℕ)) (p : IsPlaced c items) where
       (recursion_from_All (λ (item : List ℕ). All (λ i. i < length c.flops) item) items p.items_placed)
 
 -- the assignment shows on the state variables what its nets show on the state nets
-state_shown : (a : ℕ → Bool) (v : List Bool) (nets : ℕ) → OnNets a v nets → (fs : List Flop) → AllByRecursion (λ (f : Flop). f.q.0 < nets) fs → (i : ℕ) → i < length fs → a (get_or (map (λ (f : Flop). net_var f.q) fs) i 0) ≡ get_or (shown v (map (λ (f : Flop). f.q) fs)) i false
+state_shown : (a : ℕ → Bool) (v : List Bool) (nets : ℕ) → OnNets a v nets → (fs : List Flop) → AllByRecursion (λ (f : Flop). f.q.0 < nets) fs → (i : ℕ) →
+    i < length fs → a (get_or (map (λ (f : Flop). net_var f.q) fs) i 0) ≡ get_or (shown v (map (λ (f : Flop). f.q) fs)) i false
 state_shown a v nets on [] p i lt = absurd (omega arith)
 state_shown a v nets on (f ∷ fs) p zero lt = on f.q.0 p.0
 state_shown a v nets on (f ∷ fs) p (suc i) lt = state_shown a v nets on fs p.1 i (omega arith)
 
 -- ---- every assignment that meets the clauses fits
 
-constants_met : (c : Circuit) (a : ℕ → Bool) (v : List Bool) → OnNets a v c.nets → (ks : List Const) → AllByRecursion (λ (k : Const). k.net.0 < c.nets) ks → ((n : ℕ) → n < c.nets → AllByRecursion (λ (k : Const). k.net.0 ≡ n → a (n + 1) ≡ k.value) ks) → AllByRecursion (λ (k : Const). bit_at v k.net.0 ≡ k.value) ks
+constants_met : (c : Circuit) (a : ℕ → Bool) (v : List Bool) → OnNets a v c.nets → (ks : List Const) → AllByRecursion (λ (k : Const). k.net.0 < c.nets) ks →
+    ((n : ℕ) → n < c.nets → AllByRecursion (λ (k : Const). k.net.0 ≡ n → a (n + 1) ≡ k.value) ks) →
+    AllByRecursion (λ (k : Const). bit_at v k.net.0 ≡ k.value) ks
 constants_met c a v on [] p h = tt
 constants_met c a v on (k ∷ ks) p h =
     (sym (on k.net.0 p.0) ∙ (h k.net.0 p.0).0 refl, constants_met c a v on ks p.1 (λ n lt. (h n lt).1))
 
-pub meeting_fits : (c : Circuit) (items : List (List ℕ)) (a : ℕ → Bool) → IsPlaced c items → All (Satisfies a) (transition_clauses c items) →
+pub meeting_fits : (c : Circuit) (items : List (List ℕ)) (a : ℕ → Bool) → IsClosed c items → All (Satisfies a) (transition_clauses c items) →
     ShowsStep c items (shown (nets_of c a) (state_nets c)) (shown (nets_of c a) c.inputs) (nets_of c a) a
 meeting_fits c items a p m =
     let v = nets_of c a in
@@ -84,7 +88,8 @@ meeting_fits c items a p m =
     and_true _ _ (sym (meets_all-append a nexts rest) ∙ two.1) in
     let on : OnNets a v c.nets = λ n lt. sym (get_or-map-range_with_len (λ k. a (k + 1)) 0 c.nets n n false lt (zero-add n)) in
     let say : (n : ℕ) → n < c.nets → UnitsSay c a n =
-    λ n lt. unit-sound c a n (below_from_range (λ k. meets_all a (unit_clauses c k) ≡ true) c.nets (flat-sound a (unit_clauses c) (range_with_len 0 c.nets) two.0) n lt) in
+    λ n lt. unit-sound c a n (below_from_range (λ k. meets_all a (unit_clauses c k) ≡ true) c.nets
+    (flat-sound a (unit_clauses c) (range_with_len 0 c.nets) two.0) n lt) in
     let shows : Shows c (shown v (state_nets c)) (shown v c.inputs) v = record {
       every_net = length-map-range_with_len (λ n. a (n + 1)) 0 c.nets;
       input = refl;
@@ -125,7 +130,7 @@ has_from f h (b ∷ bits) all =
 abbrev every_bit : Circuit → List (List ℕ) → List Bool → List Bool → List Bool
 every_bit c items s v = v ++ (gates_bits v c.gates ++ (map (loaded v) c.flops ++ items_bits s items))
 
-pub fitting_extends : (c : Circuit) (items : List (List ℕ)) (s x v : List Bool) → IsPlaced c items → Fits c s x v →
+pub fitting_extends : (c : Circuit) (items : List (List ℕ)) (s x v : List Bool) → IsClosed c items → Fits c s x v →
     (a : ℕ → Bool) × All (Satisfies a) (transition_clauses c items) × ShowsStep c items s x v a
 fitting_extends c items s x v p f =
     let gate_part = gates_bits v c.gates in
@@ -188,14 +193,15 @@ fitting_extends c items s x v p f =
       },
     )
 
-pub equal_gates : (c : Circuit) (items : List (List ℕ)) → IsPlaced c items → ClausesEqualGates c items
+pub equal_gates : (c : Circuit) (items : List (List ℕ)) → IsClosed c items → ClausesEqualGates c items
 equal_gates c items p = record {
   extends = λ s x v f. fitting_extends c items s x v p f;
   fits = λ a m. meeting_fits c items a p m;
 }
 
 -- the nets and the flip-flops of a checked netlist and of what its signature is taken of are there
-pub parts_placed : (r : Parts) → PartsArePlaced r → (items : List (List ℕ)) → All (λ (item : List ℕ). All (λ i. i < length r.flops) item) items → IsPlaced (circuit_of r) items
+pub parts_placed : (r : Parts) → PartsArePlaced r → (items : List (List ℕ)) → All (λ (item : List ℕ). All (λ i. i < length r.flops) item) items →
+    IsClosed (circuit_of r) items
 parts_placed r p items placed = record {
   outs = λ k d lt. (p.gates.1 k d lt).0;
   ins = λ k d lt. (p.gates.1 k d lt).1.1;

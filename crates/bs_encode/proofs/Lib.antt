@@ -9,4 +9,6 @@ pub mod RoomLemmas
 pub mod SignLemmas
 pub mod RangeLemmas
 pub mod DistinctLemmas
+pub mod LiteralLemmas
+pub mod CycleLemmas
 pub mod ListingLemmas

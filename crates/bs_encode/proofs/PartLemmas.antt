@@ -27,7 +27,8 @@ use Rattle.bs_encode.proofs.TableLemmas.{beq-from, and_true, meets_all-append, H
 abbrev pub OnNets : (ℕ → Bool) → List Bool → ℕ → Type 0
 OnNets a v nets = (n : ℕ) → n < nets → a (n + 1) ≡ bit_at v n
 
-pub shown_by : (a : ℕ → Bool) (v : List Bool) (nets : ℕ) → OnNets a v nets → (ns : List NetId) → AllByRecursion (λ (n : NetId). n.0 < nets) ns → map a (map net_var ns) ≡ shown v ns
+pub shown_by : (a : ℕ → Bool) (v : List Bool) (nets : ℕ) → OnNets a v nets → (ns : List NetId) → AllByRecursion (λ (n : NetId). n.0 < nets) ns →
+    map a (map net_var ns) ≡ shown v ns
 shown_by a v nets on [] p = refl
 shown_by a v nets on (n ∷ ns) p =
     ap (λ b. b ∷ map a (map net_var ns)) (on n.0 p.0) ∙ ap (λ bs. bit_at v n.0 ∷ bs) (shown_by a v nets on ns p.1)
@@ -40,7 +41,8 @@ GatePlaced nets g = (g.out.0 < nets) × AllByRecursion (λ (n : NetId). n.0 < ne
 abbrev pub Settled : List Bool → Gate → Type 0
 Settled v g = bit_at v g.out.0 ≡ gate_value g.kind (shown v g.ins)
 
-pub gates-sound : (a : ℕ → Bool) (v : List Bool) (nets h : ℕ) (gs : List Gate) → OnNets a v nets → AllByRecursion (GatePlaced nets) gs → meets_all a (gates_clauses h gs) ≡ true → AllByRecursion (Settled v) gs
+pub gates-sound : (a : ℕ → Bool) (v : List Bool) (nets h : ℕ) (gs : List Gate) → OnNets a v nets → AllByRecursion (GatePlaced nets) gs →
+    meets_all a (gates_clauses h gs) ≡ true → AllByRecursion (Settled v) gs
 gates-sound a v nets h [] on p m = tt
 gates-sound a v nets h (g ∷ gs) on p m =
     let own = gate_clauses g.kind h (net_var g.out) (map net_var g.ins) in
@@ -68,7 +70,8 @@ length-gates_bits v (g ∷ gs) =
     let all = sum_by-cons gate_helpers g gs in
     omega (arith, length-append (gate_bits g.kind (shown v g.ins)) (gates_bits v gs))
 
-pub gates-complete : (a : ℕ → Bool) (v : List Bool) (nets h : ℕ) (gs : List Gate) → OnNets a v nets → AllByRecursion (GatePlaced nets) gs → Has a h (gates_bits v gs) → AllByRecursion (Settled v) gs → meets_all a (gates_clauses h gs) ≡ true
+pub gates-complete : (a : ℕ → Bool) (v : List Bool) (nets h : ℕ) (gs : List Gate) → OnNets a v nets → AllByRecursion (GatePlaced nets) gs →
+    Has a h (gates_bits v gs) → AllByRecursion (Settled v) gs → meets_all a (gates_clauses h gs) ≡ true
 gates-complete a v nets h [] on p k s = refl
 gates-complete a v nets h (g ∷ gs) on p k s =
     let own = gate_clauses g.kind h (net_var g.out) (map net_var g.ins) in
@@ -89,7 +92,8 @@ gates-complete a v nets h (g ∷ gs) on p k s =
 abbrev pub FlopPlaced : ℕ → Flop → Type 0
 FlopPlaced nets f = f.d.0 < nets
 
-load-sound : (a : ℕ → Bool) (v : List Bool) (nets n : ℕ) (f : Flop) → OnNets a v nets → FlopPlaced nets f → meets_all a (load_clauses n f) ≡ true → a n ≡ loaded v f
+load-sound : (a : ℕ → Bool) (v : List Bool) (nets n : ℕ) (f : Flop) → OnNets a v nets → FlopPlaced nets f → meets_all a (load_clauses n f) ≡ true →
+    a n ≡ loaded v f
 load-sound a v nets n f on p m =
     beq-true _ _ (sym (same_means a true n (net_var f.d)) ∙ m) ∙ (yes (a (net_var f.d)) ∙ on f.d.0 p)
   where
@@ -97,7 +101,8 @@ load-sound a v nets n f on p m =
     yes true = refl
     yes false = refl
 
-load-complete : (a : ℕ → Bool) (v : List Bool) (nets n : ℕ) (f : Flop) → OnNets a v nets → FlopPlaced nets f → a n ≡ loaded v f → meets_all a (load_clauses n f) ≡ true
+load-complete : (a : ℕ → Bool) (v : List Bool) (nets n : ℕ) (f : Flop) → OnNets a v nets → FlopPlaced nets f → a n ≡ loaded v f →
+    meets_all a (load_clauses n f) ≡ true
 load-complete a v nets n f on p e =
     same_means a true n (net_var f.d) ∙ beq-from _ _ (e ∙ (sym (on f.d.0 p) ∙ yes (a (net_var f.d))))
   where
@@ -105,7 +110,8 @@ load-complete a v nets n f on p e =
     yes true = refl
     yes false = refl
 
-pub next-sound : (a : ℕ → Bool) (v : List Bool) (nets n : ℕ) (fs : List Flop) → OnNets a v nets → AllByRecursion (FlopPlaced nets) fs → meets_all a (next_clauses n fs) ≡ true → map a (range_with_len n (length fs)) ≡ map (loaded v) fs
+pub next-sound : (a : ℕ → Bool) (v : List Bool) (nets n : ℕ) (fs : List Flop) → OnNets a v nets → AllByRecursion (FlopPlaced nets) fs →
+    meets_all a (next_clauses n fs) ≡ true → map a (range_with_len n (length fs)) ≡ map (loaded v) fs
 next-sound a v nets n [] on p m = refl
 next-sound a v nets n (f ∷ fs) on p m =
     let parts : (meets_all a (load_clauses n f) ≡ true) × (meets_all a (next_clauses (n + 1) fs) ≡ true) =
@@ -113,7 +119,8 @@ next-sound a v nets n (f ∷ fs) on p m =
     ap (λ b. b ∷ map a (range_with_len (n + 1) (length fs))) (load-sound a v nets n f on p.0 parts.0)
     ∙ ap (λ bs. loaded v f ∷ bs) (next-sound a v nets (n + 1) fs on p.1 parts.1)
 
-pub next-complete : (a : ℕ → Bool) (v : List Bool) (nets n : ℕ) (fs : List Flop) → OnNets a v nets → AllByRecursion (FlopPlaced nets) fs → Has a n (map (loaded v) fs) → meets_all a (next_clauses n fs) ≡ true
+pub next-complete : (a : ℕ → Bool) (v : List Bool) (nets n : ℕ) (fs : List Flop) → OnNets a v nets → AllByRecursion (FlopPlaced nets) fs →
+    Has a n (map (loaded v) fs) → meets_all a (next_clauses n fs) ≡ true
 next-complete a v nets n [] on p k = refl
 next-complete a v nets n (f ∷ fs) on p k =
     meets_all-append a (load_clauses n f) (next_clauses (n + 1) fs)
@@ -126,7 +133,8 @@ next-complete a v nets n (f ∷ fs) on p k =
 abbrev pub OnState : (ℕ → Bool) → Circuit → List Bool → Type 0
 OnState a c s = (i : ℕ) → i < length c.flops → a (get_or (state_vars c) i 0) ≡ bit_at s i
 
-item_shown : (a : ℕ → Bool) (c : Circuit) (s : List Bool) (item : List ℕ) → OnState a c s → AllByRecursion (λ i. i < length c.flops) item → map a (chosen (state_vars c) item) ≡ map (λ i. bit_at s i) item
+item_shown : (a : ℕ → Bool) (c : Circuit) (s : List Bool) (item : List ℕ) → OnState a c s → AllByRecursion (λ i. i < length c.flops) item →
+    map a (chosen (state_vars c) item) ≡ map (λ i. bit_at s i) item
 item_shown a c s [] on p = refl
 item_shown a c s (i ∷ item) on p =
     ap (λ b. b ∷ map a (chosen (state_vars c) item)) (on i p.0) ∙ ap (λ bs. bit_at s i ∷ bs) (item_shown a c s item on p.1)
@@ -134,7 +142,8 @@ item_shown a c s (i ∷ item) on p =
 abbrev pub ItemPlaced : Circuit → List ℕ → Type 0
 ItemPlaced c item = AllByRecursion (λ i. i < length c.flops) item
 
-pub items-sound : (a : ℕ → Bool) (c : Circuit) (s : List Bool) (v : ℕ) (items : List (List ℕ)) → OnState a c s → AllByRecursion (ItemPlaced c) items → meets_all a (items_clauses (state_vars c) v items) ≡ true → map a (item_vars v items) ≡ map (parity_of s) items
+pub items-sound : (a : ℕ → Bool) (c : Circuit) (s : List Bool) (v : ℕ) (items : List (List ℕ)) → OnState a c s → AllByRecursion (ItemPlaced c) items →
+    meets_all a (items_clauses (state_vars c) v items) ≡ true → map a (item_vars v items) ≡ map (parity_of s) items
 items-sound a c s v [] on p m = refl
 items-sound a c s v (item ∷ items) on p m =
     let own = odd_clauses true v (v + item_helpers item) (chosen (state_vars c) item) in
@@ -156,7 +165,8 @@ items_bits s [] = []
 items_bits s (item ∷ items) =
     helper_bits (map (λ i. bit_at s i) item) ++ (is_odd (map (λ i. bit_at s i) item) ∷ items_bits s items)
 
-pub items-complete : (a : ℕ → Bool) (c : Circuit) (s : List Bool) (v : ℕ) (items : List (List ℕ)) → OnState a c s → AllByRecursion (ItemPlaced c) items → Has a v (items_bits s items) → (meets_all a (items_clauses (state_vars c) v items) ≡ true) × (map a (item_vars v items) ≡ map (parity_of s) items)
+pub items-complete : (a : ℕ → Bool) (c : Circuit) (s : List Bool) (v : ℕ) (items : List (List ℕ)) → OnState a c s → AllByRecursion (ItemPlaced c) items →
+    Has a v (items_bits s items) → (meets_all a (items_clauses (state_vars c) v items) ≡ true) × (map a (item_vars v items) ≡ map (parity_of s) items)
 items-complete a c s v [] on p k = (refl, refl)
 items-complete a c s v (item ∷ items) on p k =
     let bits = map (λ i. bit_at s i) item in
@@ -194,7 +204,9 @@ unit_is a n b m = beq-true (a n) b (or_no _ m)
 is_unit : (a : ℕ → Bool) (n : ℕ) (b : Bool) → a n ≡ b → meets a (lit n b ∷ []) ≡ true
 is_unit a n b e = ap (λ x. x || false) (beq-from (a n) b e)
 
-constants-sound : (a : ℕ → Bool) (n : ℕ) (ks : List Const) → meets_all a (map (λ (k : Const). lit (n + 1) k.value ∷ []) (filter (λ k. k.net.0 == n) ks)) ≡ true → AllByRecursion (λ (k : Const). k.net.0 ≡ n → a (n + 1) ≡ k.value) ks
+constants-sound : (a : ℕ → Bool) (n : ℕ) (ks : List Const) →
+    meets_all a (map (λ (k : Const). lit (n + 1) k.value ∷ []) (filter (λ k. k.net.0 == n) ks)) ≡ true →
+    AllByRecursion (λ (k : Const). k.net.0 ≡ n → a (n + 1) ≡ k.value) ks
 constants-sound a n [] m = tt
 constants-sound a n (k ∷ ks) m = by (k.net.0 == n) refl m (constants-sound a n ks)
   where
@@ -206,21 +218,25 @@ constants-sound a n (k ∷ ks) m = by (k.net.0 == n) refl m (constants-sound a n
 
     by : (b : Bool) → (k.net.0 == n) ≡ b →
         meets_all a (map (λ (i : Const). lit (n + 1) i.value ∷ []) (cond b (k ∷ filter (λ i. i.net.0 == n) ks) (filter (λ i. i.net.0 == n) ks))) ≡ true →
-        (meets_all a (map (λ (i : Const). lit (n + 1) i.value ∷ []) (filter (λ i. i.net.0 == n) ks)) ≡ true → AllByRecursion (λ (i : Const). i.net.0 ≡ n → a (n + 1) ≡ i.value) ks) →
+        (meets_all a (map (λ (i : Const). lit (n + 1) i.value ∷ []) (filter (λ i. i.net.0 == n) ks)) ≡ true →
+        AllByRecursion (λ (i : Const). i.net.0 ≡ n → a (n + 1) ≡ i.value) ks) →
         (k.net.0 ≡ n → a (n + 1) ≡ k.value) × AllByRecursion (λ (i : Const). i.net.0 ≡ n → a (n + 1) ≡ i.value) ks
     by true e h rest =
-        let parts : (meets a (lit (n + 1) k.value ∷ []) ≡ true) × (meets_all a (map (λ (i : Const). lit (n + 1) i.value ∷ []) (filter (λ i. i.net.0 == n) ks)) ≡ true) = and_true _ _ h in
+        let parts : (meets a (lit (n + 1) k.value ∷ []) ≡ true)
+        × (meets_all a (map (λ (i : Const). lit (n + 1) i.value ∷ []) (filter (λ i. i.net.0 == n) ks)) ≡ true) = and_true _ _ h in
         ((λ _. unit_is a (n + 1) k.value parts.0), rest parts.1)
     by false e h rest = ((λ same. absurd (false≢true (sym e ∙ eq-eqb k.net.0 n same))), rest h)
 
-constants-complete : (a : ℕ → Bool) (n : ℕ) (ks : List Const) → AllByRecursion (λ (k : Const). k.net.0 ≡ n → a (n + 1) ≡ k.value) ks → meets_all a (map (λ (k : Const). lit (n + 1) k.value ∷ []) (filter (λ k. k.net.0 == n) ks)) ≡ true
+constants-complete : (a : ℕ → Bool) (n : ℕ) (ks : List Const) → AllByRecursion (λ (k : Const). k.net.0 ≡ n → a (n + 1) ≡ k.value) ks →
+    meets_all a (map (λ (k : Const). lit (n + 1) k.value ∷ []) (filter (λ k. k.net.0 == n) ks)) ≡ true
 constants-complete a n [] h = refl
 constants-complete a n (k ∷ ks) h = by (k.net.0 == n) refl (constants-complete a n ks h.1)
   where
     by : (b : Bool) → (k.net.0 == n) ≡ b → meets_all a (map (λ (i : Const). lit (n + 1) i.value ∷ []) (filter (λ i. i.net.0 == n) ks)) ≡ true →
         meets_all a (map (λ (i : Const). lit (n + 1) i.value ∷ []) (cond b (k ∷ filter (λ i. i.net.0 == n) ks) (filter (λ i. i.net.0 == n) ks))) ≡ true
     by true e rest =
-        ap (λ b. b && meets_all a (map (λ (i : Const). lit (n + 1) i.value ∷ []) (filter (λ i. i.net.0 == n) ks))) (is_unit a (n + 1) k.value (h.0 (eqb-true k.net.0 n e)))
+        ap (λ b. b && meets_all a (map (λ (i : Const). lit (n + 1) i.value ∷ []) (filter (λ i. i.net.0 == n) ks)))
+        (is_unit a (n + 1) k.value (h.0 (eqb-true k.net.0 n e)))
         ∙ rest
     by false e rest = rest
 
@@ -274,19 +290,24 @@ room_for_item items item rest left next v e some count fits =
     let sum = sum_by-cons (λ (i : List ℕ). item_helpers i + 1) item rest in
     (some, omega (arith, ap (sum_by (λ (i : List ℕ). item_helpers i + 1)) e, sum, count, fits))
 
-pub clauses_more : (states : List ℕ) (next n : ℕ) (item : List ℕ) (rest left : List (List ℕ)) (into after whole : List Clause) → left ≡ item ∷ rest → n ≡ next + item_helpers item + 1 →
-    after ≡ into ++ odd_clauses true next (next + item_helpers item) (chosen states item) → into ++ items_clauses states next left ≡ whole → after ++ items_clauses states n rest ≡ whole
+pub clauses_more : (states : List ℕ) (next n : ℕ) (item : List ℕ) (rest left : List (List ℕ)) (into after whole : List Clause) → left ≡ item ∷ rest →
+    n ≡ next + item_helpers item + 1 →
+    after ≡ into ++ odd_clauses true next (next + item_helpers item) (chosen states item) → into ++ items_clauses states next left ≡ whole →
+    after ++ items_clauses states n rest ≡ whole
 clauses_more states next n item rest left into after whole e step grown so_far =
     let own : List Clause = odd_clauses true next (next + item_helpers item) (chosen states item) in
     ap (λ l. l ++ items_clauses states n rest) grown ∙ (ap (λ m. (into ++ own) ++ items_clauses states m rest) step
     ∙ (append_assoc into own (items_clauses states (next + item_helpers item + 1) rest) ∙ (ap (λ l. into ++ items_clauses states next l) (sym e) ∙ so_far)))
 
-pub own_more : (next n : ℕ) (item : List ℕ) (rest left : List (List ℕ)) (own after whole : List Literal) → left ≡ item ∷ rest → n ≡ next + item_helpers item + 1 →
-    after ≡ own ++ lit (next + item_helpers item) true ∷ [] → own ++ map (λ u. lit u true) (item_vars next left) ≡ whole → after ++ map (λ u. lit u true) (item_vars n rest) ≡ whole
+pub own_more : (next n : ℕ) (item : List ℕ) (rest left : List (List ℕ)) (own after whole : List Literal) → left ≡ item ∷ rest →
+    n ≡ next + item_helpers item + 1 →
+    after ≡ own ++ lit (next + item_helpers item) true ∷ [] → own ++ map (λ u. lit u true) (item_vars next left) ≡ whole →
+    after ++ map (λ u. lit u true) (item_vars n rest) ≡ whole
 own_more next n item rest left own after whole e step grown so_far =
     let one : List Literal = lit (next + item_helpers item) true ∷ [] in
     ap (λ l. l ++ map (λ u. lit u true) (item_vars n rest)) grown ∙ (ap (λ m. (own ++ one) ++ map (λ u. lit u true) (item_vars m rest)) step
-    ∙ (append_assoc own one (map (λ u. lit u true) (item_vars (next + item_helpers item + 1) rest)) ∙ (ap (λ l. own ++ map (λ u. lit u true) (item_vars next l)) (sym e) ∙ so_far)))
+    ∙ (append_assoc own one (map (λ u. lit u true) (item_vars (next + item_helpers item + 1) rest))
+    ∙ (ap (λ l. own ++ map (λ u. lit u true) (item_vars next l)) (sym e) ∙ so_far)))
 
 pub count_more : (next n whole : ℕ) (item : List ℕ) (rest left : List (List ℕ)) → left ≡ item ∷ rest → n ≡ next + item_helpers item + 1 →
     next + sum_by (λ i. item_helpers i + 1) left ≡ whole → n + sum_by (λ i. item_helpers i + 1) rest ≡ whole
@@ -304,4 +325,5 @@ range_more a (suc n) =
 pub literals_more : (first i : ℕ) → literals (range_with_len first (i + 1)) ≡ literals (range_with_len first i) ++ lit (first + i) true ∷ []
 literals_more first i =
     let on : i + 1 ≡ suc i = omega arith in
-    ap (λ n. literals (range_with_len first n)) on ∙ (ap literals (range_more first i) ∙ map-append (λ v. lit v true) (range_with_len first i) ((first + i) ∷ []))
+    ap (λ n. literals (range_with_len first n)) on
+    ∙ (ap literals (range_more first i) ∙ map-append (λ v. lit v true) (range_with_len first i) ((first + i) ∷ []))

@@ -20,7 +20,7 @@ use Rattle.bs_net.proofs.NextLemmas.{range_from_below}
 use Rattle.bs_encode.specs.Tables.{lit, all_clauses, any_clauses, same_clauses, differ_clauses, odd_from, odd_clauses, first_clauses, gate_clauses, helpers_of}
 use Rattle.bs_encode.specs.Transition.{net_var, gate_helpers, item_helpers, item_vars, state_vars, first_helper, first_next, first_item, variables, chosen, gates_clauses, unit_clauses, load_clauses, next_clauses, items_clauses, table_clauses, is_tautology, tidied, transition_clauses}
 use Rattle.bs_encode.specs.Encoded.{literals}
-use Rattle.bs_encode.specs.Meaning.{IsPlaced}
+use Rattle.bs_encode.specs.Meaning.{IsClosed}
 use Rattle.bs_encode.proofs.PartLemmas.{GatePlaced, FlopPlaced}
 use Rattle.bs_encode.proofs.LawLemmas.{gates_in_place, flops_in_place, items_in_place}
 
@@ -44,7 +44,8 @@ pub signs_ranged : (n : ℕ) (b : Bool) (vs : List ℕ) → AllByRecursion (InRa
 signs_ranged n b [] h = tt
 signs_ranged n b (v ∷ vs) h = (h.0, signs_ranged n b vs h.1)
 
-pairs_ranged : (n : ℕ) (first : Literal) (b : Bool) (vs : List ℕ) → IsWithin n first → AllByRecursion (InRange n) vs → AllRanged n (map (λ v. first ∷ lit v b ∷ []) vs)
+pairs_ranged : (n : ℕ) (first : Literal) (b : Bool) (vs : List ℕ) → IsWithin n first → AllByRecursion (InRange n) vs →
+    AllRanged n (map (λ v. first ∷ lit v b ∷ []) vs)
 pairs_ranged n first b [] f h = tt
 pairs_ranged n first b (v ∷ vs) f h = ((f, (h.0, tt)), pairs_ranged n first b vs f h.1)
 
@@ -66,7 +67,8 @@ differ_ranged n sense z a b hz ha hb =
     let one : Ranged n (lit z sense ∷ lit a sense ∷ lit b sense ∷ []) = (hz, (ha, (hb, tt))) in
     (one, (one, (one, (one, tt))))
 
-odd_from_ranged : (n : ℕ) (sense : Bool) (h z a : ℕ) (rest : List ℕ) → 1 ≤ h → h + (length rest - 1) ≤ n + 1 → InRange n z → InRange n a → AllByRecursion (InRange n) rest → AllRanged n (odd_from sense h z a rest)
+odd_from_ranged : (n : ℕ) (sense : Bool) (h z a : ℕ) (rest : List ℕ) → 1 ≤ h → h + (length rest - 1) ≤ n + 1 → InRange n z → InRange n a →
+    AllByRecursion (InRange n) rest → AllRanged n (odd_from sense h z a rest)
 odd_from_ranged n sense h z a [] one room hz ha hr = same_ranged n sense z a hz ha
 odd_from_ranged n sense h z a (b ∷ []) one room hz ha hr = differ_ranged n sense z a b hz ha hr.0
 odd_from_ranged n sense h z a (b ∷ e ∷ rest) one room hz ha hr =
@@ -74,7 +76,8 @@ odd_from_ranged n sense h z a (b ∷ e ∷ rest) one room hz ha hr =
     join (Ranged n) (differ_clauses true h a b) (odd_from sense (h + 1) z h (e ∷ rest))
     (differ_ranged n true h a b hh ha hr.0) (odd_from_ranged n sense (h + 1) z h (e ∷ rest) (omega (arith, one)) (omega (arith, room)) hz hh hr.1)
 
-odd_ranged : (n : ℕ) (sense : Bool) (h z : ℕ) (ins : List ℕ) → 1 ≤ h → h + (length ins - 2) ≤ n + 1 → InRange n z → AllByRecursion (InRange n) ins → AllRanged n (odd_clauses sense h z ins)
+odd_ranged : (n : ℕ) (sense : Bool) (h z : ℕ) (ins : List ℕ) → 1 ≤ h → h + (length ins - 2) ≤ n + 1 → InRange n z → AllByRecursion (InRange n) ins →
+    AllRanged n (odd_clauses sense h z ins)
 odd_ranged n sense h z [] one room hz hi = ((hz, tt), tt)
 odd_ranged n sense h z (a ∷ rest) one room hz hi = odd_from_ranged n sense h z a rest one (omega (arith, room)) hz hi.0 hi.1
 
@@ -82,7 +85,8 @@ first_ranged : (n : ℕ) (sense : Bool) (z : ℕ) (ins : List ℕ) → InRange n
 first_ranged n sense z [] hz hi = ((hz, tt), tt)
 first_ranged n sense z (a ∷ rest) hz hi = same_ranged n sense z a hz hi.0
 
-gate_ranged : (n : ℕ) (k : Kind) (h z : ℕ) (ins : List ℕ) → 1 ≤ h → h + helpers_of k (length ins) ≤ n + 1 → InRange n z → AllByRecursion (InRange n) ins → AllRanged n (gate_clauses k h z ins)
+gate_ranged : (n : ℕ) (k : Kind) (h z : ℕ) (ins : List ℕ) → 1 ≤ h → h + helpers_of k (length ins) ≤ n + 1 → InRange n z → AllByRecursion (InRange n) ins →
+    AllRanged n (gate_clauses k h z ins)
 gate_ranged n And h z ins one room hz hi = all_ranged n true z ins hz hi
 gate_ranged n Nand h z ins one room hz hi = all_ranged n false z ins hz hi
 gate_ranged n Or h z ins one room hz hi = any_ranged n true z ins hz hi
@@ -100,14 +104,16 @@ net_vars_ranged n nets (m ∷ ns) le p =
     let lt : m.0 < nets = p.0 in
     ((omega arith, omega (arith, lt, le)), net_vars_ranged n nets ns le p.1)
 
-gates_ranged : (n nets h : ℕ) (gs : List Gate) → nets ≤ n → AllByRecursion (GatePlaced nets) gs → 1 ≤ h → h + sum_by gate_helpers gs ≤ n + 1 → AllRanged n (gates_clauses h gs)
+gates_ranged : (n nets h : ℕ) (gs : List Gate) → nets ≤ n → AllByRecursion (GatePlaced nets) gs → 1 ≤ h → h + sum_by gate_helpers gs ≤ n + 1 →
+    AllRanged n (gates_clauses h gs)
 gates_ranged n nets h [] le p one room = tt
 gates_ranged n nets h (g ∷ gs) le p one room =
     let sum = sum_by-cons gate_helpers g gs in
     let out : g.out.0 < nets = p.0.0 in
     let own : helpers_of g.kind (length (map net_var g.ins)) ≡ gate_helpers g = ap (helpers_of g.kind) (length-map g.ins net_var) in
     join (Ranged n) (gate_clauses g.kind h (net_var g.out) (map net_var g.ins)) (gates_clauses (h + gate_helpers g) gs)
-    (gate_ranged n g.kind h (net_var g.out) (map net_var g.ins) one (omega (arith, room, sum, own)) (omega arith, omega (arith, out, le)) (net_vars_ranged n nets g.ins le p.0.1))
+    (gate_ranged n g.kind h (net_var g.out) (map net_var g.ins) one (omega (arith, room, sum, own)) (omega arith, omega (arith, out, le))
+    (net_vars_ranged n nets g.ins le p.0.1))
     (gates_ranged n nets (h + gate_helpers g) gs le p.1 (omega (arith, one)) (omega (arith, room, sum)))
 
 constants_ranged : (n v : ℕ) (ks : List Const) → InRange n v → AllRanged n (map (λ (k : Const). lit v k.value ∷ []) ks)
@@ -121,7 +127,8 @@ zero_ranged n v false h = tt
 unit_ranged : (n : ℕ) (c : Circuit) (k : ℕ) → k < n → AllRanged n (unit_clauses c k)
 unit_ranged n c k lt =
     let own : InRange n (k + 1) = (omega arith, omega (arith, lt)) in
-    join (Ranged n) (map (λ (x : Const). lit (k + 1) x.value ∷ []) (filter (λ (x : Const). eqb x.net.0 k) c.constants)) (cond (is_zero_net c k) ((lit (k + 1) false ∷ []) ∷ []) [])
+    join (Ranged n) (map (λ (x : Const). lit (k + 1) x.value ∷ []) (filter (λ (x : Const). eqb x.net.0 k) c.constants))
+    (cond (is_zero_net c k) ((lit (k + 1) false ∷ []) ∷ []) [])
     (constants_ranged n (k + 1) (filter (λ (x : Const). eqb x.net.0 k) c.constants) own) (zero_ranged n (k + 1) (is_zero_net c k) own)
 
 flat_ranged : (n : ℕ) (f : ℕ → List Clause) (ks : List ℕ) → AllByRecursion (λ k. AllRanged n (f k)) ks → AllRanged n (flat_map f ks)
@@ -136,20 +143,25 @@ next_ranged n nets m (f ∷ fs) le p one room =
     (same_ranged n true m (net_var f.d) (one, omega (arith, room)) (omega arith, omega (arith, load, le)))
     (next_ranged n nets (m + 1) fs le p.1 (omega (arith, one)) (omega (arith, room)))
 
-chosen_ranged : (n : ℕ) (states item : List ℕ) → AllByRecursion (InRange n) states → AllByRecursion (λ i. i < length states) item → AllByRecursion (InRange n) (chosen states item)
+chosen_ranged : (n : ℕ) (states item : List ℕ) → AllByRecursion (InRange n) states → AllByRecursion (λ i. i < length states) item →
+    AllByRecursion (InRange n) (chosen states item)
 chosen_ranged n states [] h p = tt
 chosen_ranged n states (i ∷ item) h p = (All-from_recursion (InRange n) states h i 0 p.0, chosen_ranged n states item h p.1)
 
-items_ranged : (n : ℕ) (states : List ℕ) (v : ℕ) (items : List (List ℕ)) → AllByRecursion (InRange n) states → AllByRecursion (λ (item : List ℕ). AllByRecursion (λ i. i < length states) item) items → 1 ≤ v → v + sum_by (λ item. item_helpers item + 1) items ≤ n + 1 → AllRanged n (items_clauses states v items)
+items_ranged : (n : ℕ) (states : List ℕ) (v : ℕ) (items : List (List ℕ)) → AllByRecursion (InRange n) states →
+    AllByRecursion (λ (item : List ℕ). AllByRecursion (λ i. i < length states) item) items → 1 ≤ v →
+    v + sum_by (λ item. item_helpers item + 1) items ≤ n + 1 → AllRanged n (items_clauses states v items)
 items_ranged n states v [] h p one room = tt
 items_ranged n states v (item ∷ items) h p one room =
     let sum = sum_by-cons (λ (i : List ℕ). item_helpers i + 1) item items in
     let wide : length (chosen states item) ≡ length item = length-map item (λ i. get_or states i 0) in
     join (Ranged n) (odd_clauses true v (v + item_helpers item) (chosen states item)) (items_clauses states (v + item_helpers item + 1) items)
-    (odd_ranged n true v (v + item_helpers item) (chosen states item) one (omega (arith, room, sum, wide)) (omega (arith, one), omega (arith, room, sum)) (chosen_ranged n states item h p.0))
+    (odd_ranged n true v (v + item_helpers item) (chosen states item) one (omega (arith, room, sum, wide)) (omega (arith, one), omega (arith, room, sum))
+    (chosen_ranged n states item h p.0))
     (items_ranged n states (v + item_helpers item + 1) items h p.1 (omega (arith, one)) (omega (arith, room, sum)))
 
-pub item_vars_ranged : (n v : ℕ) (items : List (List ℕ)) → 1 ≤ v → v + sum_by (λ item. item_helpers item + 1) items ≤ n + 1 → AllByRecursion (InRange n) (item_vars v items)
+pub item_vars_ranged : (n v : ℕ) (items : List (List ℕ)) → 1 ≤ v → v + sum_by (λ item. item_helpers item + 1) items ≤ n + 1 →
+    AllByRecursion (InRange n) (item_vars v items)
 item_vars_ranged n v [] one room = tt
 item_vars_ranged n v (item ∷ items) one room =
     let sum = sum_by-cons (λ (i : List ℕ). item_helpers i + 1) item items in
@@ -159,7 +171,8 @@ pub numbers_ranged : (n m k : ℕ) → 1 ≤ m → m + k ≤ n + 1 → AllByRecu
 numbers_ranged n m zero one room = tt
 numbers_ranged n m (suc k) one room = ((one, omega (arith, room)), numbers_ranged n (m + 1) k (omega (arith, one)) (omega (arith, room)))
 
-pub state_vars_ranged : (n nets : ℕ) (fs : List Flop) → nets ≤ n → AllByRecursion (λ (f : Flop). f.q.0 < nets) fs → AllByRecursion (InRange n) (map (λ (f : Flop). net_var f.q) fs)
+pub state_vars_ranged : (n nets : ℕ) (fs : List Flop) → nets ≤ n → AllByRecursion (λ (f : Flop). f.q.0 < nets) fs →
+    AllByRecursion (InRange n) (map (λ (f : Flop). net_var f.q) fs)
 state_vars_ranged n nets [] le p = tt
 state_vars_ranged n nets (f ∷ fs) le p =
     let lt : f.q.0 < nets = p.0 in
@@ -179,7 +192,7 @@ tidied_ranged : (n : ℕ) (cs : List Clause) → AllRanged n cs → AllRanged n 
 tidied_ranged n cs h =
     each_once_ranged n (filter (λ c. not (is_tautology c)) cs) (AllByRecursion-filter (Ranged n) (λ c. not (is_tautology c)) cs h)
 
-module _ (c : Circuit) (items : List (List ℕ)) (p : IsPlaced c items) where
+module _ (c : Circuit) (items : List (List ℕ)) (p : IsClosed c items) where
   states_in_range : AllByRecursion (InRange (variables c items)) (state_vars c)
   states_in_range =
       state_vars_ranged (variables c items) c.nets c.flops (omega arith) (recursion_from_All (λ (f : Flop). f.q.0 < c.nets) c.flops p.states)
@@ -199,7 +212,8 @@ module _ (c : Circuit) (items : List (List ℕ)) (p : IsPlaced c items) where
       (join (Ranged n) (gates_clauses (first_helper c) c.gates) (units ++ (nexts ++ rest))
       (gates_ranged n c.nets (first_helper c) c.gates (omega arith) (gates_in_place c items p) (omega arith) (omega arith))
       (join (Ranged n) units (nexts ++ rest)
-      (flat_ranged n (unit_clauses c) (range_with_len 0 c.nets) (range_from_below (λ k. AllRanged n (unit_clauses c k)) c.nets (λ k lt. unit_ranged n c k (omega (arith, lt)))))
+      (flat_ranged n (unit_clauses c) (range_with_len 0 c.nets)
+      (range_from_below (λ k. AllRanged n (unit_clauses c k)) c.nets (λ k lt. unit_ranged n c k (omega (arith, lt)))))
       (join (Ranged n) nexts rest
       (next_ranged n c.nets (first_next c) c.flops (omega arith) (flops_in_place c items p) (omega arith) (omega arith))
       (items_ranged n (state_vars c) (first_item c) items states_in_range items_below (omega arith) (omega arith)))))
@@ -209,11 +223,13 @@ module _ (c : Circuit) (items : List (List ℕ)) (p : IsPlaced c items) where
 
   pub next_literals_ranged : Ranged (variables c items) (literals (range_with_len (first_next c) (length c.flops)))
   next_literals_ranged =
-      signs_ranged (variables c items) true (range_with_len (first_next c) (length c.flops)) (numbers_ranged (variables c items) (first_next c) (length c.flops) (omega arith) (omega arith))
+      signs_ranged (variables c items) true (range_with_len (first_next c) (length c.flops))
+      (numbers_ranged (variables c items) (first_next c) (length c.flops) (omega arith) (omega arith))
 
   pub signatures_ranged : Ranged (variables c items) (literals (item_vars (first_item c) items))
   signatures_ranged =
-      signs_ranged (variables c items) true (item_vars (first_item c) items) (item_vars_ranged (variables c items) (first_item c) items (omega arith) (omega arith))
+      signs_ranged (variables c items) true (item_vars (first_item c) items)
+      (item_vars_ranged (variables c items) (first_item c) items (omega arith) (omega arith))
 
   pub inputs_ranged : Ranged (variables c items) (literals (map net_var c.inputs))
   inputs_ranged =

@@ -64,11 +64,22 @@ items_few (item ∷ items) =
     omega (arith, items_few items, sum_by-cons (λ (i : List ℕ). item_helpers i + 1) item items, sum_by-cons (λ (i : List ℕ). length i) item items)
 
 -- and there is room above them for the guards of a listing
-pub room_for_guards : (c : Circuit) (items : List (List ℕ)) → IsChecked c → IsBounded c → numbers_of items ≤ 1048576 → length items ≤ 256 → variables c items + 65536 < 2 ^ 30
+pub room_for_guards : (c : Circuit) (items : List (List ℕ)) → IsChecked c → IsBounded c → numbers_of items ≤ 1048576 → length items ≤ 256 →
+    variables c items + 65536 < 2 ^ 30
 room_for_guards c items checked bounded numbers count =
-    omega (arith, gates_few c checked, helpers_few c.gates (recursion_from_All (λ (g : Gate). length g.ins ≤ 64) c.gates bounded.narrow), bounded.few_nets, bounded.few_flops, items_few items, numbers, count)
+    omega (
+      arith,
+      gates_few c checked,
+      helpers_few c.gates (recursion_from_All (λ (g : Gate). length g.ins ≤ 64) c.gates bounded.narrow),
+      bounded.few_nets,
+      bounded.few_flops,
+      items_few items,
+      numbers,
+      count,
+    )
 
-pub few_variables : (c : Circuit) (items : List (List ℕ)) → IsChecked c → IsBounded c → numbers_of items ≤ 1048576 → length items ≤ 256 → variables c items < 2 ^ 30
+pub few_variables : (c : Circuit) (items : List (List ℕ)) → IsChecked c → IsBounded c → numbers_of items ≤ 1048576 → length items ≤ 256 →
+    variables c items < 2 ^ 30
 few_variables c items checked bounded numbers count = omega (arith, room_for_guards c items checked bounded numbers count)
 
 each_short : (items : List (List ℕ)) (n : ℕ) → numbers_of items ≤ n → AllByRecursion (λ (item : List ℕ). length item ≤ n) items
@@ -77,7 +88,8 @@ each_short (item ∷ items) n le =
     let sum = sum_by-cons (λ (i : List ℕ). length i) item items in
     (omega (arith, le, sum), each_short items n (omega (arith, le, sum)))
 
-weaker : (items : List (List ℕ)) → AllByRecursion (λ (item : List ℕ). length item ≤ 1048576) items → AllByRecursion (λ (item : List ℕ). length item < 2 ^ 30) items
+weaker : (items : List (List ℕ)) → AllByRecursion (λ (item : List ℕ). length item ≤ 1048576) items →
+    AllByRecursion (λ (item : List ℕ). length item < 2 ^ 30) items
 weaker [] all = tt
 weaker (item ∷ items) all = (omega (arith, all.0), weaker items all.1)
 
@@ -85,5 +97,6 @@ pub short_items : (items : List (List ℕ)) → numbers_of items ≤ 1048576 →
 short_items items le = All-from_recursion (λ (item : List ℕ). length item < 2 ^ 30) items (weaker items (each_short items 1048576 le))
 
 -- the next variables are variables
-pub next_fits : (c : Circuit) (items : List (List ℕ)) (first count : ℕ) → first ≡ first_next c → count ≡ length c.flops → variables c items < 2 ^ 30 → (1 ≤ first) × (first + count ≤ 2 ^ 30)
+pub next_fits : (c : Circuit) (items : List (List ℕ)) (first count : ℕ) → first ≡ first_next c → count ≡ length c.flops → variables c items < 2 ^ 30 →
+    (1 ≤ first) × (first + count ≤ 2 ^ 30)
 next_fits c items first count is many few = (omega (arith, is), omega (arith, is, many, few))

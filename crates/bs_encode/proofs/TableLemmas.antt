@@ -48,7 +48,8 @@ each_all a l (i ∷ ins) = ap (λ b. (literal_value a l || (beq (a i) true || fa
     join false true z = refl
     join false false z = refl
 
-each_none : (a : ℕ → Bool) (l : Literal) (ins : List ℕ) → meets_all a (map (λ i. l ∷ lit i false ∷ []) ins) ≡ (literal_value a l || not (list_any is_one (map a ins)))
+each_none : (a : ℕ → Bool) (l : Literal) (ins : List ℕ) →
+    meets_all a (map (λ i. l ∷ lit i false ∷ []) ins) ≡ (literal_value a l || not (list_any is_one (map a ins)))
 each_none a l [] = or_true (literal_value a l)
   where
     or_true : (x : Bool) → true ≡ (x || true)
@@ -160,7 +161,8 @@ parity (b ∷ bs) = not (beq b (parity bs))
 
 pub is_odd-parity : (bits : List Bool) → is_odd bits ≡ parity bits
 is_odd-parity [] = refl
-is_odd-parity (true ∷ bits) = ap (λ n. nat_eq (n % 2) 1) (sum_by-cons (λ (b : Bool). cond (is_one b) 1 0) true bits) ∙ one_more (count_by is_one bits) ∙ ap not (is_odd-parity bits) ∙ flip (parity bits)
+is_odd-parity (true ∷ bits) = ap (λ n. nat_eq (n % 2) 1) (sum_by-cons (λ (b : Bool). cond (is_one b) 1 0) true bits) ∙ one_more (count_by is_one bits)
+    ∙ ap not (is_odd-parity bits) ∙ flip (parity bits)
   where
     one_more : (n : ℕ) → nat_eq ((1 + n) % 2) 1 ≡ not (nat_eq (n % 2) 1)
     one_more n = grind arith
@@ -168,7 +170,9 @@ is_odd-parity (true ∷ bits) = ap (λ n. nat_eq (n % 2) 1) (sum_by-cons (λ (b 
     flip : (b : Bool) → not b ≡ not (beq true b)
     flip true = refl
     flip false = refl
-is_odd-parity (false ∷ bits) = ap (λ n. nat_eq (n % 2) 1) (sum_by-cons (λ (b : Bool). cond (is_one b) 1 0) false bits) ∙ no_more (count_by is_one bits) ∙ is_odd-parity bits ∙ flip (parity bits)
+is_odd-parity (false ∷ bits) =
+    ap (λ n. nat_eq (n % 2) 1) (sum_by-cons (λ (b : Bool). cond (is_one b) 1 0) false bits) ∙ no_more (count_by is_one bits) ∙ is_odd-parity bits
+    ∙ flip (parity bits)
   where
     no_more : (n : ℕ) → nat_eq ((0 + n) % 2) 1 ≡ nat_eq (n % 2) 1
     no_more n = grind arith
@@ -225,7 +229,8 @@ length-partials x [] = refl
 length-partials x (b ∷ []) = refl
 length-partials x (b ∷ e ∷ rest) = ap suc (length-partials (not (beq x b)) (e ∷ rest)) ∙ omega arith
 
-pub odd_from-sound : (a : ℕ → Bool) (p : Bool) (h z i : ℕ) (rest : List ℕ) → meets_all a (odd_from p h z i rest) ≡ true → a z ≡ beq p (parity (a i ∷ map a rest))
+pub odd_from-sound : (a : ℕ → Bool) (p : Bool) (h z i : ℕ) (rest : List ℕ) → meets_all a (odd_from p h z i rest) ≡ true →
+    a z ≡ beq p (parity (a i ∷ map a rest))
 odd_from-sound a p h z i [] m = beq-true _ _ (sym (same_means a p z i) ∙ m) ∙ ap (beq p) (parity-one (a i))
 odd_from-sound a p h z i (j ∷ []) m =
     beq-true _ _ (sym (differ_means a p z i j) ∙ m) ∙ ap (beq p) (parity-one (not (beq (a i) (a j))) ∙ sym (parity-two (a i) (a j) []))
@@ -240,7 +245,8 @@ odd_from-sound a p h z i (j ∷ e ∷ rest) m =
     true_is true = refl
     true_is false = refl
 
-pub odd_from-complete : (a : ℕ → Bool) (p : Bool) (h z i : ℕ) (rest : List ℕ) → Has a h (partials (a i) (map a rest)) → a z ≡ beq p (parity (a i ∷ map a rest)) → meets_all a (odd_from p h z i rest) ≡ true
+pub odd_from-complete : (a : ℕ → Bool) (p : Bool) (h z i : ℕ) (rest : List ℕ) → Has a h (partials (a i) (map a rest)) →
+    a z ≡ beq p (parity (a i ∷ map a rest)) → meets_all a (odd_from p h z i rest) ≡ true
 odd_from-complete a p h z i [] k e = same_means a p z i ∙ beq-from _ _ (e ∙ ap (beq p) (sym (parity-one (a i))))
 odd_from-complete a p h z i (j ∷ []) k e =
     differ_means a p z i j ∙ beq-from _ _ (e ∙ ap (beq p) (parity-two (a i) (a j) [] ∙ sym (parity-one (not (beq (a i) (a j))))))
@@ -267,7 +273,8 @@ odd-sound a p h z [] m = unit (a z) p m ∙ ap (beq p) (sym (is_odd-parity []))
     unit false false m = m
 odd-sound a p h z (i ∷ rest) m = odd_from-sound a p h z i rest m ∙ ap (beq p) (sym (is_odd-parity (map a (i ∷ rest))))
 
-pub odd-complete : (a : ℕ → Bool) (p : Bool) (h z : ℕ) (ins : List ℕ) → Has a h (helper_bits (map a ins)) → a z ≡ beq p (is_odd (map a ins)) → meets_all a (odd_clauses p h z ins) ≡ true
+pub odd-complete : (a : ℕ → Bool) (p : Bool) (h z : ℕ) (ins : List ℕ) → Has a h (helper_bits (map a ins)) → a z ≡ beq p (is_odd (map a ins)) →
+    meets_all a (odd_clauses p h z ins) ≡ true
 odd-complete a p h z [] k e = unit (a z) p (e ∙ ap (beq p) (is_odd-parity []))
   where
     unit : (z p : Bool) → z ≡ beq p false → ((beq z (not p) || false) && true) ≡ true
@@ -350,7 +357,8 @@ inverse : (b : Bool) → not b ≡ beq false b
 inverse true = refl
 inverse false = refl
 
-pub gate-complete : (a : ℕ → Bool) (k : Kind) (h z : ℕ) (ins : List ℕ) → Has a h (gate_bits k (map a ins)) → a z ≡ gate_value k (map a ins) → meets_all a (gate_clauses k h z ins) ≡ true
+pub gate-complete : (a : ℕ → Bool) (k : Kind) (h z : ℕ) (ins : List ℕ) → Has a h (gate_bits k (map a ins)) → a z ≡ gate_value k (map a ins) →
+    meets_all a (gate_clauses k h z ins) ≡ true
 gate-complete a And h z ins k e = all_means a true z ins ∙ beq-from _ _ (e ∙ yes _)
 gate-complete a Nand h z ins k e = all_means a false z ins ∙ beq-from _ _ (e ∙ inverse _)
 gate-complete a Or h z ins k e = any_means a true z ins ∙ beq-from _ _ (e ∙ yes _)

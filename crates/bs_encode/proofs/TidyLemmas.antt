@@ -47,12 +47,14 @@ has-meets : (a : ℕ → Bool) (c : Clause) (l : Literal) → has_literal c l �
 has-meets a [] l h t = h
 has-meets a (m ∷ c) l h t = by (same_literal l m) refl h (λ k. has-meets a c l k t)
   where
-    by : (b : Bool) → same_literal l m ≡ b → (b || has_literal c l) ≡ true → (has_literal c l ≡ true → meets a c ≡ true) → (literal_value a m || meets a c) ≡ true
+    by : (b : Bool) → same_literal l m ≡ b → (b || has_literal c l) ≡ true → (has_literal c l ≡ true → meets a c ≡ true) →
+        (literal_value a m || meets a c) ≡ true
     by true e k rest = or_left _ (meets a c) (ap (literal_value a) (sym (same_literal-true l m e)) ∙ t)
     by false e k rest = or_right (literal_value a m) _ (rest k)
 
 -- a tautology is always met
-pub tautology-meets : (a : ℕ → Bool) (whole c : Clause) → list_any (λ l. has_literal whole (negation l)) c ≡ true → (meets a c ≡ true → meets a whole ≡ true) → meets a whole ≡ true
+pub tautology-meets : (a : ℕ → Bool) (whole c : Clause) → list_any (λ l. has_literal whole (negation l)) c ≡ true →
+    (meets a c ≡ true → meets a whole ≡ true) → meets a whole ≡ true
 tautology-meets a whole [] h part = absurd (false≢true h)
 tautology-meets a whole (l ∷ c) h part =
     elim (cases_Bool (literal_value a l)) [
@@ -68,21 +70,24 @@ meets-tidied a [] = refl
 meets-tidied a (c ∷ cs) = by (is_tautology c) refl (meets-tidied a cs)
   where
     by : (b : Bool) → is_tautology c ≡ b → meets_all a (tidied cs) ≡ meets_all a cs →
-        meets_all a (map once (cond (not b) (c ∷ filter (λ d. not (is_tautology d)) cs) (filter (λ d. not (is_tautology d)) cs))) ≡ (meets a c && meets_all a cs)
+        meets_all a (map once (cond (not b) (c ∷ filter (λ d. not (is_tautology d)) cs) (filter (λ d. not (is_tautology d)) cs))) ≡
+        (meets a c && meets_all a cs)
     by true e rest = rest ∙ ap (λ b. b && meets_all a cs) (sym (tautology-meets a c c e (λ k. k)))
     by false e rest =
         ap (λ b. b && meets_all a (tidied cs)) (meets-once a c) ∙ ap (λ b. meets a c && b) rest
 
 -- ---- one more literal, which is left out where it stands
 
-pub repeats_more_has : (c : Clause) (i : ℕ) (d : Literal) → i < length c → has_literal (once (take i c)) (get_or c i d) ≡ true → once (take (i + 1) c) ≡ once (take i c)
+pub repeats_more_has : (c : Clause) (i : ℕ) (d : Literal) → i < length c → has_literal (once (take i c)) (get_or c i d) ≡ true →
+    once (take (i + 1) c) ≡ once (take i c)
 repeats_more_has c i d lt e =
     ap once (take_more c i d lt)
     ∙ (once-push (take i c) (get_or c i d)
     ∙ (ap (λ b. once (take i c) ++ cond b [] (get_or c i d ∷ [])) (sym (has_literal-once (take i c) (get_or c i d)) ∙ e)
     ∙ append-nil (once (take i c))))
 
-pub repeats_more_new : (c : Clause) (i : ℕ) (d : Literal) → i < length c → has_literal (once (take i c)) (get_or c i d) ≡ false → once (take (i + 1) c) ≡ once (take i c) ++ get_or c i d ∷ []
+pub repeats_more_new : (c : Clause) (i : ℕ) (d : Literal) → i < length c → has_literal (once (take i c)) (get_or c i d) ≡ false →
+    once (take (i + 1) c) ≡ once (take i c) ++ get_or c i d ∷ []
 repeats_more_new c i d lt e =
     ap once (take_more c i d lt)
     ∙ (once-push (take i c) (get_or c i d)

@@ -19,14 +19,18 @@ pub record Encoded : Type 0 where
 abbrev pub literals : List ℕ → List Literal
 literals vs = map (λ v. lit v true) vs
 
--- the encoding of a circuit and of what its signature is taken of
-abbrev pub encoding_of : Circuit → List (List ℕ) → Encoded
-encoding_of c items =
+-- so many variables and these clauses and signatures, over the literals of a circuit
+abbrev pub joined : Circuit → List Clause → ℕ → List Literal → Encoded
+joined c clauses variables signatures =
     record {
-      clauses = transition_clauses c items;
-      variables = variables c items;
+      clauses = clauses;
+      variables = variables;
       next = literals (range_with_len (first_next c) (length c.flops));
       states = literals (state_vars c);
-      signatures = literals (item_vars (first_item c) items);
+      signatures = signatures;
       inputs = literals (map net_var c.inputs);
     }
+
+-- the encoding of a circuit and of what its signature is taken of
+abbrev pub encoding_of : Circuit → List (List ℕ) → Encoded
+encoding_of c items = joined c (transition_clauses c items) (variables c items) (literals (item_vars (first_item c) items))

@@ -1,5 +1,6 @@
 -- What the lists of candidates need of an encoding.
-use Rattle.std.specs.Prelude.{◌≡◌, ℕ, ◌+◌, ◌<◌, ◌^◌, Bool, true, List, [], length, map, All, IsTrue, Some, slice_get, slice_index_or}
+use Rattle.std.specs.Prelude.{◌≡◌, ℕ, ◌+◌, ◌<◌, Bool, true, List, [], length, map, All, IsTrue, Some, slice_get, slice_index_or}
+use Rattle.bs_clause.specs.declared.literal.TheConstants.{VARIABLE_LIMIT}
 use Rattle.bs_clause.specs.Literal.{Literal, literal_value, Satisfies}
 use Rattle.bs_clause.specs.Range.{HasVariables}
 use Rattle.bs_log.specs.History.{Problem, guard_of}
@@ -9,13 +10,15 @@ use Rattle.bs_net.specs.Circuit.{Circuit, Leads, next}
 use Rattle.bs_scan.specs.Choice.{Chosen}
 use Rattle.bs_scan.specs.Present.{Present}
 use Rattle.bs_scan.specs.Signature.{agrees}
+use Rattle.bs_encode.specs.declared.encoding.TheConstants.{MAX_GUARDS}
 use Rattle.bs_encode.specs.Encoded.{Encoded}
 use Rattle.bs_encode.specs.Assuming.{assumptions_for, block_for}
+use Rattle.bs_encode.specs.Cycle.{bits_on}
 
--- Every literal is one of the encoding's variables, below which there is room for the guards of 65,536 steps. No variable
+-- Every literal is one of the encoding's variables, above which there is room for the guards of `MAX_GUARDS` steps. No variable
 -- stands twice in a clause, in what a step assumes under a guard above the variables, or in a block.
 pub record IsTidy (c : Circuit) (items : List (List ℕ)) (e : Encoded) : Type 0 where
-  pub room : e.variables + 65536 < 2 ^ 30
+  pub room : e.variables + MAX_GUARDS < VARIABLE_LIMIT
   pub states_width : length e.states ≡ length c.flops
   pub next_width : length e.next ≡ length c.flops
   pub signatures_width : length e.signatures ≡ length items
@@ -40,10 +43,6 @@ PredecessorsAreShown c choice e =
     length s ≡ length c.flops → length x ≡ length c.inputs → agrees c choice q.stored s ≡ true → next c s x ≡ q.state →
     Shown (record { problem = p; block = block_for e }) (length c.flops) (i + 1) s
 
--- the values of literals
-abbrev pub values_of : (ℕ → Bool) → List Literal → List Bool
-values_of value ls = map (literal_value value) ls
-
 -- the state agrees with what the register holds at the present and leads to it under the input
 pub record IsPredecessor (c : Circuit) (choice : Chosen) (q : Present) (s x : List Bool) : Type 0 where
   pub state_width : length s ≡ length c.flops
@@ -58,4 +57,4 @@ SolutionsArePredecessors c choice e =
     (value : ℕ → Bool) (guard : Literal) (q : Present) → length q.state ≡ length c.flops → 0 < length q.stored →
     length (slice_index_or q.stored 0 []) ≡ length choice.items →
     All (Satisfies value) e.clauses → All (λ l. IsTrue (literal_value value l)) (assumptions_for e guard q) →
-    IsPredecessor c choice q (values_of value e.states) (values_of value e.inputs)
+    IsPredecessor c choice q (bits_on value e.states) (bits_on value e.inputs)

@@ -7,7 +7,7 @@ use Rattle.bs_scan.specs.Signature.{parity_of}
 use Rattle.bs_encode.specs.Transition.{transition_clauses, first_next, first_item, item_vars}
 
 -- every net of the circuit, and every flip-flop of the items, is there
-pub record IsPlaced (c : Circuit) (items : List (List ℕ)) : Type 0 where
+pub record IsClosed (c : Circuit) (items : List (List ℕ)) : Type 0 where
   pub outs : All (λ g. g.out.0 < c.nets) c.gates
   pub ins : All (λ g. All (λ n. n.0 < c.nets) g.ins) c.gates
   pub inputs : All (λ n. n.0 < c.nets) c.inputs

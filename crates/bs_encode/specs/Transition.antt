@@ -77,6 +77,14 @@ items_clauses states v [] = []
 items_clauses states v (item ∷ items) =
     odd_clauses true v (v + item_helpers item) (chosen states item) ++ items_clauses states (v + item_helpers item + 1) items
 
+-- the clauses of the gates, the units and the flip-flops
+abbrev pub cycle_clauses : Circuit → List Clause
+cycle_clauses c =
+    gates_clauses (first_helper c) c.gates
+    ++ (flat_map (unit_clauses c) (range_with_len 0 c.nets)
+    ++ next_clauses (first_next c) c.flops)
+
+-- and those of the items behind them
 abbrev pub table_clauses : Circuit → List (List ℕ) → List Clause
 table_clauses c items =
     gates_clauses (first_helper c) c.gates

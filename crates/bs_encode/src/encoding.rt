@@ -1,11 +1,13 @@
 //! The encoding of a netlist and what its signature is taken of.
-ghost use Rattle.std.specs.Prelude.{◌≡◌, ◌<◌, ◌≤◌, ◌+◌, ◌^◌, [], ◌∷◌, ◌++◌, true, length, map, All, IfOk, OnOk, Some, slice_get};
+ghost use Rattle.std.specs.Prelude.{◌≡◌, ◌<◌, ◌≤◌, ◌+◌, ◌-◌, [], ◌∷◌, ◌++◌, true, length, map, All, IfOk, OnOk, Some, slice_get};
 ghost use Rattle.std.specs.List.{range_with_len};
+ghost use Rattle.bs_net.specs.declared.limits.TheConstants.{MAX_NETS};
+ghost use Rattle.bs_clause.specs.declared.literal.TheConstants.{VARIABLE_LIMIT};
 ghost use Rattle.bs_clause.specs.Literal.{IsVariable};
 ghost use Rattle.bs_net.specs.Netlist.{circuit};
 ghost use Rattle.bs_encode.specs.Tables.{lit};
-ghost use Rattle.bs_encode.specs.Transition.{table_clauses, state_vars, net_var, item_vars, first_item, first_next, variables};
-ghost use Rattle.bs_encode.specs.Encoded.{literals, encoding_of};
+ghost use Rattle.bs_encode.specs.Transition.{cycle_clauses, table_clauses, tidied, state_vars, net_var, item_vars, first_item, first_next, variables};
+ghost use Rattle.bs_encode.specs.Encoded.{literals, joined, encoding_of};
 ghost use Rattle.bs_encode.specs.Assuming.{assumptions_for, block_for};
 
 use crate::parts::{add_gates, add_items, add_next, variable};
@@ -19,9 +21,12 @@ use bs_scan::Choice;
 use std::alloc::Global;
 use std::marker::Model;
 
+/// The guards of so many steps fit above the variables of an encoding.
+pub const MAX_GUARDS: u32 = 65_536;
+
 /// The variables that show the state.
 fn state_variables(alloc: Global, flops: &[Flop]) -> Result<Vec<u32>, NoMemory>
-    requires { All (λ f. f.q.0 < 100000) flops.now }
+    requires { All (λ f. f.q.0 < MAX_NETS) flops.now }
     ensures value { IfOk result (λ l. l.items ≡ map (λ f. net_var f.q) flops.now) }
     ensures range { IfOk result (λ l. All IsVariable l.items) }
 {
@@ -40,7 +45,29 @@ struct Laid {
     end: u32,
 }
 
-/// The clauses of the tables; the literals of the items go into `own`.
+/// The clauses of the gates, of the constants and the zero nets, and of the flip-flops.
+fn lay_cycle(alloc: Global, net: &Netlist) -> Result<Laid, NoMemory>
+    requires { first_item (circuit net.now) ≤ VARIABLE_LIMIT }
+    ensures clauses { IfOk result (λ l. l.clauses ≡ cycle_clauses (circuit net.now)) }
+    ensures next { IfOk result (λ l. l.next ≡ first_next (circuit net.now)) }
+    ensures end { IfOk result (λ l. l.end ≡ first_item (circuit net.now)) }
+{
+    let _order = net.order();
+    let raw = net.raw();
+    let zero = zero_nets(alloc, net)?;
+    let values = constant_table(alloc, raw.names.len() as usize, raw.consts.slice())?;
+    let mut into = Clauses::new(alloc);
+    let next = add_gates(alloc, &mut into, raw.names.len() + 1, raw.gates.slice())?;
+    add_units(alloc, &mut into, zero.as_slice(), values.as_slice())?;
+    add_next(alloc, &mut into, next, raw.flops.slice())?;
+    Ok(Laid {
+        clauses: into,
+        next,
+        end: next + raw.flops.len() as u32,
+    })
+}
+
+/// The same with the clauses of the items; the literals of the items go into `own`.
 fn lay(
     alloc: Global,
     net: &Netlist,
@@ -51,26 +78,19 @@ fn lay(
     requires states { states.now ≡ state_vars (circuit net.now) }
     requires range { All IsVariable states.now }
     requires width { choice.now.width ≡ length states.now }
-    requires few { All (λ item. length item < 2 ^ 30) choice.now.items }
-    requires room { variables (circuit net.now) choice.now.items < 2 ^ 30 }
+    requires few { All (λ item. length item < VARIABLE_LIMIT) choice.now.items }
+    requires room { variables (circuit net.now) choice.now.items < VARIABLE_LIMIT }
     ensures clauses { IfOk result (λ l. l.clauses ≡ table_clauses (circuit net.now) choice.now.items) }
     ensures next { IfOk result (λ l. l.next ≡ first_next (circuit net.now)) }
     ensures end { IfOk result (λ l. l.end ≡ variables (circuit net.now) choice.now.items + 1) }
     ensures own { OnOk result (own.new ≡ own.old ++ map (λ u. lit u true) (item_vars (first_item (circuit net.now)) choice.now.items)) }
 {
-    let _order = net.order();
-    let raw = net.raw();
-    let zero = zero_nets(alloc, net)?;
-    let values = constant_table(alloc, raw.names.len() as usize, raw.consts.slice())?;
-    let mut into = Clauses::new(alloc);
-    let next = add_gates(alloc, &mut into, raw.names.len() + 1, raw.gates.slice())?;
-    add_units(alloc, &mut into, zero.as_slice(), values.as_slice())?;
-    add_next(alloc, &mut into, next, raw.flops.slice())?;
-    let item = next + raw.flops.len() as u32;
-    let end = add_items(alloc, &mut into, own, states, item, choice)?;
+    let laid = lay_cycle(alloc, net)?;
+    let mut into = laid.clauses;
+    let end = add_items(alloc, &mut into, own, states, laid.end, choice)?;
     Ok(Laid {
         clauses: into,
-        next,
+        next: laid.next,
         end,
     })
 }
@@ -89,7 +109,7 @@ fn literals_of(alloc: Global, variables: &[u32]) -> Result<Lits, NoMemory>
 
 /// The positive literals of so many variables from one on.
 fn literals_from(alloc: Global, first: u32, count: usize) -> Result<Lits, NoMemory>
-    requires { (1 ≤ first) × (first + count ≤ 2 ^ 30) }
+    requires { (1 ≤ first) × (first + count ≤ VARIABLE_LIMIT) }
     ensures { IfOk result (λ l. l ≡ literals (range_with_len first count)) }
 {
     let mut all = Lits::new(alloc);
@@ -101,7 +121,7 @@ fn literals_from(alloc: Global, first: u32, count: usize) -> Result<Lits, NoMemo
 
 /// The literals of nets.
 fn net_literals(alloc: Global, nets: &[NetId]) -> Result<Lits, NoMemory>
-    requires { All (λ n. n.0 < 100000) nets.now }
+    requires { All (λ n. n.0 < MAX_NETS) nets.now }
     ensures { IfOk result (λ l. l ≡ literals (map net_var nets.now)) }
 {
     let mut all = Lits::new(alloc);
@@ -131,6 +151,36 @@ impl Model for Encoding {
     ghost view = { λ e. record { clauses = e.clauses; variables = e.variables; states = e.states; next = e.next; signatures = e.signatures; inputs = e.inputs } };
 }
 
+/// The encoding of these clauses and signatures over the literals of a netlist.
+fn join(
+    alloc: Global,
+    net: &Netlist,
+    states: &[u32],
+    laid: &Laid,
+    signatures: Lits,
+) -> Result<Encoding, NoMemory>
+    requires states { states.now ≡ state_vars (circuit net.now) }
+    requires range { All IsVariable states.now }
+    requires next { laid.now.next ≡ first_next (circuit net.now) }
+    requires room { first_item (circuit net.now) ≤ VARIABLE_LIMIT }
+    requires end { 1 ≤ laid.now.end }
+    ensures { IfOk result (λ e. e ≡ joined (circuit net.now) (tidied laid.now.clauses) (laid.now.end - 1) signatures) }
+{
+    let raw = net.raw();
+    let clauses = tidy(alloc, &laid.clauses)?;
+    let next = literals_from(alloc, laid.next, raw.flops.len())?;
+    let inputs = net_literals(alloc, net.data_inputs().slice())?;
+    let states = literals_of(alloc, states)?;
+    Ok(Encoding {
+        clauses,
+        variables: laid.end - 1,
+        states,
+        next,
+        signatures,
+        inputs,
+    })
+}
+
 impl Encoding {
     /// The encoding of a netlist and of what its signature is taken of
     /// (docs/FORMATS.md, "Clauses of the transition relation").
@@ -143,18 +193,19 @@ impl Encoding {
         let states = state_variables(alloc, raw.flops.slice())?;
         let mut signatures = Lits::new(alloc);
         let laid = lay(alloc, net, states.as_slice(), choice, &mut signatures)?;
-        let clauses = tidy(alloc, &laid.clauses)?;
-        let next = literals_from(alloc, laid.next, raw.flops.len())?;
-        let inputs = net_literals(alloc, net.data_inputs().slice())?;
-        let states = literals_of(alloc, states.as_slice())?;
-        Ok(Encoding {
-            clauses,
-            variables: laid.end - 1,
-            states,
-            next,
-            signatures,
-            inputs,
-        })
+        let encoding = join(alloc, net, states.as_slice(), &laid, signatures)?;
+        Ok(encoding)
+    }
+
+    /// The encoding of a netlist without a signature.
+    pub fn plain(alloc: Global, net: &Netlist) -> Result<Encoding, NoMemory>
+        ensures { IfOk result (λ e. e ≡ encoding_of (circuit net.now) []) }
+    {
+        let raw = net.raw();
+        let states = state_variables(alloc, raw.flops.slice())?;
+        let laid = lay_cycle(alloc, net)?;
+        let encoding = join(alloc, net, states.as_slice(), &laid, Lits::new(alloc))?;
+        Ok(encoding)
     }
 
     /// The clauses; clause number i, from 1, has the id i.
@@ -162,6 +213,14 @@ impl Encoding {
         ensures { result.now ≡ self.now.clauses }
     {
         &self.clauses
+    }
+
+    /// Gives the clauses away; the encoding keeps none.
+    pub fn take_clauses(&mut self, alloc: Global) -> Clauses
+        ensures given { result ≡ self.old.clauses }
+        ensures rest { self.new ≡ record self.old { clauses = [] } }
+    {
+        std::mem::replace(&mut self.clauses, Clauses::new(alloc))
     }
 
     /// The number of variables.
@@ -176,6 +235,13 @@ impl Encoding {
         ensures { result.now ≡ self.now.states }
     {
         self.states.slice()
+    }
+
+    /// The literals of the next state, in the order of the flip-flops.
+    pub fn next(&self) -> &[Lit]
+        ensures { result.now ≡ self.now.next }
+    {
+        self.next.slice()
     }
 
     /// The literals of the data inputs, in their order.

@@ -1,6 +1,7 @@
 //! The laws of the transition clauses.
 ghost use Rattle.std.specs.Prelude.{◌≡◌, length};
 ghost use Rattle.bs_net.specs.Netlist.{circuit};
+ghost use Rattle.bs_encode.specs.Cycle.{EncodesCycles};
 ghost use Rattle.bs_encode.specs.Encoded.{encoding_of};
 ghost use Rattle.bs_encode.specs.Listing.{IsTidy, PredecessorsAreShown, SolutionsArePredecessors};
 ghost use Rattle.bs_encode.specs.Meaning.{ClausesEqualGates};
@@ -15,6 +16,14 @@ pub fn clauses_equal_gates(net: &Netlist, choice: &Choice)
     ensures { ClausesEqualGates (circuit net.now) choice.now.items }
 {
     let _items = choice.items();
+    let _raw = net.raw();
+}
+
+/// An encoding is one cycle of its netlist: an assignment meets the clauses exactly where it shows a state, an input, the
+/// state to which this leads, and the state's signature; whatever flip-flops the signature is taken of.
+pub fn encodings_are_cycles(net: &Netlist)
+    ensures { EncodesCycles (circuit net.now) }
+{
     let _raw = net.raw();
 }
 

@@ -1,5 +1,7 @@
 //! The clauses of the gates, the flip-flops and the items.
 ghost use Rattle.std.specs.Prelude.{◌≡◌, ◌<◌, ◌≤◌, ◌+◌, ◌-◌, ◌^◌, ◌++◌, ◌∷◌, [], true, length, map, All, IfOk, OnOk, sum_by};
+ghost use Rattle.bs_net.specs.declared.limits.TheConstants.{MAX_NETS};
+ghost use Rattle.bs_clause.specs.declared.literal.TheConstants.{VARIABLE_LIMIT};
 ghost use Rattle.bs_clause.specs.Literal.{IsVariable};
 ghost use Rattle.bs_encode.specs.Tables.{lit, helpers_of, odd_clauses};
 ghost use Rattle.bs_encode.specs.Transition.{net_var, gate_helpers, gates_clauses, next_clauses, load_clauses, item_helpers, items_clauses, item_vars, chosen};
@@ -13,7 +15,7 @@ use std::alloc::Global;
 
 /// The variable of a net.
 pub(crate) fn variable(net: NetId) -> u32
-    requires { net.0 < 100000 }
+    requires { net.0 < MAX_NETS }
     ensures value { result ≡ net_var net }
     ensures range { IsVariable result }
 {
@@ -22,7 +24,7 @@ pub(crate) fn variable(net: NetId) -> u32
 
 /// The variables of nets.
 fn variables_of(alloc: Global, nets: &[NetId]) -> Result<Vec<u32>, NoMemory>
-    requires { All (λ n. n.0 < 100000) nets.now }
+    requires { All (λ n. n.0 < MAX_NETS) nets.now }
     ensures value { IfOk result (λ l. l.items ≡ map net_var nets.now) }
     ensures range { IfOk result (λ l. All IsVariable l.items) }
 {
@@ -52,10 +54,10 @@ pub(crate) fn add_gates(
     h: u32,
     gates: &[Gate],
 ) -> Result<u32, NoMemory>
-    requires outs { All (λ g. g.out.0 < 100000) gates.now }
-    requires ins { All (λ g. All (λ n. n.0 < 100000) g.ins) gates.now }
+    requires outs { All (λ g. g.out.0 < MAX_NETS) gates.now }
+    requires ins { All (λ g. All (λ n. n.0 < MAX_NETS) g.ins) gates.now }
     requires few { All (λ g. length g.ins < 2 ^ 32) gates.now }
-    requires helpers { (1 ≤ h) × (h + sum_by gate_helpers gates.now ≤ 2 ^ 30) }
+    requires helpers { (1 ≤ h) × (h + sum_by gate_helpers gates.now ≤ VARIABLE_LIMIT) }
     ensures clauses { OnOk result (into.new ≡ into.old ++ gates_clauses h gates.now) }
     ensures after { IfOk result (λ n. n ≡ h + sum_by gate_helpers gates.now) }
 {
@@ -71,7 +73,7 @@ pub(crate) fn add_gates(
 
 /// The clauses of a flip-flop, whose next variable is n.
 fn add_load(alloc: Global, into: &mut Clauses, n: u32, flop: &Flop) -> Result<(), NoMemory>
-    requires placed { flop.now.d.0 < 100000 }
+    requires placed { flop.now.d.0 < MAX_NETS }
     requires next { IsVariable n }
     ensures { OnOk result (into.new ≡ into.old ++ load_clauses n flop.now) }
 {
@@ -85,8 +87,8 @@ pub(crate) fn add_next(
     n: u32,
     flops: &[Flop],
 ) -> Result<(), NoMemory>
-    requires placed { All (λ f. f.d.0 < 100000) flops.now }
-    requires next { (1 ≤ n) × (n + length flops.now ≤ 2 ^ 30) }
+    requires placed { All (λ f. f.d.0 < MAX_NETS) flops.now }
+    requires next { (1 ≤ n) × (n + length flops.now ≤ VARIABLE_LIMIT) }
     ensures { OnOk result (into.new ≡ into.old ++ next_clauses n flops.now) }
 {
     let mut next = n;
@@ -122,9 +124,9 @@ fn add_item(
     item: &[u32],
 ) -> Result<u32, NoMemory>
     requires placed { All (λ i. i < length states.now) item.now }
-    requires few { length item.now < 2 ^ 30 }
+    requires few { length item.now < VARIABLE_LIMIT }
     requires range { All IsVariable states.now }
-    requires room { (1 ≤ v) × (v + item_helpers item.now + 1 ≤ 2 ^ 30) }
+    requires room { (1 ≤ v) × (v + item_helpers item.now + 1 ≤ VARIABLE_LIMIT) }
     ensures clauses { OnOk result (into.new ≡ into.old ++ odd_clauses true v (v + item_helpers item.now) (chosen states.now item.now)) }
     ensures own { OnOk result (own.new ≡ own.old ++ lit (v + item_helpers item.now) true ∷ []) }
     ensures after { IfOk result (λ n. n ≡ v + item_helpers item.now + 1) }
@@ -147,9 +149,9 @@ pub(crate) fn add_items(
     choice: &Choice,
 ) -> Result<u32, NoMemory>
     requires width { choice.now.width ≡ length states.now }
-    requires few { All (λ item. length item < 2 ^ 30) choice.now.items }
+    requires few { All (λ item. length item < VARIABLE_LIMIT) choice.now.items }
     requires range { All IsVariable states.now }
-    requires room { (1 ≤ v) × (v + sum_by (λ item. item_helpers item + 1) choice.now.items ≤ 2 ^ 30) }
+    requires room { (1 ≤ v) × (v + sum_by (λ item. item_helpers item + 1) choice.now.items ≤ VARIABLE_LIMIT) }
     ensures clauses { OnOk result (into.new ≡ into.old ++ items_clauses states.now v choice.now.items) }
     ensures own { OnOk result (own.new ≡ own.old ++ map (λ u. lit u true) (item_vars v choice.now.items)) }
     ensures after { IfOk result (λ n. n ≡ v + sum_by (λ item. item_helpers item + 1) choice.now.items) }

@@ -6,7 +6,7 @@ use bs_bits::Bits;
 use bs_clause::{Lit, Lits, NoMemory};
 
 /// Puts each literal's variable with the sign of its bit at the end.
-pub(crate) fn push_signed(into: &mut Lits, literals: &[Lit], bits: &Bits) -> Result<(), NoMemory>
+pub fn push_signed(into: &mut Lits, literals: &[Lit], bits: &Bits) -> Result<(), NoMemory>
     requires { length literals.now ≡ length bits.now }
     ensures { OnOk result (into.new ≡ into.old ++ signed literals.now bits.now) }
 {

@@ -1,5 +1,6 @@
 //! The clauses of one gate.
-ghost use Rattle.std.specs.Prelude.{◌≡◌, ◌<◌, ◌≤◌, ◌+◌, ◌-◌, ◌^◌, ◌∷◌, [], ◌++◌, not, true, false, length, map, All, IfOk, OnOk};
+ghost use Rattle.std.specs.Prelude.{◌≡◌, ◌<◌, ◌≤◌, ◌+◌, ◌-◌, ◌∷◌, [], ◌++◌, not, true, false, length, map, All, IfOk, OnOk};
+ghost use Rattle.bs_clause.specs.declared.literal.TheConstants.{VARIABLE_LIMIT};
 ghost use Rattle.bs_clause.specs.Literal.{IsVariable};
 ghost use Rattle.bs_encode.specs.Tables.{lit, all_clauses, any_clauses, same_clauses, differ_clauses, odd_from, odd_clauses, first_clauses, gate_clauses, helpers_of};
 
@@ -160,7 +161,7 @@ fn add_chain(
     requires some { 1 < length ins.now }
     requires output { IsVariable z }
     requires inputs { All IsVariable ins.now }
-    requires helpers { (1 ≤ h) × (h + (length ins.now - 2) ≤ 2 ^ 30) }
+    requires helpers { (1 ≤ h) × (h + (length ins.now - 2) ≤ VARIABLE_LIMIT) }
     ensures { OnOk result (into.new ≡ into.old ++ odd_clauses sense h z ins.now) }
 {
     let last = ins.len() - 1;
@@ -184,7 +185,7 @@ pub(crate) fn add_odd(
 ) -> Result<(), NoMemory>
     requires output { IsVariable z }
     requires inputs { All IsVariable ins.now }
-    requires helpers { (1 ≤ h) × (h + (length ins.now - 2) ≤ 2 ^ 30) }
+    requires helpers { (1 ≤ h) × (h + (length ins.now - 2) ≤ VARIABLE_LIMIT) }
     ensures { OnOk result (into.new ≡ into.old ++ odd_clauses sense h z ins.now) }
 {
     match ins.len() {
@@ -224,7 +225,7 @@ pub(crate) fn add_gate(
 ) -> Result<(), NoMemory>
     requires output { IsVariable z }
     requires inputs { All IsVariable ins.now }
-    requires helpers { (1 ≤ h) × (h + helpers_of kind (length ins.now) ≤ 2 ^ 30) }
+    requires helpers { (1 ≤ h) × (h + helpers_of kind (length ins.now) ≤ VARIABLE_LIMIT) }
     ensures { OnOk result (into.new ≡ into.old ++ gate_clauses kind h z ins.now) }
 {
     match kind {

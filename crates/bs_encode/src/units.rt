@@ -1,6 +1,7 @@
 //! The units of the constants and of the nets that show 0.
-ghost use Rattle.std.specs.Prelude.{◌≡◌, ◌<◌, ◌≤◌, ◌+◌, ◌^◌, ◌++◌, ◌==◌, ◌&&◌, ℕ, not, true, false, None, Option, length, map, replicate, All, IfOk, OnOk, slice_index_or, slice_set};
+ghost use Rattle.std.specs.Prelude.{◌≡◌, ◌<◌, ◌≤◌, ◌+◌, ◌++◌, ◌==◌, ◌&&◌, ℕ, not, true, false, None, Option, length, map, replicate, All, IfOk, OnOk, slice_index_or, slice_set};
 ghost use Rattle.std.specs.List.{flat_map, range_with_len, list_any};
+ghost use Rattle.bs_net.specs.declared.limits.TheConstants.{MAX_NETS};
 ghost use Rattle.bs_net.specs.Circuit.{number, drivers};
 ghost use Rattle.bs_net.specs.Netlist.{circuit};
 ghost use Rattle.bs_clause.specs.Literal.{IsVariable};
@@ -132,7 +133,7 @@ pub(crate) fn add_units(
     values: &[Option<bool>],
 ) -> Result<(), NoMemory>
     requires same { length values.now ≡ length zero.now }
-    requires few { length zero.now ≤ 100000 }
+    requires few { length zero.now ≤ MAX_NETS }
     ensures { OnOk result (into.new ≡ into.old ++ flat_map (table_units zero.now values.now) (range_with_len 0 (length zero.now))) }
 {
     for n in 0..zero.len() {

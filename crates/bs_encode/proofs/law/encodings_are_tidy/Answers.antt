@@ -11,4 +11,5 @@ returns c =
     let P : ℕ → Type 0 = λ width. All (λ (item : List ℕ). All (λ i. i < width) item) c.args.choice.now.items in
     let placed = parts_placed c.args.net.now.raw c.raw-raw.ensures.placed c.args.choice.now.items (subst P c.requires c.items-items.ensures.sound.in_range) in
     encoding_is_tidy (circuit c.args.net.now) c.args.choice.now.items placed c.raw-raw.ensures.checked
-    (room_for_guards (circuit c.args.net.now) c.args.choice.now.items c.raw-raw.ensures.checked c.raw-raw.ensures.bounded c.items-items.ensures.sound.few_numbers c.items-items.ensures.sound.few_items)
+    (room_for_guards (circuit c.args.net.now)
+    c.args.choice.now.items c.raw-raw.ensures.checked c.raw-raw.ensures.bounded c.items-items.ensures.sound.few_numbers c.items-items.ensures.sound.few_items)

@@ -9,5 +9,6 @@ pub loop-n-preserved : goal.loop-n-preserved
 loop-n-preserved c =
     c.in_ok-add_net_units.ensures
     ∙ (ap (λ (l : List Clause). l ++ table_units c.args.zero.now c.args.values.now c.loop-n.n) c.loop-n.invariant
-    ∙ (append_assoc c.args.into.now (flat_map (table_units c.args.zero.now c.args.values.now) (range_with_len 0 c.loop-n.n)) (table_units c.args.zero.now c.args.values.now c.loop-n.n)
+    ∙ (append_assoc c.args.into.now (flat_map (table_units c.args.zero.now c.args.values.now) (range_with_len 0 c.loop-n.n))
+    (table_units c.args.zero.now c.args.values.now c.loop-n.n)
     ∙ ap (λ (l : List Clause). c.args.into.now ++ l) (sym (flat_map_more (table_units c.args.zero.now c.args.values.now) c.loop-n.n))))

@@ -14,11 +14,13 @@ returns c =
     let size : length c.in_ok-table.table.items ≡ c.len.result = ap length c.in_ok-table.ensures ∙ length-replicate c.len.result true in
     let wide : length c.clear.new.table.items ≡ (circuit c.args.net.now).nets = c.clear.ensures.wide ∙ (size ∙ count) in
     let driven : c.as_slice.result.now ≡ drivers (circuit c.args.net.now) = c.as_slice.ensures.value ∙ c.in_ok-driven.ensures in
-    let values : (k : ℕ) → k < length c.clear.new.table.items → slice_index_or c.clear.new.table.items k false ≡ not (list_any (λ m. k == m) (drivers (circuit c.args.net.now))) =
+    let values : (k : ℕ) → k < length c.clear.new.table.items →
+    slice_index_or c.clear.new.table.items k false ≡ not (list_any (λ m. k == m) (drivers (circuit c.args.net.now))) =
     λ k lt.
     let within : k < length c.in_ok-table.table.items = omega (arith, c.clear.ensures.wide, lt) in
     let below : k < c.len.result = omega (arith, size, within) in
-    let one : slice_index_or c.in_ok-table.table.items k false ≡ true = ap (λ (t : List Bool). slice_index_or t k false) c.in_ok-table.ensures ∙ get_or-replicate c.len.result k true false below in
+    let one : slice_index_or c.in_ok-table.table.items k false ≡ true =
+    ap (λ (t : List Bool). slice_index_or t k false) c.in_ok-table.ensures ∙ get_or-replicate c.len.result k true false below in
     c.clear.ensures.cleared k within
     ∙ (ap (λ b. b && not (list_any (λ m. k == m) c.as_slice.result.now)) one ∙ ap (λ (ns : List ℕ). not (list_any (λ m. k == m) ns)) driven) in
     let P : List Bool → Type 0 = λ t. AreZeros (circuit c.args.net.now) t in
