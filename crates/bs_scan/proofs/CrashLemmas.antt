@@ -8,6 +8,7 @@ use Rattle.bs_net.specs.Circuit.{Circuit, reset_state}
 use Rattle.bs_net.specs.Netlist.{circuit_of}
 use Rattle.bs_net.specs.Order.{IsChecked}
 use Rattle.bs_net.specs.Parts.{Parts}
+use Rattle.bs_stim.specs.declared.limits.TheConstants.{MAX_CYCLES}
 use Rattle.bs_stim.specs.Runs.{Recorded, Stimulus, IsRecorded, IsStimulus, no_run, run_at, inputs_of}
 use Rattle.bs_scan.specs.declared.dump.Dump.{Dump}
 use Rattle.bs_scan.specs.Choice.{Chosen}
@@ -61,8 +62,8 @@ recording_is raw choice s checked sound states inputs =
       inputs = inputs_fit (circuit_of raw) s sound inputs;
       few_runs = omega (arith, sound.few_runs, length-map s.runs (λ (run : Recorded). run.inputs));
       few_cycles =
-          All-map (λ (run : Run). length run ≤ 65536) (λ (run : Recorded). run.inputs) s.runs
-          (All-weaker (IsRecorded s.width) (λ (run : Recorded). length run.inputs ≤ 65536) (λ run is. is.few_cycles) s.runs sound.recorded);
+          All-map (λ (run : Run). length run ≤ MAX_CYCLES) (λ (run : Recorded). run.inputs) s.runs
+          (All-weaker (IsRecorded s.width) (λ (run : Recorded). length run.inputs ≤ MAX_CYCLES) (λ run is. is.few_cycles) s.runs sound.recorded);
     }
 
 pub crash_is : (r : Recording) (dump : Dump) → IsRecording r → DumpFits r.circuit r.choice dump → IsCrash (crash_of r dump)

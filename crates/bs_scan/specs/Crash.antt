@@ -4,6 +4,7 @@ use Rattle.bs_net.specs.Circuit.{Circuit}
 use Rattle.bs_net.specs.Netlist.{circuit_of}
 use Rattle.bs_net.specs.Order.{IsChecked}
 use Rattle.bs_net.specs.Parts.{Parts}
+use Rattle.bs_stim.specs.declared.limits.TheConstants.{MAX_RUNS, MAX_CYCLES}
 use Rattle.bs_stim.specs.Runs.{Stimulus, inputs_of}
 use Rattle.bs_scan.specs.declared.dump.Dump.{Dump}
 use Rattle.bs_scan.specs.Choice.{Chosen}
@@ -26,8 +27,8 @@ pub record IsRecording (r : Recording) : Type 0 where
   pub checked : IsChecked r.circuit
   pub states : r.choice.width ≡ length r.circuit.flops
   pub inputs : All (λ run. All (λ input. length input ≡ length r.circuit.inputs) run) r.runs
-  pub few_runs : length r.runs ≤ 256
-  pub few_cycles : All (λ run. length run ≤ 65536) r.runs
+  pub few_runs : length r.runs ≤ MAX_RUNS
+  pub few_cycles : All (λ run. length run ≤ MAX_CYCLES) r.runs
 
 -- the dump of a moment: its state, and the signature that the register holds there, if it holds one
 abbrev pub dump_at : Recording → Moment → Dump
