@@ -36,7 +36,8 @@ pub no_bits : (cs : List ℕ) → list_all is_digit cs ≡ false → None ≡ bi
 no_bits [] h = absurd (true≢false h)
 no_bits (c ∷ cs) h = by (is_digit c) refl h (no_bits cs)
   where
-    by : (b : Bool) → is_digit c ≡ b → (b && list_all is_digit cs) ≡ false → (list_all is_digit cs ≡ false → None ≡ bits_of_digits cs) → None ≡ before (bit_of c) (bits_of_digits cs)
+    by : (b : Bool) → is_digit c ≡ b → (b && list_all is_digit cs) ≡ false → (list_all is_digit cs ≡ false → None ≡ bits_of_digits cs) →
+        None ≡ before (bit_of c) (bits_of_digits cs)
     by false e h rest = ap (λ o. before o (bits_of_digits cs)) (no_bit c e)
     by true e h rest = ap (λ o. before o None) (digit_bit c e) ∙ ap (before (bit_of c)) (rest h)
 

@@ -14,13 +14,15 @@ pub some_word : (bs : List ℕ) → (w : List ℕ) × (ws : List (List ℕ)) × 
 some_word [] = ([], [], refl)
 some_word (b ∷ bs) = by (b == 32) refl (words_of bs) refl
   where
-    by : (z : Bool) → b == 32 ≡ z → (o : List (List ℕ)) → words_of bs ≡ o → (w : List ℕ) × (ws : List (List ℕ)) × (cond z ([] ∷ words_of bs) (onto_first b (words_of bs)) ≡ w ∷ ws)
+    by : (z : Bool) → b == 32 ≡ z → (o : List (List ℕ)) → words_of bs ≡ o →
+        (w : List ℕ) × (ws : List (List ℕ)) × (cond z ([] ∷ words_of bs) (onto_first b (words_of bs)) ≡ w ∷ ws)
     by true e o f = ([], words_of bs, refl)
     by false e [] f = (b ∷ [], [], ap (onto_first b) f)
     by false e (w ∷ ws) f = (b ∷ w, ws, ap (onto_first b) f)
 
 -- a line of four words or more is no first line
-pub four_words : (line rest more last : List ℕ) (a b c : List ℕ) → words_of line ≡ a ∷ words_of rest → words_of rest ≡ b ∷ words_of more → words_of more ≡ c ∷ words_of last → None ≡ head_of (words_of line)
+pub four_words : (line rest more last : List ℕ) (a b c : List ℕ) → words_of line ≡ a ∷ words_of rest → words_of rest ≡ b ∷ words_of more →
+    words_of more ≡ c ∷ words_of last → None ≡ head_of (words_of line)
 four_words line rest more last a b c e f g =
     let s = some_word last in
     sym (ap head_of (e ∙ ap (λ ws. a ∷ ws) (f ∙ ap (λ ws. b ∷ ws) (g ∙ ap (λ ws. c ∷ ws) s.2))))

@@ -4,3 +4,4 @@ pub mod WritingLemmas
 pub mod PackingLemmas
 pub mod CharacterLemmas
 pub mod ReadBackLemmas
+pub mod ExactLemmas

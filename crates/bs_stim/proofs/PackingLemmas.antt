@@ -44,7 +44,8 @@ put_here words at h =
 
 put_other : (words : List ℕ) (at place : ℕ) → at < 64 * length words → (place ≡ at → ⊥) → bit_in (put words at) place ≡ bit_in words place
 put_other words at place h other =
-    ⊎_elim same_word (λ (e : place / 64 ≡ at / 64 → ⊥). ap (λ w. bit_at w (place % 64) == 1) (get_or-set_other words (at / 64) (place / 64) (bit_or (word_at words at) (2 ^ (at % 64))) 0 e)) (cases_eq (place / 64) (at / 64))
+    ⊎_elim same_word (λ (e : place / 64 ≡ at / 64 → ⊥). ap (λ w. bit_at w (place % 64) == 1)
+    (get_or-set_other words (at / 64) (place / 64) (bit_or (word_at words at) (2 ^ (at % 64))) 0 e)) (cases_eq (place / 64) (at / 64))
   where
     same_word : place / 64 ≡ at / 64 → bit_in (put words at) place ≡ bit_in words place
     same_word e =
@@ -91,7 +92,8 @@ none_written start characters words h =
       behind = record { each = λ place le. h.each place (omega (arith, le)) };
     }
 
-pub one_more_written : (start k : ℕ) (characters old mid new : List ℕ) → HasWritten start characters k old mid → HasPut (start + k) (is_one (get_or characters k 0)) mid new → HasWritten start characters (k + 1) old new
+pub one_more_written : (start k : ℕ) (characters old mid new : List ℕ) → HasWritten start characters k old mid →
+    HasPut (start + k) (is_one (get_or characters k 0)) mid new → HasWritten start characters (k + 1) old new
 one_more_written start k characters old mid new h p =
     record {
       size = p.size ∙ h.size;
@@ -119,17 +121,20 @@ length_bits words start count = length-map-range_with_len (λ place. bit_in word
 pub length_inputs : (width count : ℕ) (words : List ℕ) → length (inputs_in width count words) ≡ count
 length_inputs width count words = length-map-range_with_len (λ cycle. bits_in words (cycle * width) width) 0 count
 
-pub input_at : (width count : ℕ) (words : List ℕ) (cycle : ℕ) → cycle < count → get_or (inputs_in width count words) cycle [] ≡ bits_in words (cycle * width) width
+pub input_at : (width count : ℕ) (words : List ℕ) (cycle : ℕ) → cycle < count →
+    get_or (inputs_in width count words) cycle [] ≡ bits_in words (cycle * width) width
 input_at width count words cycle lt = get_or-map-range_with_len (λ cycle. bits_in words (cycle * width) width) 0 count cycle cycle [] lt (omega arith)
 
-pub bit_at_place : (width count : ℕ) (words : List ℕ) (cycle place : ℕ) → cycle < count → place < width → bit_in words (cycle * width + place) ≡ get_or (get_or (inputs_in width count words) cycle []) place false
+pub bit_at_place : (width count : ℕ) (words : List ℕ) (cycle place : ℕ) → cycle < count → place < width →
+    bit_in words (cycle * width + place) ≡ get_or (get_or (inputs_in width count words) cycle []) place false
 bit_at_place width count words cycle place lt small =
     sym (ap (λ bits. get_or bits place false) (input_at width count words cycle lt)
     ∙ get_or-map-range_with_len (λ place. bit_in words (cycle * width + place)) 0 width place place false small (omega arith))
 
 pub row_widths : (width count : ℕ) (words : List ℕ) → All (λ (row : List Bool). length row ≡ width) (inputs_in width count words)
 row_widths width count words k d lt =
-    ap length (get_or-map-range_with_len (λ cycle. bits_in words (cycle * width) width) 0 count k k d (omega (arith, lt, length_inputs width count words)) (omega arith))
+    ap length (get_or-map-range_with_len (λ cycle. bits_in words (cycle * width) width) 0 count k k d
+    (omega (arith, lt, length_inputs width count words)) (omega arith))
     ∙ length_bits words (k * width) width
 
 -- an input lies before the end of the inputs
@@ -141,15 +146,19 @@ none_packed width = record { room = omega arith; small = omega arith; clear = re
 
 -- ---- one input more
 
-same_bits : (old new : List ℕ) (start width : ℕ) → ((place : ℕ) → place < start + width → bit_in new place ≡ bit_in old place) → bits_in new start width ≡ bits_in old start width
-same_bits old new start width h = same_map (λ place. bit_in new (start + place)) (λ place. bit_in old (start + place)) 0 width (λ k le lt. h (start + k) (omega (arith, lt)))
+same_bits : (old new : List ℕ) (start width : ℕ) → ((place : ℕ) → place < start + width → bit_in new place ≡ bit_in old place) →
+    bits_in new start width ≡ bits_in old start width
+same_bits old new start width h =
+    same_map (λ place. bit_in new (start + place)) (λ place. bit_in old (start + place)) 0 width (λ k le lt. h (start + k) (omega (arith, lt)))
 
-pub same_inputs : (width count : ℕ) (old new : List ℕ) → ((place : ℕ) → place < count * width → bit_in new place ≡ bit_in old place) → inputs_in width count new ≡ inputs_in width count old
+pub same_inputs : (width count : ℕ) (old new : List ℕ) → ((place : ℕ) → place < count * width → bit_in new place ≡ bit_in old place) →
+    inputs_in width count new ≡ inputs_in width count old
 same_inputs width count old new h =
     same_map (λ cycle. bits_in new (cycle * width) width) (λ cycle. bits_in old (cycle * width) width) 0 count
     (λ cycle le lt. same_bits old new (cycle * width) width (λ place small. h place (omega (arith, small, input_ends width count cycle (omega (arith, lt))))))
 
-bits_written : (start width : ℕ) (characters old new : List ℕ) → length characters ≡ width → HasWritten start characters width old new → bits_in new start width ≡ map is_one characters
+bits_written : (start width : ℕ) (characters old new : List ℕ) → length characters ≡ width → HasWritten start characters width old new →
+    bits_in new start width ≡ map is_one characters
 bits_written start width characters old new e h =
     sym (fill_by_all (λ place. bit_in new (start + place)) (map is_one characters) width false (length-map characters is_one ∙ e)
     (λ k lt. get_or-map is_one characters k 0 false (omega (arith, lt, e)) ∙ sym (h.written k lt)))
@@ -200,7 +209,8 @@ copied_last xs k b lt = let e : k + 1 ≡ suc k = omega arith in ap (λ n. take 
     by (y ∷ ys) zero h = refl
     by (y ∷ ys) (suc j) h = ap (λ zs. y ∷ zs) (by ys j (omega (arith, h)))
 
-pub one_more_copied : (words : List ℕ) (start k : ℕ) (xs : List Bool) → k < length xs → take k xs ≡ bits_in words start k → take (k + 1) (set xs k (bit_in words (start + k))) ≡ bits_in words start (k + 1)
+pub one_more_copied : (words : List ℕ) (start k : ℕ) (xs : List Bool) → k < length xs → take k xs ≡ bits_in words start k →
+    take (k + 1) (set xs k (bit_in words (start + k))) ≡ bits_in words start (k + 1)
 one_more_copied words start k xs lt e =
     copied_last xs k (bit_in words (start + k)) lt
     ∙ (ap (λ bits. bits ++ bit_in words (start + k) ∷ []) e
@@ -217,26 +227,31 @@ all_copied xs bits k n e le same = sym (by xs k (omega (arith, le, same))) ∙ e
 
 -- ---- what the fields say of the inputs
 
-pub recorded_below : (width count : ℕ) (words : List ℕ) (rows : Rows) (cycle : ℕ) → record { width = width; rows = inputs_in width count words } ≡ rows → cycle < length rows.rows → cycle < count
+pub recorded_below : (width count : ℕ) (words : List ℕ) (rows : Rows) (cycle : ℕ) →
+    record { width = width; rows = inputs_in width count words } ≡ rows → cycle < length rows.rows → cycle < count
 recorded_below width count words rows cycle is lt = omega (arith, lt, ap (λ r. length r.rows) is, length_inputs width count words)
 
-pub recorded_few : (width count : ℕ) (words : List ℕ) (rows : Rows) → record { width = width; rows = inputs_in width count words } ≡ rows → length rows.rows < MAX_CYCLES → count < MAX_CYCLES
+pub recorded_few : (width count : ℕ) (words : List ℕ) (rows : Rows) → record { width = width; rows = inputs_in width count words } ≡ rows →
+    length rows.rows < MAX_CYCLES → count < MAX_CYCLES
 recorded_few width count words rows is few = omega (arith, few, ap (λ r. length r.rows) is, length_inputs width count words)
 
-pub input_small : (width count : ℕ) (words : List ℕ) (rows : Rows) → record { width = width; rows = inputs_in width count words } ≡ rows → length rows.rows < MAX_CYCLES → rows.width ≤ MAX_TEXT →
+pub input_small : (width count : ℕ) (words : List ℕ) (rows : Rows) → record { width = width; rows = inputs_in width count words } ≡ rows →
+    length rows.rows < MAX_CYCLES → rows.width ≤ MAX_TEXT →
     count * width + width ≤ 4398046511104
 input_small width count words rows is few narrow =
     row_fits count width 65536 67108864 (recorded_few width count words rows is few) (omega (arith, narrow, ap (λ r. r.width) is))
 
 -- an input that is written behind the inputs of words that have grown
-pub one_more_input_grown : (width count more : ℕ) (characters old grown new : List ℕ) → length characters ≡ width → grown ≡ old ++ replicate more zero_word → HasWritten (count * width) characters width grown new →
+pub one_more_input_grown : (width count more : ℕ) (characters old grown new : List ℕ) → length characters ≡ width →
+    grown ≡ old ++ replicate more zero_word → HasWritten (count * width) characters width grown new →
     inputs_in width (count + 1) new ≡ inputs_in width count old ++ map is_one characters ∷ []
 one_more_input_grown width count more characters old grown new wide e h =
     one_more_input width count characters grown new wide h
     ∙ ap (λ rows. rows ++ map is_one characters ∷ [])
     (same_inputs width count old grown (λ place lt. ap (λ ws. bit_in ws place) e ∙ same_grown old more place))
 
-pub room_grown : (size : ℕ) (old grown new : List ℕ) → grown ≡ old ++ replicate ((size + 63) / 64 - length old) zero_word → length new ≡ length grown → size ≤ 64 * length new
+pub room_grown : (size : ℕ) (old grown new : List ℕ) → grown ≡ old ++ replicate ((size + 63) / 64 - length old) zero_word →
+    length new ≡ length grown → size ≤ 64 * length new
 room_grown size old grown new e same =
     let more : ℕ = (size + 63) / 64 - length old in
     omega (arith, same, ap length e, length-append old (replicate more zero_word), length-replicate more zero_word)

@@ -179,7 +179,8 @@ abbrev run_of : List ℕ → List (List Bool) → List (List ℕ) → Result (Ta
 run_of name inputs rest = Ok (taken (record { name = name; inputs = inputs }) rest)
 
 run_end : (w n b : ℕ) (first : First) (t : Taken (List (List Bool))) → length t.value ≡ first.cycles → (q : Result (List (List ℕ)) StimFault) →
-    ((q >>= λ rest. rest_of w (n + 1 + first.cycles + 1) (b + 1) None rest >>= under t.value) >>= named first.name) ≡ behind_run w n b (q >>= run_of first.name t.value)
+    ((q >>= λ rest. rest_of w (n + 1 + first.cycles + 1) (b + 1) None rest >>= under t.value) >>= named first.name) ≡ behind_run w n b
+    (q >>= run_of first.name t.value)
 run_end w n b first t h (Err f) = refl
 run_end w n b first t h (Ok rest) =
     let here : n + 1 + first.cycles + 1 ≡ n + (length t.value + 2) = omega (arith, h) in
@@ -197,7 +198,8 @@ run_inputs w n b first (Ok t) h = run_end w n b first t (h t refl) (end_from (n 
 
 run_first : (w n b : ℕ) (texts : List (List ℕ)) (o : Result First StimFault) →
     (o >>= λ first. rest_of w (n + 1) (b + 1) (Some first.cycles) texts >>= named first.name) ≡
-    behind_run w n b (o >>= λ first. inputs_from w (n + 1) first.cycles texts >>= λ inputs. end_from (n + 1 + first.cycles) inputs.rest >>= run_of first.name inputs.value)
+    behind_run w n b (o >>= λ first. inputs_from w (n + 1) first.cycles texts >>= λ inputs. end_from
+    (n + 1 + first.cycles) inputs.rest >>= run_of first.name inputs.value)
 run_first w n b texts (Err f) = refl
 run_first w n b texts (Ok first) =
     ap (λ r. r >>= named first.name) (after_inputs w (n + 1) (n + 1 + first.cycles) (b + 1) first.cycles texts refl)

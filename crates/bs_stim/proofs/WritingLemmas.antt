@@ -35,7 +35,8 @@ taken_last xs k d lt = let e : k + 1 ≡ suc k = omega arith in ap (λ n. take n
     by (y ∷ ys) (suc j) h = ap (λ zs. y ∷ zs) (by ys j (omega (arith, h)))
 
 -- a text after one line more
-pub one_more_line : (rows : List (List Bool)) (k : ℕ) (old mid new : List ℕ) → k < length rows → mid ≡ old ++ inputs_text (take k rows) → new ≡ mid ++ line (bits_text (get_or rows k [])) →
+pub one_more_line : (rows : List (List Bool)) (k : ℕ) (old mid new : List ℕ) → k < length rows → mid ≡ old ++ inputs_text (take k rows) →
+    new ≡ mid ++ line (bits_text (get_or rows k [])) →
     new ≡ old ++ inputs_text (take (k + 1) rows)
 one_more_line rows k old mid new lt e f =
     f ∙ (ap (λ t. t ++ line (bits_text (get_or rows k []))) e
@@ -43,25 +44,30 @@ one_more_line rows k old mid new lt e f =
     ∙ ap (λ t. old ++ t) (joined ∙ ap inputs_text (sym (taken_last rows k [] lt)))))
   where
     joined : inputs_text (take k rows) ++ line (bits_text (get_or rows k [])) ≡ inputs_text (take k rows ++ get_or rows k [] ∷ [])
-    joined = sym (flat_map-append (λ input. line (bits_text input)) (take k rows) (get_or rows k [] ∷ []) ∙ ap (λ t. inputs_text (take k rows) ++ t) (append-nil _))
+    joined =
+        sym (flat_map-append (λ input. line (bits_text input)) (take k rows) (get_or rows k [] ∷ []) ∙ ap (λ t. inputs_text (take k rows) ++ t) (append-nil _))
 
-pub one_more_digit : (row : List Bool) (k : ℕ) (bit : Bool) (old mid new : List ℕ) → k < length row → mid ≡ old ++ map digit_of (take k row) → bit ≡ get_or row k false → new ≡ mid ++ digit_of bit ∷ [] →
+pub one_more_digit : (row : List Bool) (k : ℕ) (bit : Bool) (old mid new : List ℕ) → k < length row → mid ≡ old ++ map digit_of (take k row) →
+    bit ≡ get_or row k false → new ≡ mid ++ digit_of bit ∷ [] →
     new ≡ old ++ map digit_of (take (k + 1) row)
 one_more_digit row k bit old mid new lt e same f =
     f ∙ (ap (λ t. t ++ digit_of bit ∷ []) e
     ∙ (append_assoc old (map digit_of (take k row)) (digit_of bit ∷ [])
-    ∙ ap (λ t. old ++ t) (sym (map-append digit_of (take k row) (bit ∷ [])) ∙ ap (λ b. map digit_of (take k row ++ b ∷ [])) same ∙ ap (map digit_of) (sym (taken_last row k false lt)))))
+    ∙ ap (λ t. old ++ t) (sym (map-append digit_of (take k row) (bit ∷ [])) ∙ ap (λ b. map digit_of (take k row ++ b ∷ [])) same
+    ∙ ap (map digit_of) (sym (taken_last row k false lt)))))
 
 no_bits_dot : (row : List Bool) → length row ≡ 0 → bits_text row ≡ 46 ∷ []
 no_bits_dot [] e = refl
 no_bits_dot (b ∷ row) e = absurd (omega (arith, e))
 
-pub empty_row : (rows : List (List Bool)) (k width : ℕ) → All (λ (row : List Bool). length row ≡ width) rows → k < length rows → width ≡ 0 → 46 ∷ [] ≡ bits_text (get_or rows k [])
+pub empty_row : (rows : List (List Bool)) (k width : ℕ) → All (λ (row : List Bool). length row ≡ width) rows → k < length rows → width ≡ 0 →
+    46 ∷ [] ≡ bits_text (get_or rows k [])
 empty_row rows k width each lt none = sym (no_bits_dot (get_or rows k []) (each k [] lt ∙ none))
 
 all_taken : (row : List Bool) (k : ℕ) → length row ≤ k → 0 < length row → map digit_of (take k row) ≡ bits_text row
 all_taken [] k le some = absurd (omega (arith, some))
 all_taken (b ∷ row) k le some = ap (map digit_of) (take_all k (b ∷ row) le)
 
-pub whole_row : (rows : List (List Bool)) (k n width : ℕ) → All (λ (row : List Bool). length row ≡ width) rows → k < length rows → width ≤ n → 0 < width → map digit_of (take n (get_or rows k [])) ≡ bits_text (get_or rows k [])
+pub whole_row : (rows : List (List Bool)) (k n width : ℕ) → All (λ (row : List Bool). length row ≡ width) rows → k < length rows → width ≤ n →
+    0 < width → map digit_of (take n (get_or rows k [])) ≡ bits_text (get_or rows k [])
 whole_row rows k n width each lt le some = all_taken (get_or rows k []) n (omega (arith, each k [] lt, le)) (omega (arith, each k [] lt, some))

@@ -8,5 +8,6 @@ places-preserved c =
       width = rw c.set.ensures (length-set c.places.into c.places.place c.bit_of.result ∙ c.places.invariant.width);
       copied =
           rw (c.set.ensures, c.bit_of.ensures)
-          (one_more_copied c.args.words.now c.args.start c.places.place c.places.into (omega (arith, c.places-test.true, c.len-place-end.ensures, c.places.invariant.width)) c.places.invariant.copied);
+          (one_more_copied c.args.words.now c.args.start c.places.place c.places.into
+          (omega (arith, c.places-test.true, c.len-place-end.ensures, c.places.invariant.width)) c.places.invariant.copied);
     }

@@ -17,14 +17,23 @@ read_run-requires c =
 pub returns-in_err-run-clause-reads : goal.returns-in_err-run-clause-reads
 returns-in_err-run-clause-reads c =
     let p = err_from_is_err_and c.from_residual.result c.from_residual.ensures.1 in
-    let some = some_lines c.args.width (lines_of c.args.bytes.now) (omega (arith, c.runs.invariant.behind, c.runs.invariant.begun, ap length c.in-Some.ensures)) in
+    let some =
+    some_lines c.args.width (lines_of c.args.bytes.now) (omega (arith, c.runs.invariant.behind, c.runs.invariant.begun, ap length c.in-Some.ensures)) in
     rw (p.1, p.2)
     (run_refused (runs_of c.args.width (lines_of c.args.bytes.now)) c.args.width c.runs.number c.runs.runs (lines_of c.runs.rest.now)
     c.in-Some.line.now (lines_of c.in-Some.behind.now) _ (some ∙ c.runs.invariant.whole) c.in-Some.ensures (rw c.len.ensures at c.in_err-run.ensures.reads))
 
 pub overflow_add-number-in-Some : goal.overflow_add-number-in-Some
 overflow_add-number-in-Some c =
-    omega (arith, c.runs.invariant.behind, ap length c.in-Some.ensures, lines_within c.args.bytes.now, c.requires, c.in_ok-run.ensures.behind, c.cycles.ensures.count)
+    omega (
+      arith,
+      c.runs.invariant.behind,
+      ap length c.in-Some.ensures,
+      lines_within c.args.bytes.now,
+      c.requires,
+      c.in_ok-run.ensures.behind,
+      c.cycles.ensures.count,
+    )
 
 pub runs-preserved : goal.runs-preserved
 runs-preserved c =
@@ -33,7 +42,8 @@ runs-preserved c =
       whole =
           rw (more, c.in_ok-push.ensures.ok, c.cycles.ensures.count)
           (run_step (all_runs c.args.width (lines_of c.args.bytes.now)) c.args.width c.runs.number c.runs.runs (lines_of c.runs.rest.now)
-          c.in-Some.line.now (lines_of c.in-Some.behind.now) c.in_ok-run.run' (lines_of c.in_ok-run.left.now) c.runs.invariant.whole c.in-Some.ensures (rw c.len.ensures at c.in_ok-run.ensures.reads));
+          c.in-Some.line.now (lines_of c.in-Some.behind.now) c.in_ok-run.run' (lines_of c.in_ok-run.left.now) c.runs.invariant.whole c.in-Some.ensures
+          (rw c.len.ensures at c.in_ok-run.ensures.reads));
       behind = omega (arith, c.runs.invariant.behind, ap length c.in-Some.ensures, c.in_ok-run.ensures.behind, c.cycles.ensures.count);
       short = c.in_ok-run.ensures.short;
       begun = omega (arith, c.runs.invariant.begun, more);
@@ -44,5 +54,8 @@ runs-preserved c =
 
 pub returns-clause-reads : goal.returns-clause-reads
 returns-clause-reads c =
-    let some = some_lines c.args.width (lines_of c.args.bytes.now) (omega (arith, c.runs.invariant.behind, c.runs.invariant.begun, ap length c.in_default.ensures, c.len-2.ensures, c.if-len-eq0.false)) in
-    runs_end (runs_of c.args.width (lines_of c.args.bytes.now)) c.args.width c.runs.number c.runs.runs (lines_of c.runs.rest.now) (some ∙ c.runs.invariant.whole) c.in_default.ensures
+    let some =
+    some_lines c.args.width (lines_of c.args.bytes.now)
+    (omega (arith, c.runs.invariant.behind, c.runs.invariant.begun, ap length c.in_default.ensures, c.len-2.ensures, c.if-len-eq0.false)) in
+    runs_end (runs_of c.args.width (lines_of c.args.bytes.now)) c.args.width c.runs.number c.runs.runs (lines_of c.runs.rest.now)
+    (some ∙ c.runs.invariant.whole) c.in_default.ensures

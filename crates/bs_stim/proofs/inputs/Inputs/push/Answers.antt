@@ -29,7 +29,8 @@ invariant_of-self-2 c =
     let wide : length c.args.characters.now ≡ i.width = rw (sym c.self.view_is) at c.requires.width in
     let small = input_small i.width i.count i.words.items _ c.self.view_is c.requires.few c.requires.narrow in
     one_more_packed i.width i.count c.args.characters.now c.grow.new.words.items c.write_bits.new.words.items
-    (room_grown (i.count * i.width + i.width) i.words.items c.grow.new.words.items c.write_bits.new.words.items c.in_ok-grow.ensures.ok c.write_bits.ensures.size) (omega (arith, small)) (rw wide at c.write_bits.ensures)
+    (room_grown (i.count * i.width + i.width) i.words.items c.grow.new.words.items c.write_bits.new.words.items c.in_ok-grow.ensures.ok
+    c.write_bits.ensures.size) (omega (arith, small)) (rw wide at c.write_bits.ensures)
 
 pub returns-clause-ok : goal.returns-clause-ok
 returns-clause-ok c =
@@ -37,4 +38,5 @@ returns-clause-ok c =
     let wide : length c.args.characters.now ≡ i.width = rw (sym c.self.view_is) at c.requires.width in
     rw (sym c.self.view_is)
     (ap (λ rows. record { width = i.width; rows = rows })
-    (one_more_input_grown i.width i.count _ c.args.characters.now i.words.items c.grow.new.words.items c.write_bits.new.words.items wide c.in_ok-grow.ensures.ok (rw wide at c.write_bits.ensures)))
+    (one_more_input_grown i.width i.count _ c.args.characters.now i.words.items c.grow.new.words.items c.write_bits.new.words.items wide
+    c.in_ok-grow.ensures.ok (rw wide at c.write_bits.ensures)))
