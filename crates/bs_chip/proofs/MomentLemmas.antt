@@ -4,13 +4,11 @@ use Rattle.std.specs.Prelude.{MatchOption, IfSome}
 use Rattle.std.proofs.lemmas.Bool.{true≢false}
 use Rattle.std.proofs.Math.Nat.{eq-or-lt_of_le}
 use Rattle.bs_net.specs.Circuit.{Circuit}
-use Rattle.bs_scan.specs.Moments.{Run, Moment, IsMoment, run_of, first_moment}
-use Rattle.bs_scan.specs.Law.{IsBefore, IsReached, IsFirst}
+use Rattle.bs_stim.specs.declared.limits.TheConstants.{MAX_CYCLES}
+use Rattle.bs_scan.specs.Moments.{Run, Moment, moment, IsMoment, run_of, first_moment}
+use Rattle.bs_scan.specs.Law.{IsBefore, IsReached, IsFirstMoment}
 use Rattle.bs_scan.proofs.MomentLemmas.{first_is_least}
-use Rattle.std.proofs.lemmas.List.{length-map}
-use Rattle.bs_stim.specs.Runs.{Recorded, Stimulus, run_at, inputs_of}
-use Rattle.bs_chip.proofs.ReplayLemmas.{run_inputs}
-use Rattle.bs_chip.specs.Replay.{lists, NoneListed, IsFirstCycle, IsBest, moment}
+use Rattle.bs_chip.specs.Replay.{lists, NoneListed, IsFirstCycle, IsBest}
 
 order_cases : (a b : ℕ) → a ≤ b → (a ≡ b) ⊎ (a < b)
 order_cases a b le = eq-or-lt_of_le le
@@ -38,7 +36,8 @@ best_first c runs states = λ other h lt reached. absurd (omega (arith, lt, h.fr
 
 -- a run without an earlier hit
 pub best_kept : (c : Circuit) (runs : List Run) (states : List (List Bool)) (r bound limit : ℕ) (best : Option Moment) → IsBest c runs states r best →
-    MatchOption best (bound ≡ 65537) (λ m. bound ≡ m.cycle) → limit ≡ min bound (length (run_of runs r) + 1) → length (run_of runs r) ≤ 65536 → NoneListed c (run_of runs r) states limit →
+    MatchOption best (bound ≡ MAX_CYCLES + 1) (λ m. bound ≡ m.cycle) → limit ≡ min bound (length (run_of runs r) + 1) → length (run_of runs r) ≤ MAX_CYCLES →
+    NoneListed c (run_of runs r) states limit →
     IsBest c runs states (r + 1) best
 best_kept c runs states r bound limit None prior b l few none = λ other h lt reached.
     ⊎_elim
@@ -66,16 +65,19 @@ best_kept c runs states r bound limit (Some m) prior b l few none =
 
 -- the best moment of the runs before is later than the bound
 later_than : (c : Circuit) (runs : List Run) (states : List (List Bool)) (r k bound : ℕ) (best : Option Moment) → IsBest c runs states r best →
-    MatchOption best (bound ≡ 65537) (λ m. bound ≡ m.cycle) → k < bound → (other : Moment) → IsMoment runs other → other.run < r → IsReached c runs states other → k < other.cycle
+    MatchOption best (bound ≡ MAX_CYCLES + 1) (λ m. bound ≡ m.cycle) → k < bound → (other : Moment) → IsMoment runs other → other.run < r →
+    IsReached c runs states other → k < other.cycle
 later_than c runs states r k bound None prior b lt other h less reached = absurd (prior other h less reached)
 later_than c runs states r k bound (Some m) prior b lt other h less reached =
     ⊎_elim (λ (same : m ≡ other). omega (arith, b, lt, ap (λ (m : Moment). m.cycle) same))
-    (λ (before : IsBefore m other). ⊎_elim (λ (l : m.cycle < other.cycle). omega (arith, b, lt, l)) (λ (t : (m.cycle ≡ other.cycle) × (m.run < other.run)). omega (arith, b, lt, t.0)) before)
+    (λ (before : IsBefore m other). ⊎_elim (λ (l : m.cycle < other.cycle). omega (arith, b, lt, l))
+    (λ (t : (m.cycle ≡ other.cycle) × (m.run < other.run)). omega (arith, b, lt, t.0)) before)
     (prior.least other h less reached)
 
 -- a run with an earlier hit
 pub best_found : (c : Circuit) (runs : List Run) (states : List (List Bool)) (r bound limit k : ℕ) (best : Option Moment) → IsBest c runs states r best →
-    MatchOption best (bound ≡ 65537) (λ m. bound ≡ m.cycle) → limit ≡ min bound (length (run_of runs r) + 1) → 1 ≤ r → r ≤ length runs → IsFirstCycle c (run_of runs r) states limit k →
+    MatchOption best (bound ≡ MAX_CYCLES + 1) (λ m. bound ≡ m.cycle) → limit ≡ min bound (length (run_of runs r) + 1) → 1 ≤ r → r ≤ length runs →
+    IsFirstCycle c (run_of runs r) states limit k →
     IsBest c runs states (r + 1) (Some (moment r k))
 best_found c runs states r bound limit k best prior b l from there f =
     record {
@@ -104,34 +106,24 @@ pub best_is_first : (c : Circuit) (runs : List Run) (states : List (List Bool)) 
     best ≡ first_moment c runs states
 best_is_first c runs states n best all h = by (first_moment c runs states) (first_is_least c runs states) best h
   where
-    by : (o : Option Moment) → MatchOption o ((m : Moment) → IsMoment runs m → IsReached c runs states m → ⊥) (IsFirst c runs states) →
+    by : (o : Option Moment) → MatchOption o ((m : Moment) → IsMoment runs m → IsReached c runs states m → ⊥) (IsFirstMoment c runs states) →
         (best : Option Moment) → IsBest c runs states n best → best ≡ o
     by None law None h = refl
     by None law (Some b) h = absurd (law b h.moment h.reached)
     by (Some m) law None h = absurd (h m law.moment (omega (arith, law.moment.recorded)) law.reached)
     by (Some m) law (Some b) h =
         ⊎_elim (λ (same : b ≡ m). ap Some same)
-        (λ (x : IsBefore b m). ⊎_elim (λ (same : m ≡ b). ap Some (sym same)) (λ (y : IsBefore m b). ap Some (never_both b m x y)) (law.least b h.moment h.reached))
+        (λ (x : IsBefore b m). ⊎_elim (λ (same : m ≡ b). ap Some (sym same)) (λ (y : IsBefore m b). ap Some (never_both b m x y))
+        (law.least b h.moment h.reached))
         (h.least m law.moment (omega (arith, law.moment.recorded)) law.reached)
 
-pub best_is_moment : (c : Circuit) (runs : List Run) (states : List (List Bool)) (n : ℕ) (best : Option Moment) → IsBest c runs states n best → IfSome best (IsMoment runs)
+pub best_is_moment : (c : Circuit) (runs : List Run) (states : List (List Bool)) (n : ℕ) (best : Option Moment) → IsBest c runs states n best →
+    IfSome best (IsMoment runs)
 best_is_moment c runs states n None h = tt
 best_is_moment c runs states n (Some m) h = h.moment
 
--- ---- the same of the runs of a stimulus
-
-pub nearer_kept : (c : Circuit) (s : Stimulus) (states : List (List Bool)) (r bound limit : ℕ) (best : Option Moment) → IsBest c (inputs_of s) states r best →
-    MatchOption best (bound ≡ 65537) (λ m. bound ≡ m.cycle) → limit ≡ min bound (length (run_at s r).inputs + 1) → length (run_at s r).inputs ≤ 65536 → NoneListed c (run_at s r).inputs states limit →
-    IsBest c (inputs_of s) states (r + 1) best
-nearer_kept c s states r bound limit best prior b l few none =
-    let same : (run_at s r).inputs ≡ run_of (inputs_of s) r = sym (run_inputs s r) in
-    best_kept c (inputs_of s) states r bound limit best prior b (subst (λ (run : Run). limit ≡ min bound (length run + 1)) same l) (subst (λ (run : Run). length run ≤ 65536) same few)
-    (subst (λ (run : Run). NoneListed c run states limit) same none)
-
-pub nearer_found : (c : Circuit) (s : Stimulus) (states : List (List Bool)) (r bound limit k : ℕ) (best : Option Moment) → IsBest c (inputs_of s) states r best →
-    MatchOption best (bound ≡ 65537) (λ m. bound ≡ m.cycle) → limit ≡ min bound (length (run_at s r).inputs + 1) → 1 ≤ r → r ≤ length s.runs → IsFirstCycle c (run_at s r).inputs states limit k →
-    IsBest c (inputs_of s) states (r + 1) (Some (moment r k))
-nearer_found c s states r bound limit k best prior b l from there f =
-    let same : (run_at s r).inputs ≡ run_of (inputs_of s) r = sym (run_inputs s r) in
-    best_found c (inputs_of s) states r bound limit k best prior b (subst (λ (run : Run). limit ≡ min bound (length run + 1)) same l) from
-    (omega (arith, there, length-map s.runs (λ (run : Recorded). run.inputs))) (subst (λ (run : Run). IsFirstCycle c run states limit k) same f)
+-- the same of an equal machine and equal runs
+pub best_of_same : (c d : Circuit) (runs others : List Run) (states : List (List Bool)) (n : ℕ) (best : Option Moment) → c ≡ d → runs ≡ others →
+    IsBest c runs states n best → IsBest d others states n best
+best_of_same c d runs others states n best e f h =
+    subst (λ (c : Circuit). IsBest c others states n best) e (subst (λ (runs : List Run). IsBest c runs states n best) f h)

@@ -1,9 +1,23 @@
 -- What the functions that replay runs promise each other.
-use Rattle.std.specs.Prelude.{◌≡◌, ◌⊎◌, ℕ, ◌<◌, ◌≤◌, length, false, true, List, Bool, Option, MatchOption}
+use Rattle.std.specs.Prelude.{◌≡◌, ◌⊎◌, ℕ, ◌<◌, false, true, List, Bool, Option, MatchOption}
 use Rattle.bs_net.specs.Circuit.{Circuit}
-use Rattle.bs_stim.specs.Runs.{Stimulus, run_at}
-use Rattle.bs_scan.specs.Moments.{Run, Moment, IsMoment, state_at, is_listed}
 use Rattle.bs_scan.specs.Law.{IsBefore, IsReached}
+use Rattle.bs_scan.specs.Moments.{Run, Moment, IsMoment, state_at, is_listed}
+
+-- a machine in a state, and the runs whose inputs drive it
+pub record Played : Type 0 where
+  pub circuit : Circuit
+  pub runs : List Run
+  pub state : List Bool
+
+-- the same in another state
+abbrev pub in_state : Played → List Bool → Played
+in_state p s = record { circuit = p.circuit; runs = p.runs; state = s }
+
+-- the machine and the runs are the same
+pub record IsSameChip (old new : Played) : Type 0 where
+  pub circuit : new.circuit ≡ old.circuit
+  pub runs : new.runs ≡ old.runs
 
 -- whether the state of a run at a cycle is listed
 abbrev pub lists : Circuit → Run → List (List Bool) → ℕ → Bool
@@ -30,12 +44,3 @@ pub record IsLeast (c : Circuit) (runs : List Run) (states : List (List Bool)) (
 abbrev pub IsBest : Circuit → List Run → List (List Bool) → ℕ → Option Moment → Type 0
 IsBest c runs states below best =
     MatchOption best ((other : Moment) → IsMoment runs other → other.run < below → IsReached c runs states other → ⊥) (IsLeast c runs states below)
-
-abbrev pub moment : ℕ → ℕ → Moment
-moment run cycle = record { run = run; cycle = cycle }
-
--- where a moment of the runs stands in the stimulus
-pub record IsPlaced (s : Stimulus) (r k : ℕ) : Type 0 where
-  pub from_one : 1 ≤ r
-  pub there : r ≤ length s.runs
-  pub recorded : k ≤ length (run_at s r).inputs

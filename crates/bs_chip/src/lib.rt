@@ -3,6 +3,7 @@
 
 mod listed;
 mod moments;
+mod player;
 mod replay;
 
 pub use replay::{Chip, Hit};

@@ -1,29 +1,30 @@
 //! A list of states for look-ups: a state whose print is no listed state's print costs one look-up in a hash set.
-ghost use Rattle.std.specs.Prelude.{◌≡◌, ◌<◌, length, IfOk};
+ghost use Rattle.std.specs.Prelude.{◌≡◌, ◌<◌, length, map, IfOk, OnOk};
 ghost use Rattle.bs_scan.specs.Moments.{is_listed};
-ghost use Rattle.bs_chip.specs.Listed.{mixed as mixed_of, print_of as print_in, HasPrints};
+ghost use Rattle.bs_chip.specs.Listed.{mixed as mixed_of, print_of as print_in, HasPrints, Notes};
 
 use bs_bits::{Bits, NoMemory};
+use bs_scan::HasState;
 use std::alloc::{AllocError, Global};
 use std::collections::HashSet;
 use std::marker::Model;
 
-/// States, and the prints of all of them. Contracts see the states.
+/// What shows states, and the prints of all of them. Contracts see the states.
 #[derive(Drop)]
-pub struct Listed<'a> {
-    states: &'a [Bits],
+pub struct Listed<'a, S: HasState> {
+    states: &'a [S],
     prints: HashSet<u64>,
 }
 
-impl<'a> Model for Listed<'a> {
-    ghost use Rattle.std.specs.Prelude.{List, Bool, length};
+impl<'a, S: HasState> Model for Listed<'a, S> {
+    ghost use Rattle.std.specs.Prelude.{List, Bool, length, map};
     ghost use Rattle.bs_chip.specs.Listed.{HasPrints};
 
     ghost Value = { List (List Bool) };
 
-    ghost view = { λ listed. listed.states.now };
+    ghost view = { λ listed. map S.shown listed.states.now };
 
-    ghost invariant = { λ listed. HasPrints listed.prints listed.states.now (length listed.states.now) };
+    ghost invariant = { λ listed. HasPrints listed.prints (map S.shown listed.states.now) (length listed.states.now) };
 }
 
 /// A print with one bit more.
@@ -46,30 +47,41 @@ fn print_of(state: &Bits) -> u64
     print
 }
 
+/// Notes the print of a state.
+fn note_print(prints: &mut HashSet<u64>, state: &Bits) -> Result<(), NoMemory>
+    ensures { OnOk result (Notes prints.old prints.new state.now) }
+{
+    prints.insert(print_of(state)).map_err(AllocError::from)?;
+    Ok(())
+}
+
 /// The prints of some states.
-fn prints_of(alloc: Global, states: &[Bits]) -> Result<HashSet<u64>, NoMemory>
-    ensures { IfOk result (λ prints. HasPrints prints states.now (length states.now)) }
+fn prints_of<S: HasState>(alloc: Global, states: &[S]) -> Result<HashSet<u64>, NoMemory>
+    ensures { IfOk result (λ prints. HasPrints prints (map S.shown states.now) (length states.now)) }
 {
     let mut prints = HashSet::new(alloc);
     'states: for i in 0..states.len() {
-        prints
-            .insert(print_of(&states[i]))
-            .map_err(AllocError::from)?;
+        note_print(&mut prints, states[i].state())?;
     }
     Ok(prints)
 }
 
 /// Whether the states have an equal one.
-fn is_among(states: &[Bits], state: &Bits) -> bool
-    ensures { result ≡ is_listed states.now state.now }
+fn is_among<S: HasState>(states: &[S], state: &Bits) -> bool
+    ensures { result ≡ is_listed (map S.shown states.now) state.now }
 {
-    states.iter().any(|listed| state.equals(listed))
+    'states: for listed in states {
+        if state.equals(listed.state()) {
+            return true;
+        }
+    }
+    false
 }
 
-impl<'a> Listed<'a> {
+impl<'a, S: HasState> Listed<'a, S> {
     /// The states, ready for look-ups.
-    pub fn new(alloc: Global, states: &'a [Bits]) -> Result<Listed<'a>, NoMemory>
-        ensures { IfOk result (λ listed. listed ≡ states.now) }
+    pub fn new(alloc: Global, states: &'a [S]) -> Result<Listed<'a, S>, NoMemory>
+        ensures { IfOk result (λ listed. listed ≡ map S.shown states.now) }
     {
         let prints = prints_of(alloc, states)?;
         Ok(Listed { states, prints })

@@ -1,43 +1,28 @@
 //! Recorded runs replayed cycle by cycle: the state and signature of a moment, and the first moment in a list of states.
-ghost use Rattle.std.specs.Prelude.{◌≡◌, ◌<◌, ◌≤◌, ◌+◌, length, option_map, min, MatchOption, IfOk, IfSome};
-ghost use Rattle.bs_net.specs.Netlist.{circuit};
-ghost use Rattle.bs_stim.specs.Runs.{run_at, inputs_of};
-ghost use Rattle.bs_scan.specs.Moments.{state_at, first_moment as first_moment_of};
+ghost use Rattle.std.specs.Prelude.{◌≡◌, ◌<◌, ◌≤◌, ◌+◌, length, min, MatchOption, IfOk, IfSome};
+ghost use Rattle.bs_scan.specs.Moments.{IsMoment, run_of, state_of, first_moment as first_moment_of};
 ghost use Rattle.bs_scan.specs.Signature.{stored_at};
-ghost use Rattle.bs_chip.specs.Replay.{NoneListed, IsFirstCycle, IsBest, IsPlaced, moment};
+ghost use Rattle.bs_chip.specs.Replay.{in_state, NoneListed, IsFirstCycle, IsBest, IsSameChip};
 
 use crate::listed::Listed;
+use crate::player::Player;
 use bs_bits::{Bits, NoMemory};
-use bs_net::Netlist;
-use bs_scan::{Chain, SigReg};
-use bs_sim::Sim;
-use bs_stim::Runs;
+use bs_scan::{Chain, HasState, Moment, SigReg};
+use bs_stim::MAX_CYCLES;
 use std::alloc::Global;
 
-/// Brings a simulator and a signature register from reset through so many cycles of a run.
-pub fn replay(
-    sim: &mut Sim<'_>,
-    register: &mut SigReg<'_>,
-    net: &Netlist,
-    runs: &Runs,
-    run: u32,
-    cycles: u32,
-)
-    requires net { sim.old.net ≡ net.now }
-    requires states { register.old.choice.width ≡ length (circuit net.now).flops }
-    requires inputs { runs.now.width ≡ length (circuit net.now).inputs }
-    requires from_one { 1 ≤ run }
-    requires there { run ≤ length runs.now.runs }
-    requires recorded { cycles ≤ length (run_at runs.now run).inputs }
-    ensures net { sim.new.net ≡ net.now }
-    ensures state { sim.new.state ≡ state_at (circuit net.now) (run_at runs.now run).inputs cycles }
-    ensures stored { register.new ≡ record { choice = register.old.choice; stored = stored_at (circuit net.now) register.old.choice (run_at runs.now run).inputs cycles } }
+/// Brings a player and a signature register from reset to a moment.
+pub fn replay(player: &mut Player<'_>, register: &mut SigReg<'_>, moment: Moment)
+    requires moment { IsMoment player.old.runs moment }
+    requires width { register.old.choice.width ≡ length player.old.circuit.flops }
+    ensures player { player.new ≡ in_state player.old (state_of player.old.circuit player.old.runs moment) }
+    ensures stored { register.new ≡ record { choice = register.old.choice; stored = stored_at player.old.circuit register.old.choice (run_of player.old.runs moment.run) moment.cycle } }
 {
-    sim.load(net.reset());
+    player.reset();
     register.clear();
-    'cycles: for cycle in 0..cycles {
-        register.clock(sim.state());
-        sim.step(runs.input(run, cycle));
+    'cycles: for cycle in 0..moment.cycle {
+        register.clock(player.state());
+        player.step(moment.run, cycle);
     }
 }
 
@@ -55,30 +40,26 @@ pub fn unload(alloc: Global, state: Bits) -> Result<Bits, NoMemory>
 }
 
 /// The first cycle below a limit at which the state of a run is listed.
-fn first_cycle(
-    sim: &mut Sim<'_>,
-    net: &Netlist,
-    runs: &Runs,
+fn first_cycle<S: HasState>(
+    player: &mut Player<'_>,
     run: u32,
     limit: u32,
-    list: &Listed<'_>,
+    list: &Listed<'_, S>,
 ) -> Option<u32>
-    requires net { sim.old.net ≡ net.now }
-    requires inputs { runs.now.width ≡ length (circuit net.now).inputs }
     requires from_one { 1 ≤ run }
-    requires there { run ≤ length runs.now.runs }
+    requires there { run ≤ length player.old.runs }
     requires some { 0 < limit }
-    requires recorded { limit ≤ length (run_at runs.now run).inputs + 1 }
-    ensures net { sim.new.net ≡ net.now }
-    ensures first { MatchOption result (NoneListed (circuit net.now) (run_at runs.now run).inputs list.now limit) (IsFirstCycle (circuit net.now) (run_at runs.now run).inputs list.now limit) }
+    requires recorded { limit ≤ length (run_of player.old.runs run) + 1 }
+    ensures same { IsSameChip player.old player.new }
+    ensures first { MatchOption result (NoneListed player.old.circuit (run_of player.old.runs run) list.now limit) (IsFirstCycle player.old.circuit (run_of player.old.runs run) list.now limit) }
 {
-    sim.load(net.reset());
-    if list.has(sim.state()) {
+    player.reset();
+    if list.has(player.state()) {
         return Some(0);
     }
     'cycles: for cycle in 1..limit {
-        sim.step(runs.input(run, cycle - 1));
-        if list.has(sim.state()) {
+        player.step(run, cycle - 1);
+        if list.has(player.state()) {
             return Some(cycle);
         }
     }
@@ -86,66 +67,55 @@ fn first_cycle(
 }
 
 /// The cycle below which a hit of a later run comes before the best one so far.
-fn bound_of(best: Option<(u32, u32)>) -> u32
-    ensures { MatchOption (option_map (λ m. moment m.0 m.1) best) (result ≡ 65537) (λ m. result ≡ m.cycle) }
+fn bound_of(best: Option<Moment>) -> u32
+    ensures { MatchOption best (result ≡ MAX_CYCLES + 1) (λ m. result ≡ m.cycle) }
 {
     match best {
-        Some((_, cycle)) => cycle,
-        None => 65_537,
+        Some(moment) => moment.cycle,
+        None => MAX_CYCLES + 1,
     }
 }
 
 /// The cycle below which a run of so many cycles is looked at.
 fn limit_of(bound: u32, cycles: u32) -> u32
-    requires { cycles ≤ 65536 }
+    requires { cycles ≤ MAX_CYCLES }
     ensures { result ≡ min bound (cycles + 1) }
 {
     if bound <= cycles { bound } else { cycles + 1 }
 }
 
 /// The least moment of the runs up to this one, of which the best of those before is known.
-fn nearer(
-    sim: &mut Sim<'_>,
-    net: &Netlist,
-    runs: &Runs,
+fn nearer<S: HasState>(
+    player: &mut Player<'_>,
     run: u32,
-    list: &Listed<'_>,
-    best: Option<(u32, u32)>,
-) -> Option<(u32, u32)>
-    requires net { sim.old.net ≡ net.now }
-    requires inputs { runs.now.width ≡ length (circuit net.now).inputs }
+    list: &Listed<'_, S>,
+    best: Option<Moment>,
+) -> Option<Moment>
     requires from_one { 1 ≤ run }
-    requires there { run ≤ length runs.now.runs }
-    requires best { IsBest (circuit net.now) (inputs_of runs.now) list.now run (option_map (λ m. moment m.0 m.1) best) }
-    ensures net { sim.new.net ≡ net.now }
-    ensures best { IsBest (circuit net.now) (inputs_of runs.now) list.now (run + 1) (option_map (λ m. moment m.0 m.1) result) }
+    requires there { run ≤ length player.old.runs }
+    requires best { IsBest player.old.circuit player.old.runs list.now run best }
+    ensures same { IsSameChip player.old player.new }
+    ensures best { IsBest player.old.circuit player.old.runs list.now (run + 1) result }
 {
-    let limit = limit_of(bound_of(best), runs.cycles(run));
+    let limit = limit_of(bound_of(best), player.cycles(run));
     if limit == 0 {
         return best;
     }
-    match first_cycle(sim, net, runs, run, limit, list) {
-        Some(cycle) => Some((run, cycle)),
+    match first_cycle(player, run, limit, list) {
+        Some(cycle) => Some(Moment { run, cycle }),
         None => best,
     }
 }
 
-/// The run and the cycle of the first moment whose state is listed.
-pub fn first_moment(
-    sim: &mut Sim<'_>,
-    net: &Netlist,
-    runs: &Runs,
-    list: &Listed<'_>,
-) -> Option<(u32, u32)>
-    requires net { sim.old.net ≡ net.now }
-    requires inputs { runs.now.width ≡ length (circuit net.now).inputs }
-    ensures net { sim.new.net ≡ net.now }
-    ensures first { option_map (λ m. moment m.0 m.1) result ≡ first_moment_of (circuit net.now) (inputs_of runs.now) list.now }
-    ensures found { IfSome result (λ m. IsPlaced runs.now m.0 m.1) }
+/// The first moment whose state is listed.
+pub fn first_moment<S: HasState>(player: &mut Player<'_>, list: &Listed<'_, S>) -> Option<Moment>
+    ensures same { IsSameChip player.old player.new }
+    ensures first { result ≡ first_moment_of player.old.circuit player.old.runs list.now }
+    ensures found { IfSome result (IsMoment player.old.runs) }
 {
     let mut best = None;
-    'runs: for run in 1..runs.count() + 1 {
-        best = nearer(sim, net, runs, run, list, best);
+    'runs: for run in 1..player.count() + 1 {
+        best = nearer(player, run, list, best);
     }
     best
 }

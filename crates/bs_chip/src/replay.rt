@@ -1,17 +1,15 @@
 //! The chip, which replays recorded runs.
-ghost use Rattle.std.specs.Prelude.{◌≡◌, ◌≤◌, length, option_map, slice_get, All, IfOk, IfSome};
+ghost use Rattle.std.specs.Prelude.{◌≡◌, length, map, option_map, slice_get, All, IfOk, IfSome};
 ghost use Rattle.bs_net.specs.Netlist.{circuit};
-ghost use Rattle.bs_stim.specs.Runs.{run_at};
-ghost use Rattle.bs_scan.specs.Moments.{first_moment as first_moment_of};
-ghost use Rattle.bs_chip.specs.Chip.{Chipped, IsFitting, IsDumpOf, circuit_in, runs_in, moment_of};
-ghost use Rattle.bs_chip.specs.Replay.{moment};
+ghost use Rattle.bs_scan.specs.Crash.{dump_at, recording_of, IsRecording};
+ghost use Rattle.bs_scan.specs.Moments.{first_moment as first_moment_of, moment, IsMoment};
 
 use crate::listed::Listed;
 use crate::moments::{first_moment, replay, unload};
+use crate::player::Player;
 use bs_bits::{Bits, NoMemory};
 use bs_net::Netlist;
-use bs_scan::{Choice, Dump, SigReg};
-use bs_sim::Sim;
+use bs_scan::{Choice, Dump, HasState, Moment, SigReg};
 use bs_stim::Runs;
 use std::alloc::Global;
 use std::marker::Model;
@@ -24,31 +22,26 @@ pub struct Hit {
     pub dump: Dump,
 }
 
-/// A chip that replays recorded runs. Contracts see its netlist, what its signatures are taken of, and the runs.
+/// A chip that replays recorded runs. Contracts see the recording.
 #[derive(Drop)]
 pub struct Chip<'a> {
-    net: &'a Netlist,
-    choice: &'a Choice,
-    runs: &'a Runs,
-    sim: Sim<'a>,
+    player: Player<'a>,
     register: SigReg<'a>,
 }
 
 impl<'a> Model for Chip<'a> {
-    ghost use Rattle.std.specs.Prelude.{◌≡◌};
-    ghost use Rattle.bs_chip.specs.Chip.{Chipped, IsFitting};
+    ghost use Rattle.bs_scan.specs.Crash.{Recording, IsRecording};
 
-    ghost Value = { Chipped };
+    ghost Value = { Recording };
 
-    ghost view = { λ chip. record { net = chip.net.now; choice = chip.choice.now; runs = chip.runs.now } };
+    ghost view = { λ chip. record { circuit = chip.player.circuit; choice = chip.register.choice; runs = chip.player.runs } };
 
-    ghost invariant = { λ chip. (chip.sim.net ≡ chip.net.now) × (chip.register.choice ≡ chip.choice.now) × IsFitting (record { net = chip.net.now; choice = chip.choice.now; runs = chip.runs.now }) };
+    ghost invariant = { λ chip. IsRecording (record { circuit = chip.player.circuit; choice = chip.register.choice; runs = chip.player.runs }) };
 }
 
 /// The dump of a state and of what a register holds, the state unloaded through the scan chain.
 fn dump_of(alloc: Global, state: &Bits, register: &SigReg<'_>) -> Result<Dump, NoMemory>
-    ensures state { IfOk result (λ dump. dump.state ≡ state.now) }
-    ensures stored { IfOk result (λ dump. dump.stored ≡ slice_get register.now.stored 0) }
+    ensures { IfOk result (λ dump. dump ≡ record { state = state.now; stored = slice_get register.now.stored 0 }) }
 {
     let state = unload(alloc, state.copy()?)?;
     let stored = match register.stored() {
@@ -60,75 +53,53 @@ fn dump_of(alloc: Global, state: &Bits, register: &SigReg<'_>) -> Result<Dump, N
 
 impl<'a> Chip<'a> {
     /// A chip of a netlist, with a signature and runs of its widths.
+    #[tactic(auto, using(bs_scan::proofs::CrashLemmas::recording_is))]
     pub fn new(
         alloc: Global,
         net: &'a Netlist,
         choice: &'a Choice,
         runs: &'a Runs,
     ) -> Result<Chip<'a>, NoMemory>
-        requires { IsFitting (record { net = net.now; choice = choice.now; runs = runs.now }) }
-        ensures { IfOk result (λ chip. chip ≡ record { net = net.now; choice = choice.now; runs = runs.now }) }
+        requires states { choice.now.width ≡ length (circuit net.now).flops }
+        requires inputs { runs.now.width ≡ length (circuit net.now).inputs }
+        ensures { IfOk result (λ chip. chip ≡ recording_of net.now.raw choice.now runs.now) }
     {
-        let sim = Sim::new(alloc, net)?;
+        let _order = net.order();
+        let _count = runs.count();
+        let player = Player::new(alloc, net, runs)?;
         let register = SigReg::new(alloc, choice)?;
-        Ok(Chip {
-            net,
-            choice,
-            runs,
-            sim,
-            register,
-        })
+        Ok(Chip { player, register })
     }
 
-    /// The netlist.
-    pub fn net(&self) -> &Netlist
-        ensures net { result.now ≡ self.now.net }
-        ensures fitting { IsFitting self.now }
+    /// The recording has its widths, and its netlist has passed the check.
+    pub fn is_recording(&self)
+        ensures { IsRecording self.now }
     {
-        self.net
-    }
-
-    /// The recorded runs.
-    pub fn runs(&self) -> &Runs
-        ensures { result.now ≡ self.now.runs }
-    {
-        self.runs
+        let _state = self.player.state();
     }
 
     /// The dump of a moment: its state, unloaded through the scan chain, and its stored signature. Runs are numbered
     /// from 1, and cycles from 0.
     pub fn dump_at(&mut self, alloc: Global, run: u32, cycle: u32) -> Result<Dump, NoMemory>
-        requires from_one { 1 ≤ run }
-        requires there { run ≤ length self.old.runs.runs }
-        requires recorded { cycle ≤ length (run_at self.old.runs run).inputs }
-        ensures dump { IfOk result (IsDumpOf self.old (moment run cycle)) }
-        ensures net { self.new.net ≡ self.old.net }
-        ensures choice { self.new.choice ≡ self.old.choice }
-        ensures runs { self.new.runs ≡ self.old.runs }
+        requires { IsMoment self.old.runs (moment run cycle) }
+        ensures dump { IfOk result (λ dump. dump ≡ dump_at self.old (moment run cycle)) }
+        ensures kept { self.new ≡ self.old }
     {
-        replay(
-            &mut self.sim,
-            &mut self.register,
-            self.net,
-            self.runs,
-            run,
-            cycle,
-        );
-        dump_of(alloc, self.sim.state(), &self.register)
+        let moment = Moment { run, cycle };
+        replay(&mut self.player, &mut self.register, moment);
+        dump_of(alloc, self.player.state(), &self.register)
     }
 
     /// The first moment, by cycle and then by run, at which a run is in a listed state, with its dump.
-    pub fn first(&mut self, alloc: Global, list: &[Bits]) -> Result<Option<Hit>, NoMemory>
-        requires { All (λ state. length state ≡ length (circuit_in self.old).flops) list.now }
-        ensures first { IfOk result (λ hit. first_moment_of (circuit_in self.old) (runs_in self.old) list.now ≡ option_map moment_of hit) }
-        ensures dump { IfOk result (λ hit. IfSome hit (λ hit. IsDumpOf self.old (moment_of hit) hit.dump)) }
-        ensures net { self.new.net ≡ self.old.net }
-        ensures choice { self.new.choice ≡ self.old.choice }
-        ensures runs { self.new.runs ≡ self.old.runs }
+    pub fn first<S: HasState>(&mut self, alloc: Global, list: &[S]) -> Result<Option<Hit>, NoMemory>
+        requires { All (λ listed. length (S.shown listed) ≡ length self.old.circuit.flops) list.now }
+        ensures first { IfOk result (λ hit. first_moment_of self.old.circuit self.old.runs (map S.shown list.now) ≡ option_map (λ hit. moment hit.run hit.cycle) hit) }
+        ensures dump { IfOk result (λ hit. IfSome hit (λ hit. hit.dump ≡ dump_at self.old (moment hit.run hit.cycle))) }
+        ensures kept { self.new ≡ self.old }
     {
         let listed = Listed::new(alloc, list)?;
-        match first_moment(&mut self.sim, self.net, self.runs, &listed) {
-            Some((run, cycle)) => {
+        match first_moment(&mut self.player, &listed) {
+            Some(Moment { run, cycle }) => {
                 let dump = self.dump_at(alloc, run, cycle)?;
                 Ok(Some(Hit { run, cycle, dump }))
             }

@@ -1,13 +1,14 @@
 use Rattle.std.proofs.Common.{◌≡◌}
-use Rattle.bs_net.specs.Netlist.{circuit}
-use Rattle.bs_stim.specs.Runs.{run_at}
-use Rattle.bs_scan.specs.Moments.{state_at}
+use Rattle.bs_scan.specs.Moments.{moment, run_of, state_of}
 use Rattle.bs_scan.specs.Signature.{stored_at}
+use Rattle.bs_chip.specs.Replay.{in_state}
 use Rattle.bs_chip.proofs.moments.replay.Given as goal
 
 abbrev pub invariant-cycles : goal.invariant-cycles
 invariant-cycles l = record {
-  net : l.sim.net ≡ l.net;
-  state : l.sim.state ≡ state_at (circuit l.net) (run_at l.runs l.run).inputs l.cycle;
-  register : l.register ≡ record { choice = l.initial.register.choice; stored = stored_at (circuit l.net) l.initial.register.choice (run_at l.runs l.run).inputs l.cycle };
+  player : l.player ≡ in_state l.fn.player (state_of l.fn.player.circuit l.fn.player.runs (moment l.moment.run l.cycle));
+  register : l.register ≡ record {
+    choice = l.fn.register.choice;
+    stored = stored_at l.fn.player.circuit l.fn.register.choice (run_of l.fn.player.runs l.moment.run) l.cycle;
+  };
 }

@@ -9,4 +9,5 @@ shifts-preserved c =
 
 pub returns : goal.returns
 returns c =
-    unloaded c.args.state c.shifts.bits c.shifts.chain c.shifts.counter c.shifts.invariant (omega (arith, c.shifts-test.false, c.len-count.ensures)) (omega (arith, c.shifts.auto.counter-end, c.len-count.ensures))
+    unloaded c.args.state c.shifts.bits c.shifts.chain c.shifts.counter c.shifts.invariant (omega (arith, c.shifts-test.false, c.len-count.ensures))
+    (omega (arith, c.shifts.auto.counter-end, c.len-count.ensures))

@@ -1,0 +1,109 @@
+//! A simulator that recorded runs drive.
+ghost use Rattle.std.specs.Prelude.{◌≡◌, ◌≤◌, ◌+◌, length, IfOk};
+ghost use Rattle.bs_net.specs.Circuit.{reset_state};
+ghost use Rattle.bs_net.specs.Netlist.{circuit};
+ghost use Rattle.bs_stim.specs.Runs.{inputs_of};
+ghost use Rattle.bs_scan.specs.Crash.{IsRecording, recording_of};
+ghost use Rattle.bs_scan.specs.Moments.{IsMoment, moment, run_of, state_of};
+ghost use Rattle.bs_chip.specs.Replay.{Played, in_state};
+
+use bs_bits::{Bits, NoMemory};
+use bs_net::Netlist;
+use bs_scan::Moment;
+use bs_sim::Sim;
+use bs_stim::{MAX_CYCLES, MAX_RUNS, Runs};
+use std::alloc::Global;
+use std::marker::Model;
+
+/// A netlist in a state, and the runs whose inputs drive it. Contracts see the machine, the inputs of the runs and the
+/// state.
+#[derive(Drop)]
+pub struct Player<'a> {
+    net: &'a Netlist,
+    runs: &'a Runs,
+    sim: Sim<'a>,
+    input: Bits,
+}
+
+impl<'a> Model for Player<'a> {
+    ghost use Rattle.std.specs.Prelude.{◌≡◌, length};
+    ghost use Rattle.bs_net.specs.Netlist.{circuit};
+    ghost use Rattle.bs_stim.specs.Runs.{inputs_of};
+    ghost use Rattle.bs_chip.specs.Replay.{Played};
+
+    ghost Value = { Played };
+
+    ghost view = { λ p. record { circuit = circuit p.net.now; runs = inputs_of p.runs.now; state = p.sim.state } };
+
+    ghost invariant = { λ p. (p.sim.net ≡ p.net.now) × (p.runs.now.width ≡ length (circuit p.net.now).inputs) × (length p.input ≡ p.runs.now.width) };
+}
+
+/// As many zeros.
+fn zeros(alloc: Global, count: usize) -> Result<Bits, NoMemory>
+    ensures { IfOk result (λ bits. length bits ≡ count) }
+{
+    let mut bits = Bits::new(alloc);
+    'zeros: for _ in 0..count {
+        bits.push(false)?;
+    }
+    Ok(bits)
+}
+
+impl<'a> Player<'a> {
+    /// A netlist at reset, and runs of its width.
+    pub fn new(alloc: Global, net: &'a Netlist, runs: &'a Runs) -> Result<Player<'a>, NoMemory>
+        requires { runs.now.width ≡ length (circuit net.now).inputs }
+        ensures { IfOk result (λ p. p ≡ record { circuit = circuit net.now; runs = inputs_of runs.now; state = reset_state (circuit net.now) }) }
+    {
+        let sim = Sim::new(alloc, net)?;
+        let input = zeros(alloc, runs.width())?;
+        Ok(Player {
+            net,
+            runs,
+            sim,
+            input,
+        })
+    }
+
+    /// The present state.
+    pub fn state(&self) -> &Bits
+        ensures { result.now ≡ self.now.state }
+    {
+        self.sim.state()
+    }
+
+    /// How many runs there are.
+    pub fn count(&self) -> u32
+        ensures count { result ≡ length self.now.runs }
+        ensures few { result ≤ MAX_RUNS }
+    {
+        self.runs.count()
+    }
+
+    /// How many cycles a run has.
+    pub fn cycles(&self, run: u32) -> u32
+        requires from_one { 1 ≤ run }
+        requires there { run ≤ length self.now.runs }
+        ensures count { result ≡ length (run_of self.now.runs run) }
+        ensures few { result ≤ MAX_CYCLES }
+    {
+        self.runs.cycles(run)
+    }
+
+    /// Goes back to the reset state.
+    pub fn reset(&mut self)
+        ensures { self.new ≡ in_state self.old (reset_state self.old.circuit) }
+    {
+        self.sim.load(self.net.reset());
+    }
+
+    /// One clock edge under the input of a cycle of a run.
+    pub fn step(&mut self, run: u32, cycle: u32)
+        requires moment { IsMoment self.old.runs (moment run (cycle + 1)) }
+        requires state { self.old.state ≡ state_of self.old.circuit self.old.runs (moment run cycle) }
+        ensures { self.new ≡ in_state self.old (state_of self.old.circuit self.old.runs (moment run (cycle + 1))) }
+    {
+        self.runs.fill(run, cycle, &mut self.input);
+        self.sim.step(&self.input);
+    }
+}
