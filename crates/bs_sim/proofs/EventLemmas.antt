@@ -30,12 +30,14 @@ same_bits : (v w : List Bool) (ns : List NetId) → list_any (differs v w) ns �
 same_bits v w [] e = tt
 same_bits v w (n ∷ ns) e = by (differs v w n) refl (same_bits v w ns) e
   where
-    by : (b : Bool) → differs v w n ≡ b → (list_any (differs v w) ns ≡ false → AllByRecursion (λ (m : NetId). bit_at w m.0 ≡ bit_at v m.0) ns) → (b || list_any (differs v w) ns) ≡ false → (bit_at w n.0 ≡ bit_at v n.0) × AllByRecursion (λ (m : NetId). bit_at w m.0 ≡ bit_at v m.0) ns
+    by : (b : Bool) → differs v w n ≡ b → (list_any (differs v w) ns ≡ false → AllByRecursion (λ (m : NetId). bit_at w m.0 ≡ bit_at v m.0) ns) →
+        (b || list_any (differs v w) ns) ≡ false → (bit_at w n.0 ≡ bit_at v n.0) × AllByRecursion (λ (m : NetId). bit_at w m.0 ≡ bit_at v m.0) ns
     by true d rest e' = absurd (true≢false e')
     by false d rest e' = (sym (same_bit _ _ d), rest e')
 
 -- it shows its value already
-pub still : (v w : List Bool) (g : Gate) → IsSettled v g → bit_at w g.out.0 ≡ bit_at v g.out.0 → has_change v w g ≡ false → w ≡ set w g.out.0 (gate_value g.kind (shown w g.ins))
+pub still : (v w : List Bool) (g : Gate) → IsSettled v g → bit_at w g.out.0 ≡ bit_at v g.out.0 → has_change v w g ≡ false →
+    w ≡ set w g.out.0 (gate_value g.kind (shown w g.ins))
 still v w g settled unchanged none =
     let same : shown w g.ins ≡ shown v g.ins = shown_same g.ins w v (same_bits v w g.ins none) in
     let value : gate_value g.kind (shown w g.ins) ≡ bit_at w g.out.0 = ap (gate_value g.kind) same ∙ (sym settled ∙ sym unchanged) in
@@ -43,7 +45,8 @@ still v w g settled unchanged none =
 
 -- ---- one gate after another
 
-unchanged_after : (v w : List Bool) (out : ℕ) (b : Bool) (gs : List Gate) → AllByRecursion (λ (h : Gate). h.out.0 ≢ out) gs → AllByRecursion (λ (h : Gate). bit_at w h.out.0 ≡ bit_at v h.out.0) gs → AllByRecursion (λ (h : Gate). bit_at (set w out b) h.out.0 ≡ bit_at v h.out.0) gs
+unchanged_after : (v w : List Bool) (out : ℕ) (b : Bool) (gs : List Gate) → AllByRecursion (λ (h : Gate). h.out.0 ≢ out) gs →
+    AllByRecursion (λ (h : Gate). bit_at w h.out.0 ≡ bit_at v h.out.0) gs → AllByRecursion (λ (h : Gate). bit_at (set w out b) h.out.0 ≡ bit_at v h.out.0) gs
 unchanged_after v w out b [] a e = tt
 unchanged_after v w out b (h ∷ gs) a e = (get_or-set_other w out h.out.0 b false a.0 ∙ e.0, unchanged_after v w out b gs a.1 e.1)
 
@@ -59,12 +62,14 @@ ready_next v w g gs b r =
       levelled = r.levelled.1;
     }
 
-same_change : (v w u : List Bool) (ns : List NetId) → AllByRecursion (λ (n : NetId). bit_at u n.0 ≡ bit_at w n.0) ns → list_any (differs v w) ns ≡ list_any (differs v u) ns
+same_change : (v w u : List Bool) (ns : List NetId) → AllByRecursion (λ (n : NetId). bit_at u n.0 ≡ bit_at w n.0) ns →
+    list_any (differs v w) ns ≡ list_any (differs v u) ns
 same_change v w u [] h = refl
 same_change v w u (n ∷ ns) h =
     ap (λ b. not (beq (bit_at v n.0) b) || list_any (differs v w) ns) (sym h.0) ∙ ap (λ b. differs v u n || b) (same_change v w u ns h.1)
 
-missed : (ns : List NetId) (gs : List Gate) (w : List Bool) → AllByRecursion (λ (n : NetId). Misses (map gate_write gs) n.0) ns → AllByRecursion (λ (n : NetId). bit_at (run (map gate_write gs) w) n.0 ≡ bit_at w n.0) ns
+missed : (ns : List NetId) (gs : List Gate) (w : List Bool) → AllByRecursion (λ (n : NetId). Misses (map gate_write gs) n.0) ns →
+    AllByRecursion (λ (n : NetId). bit_at (run (map gate_write gs) w) n.0 ≡ bit_at w n.0) ns
 missed [] gs w h = tt
 missed (n ∷ ns) gs w h = (run_other (map gate_write gs) w n.0 h.0, missed ns gs w h.1)
 
@@ -76,7 +81,8 @@ change_stays v w g gs l =
     (reads_missed (g ∷ gs) g.ins (recursion_from_All (λ (n : NetId). All (λ (h : Gate). h.out.0 ≢ n.0) (g ∷ gs)) g.ins l.0)))
 
 -- the count of what is left, one gate on
-pub count_next : (p : Gate → Bool) (g : Gate) (gs : List Gate) (work next total : ℕ) → next ≡ cond (p g) (work + 1) work → work + count_by p (g ∷ gs) ≡ total → next + count_by p gs ≡ total
+pub count_next : (p : Gate → Bool) (g : Gate) (gs : List Gate) (work next total : ℕ) → next ≡ cond (p g) (work + 1) work →
+    work + count_by p (g ∷ gs) ≡ total → next + count_by p gs ≡ total
 count_next p g gs work next total e h = by (p g) refl
   where
     head : count_by p (g ∷ gs) ≡ cond (p g) 1 0 + count_by p gs
@@ -93,7 +99,8 @@ count_next p g gs work next total e h = by (p g) refl
         omega (arith, none, same, h)
 
 -- what is left of an order begins with the gate that is next
-pub next_gate : (gates : List Gate) (order : List ℕ) (i : ℕ) (g d : Gate) → i < length order → get_or order i 0 < length gates → g ≡ get_or gates (get_or order i 0) d → gates_in (drop i order) gates ≡ g ∷ gates_in (drop (i + 1) order) gates
+pub next_gate : (gates : List Gate) (order : List ℕ) (i : ℕ) (g d : Gate) → i < length order → get_or order i 0 < length gates →
+    g ≡ get_or gates (get_or order i 0) d → gates_in (drop i order) gates ≡ g ∷ gates_in (drop (i + 1) order) gates
 next_gate gates order i g d lt below is =
     at_drop_more (λ is. gates_in is gates) order i 0 lt
     ∙ ap (λ h. h ∷ gates_in (drop (i + 1) order) gates) (sym (is ∙ get_or_default gates (get_or order i 0) d no_gate below))
@@ -125,7 +132,9 @@ drive_apart (g ∷ gs) d = (
 )
 
 -- the sources' writes change no gate's output
-out_unchanged : (c : Circuit) (s x v v₁ v₂ v₃ : List Bool) → IsChecked c → v₁ ≡ run (puts c.inputs x) v → v₂ ≡ run (puts (state_nets c) s) v₁ → v₃ ≡ run (map constant_step c.constants) v₂ → (j : ℕ) → j < length c.gates → bit_at v₃ (get_or c.gates j no_gate).out.0 ≡ bit_at v (get_or c.gates j no_gate).out.0
+out_unchanged : (c : Circuit) (s x v v₁ v₂ v₃ : List Bool) → IsChecked c → v₁ ≡ run (puts c.inputs x) v → v₂ ≡ run (puts (state_nets c) s) v₁ →
+    v₃ ≡ run (map constant_step c.constants) v₂ → (j : ℕ) → j < length c.gates →
+    bit_at v₃ (get_or c.gates j no_gate).out.0 ≡ bit_at v (get_or c.gates j no_gate).out.0
 out_unchanged c s x v v₁ v₂ v₃ checked e₁ e₂ e₃ j lt =
     let out = (get_or c.gates j no_gate).out.0 in
     let Q : ℕ → Type 0 = λ m. nat_eq m out ≡ false in
@@ -140,7 +149,8 @@ out_unchanged c s x v v₁ v₂ v₃ checked e₁ e₂ e₃ j lt =
     ∙ (run_other (puts (state_nets c) s) v₁ out (misses_puts (state_nets c) s out (all_first Q states consts late))
     ∙ (ap (λ u. bit_at u out) e₁ ∙ run_other (puts c.inputs x) v out (misses_puts c.inputs x out (all_first Q ins (states ++ consts) apart.1))))))
 
-pub ready_after : (c : Circuit) (s x v v₁ v₂ v₃ s₀ x₀ : List Bool) (order : List ℕ) → IsChecked c → IsOrder c.gates order → Fits c s₀ x₀ v → v₁ ≡ run (puts c.inputs x) v → v₂ ≡ run (puts (state_nets c) s) v₁ → v₃ ≡ run (map constant_step c.constants) v₂ → IsReady v v₃ (gates_in order c.gates)
+pub ready_after : (c : Circuit) (s x v v₁ v₂ v₃ s₀ x₀ : List Bool) (order : List ℕ) → IsChecked c → IsOrder c.gates order → Fits c s₀ x₀ v →
+    v₁ ≡ run (puts c.inputs x) v → v₂ ≡ run (puts (state_nets c) s) v₁ → v₃ ≡ run (map constant_step c.constants) v₂ → IsReady v v₃ (gates_in order c.gates)
 ready_after c s x v v₁ v₂ v₃ s₀ x₀ order checked o fits e₁ e₂ e₃ =
     let moved = gates_move c.gates order o in
     let ins = map number c.inputs in
@@ -157,10 +167,13 @@ ready_after c s x v v₁ v₂ v₃ s₀ x₀ order checked o fits e₁ e₂ e₃
     record {
       settled = All-permutation (IsSettled v) _ _ moved fits.gates;
       unchanged = All-permutation (λ (g : Gate). bit_at v₃ g.out.0 ≡ bit_at v g.out.0) _ _ moved same;
-      apart = drive_apart (gates_in order c.gates) (IsDistinct-IsPermutation nat_eq nat_eq_equiv.symm _ _ (IsPermutation-map (λ (g : Gate). g.out.0) _ _ moved) distinct);
+      apart =
+          drive_apart (gates_in order c.gates)
+          (IsDistinct-IsPermutation nat_eq nat_eq_equiv.symm _ _ (IsPermutation-map (λ (g : Gate). g.out.0) _ _ moved) distinct);
       levelled = o.earlier;
     }
 
 -- the gates in order are the gates
-pub count_moved : (c : Circuit) (order : List ℕ) (v w : List Bool) → IsOrder c.gates order → count_by (has_change v w) (gates_in order c.gates) ≡ changed_gates c v w
+pub count_moved : (c : Circuit) (order : List ℕ) (v w : List Bool) → IsOrder c.gates order →
+    count_by (has_change v w) (gates_in order c.gates) ≡ changed_gates c v w
 count_moved c order v w o = sum_by-IsPermutation (λ g. cond (has_change v w g) 1 0) c.gates (gates_in order c.gates) (gates_move c.gates order o)

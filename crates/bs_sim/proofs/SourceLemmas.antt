@@ -12,7 +12,7 @@ use Rattle.bs_net.specs.declared.net.Gate.{Gate}
 use Rattle.bs_net.specs.declared.net.Const.{Const}
 use Rattle.bs_net.specs.Circuit.{Circuit, Fits, Shows, bit_at, shown, state_nets, number, drivers, gate_value, is_zero_net, IsSettled}
 use Rattle.bs_net.specs.Order.{IsChecked, gates_in, no_gate}
-use Rattle.bs_sim.specs.Played.{Answers}
+use Rattle.bs_sim.specs.Played.{IsQuietness}
 use Rattle.bs_sim.specs.declared.schedule.Settled.{Settled}
 use Rattle.bs_sim.specs.declared.schedule.Settled.TheVariants.{Quiet, Unstable}
 use Rattle.bs_net.specs.Steps.{run, puts, constant_step, gate_write}
@@ -41,7 +41,8 @@ all_out P (g ∷ gs) zero lt h = h.0
 all_out P (g ∷ gs) (suc j) lt h = all_out P gs j (omega arith) h.1
 
 -- a member of the first list differs from one of the second
-apart_of : (P : ℕ → Type 0) (n : ℕ) (xs ys : List ℕ) → ((m : ℕ) → AllByRecursion (λ y. nat_eq m y ≡ false) ys → P m) → IsDistinct nat_eq (xs ++ ys) → AllByRecursion P xs
+apart_of : (P : ℕ → Type 0) (n : ℕ) (xs ys : List ℕ) → ((m : ℕ) → AllByRecursion (λ y. nat_eq m y ≡ false) ys → P m) → IsDistinct nat_eq (xs ++ ys) →
+    AllByRecursion P xs
 apart_of P n [] ys f d = tt
 apart_of P n (x ∷ xs) ys f d = (
   f x (all_last (λ y. nat_eq x y ≡ false) xs ys (IsDistinct-head nat_eq x (xs ++ ys) d)),
@@ -65,24 +66,28 @@ fronts_outs c =
     ap (λ l. c.clock.0 ∷ l) (append_assoc a (b ++ k) (outs c) ∙ ap (λ l. a ++ l) (append_assoc b k (outs c)))
 
 -- the net of no source is driven by gate j
-pub sources_apart : (c : Circuit) → IsChecked c → (j : ℕ) → j < length c.gates → AllByRecursion (λ m. nat_eq m (get_or c.gates j no_gate).out.0 ≡ false) (fronts c)
+pub sources_apart : (c : Circuit) → IsChecked c → (j : ℕ) → j < length c.gates →
+    AllByRecursion (λ m. nat_eq m (get_or c.gates j no_gate).out.0 ≡ false) (fronts c)
 sources_apart c checked j lt =
     let P : List ℕ → Type 0 = λ l. IsDistinct nat_eq l in
     apart_of (λ m. nat_eq m (get_or c.gates j no_gate).out.0 ≡ false) 0 (fronts c) (outs c)
     (λ m h. all_out (λ y. nat_eq m y ≡ false) c.gates j lt h)
     (subst P (sym (fronts_outs c)) checked.single_driver)
 
-kept : (ns : List NetId) (v : List Bool) (out : ℕ) (b : Bool) → AllByRecursion (λ m. nat_eq m out ≡ false) (map number ns) → AllByRecursion (λ (n : NetId). bit_at (set v out b) n.0 ≡ bit_at v n.0) ns
+kept : (ns : List NetId) (v : List Bool) (out : ℕ) (b : Bool) → AllByRecursion (λ m. nat_eq m out ≡ false) (map number ns) →
+    AllByRecursion (λ (n : NetId). bit_at (set v out b) n.0 ≡ bit_at v n.0) ns
 kept [] v out b h = tt
 kept (n ∷ ns) v out b h = (get_or-set_other v out n.0 b false (eqb-false n.0 out h.0), kept ns v out b h.1)
 
-kept_constants : (ks : List Const) (v : List Bool) (out : ℕ) (b : Bool) → AllByRecursion (λ m. nat_eq m out ≡ false) (map (λ k. k.net.0) ks) → AllByRecursion (λ (k : Const). bit_at v k.net.0 ≡ k.value) ks → AllByRecursion (λ (k : Const). bit_at (set v out b) k.net.0 ≡ k.value) ks
+kept_constants : (ks : List Const) (v : List Bool) (out : ℕ) (b : Bool) → AllByRecursion (λ m. nat_eq m out ≡ false) (map (λ k. k.net.0) ks) →
+    AllByRecursion (λ (k : Const). bit_at v k.net.0 ≡ k.value) ks → AllByRecursion (λ (k : Const). bit_at (set v out b) k.net.0 ≡ k.value) ks
 kept_constants [] v out b h e = tt
 kept_constants (k ∷ ks) v out b h e =
     (get_or-set_other v out k.net.0 b false (eqb-false k.net.0 out h.0) ∙ e.0, kept_constants ks v out b h.1 e.1)
 
 -- a gate step leaves what the sources show
-shows_step : (c : Circuit) (s x v : List Bool) → IsChecked c → (j : ℕ) → j < length c.gates → Shows c s x v → Shows c s x (gate_step v (get_or c.gates j no_gate))
+shows_step : (c : Circuit) (s x v : List Bool) → IsChecked c → (j : ℕ) → j < length c.gates → Shows c s x v →
+    Shows c s x (gate_step v (get_or c.gates j no_gate))
 shows_step c s x v checked j lt sh =
     let g = get_or c.gates j no_gate in
     let out = g.out.0 in
@@ -109,7 +114,8 @@ shows_step c s x v checked j lt sh =
           get_or-set_other v out n b false (eqb-false n out (all_out R c.gates j lt no_gates)) ∙ sh.zeros n below z;
     }
 
-pub shows_play : (c : Circuit) (s x v : List Bool) (schedule : List ℕ) → IsChecked c → AllByRecursion (λ i. i < length c.gates) schedule → Shows c s x v → Shows c s x (play c schedule v)
+pub shows_play : (c : Circuit) (s x v : List Bool) (schedule : List ℕ) → IsChecked c → AllByRecursion (λ i. i < length c.gates) schedule →
+    Shows c s x v → Shows c s x (play c schedule v)
 shows_play c s x v [] checked h sh = sh
 shows_play c s x v (i ∷ is) checked h sh = shows_play c s x (gate_step v (get_or c.gates i no_gate)) is checked h.1 (shows_step c s x v checked i h.0 sh)
 
@@ -157,17 +163,22 @@ bare_checked c checked =
     }
 
 -- nets that no source drives show 0
-bare_zero : (c : Circuit) (n : ℕ) → AllByRecursion (λ y. nat_eq n y ≡ false) (map number c.inputs) → AllByRecursion (λ y. nat_eq n y ≡ false) (map number (state_nets c)) → AllByRecursion (λ y. nat_eq n y ≡ false) (map (λ (k : Const). k.net.0) c.constants) → is_zero_net (bare c) n ≡ true
+bare_zero : (c : Circuit) (n : ℕ) → AllByRecursion (λ y. nat_eq n y ≡ false) (map number c.inputs) →
+    AllByRecursion (λ y. nat_eq n y ≡ false) (map number (state_nets c)) →
+    AllByRecursion (λ y. nat_eq n y ≡ false) (map (λ (k : Const). k.net.0) c.constants) → is_zero_net (bare c) n ≡ true
 bare_zero c n i s k =
     let P : ℕ → Type 0 = λ y. nat_eq n y ≡ false in
-    undriven_zero (bare c) n (all_join P (map number c.inputs) _ i (all_join P (map number (state_nets c)) _ s (all_join P (map (λ (m : Const). m.net.0) c.constants) [] k tt)))
+    undriven_zero (bare c) n
+    (all_join P (map number c.inputs) _ i (all_join P (map number (state_nets c)) _ s (all_join P (map (λ (m : Const). m.net.0) c.constants) [] k tt)))
 
 flipped : (n : ℕ) (ms : List ℕ) → AllByRecursion (λ m. nat_eq m n ≡ false) ms → AllByRecursion (λ m. nat_eq n m ≡ false) ms
 flipped n [] h = tt
 flipped n (m ∷ ms) h = (ne_eqb n m (λ e. eqb-false m n h.0 (sym e)), flipped n ms h.1)
 
 -- what the writes of the sources make of zeros
-pub sources_show : (c : Circuit) (s x v₁ v₂ v₃ : List Bool) → IsChecked c → length s ≡ length c.flops → length x ≡ length c.inputs → v₁ ≡ run (puts c.inputs x) (replicate c.nets false) → v₂ ≡ run (puts (state_nets c) s) v₁ → v₃ ≡ run (map constant_step c.constants) v₂ → Shows c s x v₃ × ((j : ℕ) → j < length c.gates → bit_at v₃ (get_or c.gates j no_gate).out.0 ≡ false)
+pub sources_show : (c : Circuit) (s x v₁ v₂ v₃ : List Bool) → IsChecked c → length s ≡ length c.flops → length x ≡ length c.inputs →
+    v₁ ≡ run (puts c.inputs x) (replicate c.nets false) → v₂ ≡ run (puts (state_nets c) s) v₁ → v₃ ≡ run (map constant_step c.constants) v₂ →
+    Shows c s x v₃ × ((j : ℕ) → j < length c.gates → bit_at v₃ (get_or c.gates j no_gate).out.0 ≡ false)
 sources_show c s x v₁ v₂ v₃ checked ls lx e₁ e₂ e₃ =
     let ins = map number c.inputs in
     let states = map number (state_nets c) in
@@ -213,6 +224,6 @@ same_bit false true e = cc
 
 -- ---- answers
 
-pub quiet_answer : (gates : List Gate) (v : List Bool) (answer : Settled) → Answers gates v answer → All (IsSettled v) gates → answer ≡ Quiet
+pub quiet_answer : (gates : List Gate) (v : List Bool) (answer : Settled) → IsQuietness gates v answer → All (IsSettled v) gates → answer ≡ Quiet
 quiet_answer gates v Quiet a q = refl
 quiet_answer gates v (Unstable i) a q = absurd (a.differs (q i no_gate a.placed))

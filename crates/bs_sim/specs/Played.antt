@@ -31,9 +31,9 @@ abbrev pub OutputsAreZero : Circuit → List Bool → Type 0
 OutputsAreZero c v = (j : ℕ) → j < length c.gates → bit_at v (slice_index_or c.gates j no_gate).out.0 ≡ false
 
 -- what an answer says of the nets: every gate's output shows its value, or the lowest gate whose output does not
-abbrev pub Answers : List Gate → List Bool → Settled → Type 0
-Answers gates v Quiet = All (IsSettled v) gates
-Answers gates v (Unstable i) = IsFirstUnsettled gates v i
+abbrev pub IsQuietness : List Gate → List Bool → Settled → Type 0
+IsQuietness gates v Quiet = All (IsSettled v) gates
+IsQuietness gates v (Unstable i) = IsFirstUnsettled gates v i
 
 -- what a quiet answer says of the state and input that the nets showed before: the nets now show the one valuation that fits them
 pub record FitsIfQuiet (c : Circuit) (before now : List Bool) (answer : Settled) : Type 0 where

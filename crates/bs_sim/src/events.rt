@@ -1,5 +1,5 @@
 //! The event simulator, which evaluates a gate only where an input of it changed.
-ghost use Rattle.std.specs.Prelude.{◌≡◌, ◌<◌, ◌≤◌, length, replicate, false, map, count_by, All, IfOk, IsTrue, slice_set};
+ghost use Rattle.std.specs.Prelude.{◌≡◌, ◌<◌, length, replicate, false, map, count_by, All, IfOk, IsTrue, slice_set};
 ghost use Rattle.bs_net.specs.Circuit.{Fits, gate_value, shown, next, bit_at, reset_state, IsSettled};
 ghost use Rattle.bs_net.specs.Netlist.{circuit};
 ghost use Rattle.bs_net.specs.Order.{gates_in};

@@ -4,7 +4,7 @@ ghost use Rattle.bs_net.specs.Circuit.{Shows, bit_at};
 ghost use Rattle.bs_net.specs.Netlist.{circuit};
 ghost use Rattle.bs_net.specs.Parts.{takes};
 ghost use Rattle.bs_net.specs.Schedule.{play as after_steps, IsSubsequence};
-ghost use Rattle.bs_sim.specs.Played.{Answers, FitsIfQuiet, KeepsSources, OutputsAreZero, ShowsSome};
+ghost use Rattle.bs_sim.specs.Played.{IsQuietness, FitsIfQuiet, KeepsSources, OutputsAreZero, ShowsSome};
 ghost use Rattle.bs_sim.specs.declared.schedule.Settled.TheVariants.{Quiet};
 
 use crate::valuation::{gate_bit, settle_gates, show_constants, show_nets, show_state, zero_table};
@@ -59,7 +59,7 @@ fn quietness(values: &[bool], gates: &[Gate]) -> Settled
     requires outs { All (λ g. g.out.0 < length values.now) gates.now }
     requires ins { All (λ g. All (λ n. n.0 < length values.now) g.ins) gates.now }
     requires taken { All (λ g. IsTrue (takes g.kind (length g.ins))) gates.now }
-    ensures { Answers gates.now values.now result }
+    ensures { IsQuietness gates.now values.now result }
 {
     for (i, gate) in gates.iter().enumerate() {
         let shown = values[gate.out.0 as usize];
@@ -76,7 +76,7 @@ fn play_gates(values: &mut [bool], net: &Netlist, gates: &[u32]) -> Settled
     requires numbered { All (λ i. i < length (circuit net.now).gates) gates.now }
     requires sources { ShowsSome (circuit net.now) values.old }
     ensures values { values.new ≡ after_steps (circuit net.now) gates.now values.old }
-    ensures answer { Answers (circuit net.now).gates values.new result }
+    ensures answer { IsQuietness (circuit net.now).gates values.new result }
     ensures sources { ShowsSome (circuit net.now) values.new }
     ensures keeps { KeepsSources (circuit net.now) values.old values.new }
     ensures fits { FitsIfQuiet (circuit net.now) values.old values.new result }
@@ -111,7 +111,7 @@ impl<'a> Schedule<'a> {
         requires { All (λ i. i < length (circuit self.old.net).gates) gates.now }
         ensures net { self.new.net ≡ self.old.net }
         ensures values { self.new.values ≡ after_steps (circuit self.old.net) gates.now self.old.values }
-        ensures answer { Answers (circuit self.old.net).gates self.new.values result }
+        ensures answer { IsQuietness (circuit self.old.net).gates self.new.values result }
         ensures keeps { KeepsSources (circuit self.old.net) self.old.values self.new.values }
         ensures fits { FitsIfQuiet (circuit self.old.net) self.old.values self.new.values result }
         ensures ordered { IsSubsequence self.old.net.order gates.now → result ≡ Quiet }

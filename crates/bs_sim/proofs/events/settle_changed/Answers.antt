@@ -13,15 +13,20 @@ use Rattle.bs_sim.proofs.events.settle_changed.Goals.{then-evaluate_changed, els
 
 pub evaluate_changed-requires-clause-settled : goal.evaluate_changed-requires-clause-settled
 evaluate_changed-requires-clause-settled c =
-    let split = next_gate c.args.gates.now c.args.order.now c.loop-i.i-index c.index-gates-i.result _ c.loop-i-test.true (c.requires.numbered _ 0 c.loop-i-test.true) c.index-gates-i.is in
+    let split =
+    next_gate c.args.gates.now c.args.order.now c.loop-i.i-index c.index-gates-i.result _ c.loop-i-test.true
+    (c.requires.numbered _ 0 c.loop-i-test.true) c.index-gates-i.is in
     let P : List Gate → Type 0 = λ gs. IsReady c.args.before.now c.loop-i.values gs in
     let ready : IsReady c.args.before.now c.loop-i.values (c.index-gates-i.result ∷ gates_in (drop (c.loop-i.i-index + 1) c.args.order.now) c.args.gates.now) =
     subst P split c.loop-i.invariant.ready in
-    (recursion_from_All (IsSettled c.args.before.now) (c.index-gates-i.result ∷ gates_in (drop (c.loop-i.i-index + 1) c.args.order.now) c.args.gates.now) ready.settled).0
+    (recursion_from_All (IsSettled c.args.before.now)
+    (c.index-gates-i.result ∷ gates_in (drop (c.loop-i.i-index + 1) c.args.order.now) c.args.gates.now) ready.settled).0
 
 pub evaluate_changed-requires-clause-unchanged : goal.evaluate_changed-requires-clause-unchanged
 evaluate_changed-requires-clause-unchanged c =
-    let split = next_gate c.args.gates.now c.args.order.now c.loop-i.i-index c.index-gates-i.result _ c.loop-i-test.true (c.requires.numbered _ 0 c.loop-i-test.true) c.index-gates-i.is in
+    let split =
+    next_gate c.args.gates.now c.args.order.now c.loop-i.i-index c.index-gates-i.result _ c.loop-i-test.true
+    (c.requires.numbered _ 0 c.loop-i-test.true) c.index-gates-i.is in
     let P : List Gate → Type 0 = λ gs. IsReady c.args.before.now c.loop-i.values gs in
     let ready : IsReady c.args.before.now c.loop-i.values (c.index-gates-i.result ∷ gates_in (drop (c.loop-i.i-index + 1) c.args.order.now) c.args.gates.now) =
     subst P split c.loop-i.invariant.ready in

@@ -8,7 +8,7 @@ use Rattle.bs_net.specs.Order.{gates_in}
 use Rattle.bs_net.specs.Schedule.{play}
 use Rattle.bs_net.specs.Steps.{run, gate_write}
 use Rattle.bs_net.proofs.ScheduleLemmas.{quiet_fits, order_settles}
-use Rattle.bs_sim.specs.Played.{Answers}
+use Rattle.bs_sim.specs.Played.{IsQuietness}
 use Rattle.bs_sim.specs.declared.schedule.Settled.{Settled}
 use Rattle.bs_sim.proofs.SourceLemmas.{play_writes, shows_play, quiet_answer}
 use Rattle.bs_sim.proofs.schedule.play_gates.Goals as goal
@@ -24,8 +24,8 @@ returns c =
     let played : w ≡ play it c.args.gates.now v =
     c.settle_gates.ensures
     ∙ (ap (λ (gs : List Gate). run (map gate_write (gates_in c.args.gates.now gs)) v) gates ∙ sym (play_writes it c.args.gates.now v)) in
-    let A : List Gate → Type 0 = λ gs. Answers gs w c.quietness.result in
-    let answer : Answers it.gates w c.quietness.result = subst A gates_2 c.quietness.ensures in
+    let A : List Gate → Type 0 = λ gs. IsQuietness gs w c.quietness.result in
+    let answer : IsQuietness it.gates w c.quietness.result = subst A gates_2 c.quietness.ensures in
     let below = recursion_from_All _ c.args.gates.now c.requires.numbered in
     let kept : (s x : List Bool) → Shows it s x v → Shows it s x w =
     λ s x sh. let P : List Bool → Type 0 = λ u. Shows it s x u in subst P (sym played) (shows_play it s x v c.args.gates.now checked below sh) in
@@ -40,7 +40,7 @@ returns c =
             fits =
                 λ quiet s x sh.
                 let F : List Bool → Type 0 = λ u. Fits it s x u in
-                let B : Settled → Type 0 = λ a. Answers it.gates w a in
+                let B : Settled → Type 0 = λ a. IsQuietness it.gates w a in
                 subst F (sym played) (quiet_fits it s x v c.args.gates.now checked c.requires.numbered sh (subst Q played (subst B quiet answer)));
           };
       ordered =

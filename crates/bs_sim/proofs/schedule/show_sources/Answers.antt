@@ -25,7 +25,8 @@ returns c =
     let consts : c.slice-3.result.now ≡ (circuit c.args.net.now).constants = c.slice-3.ensures ∙ ap (λ r. r.consts) c.raw-raw.ensures.parts in
     let shows =
     sources_show (circuit c.args.net.now) c.args.state.now c.args.input.now _ _ _ c.raw-raw.ensures.checked c.requires.state_fits c.requires.input_fits
-    (c.show_nets.ensures ∙ (ap (λ (ns : List NetId). run (puts ns c.args.input.now) c.args.values.now) inputs ∙ ap (run (puts (circuit c.args.net.now).inputs c.args.input.now)) c.requires.zeros))
+    (c.show_nets.ensures ∙ (ap (λ (ns : List NetId). run (puts ns c.args.input.now) c.args.values.now) inputs
+    ∙ ap (run (puts (circuit c.args.net.now).inputs c.args.input.now)) c.requires.zeros))
     (c.show_state.ensures ∙ ap (λ (fs : List Flop). run (puts (map (λ (f : Flop). f.q) fs) c.args.state.now) c.show_nets.new.values) flops)
     (c.show_constants.ensures ∙ ap (λ (ks : List Const). run (map constant_step ks) c.show_state.new.values) consts) in
     record { shows = shows.0; outputs = shows.1 }
