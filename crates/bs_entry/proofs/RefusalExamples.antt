@@ -1,8 +1,8 @@
 -- Worked refusals (docs/FORMATS.md, "Refusal lines"): the words are those of the lines.
 use Rattle.std.proofs.Common.{◌≡◌, refl, codes}
 use Rattle.std.specs.Fmt.{digits}
-use Rattle.bs_verilog.specs.declared.fault.VerilogFault.TheVariants as verilog
-use Rattle.bs_verilog.specs.declared.fault.What.TheVariants as what
+use Rattle.bs_syntax.specs.declared.fault.VerilogFault.TheVariants as verilog
+use Rattle.bs_syntax.specs.declared.fault.What.TheVariants as what
 use Rattle.bs_scan.specs.declared.fault.ChoiceFault.TheVariants as choice
 use Rattle.bs_scan.specs.declared.fault.DumpFault.TheVariants as dump
 use Rattle.bs_stim.specs.declared.fault.StimFault.TheVariants as stimulus

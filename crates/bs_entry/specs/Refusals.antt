@@ -9,10 +9,10 @@ use Rattle.bs_net.specs.declared.fault.NetFault.{NetFault}
 use Rattle.bs_net.specs.declared.fault.NetFault.TheVariants as net
 use Rattle.bs_net.specs.Check.{IsFault}
 use Rattle.bs_net.specs.Loops.{gate_at}
-use Rattle.bs_verilog.specs.Refusals.{what_word}
-use Rattle.bs_verilog.specs.declared.fault.What.{What}
-use Rattle.bs_verilog.specs.declared.fault.VerilogFault.{VerilogFault}
-use Rattle.bs_verilog.specs.declared.fault.VerilogFault.TheVariants as verilog
+use Rattle.bs_syntax.specs.Refusals.{what_word}
+use Rattle.bs_syntax.specs.declared.fault.What.{What}
+use Rattle.bs_syntax.specs.declared.fault.VerilogFault.{VerilogFault}
+use Rattle.bs_syntax.specs.declared.fault.VerilogFault.TheVariants as verilog
 use Rattle.bs_scan.specs.declared.fault.ChoiceFault.{ChoiceFault}
 use Rattle.bs_scan.specs.declared.fault.ChoiceFault.TheVariants as choice
 use Rattle.bs_scan.specs.declared.fault.DumpFault.{DumpFault}

@@ -6,7 +6,7 @@ ghost use Rattle.bs_net.specs.Check.{IsFault};
 ghost use Rattle.bs_net.specs.Loops.{gate_at};
 ghost use Rattle.bs_net.specs.Netlist.{circuit};
 ghost use Rattle.bs_net.specs.declared.fault.NetFault.TheVariants.{NoMemory as CheckWant};
-ghost use Rattle.bs_verilog.specs.declared.fault.VerilogFault.TheVariants.{NoMemory as TextWant};
+ghost use Rattle.bs_syntax.specs.declared.fault.VerilogFault.TheVariants.{NoMemory as TextWant};
 ghost use Rattle.bs_scan.specs.declared.fault.ChoiceFault.TheVariants.{NoMemory as ChoiceWant};
 ghost use Rattle.bs_scan.specs.declared.fault.DumpFault.TheVariants.{NoMemory as DumpWant};
 ghost use Rattle.bs_stim.specs.declared.fault.StimFault.TheVariants.{NoMemory as StimWant};

@@ -16,7 +16,7 @@ use Rattle.bs_lex.specs.declared.token.Piece.{Piece}
 use Rattle.bs_lex.specs.declared.token.Piece.TheVariants.{Passed, Made, Bad}
 use Rattle.bs_lex.specs.Bytes.{◌∈◌, is_space, is_digit, begins_name, is_of_name, is_graphic, is_symbol}
 use Rattle.bs_lex.specs.Tokens.{first, comment_size, quoted_size, slash, quoted, escaped, system, directive, is_passed_over, number_size, number, mark, piece_at}
-use Rattle.bs_lex.specs.Placing.{IsAsciiName, IsPlaced, IsInOrder, ArePlaced, token_text}
+use Rattle.bs_lex.specs.Placing.{IsAsciiName, LiesIn, IsInOrder, AreTokensOf, token_text}
 
 in_range : (lo hi c : ℕ) → hi < 128 → is_in_range lo hi c ≡ true → c < 128
 in_range lo hi c h e = omega (arith, leb-true c hi (and_parts _ _ e).1)
@@ -119,7 +119,7 @@ made_is_ascii kind size (c ∷ rest) some e = subst (IsAsciiPiece (c ∷ rest)) 
 
 -- The tokens that are made before a place.
 pub record ArePlacedBefore (source : List ℕ) (at : ℕ) (ts : List Token) : Type 0 where
-  within : All (IsPlaced source) ts
+  within : All (LiesIn source) ts
   before : All (λ (t : Token). t.stop ≤ at) ts
   ascii : All (λ (t : Token). IsAsciiName t.kind (token_text source t)) ts
   in_order : IsInOrder ts
@@ -127,7 +127,7 @@ pub record ArePlacedBefore (source : List ℕ) (at : ℕ) (ts : List Token) : Ty
 
 pub nothing_made : (source : List ℕ) → ArePlacedBefore source 0 []
 nothing_made source = record {
-  within = All-nil (IsPlaced source);
+  within = All-nil (LiesIn source);
   before = All-nil (λ (t : Token). t.stop ≤ 0);
   ascii = All-nil (λ (t : Token). IsAsciiName t.kind (token_text source t));
   in_order = (λ i j d h within. absurd (omega arith));
@@ -164,12 +164,12 @@ one_made source at size kind ts h e within before =
     let span : at + size - at ≡ size = omega arith in
     let text : IsAsciiName kind (take (at + size - at) (drop at source)) = rw span (made_is_ascii kind size (drop at source) some e) in
     record {
-      within = All-push (IsPlaced source) ts t rest.within (omega (arith, within.0), omega (arith, h, within.1));
+      within = All-push (LiesIn source) ts t rest.within (omega (arith, within.0), omega (arith, h, within.1));
       before = All-push (λ (u : Token). u.stop ≤ at + size) ts t rest.before (omega arith);
       ascii = All-push (λ (u : Token). IsAsciiName u.kind (token_text source u)) ts t rest.ascii text;
       in_order = in_order_push ts t before.before before.in_order;
       few = omega (arith, before.few, within.0, length_push ts t);
     }
 
-pub placed : (source : List ℕ) (at : ℕ) (ts : List Token) → at ≤ length source → ArePlacedBefore source at ts → ArePlaced source ts
+pub placed : (source : List ℕ) (at : ℕ) (ts : List Token) → at ≤ length source → ArePlacedBefore source at ts → AreTokensOf source ts
 placed source at ts h before = record { within = before.within; ascii = before.ascii; in_order = before.in_order; few = omega (arith, h, before.few) }

@@ -20,7 +20,8 @@ skipped at (suc n) (c ∷ text) h =
     skipped (at + 1) n text (omega arith) ∙ ap (λ p. tokens_from p 0 (drop n text)) e
 
 -- after a piece of this size
-beyond : (at size c : ℕ) (text : List ℕ) → 1 ≤ size → size ≤ length (c ∷ text) → tokens_from (at + 1) (size - 1) text ≡ tokens_from (at + size) 0 (drop size (c ∷ text))
+beyond : (at size c : ℕ) (text : List ℕ) → 1 ≤ size → size ≤ length (c ∷ text)
+    → tokens_from (at + 1) (size - 1) text ≡ tokens_from (at + size) 0 (drop size (c ∷ text))
 beyond at zero c text low high = absurd (omega arith)
 beyond at (suc n) c text low high =
     let less : suc n - 1 ≡ n = omega arith in
@@ -52,7 +53,8 @@ pub no_front : (r : Result (List Token) ℕ) → with_front [] r ≡ r
 no_front (Ok ts) = refl
 no_front (Err at) = refl
 
-pub at_end : (front : List Token) (at : ℕ) (text : List ℕ) (total : Result (List Token) ℕ) → length text ≤ at → with_front front (tokens_from at 0 (drop at text)) ≡ total → total ≡ Ok front
+pub at_end : (front : List Token) (at : ℕ) (text : List ℕ) (total : Result (List Token) ℕ) → length text ≤ at
+    → with_front front (tokens_from at 0 (drop at text)) ≡ total → total ≡ Ok front
 unfolding tokens_from
 at_end front at text total h so_far =
     let e : with_front front (tokens_from at 0 (drop at text)) ≡ Ok front = rw (drop_all at text h) (ap (λ (x : List Token). Ok x) (append-nil front)) in
@@ -68,10 +70,14 @@ moved at size bytes = ap (tokens_from (at + size) 0) (drop-drop size at bytes)
 pub on_passed : (front : List Token) (at size : ℕ) (bytes : List ℕ) (total : Result (List Token) ℕ) → at < length bytes → Passed size ≡ piece_at (drop at bytes)
     → (1 ≤ size) × (size ≤ length bytes - at) → IsNext front at bytes total → IsNext front (at + size) bytes total
 on_passed front at size bytes total h e within so_far =
-    let room : length (drop at bytes) ≡ length bytes - at = length-drop at bytes in
-    (omega (arith, room, within.1), ap (with_front front) (sym (passed at size (drop at bytes) (omega (arith, room)) e within.0 (omega (arith, room, within.1)) ∙ moved at size bytes)) ∙ so_far.1)
+    let room : length (drop at bytes) ≡ length bytes - at = length-drop at bytes in (
+      omega (arith, room, within.1),
+      ap (with_front front) (sym (passed at size (drop at bytes) (omega (arith, room)) e within.0
+          (omega (arith, room, within.1)) ∙ moved at size bytes)) ∙ so_far.1,
+    )
 
-pub on_made : (front : List Token) (at size : ℕ) (kind : TokenKind) (bytes : List ℕ) (total : Result (List Token) ℕ) → at < length bytes → Made kind size ≡ piece_at (drop at bytes)
+pub on_made : (front : List Token) (at size : ℕ) (kind : TokenKind) (bytes : List ℕ) (total : Result (List Token) ℕ) → at < length bytes
+    → Made kind size ≡ piece_at (drop at bytes)
     → (1 ≤ size) × (size ≤ length bytes - at) → IsNext front at bytes total
     → IsNext (front ++ record { kind = kind; start = at; stop = at + size } ∷ []) (at + size) bytes total
 on_made front at size kind bytes total h e within so_far =

@@ -10,8 +10,8 @@ abbrev pub token_text : List ℕ → Token → List ℕ
 token_text source t = take (t.stop - t.start) (drop t.start source)
 
 -- the token is not empty and lies within the source
-abbrev pub IsPlaced : List ℕ → Token → Type 0
-IsPlaced source t = (t.start < t.stop) × (t.stop ≤ length source)
+abbrev pub LiesIn : List ℕ → Token → Type 0
+LiesIn source t = (t.start < t.stop) × (t.stop ≤ length source)
 
 -- a name of this kind has this text: each byte is ASCII
 abbrev pub IsAsciiName : TokenKind → List ℕ → Type 0
@@ -24,8 +24,8 @@ abbrev pub IsInOrder : List Token → Type 0
 IsInOrder ts = (i j : ℕ) (d : Token) → i < j → j < length ts → (slice_index_or ts i d).stop ≤ (slice_index_or ts j d).start
 
 -- the tokens of a text: places, names, order, number
-pub record ArePlaced (source : List ℕ) (ts : List Token) : Type 0 where
-  pub within : (i : ℕ) (d : Token) → i < length ts → IsPlaced source (slice_index_or ts i d)
+pub record AreTokensOf (source : List ℕ) (ts : List Token) : Type 0 where
+  pub within : (i : ℕ) (d : Token) → i < length ts → LiesIn source (slice_index_or ts i d)
   pub ascii : (i : ℕ) (d : Token) → i < length ts → IsAsciiName (slice_index_or ts i d).kind (token_text source (slice_index_or ts i d))
   pub in_order : IsInOrder ts
   pub few : length ts ≤ length source

@@ -1,6 +1,7 @@
 //! The scan of a text.
 ghost use Rattle.std.specs.Prelude.{◌≤◌, length, IfOk};
-ghost use Rattle.bs_lex.specs.Placing.{ArePlaced};
+ghost use Rattle.bs_lex.specs.declared.limits.TheConstants.{MAX_BYTES};
+ghost use Rattle.bs_lex.specs.Placing.{AreTokensOf};
 ghost use Rattle.bs_lex.specs.Tokens.{tokens_of, Answers};
 
 use crate::fault::LexFault;
@@ -11,9 +12,9 @@ use std::alloc::Global;
 /// The tokens of a text of at most 16 MiB in order, or the first place at which no white space, comment or token
 /// begins (docs/FORMATS.md, "Tokens").
 pub fn tokens(alloc: Global, bytes: &[u8]) -> Result<TokenList, LexFault>
-    requires { length bytes.now ≤ 16777216 }
+    requires { length bytes.now ≤ MAX_BYTES }
     ensures tokens { Answers (λ ts. ts) result (tokens_of bytes.now) }
-    ensures placed { IfOk result (λ ts. ArePlaced bytes.now ts) }
+    ensures placed { IfOk result (λ ts. AreTokensOf bytes.now ts) }
 {
     let mut items = Vec::new(alloc);
     let mut at: usize = 0;

@@ -1,14 +1,3 @@
-pub mod ListingLemmas
-pub mod AttributeLemmas
-pub mod CarryLemmas
-pub mod BodyLemmas
-pub mod CellLemmas
-pub mod DigitLemmas
-pub mod NamingLemmas
-pub mod ApartLemmas
-pub mod TableLemmas
-pub mod NumberLemmas
 pub mod PlaceLemmas
-pub mod DeclaringLemmas
 pub mod PlacementLemmas
 pub mod Examples

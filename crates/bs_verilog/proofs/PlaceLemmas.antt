@@ -4,9 +4,9 @@ use Rattle.std.specs.Prelude.{IsSome, not, ◌&&◌, nat_le, is_some}
 use Rattle.std.proofs.lemmas.Bool.{leb-false}
 use Rattle.std.proofs.lemmas.List.{drop_more, drop_all}
 use Rattle.bs_net.specs.Names.{number_of}
-use Rattle.bs_verilog.specs.declared.fault.VerilogFault.{VerilogFault}
-use Rattle.bs_verilog.specs.declared.fault.VerilogFault.TheVariants.{NoMemory}
-use Rattle.bs_verilog.specs.Reading.{◌>>=◌}
+use Rattle.bs_syntax.specs.declared.fault.VerilogFault.{VerilogFault}
+use Rattle.bs_syntax.specs.declared.fault.VerilogFault.TheVariants.{NoMemory}
+use Rattle.bs_bits.specs.Reading.{◌>>=◌}
 use Rattle.bs_verilog.specs.Building.{each, is_full}
 
 -- one step more
@@ -20,7 +20,8 @@ pub each_on : {A B : Type 0} (step : B → A → Result B VerilogFault) (b more 
 each_on step b more xs i d total h e so_far =
     sym (each_step step b xs i d h ∙ ap (λ r. r >>= λ next. each step next (drop (i + 1) xs)) e) ∙ so_far
 
-pub each_fault : {A B : Type 0} (step : B → A → Result B VerilogFault) (b : B) (fault : VerilogFault) (xs : List A) (i : ℕ) (d : A) (total : Result B VerilogFault) → i < length xs
+pub each_fault : {A B : Type 0} (step : B → A → Result B VerilogFault) (b : B) (fault : VerilogFault) (xs : List A) (i : ℕ) (d : A)
+    (total : Result B VerilogFault) → i < length xs
     → (fault ≡ NoMemory) ⊎ (step b (get_or xs i d) ≡ Err fault) → each step b (drop i xs) ≡ total → (fault ≡ NoMemory) ⊎ (total ≡ Err fault)
 each_fault step b fault xs i d total h (inl memory) so_far = inl memory
 each_fault step b fault xs i d total h (inr e) so_far =
@@ -41,11 +42,13 @@ room names key e = by (number_of names key) e
 
 -- the same where the member is lent
 
-pub each_on_item : {A B : Type 0} (step : B → A → Result B VerilogFault) (b more : B) (xs : List A) (i : ℕ) (item : A) (total : Result B VerilogFault) → i < length xs
+pub each_on_item : {A B : Type 0} (step : B → A → Result B VerilogFault) (b more : B) (xs : List A) (i : ℕ) (item : A) (total : Result B VerilogFault)
+    → i < length xs
     → item ≡ get_or xs i item → step b item ≡ Ok more → each step b (drop i xs) ≡ total → each step more (drop (i + 1) xs) ≡ total
 each_on_item step b more xs i item total h is e so_far = each_on step b more xs i item total h (ap (step b) (sym is) ∙ e) so_far
 
-pub each_fault_item : {A B : Type 0} (step : B → A → Result B VerilogFault) (b : B) (fault : VerilogFault) (xs : List A) (i : ℕ) (item : A) (total : Result B VerilogFault) → i < length xs
+pub each_fault_item : {A B : Type 0} (step : B → A → Result B VerilogFault) (b : B) (fault : VerilogFault) (xs : List A) (i : ℕ) (item : A)
+    (total : Result B VerilogFault) → i < length xs
     → item ≡ get_or xs i item → (fault ≡ NoMemory) ⊎ (step b item ≡ Err fault) → each step b (drop i xs) ≡ total → (fault ≡ NoMemory) ⊎ (total ≡ Err fault)
 each_fault_item step b fault xs i item total h is (inl memory) so_far = inl memory
 each_fault_item step b fault xs i item total h is (inr e) so_far = each_fault step b fault xs i item total h (inr (ap (step b) (sym is) ∙ e)) so_far

@@ -16,35 +16,36 @@ use Rattle.bs_net.specs.declared.net.Kind.{Kind}
 use Rattle.bs_net.specs.declared.net.Kind.TheVariants.{And, Nand, Or, Nor, Xor, Xnor, Buf, Not}
 use Rattle.bs_net.specs.Names.{with_key, number_of}
 use Rattle.bs_net.specs.Parts.{ArePlaced, takes}
-use Rattle.bs_verilog.specs.declared.fault.VerilogFault.{VerilogFault}
-use Rattle.bs_verilog.specs.declared.fault.VerilogFault.TheVariants.{TooManyNets, Index, Terminals}
-use Rattle.bs_verilog.specs.declared.syntax.Says.{Says}
-use Rattle.bs_verilog.specs.declared.syntax.Name.{Name}
-use Rattle.bs_verilog.specs.declared.syntax.Term.{Term}
-use Rattle.bs_verilog.specs.declared.syntax.Term.TheVariants.{Constant, Named}
-use Rattle.bs_verilog.specs.declared.syntax.Connection.{Connection}
-use Rattle.bs_verilog.specs.declared.syntax.Connection.TheVariants.{Empty}
-use Rattle.bs_verilog.specs.declared.syntax.Part.{Part}
-use Rattle.bs_verilog.specs.declared.syntax.Shape.{Shape}
-use Rattle.bs_verilog.specs.declared.syntax.Shape.TheVariants as shapes
-use Rattle.bs_verilog.specs.declared.lexeme.Cell.{Cell}
+use Rattle.bs_syntax.specs.declared.fault.VerilogFault.{VerilogFault}
+use Rattle.bs_syntax.specs.declared.fault.VerilogFault.TheVariants.{TooManyNets, Index, Terminals}
+use Rattle.bs_syntax.specs.declared.tree.Says.{Says}
+use Rattle.bs_lexeme.specs.declared.lexeme.Name.{Name}
+use Rattle.bs_syntax.specs.declared.tree.Term.{Term}
+use Rattle.bs_syntax.specs.declared.tree.Term.TheVariants.{Constant, Named}
+use Rattle.bs_syntax.specs.declared.tree.Connection.{Connection}
+use Rattle.bs_syntax.specs.declared.tree.Connection.TheVariants.{Empty}
+use Rattle.bs_syntax.specs.declared.tree.Component.{Component}
+use Rattle.bs_syntax.specs.declared.tree.Shape.{Shape}
+use Rattle.bs_syntax.specs.declared.tree.Shape.TheVariants as shapes
+use Rattle.bs_lexeme.specs.declared.lexeme.Cell.{Cell}
 use Rattle.bs_verilog.specs.declared.terminals.Pins.{Pins}
 use Rattle.bs_verilog.specs.declared.placing.Made.{Made}
 use Rattle.bs_verilog.specs.declared.building.Built.{Built}
-use Rattle.bs_verilog.specs.Reading.{◌>>=◌}
-use Rattle.bs_verilog.specs.Keys.{text, scalar_key, constant_key, keys}
+use Rattle.bs_bits.specs.Reading.{◌>>=◌}
+use Rattle.bs_scope.specs.Keys.{text, scalar_key, constant_key, keys}
 use Rattle.bs_verilog.specs.Terminals.{term_of, has_term, is_single, is_gate, is_assignment, cell_pins, pins_of, is_constant, output_count}
-use Rattle.bs_verilog.specs.Building.{each, net_of, has_key, is_full, implicit_net, declared_key, constant_net, named_net, term_net, with_connection, connection_nets, gates_of, net_at, no_net, flop_of, with_gates, with_flop, with_part, with_parts}
+use Rattle.bs_verilog.specs.Building.{each, has_key, is_full, implicit_net, declared_key, constant_net, named_net, term_net, with_connection, connection_nets, gates_of, net_at, no_net, flop_of, with_gates, with_flop, with_part, with_parts}
+use Rattle.bs_scope.specs.Nets.{net_of, with_keys, numbered, nets_of}
 use Rattle.bs_verilog.specs.Placement.{AreWithin, ConstsWithin, GateWithin, FlopWithin, IsBuiltWithin, AreShort, IsFinished, WillFinish}
-use Rattle.bs_verilog.specs.declared.syntax.Range.{Range}
-use Rattle.bs_verilog.specs.declared.syntax.Module.{Module}
-use Rattle.bs_verilog.specs.declared.syntax.Declared.{Declared}
-use Rattle.bs_verilog.specs.declared.syntax.Direction as code
-use Rattle.bs_verilog.specs.declared.syntax.Direction.TheVariants as directions
-use Rattle.bs_verilog.specs.declared.numbering.Known.{Known}
-use Rattle.bs_verilog.specs.Declaring.{said, is_in, known, known_nets, keys_of, first_over, direction_of}
-use Rattle.bs_verilog.specs.Netlist.{with_keys, numbered, nets_of, is_towards, port_bits, port_nets, supplied, consts_of, supply_consts, start_of, parts_with, finished_of, built_of}
-use Rattle.bs_verilog.proofs.NumberLemmas.{with_key-room, with_keys-room, with_keys-append, few_step, keys-length, one_bit}
+use Rattle.bs_syntax.specs.declared.tree.Range.{Range}
+use Rattle.bs_syntax.specs.declared.tree.Module.{Module}
+use Rattle.bs_syntax.specs.declared.tree.Declared.{Declared}
+use Rattle.bs_syntax.specs.declared.tree.Direction as code
+use Rattle.bs_syntax.specs.declared.tree.Direction.TheVariants as directions
+use Rattle.bs_scope.specs.declared.numbering.Known.{Known}
+use Rattle.bs_scope.specs.Declaring.{said, is_in, known, known_nets, keys_of, first_over, direction_of}
+use Rattle.bs_verilog.specs.Netlist.{is_towards, port_bits, port_nets, supplied, consts_of, supply_consts, start_of, parts_with, finished_of, built_of}
+use Rattle.bs_scope.proofs.NumberLemmas.{with_key-room, with_keys-room, with_keys-append, few_step, keys-length, one_bit}
 
 -- Names and their numbers.
 
@@ -117,7 +118,10 @@ named_more scope made key p full =
     }
 
 constant_more : (scope : ℕ → Option Says) (made : Made) (key : List ℕ) (b : Bool) → IsPlacing scope made → is_full made.names key ≡ false
-    → Goes scope made (record { names = with_key made.names key; consts = made.consts ++ record { net = net_of (with_key made.names key) key; value = b } ∷ [] })
+    → Goes scope made (record {
+      names = with_key made.names key;
+      consts = made.consts ++ record { net = net_of (with_key made.names key) key; value = b } ∷ [];
+    })
 constant_more scope made key b p full =
     let after : List (List ℕ) = with_key made.names key in
     let here : Const = record { net = net_of after key; value = b } in
@@ -139,10 +143,12 @@ pub record IsPlacedNet (scope : ℕ → Option Says) (before : Made) (placed : N
   pub goes : Goes scope before placed.1
   pub within : placed.0.0 < length placed.1.names
 
-placed_as : (scope : ℕ → Option Says) (before : Made) (x y : NetId × Made) → ◌≡◌ {A = Result (NetId × Made) VerilogFault} (Ok x) (Ok y) → IsPlacedNet scope before x → IsPlacedNet scope before y
+placed_as : (scope : ℕ → Option Says) (before : Made) (x y : NetId × Made) → ◌≡◌ {A = Result (NetId × Made) VerilogFault} (Ok x) (Ok y)
+    → IsPlacedNet scope before x → IsPlacedNet scope before y
 placed_as scope before x y e p = let same : x ≡ y = cc in rw (← same) p
 
-constant_placed : (scope : ℕ → Option Says) (at : ℕ) (b : Bool) (made : Made) (placed : NetId × Made) → IsPlacing scope made → constant_net at b made ≡ Ok placed
+constant_placed : (scope : ℕ → Option Says) (at : ℕ) (b : Bool) (made : Made) (placed : NetId × Made) → IsPlacing scope made
+    → constant_net at b made ≡ Ok placed
     → IsPlacedNet scope made placed
 unfolding constant_net
 constant_placed scope at b made placed p e = by (is_full made.names key) (has_key made.names key) refl refl e
@@ -151,15 +157,30 @@ constant_placed scope at b made placed p e = by (is_full made.names key) (has_ke
     key = constant_key b
 
     new : NetId × Made
-    new = (net_of (with_key made.names key) key, record { names = with_key made.names key; consts = made.consts ++ record { net = net_of (with_key made.names key) key; value = b } ∷ [] })
+    new = (
+      net_of (with_key made.names key) key,
+      record {
+        names = with_key made.names key;
+        consts = made.consts ++ record {
+          net = net_of
+              (with_key made.names key) key;
+          value = b;
+        } ∷ [];
+      },
+    )
 
     by : (full there : Bool) → is_full made.names key ≡ full → has_key made.names key ≡ there
         → cond full (Err (TooManyNets at)) (cond there (Ok (net_of made.names key, made)) (Ok new)) ≡ Ok placed → IsPlacedNet scope made placed
     by true there f h x = absurd cc
     by false true f h x =
-        placed_as scope made (net_of made.names key, made) placed x (record { goes = same scope made p; within = net_within made.names key (some_names made.names key h) })
+        placed_as scope made (net_of made.names key, made) placed x
+        (record { goes = same scope made p; within = net_within made.names key (some_names made.names key h) })
     by false false f h x =
-        placed_as scope made new placed x (record { goes = constant_more scope made key b p f; within = net_within (with_key made.names key) key (with_key-some made.names key) })
+        placed_as scope made new placed x (record {
+          goes = constant_more scope made key b p f;
+          within = net_within (with_key made.names key) key
+              (with_key-some made.names key);
+        })
 
 implicit_placed : (scope : ℕ → Option Says) (key : List ℕ) (n : Name) (index : Option ℕ) (made : Made) (placed : NetId × Made) → IsPlacing scope made
     → implicit_net key n index made ≡ Ok placed → IsPlacedNet scope made placed
@@ -174,21 +195,28 @@ implicit_placed scope key n index made placed p e = by (is_full made.names key) 
     by true indexed f x = absurd cc
     by false true f x = absurd cc
     by false false f x =
-        placed_as scope made new placed x (record { goes = named_more scope made key p f; within = net_within (with_key made.names key) key (with_key-some made.names key) })
+        placed_as scope made new placed x (record {
+          goes = named_more scope made key p f;
+          within = net_within (with_key made.names key) key
+              (with_key-some made.names key);
+        })
 
-declared_placed : (scope : ℕ → Option Says) (made : Made) (placed : NetId × Made) (r : Result (List ℕ) VerilogFault) → IsPlacing scope made → 0 < length made.names
+declared_placed : (scope : ℕ → Option Says) (made : Made) (placed : NetId × Made) (r : Result (List ℕ) VerilogFault) → IsPlacing scope made
+    → 0 < length made.names
     → (r >>= λ key. Ok (net_of made.names key, made)) ≡ Ok placed → IsPlacedNet scope made placed
 declared_placed scope made placed (Ok key) p some e =
     placed_as scope made (net_of made.names key, made) placed e (record { goes = same scope made p; within = net_within made.names key some })
 declared_placed scope made placed (Err fault) p some e = absurd cc
 
-named_placed : (scope : ℕ → Option Says) (name : List ℕ) (n : Name) (index : Option ℕ) (made : Made) (placed : NetId × Made) (o : Option Says) → IsPlacing scope made → scope n.id ≡ o
+named_placed : (scope : ℕ → Option Says) (name : List ℕ) (n : Name) (index : Option ℕ) (made : Made) (placed : NetId × Made) (o : Option Says)
+    → IsPlacing scope made → scope n.id ≡ o
     → named_net name o n index made ≡ Ok placed → IsPlacedNet scope made placed
 unfolding named_net
 named_placed scope name n index made placed (Some s) p is e = declared_placed scope made placed (declared_key name s.range n index) p (p.declared n.id s is) e
 named_placed scope name n index made placed None p is e = implicit_placed scope (scalar_key name) n index made placed p e
 
-term_placed : (table : List (List ℕ)) (scope : ℕ → Option Says) (t : Term) (made : Made) (placed : NetId × Made) → IsPlacing scope made → term_net table scope t made ≡ Ok placed
+term_placed : (table : List (List ℕ)) (scope : ℕ → Option Says) (t : Term) (made : Made) (placed : NetId × Made) → IsPlacing scope made
+    → term_net table scope t made ≡ Ok placed
     → IsPlacedNet scope made placed
 unfolding term_net
 term_placed table scope (Constant at b) made placed p e = constant_placed scope at b made placed p e
@@ -213,10 +241,12 @@ connection_placed : (table : List (List ℕ)) (scope : ℕ → Option Says) (c :
 unfolding with_connection
 connection_placed table scope c before after p w e = by (term_of c) e
   where
-    seen_as : (x : List NetId × Made) (least : ℕ) → ◌≡◌ {A = Result (List NetId × Made) VerilogFault} (Ok x) (Ok after) → ArePlacedNets scope before x 1 least → ArePlacedNets scope before after 1 least
+    seen_as : (x : List NetId × Made) (least : ℕ) → ◌≡◌ {A = Result (List NetId × Made) VerilogFault} (Ok x) (Ok after) → ArePlacedNets scope before x 1 least
+        → ArePlacedNets scope before after 1 least
     seen_as x least s a = let eq : x ≡ after = cc in rw (← eq) a
 
-    on : (t : Term) (r : Result (NetId × Made) VerilogFault) → term_net table scope t before.1 ≡ r → (r >>= λ placed. Ok (before.0 ++ placed.0 ∷ [], placed.1)) ≡ Ok after
+    on : (t : Term) (r : Result (NetId × Made) VerilogFault) → term_net table scope t before.1 ≡ r
+        → (r >>= λ placed. Ok (before.0 ++ placed.0 ∷ [], placed.1)) ≡ Ok after
         → ArePlacedNets scope before after 1 1
     on t (Err fault) is x = absurd cc
     on t (Ok placed) is x =
@@ -225,14 +255,19 @@ connection_placed table scope c before after p w e = by (term_of c) e
         (record {
           goes = one.goes;
           within =
-              All-append (λ (n : NetId). n.0 < length placed.1.names) before.0 (placed.0 ∷ []) (nets_more (length before.1.names) (length placed.1.names) before.0 one.goes.grows w)
+              All-append (λ (n : NetId). n.0 < length placed.1.names) before.0 (placed.0 ∷ [])
+              (nets_more (length before.1.names) (length placed.1.names) before.0 one.goes.grows w)
               (All-from_recursion (λ (n : NetId). n.0 < length placed.1.names) (placed.0 ∷ []) (one.within, tt));
           few = omega (arith, length-append before.0 (placed.0 ∷ []));
           enough = omega (arith, length-append before.0 (placed.0 ∷ []));
         })
 
     by : (o : Option Term)
-        → ◌≡◌ {A = Result (List NetId × Made) VerilogFault} (elim o [ Some t ↦ term_net table scope t before.1 >>= λ placed. Ok (before.0 ++ placed.0 ∷ [], placed.1) | None ↦ Ok before ]) (Ok after)
+        → ◌≡◌ {A = Result (List NetId × Made) VerilogFault} (elim o [
+          | Some t ↦ term_net table scope t before.1 >>= λ placed. Ok
+              (before.0 ++ placed.0 ∷ [], placed.1)
+          | None ↦ Ok before
+        ]) (Ok after)
         → ArePlacedNets scope before after 1 (cond (is_some o) 1 0)
     by (Some t) x = on t (term_net table scope t before.1) refl x
     by None x = seen_as before 0 x (record { goes = same scope before.1 p; within = w; few = omega arith; enough = omega arith })
@@ -241,7 +276,8 @@ goes_on : (scope : ℕ → Option Says) (a b c : Made) → Goes scope a b → Go
 goes_on scope a b c x y = record { grows = omega (arith, x.grows, y.grows); placing = y.placing }
 
 connections_placed : (table : List (List ℕ)) (scope : ℕ → Option Says) (cs : List Connection) (before after : List NetId × Made) → IsPlacing scope before.1
-    → AreWithin (length before.1.names) before.0 → each (with_connection table scope) before cs ≡ Ok after → ArePlacedNets scope before after (length cs) (term_count cs)
+    → AreWithin (length before.1.names) before.0 → each (with_connection table scope) before cs ≡ Ok after
+    → ArePlacedNets scope before after (length cs) (term_count cs)
 unfolding each
 connections_placed table scope [] before after p w e =
     let eq : before ≡ after = cc in
@@ -251,7 +287,8 @@ connections_placed table scope (c ∷ cs) before after p w e =
   where
     by : ((mid : List NetId × Made) → IsPlacing scope mid.1 → AreWithin (length mid.1.names) mid.0 → each (with_connection table scope) mid cs ≡ Ok after
         → ArePlacedNets scope mid after (length cs) (term_count cs))
-        → (r : Result (List NetId × Made) VerilogFault) → with_connection table scope before c ≡ r → (r >>= λ more. each (with_connection table scope) more cs) ≡ Ok after
+        → (r : Result (List NetId × Made) VerilogFault) → with_connection table scope before c ≡ r
+        → (r >>= λ more. each (with_connection table scope) more cs) ≡ Ok after
         → ArePlacedNets scope before after (suc (length cs)) (cond (has_term c) 1 0 + term_count cs)
     by rest (Err fault) is x = absurd cc
     by rest (Ok mid) is x =
@@ -268,7 +305,8 @@ all_terms : (cs : List Connection) → list_all has_term cs ≡ true → term_co
 all_terms [] e = refl
 all_terms (c ∷ cs) e = by (all_terms cs) (has_term c) e
   where
-    by : (list_all has_term cs ≡ true → term_count cs ≡ length cs) → (b : Bool) → (b && list_all has_term cs) ≡ true → cond b 1 0 + term_count cs ≡ suc (length cs)
+    by : (list_all has_term cs ≡ true → term_count cs ≡ length cs) → (b : Bool) → (b && list_all has_term cs) ≡ true
+        → cond b 1 0 + term_count cs ≡ suc (length cs)
     by rest true x = let same : term_count cs ≡ length cs = rest x in omega (arith, same)
     by rest false x = absurd cc
 
@@ -315,10 +353,12 @@ single_gates kind count (x ∷ xs) one w =
     let ins : ArePlaced count (last ∷ []) =
     (omega arith, All-from_recursion (λ (n : NetId). n.0 < count) (last ∷ []) (net_at-within count nets (length nets - 1) some w, tt)) in
     All-map (GateWithin count) (λ out. record { kind = kind; out = out; ins = last ∷ [] }) (take (length nets - 1) nets)
-    (All-weaker (λ (n : NetId). n.0 < count) (λ (n : NetId). GateWithin count (record { kind = kind; out = n; ins = last ∷ [] })) (λ n lt. (lt, ins, one)) (take (length nets - 1) nets)
+    (All-weaker (λ (n : NetId). n.0 < count) (λ (n : NetId). GateWithin count (record { kind = kind; out = n; ins = last ∷ [] })) (λ n lt. (lt, ins, one))
+    (take (length nets - 1) nets)
     (All-take (λ (n : NetId). n.0 < count) (length nets - 1) nets w))
 
-plain_gate : (kind : Kind) (count : ℕ) (nets : List NetId) → IsTrue (takes kind (length (drop 1 nets))) → 2 ≤ length nets → AreWithin count nets → length nets < 4294967296
+plain_gate : (kind : Kind) (count : ℕ) (nets : List NetId) → IsTrue (takes kind (length (drop 1 nets))) → 2 ≤ length nets → AreWithin count nets
+    → length nets < 4294967296
     → All (GateWithin count) (record { kind = kind; out = net_at nets 0; ins = drop 1 nets } ∷ [])
 plain_gate kind count nets takes_them two w short =
     let some : 0 < count = some_count count nets (omega (arith, two)) w in
@@ -371,7 +411,8 @@ flops_more n m fs le all =
 abbrev no_nets : Made → List NetId × Made
 no_nets made = ([], made)
 
-with_gates_built : (table : List (List ℕ)) (scope : ℕ → Option Says) (kind : Kind) (b after : Built) (cs : List Connection) → IsBuilding scope b → length cs < 4294967296
+with_gates_built : (table : List (List ℕ)) (scope : ℕ → Option Says) (kind : Kind) (b after : Built) (cs : List Connection) → IsBuilding scope b
+    → length cs < 4294967296
     → ((2 ≤ length cs) × (list_all has_term cs ≡ true)) ⊎ (is_single kind ≡ true) → with_gates table scope kind b cs ≡ Ok after → Builds scope b after
 with_gates_built table scope kind b after cs p short shape e = by (connection_nets table scope cs b.made) refl e
   where
@@ -383,7 +424,8 @@ with_gates_built table scope kind b after cs p short shape e = by (connection_ne
         → (r >>= λ placed. Ok (record { made = placed.1; gates = b.gates ++ gates_of kind placed.0; flops = b.flops })) ≡ Ok after → Builds scope b after
     by (Err fault) is x = absurd cc
     by (Ok placed) is x =
-        let nets = connections_placed table scope cs (no_nets b.made) placed p.placing (All-from_recursion (λ (n : NetId). n.0 < length b.made.names) [] tt) is in
+        let nets = connections_placed table scope cs (no_nets b.made) placed p.placing
+        (All-from_recursion (λ (n : NetId). n.0 < length b.made.names) [] tt) is in
         let new : Built = record { made = placed.1; gates = b.gates ++ gates_of kind placed.0; flops = b.flops } in
         let eq : new ≡ after = cc in
         let few : length placed.0 < 4294967296 = omega (arith, nets.few, short) in
@@ -405,10 +447,12 @@ with_flop_built : (table : List (List ℕ)) (scope : ℕ → Option Says) (cell 
 with_flop_built table scope cell pins b after cs p some full e = by (connection_nets table scope cs b.made) refl e
   where
     by : (r : Result (List NetId × Made) VerilogFault) → connection_nets table scope cs b.made ≡ r
-        → (r >>= λ placed. Ok (record { made = placed.1; gates = b.gates; flops = b.flops ++ flop_of cell pins placed.0 ∷ [] })) ≡ Ok after → Builds scope b after
+        → (r >>= λ placed. Ok (record { made = placed.1; gates = b.gates; flops = b.flops ++ flop_of cell pins placed.0 ∷ [] })) ≡ Ok after
+        → Builds scope b after
     by (Err fault) is x = absurd cc
     by (Ok placed) is x =
-        let nets = connections_placed table scope cs (no_nets b.made) placed p.placing (All-from_recursion (λ (n : NetId). n.0 < length b.made.names) [] tt) is in
+        let nets = connections_placed table scope cs (no_nets b.made) placed p.placing
+        (All-from_recursion (λ (n : NetId). n.0 < length b.made.names) [] tt) is in
         let new : Built = record { made = placed.1; gates = b.gates; flops = b.flops ++ flop_of cell pins placed.0 ∷ [] } in
         let eq : new ≡ after = cc in
         let all : term_count cs ≡ length cs = all_terms cs full in
@@ -422,7 +466,8 @@ with_flop_built table scope cell pins b after cs p some full e = by (connection_
             flops_within =
                 All-append (FlopWithin (length placed.1.names)) b.flops (flop_of cell pins placed.0 ∷ [])
                 (flops_more (length b.made.names) (length placed.1.names) b.flops nets.goes.grows p.flops_within)
-                (All-from_recursion (FlopWithin (length placed.1.names)) (flop_of cell pins placed.0 ∷ []) (flop_within cell pins (length placed.1.names) placed.0 here nets.within, tt));
+                (All-from_recursion (FlopWithin (length placed.1.names)) (flop_of cell pins placed.0 ∷ [])
+                (flop_within cell pins (length placed.1.names) placed.0 here nets.within, tt));
           };
         })
 
@@ -458,7 +503,7 @@ cell_shape table cs pins e = by (length cs == 3) (list_all has_term cs) refl ref
     by true false f g x = absurd cc
     by false b f g x = absurd cc
 
-with_part_built : (table : List (List ℕ)) (scope : ℕ → Option Says) (b after : Built) (p : Part) → IsBuilding scope b → length p.connections < 4294967296
+with_part_built : (table : List (List ℕ)) (scope : ℕ → Option Says) (b after : Built) (p : Component) → IsBuilding scope b → length p.connections < 4294967296
     → with_part table scope b p ≡ Ok after → Builds scope b after
 unfolding with_part
 with_part_built table scope b after p built short e = by p.shape e
@@ -474,7 +519,9 @@ with_part_built table scope b after p built short e = by p.shape e
     assign true x = with_gates_built table scope Buf b after cs built short (inr refl) x
     assign false x = absurd cc
 
-    cell : (c : Cell) (o : Option Pins) → cell_pins table cs ≡ o → ◌≡◌ {A = Result Built VerilogFault} (elim o [ Some pins ↦ with_flop table scope c pins b cs | None ↦ Err (Terminals p.at) ]) (Ok after) → Builds scope b after
+    cell : (c : Cell) (o : Option Pins) → cell_pins table cs ≡ o
+        → ◌≡◌ {A = Result Built VerilogFault} (elim o [ Some pins ↦ with_flop table scope c pins b cs | None ↦ Err (Terminals p.at) ]) (Ok after)
+        → Builds scope b after
     cell c (Some pins) is x = let shape = cell_shape table cs pins is in with_flop_built table scope c pins b after cs built shape.0 shape.1 x
     cell c None is x = absurd cc
 
@@ -491,16 +538,18 @@ with_part_built table scope b after p built short e = by p.shape e
     by (shapes.Cell c) x = cell c (cell_pins table cs) refl x
     by shapes.Assign x = assign (is_assignment cs) x
 
-pub with_parts_built : (table : List (List ℕ)) (scope : ℕ → Option Says) (b after : Built) (parts : List Part) → IsBuilding scope b → AreShort parts
+pub with_parts_built : (table : List (List ℕ)) (scope : ℕ → Option Says) (b after : Built) (parts : List Component) → IsBuilding scope b → AreShort parts
     → with_parts table scope b parts ≡ Ok after → Builds scope b after
 unfolding each
 with_parts_built table scope b after [] p short e = let eq : b ≡ after = cc in rw (← eq) (record { grows = omega arith; building = p })
-with_parts_built table scope b after (part ∷ parts) p short e = by (λ mid building x. with_parts_built table scope mid after parts building others x) (with_part table scope b part) refl e
+with_parts_built table scope b after (part ∷ parts) p short e = by (λ mid building x. with_parts_built table scope mid after parts building others x)
+    (with_part table scope b part) refl e
   where
     others : AreShort parts
     others = λ k d lt. short (suc k) d (omega (arith, lt))
 
-    by : ((mid : Built) → IsBuilding scope mid → with_parts table scope mid parts ≡ Ok after → Builds scope mid after) → (r : Result Built VerilogFault) → with_part table scope b part ≡ r → (r >>= λ more. with_parts table scope more parts) ≡ Ok after → Builds scope b after
+    by : ((mid : Built) → IsBuilding scope mid → with_parts table scope mid parts ≡ Ok after → Builds scope mid after) → (r : Result Built VerilogFault)
+        → with_part table scope b part ≡ r → (r >>= λ more. with_parts table scope more parts) ≡ Ok after → Builds scope b after
     by rest (Err fault) is x = absurd cc
     by rest (Ok mid) is x =
         let one = with_part_built table scope b mid part p (short 0 part (omega arith)) is in
@@ -526,7 +575,8 @@ with_keys-some (key ∷ keys) h =
     let first = with_key-some [] key in
     omega (arith, first, with_keys-grows (with_key [] key) keys)
 
-numbered_few : (table : List (List ℕ)) (nets : List Known) (count : ℕ) (names : List (List ℕ)) → length names ≤ count → count ≤ 100000 → first_over table count nets ≡ None
+numbered_few : (table : List (List ℕ)) (nets : List Known) (count : ℕ) (names : List (List ℕ)) → length names ≤ count → count ≤ 100000
+    → first_over table count nets ≡ None
     → length (with_keys names (flat_map (keys_of table) nets)) ≤ 100000
 unfolding with_keys
 numbered_few table [] count names within few none = omega (arith, within, few)
@@ -546,7 +596,8 @@ some_keys table k = by (text table k.name) k.range
 some_numbered : (table : List (List ℕ)) (nets : List Known) → 0 < length nets → 0 < length (numbered table nets)
 some_numbered table [] h = absurd (omega (arith, h))
 some_numbered table (k ∷ ks) h =
-    with_keys-some (keys_of table k ++ flat_map (keys_of table) ks) (omega (arith, length-append (keys_of table k) (flat_map (keys_of table) ks), some_keys table k))
+    with_keys-some (keys_of table k ++ flat_map (keys_of table) ks)
+    (omega (arith, length-append (keys_of table k) (flat_map (keys_of table) ks), some_keys table k))
 
 some_ports : (m : Module) → 0 < length m.header → 0 < length (known_nets m)
 unfolding known_nets
@@ -587,7 +638,8 @@ consts_of-within names (key ∷ keys) b some =
     All-append (λ (k : Const). k.net.0 < length names) (here ∷ []) (consts_of b (nets_of names keys))
     (All-from_recursion (λ (k : Const). k.net.0 < length names) (here ∷ []) (net_within names key some, tt)) (consts_of-within names keys b some)
 
-supplies_within : (table names : List (List ℕ)) (ds : List Declared) → (0 < length ds → 0 < length names) → ConstsWithin (length names) (flat_map (supply_consts table names) ds)
+supplies_within : (table names : List (List ℕ)) (ds : List Declared) → (0 < length ds → 0 < length names)
+    → ConstsWithin (length names) (flat_map (supply_consts table names) ds)
 unfolding supply_consts
 supplies_within table names [] some = All-from_recursion (λ (k : Const). k.net.0 < length names) [] tt
 supplies_within table names (d ∷ ds) some =
@@ -598,7 +650,8 @@ supplies_within table names (d ∷ ds) some =
     here (Some b) = consts_of-within names (keys (text table d.name) d.says.range) b (some (omega arith))
     here None = All-from_recursion (λ (k : Const). k.net.0 < length names) [] tt
 
-ports_within : (direction : code.Direction) (table : List (List ℕ)) (scope : ℕ → Option Says) (names : List (List ℕ)) (header : List Name) → (0 < length header → 0 < length names)
+ports_within : (direction : code.Direction) (table : List (List ℕ)) (scope : ℕ → Option Says) (names : List (List ℕ)) (header : List Name)
+    → (0 < length header → 0 < length names)
     → AreWithin (length names) (port_nets direction table scope names header)
 unfolding port_bits
 ports_within direction table scope names [] some = All-from_recursion (λ (n : NetId). n.0 < length names) [] tt
@@ -642,32 +695,38 @@ module_within table m after none short e =
           (ports_within directions.Output table (said m.declared) names m.header some);
     }
 
-pub will_finish : (table : List (List ℕ)) (m : Module) (scope : ℕ → Option Says) (header : List Name) (parts : List Part) (start : Built) → scope ≡ said m.declared
-    → header ≡ m.header → parts ≡ m.parts → start ≡ start_of table m → first_over table 0 (known_nets m) ≡ None → AreShort parts → WillFinish table scope header parts start
+pub will_finish : (table : List (List ℕ)) (m : Module) (scope : ℕ → Option Says) (header : List Name) (parts : List Component) (start : Built)
+    → scope ≡ said m.declared
+    → header ≡ m.header → parts ≡ m.parts → start ≡ start_of table m → first_over table 0 (known_nets m) ≡ None → AreShort parts
+    → WillFinish table scope header parts start
 will_finish table m scope header parts start hs hh hp hb none short =
     let all : AreShort m.parts = rw (← hp) short in
     rw (hs, hh, hp, hb) (record { is = λ after e. module_within table m after none all e })
 
-pub finished_as : (table : List (List ℕ)) (m : Module) (scope : ℕ → Option Says) (header : List Name) (parts : List Part) (start : Built) → scope ≡ said m.declared
+pub finished_as : (table : List (List ℕ)) (m : Module) (scope : ℕ → Option Says) (header : List Name) (parts : List Component) (start : Built)
+    → scope ≡ said m.declared
     → header ≡ m.header → parts ≡ m.parts → start ≡ start_of table m → finished_of table scope header parts start ≡ built_of table m
 unfolding built_of
 finished_as table m scope header parts start hs hh hp hb = rw (hs, hh, hp, hb) refl
 
-pub finished_is : (table : List (List ℕ)) (scope : ℕ → Option Says) (header : List Name) (parts : List Part) (start after : Built) (ins outs : List NetId)
-    → with_parts table scope start parts ≡ Ok after → port_nets directions.Input table scope start.made.names header ≡ ins → port_nets directions.Output table scope start.made.names header ≡ outs
+pub finished_is : (table : List (List ℕ)) (scope : ℕ → Option Says) (header : List Name) (parts : List Component) (start after : Built) (ins outs : List NetId)
+    → with_parts table scope start parts ≡ Ok after → port_nets directions.Input table scope start.made.names header ≡ ins
+    → port_nets directions.Output table scope start.made.names header ≡ outs
     → finished_of table scope header parts start ≡ Ok (parts_with after ins outs)
 finished_is table scope header parts start after ins outs e ei eo =
     let inputs : List NetId = port_nets directions.Input table scope start.made.names header in
     let outputs : List NetId = port_nets directions.Output table scope start.made.names header in
-    ap (λ (r : Result Built VerilogFault). r >>= λ b. Ok (parts_with b inputs outputs)) e ∙ ap (λ i. Ok (parts_with after i outputs)) ei ∙ ap (λ o. Ok (parts_with after ins o)) eo
+    ap (λ (r : Result Built VerilogFault). r >>= λ b. Ok (parts_with b inputs outputs)) e ∙ ap (λ i. Ok (parts_with after i outputs)) ei
+    ∙ ap (λ o. Ok (parts_with after ins o)) eo
 
 -- parts that are short, one after the other
 
-pub short_more : (parts : List Part) (i n : ℕ) (item : Part) → i < length parts → item ≡ get_or parts i item → n ≡ length item.connections → n < 4294967296 → AreShort (take i parts)
+pub short_more : (parts : List Component) (i n : ℕ) (item : Component) → i < length parts → item ≡ get_or parts i item → n ≡ length item.connections → n < 4294967296
+    → AreShort (take i parts)
     → AreShort (take (i + 1) parts)
 short_more parts i n item h is e less so_far =
     let here : length item.connections < 4294967296 = omega (arith, e, less) in
-    All-more (λ (p : Part). length p.connections < 4294967296) parts i item h so_far (rw (← is) here)
+    All-more (λ (p : Component). length p.connections < 4294967296) parts i item h so_far (rw (← is) here)
 
-pub short_all : (parts : List Part) (i : ℕ) → length parts ≤ i → AreShort (take i parts) → AreShort parts
+pub short_all : (parts : List Component) (i : ℕ) → length parts ≤ i → AreShort (take i parts) → AreShort parts
 short_all parts i h so_far = rw (take_all i parts h) at so_far

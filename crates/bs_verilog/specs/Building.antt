@@ -1,29 +1,31 @@
 -- The fourth pass: the nets of terms, and what is built.
 use Rattle.std.specs.Prelude.{ℕ, ◌-◌, Bool, true, false, not, ◌&&◌, ◌==◌, nat_le, if◌then◌else◌, List, [], ◌∷◌, ◌++◌, length, map, take, drop, Option, Some, None, is_some, unwrap_or, Result, Ok, Err, slice_index_or}
+use Rattle.bs_net.specs.declared.limits.TheConstants.{MAX_NETS}
 use Rattle.bs_net.specs.declared.net.NetId.{NetId}
 use Rattle.bs_net.specs.declared.net.Gate.{Gate}
 use Rattle.bs_net.specs.declared.net.Flop.{Flop}
 use Rattle.bs_net.specs.declared.net.Kind.{Kind}
 use Rattle.bs_net.specs.declared.net.Kind.TheVariants.{Buf}
 use Rattle.bs_net.specs.Names.{with_key, number_of}
-use Rattle.bs_verilog.specs.declared.lexeme.Cell.{Cell}
-use Rattle.bs_verilog.specs.declared.lexeme.Cell.TheVariants.{Dffs}
-use Rattle.bs_verilog.specs.declared.syntax.Name.{Name}
-use Rattle.bs_verilog.specs.declared.syntax.Range.{Range}
-use Rattle.bs_verilog.specs.declared.syntax.Says.{Says}
-use Rattle.bs_verilog.specs.declared.syntax.Term.{Term}
-use Rattle.bs_verilog.specs.declared.syntax.Term.TheVariants.{Constant, Named}
-use Rattle.bs_verilog.specs.declared.syntax.Connection.{Connection}
-use Rattle.bs_verilog.specs.declared.syntax.Part.{Part}
-use Rattle.bs_verilog.specs.declared.syntax.Shape.TheVariants as shapes
+use Rattle.bs_lexeme.specs.declared.lexeme.Cell.{Cell}
+use Rattle.bs_lexeme.specs.declared.lexeme.Cell.TheVariants.{Dffs}
+use Rattle.bs_lexeme.specs.declared.lexeme.Name.{Name}
+use Rattle.bs_syntax.specs.declared.tree.Range.{Range}
+use Rattle.bs_syntax.specs.declared.tree.Says.{Says}
+use Rattle.bs_syntax.specs.declared.tree.Term.{Term}
+use Rattle.bs_syntax.specs.declared.tree.Term.TheVariants.{Constant, Named}
+use Rattle.bs_syntax.specs.declared.tree.Connection.{Connection}
+use Rattle.bs_syntax.specs.declared.tree.Component.{Component}
+use Rattle.bs_syntax.specs.declared.tree.Shape.TheVariants as shapes
 use Rattle.bs_verilog.specs.declared.terminals.Pins.{Pins}
 use Rattle.bs_verilog.specs.declared.placing.Made.{Made}
 use Rattle.bs_verilog.specs.declared.building.Built.{Built}
-use Rattle.bs_verilog.specs.declared.fault.What.TheVariants as what
-use Rattle.bs_verilog.specs.declared.fault.VerilogFault.{VerilogFault}
-use Rattle.bs_verilog.specs.declared.fault.VerilogFault.TheVariants.{TooManyNets, Terminals, Index, Unsupported}
-use Rattle.bs_verilog.specs.Reading.{◌>>=◌}
-use Rattle.bs_verilog.specs.Keys.{text, scalar_key, bit_key, constant_key, has_index}
+use Rattle.bs_syntax.specs.declared.fault.What.TheVariants as what
+use Rattle.bs_syntax.specs.declared.fault.VerilogFault.{VerilogFault}
+use Rattle.bs_syntax.specs.declared.fault.VerilogFault.TheVariants.{TooManyNets, Terminals, Index, Unsupported}
+use Rattle.bs_bits.specs.Reading.{◌>>=◌}
+use Rattle.bs_scope.specs.Keys.{text, scalar_key, bit_key, constant_key, has_index}
+use Rattle.bs_scope.specs.Nets.{net_of}
 use Rattle.bs_verilog.specs.Terminals.{term_of, is_single, is_gate, is_assignment, cell_pins}
 
 -- one after another, up to the first fault
@@ -33,15 +35,12 @@ each step b (x ∷ xs) = step b x >>= λ more. each step more xs
 
 -- The nets of terms.
 
-abbrev pub net_of : List (List ℕ) → List ℕ → NetId
-net_of names key = record { 0 = unwrap_or (number_of names key) 0 }
-
 abbrev pub has_key : List (List ℕ) → List ℕ → Bool
 has_key names key = is_some (number_of names key)
 
 -- a key that is new would be one net too many
 abbrev pub is_full : List (List ℕ) → List ℕ → Bool
-is_full names key = not (has_key names key) && nat_le 100000 (length names)
+is_full names key = not (has_key names key) && nat_le MAX_NETS (length names)
 
 -- the net of a term, and what is made with it
 abbrev pub Placed : Type 0
@@ -127,7 +126,7 @@ with_flop table scope cell pins b cs =
     Ok (record { made = placed.1; gates = b.gates; flops = b.flops ++ flop_of cell pins placed.0 ∷ [] })
 
 -- one part more, or its fault: terminals first, then its terms from left to right
-unfoldable pub with_part : List (List ℕ) → (ℕ → Option Says) → Built → Part → Result Built VerilogFault
+unfoldable pub with_part : List (List ℕ) → (ℕ → Option Says) → Built → Component → Result Built VerilogFault
 with_part table scope b p =
     elim p.shape [
       | shapes.Gate kind ↦ if is_gate kind p.connections then with_gates table scope kind b p.connections else Err (Terminals p.at)
@@ -140,5 +139,5 @@ with_part table scope b p =
     ]
 
 -- the parts in file order
-abbrev pub with_parts : List (List ℕ) → (ℕ → Option Says) → Built → List Part → Result Built VerilogFault
+abbrev pub with_parts : List (List ℕ) → (ℕ → Option Says) → Built → List Component → Result Built VerilogFault
 with_parts table scope b parts = each (with_part table scope) b parts

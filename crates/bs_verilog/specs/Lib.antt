@@ -1,20 +1,6 @@
--- The lexemes of a text, and what the second pass reads from them.
-pub mod Lexemes
-pub mod Apart
-pub mod Modules
--- What the parts of the grammar are read as.
-pub mod Reading
-pub mod Unsupported
-pub mod Terms
-pub mod Declarations
-pub mod Parts
--- What the third and the fourth pass make of what was read.
-pub mod Keys
-pub mod Declaring
+-- The netlist that a text is, or its first fault.
+pub mod Netlist
 pub mod Terminals
 pub mod Building
-pub mod Netlist
-pub mod Refusals
--- What their functions promise each other.
-pub mod Checking
+-- What its functions promise each other.
 pub mod Placement

@@ -4,46 +4,34 @@ use Rattle.std.specs.List.{flat_map}
 use Rattle.bs_net.specs.declared.net.NetId.{NetId}
 use Rattle.bs_net.specs.declared.net.Const.{Const}
 use Rattle.bs_net.specs.Parts.{Parts}
-use Rattle.bs_net.specs.Names.{with_key}
 use Rattle.bs_lex.specs.declared.token.Token.{Token}
 use Rattle.bs_lex.specs.Tokens.{tokens_of}
-use Rattle.bs_verilog.specs.declared.syntax.Name.{Name}
-use Rattle.bs_verilog.specs.declared.syntax.Says.{Says}
-use Rattle.bs_verilog.specs.declared.syntax.Module.{Module}
-use Rattle.bs_verilog.specs.declared.syntax.Part.{Part}
-use Rattle.bs_verilog.specs.declared.syntax.Declared.{Declared}
-use Rattle.bs_verilog.specs.declared.syntax.Direction.TheVariants as directions
-use Rattle.bs_verilog.specs.declared.syntax.Direction as code
-use Rattle.bs_verilog.specs.declared.syntax.Net as code_net
-use Rattle.bs_verilog.specs.declared.syntax.Net.TheVariants.{Supply0, Supply1}
-use Rattle.bs_verilog.specs.declared.numbering.Known.{Known}
+use Rattle.bs_lexeme.specs.declared.lexeme.Name.{Name}
+use Rattle.bs_syntax.specs.declared.tree.Says.{Says}
+use Rattle.bs_syntax.specs.declared.tree.Module.{Module}
+use Rattle.bs_syntax.specs.declared.tree.Component.{Component}
+use Rattle.bs_syntax.specs.declared.tree.Declared.{Declared}
+use Rattle.bs_syntax.specs.declared.tree.Direction.TheVariants as directions
+use Rattle.bs_syntax.specs.declared.tree.Direction as code
+use Rattle.bs_syntax.specs.declared.tree.Net as code_net
+use Rattle.bs_syntax.specs.declared.tree.Net.TheVariants.{Supply0, Supply1}
+use Rattle.bs_scope.specs.declared.numbering.Known.{Known}
 use Rattle.bs_verilog.specs.declared.building.Built.{Built}
-use Rattle.bs_verilog.specs.declared.fault.VerilogFault.{VerilogFault}
-use Rattle.bs_verilog.specs.declared.fault.VerilogFault.TheVariants.{Syntax}
-use Rattle.bs_verilog.specs.Lexemes.{lexemes_of, names_of}
-use Rattle.bs_verilog.specs.Reading.{◌>>=◌}
-use Rattle.bs_verilog.specs.Modules.{syntax_of}
-use Rattle.bs_verilog.specs.Keys.{keys, text}
-use Rattle.bs_verilog.specs.Declaring.{said, direction_of, declaring_fault, known, known_nets, keys_of}
-use Rattle.bs_verilog.specs.Building.{net_of, with_parts}
-
--- the names after these keys: each new one takes the next number
-unfoldable pub with_keys : List (List ℕ) → List (List ℕ) → List (List ℕ)
-with_keys names [] = names
-with_keys names (key ∷ keys) = with_keys (with_key names key) keys
-
--- the names of declared nets, a vector's bits from the left bound to the right
-abbrev pub numbered : List (List ℕ) → List Known → List (List ℕ)
-numbered table nets = with_keys [] (flat_map (keys_of table) nets)
+use Rattle.bs_syntax.specs.declared.fault.VerilogFault.{VerilogFault}
+use Rattle.bs_syntax.specs.declared.fault.VerilogFault.TheVariants.{Syntax}
+use Rattle.bs_lexeme.specs.Lexemes.{lexemes_of, names_of}
+use Rattle.bs_bits.specs.Reading.{◌>>=◌}
+use Rattle.bs_syntax.specs.Modules.{syntax_of}
+use Rattle.bs_scope.specs.Keys.{keys, text}
+use Rattle.bs_scope.specs.Declaring.{said, direction_of, declaring_fault, known, known_nets, keys_of}
+use Rattle.bs_scope.specs.Nets.{numbered, nets_of}
+use Rattle.bs_verilog.specs.Building.{with_parts}
 
 -- the direction is this one
 abbrev pub is_towards : code.Direction → Option code.Direction → Bool
 is_towards directions.Input (Some directions.Input) = true
 is_towards directions.Output (Some directions.Output) = true
 is_towards _ _ = false
-
-abbrev pub nets_of : List (List ℕ) → List (List ℕ) → List NetId
-nets_of names keys = map (net_of names) keys
 
 -- the bits of a port, where it has this direction
 unfoldable pub port_bits : code.Direction → List (List ℕ) → (ℕ → Option Says) → List (List ℕ) → Name → List NetId
@@ -83,7 +71,7 @@ start_of table m =
     record { made = record { names = names; consts = flat_map (supply_consts table names) m.declared }; gates = []; flops = [] }
 
 -- what parts build in file order after what stands before them, with the ports by the names that stand before
-abbrev pub finished_of : List (List ℕ) → (ℕ → Option Says) → List Name → List Part → Built → Result Parts VerilogFault
+abbrev pub finished_of : List (List ℕ) → (ℕ → Option Says) → List Name → List Component → Built → Result Parts VerilogFault
 finished_of table scope header parts start =
     with_parts table scope start parts >>= λ b.
     Ok (parts_with b (port_nets directions.Input table scope start.made.names header) (port_nets directions.Output table scope start.made.names header))

@@ -4,12 +4,12 @@ use Rattle.std.specs.List.{list_any, list_all}
 use Rattle.std.specs.Str.{bytes_eq}
 use Rattle.bs_net.specs.declared.net.Kind.{Kind}
 use Rattle.bs_net.specs.declared.net.Kind.TheVariants.{Buf, Not}
-use Rattle.bs_verilog.specs.declared.syntax.Term.{Term}
-use Rattle.bs_verilog.specs.declared.syntax.Term.TheVariants.{Constant}
-use Rattle.bs_verilog.specs.declared.syntax.Connection.{Connection}
-use Rattle.bs_verilog.specs.declared.syntax.Connection.TheVariants.{Empty, Place, Pin}
+use Rattle.bs_syntax.specs.declared.tree.Term.{Term}
+use Rattle.bs_syntax.specs.declared.tree.Term.TheVariants.{Constant}
+use Rattle.bs_syntax.specs.declared.tree.Connection.{Connection}
+use Rattle.bs_syntax.specs.declared.tree.Connection.TheVariants.{Empty, Place, Pin}
 use Rattle.bs_verilog.specs.declared.terminals.Pins.{Pins}
-use Rattle.bs_verilog.specs.Keys.{text}
+use Rattle.bs_scope.specs.Keys.{text}
 
 abbrev pub term_of : Connection → Option Term
 term_of (Place t) = Some t

@@ -1,17 +1,16 @@
 //! The fourth pass: gates, flip-flops and constants.
 ghost use Rattle.std.specs.Prelude.{◌≡◌, ◌<◌, ◌≤◌, ◌-◌, ◌++◌, [], ◌∷◌, length, Ok, map, take, drop};
-ghost use Rattle.bs_verilog.specs.Reading.{Gives};
-ghost use Rattle.bs_verilog.specs.Checking.{Makes, looked};
+ghost use Rattle.bs_scope.specs.Checking.{looked};
 ghost use Rattle.bs_verilog.specs.Building as spec;
+ghost use Rattle.bs_bits.specs.Reading.{Answers};
+ghost use Rattle.bs_syntax.specs.declared.fault.VerilogFault.TheVariants.{NoMemory as want};
 
-use crate::fault::VerilogFault;
-use crate::lexeme::Cell;
-use crate::naming::Table;
 use crate::placing::{Made, connection_nets};
-use crate::syntax::{Connection, Part, Says, Shape};
 use crate::terminals::{Pins, cell_pins, is_assignment, is_gate, is_single};
 use bs_bits::List;
+use bs_lexeme::{Cell, Table};
 use bs_net::{Flop, Gate, Kind, NetId, Terms};
+use bs_syntax::{Component, Connection, Says, Shape, VerilogFault};
 use std::alloc::Global;
 
 /// What the parts so far have built.
@@ -29,7 +28,7 @@ fn net_at(nets: &[NetId], place: usize) -> NetId
 }
 
 fn one_term(alloc: Global, net: NetId) -> Result<Terms, VerilogFault>
-    ensures { Gives (λ t. t) result (Ok (net ∷ [])) }
+    ensures { Answers want (λ t. t) result (Ok (net ∷ [])) }
 {
     let mut terms = Terms::new(alloc);
     terms.push(net)?;
@@ -37,7 +36,7 @@ fn one_term(alloc: Global, net: NetId) -> Result<Terms, VerilogFault>
 }
 
 fn terms_of(alloc: Global, nets: &[NetId]) -> Result<Terms, VerilogFault>
-    ensures { Gives (λ t. t) result (Ok nets.now) }
+    ensures { Answers want (λ t. t) result (Ok nets.now) }
 {
     let mut terms = Terms::new(alloc);
     'nets: for net in nets {
@@ -54,7 +53,7 @@ fn add_single_gates(
     outputs: &[NetId],
     input: NetId,
 ) -> Result<(), VerilogFault>
-    ensures { Makes result (λ _. gates.new) (Ok (gates.old ++ map (λ out. record { kind = kind; out = out; ins = input ∷ [] }) outputs.now)) }
+    ensures { Answers want (λ _. gates.new) result (Ok (gates.old ++ map (λ out. record { kind = kind; out = out; ins = input ∷ [] }) outputs.now)) }
 {
     'outputs: for out in outputs {
         let ins = one_term(alloc, input)?;
@@ -89,7 +88,7 @@ fn add_gates(
     kind: Kind,
     nets: &[NetId],
 ) -> Result<(), VerilogFault>
-    ensures { Makes result (λ _. gates.new) (Ok (gates.old ++ spec.gates_of kind nets.now)) }
+    ensures { Answers want (λ _. gates.new) result (Ok (gates.old ++ spec.gates_of kind nets.now)) }
 {
     if is_single(kind) {
         let input = net_at(nets, nets.len().saturating_sub(1));
@@ -132,7 +131,7 @@ fn with_gates(
     kind: Kind,
     cs: &[Connection],
 ) -> Result<(), VerilogFault>
-    ensures { Makes result (λ _. built.new) (spec.with_gates table.now (looked scope.now) kind built.old cs.now) }
+    ensures { Answers want (λ _. built.new) result (spec.with_gates table.now (looked scope.now) kind built.old cs.now) }
 {
     let nets = connection_nets(alloc, &mut built.made, table, scope, cs)?;
     add_gates(alloc, &mut built.gates, kind, &nets)?;
@@ -148,7 +147,7 @@ fn with_flop(
     pins: Pins,
     cs: &[Connection],
 ) -> Result<(), VerilogFault>
-    ensures { Makes result (λ _. built.new) (spec.with_flop table.now (looked scope.now) cell pins built.old cs.now) }
+    ensures { Answers want (λ _. built.new) result (spec.with_flop table.now (looked scope.now) cell pins built.old cs.now) }
 {
     let nets = connection_nets(alloc, &mut built.made, table, scope, cs)?;
     built.flops.push(flop_of(cell, pins, &nets))?;
@@ -162,9 +161,9 @@ fn with_part(
     built: &mut Built,
     table: &Table,
     scope: &[Option<Says>],
-    part: &Part,
+    part: &Component,
 ) -> Result<(), VerilogFault>
-    ensures { Makes result (λ _. built.new) (spec.with_part table.now (looked scope.now) built.old part.now) }
+    ensures { Answers want (λ _. built.new) result (spec.with_part table.now (looked scope.now) built.old part.now) }
 {
     let cs = part.connections.slice();
     match part.shape {
@@ -195,9 +194,9 @@ pub fn with_parts(
     built: &mut Built,
     table: &Table,
     scope: &[Option<Says>],
-    parts: &[Part],
+    parts: &[Component],
 ) -> Result<(), VerilogFault>
-    ensures { Makes result (λ _. built.new) (spec.with_parts table.now (looked scope.now) built.old parts.now) }
+    ensures { Answers want (λ _. built.new) result (spec.with_parts table.now (looked scope.now) built.old parts.now) }
 {
     'parts: for part in parts {
         with_part(alloc, built, table, scope, part)?;

@@ -2,31 +2,13 @@
 #![tactic(auto)]
 
 mod building;
-mod declarations;
-mod declaring;
-mod fault;
-mod keys;
-mod law;
-mod lexeme;
-mod listing;
-mod modules;
-mod naming;
 mod netlist;
-mod numbering;
-mod parts;
 mod placing;
 mod ports;
 mod reader;
-mod reading;
-mod scope;
-mod syntax;
 mod terminals;
-mod terms;
-#[cfg(test)]
-mod tests;
-mod unsupported;
-mod words;
 
-pub use fault::{VerilogFault, What};
-pub use law::numbers_are_told_apart;
+pub use bs_lexeme::numbers_are_told_apart;
+pub use bs_syntax::{VerilogFault, What};
+pub use netlist::meaning;
 pub use reader::read;

@@ -1,23 +1,22 @@
 //! The parts of a netlist, from what a module says.
 ghost use Rattle.std.specs.Prelude.{◌≡◌, ◌<◌, ◌≤◌, ◌^◌, ℕ, [], length, Ok, None, MatchResult};
 ghost use Rattle.bs_net.specs.Netlist.{parts_of};
-ghost use Rattle.bs_verilog.specs.Reading.{Gives};
-ghost use Rattle.bs_verilog.specs.Checking.{looked};
+ghost use Rattle.bs_scope.specs.Checking.{looked};
 ghost use Rattle.bs_verilog.specs.Placement.{AreShort, IsFinished, WillFinish};
-ghost use Rattle.bs_verilog.specs.Declaring as declaring_spec;
+ghost use Rattle.bs_scope.specs.Declaring as declaring_spec;
 ghost use Rattle.bs_verilog.specs.Netlist as spec;
-ghost use Rattle.bs_verilog.specs.declared.fault.VerilogFault.TheVariants.{NoMemory as OutOfMemory};
+ghost use Rattle.bs_syntax.specs.declared.fault.VerilogFault.TheVariants.{NoMemory as OutOfMemory};
+ghost use Rattle.bs_bits.specs.Reading.{Answers};
+ghost use Rattle.bs_syntax.specs.declared.fault.VerilogFault.TheVariants.{NoMemory as want};
 
 use crate::building::{Built, with_parts};
-use crate::declaring::declare;
-use crate::fault::VerilogFault;
-use crate::naming::Table;
-use crate::numbering::{Known, numbered};
 use crate::placing::Made;
 use crate::ports::{port_nets, supplies};
-use crate::syntax::{Direction, Module, Name, Part, Says};
 use bs_bits::List;
+use bs_lexeme::{Name, Table};
 use bs_net::{NetId, Raw};
+use bs_scope::{Known, declare, numbered};
+use bs_syntax::{Component, Direction, Module, Says, VerilogFault};
 use std::alloc::Global;
 
 /// A list of 2^32 members and more is past the memory that a text of 16 MiB can ask for.
@@ -32,7 +31,7 @@ fn short(count: usize) -> Result<(), VerilogFault>
 }
 
 /// Each part has fewer than 2^32 connections.
-fn short_parts(parts: &[Part]) -> Result<(), VerilogFault>
+fn short_parts(parts: &[Component]) -> Result<(), VerilogFault>
     ensures { MatchResult result (λ _. AreShort parts.now) (λ fault. fault ≡ OutOfMemory) }
 {
     'parts: for part in parts {
@@ -44,7 +43,7 @@ fn short_parts(parts: &[Part]) -> Result<(), VerilogFault>
 /// The parts of a netlist.
 fn raw_of(built: Built, inputs: List<NetId>, outputs: List<NetId>) -> Result<Raw, VerilogFault>
     requires { IsFinished built inputs outputs }
-    ensures { Gives parts_of result (Ok (spec.parts_with built inputs outputs)) }
+    ensures { Answers want parts_of result (Ok (spec.parts_with built inputs outputs)) }
 {
     short(inputs.len())?;
     short(outputs.len())?;
@@ -65,7 +64,7 @@ fn raw_of(built: Built, inputs: List<NetId>, outputs: List<NetId>) -> Result<Raw
 fn start(alloc: Global, table: &Table, top: &Module, nets: &[Known]) -> Result<Built, VerilogFault>
     requires nets { nets.now ≡ declaring_spec.known_nets top.now }
     requires few { declaring_spec.first_over table.now 0 nets.now ≡ None }
-    ensures { Gives (λ b. b) result (Ok (spec.start_of table.now top.now)) }
+    ensures { Answers want (λ b. b) result (Ok (spec.start_of table.now top.now)) }
 {
     let names = numbered(alloc, table, nets)?;
     let consts = supplies(alloc, table, &names, top.declared.slice())?;
@@ -82,11 +81,11 @@ fn finished(
     table: &Table,
     scope: &[Option<Says>],
     header: &[Name],
-    parts: &[Part],
+    parts: &[Component],
     start: Built,
 ) -> Result<Raw, VerilogFault>
     requires { WillFinish table.now (looked scope.now) header.now parts.now start }
-    ensures { Gives parts_of result (spec.finished_of table.now (looked scope.now) header.now parts.now start) }
+    ensures { Answers want parts_of result (spec.finished_of table.now (looked scope.now) header.now parts.now start) }
 {
     let inputs = port_nets(
         alloc,
@@ -120,7 +119,7 @@ fn built(
     requires scope { looked scope.now ≡ declaring_spec.said top.now.declared }
     requires nets { nets.now ≡ declaring_spec.known_nets top.now }
     requires few { declaring_spec.many_fault table.now nets.now ≡ None }
-    ensures { Gives parts_of result (spec.built_of table.now top.now) }
+    ensures { Answers want parts_of result (spec.built_of table.now top.now) }
 {
     let header = top.header.slice();
     let parts = top.parts.slice();
@@ -132,7 +131,7 @@ fn built(
 /// The third pass, and the fourth.
 #[tactic(auto, unfolding(crate::specs::Netlist::meaning_of))]
 pub fn meaning(alloc: Global, table: &Table, top: &Module) -> Result<Raw, VerilogFault>
-    ensures { Gives parts_of result (spec.meaning_of table.now top.now) }
+    ensures { Answers want parts_of result (spec.meaning_of table.now top.now) }
 {
     let declarations = declare(alloc, table, top)?;
     built(

@@ -1,18 +1,17 @@
 //! The nets of terms.
 ghost use Rattle.std.specs.Prelude.{◌≡◌, ◌<◌, ◌≤◌, ◌++◌, [], length, Ok, string_bytes};
-ghost use Rattle.bs_verilog.specs.Reading.{Gives};
-ghost use Rattle.bs_verilog.specs.Checking.{Makes, looked};
-ghost use Rattle.bs_verilog.specs.Keys as keys_spec;
+ghost use Rattle.bs_scope.specs.Checking.{looked};
+ghost use Rattle.bs_scope.specs.Keys as keys_spec;
 ghost use Rattle.bs_verilog.specs.Building as spec;
+ghost use Rattle.bs_bits.specs.Reading.{Answers};
+ghost use Rattle.bs_syntax.specs.declared.fault.VerilogFault.TheVariants.{NoMemory as want};
 
-use crate::fault::{VerilogFault, What};
-use crate::keys::{bit_key, constant_key, has_index, scalar_key};
-use crate::naming::Table;
-use crate::scope::entry;
-use crate::syntax::{Connection, Name, Range, Says, Term};
 use crate::terminals::term_of;
 use bs_bits::List;
-use bs_net::{Const, Names, NetId};
+use bs_lexeme::{Name, Table};
+use bs_net::{Const, MAX_NETS, Names, NetId};
+use bs_scope::{bit_key, constant_key, entry, has_index, net_of, scalar_key};
+use bs_syntax::{Connection, Range, Says, Term, VerilogFault, What};
 use std::alloc::Global;
 
 /// What the terms so far have made: the names in net order, and the constants.
@@ -20,13 +19,6 @@ use std::alloc::Global;
 pub struct Made {
     pub names: Names,
     pub consts: List<Const>,
-}
-
-/// The net of a key that is there.
-pub fn net_of(names: &Names, key: &str) -> NetId
-    ensures { result ≡ spec.net_of names.now key.now }
-{
-    names.number(key).unwrap_or(NetId(0))
 }
 
 fn has_key(names: &Names, key: &str) -> bool
@@ -39,7 +31,7 @@ fn is_full(names: &Names, key: &str) -> bool
     ensures { result ≡ spec.is_full names.now key.now }
 {
     let known = has_key(names, key);
-    !known && 100000 <= names.len()
+    !known && MAX_NETS <= names.len()
 }
 
 #[tactic(auto, unfolding(crate::specs::Building::implicit_net))]
@@ -50,7 +42,7 @@ fn implicit_net(
     name: Name,
     index: Option<u32>,
 ) -> Result<NetId, VerilogFault>
-    ensures { Makes result (λ net. (net, made.new)) (spec.implicit_net key.now name index made.old) }
+    ensures { Answers want (λ net. (net, made.new)) result (spec.implicit_net key.now name index made.old) }
 {
     if is_full(&made.names, key) {
         return Err(VerilogFault::TooManyNets(name.at));
@@ -70,7 +62,7 @@ fn declared_key(
     name: Name,
     index: Option<u32>,
 ) -> Result<String, VerilogFault>
-    ensures { Gives (λ key. string_bytes key) result (spec.declared_key text.now range name index) }
+    ensures { Answers want (λ key. string_bytes key) result (spec.declared_key text.now range name index) }
 {
     match range {
         None => match index {
@@ -98,7 +90,7 @@ fn declared_key(
 
 #[tactic(auto, unfolding(crate::specs::Building::constant_net))]
 fn constant_net(alloc: Global, made: &mut Made, at: u32, bit: bool) -> Result<NetId, VerilogFault>
-    ensures { Makes result (λ net. (net, made.new)) (spec.constant_net at bit made.old) }
+    ensures { Answers want (λ net. (net, made.new)) result (spec.constant_net at bit made.old) }
 {
     let key = constant_key(bit);
     if is_full(&made.names, key) {
@@ -121,7 +113,7 @@ fn named_net(
     name: Name,
     index: Option<u32>,
 ) -> Result<NetId, VerilogFault>
-    ensures { Makes result (λ net. (net, made.new)) (spec.named_net text.now says name index made.old) }
+    ensures { Answers want (λ net. (net, made.new)) result (spec.named_net text.now says name index made.old) }
 {
     match says {
         Some(said) => {
@@ -143,7 +135,7 @@ fn term_net(
     scope: &[Option<Says>],
     term: Term,
 ) -> Result<NetId, VerilogFault>
-    ensures { Makes result (λ net. (net, made.new)) (spec.term_net table.now (looked scope.now) term made.old) }
+    ensures { Answers want (λ net. (net, made.new)) result (spec.term_net table.now (looked scope.now) term made.old) }
 {
     match term {
         Term::Constant(at, bit) => constant_net(alloc, made, at, bit),
@@ -164,7 +156,7 @@ fn place(
     scope: &[Option<Says>],
     c: Connection,
 ) -> Result<(), VerilogFault>
-    ensures { Makes result (λ _. (nets.new.items, made.new)) (spec.with_connection table.now (looked scope.now) (nets.old.items, made.old) c) }
+    ensures { Answers want (λ _. (nets.new.items, made.new)) result (spec.with_connection table.now (looked scope.now) (nets.old.items, made.old) c) }
 {
     match term_of(c) {
         Some(term) => {
@@ -184,7 +176,7 @@ pub fn connection_nets(
     scope: &[Option<Says>],
     cs: &[Connection],
 ) -> Result<Vec<NetId>, VerilogFault>
-    ensures { Makes result (λ nets. (nets.items, made.new)) (spec.connection_nets table.now (looked scope.now) cs.now made.old) }
+    ensures { Answers want (λ nets. (nets.items, made.new)) result (spec.connection_nets table.now (looked scope.now) cs.now made.old) }
 {
     let mut nets = Vec::new(alloc);
     'connections: for c in cs {

@@ -1,74 +1,17 @@
 //! The nets of ports and of supplies.
 ghost use Rattle.std.specs.Prelude.{◌≡◌, ◌<◌, ◌≤◌, ◌++◌, [], ◌∷◌, length, Ok, Some, map};
 ghost use Rattle.std.specs.List.{flat_map};
-ghost use Rattle.bs_verilog.specs.Reading.{Gives};
-ghost use Rattle.bs_verilog.specs.Checking.{Makes, looked};
-ghost use Rattle.bs_verilog.specs.Keys as keys_spec;
-ghost use Rattle.bs_verilog.specs.Building as building_spec;
+ghost use Rattle.bs_scope.specs.Checking.{looked};
 ghost use Rattle.bs_verilog.specs.Netlist as spec;
+ghost use Rattle.bs_bits.specs.Reading.{Answers};
+ghost use Rattle.bs_syntax.specs.declared.fault.VerilogFault.TheVariants.{NoMemory as want};
 
-use crate::fault::VerilogFault;
-use crate::keys::{bit_key, index_at, scalar_key, width};
-use crate::naming::Table;
-use crate::numbering::known_net;
-use crate::placing::net_of;
-use crate::scope::{direction_of, entry};
-use crate::syntax::{Declared, Direction, Name, Net, Range, Says};
 use bs_bits::List;
+use bs_lexeme::{Name, Table};
 use bs_net::{Const, Names, NetId};
+use bs_scope::{direction_of, entry, known_net, nets_of};
+use bs_syntax::{Declared, Direction, Net, Says, VerilogFault};
 use std::alloc::Global;
-
-/// The nets of a vector's bits, from the left bound to the right.
-fn bit_nets(
-    alloc: Global,
-    names: &Names,
-    name: &str,
-    range: Range,
-) -> Result<Vec<NetId>, VerilogFault>
-    ensures { Gives (λ v. v.items) result (Ok (spec.nets_of names.now (keys_spec.keys name.now (Some range)))) }
-{
-    let mut nets = Vec::new(alloc);
-    let count = width(range);
-    'bits: for bit in 0..count {
-        let key = bit_key(alloc, name, index_at(range, bit))?;
-        nets.push(net_of(names, &key))?;
-    }
-    Ok(nets)
-}
-
-fn scalar_net(alloc: Global, names: &Names, name: &str) -> Result<NetId, VerilogFault>
-    ensures { Gives (λ n. n) result (Ok (building_spec.net_of names.now (keys_spec.scalar_key name.now))) }
-{
-    let key = scalar_key(alloc, name)?;
-    Ok(net_of(names, &key))
-}
-
-fn one_net(alloc: Global, net: NetId) -> Result<Vec<NetId>, VerilogFault>
-    ensures { Gives (λ v. v.items) result (Ok (net ∷ [])) }
-{
-    let mut nets = Vec::new(alloc);
-    nets.push(net)?;
-    Ok(nets)
-}
-
-/// The nets of a declared name.
-#[tactic(auto, unfolding(crate::specs::Keys::keys))]
-fn nets_of(
-    alloc: Global,
-    names: &Names,
-    name: &str,
-    range: Option<Range>,
-) -> Result<Vec<NetId>, VerilogFault>
-    ensures { Gives (λ v. v.items) result (Ok (spec.nets_of names.now (keys_spec.keys name.now range))) }
-{
-    match range {
-        None => {
-            let net = scalar_net(alloc, names, name)?;
-            one_net(alloc, net)
-        }
-        Some(r) => bit_nets(alloc, names, name, r),
-    }
-}
 
 fn is_towards(direction: Direction, of: Option<Direction>) -> bool
     ensures { result ≡ spec.is_towards direction of }
@@ -88,7 +31,7 @@ fn is_towards(direction: Direction, of: Option<Direction>) -> bool
 }
 
 fn add_nets(into: &mut List<NetId>, nets: &[NetId]) -> Result<(), VerilogFault>
-    ensures { Makes result (λ _. into.new) (Ok (into.old ++ nets.now)) }
+    ensures { Answers want (λ _. into.new) result (Ok (into.old ++ nets.now)) }
 {
     'nets: for net in nets {
         into.push(*net)?;
@@ -107,7 +50,7 @@ fn add_port(
     names: &Names,
     name: Name,
 ) -> Result<(), VerilogFault>
-    ensures { Makes result (λ _. ports.new) (Ok (ports.old ++ spec.port_bits direction table.now (looked scope.now) names.now name)) }
+    ensures { Answers want (λ _. ports.new) result (Ok (ports.old ++ spec.port_bits direction table.now (looked scope.now) names.now name)) }
 {
     let says = entry(scope, name.id);
     if !is_towards(direction, direction_of(says)) {
@@ -127,7 +70,7 @@ pub fn port_nets(
     names: &Names,
     header: &[Name],
 ) -> Result<List<NetId>, VerilogFault>
-    ensures { Gives (λ l. l) result (Ok (spec.port_nets direction table.now (looked scope.now) names.now header.now)) }
+    ensures { Answers want (λ l. l) result (Ok (spec.port_nets direction table.now (looked scope.now) names.now header.now)) }
 {
     let mut ports = List::new(alloc);
     'ports: for name in header {
@@ -148,7 +91,7 @@ fn supplied(net: Option<Net>) -> Option<bool>
 }
 
 fn add_consts(consts: &mut List<Const>, nets: &[NetId], value: bool) -> Result<(), VerilogFault>
-    ensures { Makes result (λ _. consts.new) (Ok (consts.old ++ spec.consts_of value nets.now)) }
+    ensures { Answers want (λ _. consts.new) result (Ok (consts.old ++ spec.consts_of value nets.now)) }
 {
     'nets: for net in nets {
         consts.push(Const { net: *net, value })?;
@@ -165,7 +108,7 @@ fn add_supply(
     names: &Names,
     d: Declared,
 ) -> Result<(), VerilogFault>
-    ensures { Makes result (λ _. consts.new) (Ok (consts.old ++ spec.supply_consts table.now names.now d)) }
+    ensures { Answers want (λ _. consts.new) result (Ok (consts.old ++ spec.supply_consts table.now names.now d)) }
 {
     match supplied(d.says.net) {
         Some(value) => {
@@ -183,7 +126,7 @@ pub fn supplies(
     names: &Names,
     declared: &[Declared],
 ) -> Result<List<Const>, VerilogFault>
-    ensures { Gives (λ l. l) result (Ok (flat_map (spec.supply_consts table.now names.now) declared.now)) }
+    ensures { Answers want (λ l. l) result (Ok (flat_map (spec.supply_consts table.now names.now) declared.now)) }
 {
     let mut consts = List::new(alloc);
     'declared: for d in declared {

@@ -1,23 +1,24 @@
 //! The reader of a netlist text.
 ghost use Rattle.std.specs.Prelude.{◌≡◌, ◌≤◌, length, IfOk};
 ghost use Rattle.bs_net.specs.Netlist.{parts_of};
-ghost use Rattle.bs_lex.specs.Placing.{ArePlaced};
-ghost use Rattle.bs_verilog.specs.Reading.{Gives};
+ghost use Rattle.bs_lex.specs.declared.limits.TheConstants.{MAX_BYTES};
+ghost use Rattle.bs_lex.specs.Placing.{AreTokensOf};
 ghost use Rattle.bs_verilog.specs.Netlist.{netlist_text, tokenised};
+ghost use Rattle.bs_bits.specs.Reading.{Answers};
+ghost use Rattle.bs_syntax.specs.declared.fault.VerilogFault.TheVariants.{NoMemory as want};
 
-use crate::fault::VerilogFault;
-use crate::modules::syntax;
-use crate::naming::lexemes;
 use crate::netlist::meaning;
 use bs_lex::{LexFault, TokenList, tokens};
+use bs_lexeme::lexemes;
 use bs_net::Raw;
+use bs_syntax::{VerilogFault, syntax};
 use std::alloc::Global;
 
 /// The tokens of a text. The lexer's fault is a fault of syntax.
 fn tokens_of(alloc: Global, bytes: &[u8]) -> Result<TokenList, VerilogFault>
-    requires { length bytes.now ≤ 16777216 }
-    ensures tokens { Gives (λ ts. ts) result (tokenised bytes.now) }
-    ensures placed { IfOk result (λ ts. ArePlaced bytes.now ts) }
+    requires { length bytes.now ≤ MAX_BYTES }
+    ensures tokens { Answers want (λ ts. ts) result (tokenised bytes.now) }
+    ensures placed { IfOk result (λ ts. AreTokensOf bytes.now ts) }
 {
     match tokens(alloc, bytes) {
         Ok(list) => Ok(list),
@@ -31,8 +32,8 @@ fn tokens_of(alloc: Global, bytes: &[u8]) -> Result<TokenList, VerilogFault>
 /// grammar, declarations, terms.
 #[tactic(auto, unfolding(crate::specs::Netlist::netlist_text))]
 pub fn read(alloc: Global, bytes: &[u8]) -> Result<Raw, VerilogFault>
-    requires { length bytes.now ≤ 16777216 }
-    ensures { Gives parts_of result (netlist_text bytes.now) }
+    requires { length bytes.now ≤ MAX_BYTES }
+    ensures { Answers want parts_of result (netlist_text bytes.now) }
 {
     let tokens = tokens_of(alloc, bytes)?;
     let (lexemes, table) = lexemes(alloc, bytes, tokens.slice())?;

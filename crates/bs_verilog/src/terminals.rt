@@ -2,11 +2,11 @@
 ghost use Rattle.std.specs.Prelude.{◌≡◌, ◌<◌, ◌≤◌, length, take, position, slice_index_or};
 ghost use Rattle.std.specs.List.{list_all, list_any};
 ghost use Rattle.bs_verilog.specs.Terminals as spec;
-ghost use Rattle.bs_verilog.specs.declared.syntax.Connection.TheVariants.{Empty};
+ghost use Rattle.bs_syntax.specs.declared.tree.Connection.TheVariants.{Empty};
 
-use crate::naming::Table;
-use crate::syntax::{Connection, Term};
+use bs_lexeme::Table;
 use bs_net::Kind;
+use bs_syntax::{Connection, Term};
 
 /// Where a cell's clock, output and input stand among its connections.
 #[derive(Clone, Copy, Debug, PartialEq, Eq)]

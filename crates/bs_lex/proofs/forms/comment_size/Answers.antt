@@ -6,7 +6,8 @@ pub bytes-init : goal.bytes-init
 bytes-init c = after-zero _
 
 pub returns-then-closes_comment-clause-size : goal.returns-then-closes_comment-clause-size
-returns-then-closes_comment-clause-size c = comment_found c.args.text.now c.bytes.at _ _ c.bytes-test.true c.byte_at.ensures (sym c.if-closes_comment.ensures) c.bytes.invariant
+returns-then-closes_comment-clause-size c = comment_found c.args.text.now c.bytes.at _ _ c.bytes-test.true c.byte_at.ensures
+    (sym c.if-closes_comment.ensures) c.bytes.invariant
 
 pub bytes-preserved : goal.bytes-preserved
 bytes-preserved c = comment_on c.args.text.now c.bytes.at _ _ c.bytes-test.true c.byte_at.ensures (sym c.if-closes_comment.ensures) c.bytes.invariant

@@ -6,20 +6,28 @@ use Rattle.bs_lex.proofs.scan.tokens.Goals as goal
 
 pub loop-at-preserved-in-Passed : goal.loop-at-preserved-in-Passed
 loop-at-preserved-in-Passed c = record {
-  next = on_passed c.loop-at.items.items c.loop-at.at c.in-Passed.size c.args.bytes.now _ c.loop-at-test.true c.in-Passed.ensures.piece c.in-Passed.ensures.within c.loop-at.invariant.next;
+  next = on_passed c.loop-at.items.items c.loop-at.at c.in-Passed.size c.args.bytes.now _ c.loop-at-test.true c.in-Passed.ensures.piece
+      c.in-Passed.ensures.within c.loop-at.invariant.next;
   placed = further c.args.bytes.now c.loop-at.at c.in-Passed.size c.loop-at.items.items c.loop-at.invariant.placed;
 }
 
 pub loop-at-preserved : goal.loop-at-preserved
 loop-at-preserved c =
     rw c.in_ok-push-in-Made.ensures.items (record {
-      next = on_made c.loop-at.items.items c.loop-at.at c.in-Made.size c.in-Made.kind c.args.bytes.now (tokens_of c.args.bytes.now) c.loop-at-test.true c.in-Made.ensures.piece c.in-Made.ensures.within c.loop-at.invariant.next;
-      placed = one_made c.args.bytes.now c.loop-at.at c.in-Made.size c.in-Made.kind c.loop-at.items.items c.loop-at-test.true c.in-Made.ensures.piece c.in-Made.ensures.within c.loop-at.invariant.placed;
+      next = on_made c.loop-at.items.items c.loop-at.at c.in-Made.size c.in-Made.kind c.args.bytes.now
+          (tokens_of c.args.bytes.now) c.loop-at-test.true c.in-Made.ensures.piece c.in-Made.ensures.within c.loop-at.invariant.next;
+      placed = one_made c.args.bytes.now c.loop-at.at c.in-Made.size c.in-Made.kind c.loop-at.items.items c.loop-at-test.true c.in-Made.ensures.piece
+          c.in-Made.ensures.within c.loop-at.invariant.placed;
     })
 
 pub returns-in-Bad-clause-tokens : goal.returns-in-Bad-clause-tokens
 returns-in-Bad-clause-tokens c =
-    inr (c.loop-at.at + c.in-Bad.ahead, refl, on_bad c.loop-at.items.items c.loop-at.at c.in-Bad.ahead c.args.bytes.now _ c.loop-at-test.true c.in-Bad.ensures.piece c.loop-at.invariant.next)
+    inr (
+      c.loop-at.at + c.in-Bad.ahead,
+      refl,
+      on_bad c.loop-at.items.items c.loop-at.at c.in-Bad.ahead c.args.bytes.now _ c.loop-at-test.true
+          c.in-Bad.ensures.piece c.loop-at.invariant.next,
+    )
 
 pub returns-clause-tokens : goal.returns-clause-tokens
 returns-clause-tokens c = at_end c.loop-at.items.items c.loop-at.at c.args.bytes.now _ c.loop-at-test.false c.loop-at.invariant.next.1

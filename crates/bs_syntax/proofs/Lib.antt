@@ -1,0 +1,5 @@
+pub mod ListingLemmas
+pub mod AttributeLemmas
+pub mod CarryLemmas
+pub mod BodyLemmas
+pub mod CellLemmas

@@ -1,0 +1,10 @@
+-- The top module as written, or the first fault.
+pub mod Modules
+-- What the parts of the grammar are read as.
+pub mod Reading
+pub mod Unsupported
+pub mod Terms
+pub mod Declarations
+pub mod Parts
+-- The words by which a refusal names what is left out.
+pub mod Refusals

@@ -1,5 +1,0 @@
-use Rattle.bs_verilog.proofs.NamingLemmas.{AreNamed}
-use Rattle.bs_verilog.proofs.naming.lexemes.Given as goal
-
-abbrev pub invariant-each : goal.invariant-each
-invariant-each l = AreNamed l.source l.tokens l.token-index l.table l.lexemes
