@@ -83,7 +83,7 @@ only_reset crash r good n c last hits enough stops.Length s =
     let h = hits last.last last.place in
     let at_reset : h.hit.cycle ≡ 0 = omega (arith, h.low, s.0, last.long) in
     let now : last_present crash (Some (present_in crash.dump)) r.steps ≡ Some (present_of_hit crash h.hit) =
-        last.present ∙ ap (option_map (present_of_hit crash)) h.is in
+    last.present ∙ ap (option_map (present_of_hit crash)) h.is in
     absurd
     (subst (λ (o : Option Present). IsSomeAnd o (λ (now : Present). now.stored ≢ [])) now s.1
     (ap (stored_at crash.circuit crash.choice (run_of crash.runs h.hit.run)) at_reset))
@@ -96,7 +96,7 @@ only_reset crash r good n c last hits enough stops.Empty s =
     let none = subst (λ (o : Option Step). IsSomeAnd o (λ (step : Step). IsFinished step.end × (step.cands ≡ []))) last.is s in
     let right = all_at (IsRightStep crash) r.steps n last.last good.steps last.place in
     absurd (false≢true (sym (ap (λ (cands : List Cand). is_listed (listed cands) h.hit.state) none.1)
-        ∙ (hit_at crash last.last h.hit (sym h.is ∙ right.hit)).reached))
+    ∙ (hit_at crash last.last h.hit (sym h.is ∙ right.hit)).reached))
 only_reset crash r good n c last hits enough stops.Candidates s =
     let h = hits last.last last.place in
     let none = subst (λ (o : Option Step). IsSomeAnd o (λ (step : Step). (step.hit ≡ None) × (step.end ≡ ends.Candidates))) last.is s in
@@ -111,7 +111,7 @@ finished_reach_reset crash r first hit is good fin e h enough =
     let there = first_there r.steps first e in
     let last : LastStep crash r.steps (Some (present_in crash.dump)) (length there.0) =
     subst (λ (l : List Step). LastStep crash l (Some (present_in crash.dump)) (length there.0)) (sym there.1)
-        (last_from crash first there.0 (Some (present_in crash.dump))) in
+    (last_from crash first there.0 (Some (present_in crash.dump))) in
     let hits = hit_below crash r first hit is good fin e h (length there.0) in
     let low = (hits last.last last.place).low in
     (only_reset crash r good (length there.0) hit.cycle last hits enough r.stop good.stop, omega (arith, low, last.long))

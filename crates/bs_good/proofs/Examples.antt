@@ -7,12 +7,11 @@ use Rattle.bs_net.specs.declared.net.Kind.TheVariants.{Not}
 use Rattle.bs_net.specs.Circuit.{Circuit, next, settled, all_bits}
 use Rattle.bs_scan.specs.Moments.{state_at, first_moment}
 use Rattle.bs_scan.specs.Signature.{predecessors}
-use Rattle.bs_clause.specs.Literal.{Literal, Clause}
+use Rattle.bs_clause.specs.Literal.{Clause}
 use Rattle.bs_log.specs.declared.line.Line.TheVariants as lines
 use Rattle.bs_good.specs.declared.part.Part.TheVariants as parts
 use Rattle.bs_report.specs.declared.report.ListEnd.TheVariants as ends
 use Rattle.bs_report.specs.declared.report.Stop.TheVariants as stops
-use Rattle.bs_report.specs.declared.report.Report.{Report}
 use Rattle.bs_scan.specs.Crash.{Crash}
 use Rattle.bs_report.specs.declared.report.Step.{Step}
 use Rattle.bs_good.specs.Trace.{trace_states, trace_inputs}

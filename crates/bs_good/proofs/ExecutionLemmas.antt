@@ -106,8 +106,13 @@ cand_for P (c ∷ cs) s h e = by (bits_eq c.state s) refl (bits_eq s c.state) re
   where
     by : (a : Bool) → bits_eq c.state s ≡ a → (b : Bool) → bits_eq s c.state ≡ b → (b || is_listed (listed cs) s) ≡ true →
         (is_listed (listed cs) s ≡ true → CandFor P cs s) → CandFor P (c ∷ cs) s
-    by true a b eb e rest = record { cand = c; first = ap (λ t. cond t (Some c) (find (λ (c : Cand). bits_eq c.state s) cs)) a; state =
-        bits_same_is c.state s a; right = h.0 }
+    by true a b eb e rest = record {
+      cand = c;
+      first = ap (λ t. cond t (Some c) (find (λ (c : Cand). bits_eq c.state s) cs)) a;
+      state =
+          bits_same_is c.state s a;
+      right = h.0;
+    }
     by false a true eb e rest =
         let same : s ≡ c.state = bits_same_is s c.state eb in
         absurd (true≢false (sym (bits_same s) ∙ (ap (λ (t : List Bool). bits_eq t s) same ∙ a)))
@@ -125,7 +130,7 @@ input_of : (crash : Crash) → IsChecked crash.circuit → (step : Step) (hit : 
 input_of crash checked step hit right e =
     let reached : is_listed (listed step.cands) hit.state ≡ true = (hit_at crash step hit (sym e ∙ right.hit)).reached in
     let f = cand_for (IsCandidate crash.circuit crash.choice step.present (stored_of step)) step.cands hit.state
-        (recursion_from_All (IsCandidate crash.circuit crash.choice step.present (stored_of step)) step.cands right.candidates) reached in
+    (recursion_from_All (IsCandidate crash.circuit crash.choice step.present (stored_of step)) step.cands right.candidates) reached in
     record {
       input = f.cand.input;
       is = ap (option_map (λ (c : Cand). c.input)) f.first;
@@ -325,6 +330,6 @@ executed crash r is good some =
     (λ (n : NoHit crash.dump.state r.steps). absurd (some (good.trace.inputs ∙ ap reverse n.inputs)))
     (λ (l : LastHit crash crash.dump.state r.steps).
     let long : length (take l.hit.cycle (run_of crash.runs l.hit.run)) ≡ l.hit.cycle =
-        length-take-le l.hit.cycle (run_of crash.runs l.hit.run) l.recorded.lasts in
+    length-take-le l.hit.cycle (run_of crash.runs l.hit.run) l.recorded.lasts in
     from_reset crash r good l long (at_front crash.circuit crash.runs (moment l.hit.run l.hit.cycle) r.inputs l.recorded ∙ l.state) way)
     (hit_or_none crash r.steps (Some (present_in crash.dump)) crash.dump.state good.chain.follow right)

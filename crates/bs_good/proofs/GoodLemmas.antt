@@ -84,14 +84,14 @@ whole crash basis r is enc h k step e fin =
     listed_member s (asked_of crash step)
     (each_member (λ (s : List Bool). is_listed (asked_of crash step) s ≡ true) s (listed step.cands)
     (each_predecessor crash step step.cands
-        (recursion_from_All (IsCandidate crash.circuit crash.choice step.present (stored_of step)) step.cands right.candidates)) m))
+    (recursion_from_All (IsCandidate crash.circuit crash.choice step.present (stored_of step)) step.cands right.candidates)) m))
     (λ s m.
     let found = filter_member q s (all_bits (length crash.circuit.flops)) m in
     let tests = both (agrees crash.circuit crash.choice (stored_of step) s) (some_input_leads crash.circuit s step.present) found.0 in
     let x = passing (λ (x : List Bool). bits_eq (next crash.circuit s x) step.present) (all_bits (length crash.circuit.inputs)) tests.1 in
     by s (is_listed (listed step.cands) s) refl
     (refuted crash basis r enc h k step id.0 e id.1 s x.item (all_bits_length (length crash.circuit.flops) s found.1)
-        (all_bits_length (length crash.circuit.inputs) x.item x.member)
+    (all_bits_length (length crash.circuit.inputs) x.item x.member)
     tests.0 (bits_same_is (next crash.circuit s x.item) step.present x.passes)))
   where
     by : (s : List Bool) (b : Bool) → is_listed (listed step.cands) s ≡ b → (is_listed (listed step.cands) s ≡ false → ⊥) → Member s (listed step.cands)

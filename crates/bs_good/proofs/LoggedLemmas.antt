@@ -73,9 +73,10 @@ each_rule rule i (s ∷ ss) h =
     (each_rule rule (i + 1) ss (λ k j step e n. h (suc k) j step e (omega (arith, n))))
 
 parts_of_step : (crash : Crash) (r : Report) (i : ℕ) (step : Step) → StepIsRight crash r i step → Each IsRight (step_parts crash r i step)
-parts_of_step crash r i step h =
-    (right (has_state (due_at crash r.steps i) step.present) (parts.Present (i + 1)) h.state,
-        (right (has_stored (due_at crash r.steps i) (stored_of step)) (parts.Stored (i + 1)) h.stored, rest))
+parts_of_step crash r i step h = (
+  right (has_state (due_at crash r.steps i) step.present) (parts.Present (i + 1)) h.state,
+  (right (has_stored (due_at crash r.steps i) (stored_of step)) (parts.Stored (i + 1)) h.stored, rest),
+)
   where
     cands : List (Option Part)
     cands = map (λ j. unless (is_right_cand crash r.budgets step j) (parts.Candidate (i + 1) (j + 1))) (range_with_len 0 (length step.cands))
@@ -85,15 +86,16 @@ parts_of_step crash r i step h =
         ∷ unless (same_hit step.hit (hit_of crash step.cands)) (parts.Hit (i + 1)) ∷ []
 
     ends_right : Each IsRight ends
-    ends_right =
-        (right (is_right_count r.budgets step.end (length step.cands)) (parts.Listed (i + 1)) h.count,
-            (right (same_hit step.hit (hit_of crash step.cands)) (parts.Hit (i + 1)) h.hit, tt))
+    ends_right = (
+      right (is_right_count r.budgets step.end (length step.cands)) (parts.Listed (i + 1)) h.count,
+      (right (same_hit step.hit (hit_of crash step.cands)) (parts.Hit (i + 1)) h.hit, tt),
+    )
 
     rest : Each IsRight (cands ++ ends)
     rest =
         each_joined IsRight cands ends
         (all_in_range (λ j. is_right_cand crash r.budgets step j) (λ j. parts.Candidate (i + 1) (j + 1)) 0 (length step.cands)
-            (λ j low high. h.cands j (omega (arith, high))))
+        (λ j low high. h.cands j (omega (arith, high))))
         ends_right
 
 no_part : (o : Option (ℕ × Why)) → o ≡ None → option_map (λ (x : ℕ × Why). parts.Log x.0 x.1) o ≡ None
@@ -115,7 +117,7 @@ valid_of_right crash basis r h =
     steps_right =
         each_rule (step_parts crash r) 0 r.steps
         (λ k j step e n. let place : k ≡ j = omega (arith, n) in
-            subst (λ (j : ℕ). Each IsRight (step_parts crash r j step)) place (parts_of_step crash r k step (h.steps k step e)))
+        subst (λ (j : ℕ). Each IsRight (step_parts crash r j step)) place (parts_of_step crash r k step (h.steps k step e)))
 
     logs_right : Each IsRight (each_step (log_parts basis r) 0 r.steps)
     logs_right =
@@ -151,7 +153,7 @@ unfolding predecessors
 agrees_where_listed crash step s e =
     let q : List Bool → Bool = λ s. agrees crash.circuit crash.choice (stored_of step) s && some_input_leads crash.circuit s step.present in
     left (agrees crash.circuit crash.choice (stored_of step) s) (some_input_leads crash.circuit s step.present)
-        (filter_member q s (all_bits (length crash.circuit.flops)) (listed_member s (asked_of crash step) e)).0
+    (filter_member q s (all_bits (length crash.circuit.flops)) (listed_member s (asked_of crash step) e)).0
   where
     left : (a b : Bool) → (a && b) ≡ true → a ≡ true
     left true b e = refl
@@ -167,7 +169,7 @@ greater_at step asc (suc k) lt =
     (subst (λ (i : ℕ). is_lt (slice_cmp bool_cmp (cand_at step i).state (cand_at step (suc k)).state) ≡ true) before
     (ap (λ (s : List Bool). is_lt (slice_cmp bool_cmp s (cand_at step (suc k)).state)) (sym (state_at_place step.cands k [] (omega (arith, lt, long))))
     ∙ (ap (λ (s : List Bool). is_lt (slice_cmp bool_cmp (get_or (listed step.cands) k []) s))
-        (sym (state_at_place step.cands (suc k) [] (omega (arith, lt, long))))
+    (sym (state_at_place step.cands (suc k) [] (omega (arith, lt, long))))
     ∙ ap is_lt (asc k (suc k) [] (omega arith) (omega (arith, lt, long))))))
 
 cand_right : (crash : Crash) → IsCrash crash → (budgets : Budgets) (step : Step) → IsRightStep crash step → length step.cands ≤ budgets.candidates →
@@ -252,7 +254,7 @@ cause_unhit : (crash : Crash) (budgets : Budgets) (steps : List Step) (P : Step 
     cause_of crash budgets steps ≡ Some (cause_of_end l.last l.last.end)
 cause_unhit crash budgets steps P l none =
     ap (cause_after budgets steps) (l.present ∙ ap (option_map (present_of_hit crash)) none)
-        ∙ ap (option_map (λ (step : Step). cause_of_end step step.end)) l.is
+    ∙ ap (option_map (λ (step : Step). cause_of_end step step.end)) l.is
 
 some_at : {X : Type 0} (x : X) (xs : List X) → (length (x ∷ xs) == 0) ≡ false
 some_at x xs = ne_eqb (length (x ∷ xs)) 0 (λ e. omega (arith, e))
@@ -295,10 +297,10 @@ pub cause_due : (crash : Crash) (budgets : Budgets) (steps : List Step) → Each
     cause_of crash budgets steps ≡ Some stop
 cause_due crash budgets steps each stops.Reset h =
     stands_at crash budgets steps (λ stored. stored ≡ []) stops.Reset (last_present crash (Some (present_in crash.dump)) steps) h
-        (λ stored e. ap (cause_at budgets (length steps)) e)
+    (λ stored e. ap (cause_at budgets (length steps)) e)
 cause_due crash budgets steps each stops.Length h =
     stands_at crash budgets steps (λ stored. stored ≢ []) stops.Length (last_present crash (Some (present_in crash.dump)) steps) h.1
-        (by_length budgets (length steps) h.0)
+    (by_length budgets (length steps) h.0)
 cause_due crash budgets steps each stops.Nohit h =
     let l = last_of crash steps IsUnhit h each in
     cause_unhit crash budgets steps IsUnhit l l.there.0 ∙ ap Some ((empty_or_not l.last l.last.end l.there.1).0 l.there.2)

@@ -25,7 +25,7 @@ reverse_more : (f : Step → Option (List Bool)) (steps : List Step) (step : Ste
     reverse (filter_map f (steps ++ step ∷ [])) ≡ x ∷ reverse (filter_map f steps)
 reverse_more f steps step x e =
     ap reverse (filter_map-append f steps (step ∷ []) ∙ ap (λ (o : Option (List Bool)). filter_map f steps ++ cons_option o []) e)
-        ∙ reverse-append (filter_map f steps) (x ∷ [])
+    ∙ reverse-append (filter_map f steps) (x ∷ [])
 
 pub trace_states_more : (dumped : List Bool) (steps : List Step) (step : Step) (hit : HitLine) → step.hit ≡ Some hit →
     trace_states dumped (steps ++ step ∷ []) ≡ hit.state ∷ trace_states dumped steps

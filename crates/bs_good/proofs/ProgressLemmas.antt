@@ -69,7 +69,7 @@ earlier_hit crash is run (suc k) later im st sg all =
     let here : IsMoment crash.runs before = record { from_one = im.from_one; recorded = im.recorded; lasts = omega (arith, im.lasts) } in
     let width : length (get_or line k []) ≡ length c.inputs = is.inputs (run - 1) [] (omega (arith, im.from_one, im.recorded)) k [] (omega (arith, im.lasts)) in
     let come : is_listed (predecessors c crash.choice (state_at c line (suc k)) (stored_at c crash.choice line (suc k))) (state_at c line k) ≡ true =
-        came_from c crash.choice line k width in
+    came_from c crash.choice line k width in
     let asked : is_listed (asked_of crash later) (state_at c line k) ≡ true =
     subst (λ (p : List Bool). is_listed (predecessors c crash.choice p (stored_of later)) (state_at c line k) ≡ true) st
     (subst (λ (t : List (List Bool)). is_listed (predecessors c crash.choice (state_at c line (suc k)) t) (state_at c line k) ≡ true) sg come) in
@@ -79,16 +79,16 @@ earlier_hit crash is run (suc k) later im st sg all =
   where
     by : (o : Option Moment) → first_moment crash.circuit crash.runs (listed later.cands) ≡ o →
         (before : Moment) → IsMoment crash.runs before → IsReached crash.circuit crash.runs (listed later.cands) before → before.cycle ≡ k →
-            HitBelow crash later (suc k)
+        HitBelow crash later (suc k)
     by None e before here reached at_k =
         absurd
         (subst (λ (o : Option Moment). MatchOption o ((m : Moment) → IsMoment crash.runs m → IsReached crash.circuit crash.runs (listed later.cands) m → ⊥)
-            (IsFirstMoment crash.circuit crash.runs (listed later.cands))) e
+        (IsFirstMoment crash.circuit crash.runs (listed later.cands))) e
         (first_is_least crash.circuit crash.runs (listed later.cands)) before here reached)
     by (Some m) e before here reached at_k =
         let first : IsFirstMoment crash.circuit crash.runs (listed later.cands) m =
         subst (λ (o : Option Moment). MatchOption o ((m : Moment) → IsMoment crash.runs m → IsReached crash.circuit crash.runs (listed later.cands) m → ⊥)
-            (IsFirstMoment crash.circuit crash.runs (listed later.cands))) e
+        (IsFirstMoment crash.circuit crash.runs (listed later.cands))) e
         (first_is_least crash.circuit crash.runs (listed later.cands)) in
         record { moment = m; first = e; below = low m before (first.least before here reached) at_k }
       where
@@ -112,7 +112,7 @@ hit_at crash step hit e = by (first_moment crash.circuit crash.runs (listed step
     by (Some m) f e =
         let first : IsFirstMoment crash.circuit crash.runs (listed step.cands) m =
         subst (λ (o : Option Moment). MatchOption o ((m : Moment) → IsMoment crash.runs m → IsReached crash.circuit crash.runs (listed step.cands) m → ⊥)
-            (IsFirstMoment crash.circuit crash.runs (listed step.cands))) f
+        (IsFirstMoment crash.circuit crash.runs (listed step.cands))) f
         (first_is_least crash.circuit crash.runs (listed step.cands)) in
         let same : hit ≡ record { run = m.run; cycle = m.cycle; state = state_of crash.circuit crash.runs m } = cc in
         subst (HitAt crash step) (sym same) (record { run_cycle = first.moment; state = refl; reached = first.reached })

@@ -38,8 +38,10 @@ after x y z e f = (lists_total bool_cmp_total).trans x y z e f
 
 asc_from_pairs : (xs : List (List Bool)) → AllPairs IsLess xs → Asc xs
 asc_from_pairs [] h = tt
-asc_from_pairs (x ∷ xs) h = (firsts xs (λ j d lt. h 0 (suc j) d (omega arith) (omega arith)),
-    asc_from_pairs xs (λ i j d lt le. h (suc i) (suc j) d (omega arith) (omega arith)))
+asc_from_pairs (x ∷ xs) h = (
+  firsts xs (λ j d lt. h 0 (suc j) d (omega arith) (omega arith)),
+  asc_from_pairs xs (λ i j d lt le. h (suc i) (suc j) d (omega arith) (omega arith)),
+)
   where
     firsts : (ys : List (List Bool)) → ((j : ℕ) (d : List Bool) → j < length ys → IsLess x (get_or ys j d)) → Each (IsLess x) ys
     firsts [] g = tt
@@ -70,9 +72,10 @@ each_map P f (x ∷ xs) h = (h.0, each_map P f xs h.1)
 
 asc_map : (b : Bool) (xs : List (List Bool)) → Asc xs → Asc (map (λ bs. b ∷ bs) xs)
 asc_map b [] h = tt
-asc_map b (x ∷ xs) h =
-    (each_map (IsLess (b ∷ x)) (λ bs. b ∷ bs) xs (each_weaker (IsLess x) (λ (y : List Bool). IsLess (b ∷ x) (b ∷ y)) (λ y e. same_head b x y e) xs h.0),
-        asc_map b xs h.1)
+asc_map b (x ∷ xs) h = (
+  each_map (IsLess (b ∷ x)) (λ bs. b ∷ bs) xs (each_weaker (IsLess x) (λ (y : List Bool). IsLess (b ∷ x) (b ∷ y)) (λ y e. same_head b x y e) xs h.0),
+  asc_map b xs h.1,
+)
 
 all_above : (x : List Bool) (ys : List (List Bool)) → Each (IsLess (false ∷ x)) (map (λ bs. true ∷ bs) ys)
 all_above x [] = tt
@@ -99,9 +102,9 @@ same_lists (x ∷ xs) (y ∷ ys) ax ay f g =
     ∙ ap (λ (l : List (List Bool)). y ∷ l)
     (same_lists xs ys ax.1 ay.1
     (λ s m. ⊎_elim (λ (e : s ≡ y). absurd (irreflexive x (subst (IsLess x) (e ∙ sym head) (each_member (IsLess x) s xs ax.0 m)))) (λ (k : Member s ys). k)
-        (f s (inr m)))
+    (f s (inr m)))
     (λ s m. ⊎_elim (λ (e : s ≡ x). absurd (irreflexive y (subst (IsLess y) (e ∙ head) (each_member (IsLess y) s ys ay.0 m)))) (λ (k : Member s xs). k)
-        (g s (inr m))))
+    (g s (inr m))))
   where
     heads : (x ≡ y) ⊎ Member x ys → (y ≡ x) ⊎ Member y xs → x ≡ y
     heads (inl e) k = e

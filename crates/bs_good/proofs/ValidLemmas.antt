@@ -84,7 +84,7 @@ at_step rule i (s ∷ ss) h zero j step e n =
     let same : s ≡ step = cc in
     let place : i ≡ j = omega arith in
     subst (λ (s : Step). Each IsRight (rule j s)) same
-        (subst (λ (k : ℕ). Each IsRight (rule k s)) place (each_left IsRight (rule i s) (each_step rule (i + 1) ss) h))
+    (subst (λ (k : ℕ). Each IsRight (rule k s)) place (each_left IsRight (rule i s) (each_step rule (i + 1) ss) h))
 at_step rule i (s ∷ ss) h (suc k) j step e n = at_step rule (i + 1) ss (each_right IsRight (rule i s) (each_step rule (i + 1) ss) h) k j step e (omega arith)
 
 -- the tests over a range
@@ -111,10 +111,10 @@ pub record StepIsRight (crash : Crash) (r : Report) (i : ℕ) (step : Step) : Ty
 step_is_right : (crash : Crash) (r : Report) (i : ℕ) (step : Step) → Each IsRight (step_parts crash r i step) → StepIsRight crash r i step
 step_is_right crash r i step h =
     let cands : List (Option Part) =
-        map (λ j. unless (is_right_cand crash r.budgets step j) (parts.Candidate (i + 1) (j + 1))) (range_with_len 0 (length step.cands)) in
+    map (λ j. unless (is_right_cand crash r.budgets step j) (parts.Candidate (i + 1) (j + 1))) (range_with_len 0 (length step.cands)) in
     let ends : List (Option Part) =
     unless (is_right_count r.budgets step.end (length step.cands)) (parts.Listed (i + 1))
-        ∷ unless (same_hit step.hit (hit_of crash step.cands)) (parts.Hit (i + 1)) ∷ [] in
+    ∷ unless (same_hit step.hit (hit_of crash step.cands)) (parts.Hit (i + 1)) ∷ [] in
     let front : Each IsRight cands = each_left IsRight cands ends h.1.1 in
     let rest : Each IsRight ends = each_right IsRight cands ends h.1.1 in
     record {
@@ -153,9 +153,9 @@ all_is_right crash basis r valid =
     let front : Each IsRight steps = each_left IsRight steps others all in
     let back : Each IsRight others = each_right IsRight steps others all in
     let stop = both (nat_le (length r.steps) r.budgets.steps) (is_cause r.stop (cause_of crash r.budgets r.steps))
-        (holds (nat_le (length r.steps) r.budgets.steps && is_cause r.stop (cause_of crash r.budgets r.steps)) parts.Stop back.0) in
+    (holds (nat_le (length r.steps) r.budgets.steps && is_cause r.stop (cause_of crash r.budgets r.steps)) parts.Stop back.0) in
     let trace = both (all_bits_eq r.states (trace_states crash.dump.state r.steps)) (all_bits_eq r.inputs (trace_inputs r.steps))
-        (holds (all_bits_eq r.states (trace_states crash.dump.state r.steps) && all_bits_eq r.inputs (trace_inputs r.steps)) parts.Trace back.1.0) in
+    (holds (all_bits_eq r.states (trace_states crash.dump.state r.steps) && all_bits_eq r.inputs (trace_inputs r.steps)) parts.Trace back.1.0) in
     record {
       steps = λ k step e. step_is_right crash r k step (at_step (step_parts crash r) 0 r.steps front k k step e (omega arith));
       few = stop.0;
@@ -180,7 +180,7 @@ due_is (Some due) step e f =
 
 follow_from : (crash : Crash) (now : Option Present) (steps : List Step) →
     ((k : ℕ) (step : Step) → slice_get steps k ≡ Some step → get_or (now ∷ map (present_after crash) steps) k None ≡ Some (present_of step)) →
-        Follow crash now steps
+    Follow crash now steps
 follow_from crash now [] h = tt
 follow_from crash now (s ∷ ss) h = (h 0 s refl, follow_from crash (present_after crash s) ss (λ k step e. h (suc k) step e))
 
@@ -193,8 +193,11 @@ chain_is crash basis r h =
     }
 
 pub trace_is : (crash : Crash) (basis : Basis) (r : Report) → AllIsRight crash basis r → IsTrace crash r
-trace_is crash basis r h = record { states = all_same_is r.states (trace_states crash.dump.state r.steps) h.states; inputs =
-    all_same_is r.inputs (trace_inputs r.steps) h.inputs }
+trace_is crash basis r h = record {
+  states = all_same_is r.states (trace_states crash.dump.state r.steps) h.states;
+  inputs =
+      all_same_is r.inputs (trace_inputs r.steps) h.inputs;
+}
 
 -- ---- the stop
 
@@ -242,7 +245,7 @@ last_step crash now s (t ∷ ts) = last_step crash now t ts
 -- the cause at a stand
 stands : (crash : Crash) (budgets : Budgets) (steps : List Step) (stop : Stop) (now : Present) →
     last_present crash (Some (present_in crash.dump)) steps ≡ Some now → cause_at budgets (length steps) now.stored ≡ Some stop →
-        StopsFor crash budgets steps stop
+    StopsFor crash budgets steps stop
 stands crash budgets steps stop now e h = by (length now.stored == 0) refl (length steps == budgets.steps) refl h
   where
     by : (a : Bool) → (length now.stored == 0) ≡ a → (b : Bool) → (length steps == budgets.steps) ≡ b →
@@ -250,12 +253,13 @@ stands crash budgets steps stop now e h = by (length now.stored == 0) refl (leng
     by true ea b eb h =
         let same : stops.Reset ≡ stop = cc in
         subst (StopsFor crash budgets steps) same
-            (subst (λ (o : Option Present). IsSomeAnd o (λ (now : Present). now.stored ≡ [])) (sym e) (no_length now.stored ea))
+        (subst (λ (o : Option Present). IsSomeAnd o (λ (now : Present). now.stored ≡ [])) (sym e) (no_length now.stored ea))
     by false ea true eb h =
         let same : stops.Length ≡ stop = cc in
-        subst (StopsFor crash budgets steps) same
-        (eqb-true (length steps) budgets.steps eb,
-            subst (λ (o : Option Present). IsSomeAnd o (λ (now : Present). now.stored ≢ [])) (sym e) (some_length now.stored ea))
+        subst (StopsFor crash budgets steps) same (
+          eqb-true (length steps) budgets.steps eb,
+          subst (λ (o : Option Present). IsSomeAnd o (λ (now : Present). now.stored ≢ [])) (sym e) (some_length now.stored ea),
+        )
     by false ea false eb h = cc
 
 no_hit : (crash : Crash) (step : Step) → None ≡ present_after crash step → step.hit ≡ None
@@ -280,7 +284,7 @@ unhit crash budgets steps stop last is none (Finished id) e h = by (length last.
     by false eb h =
         subst (StopsFor crash budgets steps) h
         (subst (λ (o : Option Step). IsSomeAnd o (λ (step : Step). (step.hit ≡ None) × IsFinished step.end × (step.cands ≢ []))) (sym is)
-            (none, finished, some_length last.cands eb))
+        (none, finished, some_length last.cands eb))
 unhit crash budgets steps stop last is none Candidates e h =
     subst (StopsFor crash budgets steps) h
     (subst (λ (o : Option Step). IsSomeAnd o (λ (step : Step). (step.hit ≡ None) × (step.end ≡ Candidates))) (sym is) (none, e))
@@ -301,7 +305,7 @@ stop_is crash budgets steps stop h = by (last_present crash (Some (present_in cr
         let last = last_step crash (Some (present_in crash.dump)) s ss in
         let is : last_or None steps ≡ Some last.last = ap (last_or None) same ∙ last.is in
         let none : None ≡ present_after crash last.last =
-            sym (subst (λ (l : List Step). last_present crash (Some (present_in crash.dump)) l ≡ None) same e) ∙ last.present in
+        sym (subst (λ (l : List Step). last_present crash (Some (present_in crash.dump)) l ≡ None) same e) ∙ last.present in
         let cause : Some (cause_of_end last.last last.last.end) ≡ Some stop = sym (ap (option_map (λ (step : Step). cause_of_end step step.end)) is) ∙ h in
         let stop_same : cause_of_end last.last last.last.end ≡ stop = cc in
         unhit crash budgets steps stop last.last is (no_hit crash last.last none) last.last.end refl stop_same
@@ -395,7 +399,7 @@ pub ascend_is : (crash : Crash) (budgets : Budgets) (step : Step) → ((j : ℕ)
 ascend_is crash budgets step h i j d lt le =
     let long : length (listed step.cands) ≡ length step.cands = length-map step.cands (λ (c : Cand). c.state) in
     let less = pairs (λ (k : ℕ). (cand_at step k).state) (length step.cands)
-        (λ j below. next_greater crash budgets step j (cand_is crash budgets step (suc j) (h (suc j) below))) i j lt (omega arith) in
+    (λ j below. next_greater crash budgets step j (cand_is crash budgets step (suc j) (h (suc j) below))) i j lt (omega arith) in
     ap (λ (s : List Bool). slice_cmp bool_cmp s (get_or (listed step.cands) j d)) (state_at_place step.cands i d (omega arith))
     ∙ (ap (slice_cmp bool_cmp (cand_at step i).state) (state_at_place step.cands j d le) ∙ less)
 
@@ -439,7 +443,7 @@ spent_is b assumptions (Some lines) e =
 -- where a finished list is whole, its end is right
 pub right_end : (crash : Crash) (basis : Basis) (r : Report) (i : ℕ) (step : Step) → StepIsRight crash r i step → Each IsRight (log_parts basis r i step) →
     (IsFinished step.end → listed step.cands ≡ asked_of crash step) → (e : ListEnd) → step.end ≡ e →
-        IsRightEnd (asked_of crash step) r.budgets.candidates r.budgets.conflicts (lines_at r i) step.cands e
+    IsRightEnd (asked_of crash step) r.budgets.candidates r.budgets.conflicts (lines_at r i) step.cands e
 right_end crash basis r i step h l whole (Finished id) e = (
   whole (subst IsFinished (sym e) tt),
   not_met (length step.cands) r.budgets.candidates (within_budget crash r.budgets step (length step.cands) refl h.cands)
@@ -449,10 +453,10 @@ right_end crash basis r i step h l whole Candidates e =
     eqb-true (length step.cands) r.budgets.candidates (subst (λ (x : ListEnd). is_right_count r.budgets x (length step.cands) ≡ true) e h.count)
 right_end crash basis r i step h l whole Conflicts e =
     let finish = holds (is_right_finish r.budgets.conflicts (assumptions_of basis.problem (i + 1)) (lines_at r i) step.end
-        (filter_map finish_of_line (lines_at r i))) (parts.Ended (i + 1)) l.1.0 in
+    (filter_map finish_of_line (lines_at r i))) (parts.Ended (i + 1)) l.1.0 in
     let spent = both _ (is_spent r.budgets.conflicts (assumptions_of basis.problem (i + 1)) (last_solve (lines_at r i)))
     (subst (λ (x : ListEnd). is_right_finish r.budgets.conflicts (assumptions_of basis.problem (i + 1)) (lines_at r i) x
-        (filter_map finish_of_line (lines_at r i)) ≡ true) e finish) in (
+    (filter_map finish_of_line (lines_at r i)) ≡ true) e finish) in (
       not_met (length step.cands) r.budgets.candidates (within_budget crash r.budgets step (length step.cands) refl h.cands)
           (subst (λ (x : ListEnd). is_right_count r.budgets x (length step.cands) ≡ true) e h.count),
       spent_is r.budgets.conflicts (assumptions_of basis.problem (i + 1)) (last_solve (lines_at r i)) spent.1,

@@ -40,9 +40,10 @@ use Rattle.bs_good.proofs.ValidLemmas.{AllIsRight, cand_is, state_at_place, hold
 
 pub literal_decides : (a b : Literal) → Decides (same_literal a b) (a ≡ b)
 literal_decides a b =
-    let d = Decides-and (a.variable == b.variable) (beq a.positive b.positive) (Decides-eqb a.variable b.variable) (booleans_Decides a.positive b.positive) in
-    (λ e. let h = d.0 e in λ i. record { variable = h.0 i; positive = h.1 i },
-        λ p. d.1 (ap (λ (l : Literal). l.variable) p, ap (λ (l : Literal). l.positive) p))
+    let d = Decides-and (a.variable == b.variable) (beq a.positive b.positive) (Decides-eqb a.variable b.variable) (booleans_Decides a.positive b.positive) in (
+      λ e. let h = d.0 e in λ i. record { variable = h.0 i; positive = h.1 i },
+      λ p. d.1 (ap (λ (l : Literal). l.variable) p, ap (λ (l : Literal). l.positive) p),
+    )
 
 clause_is : (c d : Clause) → pointwise same_literal c d ≡ true → c ≡ d
 clause_is c d e = (pointwise_decides literal_decides c d).0 e
@@ -82,9 +83,9 @@ refuted crash basis r enc h k step id e fin s x ls lx ag nx out =
     let widths : Each (λ (t : List Bool). length t ≡ length crash.circuit.flops) (listed step.cands) =
     recursion_from_All (λ (t : List Bool). length t ≡ length crash.circuit.flops) (listed step.cands)
     (λ j d lt. ap length (state_at_place step.cands j d lt)
-        ∙ (cand_is crash r.budgets step j ((h.steps k step e).cands j (omega (arith, lt, length-map step.cands (λ (c : Cand). c.state))))).state) in
+    ∙ (cand_is crash r.budgets step j ((h.steps k step e).cands j (omega (arith, lt, length-map step.cands (λ (c : Cand). c.state))))).state) in
     let test = holds (are_right_blocks (blocks_due (guard_of p (k + 1)) basis.block step.cands) (filter_map block_of_line (lines_at r k)))
-        (parts.Blocks (k + 1)) (h.logs k step e).0 in
+    (parts.Blocks (k + 1)) (h.logs k step e).0 in
     let first = both _ (list_all (has_clause (filter_map block_of_line (lines_at r k))) (blocks_due (guard_of p (k + 1)) basis.block step.cands)) test in
     let second = both _ (list_all (has_clause (blocks_due (guard_of p (k + 1)) basis.block step.cands)) (filter_map block_of_line (lines_at r k))) first.0 in
     let blocks : Each (Satisfies v) (filter_map block_of_line (lines_at r k)) =
@@ -97,11 +98,11 @@ refuted crash basis r enc h k step id e fin s x ls lx ag nx out =
     true≢false (sym (any_member (bits_eq s) one.state (listed step.cands) one.member (ap (bits_eq s) same ∙ bits_same s)) ∙ out))))
     (filter_map block_of_line (lines_at r k)) second.1 in
     let finish = holds (is_right_finish r.budgets.conflicts (assumptions_of p (k + 1)) (lines_at r k) step.end (filter_map finish_of_line (lines_at r k)))
-        (parts.Ended (k + 1)) (h.logs k step e).1.0 in
+    (parts.Ended (k + 1)) (h.logs k step e).1.0 in
     let named : filter_map finish_of_line (lines_at r k) ≡ id ∷ [] =
     (pointwise_decides Decides-eqb (filter_map finish_of_line (lines_at r k)) (id ∷ [])).0
     (subst (λ (x : ListEnd). is_right_finish r.budgets.conflicts (assumptions_of p (k + 1)) (lines_at r k) x
-        (filter_map finish_of_line (lines_at r k)) ≡ true) fin finish) in
+    (filter_map finish_of_line (lines_at r k)) ≡ true) fin finish) in
     let spot = finish_at (Satisfies v) id r.log [] k (k + 1) (omega arith) named blocks tt in
     let suits : Suits p (history_of spot.before) (k + 1) v = record {
       in_range = omega (arith, enc.each_step, below r.steps k step e);

@@ -152,7 +152,7 @@ abbrev pub log_parts : Basis → Report → ℕ → Step → List (Option Part)
 log_parts basis r i step =
     unless (are_right_blocks (blocks_due (guard_of basis.problem (i + 1)) basis.block step.cands) (blocks_in (lines_at r i))) (parts.Blocks (i + 1)) ∷
     unless (is_right_finish r.budgets.conflicts (assumptions_of basis.problem (i + 1)) (lines_at r i) step.end (finishes_in (lines_at r i)))
-        (parts.Ended (i + 1)) ∷ []
+    (parts.Ended (i + 1)) ∷ []
 
 -- ---- the whole report
 

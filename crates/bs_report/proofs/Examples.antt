@@ -1,5 +1,5 @@
 -- The text of a report, computed.
-use Rattle.std.proofs.Common.{◌≡◌, ℕ, true, false, [], ◌∷◌, refl, Some}
+use Rattle.std.proofs.Common.{◌≡◌, ℕ, true, false, [], ◌∷◌, ◌++◌, refl, Some}
 use Rattle.std.specs.Prelude.{codes}
 use Rattle.std.specs.Fmt.{digits}
 use Rattle.bs_clause.specs.Literal.{Literal}
@@ -29,9 +29,14 @@ report =
       stop = stops.Reset;
       states = (false ∷ []) ∷ (true ∷ []) ∷ [];
       inputs = [] ∷ [];
-      log = lines.Solve ∷ lines.Block 6 (not_ 5 ∷ yes 3 ∷ []) ∷ lines.Solve ∷ lines.Lemma 7 (not_ 5 ∷ not_ 4 ∷ []) (4 ∷ 1 ∷ 6 ∷ []) ∷ lines.Finish 7 ∷ lines.Retire 8 ∷ lines.Delete (6 ∷ 7 ∷ []) ∷ [];
+      log = lines.Solve ∷ lines.Block 6 (not_ 5 ∷ yes 3 ∷ []) ∷ lines.Solve ∷ lines.Lemma 7 (not_ 5 ∷ not_ 4 ∷ []) (4 ∷ 1 ∷ 6 ∷ []) ∷ lines.Finish 7
+          ∷ lines.Retire 8 ∷ lines.Delete (6 ∷ 7 ∷ []) ∷ [];
     }
 
-spells : report_text report ≡ codes "backspace 1\nasked 64 candidates 256 conflicts 100000\nstep 1\npresent 1\nstored .\ncand 0 input .\nlist finished 7\nhit 1 0 0\nstop reset\ntrace 1\nstate 0\ninput .\nstate 1\nlog 7\ns\nb 6 -5 3 0\ns\n7 -5 -4 0 4 1 6 0\ne 7\nr 8\nd 6 7 0\nend\n"
+spells : report_text report ≡
+    codes "backspace 1\nasked 64 candidates 256 conflicts 100000\n"
+    ++ (codes "step 1\npresent 1\nstored .\ncand 0 input .\nlist finished 7\nhit 1 0 0\nstop reset\n"
+    ++ (codes "trace 1\nstate 0\ninput .\nstate 1\n"
+    ++ codes "log 7\ns\nb 6 -5 3 0\ns\n7 -5 -4 0 4 1 6 0\ne 7\nr 8\nd 6 7 0\nend\n"))
 unfolding head_text tail_text digits
 spells = refl

@@ -3,7 +3,7 @@ use Rattle.std.proofs.Common.{◌≡◌, ◌≢◌, ◌↔◌, ℕ, suc, zero, �
 use Rattle.std.specs.Prelude.{◌==◌, codes, Result, Ok, Err}
 use Rattle.std.specs.Option.{option_and_then}
 use Rattle.std.specs.List.{AllByRecursion as Each, flat_map}
-use Rattle.std.proofs.lemmas.Bool.{false≢true, true≢false, eqb-true, eqb-false, ne_eqb}
+use Rattle.std.proofs.lemmas.Bool.{false≢true, true≢false, ne_eqb}
 use Rattle.std.proofs.lemmas.Grind.{flat_map-append}
 use Rattle.std.proofs.lemmas.List.{append-nil, length-append, length-take-le}
 use Rattle.std.proofs.Math.Seq.{take-append_seam, take-append-add}
@@ -22,7 +22,7 @@ use Rattle.bs_report.specs.declared.report.ListEnd.TheVariants as ends
 use Rattle.bs_report.specs.declared.report.Report.{Report}
 use Rattle.bs_report.specs.declared.report.Stop.TheVariants as stops
 use Rattle.bs_report.specs.Reading.{Reached, behind_state, log_place, taken, is_done, line_or_fault, followed, ended, report_from, nothing_read, report_in, with_step}
-use Rattle.bs_report.specs.Text.{report_text, HasReportText}
+use Rattle.bs_report.specs.Text.{report_text}
 use Rattle.bs_report.specs.FaultLaw.{line_count, first_lines, Begins, IsWrongLine, IsShort, HasExtra, WrongLinesAreNamed, ShortTextsAreNamed, ExtraBytesAreNamed}
 use Rattle.bs_report.proofs.ReadingLemmas.{some_piece}
 use Rattle.bs_report.proofs.ReadBackLemmas.{read_back}
@@ -35,23 +35,27 @@ abbrev lines_on : Place → Report → List (List ℕ) → Option Reached
 lines_on place r [] = Some (place, r)
 lines_on place r (a ∷ ls) = option_and_then (λ (y : Reached). lines_on y.0 y.1 ls) (taken place r a)
 
-lines_on_append : (place : Place) (r : Report) (ls bs : List (List ℕ)) (y : Reached) → lines_on place r ls ≡ Some y → lines_on place r (ls ++ bs) ≡ lines_on y.0 y.1 bs
+lines_on_append : (place : Place) (r : Report) (ls bs : List (List ℕ)) (y : Reached) → lines_on place r ls ≡ Some y →
+    lines_on place r (ls ++ bs) ≡ lines_on y.0 y.1 bs
 lines_on_append place r [] bs y e = let same : (place, r) ≡ y = cc in ap (λ (y : Reached). lines_on y.0 y.1 bs) same
 lines_on_append place r (a ∷ ls) bs y e = by (taken place r a) e (λ (z : Reached) f. lines_on_append z.0 z.1 ls bs y f)
   where
-    by : (o : Option Reached) → option_and_then (λ (y : Reached). lines_on y.0 y.1 ls) o ≡ Some y → ((z : Reached) → lines_on z.0 z.1 ls ≡ Some y → lines_on z.0 z.1 (ls ++ bs) ≡ lines_on y.0 y.1 bs) →
+    by : (o : Option Reached) → option_and_then (λ (y : Reached). lines_on y.0 y.1 ls) o ≡ Some y →
+        ((z : Reached) → lines_on z.0 z.1 ls ≡ Some y → lines_on z.0 z.1 (ls ++ bs) ≡ lines_on y.0 y.1 bs) →
         option_and_then (λ (y : Reached). lines_on y.0 y.1 (ls ++ bs)) o ≡ lines_on y.0 y.1 bs
     by None e on = cc
     by (Some z) e on = on z e
 
-lines_fit : (ls : List (List ℕ)) (place : Place) (r : Report) (text : List ℕ) (y : Reached) → Fits place r text → lines_on place r ls ≡ Some y → Fits y.0 y.1 (text ++ flat_map line ls)
+lines_fit : (ls : List (List ℕ)) (place : Place) (r : Report) (text : List ℕ) (y : Reached) → Fits place r text → lines_on place r ls ≡ Some y →
+    Fits y.0 y.1 (text ++ flat_map line ls)
 lines_fit [] place r text y h e =
     let same : (place, r) ≡ y = cc in
     subst (λ (t : List ℕ). Fits y.0 y.1 t) (sym (append-nil text)) (subst (λ (y : Reached). Fits y.0 y.1 text) same h)
 lines_fit (a ∷ ls) place r text y h e = by (taken place r a) refl e (λ (z : Reached) t f. lines_fit ls z.0 z.1 (text ++ line a) y t f)
   where
     by : (o : Option Reached) → taken place r a ≡ o → option_and_then (λ (y : Reached). lines_on y.0 y.1 ls) o ≡ Some y →
-        ((z : Reached) → Fits z.0 z.1 (text ++ line a) → lines_on z.0 z.1 ls ≡ Some y → Fits y.0 y.1 ((text ++ line a) ++ flat_map line ls)) → Fits y.0 y.1 (text ++ (line a ++ flat_map line ls))
+        ((z : Reached) → Fits z.0 z.1 (text ++ line a) → lines_on z.0 z.1 ls ≡ Some y → Fits y.0 y.1 ((text ++ line a) ++ flat_map line ls)) →
+        Fits y.0 y.1 (text ++ (line a ++ flat_map line ls))
     by None t e on = cc
     by (Some z) t e on = subst (λ (t : List ℕ). Fits y.0 y.1 t) (append_assoc text (line a) (flat_map line ls)) (on z (line_fits place r text a z h t) e)
 
@@ -65,7 +69,8 @@ undone place r a y e = by (is_done place) refl
 
 reads : (n : ℕ) (place : Place) (r : Report) (a : List ℕ) (y : Reached) → taken place r a ≡ Some y → followed n place r a ≡ Ok y
 reads n place r a y e =
-    ap (λ (b : Bool). cond {A = Result Reached ReportFault} b (Err faults.Extra) (line_or_fault n (taken place r a))) (undone place r a y e) ∙ ap (line_or_fault n) e
+    ap (λ (b : Bool). cond {A = Result Reached ReportFault} b (Err faults.Extra) (line_or_fault n (taken place r a))) (undone place r a y e)
+    ∙ ap (line_or_fault n) e
 
 one_line : (n : ℕ) (place : Place) (r : Report) (a : List ℕ) (tail : List (List ℕ)) → 0 < length tail →
     report_from n place r (a ∷ tail) ≡ ◌>>=◌ (followed n place r a) (λ (y : Reached). report_from (n + 1) y.0 y.1 tail)
@@ -107,7 +112,8 @@ passes n place r (a ∷ ls) p ps all e =
     (λ (z : Reached) f. passes (n + 1) z.0 z.1 ls p ps all f)
   where
     by : (d : Bool) (o : Option Reached) → taken place r a ≡ o →
-        ◌>>=◌ (cond {A = Result Reached ReportFault} d (Err faults.Extra) (line_or_fault n o)) (λ (y : Reached). report_from (n + 1) y.0 y.1 (ls ++ p ∷ ps)) ≡ Ok all →
+        ◌>>=◌ (cond {A = Result Reached ReportFault} d (Err faults.Extra) (line_or_fault n o))
+        (λ (y : Reached). report_from (n + 1) y.0 y.1 (ls ++ p ∷ ps)) ≡ Ok all →
         ((z : Reached) → report_from (n + 1) z.0 z.1 (ls ++ p ∷ ps) ≡ Ok all → Passed z.0 z.1 ls) → Passed place r (a ∷ ls)
     by true o t e on = cc
     by false None t e on = cc
@@ -148,7 +154,8 @@ settled n place r piece (q ∷ qs) answer e =
         record { before = []; reached = (place, r); piece = piece; behind = q ∷ qs; number = n; parts = refl; passed = refl; counted = omega arith; here = h }
 
     by : (d : Bool) (o : Option Reached) → is_done place ≡ d → taken place r piece ≡ o → (answer : Result Report ReportFault) →
-        ◌>>=◌ (cond {A = Result Reached ReportFault} d (Err faults.Extra) (line_or_fault n o)) (λ (y : Reached). report_from (n + 1) y.0 y.1 (q ∷ qs)) ≡ answer →
+        ◌>>=◌ (cond {A = Result Reached ReportFault} d (Err faults.Extra) (line_or_fault n o))
+        (λ (y : Reached). report_from (n + 1) y.0 y.1 (q ∷ qs)) ≡ answer →
         Rest answer → Settled answer n place r (piece ∷ q ∷ qs)
     by true o d t (Ok all) e on = cc
     by true o d t (Err fault) e on =
@@ -158,7 +165,8 @@ settled n place r piece (q ∷ qs) answer e =
     by false None d t (Err fault) e on =
         let first : Err (faults.Line n) ≡ Err fault = cc in
         at_once fault
-        (ap (λ (b : Bool). cond {A = Result Reached ReportFault} b (Err faults.Extra) (line_or_fault n (taken place r piece))) d ∙ (ap (line_or_fault n) t ∙ first))
+        (ap (λ (b : Bool). cond {A = Result Reached ReportFault} b (Err faults.Extra) (line_or_fault n (taken place r piece))) d
+        ∙ (ap (line_or_fault n) t ∙ first))
     by false (Some z) d t answer e on =
         let s = on z e in
         record {
@@ -224,7 +232,8 @@ from_moves (suc left) r =
     subst (λ (place : Place). Completes place r) (sym here)
     (by_line (places.Input (suc left)) r (codes "input .") (places.State (suc left - 1), with_input r) refl
     (subst (λ (k : ℕ). Completes (places.State k) (with_input r)) fewer
-    (by_line (places.State left) (with_input r) (codes "state .") (behind_state left, with_state (with_input r)) refl (from_moves left (with_state (with_input r))))))
+    (by_line (places.State left) (with_input r) (codes "state .") (behind_state left, with_state (with_input r)) refl
+    (from_moves left (with_state (with_input r))))))
 
 from_state : (left : ℕ) (r : Report) → Completes (places.State left) r
 from_state left r = by_line (places.State left) r (codes "state .") (behind_state left, with_state r) refl (from_moves left (with_state r))
@@ -289,7 +298,8 @@ some_bytes a rest e = absurd (omega (arith, ap length e, length-append (line a) 
 begun : (ls : List (List ℕ)) (y : Reached) → lines_on places.Title nothing_read ls ≡ Some y → Begun ls y
 begun ls y e =
     let c = completes y.0 y.1 in
-    let fits = lines_fit (ls ++ c.more) places.Title nothing_read [] (places.Done, c.all) (refl, refl) (lines_on_append places.Title nothing_read ls c.more y e ∙ c.to_end) in
+    let fits = lines_fit (ls ++ c.more) places.Title nothing_read [] (places.Done, c.all) (refl, refl)
+    (lines_on_append places.Title nothing_read ls c.more y e ∙ c.to_end) in
     let f = done_is_report c.all (flat_map line (ls ++ c.more)) fits in
     record {
       begins = record { report = c.all; has_text = f.0; rest = flat_map line c.more; spells = f.1 ∙ flat_map-append line ls c.more };
@@ -325,23 +335,27 @@ each_front P (x ∷ xs) ys h = (h.0, each_front P xs ys h.1)
 
 glued_front : (ls : List (List ℕ)) (p : List ℕ) (ps : List (List ℕ)) → glued (ls ++ p ∷ ps) ≡ flat_map line ls ++ glued (p ∷ ps)
 glued_front [] p ps = refl
-glued_front (a ∷ ls) p ps = by (ls ++ p ∷ ps) (some_more ls p ps) ∙ (ap (λ (t : List ℕ). line a ++ t) (glued_front ls p ps) ∙ sym (append_assoc (line a) (flat_map line ls) (glued (p ∷ ps))))
+glued_front (a ∷ ls) p ps = by (ls ++ p ∷ ps) (some_more ls p ps)
+    ∙ (ap (λ (t : List ℕ). line a ++ t) (glued_front ls p ps) ∙ sym (append_assoc (line a) (flat_map line ls) (glued (p ∷ ps))))
   where
     by : (tail : List (List ℕ)) → 0 < length tail → glued (a ∷ tail) ≡ line a ++ glued tail
     by [] h = absurd (omega (arith, h))
     by (q ∷ qs) h = refl
 
 -- behind the end only nothing is right
-done_answer : (n : ℕ) (y : Reached) (p : List ℕ) (ps : List (List ℕ)) → is_done y.0 ≡ true → glued (p ∷ ps) ≢ [] → report_from n y.0 y.1 (p ∷ ps) ≡ Err faults.Extra
+done_answer : (n : ℕ) (y : Reached) (p : List ℕ) (ps : List (List ℕ)) → is_done y.0 ≡ true → glued (p ∷ ps) ≢ [] →
+    report_from n y.0 y.1 (p ∷ ps) ≡ Err faults.Extra
 done_answer n y p [] d some = by (length p == 0) refl
   where
     by : (z : Bool) → (length p == 0) ≡ z → ended y.0 y.1 p ≡ Err faults.Extra
     by true e = absurd (some (nothing_left p e))
     by false e =
-        ap (λ (b : Bool). cond {A = Result Report ReportFault} b (cond {A = Result Report ReportFault} (length p == 0) (Ok y.1) (Err faults.Extra)) (Err faults.Short)) d
+        ap (λ (b : Bool). cond {A = Result Report ReportFault} b (cond {A = Result Report ReportFault} (length p == 0) (Ok y.1) (Err faults.Extra))
+        (Err faults.Short)) d
         ∙ ap (λ (b : Bool). cond {A = Result Report ReportFault} b (Ok y.1) (Err faults.Extra)) e
 done_answer n y p (q ∷ qs) d some =
-    ap (λ (b : Bool). ◌>>=◌ (cond {A = Result Reached ReportFault} b (Err faults.Extra) (line_or_fault n (taken y.0 y.1 p))) (λ (y : Reached). report_from (n + 1) y.0 y.1 (q ∷ qs))) d
+    ap (λ (b : Bool). ◌>>=◌ (cond {A = Result Reached ReportFault} b (Err faults.Extra) (line_or_fault n (taken y.0 y.1 p)))
+    (λ (y : Reached). report_from (n + 1) y.0 y.1 (q ∷ qs))) d
 
 record Reaches (ls : List (List ℕ)) (rest : List ℕ) : Type 0 where
   reached : Reached
@@ -368,12 +382,12 @@ reaches ls b lacks =
       reached = p.reached;
       by_lines = p.by_lines;
       at_end = λ d some.
-      let glue : glued (s.0 ∷ s.1) ≡ b.rest = ap glued (sym s.2) ∙ glued_pieces b.rest in
-      let no : report_from (1 + length ls) p.reached.0 p.reached.1 (s.0 ∷ s.1) ≡ Err faults.Extra =
-      done_answer (1 + length ls) p.reached s.0 s.1 d (λ e. some (sym glue ∙ e)) in
-      let yes : report_from (1 + length ls) p.reached.0 p.reached.1 (s.0 ∷ s.1) ≡ Ok b.report =
-      sym (through 1 places.Title nothing_read ls s.0 s.1 p.reached p.by_lines) ∙ whole in
-      cc;
+          let glue : glued (s.0 ∷ s.1) ≡ b.rest = ap glued (sym s.2) ∙ glued_pieces b.rest in
+          let no : report_from (1 + length ls) p.reached.0 p.reached.1 (s.0 ∷ s.1) ≡ Err faults.Extra =
+          done_answer (1 + length ls) p.reached s.0 s.1 d (λ e. some (sym glue ∙ e)) in
+          let yes : report_from (1 + length ls) p.reached.0 p.reached.1 (s.0 ∷ s.1) ≡ Ok b.report =
+          sym (through 1 places.Title nothing_read ls s.0 s.1 p.reached p.by_lines) ∙ whole in
+          cc;
     }
 
 not_done : {ls : List (List ℕ)} {rest : List ℕ} (r : Reaches ls rest) → rest ≢ [] → is_done r.reached.0 ≡ false
@@ -393,7 +407,8 @@ record Refused (n k : ℕ) (y : Reached) (piece : List ℕ) : Type 0 where
 refused : (n k : ℕ) (y : Reached) (piece : List ℕ) → followed k y.0 y.1 piece ≡ Err (faults.Line n) → Refused n k y piece
 refused n k y piece e = by (is_done y.0) (taken y.0 y.1 piece) refl refl e
   where
-    by : (d : Bool) (o : Option Reached) → is_done y.0 ≡ d → taken y.0 y.1 piece ≡ o → cond {A = Result Reached ReportFault} d (Err faults.Extra) (line_or_fault k o) ≡ Err (faults.Line n) → Refused n k y piece
+    by : (d : Bool) (o : Option Reached) → is_done y.0 ≡ d → taken y.0 y.1 piece ≡ o →
+        cond {A = Result Reached ReportFault} d (Err faults.Extra) (line_or_fault k o) ≡ Err (faults.Line n) → Refused n k y piece
     by true o d t e = cc
     by false None d t e = record { number = cc; undone = d; none = t }
     by false (Some z) d t e = cc
@@ -401,15 +416,18 @@ refused n k y piece e = by (is_done y.0) (taken y.0 y.1 piece) refl refl e
 never_line : (n : ℕ) (y : Reached) (piece : List ℕ) → ended y.0 y.1 piece ≡ Err (faults.Line n) → ⊥
 never_line n y piece e = by (is_done y.0) (length piece == 0) e
   where
-    by : (d z : Bool) → cond {A = Result Report ReportFault} d (cond {A = Result Report ReportFault} z (Ok y.1) (Err faults.Extra)) (Err faults.Short) ≡ Err (faults.Line n) → ⊥
+    by : (d z : Bool) → cond {A = Result Report ReportFault} d (cond {A = Result Report ReportFault} z (Ok y.1) (Err faults.Extra)) (Err faults.Short) ≡ Err
+        (faults.Line n) → ⊥
     by true true e = cc
     by true false e = cc
     by false z e = cc
 
-front_is : (ls : List (List ℕ)) (p : List ℕ) (ps : List (List ℕ)) (text : List ℕ) (k : ℕ) → pieces_of text ≡ ls ++ p ∷ ps → k ≡ length ls → take k (pieces_of text) ≡ ls
+front_is : (ls : List (List ℕ)) (p : List ℕ) (ps : List (List ℕ)) (text : List ℕ) (k : ℕ) → pieces_of text ≡ ls ++ p ∷ ps → k ≡ length ls →
+    take k (pieces_of text) ≡ ls
 front_is ls p ps text k parts e = ap (take k) parts ∙ (ap (λ (k : ℕ). take k (ls ++ p ∷ ps)) e ∙ take-append_seam ls (p ∷ ps))
 
-with_next : (ls : List (List ℕ)) (p : List ℕ) (ps : List (List ℕ)) (text : List ℕ) (k : ℕ) → pieces_of text ≡ ls ++ p ∷ ps → k ≡ length ls + 1 → take k (pieces_of text) ≡ ls ++ p ∷ []
+with_next : (ls : List (List ℕ)) (p : List ℕ) (ps : List (List ℕ)) (text : List ℕ) (k : ℕ) → pieces_of text ≡ ls ++ p ∷ ps → k ≡ length ls + 1 →
+    take k (pieces_of text) ≡ ls ++ p ∷ []
 with_next ls p ps text k parts e = ap (take k) parts ∙ (ap (λ (k : ℕ). take k (ls ++ p ∷ ps)) e ∙ take-append-add ls (p ∷ ps) 1)
 
 none_some : (y : Reached) → None ≡ Some y → ⊥
@@ -440,10 +458,10 @@ wrong_line text n e =
           before = same_bytes front g.begins;
           goes_on = g.goes_on r.undone;
           wrong = λ b.
-          let lines : flat_map line (before ++ piece ∷ []) ≡ first_lines n text =
-          ap (flat_map line) (sym (with_next before piece (q ∷ qs) text n parts (omega (arith, r.number, counted)))) in
-          let reach = reaches (before ++ piece ∷ []) (same_bytes lines b) lacks in
-          none_some reach.reached (sym nothing ∙ reach.by_lines);
+              let lines : flat_map line (before ++ piece ∷ []) ≡ first_lines n text =
+              ap (flat_map line) (sym (with_next before piece (q ∷ qs) text n parts (omega (arith, r.number, counted)))) in
+              let reach = reaches (before ++ piece ∷ []) (same_bytes lines b) lacks in
+              none_some reach.reached (sym nothing ∙ reach.by_lines);
         }
 
 record Split (k : ℕ) (ps : List (List ℕ)) : Type 0 where
@@ -471,16 +489,19 @@ is_wrong_line text n w =
     report_is text
     ∙ (ap (report_from 1 places.Title nothing_read) s.parts
     ∙ (through 1 places.Title nothing_read ls s.piece (s.next ∷ s.behind) r.reached r.by_lines
-    ∙ by s.piece s.next s.behind s.parts r.reached r.by_lines (not_done r w.goes_on) (omega (arith, long, w.counted)) number (taken r.reached.0 r.reached.1 s.piece) refl))
+    ∙ by s.piece s.next s.behind s.parts r.reached r.by_lines (not_done r w.goes_on) (omega (arith, long, w.counted)) number
+    (taken r.reached.0 r.reached.1 s.piece) refl))
   where
     ls : List (List ℕ)
     ls = take (n - 1) (pieces_of text)
 
-    by : (piece next : List ℕ) (behind : List (List ℕ)) → pieces_of text ≡ ls ++ piece ∷ next ∷ behind → (y : Reached) → lines_on places.Title nothing_read ls ≡ Some y →
+    by : (piece next : List ℕ) (behind : List (List ℕ)) → pieces_of text ≡ ls ++ piece ∷ next ∷ behind → (y : Reached) →
+        lines_on places.Title nothing_read ls ≡ Some y →
         is_done y.0 ≡ false → n ≡ length ls + 1 → 1 + length ls ≡ n → (o : Option Reached) → taken y.0 y.1 piece ≡ o →
         report_from (1 + length ls) y.0 y.1 (piece ∷ next ∷ behind) ≡ Err (faults.Line n)
     by piece next behind parts y passed undone long number None t =
-        ap (λ (b : Bool). ◌>>=◌ (cond {A = Result Reached ReportFault} b (Err faults.Extra) (line_or_fault (1 + length ls) (taken y.0 y.1 piece))) (λ (y : Reached). report_from (1 + length ls + 1) y.0 y.1 (next ∷ behind))) undone
+        ap (λ (b : Bool). ◌>>=◌ (cond {A = Result Reached ReportFault} b (Err faults.Extra) (line_or_fault (1 + length ls) (taken y.0 y.1 piece)))
+        (λ (y : Reached). report_from (1 + length ls + 1) y.0 y.1 (next ∷ behind))) undone
         ∙ (ap (λ (o : Option Reached). ◌>>=◌ (line_or_fault (1 + length ls) o) (λ (y : Reached). report_from (1 + length ls + 1) y.0 y.1 (next ∷ behind))) t
         ∙ ap (λ (k : ℕ). Err (faults.Line k)) number)
     by piece next behind parts y passed undone long number (Some z) t =
@@ -505,7 +526,9 @@ short_only k y piece e = by (is_done y.0) (taken y.0 y.1 piece) e
 short_undone : (y : Reached) (piece : List ℕ) → ended y.0 y.1 piece ≡ Err faults.Short → is_done y.0 ≡ false
 short_undone y piece e = by (is_done y.0) (length piece == 0) refl e
   where
-    by : (d z : Bool) → is_done y.0 ≡ d → cond {A = Result Report ReportFault} d (cond {A = Result Report ReportFault} z (Ok y.1) (Err faults.Extra)) (Err faults.Short) ≡ Err faults.Short → is_done y.0 ≡ false
+    by : (d z : Bool) → is_done y.0 ≡ d →
+        cond {A = Result Report ReportFault} d (cond {A = Result Report ReportFault} z (Ok y.1) (Err faults.Extra)) (Err faults.Short) ≡ Err faults.Short →
+        is_done y.0 ≡ false
     by true true d e = cc
     by true false d e = cc
     by false z d e = d
@@ -546,7 +569,8 @@ is_short text w =
     report_is text
     ∙ (ap (report_from 1 places.Title nothing_read) s.parts
     ∙ (through 1 places.Title nothing_read ls s.last [] r.reached r.by_lines
-    ∙ ap (λ (b : Bool). cond {A = Result Report ReportFault} b (cond {A = Result Report ReportFault} (length s.last == 0) (Ok r.reached.1) (Err faults.Extra)) (Err faults.Short)) (not_done r w.goes_on)))
+    ∙ ap (λ (b : Bool). cond {A = Result Report ReportFault} b (cond {A = Result Report ReportFault} (length s.last == 0) (Ok r.reached.1) (Err faults.Extra))
+    (Err faults.Short)) (not_done r w.goes_on)))
 
 pub short_texts : ShortTextsAreNamed
 short_texts text = (λ e. short text e, λ w. is_short text w)
@@ -556,7 +580,8 @@ short_texts text = (λ e. short text e, λ w. is_short text w)
 extra_done : (k : ℕ) (y : Reached) (piece : List ℕ) → followed k y.0 y.1 piece ≡ Err faults.Extra → is_done y.0 ≡ true
 extra_done k y piece e = by (is_done y.0) (taken y.0 y.1 piece) refl e
   where
-    by : (d : Bool) (o : Option Reached) → is_done y.0 ≡ d → cond {A = Result Reached ReportFault} d (Err faults.Extra) (line_or_fault k o) ≡ Err faults.Extra → is_done y.0 ≡ true
+    by : (d : Bool) (o : Option Reached) → is_done y.0 ≡ d →
+        cond {A = Result Reached ReportFault} d (Err faults.Extra) (line_or_fault k o) ≡ Err faults.Extra → is_done y.0 ≡ true
     by true o d e = d
     by false None d e = cc
     by false (Some z) d e = cc
@@ -564,7 +589,9 @@ extra_done k y piece e = by (is_done y.0) (taken y.0 y.1 piece) refl e
 extra_ended : (y : Reached) (piece : List ℕ) → ended y.0 y.1 piece ≡ Err faults.Extra → (is_done y.0 ≡ true) × (piece ≢ [])
 extra_ended y piece e = by (is_done y.0) (length piece == 0) refl refl e
   where
-    by : (d z : Bool) → is_done y.0 ≡ d → (length piece == 0) ≡ z → cond {A = Result Report ReportFault} d (cond {A = Result Report ReportFault} z (Ok y.1) (Err faults.Extra)) (Err faults.Short) ≡ Err faults.Extra → (is_done y.0 ≡ true) × (piece ≢ [])
+    by : (d z : Bool) → is_done y.0 ≡ d → (length piece == 0) ≡ z →
+        cond {A = Result Report ReportFault} d (cond {A = Result Report ReportFault} z (Ok y.1) (Err faults.Extra)) (Err faults.Short) ≡ Err faults.Extra →
+        (is_done y.0 ≡ true) × (piece ≢ [])
     by true true d z e = cc
     by true false d z e = (d, λ none. true≢false (sym (ap (λ (p : List ℕ). length p == 0) none) ∙ z))
     by false z d f e = cc
@@ -597,7 +624,9 @@ extra text e =
 ok_done : (y : Reached) (piece : List ℕ) (all : Report) → ended y.0 y.1 piece ≡ Ok all → (is_done y.0 ≡ true) × (piece ≡ [])
 ok_done y piece all e = by (is_done y.0) (length piece == 0) refl refl e
   where
-    by : (d z : Bool) → is_done y.0 ≡ d → (length piece == 0) ≡ z → cond {A = Result Report ReportFault} d (cond {A = Result Report ReportFault} z (Ok y.1) (Err faults.Extra)) (Err faults.Short) ≡ Ok all → (is_done y.0 ≡ true) × (piece ≡ [])
+    by : (d z : Bool) → is_done y.0 ≡ d → (length piece == 0) ≡ z →
+        cond {A = Result Report ReportFault} d (cond {A = Result Report ReportFault} z (Ok y.1) (Err faults.Extra)) (Err faults.Short) ≡ Ok all →
+        (is_done y.0 ≡ true) × (piece ≡ [])
     by true true d z e = (d, nothing_left piece z)
     by true false d z e = cc
     by false z d f e = cc
@@ -605,24 +634,29 @@ ok_done y piece all e = by (is_done y.0) (length piece == 0) refl refl e
 has_extra : (text : List ℕ) → HasExtra text → report_in text ≡ Err faults.Extra
 has_extra text w =
     let s = some_piece (report_text w.report) in
-    let at = settled 1 places.Title nothing_read s.0 s.1 (Ok w.report) (from_pieces (report_text w.report) (s.0 ∷ s.1) (Ok w.report) s.2 (read_back w.report w.has_text)) in
+    let at = settled 1 places.Title nothing_read s.0 s.1 (Ok w.report)
+    (from_pieces (report_text w.report) (s.0 ∷ s.1) (Ok w.report) s.2 (read_back w.report w.has_text)) in
     by at.before at.reached at.piece at.behind at.number (s.2 ∙ at.parts) at.passed at.here
   where
-    by : (before : List (List ℕ)) (y : Reached) (piece : List ℕ) (behind : List (List ℕ)) (k : ℕ) → pieces_of (report_text w.report) ≡ before ++ piece ∷ behind →
+    by : (before : List (List ℕ)) (y : Reached) (piece : List ℕ) (behind : List (List ℕ)) (k : ℕ) →
+        pieces_of (report_text w.report) ≡ before ++ piece ∷ behind →
         lines_on places.Title nothing_read before ≡ Some y → Here (Ok w.report) k y piece behind → report_in text ≡ Err faults.Extra
     by before y piece (q ∷ qs) k parts passed here = absurd here
     by before y piece [] k parts passed here =
         let h = ok_done y piece w.report here in
         let lacks = each_front (Lacks 10) before (piece ∷ []) (subst (λ (ps : List (List ℕ)). Each (Lacks 10) ps) parts (pieces_lack (report_text w.report))) in
         let lines : report_text w.report ≡ flat_map line before =
-        sym (glued_pieces (report_text w.report)) ∙ (ap glued parts ∙ (glued_front before piece [] ∙ (ap (λ (t : List ℕ). flat_map line before ++ t) h.1 ∙ append-nil (flat_map line before)))) in
+        sym (glued_pieces (report_text w.report))
+        ∙ (ap glued parts ∙ (glued_front before piece [] ∙ (ap (λ (t : List ℕ). flat_map line before ++ t) h.1 ∙ append-nil (flat_map line before)))) in
         let rest = some_piece w.rest in
         let all : pieces_of text ≡ before ++ rest.0 ∷ rest.1 =
-        ap pieces_of (w.spells ∙ ap (λ (t : List ℕ). t ++ w.rest) lines) ∙ (pieces_again before w.rest lacks ∙ ap (λ (ps : List (List ℕ)). before ++ ps) rest.2) in
+        ap pieces_of (w.spells ∙ ap (λ (t : List ℕ). t ++ w.rest) lines)
+        ∙ (pieces_again before w.rest lacks ∙ ap (λ (ps : List (List ℕ)). before ++ ps) rest.2) in
         let glue : glued (rest.0 ∷ rest.1) ≡ w.rest = ap glued (sym rest.2) ∙ glued_pieces w.rest in
         report_is text
         ∙ (ap (report_from 1 places.Title nothing_read) all
-        ∙ (through 1 places.Title nothing_read before rest.0 rest.1 y passed ∙ done_answer (1 + length before) y rest.0 rest.1 h.0 (λ e. w.more (sym glue ∙ e))))
+        ∙ (through 1 places.Title nothing_read before rest.0 rest.1 y passed
+        ∙ done_answer (1 + length before) y rest.0 rest.1 h.0 (λ e. w.more (sym glue ∙ e))))
 
 pub extra_bytes : ExtraBytesAreNamed
 extra_bytes text = (λ e. extra text e, λ w. has_extra text w)

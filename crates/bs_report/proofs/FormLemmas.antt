@@ -1,11 +1,11 @@
 -- Each line of a report's text is read back, and lacks line feeds.
-use Rattle.std.proofs.Common.{◌≡◌, ℕ, ◌<◌, ◌≤◌, ◌+◌, ◌^◌, Bool, true, false, cond, not, ◌&&◌, List, [], ◌∷◌, ◌++◌, map, refl, arith, ap, ◌∙◌, Option, Some, None}
+use Rattle.std.proofs.Common.{◌≡◌, ℕ, ◌<◌, ◌≤◌, ◌+◌, ◌^◌, Bool, true, false, cond, not, ◌&&◌, List, [], ◌∷◌, ◌++◌, refl, arith, ap, ◌∙◌, Option, Some, None}
 use Rattle.std.specs.Prelude.{◌==◌, codes, decimal, nat_le, nat_lt, option_map}
 use Rattle.std.specs.List.{AllByRecursion as Each, flat_map, list_all}
 use Rattle.std.specs.Str.{bytes_eq}
-use Rattle.std.proofs.lemmas.Bool.{and_parts, and_from, le-leb, leb-true, lt-ltb, ne_eqb}
-use Rattle.bs_bits.specs.Text.{bits_text, bits_of, digit_of}
-use Rattle.bs_bits.specs.Lines.{words_of, number_in, digits_in, is_digits, is_canonical}
+use Rattle.std.proofs.lemmas.Bool.{and_from, le-leb, lt-ltb}
+use Rattle.bs_bits.specs.Text.{bits_text, bits_of}
+use Rattle.bs_bits.specs.Lines.{words_of, number_in, digits_in}
 use Rattle.bs_bits.proofs.TextLemmas.{bits_again}
 use Rattle.bs_bits.proofs.LineTextLemmas.{Lacks, lacks_append, bits_lack, number_lacks}
 use Rattle.bs_bits.proofs.NumberLemmas.{decimal_canonical, number_of_decimal}
@@ -16,6 +16,7 @@ use Rattle.bs_log.specs.LineForms.{IsId, HasVariable, HasText}
 use Rattle.bs_log.specs.LineReading.{id_in}
 use Rattle.bs_log.specs.LineText.{line_text, literal_text, id_text}
 use Rattle.bs_log.proofs.WordLemmas.{id_of_decimal, IsWord, words_joined}
+use Rattle.bs_stim.specs.declared.limits.TheConstants.{MAX_RUNS, MAX_CYCLES}
 use Rattle.bs_report.specs.declared.limits.TheConstants.{MAX_STEPS, MAX_CANDIDATES, MAX_CONFLICTS}
 use Rattle.bs_report.specs.declared.report.Budgets.{Budgets}
 use Rattle.bs_report.specs.declared.report.Cand.{Cand}
@@ -64,12 +65,15 @@ behind_again tag w ws t = ap (λ (b : Bool). cond {A = Option (List ℕ × List 
 pub number_behind_again : (tag : List ℕ) (low high n : ℕ) (ws : List (List ℕ)) → bytes_eq tag tag ≡ true → low ≤ n → n ≤ high → n < 2 ^ 64 →
     number_behind tag low high (tag ∷ decimal n ∷ ws) ≡ Some (n, ws)
 number_behind_again tag low high n ws t l u h =
-    given (behind tag (tag ∷ decimal n ∷ ws)) (decimal n, ws) (λ found. number_within low high found.0 >>= λ n. Some (n, found.1)) (behind_again tag (decimal n) ws t)
+    given (behind tag (tag ∷ decimal n ∷ ws)) (decimal n, ws) (λ found. number_within low high found.0 >>= λ n. Some (n, found.1))
+    (behind_again tag (decimal n) ws t)
     ∙ given (number_within low high (decimal n)) n (λ n. Some (n, ws)) (within_again low high n l u h)
 
-pub bits_behind_again : (tag : List ℕ) (bs : List Bool) (ws : List (List ℕ)) → bytes_eq tag tag ≡ true → bits_behind tag (tag ∷ bits_text bs ∷ ws) ≡ Some (bs, ws)
+pub bits_behind_again : (tag : List ℕ) (bs : List Bool) (ws : List (List ℕ)) → bytes_eq tag tag ≡ true →
+    bits_behind tag (tag ∷ bits_text bs ∷ ws) ≡ Some (bs, ws)
 bits_behind_again tag bs ws t =
-    given (behind tag (tag ∷ bits_text bs ∷ ws)) (bits_text bs, ws) (λ found. bits_of found.0 >>= λ bits. Some (bits, found.1)) (behind_again tag (bits_text bs) ws t)
+    given (behind tag (tag ∷ bits_text bs ∷ ws)) (bits_text bs, ws) (λ found. bits_of found.0 >>= λ bits. Some (bits, found.1))
+    (behind_again tag (bits_text bs) ws t)
     ∙ given (bits_of (bits_text bs)) bs (λ bits. Some (bits, ws)) (bits_again bs)
 
 -- ---- lines
@@ -85,13 +89,17 @@ bits_line_again tag text bs w t =
     ap (λ (ws : List (List ℕ)). bits_behind tag ws >>= λ found. at_end found.1 found.0) w
     ∙ given (bits_behind tag (tag ∷ bits_text bs ∷ [])) (bs, []) (λ found. at_end found.1 found.0) (bits_behind_again tag bs [] t)
 
-pub budgets_again : (b : Budgets) → 1 ≤ b.steps → b.steps ≤ MAX_STEPS → 1 ≤ b.candidates → b.candidates ≤ MAX_CANDIDATES → 1 ≤ b.conflicts → b.conflicts ≤ MAX_CONFLICTS →
-    budgets_in (codes "asked " ++ (decimal b.steps ++ (codes " candidates " ++ (decimal b.candidates ++ (codes " conflicts " ++ decimal b.conflicts))))) ≡ Some b
+pub budgets_again : (b : Budgets) → 1 ≤ b.steps → b.steps ≤ MAX_STEPS → 1 ≤ b.candidates → b.candidates ≤ MAX_CANDIDATES → 1 ≤ b.conflicts →
+    b.conflicts ≤ MAX_CONFLICTS →
+    budgets_in (codes "asked " ++ (decimal b.steps
+    ++ (codes " candidates " ++ (decimal b.candidates ++ (codes " conflicts " ++ decimal b.conflicts))))) ≡ Some b
 budgets_again b sl su cl cu fl fu =
     ap (λ (ws : List (List ℕ)). number_behind (codes "asked") 1 MAX_STEPS ws >>= first) words
     ∙ (given _ (b.steps, after_steps) first (number_behind_again (codes "asked") 1 MAX_STEPS b.steps after_steps refl sl su (omega (arith, su)))
-    ∙ (given _ (b.candidates, after_candidates) (second b.steps) (number_behind_again (codes "candidates") 1 MAX_CANDIDATES b.candidates after_candidates refl cl cu (omega (arith, cu)))
-    ∙ given _ (b.conflicts, []) (third b.steps b.candidates) (number_behind_again (codes "conflicts") 1 MAX_CONFLICTS b.conflicts [] refl fl fu (omega (arith, fu)))))
+    ∙ (given _ (b.candidates, after_candidates) (second b.steps)
+    (number_behind_again (codes "candidates") 1 MAX_CANDIDATES b.candidates after_candidates refl cl cu (omega (arith, cu)))
+    ∙ given _ (b.conflicts, []) (third b.steps b.candidates)
+    (number_behind_again (codes "conflicts") 1 MAX_CONFLICTS b.conflicts [] refl fl fu (omega (arith, fu)))))
   where
     after_candidates : List (List ℕ)
     after_candidates = codes "conflicts" ∷ decimal b.conflicts ∷ []
@@ -108,10 +116,17 @@ budgets_again b sl su cl cu fl fu =
     first : ℕ × List (List ℕ) → Option Budgets
     first steps = number_behind (codes "candidates") 1 MAX_CANDIDATES steps.1 >>= second steps.0
 
-    words : words_of (codes "asked " ++ (decimal b.steps ++ (codes " candidates " ++ (decimal b.candidates ++ (codes " conflicts " ++ decimal b.conflicts))))) ≡ codes "asked" ∷ decimal b.steps ∷ after_steps
+    words : words_of (codes "asked "
+        ++ (decimal b.steps ++ (codes " candidates " ++ (decimal b.candidates ++ (codes " conflicts " ++ decimal b.conflicts))))) ≡ codes "asked"
+        ∷ decimal b.steps ∷ after_steps
     words =
-        words_joined (codes "asked") (decimal b.steps ∷ after_steps)
-        (refl, (number_word b.steps (omega (arith, su)), (refl, (number_word b.candidates (omega (arith, cu)), (refl, (number_word b.conflicts (omega (arith, fu)), tt))))))
+        words_joined (codes "asked") (decimal b.steps ∷ after_steps) (
+          refl,
+          (
+            number_word b.steps (omega (arith, su)),
+            (refl, (number_word b.candidates (omega (arith, cu)), (refl, (number_word b.conflicts (omega (arith, fu)), tt)))),
+          ),
+        )
 
 pub cand_again : (c : Cand) → cand_in (codes "cand " ++ (bits_text c.state ++ (codes " input " ++ bits_text c.input))) ≡ Some c
 cand_again c =
@@ -125,7 +140,8 @@ cand_again c =
     first : List Bool × List (List ℕ) → Option Cand
     first state = bits_behind (codes "input") state.1 >>= second state.0
 
-    words : words_of (codes "cand " ++ (bits_text c.state ++ (codes " input " ++ bits_text c.input))) ≡ codes "cand" ∷ bits_text c.state ∷ codes "input" ∷ bits_text c.input ∷ []
+    words : words_of (codes "cand " ++ (bits_text c.state ++ (codes " input " ++ bits_text c.input))) ≡ codes "cand" ∷ bits_text c.state ∷ codes "input"
+        ∷ bits_text c.input ∷ []
     words =
         words_joined (codes "cand") (bits_text c.state ∷ codes "input" ∷ bits_text c.input ∷ [])
         (refl, (bits_word c.state, (refl, (bits_word c.input, tt))))
@@ -141,23 +157,25 @@ end_again ByConflicts h = refl
 hit_words : HitLine → List (List ℕ)
 hit_words hit = codes "hit" ∷ decimal hit.run ∷ decimal hit.cycle ∷ bits_text hit.state ∷ []
 
-pub hit_again : (hit : HitLine) → 1 ≤ hit.run → hit.run ≤ 256 → hit.cycle ≤ 65536 →
+pub hit_again : (hit : HitLine) → 1 ≤ hit.run → hit.run ≤ MAX_RUNS → hit.cycle ≤ MAX_CYCLES →
     hit_in (codes "hit " ++ (decimal hit.run ++ (codes " " ++ (decimal hit.cycle ++ (codes " " ++ bits_text hit.state))))) ≡ Some (Some hit)
 hit_again hit l u c =
     ap (option_map (λ (hit : HitLine). Some hit))
     (ap moment_in words
     ∙ (given _ ((hit.run, hit.cycle), bits_text hit.state ∷ []) second
-    (given _ (hit.run, decimal hit.cycle ∷ bits_text hit.state ∷ []) first (number_behind_again (codes "hit") 1 256 hit.run (decimal hit.cycle ∷ bits_text hit.state ∷ []) refl l u (omega (arith, u)))
-    ∙ given _ hit.cycle (λ cycle. Some ((hit.run, cycle), bits_text hit.state ∷ [])) (within_again 0 65536 hit.cycle (omega arith) c (omega (arith, c))))
+    (given _ (hit.run, decimal hit.cycle ∷ bits_text hit.state ∷ []) first
+    (number_behind_again (codes "hit") 1 MAX_RUNS hit.run (decimal hit.cycle ∷ bits_text hit.state ∷ []) refl l u (omega (arith, u)))
+    ∙ given _ hit.cycle (λ cycle. Some ((hit.run, cycle), bits_text hit.state ∷ [])) (within_again 0 MAX_CYCLES hit.cycle (omega arith) c (omega (arith, c))))
     ∙ given (bits_of (bits_text hit.state)) hit.state (λ bits. Some (record { run = hit.run; cycle = hit.cycle; state = bits })) (bits_again hit.state)))
   where
     first : ℕ × List (List ℕ) → Option ((ℕ × ℕ) × List (List ℕ))
-    first run = next_in run.1 >>= λ found. number_within 0 65536 found.0 >>= λ cycle. Some ((run.0, cycle), found.1)
+    first run = next_in run.1 >>= λ found. number_within 0 MAX_CYCLES found.0 >>= λ cycle. Some ((run.0, cycle), found.1)
 
     second : (ℕ × ℕ) × List (List ℕ) → Option HitLine
     second moment = next_in moment.1 >>= λ found. bits_of found.0 >>= λ bits. at_end found.1 (record { run = moment.0.0; cycle = moment.0.1; state = bits })
 
-    words : words_of (codes "hit " ++ (decimal hit.run ++ (codes " " ++ (decimal hit.cycle ++ (codes " " ++ bits_text hit.state))))) ≡ codes "hit" ∷ decimal hit.run ∷ decimal hit.cycle ∷ bits_text hit.state ∷ []
+    words : words_of (codes "hit " ++ (decimal hit.run ++ (codes " " ++ (decimal hit.cycle ++ (codes " " ++ bits_text hit.state))))) ≡ codes "hit"
+        ∷ decimal hit.run ∷ decimal hit.cycle ∷ bits_text hit.state ∷ []
     words =
         words_joined (codes "hit") (decimal hit.run ∷ decimal hit.cycle ∷ bits_text hit.state ∷ [])
         (refl, (number_word hit.run (omega (arith, u)), (number_word hit.cycle (omega (arith, c)), (bits_word hit.state, tt))))

@@ -40,7 +40,8 @@ record Goes (place : Place) (r : Report) (text : List ℕ) (next : Place) (after
 stays : (place : Place) (r : Report) (text : List ℕ) → Goes place r text place r text
 stays place r text = record { to = λ n. (n, refl) }
 
-on : {place next last : Place} {r after end : Report} {text rest behind : List ℕ} → Goes place r text next after rest → Goes next after rest last end behind → Goes place r text last end behind
+on : {place next last : Place} {r after end : Report} {text rest behind : List ℕ} → Goes place r text next after rest → Goes next after rest last end behind →
+    Goes place r text last end behind
 on g h = record { to = λ n. let a = g.to n in let b = h.to a.0 in (b.0, a.1 ∙ b.1) }
 
 -- one line
@@ -52,7 +53,8 @@ one place next r after a rest lacks undone t =
         n + 1,
         ap (report_from n place r) (piece_first a rest lacks)
             ∙ (line_from n place r a rest
-            ∙ (ap (λ (b : Bool). ◌>>=◌ (cond b (Err extra) (line_or_fault n (taken place r a))) (λ (y : Reached). report_from (n + 1) y.0 y.1 (pieces_of rest))) undone
+            ∙ (ap (λ (b : Bool). ◌>>=◌ (cond b (Err extra) (line_or_fault n (taken place r a)))
+            (λ (y : Reached). report_from (n + 1) y.0 y.1 (pieces_of rest))) undone
             ∙ ap (λ (o : Option Reached). ◌>>=◌ (line_or_fault n o) (λ (y : Reached). report_from (n + 1) y.0 y.1 (pieces_of rest))) t)),
       );
     }
@@ -64,18 +66,23 @@ one place next r after a rest lacks undone t =
 one_of : (place next : Place) (r after : Report) (a b rest : List ℕ) → Lacks 10 a → is_done place ≡ false → taken place r a ≡ Some (next, after) →
     Goes place r ((line a ++ b) ++ rest) next after (b ++ rest)
 one_of place next r after a b rest lacks undone t =
-    subst (λ (text : List ℕ). Goes place r text next after (b ++ rest)) (sym (append_assoc (line a) b rest)) (one place next r after a (b ++ rest) lacks undone t)
+    subst (λ (text : List ℕ). Goes place r text next after (b ++ rest)) (sym (append_assoc (line a) b rest))
+    (one place next r after a (b ++ rest) lacks undone t)
 
 -- ---- a step
 
-cands_go : (p s : List Bool) (done cands : List Cand) (r : Report) (rest : List ℕ) → Goes (places.Listing p s done) r (flat_map cand_text cands ++ rest) (places.Listing p s (done ++ cands)) r rest
-cands_go p s done [] r rest = subst (λ (cs : List Cand). Goes (places.Listing p s done) r rest (places.Listing p s cs) r rest) (sym (append-nil done)) (stays (places.Listing p s done) r rest)
+cands_go : (p s : List Bool) (done cands : List Cand) (r : Report) (rest : List ℕ) →
+    Goes (places.Listing p s done) r (flat_map cand_text cands ++ rest) (places.Listing p s (done ++ cands)) r rest
+cands_go p s done [] r rest = subst (λ (cs : List Cand). Goes (places.Listing p s done) r rest (places.Listing p s cs) r rest) (sym (append-nil done))
+    (stays (places.Listing p s done) r rest)
 cands_go p s done (c ∷ cs) r rest =
     on
     (one_of (places.Listing p s done) (places.Listing p s (done ++ c ∷ [])) r r
     (codes "cand " ++ (bits_text c.state ++ (codes " input " ++ bits_text c.input))) (flat_map cand_text cs) rest lacks refl
-    (ap (λ (o : Option Cand). option_map (λ (place : Place). (place, r)) (more_listed p s done (codes "cand " ++ (bits_text c.state ++ (codes " input " ++ bits_text c.input))) o)) (cand_again c)))
-    (subst (λ (all : List Cand). Goes (places.Listing p s (done ++ c ∷ [])) r (flat_map cand_text cs ++ rest) (places.Listing p s all) r rest) (append_assoc done (c ∷ []) cs)
+    (ap (λ (o : Option Cand). option_map (λ (place : Place). (place, r))
+    (more_listed p s done (codes "cand " ++ (bits_text c.state ++ (codes " input " ++ bits_text c.input))) o)) (cand_again c)))
+    (subst (λ (all : List Cand). Goes (places.Listing p s (done ++ c ∷ [])) r (flat_map cand_text cs ++ rest) (places.Listing p s all) r rest)
+    (append_assoc done (c ∷ []) cs)
     (cands_go p s (done ++ c ∷ []) cs r rest))
   where
     lacks : Lacks 10 (codes "cand " ++ (bits_text c.state ++ (codes " input " ++ bits_text c.input)))
@@ -91,7 +98,10 @@ list_goes p s cands e r b rest h =
     (ap (λ (o : Option ListEnd). option_map (λ (place : Place). (place, r)) (option_map (λ (ended : ListEnd). places.Hit p s cands ended) o)) (end_again e h))
   where
     lacks : (e : ListEnd) → HasEndText e → Lacks 10 (codes "list " ++ end_word e)
-    lacks (Finished id) h = (refl, (refl, (refl, (refl, (refl, (refl, (refl, (refl, (refl, (refl, (refl, (refl, (refl, (refl, number_lacks 10 id (omega arith) h.1))))))))))))))
+    lacks (Finished id) h = (
+      refl,
+      (refl, (refl, (refl, (refl, (refl, (refl, (refl, (refl, (refl, (refl, (refl, (refl, (refl, number_lacks 10 id (omega arith) h.1))))))))))))),
+    )
     lacks ByCandidates h = (refl, (refl, (refl, (refl, (refl, (refl, (refl, (refl, (refl, (refl, (refl, (refl, (refl, (refl, (refl, tt)))))))))))))))
     lacks ByConflicts h = (refl, (refl, (refl, (refl, (refl, (refl, (refl, (refl, (refl, (refl, (refl, (refl, (refl, (refl, tt))))))))))))))
 
@@ -123,12 +133,14 @@ step_goes r number step rest h e small =
     (lacks_append 10 (codes "step ") (decimal number) (refl, (refl, (refl, (refl, (refl, tt))))) (number_lacks 10 number (omega arith) small)) refl begun)
     (on
     (one_of places.Present (places.Stored step.present) r r (codes "present " ++ bits_text step.present) rest2 rest
-    (lacks_append 10 (codes "present ") (bits_text step.present) (refl, (refl, (refl, (refl, (refl, (refl, (refl, (refl, tt)))))))) (bits_lack 10 step.present (omega arith))) refl
+    (lacks_append 10 (codes "present ") (bits_text step.present) (refl, (refl, (refl, (refl, (refl, (refl, (refl, (refl, tt))))))))
+    (bits_lack 10 step.present (omega arith))) refl
     (ap (λ (o : Option (List Bool)). option_map (λ (place : Place). (place, r)) (option_map (λ (s : List Bool). places.Stored s) o))
     (bits_line_again (codes "present") (codes "present " ++ bits_text step.present) step.present (words_of_bits (codes "present") step.present refl) refl)))
     (on
     (one_of (places.Stored step.present) (places.Listing step.present step.stored []) r r (codes "stored " ++ bits_text step.stored) rest3 rest
-    (lacks_append 10 (codes "stored ") (bits_text step.stored) (refl, (refl, (refl, (refl, (refl, (refl, (refl, tt))))))) (bits_lack 10 step.stored (omega arith))) refl
+    (lacks_append 10 (codes "stored ") (bits_text step.stored) (refl, (refl, (refl, (refl, (refl, (refl, (refl, tt)))))))
+    (bits_lack 10 step.stored (omega arith))) refl
     (ap (λ (o : Option (List Bool)). option_map (λ (place : Place). (place, r)) (option_map (λ (s : List Bool). places.Listing step.present s []) o))
     (bits_line_again (codes "stored") (codes "stored " ++ bits_text step.stored) step.stored (words_of_bits (codes "stored") step.stored refl) refl)))
     (on
@@ -155,7 +167,8 @@ step_goes r number step rest h e small =
         (count_again (codes "step") (codes "step " ++ decimal number) number (words_of_count (codes "step") number refl small) refl small)
         ∙ ap (λ (b : Bool). cond {A = Option Reached} b (Some (places.Present, r)) None) (eq-eqb number (length r.steps + 1) e)
 
-steps_go : (r : Report) (number : ℕ) (steps : List Step) (rest : List ℕ) → Each HasStepText steps → number ≡ length r.steps + 1 → length r.steps + length steps < 2 ^ 64 →
+steps_go : (r : Report) (number : ℕ) (steps : List Step) (rest : List ℕ) → Each HasStepText steps → number ≡ length r.steps + 1 →
+    length r.steps + length steps < 2 ^ 64 →
     Goes places.Turn r (steps_text number steps ++ rest) places.Turn (with_steps r (r.steps ++ steps)) rest
 steps_go r number [] rest h e few =
     subst (λ (steps : List Step). Goes places.Turn r rest places.Turn (with_steps r steps) rest) (sym (append-nil r.steps)) (stays places.Turn r rest)
@@ -163,8 +176,10 @@ steps_go r number (s ∷ ss) rest h e few =
     let longer : length (r.steps ++ s ∷ []) ≡ length r.steps + 1 = length-append r.steps (s ∷ []) in
     on
     (subst (λ (text : List ℕ). Goes places.Turn r text places.Turn (with_steps r (r.steps ++ s ∷ [])) (steps_text (number + 1) ss ++ rest))
-    (sym (append_assoc (step_text number s) (steps_text (number + 1) ss) rest)) (step_goes r number s (steps_text (number + 1) ss ++ rest) h.0 e (omega (arith, few, e))))
-    (subst (λ (steps : List Step). Goes places.Turn (with_steps r (r.steps ++ s ∷ [])) (steps_text (number + 1) ss ++ rest) places.Turn (with_steps r steps) rest) (append_assoc r.steps (s ∷ []) ss)
+    (sym (append_assoc (step_text number s) (steps_text (number + 1) ss) rest))
+    (step_goes r number s (steps_text (number + 1) ss ++ rest) h.0 e (omega (arith, few, e))))
+    (subst (λ (steps : List Step). Goes places.Turn (with_steps r (r.steps ++ s ∷ [])) (steps_text (number + 1) ss ++ rest) places.Turn
+    (with_steps r steps) rest) (append_assoc r.steps (s ∷ []) ss)
     (steps_go (with_steps r (r.steps ++ s ∷ [])) (number + 1) ss rest h.1 (omega (arith, e, longer)) (omega (arith, few, longer))))
 
 -- ---- the trace
@@ -182,7 +197,8 @@ state_goes r s left next rest e =
     ∙ ap (λ (place : Place). Some (place, with_trace r (r.states ++ s ∷ []) r.inputs)) e)
 
 input_goes : (r : Report) (x : List Bool) (left : ℕ) (b rest : List ℕ) →
-    Goes (places.Input left) r ((line (codes "input " ++ bits_text x) ++ b) ++ rest) (places.State (left - 1)) (with_trace r r.states (r.inputs ++ x ∷ [])) (b ++ rest)
+    Goes (places.Input left) r ((line (codes "input " ++ bits_text x) ++ b) ++ rest) (places.State (left - 1)) (with_trace r r.states (r.inputs ++ x ∷ []))
+    (b ++ rest)
 input_goes r x left b rest =
     one_of (places.Input left) (places.State (left - 1)) r (with_trace r r.states (r.inputs ++ x ∷ [])) (codes "input " ++ bits_text x) b rest
     (lacks_append 10 (codes "input ") (bits_text x) (refl, (refl, (refl, (refl, (refl, (refl, tt)))))) (bits_lack 10 x (omega arith))) refl
@@ -203,25 +219,31 @@ moves_go : (r : Report) (xs ss : List (List Bool)) (rest : List ℕ) → length 
     Goes (behind_state (length xs)) r (moves_text xs ss ++ rest) places.Log (with_trace r (r.states ++ ss) (r.inputs ++ xs)) rest
 moves_go r [] [] rest e =
     subst (λ (states : List (List Bool)). Goes places.Log r rest places.Log (with_trace r states (r.inputs ++ [])) rest) (sym (append-nil r.states))
-    (subst (λ (inputs : List (List Bool)). Goes places.Log r rest places.Log (with_trace r r.states inputs) rest) (sym (append-nil r.inputs)) (stays places.Log r rest))
+    (subst (λ (inputs : List (List Bool)). Goes places.Log r rest places.Log (with_trace r r.states inputs) rest) (sym (append-nil r.inputs))
+    (stays places.Log r rest))
 moves_go r [] (s ∷ ss) rest e = absurd (omega (arith, e))
 moves_go r (x ∷ xs) [] rest e = absurd (omega (arith, e))
 moves_go r (x ∷ xs) (s ∷ ss) rest e =
-    subst (λ (place : Place). Goes place r (moves_text (x ∷ xs) (s ∷ ss) ++ rest) places.Log (with_trace r (r.states ++ s ∷ ss) (r.inputs ++ x ∷ xs)) rest) (sym (behind_move (length xs)))
+    subst (λ (place : Place). Goes place r (moves_text (x ∷ xs) (s ∷ ss) ++ rest) places.Log (with_trace r (r.states ++ s ∷ ss) (r.inputs ++ x ∷ xs)) rest)
+    (sym (behind_move (length xs)))
     (subst (λ (text : List ℕ). Goes (places.Input (suc (length xs))) r text places.Log (with_trace r (r.states ++ s ∷ ss) (r.inputs ++ x ∷ xs)) rest)
     (sym (append_assoc (line (codes "input " ++ bits_text x) ++ state_text s) (moves_text xs ss) rest))
     (on (input_goes r x (suc (length xs)) (state_text s) (moves_text xs ss ++ rest))
-    (subst (λ (left : ℕ). Goes (places.State left) (with_trace r r.states (r.inputs ++ x ∷ [])) (state_text s ++ (moves_text xs ss ++ rest)) places.Log (with_trace r (r.states ++ s ∷ ss) (r.inputs ++ x ∷ xs)) rest) fewer
+    (subst (λ (left : ℕ). Goes (places.State left) (with_trace r r.states (r.inputs ++ x ∷ [])) (state_text s ++ (moves_text xs ss ++ rest)) places.Log
+    (with_trace r (r.states ++ s ∷ ss) (r.inputs ++ x ∷ xs)) rest) fewer
     (on (state_goes (with_trace r r.states (r.inputs ++ x ∷ [])) s (length xs) (behind_state (length xs)) (moves_text xs ss ++ rest) refl)
-    (subst (λ (states : List (List Bool)). Goes (behind_state (length xs)) (with_trace r (r.states ++ s ∷ []) (r.inputs ++ x ∷ [])) (moves_text xs ss ++ rest) places.Log (with_trace r states (r.inputs ++ x ∷ xs)) rest) (append_assoc r.states (s ∷ []) ss)
-    (subst (λ (inputs : List (List Bool)). Goes (behind_state (length xs)) (with_trace r (r.states ++ s ∷ []) (r.inputs ++ x ∷ [])) (moves_text xs ss ++ rest) places.Log (with_trace r ((r.states ++ s ∷ []) ++ ss) inputs) rest) (append_assoc r.inputs (x ∷ []) xs)
+    (subst (λ (states : List (List Bool)). Goes (behind_state (length xs)) (with_trace r (r.states ++ s ∷ []) (r.inputs ++ x ∷ []))
+    (moves_text xs ss ++ rest) places.Log (with_trace r states (r.inputs ++ x ∷ xs)) rest) (append_assoc r.states (s ∷ []) ss)
+    (subst (λ (inputs : List (List Bool)). Goes (behind_state (length xs)) (with_trace r (r.states ++ s ∷ []) (r.inputs ++ x ∷ []))
+    (moves_text xs ss ++ rest) places.Log (with_trace r ((r.states ++ s ∷ []) ++ ss) inputs) rest) (append_assoc r.inputs (x ∷ []) xs)
     (moves_go (with_trace r (r.states ++ s ∷ []) (r.inputs ++ x ∷ [])) xs ss rest (omega (arith, e)))))))))
   where
     fewer : length xs ≡ suc (length xs) - 1
     fewer = omega arith
 
 -- the same by places
-pub range_moves : (r : Report) (xs ss : List (List Bool)) (a : ℕ) → ((i : ℕ) → get_or r.inputs (a + i) [] ≡ get_or xs i []) → ((i : ℕ) → get_or r.states (a + i + 1) [] ≡ get_or ss i []) → length ss ≡ length xs →
+pub range_moves : (r : Report) (xs ss : List (List Bool)) (a : ℕ) → ((i : ℕ) → get_or r.inputs (a + i) [] ≡ get_or xs i []) →
+    ((i : ℕ) → get_or r.states (a + i + 1) [] ≡ get_or ss i []) → length ss ≡ length xs →
     flat_map (move_text r) (range_with_len a (length xs)) ≡ moves_text xs ss
 range_moves r [] ss a hx hs e = refl
 range_moves r (x ∷ xs) [] a hx hs e = absurd (omega (arith, e))
@@ -229,7 +251,8 @@ range_moves r (x ∷ xs) (s ∷ ss) a hx hs e =
     let at_a : a ≡ a + 0 = omega arith in
     let input : get_or r.inputs a [] ≡ x = ap (λ (i : ℕ). get_or r.inputs i []) at_a ∙ hx 0 in
     let state : get_or r.states (a + 1) [] ≡ s = ap (λ (i : ℕ). get_or r.states (i + 1) []) at_a ∙ hs 0 in
-    ap (λ (t : List Bool). (line (codes "input " ++ bits_text t) ++ state_text (get_or r.states (a + 1) [])) ++ flat_map (move_text r) (range_with_len (a + 1) (length xs))) input
+    ap (λ (t : List Bool). (line (codes "input " ++ bits_text t) ++ state_text (get_or r.states (a + 1) []))
+    ++ flat_map (move_text r) (range_with_len (a + 1) (length xs))) input
     ∙ (ap (λ (t : List Bool). (line (codes "input " ++ bits_text x) ++ state_text t) ++ flat_map (move_text r) (range_with_len (a + 1) (length xs))) state
     ∙ ap (λ (t : List ℕ). (line (codes "input " ++ bits_text x) ++ state_text s) ++ t)
     (range_moves r xs ss (a + 1)
@@ -249,12 +272,15 @@ log_goes : (r : Report) (log : List Line) (rest : List ℕ) → Each HasText log
     Goes (log_place (length log)) r (flat_map (λ l. line (line_text l)) log ++ rest) places.End (with_log r (r.log ++ log)) rest
 log_goes r [] rest h = subst (λ (log : List Line). Goes places.End r rest places.End (with_log r log) rest) (sym (append-nil r.log)) (stays places.End r rest)
 log_goes r (l ∷ ls) rest h =
-    subst (λ (place : Place). Goes place r (flat_map (λ l. line (line_text l)) (l ∷ ls) ++ rest) places.End (with_log r (r.log ++ l ∷ ls)) rest) (sym (behind_line (length ls)))
+    subst (λ (place : Place). Goes place r (flat_map (λ l. line (line_text l)) (l ∷ ls) ++ rest) places.End (with_log r (r.log ++ l ∷ ls)) rest)
+    (sym (behind_line (length ls)))
     (on
-    (one_of (places.Lines (suc (length ls))) (log_place (length ls)) r (with_log r (r.log ++ l ∷ [])) (line_text l) (flat_map (λ l. line (line_text l)) ls) rest (log_line_lacks l h.0) refl
+    (one_of (places.Lines (suc (length ls))) (log_place (length ls)) r (with_log r (r.log ++ l ∷ [])) (line_text l)
+    (flat_map (λ l. line (line_text l)) ls) rest (log_line_lacks l h.0) refl
     (ap (option_map (λ (l : Line). (log_place (suc (length ls) - 1), record r { log = r.log ++ l ∷ [] }))) (lines_read_back l h.0)
     ∙ ap (λ (left : ℕ). Some (log_place left, with_log r (r.log ++ l ∷ []))) fewer))
-    (subst (λ (log : List Line). Goes (log_place (length ls)) (with_log r (r.log ++ l ∷ [])) (flat_map (λ l. line (line_text l)) ls ++ rest) places.End (with_log r log) rest) (append_assoc r.log (l ∷ []) ls)
+    (subst (λ (log : List Line). Goes (log_place (length ls)) (with_log r (r.log ++ l ∷ [])) (flat_map (λ l. line (line_text l)) ls ++ rest) places.End
+    (with_log r log) rest) (append_assoc r.log (l ∷ []) ls)
     (log_goes (with_log r (r.log ++ l ∷ [])) ls rest h.1)))
   where
     fewer : suc (length ls) - 1 ≡ length ls
@@ -280,10 +306,13 @@ head_goes r rest h =
     (ap (option_map (λ (b : Budgets). (places.Turn, with_budgets nothing_read b)))
     (budgets_again r.budgets h.some_steps h.max_steps h.some_candidates h.max_candidates h.some_conflicts h.max_conflicts)))
     (on
-    (subst (λ (text : List ℕ). Goes places.Turn (with_budgets nothing_read r.budgets) text places.Turn (with_steps (with_budgets nothing_read r.budgets) r.steps) (rest3 ++ rest))
+    (subst (λ (text : List ℕ). Goes places.Turn (with_budgets nothing_read r.budgets) text places.Turn
+    (with_steps (with_budgets nothing_read r.budgets) r.steps) (rest3 ++ rest))
     (sym (append_assoc (steps_text 1 r.steps) rest3 rest))
-    (steps_go (with_budgets nothing_read r.budgets) 1 r.steps (rest3 ++ rest) (recursion_from_All HasStepText r.steps h.each_step) refl (omega (arith, h.few_steps))))
-    (one places.Turn places.Trace (with_steps (with_budgets nothing_read r.budgets) r.steps) (with_stop (with_steps (with_budgets nothing_read r.budgets) r.steps) r.stop)
+    (steps_go (with_budgets nothing_read r.budgets) 1 r.steps (rest3 ++ rest) (recursion_from_All HasStepText r.steps h.each_step) refl
+    (omega (arith, h.few_steps))))
+    (one places.Turn places.Trace (with_steps (with_budgets nothing_read r.budgets) r.steps)
+    (with_stop (with_steps (with_budgets nothing_read r.budgets) r.steps) r.stop)
     (codes "stop " ++ stop_word r.stop) rest (stop_lacks r.stop) refl
     (ap (turned (with_steps (with_budgets nothing_read r.budgets) r.steps) (codes "stop " ++ stop_word r.stop)) (stop_again r.stop)))))
   where
@@ -297,7 +326,8 @@ head_goes r rest h =
     rest1 = budgets_text r.budgets ++ rest2
 
     asked : List ℕ
-    asked = codes "asked " ++ (decimal r.budgets.steps ++ (codes " candidates " ++ (decimal r.budgets.candidates ++ (codes " conflicts " ++ decimal r.budgets.conflicts))))
+    asked = codes "asked " ++ (decimal r.budgets.steps
+        ++ (codes " candidates " ++ (decimal r.budgets.candidates ++ (codes " conflicts " ++ decimal r.budgets.conflicts))))
 
     asked_lacks : Lacks 10 asked
     asked_lacks =
@@ -337,13 +367,15 @@ trace_goes q r rest no_states no_inputs e few =
     let begin : get_or r.states 0 [] ≡ f.first = ap (λ (ss : List (List Bool)). get_or ss 0 []) f.states in
     let moves : flat_map (move_text r) (range_with_len 0 n) ≡ moves_text r.inputs f.others =
     range_moves r r.inputs f.others 0 (λ i. let same : 0 + i ≡ i = omega arith in ap (λ (k : ℕ). get_or r.inputs k []) same)
-    (λ i. let same : 0 + i + 1 ≡ suc i = omega arith in ap (λ (k : ℕ). get_or r.states k []) same ∙ ap (λ (ss : List (List Bool)). get_or ss (suc i) []) f.states) long in
+    (λ i. let same : 0 + i + 1 ≡ suc i = omega arith in
+    ap (λ (k : ℕ). get_or r.states k []) same ∙ ap (λ (ss : List (List Bool)). get_or ss (suc i) []) f.states) long in
     let text : trace_text r ≡ line (codes "trace " ++ decimal n) ++ (state_text f.first ++ moves_text r.inputs f.others) =
     ap (λ (s : List Bool). line (codes "trace " ++ decimal n) ++ (state_text s ++ flat_map (move_text r) (range_with_len 0 n))) begin
     ∙ ap (λ (t : List ℕ). line (codes "trace " ++ decimal n) ++ (state_text f.first ++ t)) moves in
     let all_states : f.first ∷ f.others ≡ r.states = sym f.states in
     let start : q.states ++ f.first ∷ [] ≡ f.first ∷ [] = ap (λ (ss : List (List Bool)). ss ++ f.first ∷ []) no_states in
-    let go : Goes (behind_state n) (with_trace q (f.first ∷ []) q.inputs) (moves_text r.inputs f.others ++ rest) places.Log (with_trace q (f.first ∷ f.others) (q.inputs ++ r.inputs)) rest =
+    let go : Goes (behind_state n) (with_trace q (f.first ∷ []) q.inputs) (moves_text r.inputs f.others ++ rest) places.Log
+    (with_trace q (f.first ∷ f.others) (q.inputs ++ r.inputs)) rest =
     moves_go (with_trace q (f.first ∷ []) q.inputs) r.inputs f.others rest long in
     subst (λ (t : List ℕ). Goes places.Trace q (t ++ rest) places.Log (with_trace q r.states r.inputs) rest) (sym text)
     (on
@@ -351,12 +383,16 @@ trace_goes q r rest no_states no_inputs e few =
     (lacks_append 10 (codes "trace ") (decimal n) (refl, (refl, (refl, (refl, (refl, (refl, tt)))))) (number_lacks 10 n (omega arith) few)) refl
     (ap (λ (o : Option ℕ). option_map (λ (place : Place). (place, q)) (option_map (λ (n : ℕ). places.State n) o))
     (count_again (codes "trace") (codes "trace " ++ decimal n) n (words_of_count (codes "trace") n refl few) refl few)))
-    (subst (λ (t : List ℕ). Goes (places.State n) q t places.Log (with_trace q r.states r.inputs) rest) (sym (append_assoc (state_text f.first) (moves_text r.inputs f.others) rest))
+    (subst (λ (t : List ℕ). Goes (places.State n) q t places.Log (with_trace q r.states r.inputs) rest)
+    (sym (append_assoc (state_text f.first) (moves_text r.inputs f.others) rest))
     (on
-    (subst (λ (ss : List (List Bool)). Goes (places.State n) q (state_text f.first ++ (moves_text r.inputs f.others ++ rest)) (behind_state n) (with_trace q ss q.inputs) (moves_text r.inputs f.others ++ rest)) start
+    (subst (λ (ss : List (List Bool)). Goes (places.State n) q (state_text f.first ++ (moves_text r.inputs f.others ++ rest)) (behind_state n)
+    (with_trace q ss q.inputs) (moves_text r.inputs f.others ++ rest)) start
     (state_goes q f.first n (behind_state n) (moves_text r.inputs f.others ++ rest) refl))
-    (subst (λ (ss : List (List Bool)). Goes (behind_state n) (with_trace q (f.first ∷ []) q.inputs) (moves_text r.inputs f.others ++ rest) places.Log (with_trace q ss r.inputs) rest) all_states
-    (subst (λ (xs : List (List Bool)). Goes (behind_state n) (with_trace q (f.first ∷ []) q.inputs) (moves_text r.inputs f.others ++ rest) places.Log (with_trace q (f.first ∷ f.others) xs) rest)
+    (subst (λ (ss : List (List Bool)). Goes (behind_state n) (with_trace q (f.first ∷ []) q.inputs) (moves_text r.inputs f.others ++ rest) places.Log
+    (with_trace q ss r.inputs) rest) all_states
+    (subst (λ (xs : List (List Bool)). Goes (behind_state n) (with_trace q (f.first ∷ []) q.inputs) (moves_text r.inputs f.others ++ rest) places.Log
+    (with_trace q (f.first ∷ f.others) xs) rest)
     (ap (λ (xs : List (List Bool)). xs ++ r.inputs) no_inputs) go)))))
 
 tail_goes : (q r : Report) → HasReportText r → q.states ≡ [] → q.inputs ≡ [] → q.log ≡ [] →
@@ -364,17 +400,21 @@ tail_goes : (q r : Report) → HasReportText r → q.states ≡ [] → q.inputs 
 unfolding tail_text
 tail_goes q r h no_states no_inputs no_log =
     let n : ℕ = length r.log in
-    on (trace_goes q r (line (codes "log " ++ decimal n) ++ (flat_map (λ l. line (line_text l)) r.log ++ line (codes "end"))) no_states no_inputs h.one_state_more h.few_inputs)
+    on (trace_goes q r (line (codes "log " ++ decimal n) ++ (flat_map (λ l. line (line_text l)) r.log ++ line (codes "end")))
+    no_states no_inputs h.one_state_more h.few_inputs)
     (on
-    (one places.Log (log_place n) (with_trace q r.states r.inputs) (with_trace q r.states r.inputs) (codes "log " ++ decimal n) (flat_map (λ l. line (line_text l)) r.log ++ line (codes "end"))
+    (one places.Log (log_place n) (with_trace q r.states r.inputs) (with_trace q r.states r.inputs) (codes "log " ++ decimal n)
+    (flat_map (λ l. line (line_text l)) r.log ++ line (codes "end"))
     (lacks_append 10 (codes "log ") (decimal n) (refl, (refl, (refl, (refl, tt)))) (number_lacks 10 n (omega arith) h.few_lines)) undone
     (ap (λ (o : Option ℕ). option_map (λ (place : Place). (place, with_trace q r.states r.inputs)) (option_map (λ (n : ℕ). log_place n) o))
     (count_again (codes "log") (codes "log " ++ decimal n) n (words_of_count (codes "log") n refl h.few_lines) refl h.few_lines)))
     (on
-    (subst (λ (log : List Line). Goes (log_place n) (with_trace q r.states r.inputs) (flat_map (λ l. line (line_text l)) r.log ++ line (codes "end")) places.End (with_log (with_trace q r.states r.inputs) log) (line (codes "end")))
+    (subst (λ (log : List Line). Goes (log_place n) (with_trace q r.states r.inputs)
+    (flat_map (λ l. line (line_text l)) r.log ++ line (codes "end")) places.End (with_log (with_trace q r.states r.inputs) log) (line (codes "end")))
     (ap (λ (log : List Line). log ++ r.log) no_log)
     (log_goes (with_trace q r.states r.inputs) r.log (line (codes "end")) (recursion_from_All HasText r.log h.each_line)))
-    (one places.End places.Done (with_log (with_trace q r.states r.inputs) r.log) (with_log (with_trace q r.states r.inputs) r.log) (codes "end") [] (refl, (refl, (refl, tt))) refl refl)))
+    (one places.End places.Done (with_log (with_trace q r.states r.inputs) r.log) (with_log (with_trace q r.states r.inputs) r.log) (codes "end") []
+    (refl, (refl, (refl, tt))) refl refl)))
   where
     undone : is_done places.Log ≡ false
     undone = refl

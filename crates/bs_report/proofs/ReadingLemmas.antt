@@ -14,7 +14,8 @@ pub some_piece : (bs : List ℕ) → (p : List ℕ) × (ps : List (List ℕ)) ×
 some_piece [] = ([], [], refl)
 some_piece (b ∷ bs) = by (b == 10) refl (pieces_of bs) refl
   where
-    by : (z : Bool) → b == 10 ≡ z → (o : List (List ℕ)) → pieces_of bs ≡ o → (p : List ℕ) × (ps : List (List ℕ)) × (cond z ([] ∷ pieces_of bs) (onto_first b (pieces_of bs)) ≡ p ∷ ps)
+    by : (z : Bool) → b == 10 ≡ z → (o : List (List ℕ)) → pieces_of bs ≡ o →
+        (p : List ℕ) × (ps : List (List ℕ)) × (cond z ([] ∷ pieces_of bs) (onto_first b (pieces_of bs)) ≡ p ∷ ps)
     by true e o f = ([], pieces_of bs, refl)
     by false e [] f = (b ∷ [], [], ap (onto_first b) f)
     by false e (p ∷ ps) f = (b ∷ p, ps, ap (onto_first b) f)
@@ -33,12 +34,16 @@ pub line_read : (all : Result Report ReportFault) (n : ℕ) (place next : Place)
     all ≡ report_from n place r (pieces_of bytes) → pieces_of bytes ≡ line ∷ pieces_of rest → followed n place r line ≡ Ok (next, after) →
     all ≡ report_from (n + 1) next after (pieces_of rest)
 line_read all n place next r after bytes line rest e f g =
-    e ∙ (ap (report_from n place r) f ∙ (line_from n place r line rest ∙ ap (λ (x : Result Reached ReportFault). ◌>>=◌ x (λ (y : Reached). report_from (n + 1) y.0 y.1 (pieces_of rest))) g))
+    e ∙ (ap (report_from n place r) f
+    ∙ (line_from n place r line rest
+    ∙ ap (λ (x : Result Reached ReportFault). ◌>>=◌ x (λ (y : Reached). report_from (n + 1) y.0 y.1 (pieces_of rest))) g))
 
 pub line_refused : (all : Result Report ReportFault) (n : ℕ) (place : Place) (r : Report) (bytes line rest : List ℕ) (fault : ReportFault) →
     all ≡ report_from n place r (pieces_of bytes) → pieces_of bytes ≡ line ∷ pieces_of rest → followed n place r line ≡ Err fault → all ≡ Err fault
 line_refused all n place r bytes line rest fault e f g =
-    e ∙ (ap (report_from n place r) f ∙ (line_from n place r line rest ∙ ap (λ (x : Result Reached ReportFault). ◌>>=◌ x (λ (y : Reached). report_from (n + 1) y.0 y.1 (pieces_of rest))) g))
+    e ∙ (ap (report_from n place r) f
+    ∙ (line_from n place r line rest
+    ∙ ap (λ (x : Result Reached ReportFault). ◌>>=◌ x (λ (y : Reached). report_from (n + 1) y.0 y.1 (pieces_of rest))) g))
 
 pub lines_end : (all : Result Report ReportFault) (n : ℕ) (place : Place) (r : Report) (bytes : List ℕ) →
     all ≡ report_from n place r (pieces_of bytes) → pieces_of bytes ≡ bytes ∷ [] → all ≡ ended place r bytes

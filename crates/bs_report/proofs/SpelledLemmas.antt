@@ -75,7 +75,9 @@ woven (s ∷ ss) (x ∷ xs) = state_text s ++ (input_text x ++ woven ss xs)
 
 -- the budgets are in their ranges, and each step has a text
 pub record HasHead (r : Report) : Type 0 where
-  pub budgets : AreBudgets (codes "asked " ++ (decimal r.budgets.steps ++ (codes " candidates " ++ (decimal r.budgets.candidates ++ (codes " conflicts " ++ decimal r.budgets.conflicts))))) r.budgets
+  pub budgets : AreBudgets (codes "asked "
+      ++ (decimal r.budgets.steps ++ (codes " candidates " ++ (decimal r.budgets.candidates ++ (codes " conflicts " ++ decimal r.budgets.conflicts)))))
+      r.budgets
   pub steps : Each HasStepText r.steps
   pub few : length r.steps < 2 ^ 64
 
@@ -112,9 +114,11 @@ Fits (places.Hit p s cands e) r text =
     InStep r × HasEndText e × (text ≡ top r ++ (step_line r ++ (present_line p ++ (stored_line s ++ (flat_map cand_text cands ++ list_line e)))))
 Fits places.Trace r text = HasHead r × NoTail r × (text ≡ head_text r)
 Fits (places.State left) r text =
-    InTrace r (length r.inputs + left) × (length r.states ≡ length r.inputs) × (text ≡ head_text r ++ (trace_line (length r.inputs + left) ++ woven r.states r.inputs))
+    InTrace r (length r.inputs + left) × (length r.states ≡ length r.inputs)
+    × (text ≡ head_text r ++ (trace_line (length r.inputs + left) ++ woven r.states r.inputs))
 Fits (places.Input left) r text =
-    InTrace r (length r.inputs + left) × (length r.states ≡ length r.inputs + 1) × (1 ≤ left) × (text ≡ head_text r ++ (trace_line (length r.inputs + left) ++ woven r.states r.inputs))
+    InTrace r (length r.inputs + left) × (length r.states ≡ length r.inputs + 1) × (1 ≤ left)
+    × (text ≡ head_text r ++ (trace_line (length r.inputs + left) ++ woven r.states r.inputs))
 Fits places.Log r text = BehindTrace r × (r.log ≡ []) × (text ≡ head_text r ++ (trace_line (length r.inputs) ++ woven r.states r.inputs))
 Fits (places.Lines left) r text =
     BehindTrace r × Each HasText r.log × (length r.log + left < 2 ^ 64) × (1 ≤ left)
@@ -124,7 +128,8 @@ Fits places.End r text =
     × (text ≡ head_text r ++ (trace_line (length r.inputs) ++ (woven r.states r.inputs ++ (log_line (length r.log) ++ lines_text r.log))))
 Fits places.Done r text =
     BehindTrace r × Each HasText r.log × (length r.log < 2 ^ 64)
-    × (text ≡ head_text r ++ (trace_line (length r.inputs) ++ (woven r.states r.inputs ++ (log_line (length r.log) ++ (lines_text r.log ++ line (codes "end"))))))
+    × (text ≡ head_text r ++ (trace_line (length r.inputs)
+    ++ (woven r.states r.inputs ++ (log_line (length r.log) ++ (lines_text r.log ++ line (codes "end"))))))
 
 -- ---- pieces behind others
 
@@ -173,7 +178,8 @@ woven_moves s [] [] e = refl
 woven_moves s [] (x ∷ xs) e = absurd (omega (arith, e))
 woven_moves s (t ∷ ss) [] e = absurd (omega (arith, e))
 woven_moves s (t ∷ ss) (x ∷ xs) e =
-    ap (λ r. state_text s ++ r) (ap (λ r. input_text x ++ r) (woven_moves t ss xs (omega (arith, e))) ∙ sym (append_assoc (input_text x) (state_text t) (moves_text xs ss)))
+    ap (λ r. state_text s ++ r) (ap (λ r. input_text x ++ r) (woven_moves t ss xs (omega (arith, e)))
+    ∙ sym (append_assoc (input_text x) (state_text t) (moves_text xs ss)))
 
 trace_is_woven : (r : Report) → length r.states ≡ length r.inputs + 1 → trace_text r ≡ trace_line (length r.inputs) ++ woven r.states r.inputs
 trace_is_woven r e =
@@ -182,10 +188,12 @@ trace_is_woven r e =
     let begin : get_or r.states 0 [] ≡ f.first = ap (λ (ss : List (List Bool)). get_or ss 0 []) f.states in
     let moves : flat_map (move_text r) (range_with_len 0 (length r.inputs)) ≡ moves_text r.inputs f.others =
     range_moves r r.inputs f.others 0 (λ i. let same : 0 + i ≡ i = omega arith in ap (λ (k : ℕ). get_or r.inputs k []) same)
-    (λ i. let same : 0 + i + 1 ≡ suc i = omega arith in ap (λ (k : ℕ). get_or r.states k []) same ∙ ap (λ (ss : List (List Bool)). get_or ss (suc i) []) f.states) long in
+    (λ i. let same : 0 + i + 1 ≡ suc i = omega arith in
+    ap (λ (k : ℕ). get_or r.states k []) same ∙ ap (λ (ss : List (List Bool)). get_or ss (suc i) []) f.states) long in
     ap (λ (s : List Bool). trace_line (length r.inputs) ++ (state_text s ++ flat_map (move_text r) (range_with_len 0 (length r.inputs)))) begin
     ∙ (ap (λ (t : List ℕ). trace_line (length r.inputs) ++ (state_text f.first ++ t)) moves
-    ∙ ap (λ (t : List ℕ). trace_line (length r.inputs) ++ t) (sym (woven_moves f.first f.others r.inputs long) ∙ ap (λ (ss : List (List Bool)). woven ss r.inputs) (sym f.states)))
+    ∙ ap (λ (t : List ℕ). trace_line (length r.inputs) ++ t)
+    (sym (woven_moves f.first f.others r.inputs long) ∙ ap (λ (ss : List (List Bool)). woven ss r.inputs) (sym f.states)))
 
 -- ---- a line at each place
 
@@ -212,7 +220,8 @@ at_asked r text a y h e =
     let is_text : text ++ line a ≡ title ++ (budgets_text m.value ++ []) =
     ap (λ t. t ++ line a) h.1 ∙ (ap (λ t. title ++ line t) b.spells ∙ ap (λ t. title ++ t) (sym (append-nil (budgets_text m.value)))) in
     subst (λ (y : Reached). Next y text a) same
-    (subst (λ (q : Report). HasHead (record q { budgets = m.value }) × NoTail (record q { budgets = m.value }) × (text ++ line a ≡ top (record q { budgets = m.value }))) (sym none)
+    (subst (λ (q : Report). HasHead (record q { budgets = m.value }) × NoTail (record q { budgets = m.value })
+    × (text ++ line a ≡ top (record q { budgets = m.value }))) (sym none)
     ((
       record {
         budgets = record {
@@ -248,7 +257,8 @@ at_turn r text a y h e = by (stop_in a) refl e
         let same : (places.Trace, record r { stop = stop }) ≡ y = cc in
         let spells : a ≡ codes "stop " ++ stop_word stop = stop_is a stop s in
         let is_text : text ++ line a ≡ head_text (record r { stop = stop }) =
-        three text title (budgets_text r.budgets) (steps_text 1 r.steps) (line a) h.2 ∙ ap (λ t. title ++ (budgets_text r.budgets ++ (steps_text 1 r.steps ++ line t))) spells in
+        three text title (budgets_text r.budgets) (steps_text 1 r.steps) (line a) h.2
+        ∙ ap (λ t. title ++ (budgets_text r.budgets ++ (steps_text 1 r.steps ++ line t))) spells in
         subst (λ (y : Reached). Next y text a) same
         (record { budgets = h.0.budgets; steps = h.0.steps; few = h.0.few }, record { states = h.1.states; inputs = h.1.inputs; log = h.1.log }, is_text)
 
@@ -277,7 +287,8 @@ at_stored p r text a y h e =
     subst (λ (y : Reached). Next y text a) same
     (h.0, three text (top r) (step_line r) (present_line p) (line a) h.1 ∙ ap (λ t. top r ++ (step_line r ++ (present_line p ++ t))) no_cands)
 
-at_listing : (p s : List Bool) (cands : List Cand) (r : Report) (text a : List ℕ) (y : Reached) → Fits (places.Listing p s cands) r text → taken (places.Listing p s cands) r a ≡ Some y → Next y text a
+at_listing : (p s : List Bool) (cands : List Cand) (r : Report) (text a : List ℕ) (y : Reached) → Fits (places.Listing p s cands) r text →
+    taken (places.Listing p s cands) r a ≡ Some y → Next y text a
 at_listing p s cands r text a y h e = by (cand_in a) refl e
   where
     by : (o : Option Cand) → cand_in a ≡ o → option_map (λ (place : Place). (place, r)) (more_listed p s cands a o) ≡ Some y → Next y text a
@@ -305,7 +316,8 @@ at_listing p s cands r text a y h e = by (cand_in a) refl e
               (ap (λ t. flat_map cand_text cands ++ line t) (cand_is a cand c) ∙ sym (flat_more cand_text cands cand)),
         )
 
-at_hit : (p s : List Bool) (cands : List Cand) (e : ListEnd) (r : Report) (text a : List ℕ) (y : Reached) → Fits (places.Hit p s cands e) r text → taken (places.Hit p s cands e) r a ≡ Some y → Next y text a
+at_hit : (p s : List Bool) (cands : List Cand) (e : ListEnd) (r : Report) (text a : List ℕ) (y : Reached) → Fits (places.Hit p s cands e) r text →
+    taken (places.Hit p s cands e) r a ≡ Some y → Next y text a
 at_hit p s cands e r text a y h t =
     let m = unmap (λ (hit : Option HitLine). (places.Turn, with_step r p s cands e hit)) (hit_in a) y t in
     let gives : Some (places.Turn, with_step r p s cands e m.value) ≡ Some y = m.gives in
@@ -319,7 +331,8 @@ at_hit p s cands e r text a y h t =
     six text (top r) (step_line r) (present_line p) (stored_line s) (flat_map cand_text cands) (list_line e) (line a) h.2
     ∙ ap (λ t. top r ++ (step_line r ++ (present_line p ++ (stored_line s ++ (flat_map cand_text cands ++ (list_line e ++ t)))))) l.1 in
     let in_top : top r ++ step_text (length r.steps + 1) step ≡ top (with_step r p s cands e m.value) =
-    three (top r) title (budgets_text r.budgets) (steps_text 1 r.steps) (step_text (length r.steps + 1) step) refl ∙ ap (λ t. title ++ (budgets_text r.budgets ++ t)) (sym steps) in
+    three (top r) title (budgets_text r.budgets) (steps_text 1 r.steps) (step_text (length r.steps + 1) step) refl
+    ∙ ap (λ t. title ++ (budgets_text r.budgets ++ t)) (sym steps) in
     subst (λ (y : Reached). Next y text a) same (
       record {
         budgets = h.0.head.budgets;
@@ -349,7 +362,8 @@ at_trace r text a y h e =
       ap (λ t. t ++ line a) h.2
           ∙ (ap (λ t. head_text r ++ line t) c.0
           ∙ (ap (λ (n : ℕ). head_text r ++ trace_line n) count
-          ∙ ap (λ t. head_text r ++ t) (sym (append-nil (trace_line (length r.inputs + k.value))) ∙ ap (λ t. trace_line (length r.inputs + k.value) ++ t) (sym nothing)))),
+          ∙ ap (λ t. head_text r ++ t) (sym (append-nil (trace_line (length r.inputs + k.value)))
+          ∙ ap (λ t. trace_line (length r.inputs + k.value) ++ t) (sym nothing)))),
     )
 
 at_state : (left : ℕ) (r : Report) (text a : List ℕ) (y : Reached) → Fits (places.State left) r text → taken (places.State left) r a ≡ Some y → Next y text a
@@ -366,20 +380,31 @@ at_state left r text a y h e =
     (ap (λ t. woven r.states r.inputs ++ line t) (bits_line_is (codes "state") a m.value m.is) ∙ sym (state_more r.states r.inputs m.value h.1)) in
     subst (λ (y : Reached). Next y text a) same (by (left == 0) refl after m.value refl more is_text)
   where
-    by : (b : Bool) → (left == 0) ≡ b → (after : Report) (s : List Bool) → after ≡ record r { states = r.states ++ s ∷ [] } → length (r.states ++ s ∷ []) ≡ length r.inputs + 1 →
-        text ++ line a ≡ head_text r ++ (trace_line (length r.inputs + left) ++ woven (r.states ++ s ∷ []) r.inputs) → Fits (cond b places.Log (places.Input left)) after (text ++ line a)
+    by : (b : Bool) → (left == 0) ≡ b → (after : Report) (s : List Bool) → after ≡ record r { states = r.states ++ s ∷ [] } →
+        length (r.states ++ s ∷ []) ≡ length r.inputs + 1 →
+        text ++ line a ≡ head_text r ++ (trace_line (length r.inputs + left) ++ woven (r.states ++ s ∷ []) r.inputs) →
+        Fits (cond b places.Log (places.Input left)) after (text ++ line a)
     by true z after s is more t =
         let none : left ≡ 0 = eqb-true left 0 z in
         let count : length r.inputs + left ≡ length r.inputs = omega (arith, none) in
         subst (λ (after : Report). Fits places.Log after (text ++ line a)) (sym is) (
-          record { head = record { budgets = h.0.head.budgets; steps = h.0.head.steps; few = h.0.head.few }; small = omega (arith, none, h.0.small); more = more },
+          record {
+            head = record { budgets = h.0.head.budgets; steps = h.0.head.steps; few = h.0.head.few };
+            small = omega (arith, none, h.0.small);
+            more =
+                more;
+          },
           h.0.log,
           t ∙ ap (λ (n : ℕ). head_text r ++ (trace_line n ++ woven (r.states ++ s ∷ []) r.inputs)) count,
         )
     by false z after s is more t =
         let some : left ≡ 0 → ⊥ = eqb-false left 0 z in
-        subst (λ (after : Report). Fits (places.Input left) after (text ++ line a)) (sym is)
-        (record { head = record { budgets = h.0.head.budgets; steps = h.0.head.steps; few = h.0.head.few }; log = h.0.log; small = h.0.small }, more, omega (arith, some), t)
+        subst (λ (after : Report). Fits (places.Input left) after (text ++ line a)) (sym is) (
+          record { head = record { budgets = h.0.head.budgets; steps = h.0.head.steps; few = h.0.head.few }; log = h.0.log; small = h.0.small },
+          more,
+          omega (arith, some),
+          t,
+        )
 
 at_input : (left : ℕ) (r : Report) (text a : List ℕ) (y : Reached) → Fits (places.Input left) r text → taken (places.Input left) r a ≡ Some y → Next y text a
 unfolding head_text
@@ -391,7 +416,12 @@ at_input left r text a y h e =
     let more : length (r.inputs ++ m.value ∷ []) ≡ length r.inputs + 1 = length-append r.inputs (m.value ∷ []) in
     let count : length r.inputs + left ≡ length (r.inputs ++ m.value ∷ []) + (left - 1) = omega (arith, more, h.2) in
     subst (λ (y : Reached). Next y text a) same (
-      record { head = record { budgets = h.0.head.budgets; steps = h.0.head.steps; few = h.0.head.few }; log = h.0.log; small = omega (arith, h.0.small, count) },
+      record {
+        head = record { budgets = h.0.head.budgets; steps = h.0.head.steps; few = h.0.head.few };
+        log = h.0.log;
+        small =
+            omega (arith, h.0.small, count);
+      },
       h.1 ∙ sym more,
       three text (head_text r) (trace_line (length r.inputs + left)) (woven r.states r.inputs) (line a) h.3
           ∙ (ap (λ t. head_text r ++ (trace_line (length r.inputs + left) ++ t))
@@ -401,14 +431,20 @@ at_input left r text a y h e =
 
 -- behind the trace, where so many log lines are left
 lines_left : (left : ℕ) (r : Report) (text : List ℕ) → BehindTrace r → Each HasText r.log → length r.log + left < 2 ^ 64 →
-    text ≡ head_text r ++ (trace_line (length r.inputs) ++ (woven r.states r.inputs ++ (log_line (length r.log + left) ++ lines_text r.log))) → Fits (log_place left) r text
+    text ≡ head_text r ++ (trace_line (length r.inputs) ++ (woven r.states r.inputs ++ (log_line (length r.log + left) ++ lines_text r.log))) →
+    Fits (log_place left) r text
 lines_left left r text b each small t = by (left == 0) refl
   where
     by : (z : Bool) → (left == 0) ≡ z → Fits (cond z places.End (places.Lines left)) r text
     by true z =
         let none : left ≡ 0 = eqb-true left 0 z in
-        let count : length r.log + left ≡ length r.log = omega (arith, none) in
-        (b, each, omega (arith, small, none), t ∙ ap (λ (n : ℕ). head_text r ++ (trace_line (length r.inputs) ++ (woven r.states r.inputs ++ (log_line n ++ lines_text r.log)))) count)
+        let count : length r.log + left ≡ length r.log = omega (arith, none) in (
+          b,
+          each,
+          omega (arith, small, none),
+          t
+              ∙ ap (λ (n : ℕ). head_text r ++ (trace_line (length r.inputs) ++ (woven r.states r.inputs ++ (log_line n ++ lines_text r.log)))) count,
+        )
     by false z = let some : left ≡ 0 → ⊥ = eqb-false left 0 z in (b, each, small, omega (arith, some), t)
 
 at_log : (r : Report) (text a : List ℕ) (y : Reached) → Fits places.Log r text → taken places.Log r a ≡ Some y → Next y text a
@@ -459,7 +495,8 @@ at_end r text a y h e =
       h.1,
       h.2,
       five text (head_text r) (trace_line (length r.inputs)) (woven r.states r.inputs) (log_line (length r.log)) (lines_text r.log) (line a) h.3
-          ∙ ap (λ t. head_text r ++ (trace_line (length r.inputs) ++ (woven r.states r.inputs ++ (log_line (length r.log) ++ (lines_text r.log ++ line t))))) (same_text a (codes "end") z.0),
+          ∙ ap (λ t. head_text r ++ (trace_line (length r.inputs) ++ (woven r.states r.inputs ++ (log_line (length r.log) ++ (lines_text r.log ++ line t)))))
+          (same_text a (codes "end") z.0),
     )
 
 pub line_fits : (place : Place) (r : Report) (text a : List ℕ) (y : Reached) → Fits place r text → taken place r a ≡ Some y → Next y text a
@@ -525,10 +562,13 @@ done_is (places.Lines left) e = absurd (false≢true e)
 done_is places.End e = absurd (false≢true e)
 done_is places.Done e = refl
 
-at_text_end : (place : Place) (r : Report) (text rest : List ℕ) (all : Report) → Fits place r text → ended place r rest ≡ Ok all → Fits places.Done all (text ++ rest)
+at_text_end : (place : Place) (r : Report) (text rest : List ℕ) (all : Report) → Fits place r text → ended place r rest ≡ Ok all →
+    Fits places.Done all (text ++ rest)
 at_text_end place r text rest all h e = by (is_done place) refl (length rest == 0) refl e
   where
-    by : (d : Bool) → is_done place ≡ d → (n : Bool) → (length rest == 0) ≡ n → cond {A = Result Report ReportFault} d (cond {A = Result Report ReportFault} n (Ok r) (Err extra)) (Err short) ≡ Ok all → Fits places.Done all (text ++ rest)
+    by : (d : Bool) → is_done place ≡ d → (n : Bool) → (length rest == 0) ≡ n →
+        cond {A = Result Report ReportFault} d (cond {A = Result Report ReportFault} n (Ok r) (Err extra)) (Err short) ≡ Ok all →
+        Fits places.Done all (text ++ rest)
     by true d true n e =
         let same : r ≡ all = cc in
         let no_rest : text ++ rest ≡ text = ap (λ t. text ++ t) (nothing_left rest n) ∙ append-nil text in
@@ -537,7 +577,8 @@ at_text_end place r text rest all h e = by (is_done place) refl (length rest == 
     by true d false n e = cc
     by false d n nn e = cc
 
-pieces_fit : (pieces : List (List ℕ)) (n : ℕ) (place : Place) (r : Report) (text : List ℕ) (all : Report) → Fits place r text → report_from n place r pieces ≡ Ok all → Fits places.Done all (text ++ glued pieces)
+pieces_fit : (pieces : List (List ℕ)) (n : ℕ) (place : Place) (r : Report) (text : List ℕ) (all : Report) → Fits place r text →
+    report_from n place r pieces ≡ Ok all → Fits places.Done all (text ++ glued pieces)
 pieces_fit [] n place r text all h e = at_text_end place r text [] all h e
 pieces_fit (rest ∷ []) n place r text all h e = at_text_end place r text rest all h e
 pieces_fit (a ∷ q ∷ ps) n place r text all h e = by (λ y text h e. pieces_fit (q ∷ ps) (n + 1) y.0 y.1 text all h e) (is_done place) (taken place r a) refl e
@@ -546,11 +587,13 @@ pieces_fit (a ∷ q ∷ ps) n place r text all h e = by (λ y text h e. pieces_f
     Rest = (y : Reached) (text : List ℕ) → Fits y.0 y.1 text → report_from (n + 1) y.0 y.1 (q ∷ ps) ≡ Ok all → Fits places.Done all (text ++ glued (q ∷ ps))
 
     by : Rest → (d : Bool) (o : Option Reached) → taken place r a ≡ o →
-        ◌>>=◌ (cond {A = Result Reached ReportFault} d (Err extra) (line_or_fault n o)) (λ (y : Reached). report_from (n + 1) y.0 y.1 (q ∷ ps)) ≡ Ok all → Fits places.Done all (text ++ (line a ++ glued (q ∷ ps)))
+        ◌>>=◌ (cond {A = Result Reached ReportFault} d (Err extra) (line_or_fault n o)) (λ (y : Reached). report_from (n + 1) y.0 y.1 (q ∷ ps)) ≡ Ok all →
+        Fits places.Done all (text ++ (line a ++ glued (q ∷ ps)))
     by rest true o t e = cc
     by rest false None t e = cc
     by rest false (Some y) t e =
-        subst (λ (text : List ℕ). Fits places.Done all text) (append_assoc text (line a) (glued (q ∷ ps))) (rest y (text ++ line a) (line_fits place r text a y h t) e)
+        subst (λ (text : List ℕ). Fits places.Done all text) (append_assoc text (line a) (glued (q ∷ ps)))
+        (rest y (text ++ line a) (line_fits place r text a y h t) e)
 
 -- what is read up to the end is a report that has the text
 pub done_is_report : (r : Report) (bytes : List ℕ) → Fits places.Done r bytes → HasReportText r × (report_text r ≡ bytes)
@@ -558,7 +601,8 @@ unfolding head_text tail_text
 done_is_report r bytes h =
     let b = h.0 in
     let trace : trace_text r ≡ trace_line (length r.inputs) ++ woven r.states r.inputs = trace_is_woven r b.more in
-    let tail : tail_text r ≡ trace_line (length r.inputs) ++ (woven r.states r.inputs ++ (log_line (length r.log) ++ (lines_text r.log ++ line (codes "end")))) =
+    let tail : tail_text r ≡ trace_line (length r.inputs)
+    ++ (woven r.states r.inputs ++ (log_line (length r.log) ++ (lines_text r.log ++ line (codes "end")))) =
     ap (λ t. t ++ (log_line (length r.log) ++ (lines_text r.log ++ line (codes "end")))) trace
     ∙ append_assoc (trace_line (length r.inputs)) (woven r.states r.inputs) (log_line (length r.log) ++ (lines_text r.log ++ line (codes "end"))) in (
       record {

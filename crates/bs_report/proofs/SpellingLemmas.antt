@@ -14,6 +14,7 @@ use Rattle.bs_log.specs.LineReading.{id_in, line_in}
 use Rattle.bs_log.specs.LineText.{line_text}
 use Rattle.bs_log.proofs.WordLemmas.{id_is, joined, joined_words, number_text, number_below}
 use Rattle.bs_log.proofs.RoundTrip.{texts_are_lines}
+use Rattle.bs_stim.specs.declared.limits.TheConstants.{MAX_RUNS, MAX_CYCLES}
 use Rattle.bs_report.specs.declared.limits.TheConstants.{MAX_STEPS, MAX_CANDIDATES, MAX_CONFLICTS}
 use Rattle.bs_report.specs.declared.report.Budgets.{Budgets}
 use Rattle.bs_report.specs.declared.report.Cand.{Cand}
@@ -22,7 +23,7 @@ use Rattle.bs_report.specs.declared.report.ListEnd.{ListEnd}
 use Rattle.bs_report.specs.declared.report.ListEnd.TheVariants.{Finished, Candidates as ByCandidates, Conflicts as ByConflicts}
 use Rattle.bs_report.specs.declared.report.Stop.{Stop}
 use Rattle.bs_report.specs.declared.report.Stop.TheVariants.{Reset, Length, Nohit, Empty, Candidates, Conflicts}
-use Rattle.bs_report.specs.Forms.{◌>>=◌, next_in, behind, at_end, within, number_within, number_behind, bits_behind, count_in, bits_in, budgets_in, cand_in, finished_in, end_of, end_in, run_cycle_in, moment_in, hit_in, stop_of, stop_in}
+use Rattle.bs_report.specs.Forms.{◌>>=◌, next_in, behind, at_end, within, number_within, number_behind, bits_behind, count_in, bits_in, budgets_in, cand_in, finished_end, end_of, end_in, run_cycle_in, moment_in, hit_in, stop_of, stop_in}
 use Rattle.bs_report.specs.Text.{end_word, stop_word, hit_text, HasEndText, HasHitText}
 
 -- ---- parts that are there
@@ -101,7 +102,8 @@ pub record IsNumberBehind (tag : List ℕ) (low high : ℕ) (ws : List (List ℕ
   pub from : low ≤ found.0
   pub to : found.0 ≤ high
 
-number_behind_is : (tag : List ℕ) (low high : ℕ) (ws : List (List ℕ)) (found : ℕ × List (List ℕ)) → number_behind tag low high ws ≡ Some found → IsNumberBehind tag low high ws found
+number_behind_is : (tag : List ℕ) (low high : ℕ) (ws : List (List ℕ)) (found : ℕ × List (List ℕ)) → number_behind tag low high ws ≡ Some found →
+    IsNumberBehind tag low high ws found
 number_behind_is tag low high ws found e =
     let a = bound (behind tag ws) (λ found. number_within low high found.0 >>= λ n. Some (n, found.1)) found e in
     let b = bound (number_within low high a.value.0) (λ n. Some (n, a.value.1)) found a.gives in
@@ -111,7 +113,8 @@ number_behind_is tag low high ws found e =
     subst (IsNumberBehind tag low high ws) same
     (record { words = behind_is tag ws a.value a.is ∙ ap (λ w. tag ∷ w ∷ a.value.1) n.text; from = n.from; to = n.to })
 
-bits_behind_is : (tag : List ℕ) (ws : List (List ℕ)) (found : List Bool × List (List ℕ)) → bits_behind tag ws ≡ Some found → ws ≡ tag ∷ bits_text found.0 ∷ found.1
+bits_behind_is : (tag : List ℕ) (ws : List (List ℕ)) (found : List Bool × List (List ℕ)) → bits_behind tag ws ≡ Some found →
+    ws ≡ tag ∷ bits_text found.0 ∷ found.1
 bits_behind_is tag ws found e =
     let a = bound (behind tag ws) (λ found. bits_of found.0 >>= λ bits. Some (bits, found.1)) found e in
     let b = bound (bits_of a.value.0) (λ bits. Some (bits, a.value.1)) found a.gives in
@@ -207,7 +210,7 @@ cand_is text c e =
 abbrev IsEnd : List ℕ → List (List ℕ) → ListEnd → Type 0
 IsEnd word ws e = HasEndText e × (joined (codes "list" ∷ word ∷ ws) ≡ codes "list " ++ end_word e)
 
-finished_is : (word : List ℕ) (ws : List (List ℕ)) (e : ListEnd) → finished_in word ws ≡ Some e → IsEnd word ws e
+finished_is : (word : List ℕ) (ws : List (List ℕ)) (e : ListEnd) → finished_end word ws ≡ Some e → IsEnd word ws e
 finished_is word ws e h =
     branch (bytes_eq word (codes "finished")) _ None e h
     (λ t h.
@@ -233,7 +236,7 @@ end_of_is word ws e h =
     subst (IsEnd word ws) z.1
     ((tt, ap (λ w. joined (codes "list" ∷ w ∷ ws)) (same_text word (codes "candidates") t) ∙ ap (λ ws. joined (codes "list" ∷ codes "candidates" ∷ ws)) z.0)))
     (λ t h.
-    branch (bytes_eq word (codes "conflicts")) (at_end ws ByConflicts) (finished_in word ws) e h
+    branch (bytes_eq word (codes "conflicts")) (at_end ws ByConflicts) (finished_end word ws) e h
     (λ t h.
     let z = end_is_here ws ByConflicts e h in
     subst (IsEnd word ws) z.1
@@ -249,18 +252,19 @@ end_is text e h =
 record IsRunCycle (ws : List (List ℕ)) (found : (ℕ × ℕ) × List (List ℕ)) : Type 0 where
   words : ws ≡ codes "hit" ∷ decimal found.0.0 ∷ decimal found.0.1 ∷ found.1
   some : 1 ≤ found.0.0
-  max : found.0.0 ≤ 256
-  cycle : found.0.1 ≤ 65536
+  max : found.0.0 ≤ MAX_RUNS
+  cycle : found.0.1 ≤ MAX_CYCLES
 
 run_cycle_is : (ws : List (List ℕ)) (found : (ℕ × ℕ) × List (List ℕ)) → run_cycle_in ws ≡ Some found → IsRunCycle ws found
 run_cycle_is ws found e =
-    let r = bound (number_behind (codes "hit") 1 256 ws) (λ run. next_in run.1 >>= λ found. number_within 0 65536 found.0 >>= λ cycle. Some ((run.0, cycle), found.1)) found e in
-    let w = bound (next_in r.value.1) (λ found. number_within 0 65536 found.0 >>= λ cycle. Some ((r.value.0, cycle), found.1)) found r.gives in
-    let c = bound (number_within 0 65536 w.value.0) (λ cycle. Some ((r.value.0, cycle), w.value.1)) found w.gives in
+    let r = bound (number_behind (codes "hit") 1 MAX_RUNS ws)
+    (λ run. next_in run.1 >>= λ found. number_within 0 MAX_CYCLES found.0 >>= λ cycle. Some ((run.0, cycle), found.1)) found e in
+    let w = bound (next_in r.value.1) (λ found. number_within 0 MAX_CYCLES found.0 >>= λ cycle. Some ((r.value.0, cycle), found.1)) found r.gives in
+    let c = bound (number_within 0 MAX_CYCLES w.value.0) (λ cycle. Some ((r.value.0, cycle), w.value.1)) found w.gives in
     let gives : Some ((r.value.0, c.value), w.value.1) ≡ Some found = c.gives in
     let same : ((r.value.0, c.value), w.value.1) ≡ found = cc in
-    let pr = number_behind_is (codes "hit") 1 256 ws r.value r.is in
-    let pc = within_is 0 65536 w.value.0 c.value c.is in
+    let pr = number_behind_is (codes "hit") 1 MAX_RUNS ws r.value r.is in
+    let pc = within_is 0 MAX_CYCLES w.value.0 c.value c.is in
     subst (IsRunCycle ws) same
     (record {
       words =
@@ -277,8 +281,11 @@ IsHit text hit = HasHitText hit × (line text ≡ hit_text hit)
 
 moment_is : (text : List ℕ) (hit : HitLine) → moment_in (words_of text) ≡ Some hit → IsHit text (Some hit)
 moment_is text hit e =
-    let m = bound (run_cycle_in (words_of text)) (λ moment. next_in moment.1 >>= λ found. bits_of found.0 >>= λ bits. at_end found.1 (record { run = moment.0.0; cycle = moment.0.1; state = bits })) hit e in
-    let w = bound (next_in m.value.1) (λ found. bits_of found.0 >>= λ bits. at_end found.1 (record { run = m.value.0.0; cycle = m.value.0.1; state = bits })) hit m.gives in
+    let m = bound (run_cycle_in (words_of text))
+    (λ moment. next_in moment.1 >>= λ found. bits_of found.0 >>= λ bits. at_end found.1 (record { run = moment.0.0; cycle = moment.0.1; state = bits }))
+    hit e in
+    let w = bound (next_in m.value.1)
+    (λ found. bits_of found.0 >>= λ bits. at_end found.1 (record { run = m.value.0.0; cycle = m.value.0.1; state = bits })) hit m.gives in
     let s = bound (bits_of w.value.0) (λ bits. at_end w.value.1 (record { run = m.value.0.0; cycle = m.value.0.1; state = bits })) hit w.gives in
     let z = end_is_here w.value.1 (record { run = m.value.0.0; cycle = m.value.0.1; state = s.value }) hit s.gives in
     let p = run_cycle_is (words_of text) m.value m.is in

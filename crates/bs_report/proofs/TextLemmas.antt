@@ -16,7 +16,8 @@ steps_text_append n (s ∷ ss) step =
     ∙ ap (λ (k : ℕ). (step_text n s ++ steps_text (n + 1) ss) ++ step_text k step) place)
 
 -- one step more
-pub steps_text_more : (steps : List Step) (i number : ℕ) (step : Step) → i < length steps → step ≡ get_or steps i step → number ≡ i + 1 → steps_text 1 (take (i + 1) steps) ≡ steps_text 1 (take i steps) ++ step_text number step
+pub steps_text_more : (steps : List Step) (i number : ℕ) (step : Step) → i < length steps → step ≡ get_or steps i step → number ≡ i + 1 →
+    steps_text 1 (take (i + 1) steps) ≡ steps_text 1 (take i steps) ++ step_text number step
 steps_text_more steps i number step lt e n =
     let more : take (i + 1) steps ≡ take i steps ++ step ∷ [] = take_more steps i step lt ∙ ap (λ (s : Step). take i steps ++ s ∷ []) (sym e) in
     let long : 1 + length (take i steps) ≡ number = omega (arith, length-take-le i steps (omega arith)) in
@@ -41,10 +42,12 @@ range_more f a (suc n) =
 -- one place more
 pub places_more : (f : ℕ → List ℕ) (n : ℕ) → flat_map f (range_with_len 0 (n + 1)) ≡ flat_map f (range_with_len 0 n) ++ f n
 places_more f n =
-    ap (λ (k : ℕ). flat_map f (range_with_len 0 k)) (add-one n) ∙ (range_more f 0 n ∙ ap (λ (k : ℕ). flat_map f (range_with_len 0 n) ++ f k) (let e : 0 + n ≡ n = omega arith in e))
+    ap (λ (k : ℕ). flat_map f (range_with_len 0 k)) (add-one n)
+    ∙ (range_more f 0 n ∙ ap (λ (k : ℕ). flat_map f (range_with_len 0 n) ++ f k) (let e : 0 + n ≡ n = omega arith in e))
 
 -- what a place appends
-pub places_step : (f : ℕ → List ℕ) (old before after : List ℕ) (n : ℕ) → before ≡ old ++ flat_map f (range_with_len 0 n) → after ≡ before ++ f n → after ≡ old ++ flat_map f (range_with_len 0 (n + 1))
+pub places_step : (f : ℕ → List ℕ) (old before after : List ℕ) (n : ℕ) → before ≡ old ++ flat_map f (range_with_len 0 n) → after ≡ before ++ f n →
+    after ≡ old ++ flat_map f (range_with_len 0 (n + 1))
 places_step f old before after n e g =
     g ∙ (ap (λ (t : List ℕ). t ++ f n) e ∙ (append_assoc old (flat_map f (range_with_len 0 n)) (f n) ∙ ap (λ (t : List ℕ). old ++ t) (sym (places_more f n))))
 
@@ -54,6 +57,7 @@ four old a b c new p q r s e f g h =
     ∙ (append_assoc ((old ++ p) ++ q) r s ∙ (append_assoc (old ++ p) q (r ++ s) ∙ append_assoc old p (q ++ (r ++ s)))))
 
 -- four pieces, of which the last may fail
-pub four_ok : {A E : Type 0} (x : Result A E) (old a b c new p q r s : List ℕ) → a ≡ old ++ p → b ≡ a ++ q → c ≡ b ++ r → OnOk x (new ≡ c ++ s) → OnOk x (new ≡ old ++ (p ++ (q ++ (r ++ s))))
+pub four_ok : {A E : Type 0} (x : Result A E) (old a b c new p q r s : List ℕ) → a ≡ old ++ p → b ≡ a ++ q → c ≡ b ++ r → OnOk x (new ≡ c ++ s) →
+    OnOk x (new ≡ old ++ (p ++ (q ++ (r ++ s))))
 four_ok (Ok u) old a b c new p q r s e f g h = four old a b c new p q r s e f g h
 four_ok (Err u) old a b c new p q r s e f g h = h

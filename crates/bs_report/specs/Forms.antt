@@ -4,6 +4,7 @@ use Rattle.std.specs.Str.{bytes_eq}
 use Rattle.bs_bits.specs.Lines.{words_of, number_in}
 use Rattle.bs_bits.specs.Text.{bits_of}
 use Rattle.bs_log.specs.LineReading.{id_in}
+use Rattle.bs_stim.specs.declared.limits.TheConstants.{MAX_RUNS, MAX_CYCLES}
 use Rattle.bs_report.specs.declared.limits.TheConstants.{MAX_STEPS, MAX_CANDIDATES, MAX_CONFLICTS}
 use Rattle.bs_report.specs.declared.report.Cand.{Cand}
 use Rattle.bs_report.specs.declared.report.HitLine.{HitLine}
@@ -83,14 +84,14 @@ cand_in text = do
   at_end input.1 (record { state = state.0; input = input.0 })
 
 -- an id behind `finished`
-abbrev pub finished_in : List ℕ → List (List ℕ) → Option ListEnd
-finished_in word ws = if bytes_eq word (codes "finished") then (next_in ws >>= λ found. id_in found.0 >>= λ id. at_end found.1 (Finished id)) else None
+abbrev pub finished_end : List ℕ → List (List ℕ) → Option ListEnd
+finished_end word ws = if bytes_eq word (codes "finished") then (next_in ws >>= λ found. id_in found.0 >>= λ id. at_end found.1 (Finished id)) else None
 
 abbrev pub end_of : List ℕ → List (List ℕ) → Option ListEnd
 end_of word ws =
     if bytes_eq word (codes "candidates") then at_end ws ByCandidates
     else if bytes_eq word (codes "conflicts") then at_end ws ByConflicts
-    else finished_in word ws
+    else finished_end word ws
 
 abbrev pub end_in : List ℕ → Option ListEnd
 end_in text = behind (codes "list") (words_of text) >>= λ found. end_of found.0 found.1
@@ -98,9 +99,9 @@ end_in text = behind (codes "list") (words_of text) >>= λ found. end_of found.0
 -- the run and the cycle of a hit
 abbrev pub run_cycle_in : List (List ℕ) → Option ((ℕ × ℕ) × List (List ℕ))
 run_cycle_in words = do
-  run ← number_behind (codes "hit") 1 256 words
+  run ← number_behind (codes "hit") 1 MAX_RUNS words
   found ← next_in run.1
-  cycle ← number_within 0 65536 found.0
+  cycle ← number_within 0 MAX_CYCLES found.0
   Some ((run.0, cycle), found.1)
 
 abbrev pub moment_in : List (List ℕ) → Option HitLine

@@ -1,13 +1,13 @@
 //! The lines of a report, each read by itself.
-ghost use Rattle.std.specs.Prelude.{◌≡◌, ◌≤◌, ◌^◌, ◌==◌, length, codes, IfOk, IfSome, MatchOption, Some, None};
+ghost use Rattle.std.specs.Prelude.{◌≡◌, ◌≤◌, ◌^◌, ◌==◌, length, IfOk, IfSome, MatchOption, Some, None};
 ghost use Rattle.std.specs.Str.{bytes_eq};
-ghost use Rattle.bs_bits.specs.Lines.{words_of};
 ghost use Rattle.bs_log.specs.LineReading.{id_in};
-ghost use Rattle.bs_report.specs.Forms.{at_end as at_end_of, behind, bits_behind, bits_in, budgets_in, cand_in, count_in, end_in, end_of, finished_in, hit_in, moment_in, number_behind, number_within, run_cycle_in, stop_in, stop_of};
+ghost use Rattle.bs_report.specs.Forms.{at_end as at_end_of, behind, bits_behind, bits_in, budgets_in, cand_in, count_in, end_in, end_of, finished_end, hit_in, moment_in, number_behind, number_within, run_cycle_in, stop_in, stop_of};
 
 use crate::limits::{MAX_CANDIDATES, MAX_CONFLICTS, MAX_STEPS};
 use crate::report::{Budgets, Cand, HitLine, ListEnd, Stop};
 use bs_bits::{Bits, NoMemory, Words, read_number};
+use bs_stim::{MAX_CYCLES, MAX_RUNS};
 use std::alloc::Global;
 
 /// Whether the two are the same bytes.
@@ -141,7 +141,7 @@ fn read_id(word: &[u8]) -> Option<u64>
 
 /// The finished end with the id that is the next word, behind this one.
 fn read_finished<'a>(word: &[u8], words: &mut Words<'a>) -> Option<ListEnd>
-    ensures { result ≡ finished_in word.now words.old }
+    ensures { result ≡ finished_end word.now words.old }
 {
     if !is_text(word, b"finished") {
         return None;
@@ -177,9 +177,9 @@ pub fn read_end(line: &[u8]) -> Option<ListEnd>
 fn read_run_cycle<'a>(words: &mut Words<'a>) -> Option<(u32, u32)>
     ensures { MatchOption result (run_cycle_in words.old ≡ None) (λ at. run_cycle_in words.old ≡ Some (at, words.new)) }
 {
-    let run = read_behind(words, b"hit", 1, 256)?;
+    let run = read_behind(words, b"hit", 1, MAX_RUNS as u64)?;
     let cycle = words.next()?;
-    let cycle = read_within(0, 65_536, cycle)?;
+    let cycle = read_within(0, MAX_CYCLES as u64, cycle)?;
     Some((run as u32, cycle as u32))
 }
 

@@ -26,7 +26,8 @@ pub lines-preserved : goal.lines-preserved
 lines-preserved c =
     record {
       whole =
-          line_read (report_in c.args.bytes.now) c.lines.number c.lines.place c.in_ok-place.place c.lines.report c.follow.new.report c.lines.rest.now c.in-Some.line.now c.in-Some.behind.now
+          line_read (report_in c.args.bytes.now)
+          c.lines.number c.lines.place c.in_ok-place.place c.lines.report c.follow.new.report c.lines.rest.now c.in-Some.line.now c.in-Some.behind.now
           c.lines.invariant.whole c.in-Some.ensures.pieces c.in_ok-place.ensures;
       counted = omega (arith, c.lines.invariant.counted, c.in-Some.ensures.shorter);
     }
