@@ -1,6 +1,20 @@
-//! Texts that are lines and texts that are none, and a log that grows.
+//! Texts that are lines and texts that are none, small and great, and a log that grows.
+use bs_bits::{push_number, push_piece};
 use bs_log::{Line, Log};
+use std::alloc::Global;
 use std::test::Fail;
+
+/// The text of a lemma of the first variables, with one hint.
+pub fn lemma_text(alloc: Global, id: u64, variables: u64) -> Result<Vec<u8>, Fail> {
+    let mut text = Vec::new(alloc);
+    push_number(&mut text, id)?;
+    for variable in 0..variables {
+        push_piece(&mut text, b" ")?;
+        push_number(&mut text, variable + 1)?;
+    }
+    push_piece(&mut text, b" 0 1 0")?;
+    Ok(text)
+}
 
 #[test]
 fn lines_are_read_and_written_back(rt: HostRuntime) -> Result<(), Fail> {
@@ -61,5 +75,19 @@ fn a_log_keeps_its_lines(rt: HostRuntime) -> Result<(), Fail> {
     log.push(Line::Retire { id: 8 })?;
     assert_eq!(rt; log.len(), 2);
     assert!(rt; matches!(log.get(1), Line::Retire { id: 8 }));
+    Ok(())
+}
+
+#[test]
+fn a_lemma_of_thousands_of_literals_is_read_and_written_back(rt: HostRuntime) -> Result<(), Fail> {
+    let alloc = rt.alloc();
+    for variables in [0, 4, 5, 20_000] {
+        let text = lemma_text(alloc, 9, variables)?;
+        let mut written = Vec::new(alloc);
+        if let Some(line) = Line::read(alloc, text.as_slice())? {
+            line.text(&mut written)?;
+        }
+        assert_eq!(rt; written.as_slice(), text.as_slice());
+    }
     Ok(())
 }

@@ -1,4 +1,5 @@
 //! Logs of one step and of two, each with one line changed, and their verdicts.
+use crate::log_rows::lemma_text;
 use bs_bits::List;
 use bs_clause::{Clauses, Lit, Lits, Var};
 use bs_log::{Line, Log};
@@ -120,5 +121,48 @@ fn each_changed_line_is_refused_for_its_reason(rt: HostRuntime) -> Result<(), Fa
     }
     let one_too_many = verdict(alloc, false, &LINES, 0, b"")?;
     assert_eq!(rt; one_too_many, refused(8, Why::Order));
+    Ok(())
+}
+
+/// The verdict on a log of one step, whose lemma is the one clause of so many variables.
+fn verdict_on_copy(alloc: Global, variables: u16) -> Result<Verdict, Fail> {
+    let vars = u32::from(variables);
+    let mut clause = Lits::new(alloc);
+    let mut assumed = Lits::new(alloc);
+    assumed.push(literal(i32::from(variables) + 1))?;
+    for variable in 0..variables {
+        clause.push(literal(i32::from(variable) + 1))?;
+        assumed.push(literal(-i32::from(variable) - 1))?;
+    }
+    let mut clauses = Clauses::new(alloc);
+    clauses.push(clause)?;
+    let mut steps = List::new(alloc);
+    steps.push(assumed)?;
+    let lemma = lemma_text(alloc, 2, u64::from(variables))?;
+    let mut log = Log::new(alloc);
+    for text in [
+        b"s".as_slice(),
+        lemma.as_slice(),
+        b"e 2".as_slice(),
+        b"r 3".as_slice(),
+        b"d 2".as_slice(),
+    ] {
+        if let Some(line) = Line::read(alloc, text)? {
+            log.push(line)?;
+        }
+    }
+    if steps.len() < 2 {
+        Ok(check(alloc, vars, &clauses, &steps, &log)?)
+    } else {
+        Ok(refused(0, Why::Order))
+    }
+}
+
+#[test]
+fn a_lemma_of_thousands_of_literals_is_checked(rt: HostRuntime) -> Result<(), Fail> {
+    let alloc = rt.alloc();
+    for variables in [1, 5, 20_000] {
+        assert_eq!(rt; verdict_on_copy(alloc, variables)?, Verdict::Accepted);
+    }
     Ok(())
 }

@@ -1,0 +1,70 @@
+//! Literals, clauses and assignments: each call that takes memory with ample memory, at small and at great sizes.
+use bs_clause::{Assignment, Clauses, Lit, Lits, VARIABLE_LIMIT, Var, has_literal, resolve};
+use std::alloc::Global;
+use std::test::Fail;
+
+/// The literal of a variable, or of the first one where there is none of this number.
+fn literal(variable: u32, positive: bool) -> Lit {
+    if 1 <= variable && variable < VARIABLE_LIMIT {
+        Lit::new(Var(variable), positive)
+    } else {
+        Lit::new(Var(1), positive)
+    }
+}
+
+/// The clause of variable 1, with this sign, and of the positive literals of the others up to the last.
+fn clause_up_to(alloc: Global, first: bool, last: u32) -> Result<Lits, Fail> {
+    let mut clause = Lits::new(alloc);
+    clause.push(literal(1, first))?;
+    for variable in 2..last + 1 {
+        clause.push(literal(variable, true))?;
+    }
+    Ok(clause)
+}
+
+/// How many literals the resolvent of two such clauses has.
+fn resolved(alloc: Global, last: u32) -> Result<Option<usize>, Fail> {
+    let left = clause_up_to(alloc, true, last)?;
+    let right = clause_up_to(alloc, false, last)?;
+    let pivot = literal(1, true);
+    if has_literal(left.slice(), pivot) && has_literal(right.slice(), pivot.negate()) {
+        Ok(Some(resolve(alloc, &left, &right, pivot)?.len()))
+    } else {
+        Ok(None)
+    }
+}
+
+/// How many clauses there are behind this many pushes of a copy.
+fn pushed(alloc: Global, clause: &Lits, count: u32) -> Result<usize, Fail> {
+    let mut clauses = Clauses::new(alloc);
+    for _ in 0..count {
+        clauses.push(Lits::copy(alloc, clause.slice())?)?;
+    }
+    Ok(clauses.into_vec().len())
+}
+
+/// The value of the last variable before and after it is set.
+fn last_values(alloc: Global, last: u32) -> Result<Option<(Option<bool>, Option<bool>)>, Fail> {
+    if last == 0 {
+        return Ok(None);
+    }
+    let mut values = Assignment::new(alloc, last)?;
+    let before = values.get(Var(last));
+    values.set(Var(last), Some(false));
+    Ok(Some((before, values.get(Var(last)))))
+}
+
+#[test]
+fn clauses_and_assignments_small_and_great(rt: HostRuntime) -> Result<(), Fail> {
+    let alloc = rt.alloc();
+    for (last, count, variables) in [(2, 1, 1), (3, 2, 3), (5, 3, 40), (1_000, 5_000, 1_000_000)] {
+        let clause = clause_up_to(alloc, true, last)?;
+        let copied = Lits::copy(alloc, clause.slice())?;
+        assert_eq!(rt; copied.slice(), clause.slice());
+        assert_eq!(rt; copied.len(), last as usize);
+        assert_eq!(rt; pushed(alloc, &clause, count)?, count as usize);
+        assert_eq!(rt; resolved(alloc, last)?, Some(last as usize - 1));
+        assert_eq!(rt; last_values(alloc, variables)?, Some((None, Some(false))));
+    }
+    Ok(())
+}
