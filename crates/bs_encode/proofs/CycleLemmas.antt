@@ -1,5 +1,5 @@
 -- One copy of the transition: the clauses are met exactly by what shows a state, an input, the next state and the signature.
-use Rattle.std.proofs.Common.{◌≡◌, ℕ, suc, ◌+◌, ◌<◌, Bool, true, false, List, [], ◌∷◌, map, length, refl, sym, ap, ◌∙◌, arith, subst, zero-add}
+use Rattle.std.proofs.Common.{◌≡◌, ℕ, suc, ◌+◌, ◌<◌, Bool, true, false, List, [], ◌∷◌, map, length, refl, sym, ap, ◌∙◌, subst, zero-add}
 use Rattle.std.specs.Prelude.{slice_index_or}
 use Rattle.std.specs.List.{AllByRecursion, All, range_with_len}
 use Rattle.std.proofs.lemmas.List.{length-map}
@@ -10,7 +10,7 @@ use Rattle.bs_clause.specs.Range.{IsWithin, HasVariables}
 use Rattle.bs_log.specs.Refusal.{has_distinct_variables}
 use Rattle.bs_net.specs.declared.net.NetId.{NetId}
 use Rattle.bs_net.specs.declared.net.Flop.{Flop}
-use Rattle.bs_net.specs.Circuit.{Circuit, next, next_state, state_nets, shown}
+use Rattle.bs_net.specs.Circuit.{Circuit, next, state_nets, shown}
 use Rattle.bs_net.specs.Order.{IsChecked}
 use Rattle.bs_net.specs.Parts.{Parts, PartsArePlaced}
 use Rattle.bs_net.specs.Netlist.{circuit_of}
@@ -18,7 +18,6 @@ use Rattle.bs_net.proofs.CallerLemmas.{exactly_one_fits, next_from_fits}
 use Rattle.bs_scan.specs.Signature.{parity_of}
 use Rattle.bs_encode.specs.Transition.{net_var, state_vars, item_helpers, first_next, first_item, item_vars}
 use Rattle.bs_encode.specs.Encoded.{Encoded, encoding_of}
-use Rattle.bs_encode.specs.Assuming.{signed}
 use Rattle.bs_encode.specs.Meaning.{IsClosed, ShowsStep, nets_of, next_of, signature_of}
 use Rattle.bs_encode.specs.Cycle.{bits_on, ShowsCycle, IsTransition, EncodesCycles}
 use Rattle.bs_encode.proofs.PartLemmas.{OnNets, shown_by}

@@ -4,7 +4,7 @@ use Rattle.std.specs.Bool.{beq}
 use Rattle.std.specs.List.{AllByRecursion, list_any}
 use Rattle.std.proofs.lemmas.Bool.{true≢false, or_parts}
 use Rattle.std.proofs.lemmas.List.{length-map}
-use Rattle.bs_clause.specs.Literal.{Literal, Clause, literal_value, Satisfies}
+use Rattle.bs_clause.specs.Literal.{Clause, literal_value, Satisfies}
 use Rattle.bs_clause.proofs.Literals.{beq-true}
 use Rattle.bs_encode.specs.Tables.{lit}
 use Rattle.bs_encode.specs.Encoded.{literals}

@@ -1,5 +1,5 @@
 -- What the lists of candidates need of an encoding.
-use Rattle.std.specs.Prelude.{◌≡◌, ℕ, ◌+◌, ◌<◌, Bool, true, List, [], length, map, All, IsTrue, Some, slice_get, slice_index_or}
+use Rattle.std.specs.Prelude.{◌≡◌, ℕ, ◌+◌, ◌<◌, Bool, true, List, [], length, All, IsTrue, Some, slice_get, slice_index_or}
 use Rattle.bs_clause.specs.declared.literal.TheConstants.{VARIABLE_LIMIT}
 use Rattle.bs_clause.specs.Literal.{Literal, literal_value, Satisfies}
 use Rattle.bs_clause.specs.Range.{HasVariables}

@@ -5,7 +5,6 @@ ghost use Rattle.bs_clause.specs.declared.literal.TheConstants.{VARIABLE_LIMIT};
 ghost use Rattle.bs_clause.specs.Literal.{IsVariable};
 ghost use Rattle.bs_encode.specs.Tables.{lit, helpers_of, odd_clauses};
 ghost use Rattle.bs_encode.specs.Transition.{net_var, gate_helpers, gates_clauses, next_clauses, load_clauses, item_helpers, items_clauses, item_vars, chosen};
-ghost use Rattle.bs_net.specs.declared.net.NetId.{NetId as Net};
 
 use crate::table::{add_gate, add_odd, add_same};
 use bs_clause::{Clauses, Lit, Lits, NoMemory, Var};

@@ -1,8 +1,8 @@
 //! The clauses of one gate.
-ghost use Rattle.std.specs.Prelude.{◌≡◌, ◌<◌, ◌≤◌, ◌+◌, ◌-◌, ◌∷◌, [], ◌++◌, not, true, false, length, map, All, IfOk, OnOk};
+ghost use Rattle.std.specs.Prelude.{◌≡◌, ◌<◌, ◌≤◌, ◌+◌, ◌-◌, ◌∷◌, [], ◌++◌, true, false, length, map, All, IfOk, OnOk};
 ghost use Rattle.bs_clause.specs.declared.literal.TheConstants.{VARIABLE_LIMIT};
 ghost use Rattle.bs_clause.specs.Literal.{IsVariable};
-ghost use Rattle.bs_encode.specs.Tables.{lit, all_clauses, any_clauses, same_clauses, differ_clauses, odd_from, odd_clauses, first_clauses, gate_clauses, helpers_of};
+ghost use Rattle.bs_encode.specs.Tables.{lit, all_clauses, any_clauses, same_clauses, differ_clauses, odd_clauses, first_clauses, gate_clauses, helpers_of};
 
 use bs_clause::{Clauses, Lit, Lits, NoMemory, Var};
 use bs_net::Kind;

@@ -1,5 +1,5 @@
 //! Clauses without repeated literals and without tautologies.
-ghost use Rattle.std.specs.Prelude.{◌≡◌, ◌∷◌, [], ◌++◌, IfOk, OnOk};
+ghost use Rattle.std.specs.Prelude.{◌≡◌, ◌∷◌, [], ◌++◌, IfOk};
 ghost use Rattle.bs_encode.specs.Transition.{is_tautology, tidied};
 ghost use Rattle.bs_clause.specs.Resolvent.{once};
 

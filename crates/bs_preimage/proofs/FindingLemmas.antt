@@ -34,6 +34,7 @@ use Rattle.bs_good.specs.Valid.{blocks_due}
 use Rattle.bs_preimage.specs.Turn.{Extends, Keeps, HasSearched, MayTurn, HasListedOne, HasRefutedAll, HasSpent, IsShownIn, block_in, guard_in, steps_after}
 use Rattle.bs_preimage.specs.Finding.{is_inner, HasLogged, IsAgain, IsUnderWay, HasEndedSearch}
 use Rattle.bs_preimage.proofs.BoundLemmas.{runs_over}
+use Rattle.bs_preimage.proofs.TurnLemmas.{extends_then, extends_from}
 use Rattle.bs_preimage.proofs.StandingLemmas.{lemmas_inner, inner_step}
 
 -- ---- the guard of the step
@@ -48,7 +49,8 @@ guard_kept e start s found h =
 -- ---- the lines of a search behind those of the step
 
 -- lemmas have no block
-no_blocks : (lemmas rest : List Line) → Each (λ line. is_lemma_line line ≡ true) lemmas → filter_map block_of_line (lemmas ++ rest) ≡ filter_map block_of_line rest
+no_blocks : (lemmas rest : List Line) → Each (λ line. is_lemma_line line ≡ true) lemmas →
+    filter_map block_of_line (lemmas ++ rest) ≡ filter_map block_of_line rest
 no_blocks [] rest all = refl
 no_blocks (Lemma id lits hints ∷ lemmas) rest all = no_blocks lemmas rest all.1
 no_blocks (Solve ∷ lemmas) rest all = absurd (false≢true all.0)
@@ -58,7 +60,8 @@ no_blocks (Retire id ∷ lemmas) rest all = absurd (false≢true all.0)
 no_blocks (Delete ids ∷ lemmas) rest all = absurd (false≢true all.0)
 
 -- after a search without a block
-searched_logs : (e : Encoded) (a : Clause) (start s s2 : SolverState) (found : List Cand) (lemmas : List Line) → HasLogged e start s found → HasSearched s s2 a lemmas → HasLogged e start s2 found
+searched_logs : (e : Encoded) (a : Clause) (start s s2 : SolverState) (found : List Cand) (lemmas : List Line) → HasLogged e start s found →
+    HasSearched s s2 a lemmas → HasLogged e start s2 found
 searched_logs e a start s s2 found lemmas h r =
     record {
       guards = r.guards ∙ h.guards;
@@ -76,7 +79,8 @@ searched_logs e a start s s2 found lemmas h r =
 begun_stage : (s start : SolverState) → start.stage ≡ Begun → s ≡ start → s.stage ≡ Begun
 begun_stage s start b e = ap (λ (s : SolverState). s.stage) e ∙ b
 
-steps_now : (e : Encoded) (a : Clause) (start s s2 : SolverState) (found : List Cand) (lemmas : List Line) → start.stage ≡ Begun → IsUnderWay e a start s found → HasSearched s s2 a lemmas →
+steps_now : (e : Encoded) (a : Clause) (start s s2 : SolverState) (found : List Cand) (lemmas : List Line) → start.stage ≡ Begun →
+    IsUnderWay e a start s found → HasSearched s s2 a lemmas →
     s2.book.problem.steps ≡ start.book.problem.steps ++ a ∷ []
 steps_now e a start s s2 found lemmas b u r = by u.stage
   where
@@ -88,12 +92,14 @@ steps_now e a start s s2 found lemmas b u r = by u.stage
 
 -- ---- a candidate more
 
-block_of_middle : (e : Encoded) (start s middle : SolverState) (found : List Cand) → HasLogged e start s found → HasLogged e start middle found → (state : List Bool) →
+block_of_middle : (e : Encoded) (start s middle : SolverState) (found : List Cand) → HasLogged e start s found → HasLogged e start middle found →
+    (state : List Bool) →
     negation (guard_in middle.book) ∷ block_for e state ≡ block_in e start.book state
 block_of_middle e start s middle found h m state = ap (λ (g : Literal). negation g ∷ block_for e state) (guard_kept e start middle found m)
 
 -- each state found before is another one
-others : (e : Encoded) (a : Clause) (start s s2 : SolverState) (found cands : List Cand) (cand : Cand) → IsUnderWay e a start s found → HasListedOne e a s s2 cand →
+others : (e : Encoded) (a : Clause) (start s s2 : SolverState) (found cands : List Cand) (cand : Cand) → IsUnderWay e a start s found →
+    HasListedOne e a s s2 cand →
     Each (λ c. Contains (standing s.book) (block_in e start.book c.state)) cands → Each (λ t. bits_eq cand.state t ≡ false) (listed cands)
 others e a start s s2 found [] cand u one all = tt
 others e a start s s2 found (c ∷ cands) cand u one all =
@@ -103,7 +109,8 @@ others e a start s s2 found (c ∷ cands) cand u one all =
     by false e2 = e2
     by true e2 =
         absurd
-        (one.apart c.state (subst (λ (g : Literal). Contains (standing s.book) (negation g ∷ block_for e c.state)) (sym (guard_kept e start s found u.logged)) all.0)
+        (one.apart c.state (subst (λ (g : Literal). Contains (standing s.book) (negation g ∷ block_for e c.state))
+        (sym (guard_kept e start s found u.logged)) all.0)
         (bits_same_is cand.state c.state e2))
 
 pub flips : (x y : List Bool) → bits_eq x y ≡ bits_eq y x
@@ -117,9 +124,11 @@ flips x y = by (bits_eq x y) (bits_eq y x) refl refl
 -- one more at the end is another one
 distinct_push : (xs : List (List Bool)) (x : List Bool) → IsDistinct bits_eq xs → Each (λ t. bits_eq x t ≡ false) xs → IsDistinct bits_eq (xs ++ x ∷ [])
 distinct_push xs x d all =
-    IsDistinct-IsPermutation bits_eq flips (x ∷ xs) (xs ++ x ∷ []) (IsPermutation-sym (xs ++ x ∷ []) (x ∷ xs) (IsPermutation-to_front xs x)) (IsDistinct-cons bits_eq x xs all d)
+    IsDistinct-IsPermutation bits_eq flips (x ∷ xs) (xs ++ x ∷ []) (IsPermutation-sym (xs ++ x ∷ []) (x ∷ xs) (IsPermutation-to_front xs x))
+    (IsDistinct-cons bits_eq x xs all d)
 
-pub one_more_cand : (e : Encoded) (a : Clause) (start s s2 : SolverState) (found : List Cand) (cand : Cand) → start.stage ≡ Begun → IsUnderWay e a start s found → HasListedOne e a s s2 cand →
+pub one_more_cand : (e : Encoded) (a : Clause) (start s s2 : SolverState) (found : List Cand) (cand : Cand) → start.stage ≡ Begun →
+    IsUnderWay e a start s found → HasListedOne e a s s2 cand →
     IsUnderWay e a start s2 (found ++ cand ∷ [])
 one_more_cand e a start s s2 found cand b u one =
     let m : HasLogged e start one.middle found = searched_logs e a start s one.middle found one.lemmas u.logged one.searched in
@@ -147,10 +156,12 @@ one_more_cand e a start s s2 found cand b u one =
         shown = All-push (IsShownIn e a) found cand u.cands.shown one.shown;
         apart = subst (IsDistinct bits_eq) (sym (map-append (λ (c : Cand). c.state) found (cand ∷ [])))
             (distinct_push (listed found) cand.state u.cands.apart
-            (others e a start s s2 found found cand u one (recursion_from_All (λ (c : Cand). Contains (standing s.book) (block_in e start.book c.state)) found u.blocked)));
+            (others e a start s s2 found found cand u one
+            (recursion_from_All (λ (c : Cand). Contains (standing s.book) (block_in e start.book c.state)) found u.blocked)));
       };
       blocked = All-push (λ (c : Cand). Contains (standing s2.book) (block_in e start.book c.state)) found cand
-          (All-weaker (λ (c : Cand). Contains (standing s.book) (block_in e start.book c.state)) (λ (c : Cand). Contains (standing s2.book) (block_in e start.book c.state))
+          (All-weaker (λ (c : Cand). Contains (standing s.book) (block_in e start.book c.state))
+          (λ (c : Cand). Contains (standing s2.book) (block_in e start.book c.state))
           (λ c there. keeps (block_in e start.book c.state) (one.searched.stand (block_in e start.book c.state) there)) found u.blocked) there;
       stage = inr (record {
         stage = one.blocked.stage;
@@ -164,7 +175,8 @@ one_more_cand e a start s s2 found cand b u one =
 blocked_is_not_begun : (t : Stage) → t ≡ Begun → t ≡ Blocked → ⊥
 blocked_is_not_begun t b k = let e : Begun ≡ Blocked = sym b ∙ k in true≢false (ap is_begun e)
 
-pub may_turn_again : (e : Encoded) (a : Clause) (start s : SolverState) (found : List Cand) → start.stage ≡ Begun → MayTurn e start a → IsUnderWay e a start s found → MayTurn e s a
+pub may_turn_again : (e : Encoded) (a : Clause) (start s : SolverState) (found : List Cand) → start.stage ≡ Begun → MayTurn e start a →
+    IsUnderWay e a start s found → MayTurn e s a
 may_turn_again e a start s found b may u =
     record {
       may = by u.stage;
@@ -202,7 +214,8 @@ abbrev pub is_conflicts : ListEnd → Bool
 is_conflicts Conflicts = true
 is_conflicts end = false
 
-pub refuted_search : (e : Encoded) (a : Clause) (k limit id : ℕ) (start s s2 : SolverState) (found : List Cand) → start.stage ≡ Begun → IsUnderWay e a start s found → HasRefutedAll a s s2 id →
+pub refuted_search : (e : Encoded) (a : Clause) (k limit id : ℕ) (start s s2 : SolverState) (found : List Cand) → start.stage ≡ Begun →
+    IsUnderWay e a start s found → HasRefutedAll a s s2 id →
     length found < k → HasEndedSearch e a k limit start s2 found (Finished id)
 refuted_search e a k limit id start s s2 found b u r under =
     record {
@@ -255,7 +268,9 @@ spent_is : (a : Clause) (limit : ℕ) (lemmas before : List Line) → length lem
 spent_is a limit lemmas before n all =
     let are : AreOpen a (reverse lemmas) = open_lemmas a (reverse lemmas) (each_reverse (λ line. is_open_lemma a line ≡ true) lemmas all) in
     let order : reverse (lemmas ++ Solve ∷ before) ≡ reverse before ++ Solve ∷ reverse lemmas =
-    reverse-append lemmas (Solve ∷ before) ∙ (ap (λ (ls : List Line). ls ++ reverse lemmas) (reverse-append (Solve ∷ []) before) ∙ append_assoc (reverse before) (Solve ∷ []) (reverse lemmas)) in
+    reverse-append lemmas (Solve ∷ before)
+    ∙ (ap (λ (ls : List Line). ls ++ reverse lemmas) (reverse-append (Solve ∷ []) before) ∙ append_assoc (reverse before) (Solve ∷ []) (reverse lemmas))
+    in
     ap (λ (ls : List Line). is_spent limit a (last_solve ls)) order
     ∙ (ap (is_spent limit a) (last_solve_of (reverse before) (reverse lemmas) are.no_solve)
     ∙ all_true (length (reverse lemmas) == limit) (list_all is_lemma_line (reverse lemmas)) (list_any (denies a) (filter_map lemma_of_line (reverse lemmas)))
@@ -264,7 +279,8 @@ spent_is a limit lemmas before n all =
     all_true : (x y z : Bool) → x ≡ true → y ≡ true → z ≡ false → (x && y && not z) ≡ true
     all_true x y z e f g = rw (e, f, g) refl
 
-pub spent_search : (e : Encoded) (a : Clause) (k limit : ℕ) (start s s2 : SolverState) (found : List Cand) → start.stage ≡ Begun → IsUnderWay e a start s found → HasSpent a limit s s2 →
+pub spent_search : (e : Encoded) (a : Clause) (k limit : ℕ) (start s s2 : SolverState) (found : List Cand) → start.stage ≡ Begun →
+    IsUnderWay e a start s found → HasSpent a limit s s2 →
     length found < k → HasEndedSearch e a k limit start s2 found Conflicts
 unfolding searched_logs
 spent_search e a k limit start s s2 found b u r under =
@@ -279,26 +295,59 @@ spent_search e a k limit start s s2 found b u r under =
           (record { distinct = unit.distinct; implied = runs_over (standing start.book) (standing s.book) a [] run u.logged.stand unit.implied }));
     }
 
-pub full_search : (e : Encoded) (a : Clause) (k limit : ℕ) (start s : SolverState) (found : List Cand) → IsUnderWay e a start s found → 1 ≤ k → length found ≡ k →
+pub full_search : (e : Encoded) (a : Clause) (k limit : ℕ) (start s : SolverState) (found : List Cand) → IsUnderWay e a start s found → 1 ≤ k →
+    length found ≡ k →
     HasEndedSearch e a k limit start s found Candidates
 full_search e a k limit start s found u some n = by u.stage
   where
     by : ((s ≡ start) × (found ≡ [])) ⊎ IsAgain e a start s → HasEndedSearch e a k limit start s found Candidates
     by (inl first) = absurd (let none : length found ≡ 0 = ap length first.1 in omega (arith, n, none, some))
-    by (inr again) = record { logged = u.logged; cands = u.cands; steps = again.steps; ended = (again.stage, n); bound = λ e. absurd (false≢true (ap is_conflicts e)) }
+    by (inr again) = record {
+      logged = u.logged;
+      cands = u.cands;
+      steps = again.steps;
+      ended = (again.stage, n);
+      bound =
+          λ e. absurd (false≢true (ap is_conflicts e));
+    }
 
 -- ---- extensions
 
-pub logged_extends : (e : Encoded) (start s : SolverState) (found : List Cand) → HasLogged e start s found → Extends start.book s.book
-logged_extends e start s found h = record { vars = h.vars; clauses = h.clauses; more = h.lines; history = h.history }
+-- what has been logged since the step began
+pub under_way_extends : (e : Encoded) (a : Clause) (start s : SolverState) (found : List Cand) → IsUnderWay e a start s found → Extends true start.book s.book a
+under_way_extends e a start s found u =
+    record { vars = u.logged.vars; clauses = u.logged.clauses; more = u.logged.lines; history = u.logged.history; steps = by u.stage }
+  where
+    by : ((s ≡ start) × (found ≡ [])) ⊎ IsAgain e a start s →
+        (s.book.problem.steps ≡ start.book.problem.steps) ⊎ ((true ≡ true) × (s.book.problem.steps ≡ start.book.problem.steps ++ a ∷ []))
+    by (inl first) = inl (ap (λ (s : SolverState). s.book.problem.steps) first.0)
+    by (inr again) = inr (refl, again.steps)
+
+-- and with one turn more
+pub extends_on : (e : Encoded) (a : Clause) (start s : SolverState) (new : Book) (found : List Cand) → start.stage ≡ Begun → IsUnderWay e a start s found →
+    Extends (is_begun s.stage) s.book new a →
+    Extends true start.book new a
+extends_on e a start s new found b u x = by u.stage
+  where
+    by : ((s ≡ start) × (found ≡ [])) ⊎ IsAgain e a start s → Extends true start.book new a
+    by (inl first) =
+        let begun : is_begun s.stage ≡ true = ap is_begun (begun_stage s start b first.0) in
+        let p = ap (λ (s : SolverState). s.book.problem) first.0 in
+        let h = ap (λ (s : SolverState). s.book.history) first.0 in
+        extends_from start.book s.book new a true p [] h (subst (λ (t : Bool). Extends t s.book new a) begun x)
+    by (inr again) =
+        let late : is_begun s.stage ≡ false = ap is_begun again.stage in
+        extends_then true start.book s.book new a a (under_way_extends e a start s found u) (subst (λ (t : Bool). Extends t s.book new a) late x)
 
 -- ---- the loop
 
-pub under_way_start : (e : Encoded) (a : Clause) (start : SolverState) (found : List Cand) (k : ℕ) → found ≡ [] → IsUnderWay e a start start found × (length found ≤ k)
+pub under_way_start : (e : Encoded) (a : Clause) (start : SolverState) (found : List Cand) (k : ℕ) → found ≡ [] →
+    IsUnderWay e a start start found × (length found ≤ k)
 under_way_start e a start found k none =
     (subst (IsUnderWay e a start start) (sym none) (under_way_at_first e a start), subst (λ (cs : List Cand). length cs ≤ k) (sym none) (omega arith))
 
-pub under_way_more : (e : Encoded) (a : Clause) (start s s2 : SolverState) (found : List Cand) (cand : Cand) (found2 : List Cand) (k : ℕ) → start.stage ≡ Begun → IsUnderWay e a start s found →
+pub under_way_more : (e : Encoded) (a : Clause) (start s s2 : SolverState) (found : List Cand) (cand : Cand) (found2 : List Cand) (k : ℕ) →
+    start.stage ≡ Begun → IsUnderWay e a start s found →
     HasListedOne e a s s2 cand → found2 ≡ found ++ cand ∷ [] → length found + 1 ≤ k → IsUnderWay e a start s2 found2 × (length found2 ≤ k)
 under_way_more e a start s s2 found cand found2 k b u one pushed room = (
   subst (IsUnderWay e a start s2) (sym pushed) (one_more_cand e a start s s2 found cand b u one),

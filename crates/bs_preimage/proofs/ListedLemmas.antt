@@ -1,8 +1,7 @@
 -- A step of the log is a right list.
-use Rattle.std.proofs.Common.{◌≡◌, ◌≢◌, ℕ, ◌+◌, ◌-◌, ◌<◌, ◌≤◌, Bool, true, false, List, [], ◌∷◌, ◌++◌, map, length, reverse, get_or, refl, ap, subst, sym, ◌∙◌, ◌⊎◌, inl, inr, append_assoc, arith, Option, Some, None}
+use Rattle.std.proofs.Common.{◌≡◌, ◌≢◌, ℕ, ◌+◌, ◌-◌, ◌<◌, ◌≤◌, Bool, true, false, List, [], ◌∷◌, ◌++◌, length, reverse, get_or, refl, ap, subst, sym, ◌∙◌, ◌⊎◌, inl, inr, append_assoc, arith, Option, Some, None}
 use mathlib.Core.List.{reverse_aux}
 use Rattle.std.specs.Prelude.{◌^◌, Contains, All, ◌||◌, ◌&&◌, filter_map, slice_get, IsTrue}
-use Rattle.std.specs.Bool.{beq}
 use Rattle.std.specs.List.{AllByRecursion as Each}
 use Rattle.std.specs.List.Sorted.{IsPermutation}
 use Rattle.std.proofs.lemmas.Bool.{true≢false}
@@ -32,10 +31,10 @@ use Rattle.bs_scan.proofs.MomentLemmas.{each_member}
 use Rattle.bs_scan.proofs.SignatureLemmas.{bits_same, bits_same_is, is_predecessor}
 use Rattle.bs_solve.specs.Book.{Book, standing}
 use Rattle.bs_solve.specs.Solver.{SolverState, finished}
-use Rattle.bs_encode.specs.Transition.{state_vars, net_var}
-use Rattle.bs_encode.specs.Encoded.{Encoded, encoding_of, literals}
+use Rattle.bs_encode.specs.Encoded.{Encoded, encoding_of}
 use Rattle.bs_encode.specs.Assuming.{assumptions_for, block_for}
-use Rattle.bs_encode.specs.Listing.{IsTidy, PredecessorsAreShown, SolutionsArePredecessors, IsPredecessor, values_of}
+use Rattle.bs_encode.specs.Cycle.{bits_on}
+use Rattle.bs_encode.specs.Listing.{IsTidy, PredecessorsAreShown, SolutionsArePredecessors, IsPredecessor}
 use Rattle.bs_report.specs.declared.report.Cand.{Cand}
 use Rattle.bs_report.specs.declared.report.ListEnd.{ListEnd}
 use Rattle.bs_report.specs.declared.report.ListEnd.TheVariants.{Finished, Conflicts}
@@ -47,7 +46,7 @@ use Rattle.bs_good.proofs.GoodLemmas.{listed_member, filter_member, passing, all
 use Rattle.bs_preimage.specs.declared.listing.Listing.{Listing}
 use Rattle.bs_preimage.specs.Preimage.{next_guard, asking}
 use Rattle.bs_preimage.specs.Rest.{IsAbout, IsAtRest, AreWholeSteps}
-use Rattle.bs_preimage.specs.Turn.{IsReadable, IsShownIn, bits_on, guard_in}
+use Rattle.bs_preimage.specs.Turn.{IsReadable, IsShownIn, guard_in}
 use Rattle.bs_preimage.specs.Order.{IsInOrder}
 use Rattle.bs_preimage.specs.Step.{HasSought, HasMadeStep, assumptions_at, ending_of}
 use Rattle.bs_solve.proofs.Clauses.{contains_first}
@@ -141,14 +140,20 @@ retires t n from to =
     guard : (n : ℕ) → negation (guard_of t.new.book.problem n) ∷ [] ≡ negation (guard_of t.old.book.problem n) ∷ []
     guard n = ap (λ (v : ℕ). negation (record { variable = v + n; positive = true }) ∷ []) (vars_are t)
 
-    last : negation (guard_of t.sought.middle.book.problem (step_of t.sought.middle.book.history)) ∷ [] ≡ negation (guard_of t.old.book.problem (length t.old.book.problem.steps + 1)) ∷ []
+    last : negation (guard_of t.sought.middle.book.problem (step_of t.sought.middle.book.history))
+        ∷ [] ≡ negation (guard_of t.old.book.problem (length t.old.book.problem.steps + 1)) ∷ []
     last = ap (λ (v : ℕ). negation (record { variable = v; positive = true }) ∷ [])
-        (λ i. t.sought.search.logged.vars i + (ap step_of t.sought.search.logged.history ∙ (step_kept t.sought.search.logged.lines t.old.book.history (in_step None t.sought.search.logged.lines t.sought.search.logged.inner) ∙ t.rest.number)) i)
+        (λ i. t.sought.search.logged.vars i +
+        (ap step_of t.sought.search.logged.history
+        ∙ (step_kept t.sought.search.logged.lines t.old.book.history (in_step None t.sought.search.logged.lines t.sought.search.logged.inner)
+        ∙ t.rest.number)) i)
 
-    by : (n ≡ length t.old.book.problem.steps + 1) ⊎ (n < length t.old.book.problem.steps + 1) → Contains (standing t.new.book) (negation (guard_of t.new.book.problem n) ∷ [])
+    by : (n ≡ length t.old.book.problem.steps + 1) ⊎ (n < length t.old.book.problem.steps + 1) →
+        Contains (standing t.new.book) (negation (guard_of t.new.book.problem n) ∷ [])
     by (inl same) =
         subst (Contains (standing t.new.book)) (last ∙ (ap (λ (n : ℕ). negation (guard_of t.old.book.problem n) ∷ []) (sym same) ∙ sym (guard n)))
-        (subst (λ (cs : List Clause). Contains cs (negation (guard_of t.sought.middle.book.problem (step_of t.sought.middle.book.history)) ∷ [])) (sym t.sought.ended.stands)
+        (subst (λ (cs : List Clause). Contains cs (negation (guard_of t.sought.middle.book.problem (step_of t.sought.middle.book.history)) ∷ []))
+        (sym t.sought.ended.stands)
         (Contains-push (standing t.sought.middle.book) (negation (guard_of t.sought.middle.book.problem (step_of t.sought.middle.book.history)) ∷ [])))
     by (inr before) =
         subst (Contains (standing t.new.book)) (sym (guard n))
@@ -170,41 +175,29 @@ rests t =
           ∙ (length-append (steps_of (reverse t.old.book.history)) (reverse (lines_by t) ∷ []) ∙ (ap (λ (n : ℕ). n + 1) t.rest.count ∙ sym (one_longer t)));
       stand = λ c there.
           subst (λ (cs : List Clause). Contains cs c) (sym t.sought.ended.stands)
-          (Contains-append_left (standing t.sought.middle.book) _ c (t.sought.search.logged.stand c (t.rest.stand c (subst (λ (cs : List Clause). Contains cs c) (clauses_are t) there))));
+          (Contains-append_left (standing t.sought.middle.book) _ c
+          (t.sought.search.logged.stand c (t.rest.stand c (subst (λ (cs : List Clause). Contains cs c) (clauses_are t) there))));
       retired = retires t;
-      whole = subst (λ (h : History). AreWholeSteps (reverse h)) (sym (history_is t)) (whole_after (lines_by t) t.old.book.history (retired_by t) t.rest.whole (inside t));
+      whole = subst (λ (h : History). AreWholeSteps (reverse h)) (sym (history_is t))
+          (whole_after (lines_by t) t.old.book.history (retired_by t) t.rest.whole (inside t));
     }
 
 -- ---- the candidates
-
-same_bit : (b : Bool) → b ≡ beq b true
-same_bit true = refl
-same_bit false = refl
-
-bits_are_values : (v : ℕ → Bool) (vs : List ℕ) → bits_on v (literals vs) ≡ values_of v (literals vs)
-bits_are_values v [] = refl
-bits_are_values v (x ∷ vs) = λ i. same_bit (v x) i ∷ bits_are_values v vs i
-
-states_are : (t : Sought) (v : ℕ → Bool) → bits_on v t.e.states ≡ values_of v t.e.states
-states_are t v = subst (λ (e : Encoded). bits_on v e.states ≡ values_of v e.states) (sym t.about.encoding) (bits_are_values v (state_vars t.c))
-
-inputs_are : (t : Sought) (v : ℕ → Bool) → bits_on v t.e.inputs ≡ values_of v t.e.inputs
-inputs_are t v = subst (λ (e : Encoded). bits_on v e.inputs ≡ values_of v e.inputs) (sym t.about.encoding) (bits_are_values v (map net_var t.c.inputs))
 
 one_stored : (s : List Bool) → 0 < length (s ∷ [])
 one_stored s = omega arith
 
 shows : (t : Sought) (cand : Cand) → IsShownIn t.e (assumed_by t) cand → IsPredecessor t.c t.choice (asked t) cand.state cand.input
 shows t cand h =
-    let p : IsPredecessor t.c t.choice (asked t) (values_of h.value t.e.states) (values_of h.value t.e.inputs) =
-    t.solutions h.value (next_guard t.old.book.problem) (asked t) t.state (one_stored t.stored) t.signature h.clauses h.holds in
-    subst (λ (s : List Bool). IsPredecessor t.c t.choice (asked t) s cand.input) (sym (h.state ∙ states_are t h.value))
-    (subst (λ (x : List Bool). IsPredecessor t.c t.choice (asked t) (values_of h.value t.e.states) x) (sym (h.input ∙ inputs_are t h.value)) p)
+    subst (λ (s : List Bool). IsPredecessor t.c t.choice (asked t) s cand.input) (sym h.state)
+    (subst (λ (x : List Bool). IsPredecessor t.c t.choice (asked t) (bits_on h.value t.e.states) x) (sym h.input)
+    (t.solutions h.value (next_guard t.old.book.problem) (asked t) t.state (one_stored t.stored) t.signature h.clauses h.holds))
 
 all_show : (t : Sought) → All (λ cand. IsPredecessor t.c t.choice (asked t) cand.state cand.input) t.cands
 all_show t =
     All-permutation (λ (cand : Cand). IsPredecessor t.c t.choice (asked t) cand.state cand.input) t.found t.cands t.order.same
-    (All-weaker (IsShownIn t.e (assumed_by t)) (λ (cand : Cand). IsPredecessor t.c t.choice (asked t) cand.state cand.input) (shows t) t.found t.sought.search.cands.shown)
+    (All-weaker (IsShownIn t.e (assumed_by t)) (λ (cand : Cand). IsPredecessor t.c t.choice (asked t) cand.state cand.input)
+    (shows t) t.found t.sought.search.cands.shown)
 
 candidate_of : (t : Sought) (cand : Cand) → IsPredecessor t.c t.choice (asked t) cand.state cand.input → IsCandidate t.c t.choice t.present (t.stored ∷ []) cand
 candidate_of t cand p =
@@ -232,7 +225,8 @@ not_listed : (cands : List Cand) (s : List Bool) → is_listed (listed cands) s 
 not_listed [] s e = tt
 not_listed (x ∷ cands) s e = by (bits_eq s x.state) refl e (not_listed cands s)
   where
-    by : (b : Bool) → bits_eq s x.state ≡ b → (b || is_listed (listed cands) s) ≡ false → (is_listed (listed cands) s ≡ false → Each (λ cand. cand.state ≢ s) cands) →
+    by : (b : Bool) → bits_eq s x.state ≡ b → (b || is_listed (listed cands) s) ≡ false →
+        (is_listed (listed cands) s ≡ false → Each (λ cand. cand.state ≢ s) cands) →
         (x.state ≢ s) × Each (λ cand. cand.state ≢ s) cands
     by true b e rest = absurd (true≢false e)
     by false b e rest = (λ same. true≢false (sym (ap (bits_eq s) same ∙ bits_same s) ∙ b), rest e)
@@ -288,13 +282,15 @@ refuted t id fin s x ls lx ag nx out =
     (subst (λ (n : ℕ). Suits p (history_of spot.before) n v) (sym {a = step_of (reverse_aux spot.before [])} spot.step) suits)
     (subst (λ (n : ℕ). All (λ l. IsTrue (literal_value v l)) (assumptions_of p n)) (sym {a = step_of (reverse_aux spot.before [])} spot.step) shown.assumptions)
 
-each_listed : (asked : List (List Bool)) (cands : List Cand) → Each (λ cand. is_listed asked cand.state ≡ true) cands → Each (λ s. is_listed asked s ≡ true) (listed cands)
+each_listed : (asked : List (List Bool)) (cands : List Cand) → Each (λ cand. is_listed asked cand.state ≡ true) cands →
+    Each (λ s. is_listed asked s ≡ true) (listed cands)
 each_listed asked [] h = tt
 each_listed asked (c ∷ cs) h = (h.0, each_listed asked cs h.1)
 
 candidates : (t : Sought) → All (IsCandidate t.c t.choice t.present (t.stored ∷ [])) t.cands
 candidates t =
-    All-weaker (λ (cand : Cand). IsPredecessor t.c t.choice (asked t) cand.state cand.input) (IsCandidate t.c t.choice t.present (t.stored ∷ [])) (candidate_of t) t.cands (all_show t)
+    All-weaker (λ (cand : Cand). IsPredecessor t.c t.choice (asked t) cand.state cand.input) (IsCandidate t.c t.choice t.present (t.stored ∷ []))
+    (candidate_of t) t.cands (all_show t)
 
 whole : (t : Sought) (id : ℕ) → t.end ≡ Finished id → listed t.cands ≡ predecessors t.c t.choice t.present (t.stored ∷ [])
 unfolding predecessors
@@ -322,41 +318,57 @@ whole t id fin =
     by s true e out = listed_member s (listed t.cands) e
     by s false e out = absurd (out e)
 
--- ---- the step
-
 -- ---- the bound
 
-bounded : (t : Sought) → t.end ≡ Conflicts → (run : List Literal) → HasVariables t.e.variables run → IsUnitRun t.e.clauses (assumed_by t) run → t.b < 2 ^ (t.e.variables - length run)
+bounded : (t : Sought) → t.end ≡ Conflicts → (run : List Literal) → HasVariables t.e.variables run → IsUnitRun t.e.clauses (assumed_by t) run →
+    t.b < 2 ^ (t.e.variables - length run)
 bounded t ended run range unit =
     let p : Problem = t.old.book.problem in
     subst (λ (n : ℕ). t.b < 2 ^ (n - length run)) t.about.vars
     (bound_is p t.e.clauses (standing t.old.book) (assumed_by t) t.b (length p.steps) (t.old.vars + 1)
-    (λ c there. t.rest.stand c (subst (λ (cs : List Clause). Contains cs c) (sym t.about.clauses) there)) t.rest.retired (contains_first (next_guard p) _) (omega (arith, t.rest.guards))
+    (λ c there. t.rest.stand c (subst (λ (cs : List Clause). Contains cs c) (sym t.about.clauses) there)) t.rest.retired (contains_first (next_guard p) _)
+    (omega (arith, t.rest.guards))
     (t.sought.search.bound ended) run (subst (λ (n : ℕ). HasVariables n run) (sym t.about.vars) range) unit)
 
-pub made_step : (t : Sought) (listing : Listing) → listing ≡ record { cands = t.cands; end = t.end } → HasMadeStep t.c t.choice t.old t.new t.present t.stored t.k t.b listing
+-- ---- the step
+
+pub made_step : (t : Sought) (listing : Listing) → listing ≡ record { cands = t.cands; end = t.end } →
+    HasMadeStep t.c t.choice t.old t.new t.present t.stored t.k t.b listing
 made_step t listing e = subst (HasMadeStep t.c t.choice t.old t.new t.present t.stored t.k t.b) (sym e) (record {
   rest = rests t;
   count = one_longer t;
   listed = record {
     was_well = refl;
     well = refl;
-    goes_on = record { circuit = refl; choice = refl; vars = vars_are t; clauses = clauses_are t; more = Retire (retired_by t) ∷ lines_by t; history = history_is t };
+    goes_on = record {
+      circuit = refl;
+      choice = refl;
+      vars = vars_are t;
+      clauses = clauses_are t;
+      more = Retire (retired_by t) ∷ lines_by t;
+      history =
+          history_is t;
+    };
     steps = steps_are t ∙ ap (λ (e : Encoded). t.old.book.problem.steps ++ assumptions_for e (next_guard t.old.book.problem) (asked t) ∷ []) t.about.encoding;
     lines = reverse (lines_by t);
     step_lines = step_lines t;
     ascend = in_order_ascend t.found t.cands t.order t.sought.search.cands.apart;
     candidates = candidates t;
-    ends = end_is (predecessors t.c t.choice t.present (t.stored ∷ [])) t.k t.b (assumed_by t) t.sought.middle t.sought.search.logged.lines (length t.found) t.cands t.end
+    ends = end_is (predecessors t.c t.choice t.present (t.stored ∷ [])) t.k t.b (assumed_by t) t.sought.middle t.sought.search.logged.lines
+        (length t.found) t.cands t.end
         (length_permutation t.found t.cands t.order.same) t.sought.search.ended (whole t);
     blocks =
-        ap (λ (e : Encoded). are_right_blocks (blocks_due (next_guard t.old.book.problem) (block_for e) t.cands) (blocks_in (reverse (lines_by t)))) (sym t.about.encoding)
+        ap (λ (e : Encoded). are_right_blocks (blocks_due (next_guard t.old.book.problem) (block_for e) t.cands) (blocks_in (reverse (lines_by t))))
+        (sym t.about.encoding)
         ∙ right_blocks (blocks_due (next_guard t.old.book.problem) (block_for t.e) t.cands) (blocks_in (reverse (lines_by t))) (due_blocks t);
     finish =
-        ap (λ (e : Encoded). is_right_finish t.b (assumptions_for e (next_guard t.old.book.problem) (asked t)) (reverse (lines_by t)) t.end (finishes_in (reverse (lines_by t)))) (sym t.about.encoding)
-        ∙ finish_is t.k t.b (assumed_by t) t.sought.middle t.sought.search.logged.lines (length t.found) t.end t.sought.search.logged.inner t.sought.search.ended;
+        ap (λ (e : Encoded). is_right_finish t.b (assumptions_for e (next_guard t.old.book.problem) (asked t)) (reverse (lines_by t)) t.end
+        (finishes_in (reverse (lines_by t)))) (sym t.about.encoding)
+        ∙ finish_is t.k t.b (assumed_by t) t.sought.middle t.sought.search.logged.lines
+        (length t.found) t.end t.sought.search.logged.inner t.sought.search.ended;
     bound = subst
-        (λ (e : Encoded). t.end ≡ Conflicts → (run : List Literal) → HasVariables e.variables run → IsUnitRun e.clauses (assumptions_for e (next_guard t.old.book.problem) (asked t)) run →
+        (λ (e : Encoded). t.end ≡ Conflicts → (run : List Literal) → HasVariables e.variables run →
+        IsUnitRun e.clauses (assumptions_for e (next_guard t.old.book.problem) (asked t)) run →
         t.b < 2 ^ (e.variables - length run)) t.about.encoding (bounded t);
   };
 })
@@ -374,16 +386,20 @@ readable_by c items e is tidy = subst IsReadable (sym is) (record {
   block_distinct = tidy.block_distinct;
 })
 
-pub next_width : (c : Circuit) (items : List (List ℕ)) (e : Encoded) → e ≡ encoding_of c items → IsTidy c items (encoding_of c items) → (n : ℕ) → n ≡ length c.flops → n ≡ length e.next
+pub next_width : (c : Circuit) (items : List (List ℕ)) (e : Encoded) → e ≡ encoding_of c items → IsTidy c items (encoding_of c items) → (n : ℕ) →
+    n ≡ length c.flops → n ≡ length e.next
 next_width c items e is tidy n w = w ∙ (sym tidy.next_width ∙ ap (λ (e : Encoded). length e.next) (sym is))
 
-pub signature_width : (c : Circuit) (items : List (List ℕ)) (e : Encoded) → e ≡ encoding_of c items → IsTidy c items (encoding_of c items) → (n : ℕ) → n ≡ length items → n ≡ length e.signatures
+pub signature_width : (c : Circuit) (items : List (List ℕ)) (e : Encoded) → e ≡ encoding_of c items → IsTidy c items (encoding_of c items) → (n : ℕ) →
+    n ≡ length items → n ≡ length e.signatures
 signature_width c items e is tidy n w = w ∙ (sym tidy.signatures_width ∙ ap (λ (e : Encoded). length e.signatures) (sym is))
 
-pub shown_by : (c : Circuit) (choice : Chosen) (e : Encoded) → e ≡ encoding_of c choice.items → PredecessorsAreShown c choice (encoding_of c choice.items) → PredecessorsAreShown c choice e
+pub shown_by : (c : Circuit) (choice : Chosen) (e : Encoded) → e ≡ encoding_of c choice.items → PredecessorsAreShown c choice (encoding_of c choice.items) →
+    PredecessorsAreShown c choice e
 shown_by c choice e is h = subst (λ (e : Encoded). PredecessorsAreShown c choice e) (sym is) h
 
-pub solutions_by : (c : Circuit) (choice : Chosen) (e : Encoded) → e ≡ encoding_of c choice.items → SolutionsArePredecessors c choice (encoding_of c choice.items) → SolutionsArePredecessors c choice e
+pub solutions_by : (c : Circuit) (choice : Chosen) (e : Encoded) → e ≡ encoding_of c choice.items →
+    SolutionsArePredecessors c choice (encoding_of c choice.items) → SolutionsArePredecessors c choice e
 solutions_by c choice e is h = subst (λ (e : Encoded). SolutionsArePredecessors c choice e) (sym is) h
 
 pub accepted_by : (p : Problem) (h : History) (log : List Line) → history_of log ≡ h → IsAccepted p log → IsAccepted p (reverse h)

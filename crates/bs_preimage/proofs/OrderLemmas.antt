@@ -31,9 +31,14 @@ by_state a b = is_lt (bits_cmp a.state b.state)
 pub state_order : IsStrictWeakOrder by_state
 state_order = ranks_by (lists_total bool_cmp_total) (λ (c : Cand). c.state)
 
-pub in_order_by : (found sorted cands : List Cand) → IsPermutation found sorted → IsSortedBy (λ a b. is_lt (bits_cmp a.state b.state)) sorted → cands ≡ sorted → IsInOrder found cands
+pub in_order_by : (found sorted cands : List Cand) → IsPermutation found sorted → IsSortedBy (λ a b. is_lt (bits_cmp a.state b.state)) sorted →
+    cands ≡ sorted → IsInOrder found cands
 in_order_by found sorted cands perm up same =
-    record { same = subst (IsPermutation found) (sym same) perm; ascends = subst (IsSortedBy (λ (a : Cand) (b : Cand). is_lt (bits_cmp a.state b.state))) (sym same) up }
+    record {
+      same = subst (IsPermutation found) (sym same) perm;
+      ascends =
+          subst (IsSortedBy (λ (a : Cand) (b : Cand). is_lt (bits_cmp a.state b.state))) (sym same) up;
+    }
 
 -- a state that is not greater than another one is less
 less_of : (x y : List Bool) → is_lt (bits_cmp y x) ≡ false → bits_eq x y ≡ false → bits_cmp x y ≡ Less

@@ -1,5 +1,5 @@
 -- A step is begun, searched and ended.
-use Rattle.std.proofs.Common.{◌≡◌, ℕ, ◌+◌, ◌<◌, Bool, List, [], ◌∷◌, refl, ap, subst, sym, ◌∙◌, ◌⊎◌, inl, inr, arith, Option, Some, None}
+use Rattle.std.proofs.Common.{◌≡◌, ℕ, ◌+◌, ◌<◌, Bool, true, false, List, [], ◌∷◌, refl, ap, subst, sym, ◌∙◌, ◌⊎◌, inl, inr, arith, Option, Some, None}
 use Rattle.std.specs.Prelude.{Contains}
 use Rattle.std.proofs.lemmas.Bool.{true≢false}
 use Rattle.bs_clause.specs.Literal.{Literal, Clause}
@@ -17,7 +17,7 @@ use Rattle.bs_preimage.specs.Preimage.{asking, next_guard}
 use Rattle.bs_preimage.specs.Rest.{IsAtRest}
 use Rattle.bs_preimage.specs.Turn.{Extends, IsReadable, MayTurn, guard_in}
 use Rattle.bs_preimage.specs.Step.{begun, assumptions_at}
-use Rattle.bs_preimage.proofs.TurnLemmas.{extends_line, extends_same}
+use Rattle.bs_preimage.proofs.TurnLemmas.{extends_line, extends_same, extends_from}
 
 begun_is_not_blocked : Begun ≡ Blocked → ⊥
 begun_is_not_blocked e = true≢false (ap is_begun e)
@@ -25,7 +25,8 @@ begun_is_not_blocked e = true≢false (ap is_begun e)
 guard_is : (old : SolverState) → IsAtRest old → guard_in old.book ≡ next_guard old.book.problem
 guard_is old rest = ap (guard_of old.book.problem) rest.number
 
-may_start : (e : Encoded) (old : SolverState) (present stored : List Bool) → IsReadable e → old.book.problem.vars ≡ e.variables → old.book.problem.clauses ≡ e.clauses → IsAtRest old →
+may_start : (e : Encoded) (old : SolverState) (present stored : List Bool) → IsReadable e → old.book.problem.vars ≡ e.variables →
+    old.book.problem.clauses ≡ e.clauses → IsAtRest old →
     MayTurn e (begun old) (assumptions_at e old.book present stored)
 may_start e old present stored readable vars clauses rest =
     let guard : Literal = next_guard old.book.problem in
@@ -33,7 +34,8 @@ may_start e old present stored readable vars clauses rest =
     let last : guard.variable ≡ old.vars + 1 = omega (arith, rest.guards) in
     record {
       may = record { stage = λ _. inl refl; again = λ k. absurd (begun_is_not_blocked k) };
-      range = subst (λ (n : ℕ). HasVariables n (assumptions_at e old.book present stored)) last (readable.assumptions_range guard (asking present stored) above);
+      range = subst (λ (n : ℕ). HasVariables n (assumptions_at e old.book present stored)) last
+          (readable.assumptions_range guard (asking present stored) above);
       distinct = readable.assumptions_distinct guard (asking present stored) above;
       guard = subst (Contains (assumptions_at e old.book present stored)) (sym (guard_is old rest)) (contains_first guard _);
       vars = vars;
@@ -46,31 +48,47 @@ assumptions_are : (e : Encoded) (old : SolverState) (present stored : List Bool)
     a ≡ assumptions_for e guard (asking present stored) → a ≡ assumptions_at e old.book present stored
 assumptions_are e old present stored guard a rest g is = is ∙ ap (λ (g : Literal). assumptions_for e g (asking present stored)) (g ∙ guard_is old rest)
 
-pub may_seek : (e : Encoded) (old s : SolverState) (present stored : List Bool) (guard : Literal) (a : Clause) → IsReadable e → old.book.problem.vars ≡ e.variables →
-    old.book.problem.clauses ≡ e.clauses → IsAtRest old → s ≡ begun old → guard ≡ guard_in old.book → a ≡ assumptions_for e guard (asking present stored) → MayTurn e s a
+pub may_seek : (e : Encoded) (old s : SolverState) (present stored : List Bool) (guard : Literal) (a : Clause) → IsReadable e →
+    old.book.problem.vars ≡ e.variables →
+    old.book.problem.clauses ≡ e.clauses → IsAtRest old → s ≡ begun old → guard ≡ guard_in old.book → a ≡ assumptions_for e guard (asking present stored) →
+    MayTurn e s a
 may_seek e old s present stored guard a readable vars clauses rest new g is =
     subst (λ (a : Clause). MayTurn e s a) (sym (assumptions_are e old present stored guard a rest g is))
     (subst (λ (s : SolverState). MayTurn e s (assumptions_at e old.book present stored)) (sym new) (may_start e old present stored readable vars clauses rest))
 
 -- ---- extensions
 
-pub ended_extends : (old new : SolverState) (end : Option ℕ) → HasEnded old new end → Extends old.book new.book
-ended_extends old new None h = extends_line old.book new.book _ h.book
+pub ended_extends : (old new : SolverState) (end : Option ℕ) → HasEnded old new end → Extends false old.book new.book []
+ended_extends old new None h = extends_line false old.book new.book _ [] h.book
 ended_extends old new (Some id) h =
     record {
       vars = ap (λ (b : Book). b.problem.vars) h.book;
       clauses = ap (λ (b : Book). b.problem.clauses) h.book;
       more = _ ∷ Finish id ∷ [];
       history = ap (λ (b : Book). b.history) h.book;
+      steps = inl (ap (λ (b : Book). b.problem.steps) h.book);
     }
 
-pub finished_extends : (old new : Book) (end : Option ℕ) → new ≡ finished old end → Extends old new
-finished_extends old new None e = extends_same old new e
-finished_extends old new (Some id) e = extends_line old new (Finish id) e
+finished_extends : (old new : Book) (end : Option ℕ) → new ≡ finished old end → Extends false old new []
+finished_extends old new None e = extends_same false old new [] e
+finished_extends old new (Some id) e = extends_line false old new (Finish id) [] e
 
-pub failed_extends : (old new : Book) (end : Option ℕ) → (new ≡ old) ⊎ (new ≡ finished old end) → Extends old new
-failed_extends old new end (inl e) = extends_same old new e
+pub failed_extends : (old new : Book) (end : Option ℕ) → (new ≡ old) ⊎ (new ≡ finished old end) → Extends false old new []
+failed_extends old new end (inl e) = extends_same false old new [] e
 failed_extends old new end (inr e) = finished_extends old new end e
 
-pub begun_extends : (old s : SolverState) → s ≡ begun old → Extends old.book s.book
-begun_extends old s e = extends_same old.book s.book (ap (λ (s : SolverState). s.book) e)
+-- a search in a step that has just begun
+pub sought_extends : (e : Encoded) (old s new : SolverState) (present stored : List Bool) (guard : Literal) (a : Clause) → IsAtRest old → s ≡ begun old →
+    guard ≡ guard_in old.book →
+    a ≡ assumptions_for e guard (asking present stored) → Extends true s.book new.book a →
+    Extends true old.book new.book (assumptions_at e old.book present stored)
+sought_extends e old s new present stored guard a rest is g assumed x =
+    let p = ap (λ (s : SolverState). s.book.problem) is in
+    let h = ap (λ (s : SolverState). s.book.history) is in
+    extends_from old.book s.book new.book (assumptions_at e old.book present stored) true p [] h
+    (subst (λ (a : Clause). Extends true s.book new.book a) (assumptions_are e old present stored guard a rest g assumed) x)
+
+-- a step that was begun, and no more
+pub begun_extends : (e : Encoded) (old s : SolverState) (present stored : List Bool) → s ≡ begun old →
+    Extends true old.book s.book (assumptions_at e old.book present stored)
+begun_extends e old s present stored is = extends_same true old.book s.book (assumptions_at e old.book present stored) (ap (λ (s : SolverState). s.book) is)

@@ -20,7 +20,8 @@ viewed c choice book calls failed =
       failed = failed;
     }
 
-listed_seen : (c : Circuit) (choice : Chosen) (before after : Book) (failed : Bool) (n m : ℕ) (present stored : List Bool) (k b : ℕ) (listing : Listing) → failed ≡ false →
+listed_seen : (c : Circuit) (choice : Chosen) (before after : Book) (failed : Bool) (n m : ℕ) (present stored : List Bool) (k b : ℕ) (listing : Listing) →
+    failed ≡ false →
     HasListed (seen c choice before) (seen c choice after) present stored k b listing →
     HasListed (viewed c choice before n failed) (viewed c choice after m false) present stored k b listing
 listed_seen c choice before after failed n m present stored k b listing well h =
@@ -47,7 +48,8 @@ listed_seen c choice before after failed n m present stored k b listing well h =
     }
 
 -- a list, where its old state is so seen
-pub listed_again : (c : Circuit) (choice : Chosen) (before after : Book) (old : PreimageState) (failed : Bool) (n m : ℕ) (present stored : List Bool) (k b : ℕ) (listing : Listing) →
+pub listed_again : (c : Circuit) (choice : Chosen) (before after : Book) (old : PreimageState) (failed : Bool) (n m : ℕ) (present stored : List Bool)
+    (k b : ℕ) (listing : Listing) →
     viewed c choice before n failed ≡ old → failed ≡ false → HasListed (seen c choice before) (seen c choice after) present stored k b listing →
     HasListed old (viewed c choice after m false) present stored k b listing
 listed_again c choice before after old failed n m present stored k b listing is well h =

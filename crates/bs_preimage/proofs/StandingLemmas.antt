@@ -18,7 +18,8 @@ abbrev pub stands_at : Problem → History → List Clause
 stands_at p h = map (λ e. e.literals) (live p h)
 
 -- one more clause takes none away
-one_more : (q : Entry → Bool) (xs : List Entry) (x : Entry) (c : Clause) → Contains (map (λ e. e.literals) (filter q xs)) c → Contains (map (λ e. e.literals) (filter q (xs ++ x ∷ []))) c
+one_more : (q : Entry → Bool) (xs : List Entry) (x : Entry) (c : Clause) → Contains (map (λ e. e.literals) (filter q xs)) c →
+    Contains (map (λ e. e.literals) (filter q (xs ++ x ∷ []))) c
 one_more q xs x c h =
     subst (λ (cs : List Clause). Contains cs c)
     (sym (ap (map (λ (e : Entry). e.literals)) (filter-append q xs (x ∷ [])) ∙ map-append (λ (e : Entry). e.literals) (filter q xs) (filter q (x ∷ []))))
@@ -28,7 +29,8 @@ pub lemmas_keep : (p : Problem) (lines : List Line) (h : History) → Each (λ l
     (c : Clause) → Contains (stands_at p h) c → Contains (stands_at p (lines ++ h)) c
 lemmas_keep p [] h all c there = there
 lemmas_keep p (Lemma id lits hints ∷ lines) h all c there =
-    one_more (λ e. not (is_deleted (lines ++ h) e.id)) (added p (lines ++ h)) (record { id = id; origin = Learnt; literals = lits }) c (lemmas_keep p lines h all.1 c there)
+    one_more (λ e. not (is_deleted (lines ++ h) e.id)) (added p (lines ++ h)) (record { id = id; origin = Learnt; literals = lits }) c
+    (lemmas_keep p lines h all.1 c there)
 lemmas_keep p (Solve ∷ lines) h all c there = absurd (false≢true all.0)
 lemmas_keep p (Block id lits ∷ lines) h all c there = absurd (false≢true all.0)
 lemmas_keep p (Finish id ∷ lines) h all c there = absurd (false≢true all.0)

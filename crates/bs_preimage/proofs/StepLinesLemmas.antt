@@ -52,7 +52,8 @@ inner_are_in_step : (inner : List Line) → Each (λ line. is_inner line ≡ tru
 inner_are_in_step [] all = tt
 inner_are_in_step (line ∷ inner) all = (inner_in_step line all.0, inner_are_in_step inner all.1)
 
-pub in_step : (end : Option ℕ) (inner : List Line) → Each (λ line. is_inner line ≡ true) inner → Each (λ line. is_in_step line ≡ true) (finish_lines end ++ inner)
+pub in_step : (end : Option ℕ) (inner : List Line) → Each (λ line. is_inner line ≡ true) inner →
+    Each (λ line. is_in_step line ≡ true) (finish_lines end ++ inner)
 in_step None inner all = inner_are_in_step inner all
 in_step (Some id) inner all = (refl, inner_are_in_step inner all)
 
@@ -86,7 +87,8 @@ step_lines_are lines h id whole all =
     ∙ (whole (reverse lines ++ Retire id ∷ [])
     ∙ ap (λ (x : List (List Line)). steps_of (reverse h) ++ x) (one_step (reverse lines) [] id (each_reverse (λ line. is_in_step line ≡ true) lines all)))
 
-pub whole_after : (lines h : List Line) (id : ℕ) → AreWholeSteps (reverse h) → Each (λ line. is_in_step line ≡ true) lines → AreWholeSteps (reverse (Retire id ∷ (lines ++ h)))
+pub whole_after : (lines h : List Line) (id : ℕ) → AreWholeSteps (reverse h) → Each (λ line. is_in_step line ≡ true) lines →
+    AreWholeSteps (reverse (Retire id ∷ (lines ++ h)))
 whole_after lines h id whole all more =
     ap (λ (x : List Line). steps_of (x ++ more)) (reversed lines h (Retire id))
     ∙ (ap steps_of (append_assoc (reverse h) (reverse lines ++ Retire id ∷ []) more)
@@ -136,8 +138,10 @@ blocks_are_due g f found cands end inner perm e =
     let is : blocks_in (reverse (finish_lines end ++ inner)) ≡ reverse (blocks_due g f (reverse found)) =
     filter_map_reverse block_of_line (finish_lines end ++ inner) ∙ ap reverse (finish_has_no_block end inner ∙ e) in
     subst (IsPermutation (blocks_due g f cands)) (sym is)
-    (IsPermutation-trans (blocks_due g f cands) (blocks_due g f found) (reverse (blocks_due g f (reverse found))) (due cands found (IsPermutation-sym found cands perm))
-    (IsPermutation-trans (blocks_due g f found) (blocks_due g f (reverse found)) (reverse (blocks_due g f (reverse found))) (due found (reverse found) (IsPermutation-reverse found))
+    (IsPermutation-trans (blocks_due g f cands) (blocks_due g f found) (reverse (blocks_due g f (reverse found)))
+    (due cands found (IsPermutation-sym found cands perm))
+    (IsPermutation-trans (blocks_due g f found) (blocks_due g f (reverse found)) (reverse (blocks_due g f (reverse found)))
+    (due found (reverse found) (IsPermutation-reverse found))
     (IsPermutation-reverse (blocks_due g f (reverse found)))))
 
 has_from : (xs : List Clause) (c : Clause) → Contains xs c → has_clause xs c ≡ true
@@ -152,7 +156,8 @@ has_from (x ∷ xs) c there = by (pointwise same_literal c x) refl (contains_cas
 all_have : (xs ys : List Clause) → ((c : Clause) → Contains ys c → Contains xs c) → list_all (has_clause xs) ys ≡ true
 all_have xs [] f = refl
 all_have xs (y ∷ ys) f =
-    ap (λ (b : Bool). b && list_all (has_clause xs) ys) (has_from xs y (f y (contains_first y ys))) ∙ all_have xs ys (λ c there. f c (cons_contains y ys c there))
+    ap (λ (b : Bool). b && list_all (has_clause xs) ys) (has_from xs y (f y (contains_first y ys)))
+    ∙ all_have xs ys (λ c there. f c (cons_contains y ys c there))
 
 pub right_blocks : (due blocks : List Clause) → IsPermutation due blocks → are_right_blocks due blocks ≡ true
 right_blocks due blocks perm =
@@ -183,7 +188,8 @@ one_finish id inner all = filter_map_reverse finish_of_line (Finish id ∷ inner
 
 -- ---- the end of the list
 
-pub finish_is : (k b : ℕ) (a : Clause) (s : SolverState) (inner : List Line) (count : ℕ) (end : ListEnd) → Each (λ line. is_inner line ≡ true) inner → EndedBy k b a s inner count end →
+pub finish_is : (k b : ℕ) (a : Clause) (s : SolverState) (inner : List Line) (count : ℕ) (end : ListEnd) → Each (λ line. is_inner line ≡ true) inner →
+    EndedBy k b a s inner count end →
     is_right_finish b a (reverse (finish_lines (ending_of end) ++ inner)) end (finishes_in (reverse (finish_lines (ending_of end) ++ inner))) ≡ true
 finish_is k b a s inner count (Finished id) all h =
     ap (λ (ns : List ℕ). pointwise nat_eq ns (id ∷ [])) (one_finish id inner all) ∙ (pointwise_decides Decides-eqb (id ∷ []) (id ∷ [])).1 refl
@@ -191,8 +197,10 @@ finish_is k b a s inner count Candidates all h = ap (λ (ns : List ℕ). length 
 finish_is k b a s inner count Conflicts all h =
     ap (λ (ns : List ℕ). (length ns == 0) && is_spent b a (last_solve (reverse inner))) (no_finishes inner all) ∙ h.2
 
-pub end_is : (asked : List (List Bool)) (k b : ℕ) (a : Clause) (s : SolverState) (inner : List Line) (count : ℕ) (cands : List Cand) (end : ListEnd) → length cands ≡ count →
-    EndedBy k b a s inner count end → ((id : ℕ) → end ≡ Finished id → listed cands ≡ asked) → IsRightEnd asked k b (reverse (finish_lines (ending_of end) ++ inner)) cands end
+pub end_is : (asked : List (List Bool)) (k b : ℕ) (a : Clause) (s : SolverState) (inner : List Line) (count : ℕ) (cands : List Cand) (end : ListEnd) →
+    length cands ≡ count →
+    EndedBy k b a s inner count end → ((id : ℕ) → end ≡ Finished id → listed cands ≡ asked) →
+    IsRightEnd asked k b (reverse (finish_lines (ending_of end) ++ inner)) cands end
 end_is asked k b a s inner count cands (Finished id) n h whole = (whole id refl, omega (arith, n, h.1))
 end_is asked k b a s inner count cands Candidates n h whole = n ∙ h.1
 end_is asked k b a s inner count cands Conflicts n h whole = (omega (arith, n, h.1), spent_is b a (last_solve (reverse inner)) h.2)

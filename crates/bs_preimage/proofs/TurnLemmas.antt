@@ -1,5 +1,5 @@
 -- What a turn does.
-use Rattle.std.proofs.Common.{◌≡◌, ◌≢◌, ℕ, Bool, true, false, not, List, [], ◌∷◌, ◌++◌, map, refl, ap, subst, sym, ◌∙◌, append_assoc}
+use Rattle.std.proofs.Common.{◌≡◌, ◌≢◌, ℕ, Bool, true, false, not, List, [], ◌∷◌, ◌++◌, map, refl, ap, subst, sym, ◌∙◌, ◌⊎◌, inl, inr, append_assoc}
 use Rattle.std.specs.Prelude.{Contains, All, ◌||◌, Option}
 use Rattle.std.specs.List.{AllByRecursion as Each, list_any}
 use Rattle.std.specs.Bool.{beq}
@@ -22,10 +22,11 @@ use Rattle.bs_solve.specs.Values.{value_of}
 use Rattle.bs_solve.proofs.Clauses.{all_from}
 use Rattle.bs_encode.specs.Encoded.{Encoded}
 use Rattle.bs_encode.specs.Assuming.{signed, block_for}
+use Rattle.bs_encode.specs.Cycle.{bits_on}
 use Rattle.bs_report.specs.declared.report.Cand.{Cand}
-use Rattle.bs_preimage.specs.declared.turn.Turn.{Turn}
-use Rattle.bs_preimage.specs.declared.turn.Turn.TheVariants.{Listed, Refuted, Spent}
-use Rattle.bs_preimage.specs.Turn.{Extends, Keeps, HasSearched, MayTurn, TurnsTo, HasShown, HasShownCand, HasListedOne, bits_on, block_in, guard_in, steps_after}
+use Rattle.bs_preimage.specs.declared.turn.TurnEnd.{TurnEnd}
+use Rattle.bs_preimage.specs.declared.turn.TurnEnd.TheVariants.{Listed, Refuted, Spent}
+use Rattle.bs_preimage.specs.Turn.{Extends, Keeps, HasSearched, MayTurn, TurnsTo, HasShown, HasShownCand, HasListedOne, block_in, guard_in, steps_after}
 use Rattle.bs_preimage.proofs.StandingLemmas.{lemmas_keep}
 
 -- ---- the book as a search begins
@@ -61,7 +62,8 @@ open_are_lemmas a [] all = tt
 open_are_lemmas a (line ∷ lines) all = (open_is_lemma a line all.0, open_are_lemmas a lines all.1)
 
 -- a book that goes on from another by lemmas keeps what stood
-keeps_by : (from to : Book) (lines : List Line) → to.problem ≡ from.problem → to.history ≡ lines ++ from.history → Each (λ line. is_lemma_line line ≡ true) lines → Keeps from to
+keeps_by : (from to : Book) (lines : List Line) → to.problem ≡ from.problem → to.history ≡ lines ++ from.history →
+    Each (λ line. is_lemma_line line ≡ true) lines → Keeps from to
 keeps_by from to lines p h all c there =
     let same : to ≡ record { problem = from.problem; history = lines ++ from.history } = λ i. record { problem = p i; history = h i } in
     subst (λ (b : Book). Contains (standing b) c) (sym same) (lemmas_keep from.problem lines from.history all c there)
@@ -86,34 +88,62 @@ searched_by old new a limit answer s lines p h all =
 
 -- ---- extensions
 
-pub follows_extends : (old new : Book) (a : Clause) → Follows old new a → Extends old new
-follows_extends old new a f = record { vars = f.vars; clauses = f.clauses; more = f.lines; history = f.history }
+pub follows_extends : (first : Bool) (old new : Book) (a : Clause) → Follows first old new a → Extends first old new a
+follows_extends first old new a f = record { vars = f.vars; clauses = f.clauses; more = f.lines; history = f.history; steps = f.steps }
 
-pub extends_same : (old new : Book) → new ≡ old → Extends old new
-extends_same old new e =
+pub extends_same : (first : Bool) (old new : Book) (a : Clause) → new ≡ old → Extends first old new a
+extends_same first old new a e =
     record {
       vars = ap (λ (b : Book). b.problem.vars) e;
       clauses = ap (λ (b : Book). b.problem.clauses) e;
       more = [];
       history = ap (λ (b : Book). b.history) e;
+      steps = inl (ap (λ (b : Book). b.problem.steps) e);
     }
 
-pub extends_line : (old new : Book) (line : Line) → new ≡ record { problem = old.problem; history = line ∷ old.history } → Extends old new
-extends_line old new line e =
+pub extends_line : (first : Bool) (old new : Book) (line : Line) (a : Clause) → new ≡ record { problem = old.problem; history = line ∷ old.history } →
+    Extends first old new a
+extends_line first old new line a e =
     record {
       vars = ap (λ (b : Book). b.problem.vars) e;
       clauses = ap (λ (b : Book). b.problem.clauses) e;
       more = line ∷ [];
       history = ap (λ (b : Book). b.history) e;
+      steps = inl (ap (λ (b : Book). b.problem.steps) e);
     }
 
-pub extends_trans : (a b c : Book) → Extends a b → Extends b c → Extends a c
-extends_trans a b c f g =
+-- the assumptions are added at most once
+pub extends_then : (first : Bool) (a b c : Book) (assumptions others : Clause) → Extends first a b assumptions → Extends false b c others →
+    Extends first a c assumptions
+extends_then first a b c assumptions others f g =
     record {
       vars = g.vars ∙ f.vars;
       clauses = g.clauses ∙ f.clauses;
       more = g.more ++ f.more;
       history = g.history ∙ (ap (λ (h : List Line). g.more ++ h) f.history ∙ sym (append_assoc g.more f.more a.history));
+      steps = by f.steps (kept g.steps);
+    }
+  where
+    kept : (c.problem.steps ≡ b.problem.steps) ⊎ ((false ≡ true) × (c.problem.steps ≡ b.problem.steps ++ others ∷ [])) → c.problem.steps ≡ b.problem.steps
+    kept (inl same) = same
+    kept (inr more) = absurd (false≢true more.0)
+
+    by : (b.problem.steps ≡ a.problem.steps) ⊎ ((first ≡ true) × (b.problem.steps ≡ a.problem.steps ++ assumptions ∷ [])) → c.problem.steps ≡ b.problem.steps →
+        (c.problem.steps ≡ a.problem.steps) ⊎ ((first ≡ true) × (c.problem.steps ≡ a.problem.steps ++ assumptions ∷ []))
+    by (inl same) kept = inl (kept ∙ same)
+    by (inr more) kept = inr (more.0, kept ∙ more.1)
+
+-- nothing was added before
+pub extends_from : (a b c : Book) (assumptions : Clause) (first : Bool) → b.problem ≡ a.problem → (more : List Line) → b.history ≡ more ++ a.history →
+    Extends first b c assumptions → Extends first a c assumptions
+extends_from a b c assumptions first p more h g =
+    record {
+      vars = g.vars ∙ ap (λ (p : Problem). p.vars) p;
+      clauses = g.clauses ∙ ap (λ (p : Problem). p.clauses) p;
+      more = g.more ++ more;
+      history = g.history ∙ (ap (λ (h : List Line). g.more ++ h) h ∙ sym (append_assoc g.more more a.history));
+      steps = subst (λ (steps : List Clause). (c.problem.steps ≡ steps) ⊎ ((first ≡ true) × (c.problem.steps ≡ steps ++ assumptions ∷ [])))
+          (ap (λ (p : Problem). p.steps) p) g.steps;
     }
 
 -- ---- what a solution shows
@@ -178,13 +208,14 @@ found_shows e a old middle new limit values cand may s shown =
           (All-contains (Satisfies v) (standing middle.book) (block_in e old.book t) found.solution.clauses_met (searched.stand (block_in e old.book t) there));
     }
 
-pub found_turn : (e : Encoded) (a : Clause) (old middle new : SolverState) (limit : ℕ) (values : List (Option Bool)) (turn : Turn) → MayTurn e old a →
+pub found_turn : (e : Encoded) (a : Clause) (old middle new : SolverState) (limit : ℕ) (values : List (Option Bool)) (turn : TurnEnd) → MayTurn e old a →
     HasSolved old middle a limit (answers.Found values) → HasShown e values middle new turn → TurnsTo e a limit old new turn
 found_turn e a old middle new limit values (Listed cand) may s shown = found_shows e a old middle new limit values cand may s shown
 found_turn e a old middle new limit values (Refuted id) may s shown = absurd shown
 found_turn e a old middle new limit values Spent may s shown = absurd shown
 
-pub refuted_turn : (e : Encoded) (a : Clause) (old new : SolverState) (limit id : ℕ) → HasSolved old new a limit (answers.Refuted id) → TurnsTo e a limit old new (Refuted id)
+pub refuted_turn : (e : Encoded) (a : Clause) (old new : SolverState) (limit id : ℕ) → HasSolved old new a limit (answers.Refuted id) →
+    TurnsTo e a limit old new (Refuted id)
 refuted_turn e a old new limit id s =
     let r = s.ends in
     let lines : List Line = Lemma id r.last.lemma r.last.logged.hints ∷ r.before.lines in
@@ -212,5 +243,5 @@ spent_turn e a old new limit s =
       open_yet = subst (λ (c : Clause). Each (λ line. is_open_lemma c line ≡ true) lemmas.lines) s.assumed_is lemmas.open_yet;
     }
 
-pub blocked_extends : (old new : SolverState) (lits : Clause) (id : ℕ) → HasBlocked old new lits id → Extends old.book new.book
-blocked_extends old new lits id b = extends_line old.book new.book (Block id (negation (guard_in old.book) ∷ lits)) b.book
+pub blocked_extends : (old new : SolverState) (lits : Clause) (id : ℕ) → HasBlocked old new lits id → Extends false old.book new.book []
+blocked_extends old new lits id b = extends_line false old.book new.book (Block id (negation (guard_in old.book) ∷ lits)) [] b.book

@@ -1,6 +1,7 @@
 -- A turn of a search for candidates: one solve, and what comes of it.
-use Rattle.std.specs.Prelude.{◌≡◌, ◌≢◌, ℕ, ◌+◌, ◌-◌, ◌^◌, ◌<◌, ◌≤◌, Bool, true, false, cond, List, [], ◌∷◌, ◌++◌, length, map, Option, All, Contains}
+use Rattle.std.specs.Prelude.{◌≡◌, ◌≢◌, ◌⊎◌, ℕ, ◌+◌, ◌-◌, ◌^◌, ◌<◌, ◌≤◌, Bool, true, false, cond, List, [], ◌∷◌, ◌++◌, length, Option, All, Contains}
 use Rattle.std.specs.List.{AllByRecursion}
+use Rattle.bs_clause.specs.declared.literal.TheConstants.{VARIABLE_LIMIT}
 use Rattle.bs_clause.specs.Literal.{Literal, Clause, negation, literal_value, Satisfies}
 use Rattle.bs_clause.specs.UnitRun.{IsUnitRun}
 use Rattle.bs_clause.specs.Range.{HasVariables}
@@ -9,8 +10,10 @@ use Rattle.bs_log.specs.declared.line.Line.TheVariants.{Solve}
 use Rattle.bs_log.specs.History.{step_of, guard_of}
 use Rattle.bs_log.specs.Refusal.{has_distinct_variables}
 use Rattle.bs_log.specs.Steps.{is_lemma_line}
+use Rattle.bs_encode.specs.declared.encoding.TheConstants.{MAX_GUARDS}
 use Rattle.bs_encode.specs.Encoded.{Encoded}
 use Rattle.bs_encode.specs.Assuming.{block_for, assumptions_for}
+use Rattle.bs_encode.specs.Cycle.{bits_on}
 use Rattle.bs_scan.specs.Present.{Present}
 use Rattle.bs_report.specs.declared.report.Cand.{Cand}
 use Rattle.bs_solve.specs.declared.stage.Stage.TheVariants.{Ended, Stopped}
@@ -20,15 +23,11 @@ use Rattle.bs_solve.specs.Ending.{is_open_lemma}
 use Rattle.bs_solve.specs.Stages.{is_begun}
 use Rattle.bs_solve.specs.Solver.{SolverState, MaySolve, HasBlocked}
 use Rattle.bs_solve.specs.Values.{value_of}
-use Rattle.bs_preimage.specs.declared.turn.Turn.{Turn}
-use Rattle.bs_preimage.specs.declared.turn.Turn.TheVariants.{Listed, Refuted, Spent}
+use Rattle.bs_preimage.specs.declared.turn.TurnEnd.{TurnEnd}
+use Rattle.bs_preimage.specs.declared.turn.TurnEnd.TheVariants.{Listed, Refuted, Spent}
 use Rattle.bs_preimage.specs.Rest.{AxiomsStand}
 
 -- ---- what an assignment shows
-
--- the bits that it gives to the variables of some literals
-abbrev pub bits_on : (ℕ → Bool) → List Literal → List Bool
-bits_on value literals = map (λ l. value l.variable) literals
 
 -- some assignment meets the clauses and the assumptions, and shows this state and this input
 pub record IsShownIn (e : Encoded) (assumptions : Clause) (cand : Cand) : Type 0 where
@@ -40,12 +39,13 @@ pub record IsShownIn (e : Encoded) (assumptions : Clause) (cand : Cand) : Type 0
 
 -- ---- the book
 
--- further lines were logged, about the same clauses
-pub record Extends (old new : Book) : Type 0 where
+-- Further lines were logged, about the same clauses; and where a step has just begun, its assumptions may have been added.
+pub record Extends (first : Bool) (old new : Book) (assumptions : Clause) : Type 0 where
   pub vars : new.problem.vars ≡ old.problem.vars
   pub clauses : new.problem.clauses ≡ old.problem.clauses
   pub more : List Line
   pub history : new.history ≡ more ++ old.history
+  pub steps : (new.problem.steps ≡ old.problem.steps) ⊎ ((first ≡ true) × (new.problem.steps ≡ old.problem.steps ++ assumptions ∷ []))
 
 -- what stood still stands
 abbrev pub Keeps : Book → Book → Type 0
@@ -78,10 +78,10 @@ pub record HasSearched (old new : SolverState) (assumptions : Clause) (lemmas : 
 
 -- ---- a turn
 
--- there is room for the guards of 65,536 steps; state, inputs and blocks are over the encoding's variables, and what a step
+-- there is room for the guards of `MAX_GUARDS` steps; state, inputs and blocks are over the encoding's variables, and what a step
 -- assumes also over its guard; and no variable stands twice in a block or in what a step assumes
 pub record IsReadable (e : Encoded) : Type 0 where
-  pub room : e.variables + 65536 < 2 ^ 30
+  pub room : e.variables + MAX_GUARDS < VARIABLE_LIMIT
   pub assumptions_range : (guard : Literal) (q : Present) → e.variables < guard.variable → HasVariables guard.variable (assumptions_for e guard q)
   pub assumptions_distinct : (guard : Literal) (q : Present) → e.variables < guard.variable → has_distinct_variables (assumptions_for e guard q) ≡ true
   pub states : HasVariables e.variables e.states
@@ -107,7 +107,7 @@ pub record HasShownCand (e : Encoded) (values : List (Option Bool)) (old new : S
   pub id : ℕ
   pub blocked : HasBlocked old new (block_for e cand.state) id
 
-abbrev pub HasShown : Encoded → List (Option Bool) → SolverState → SolverState → Turn → Type 0
+abbrev pub HasShown : Encoded → List (Option Bool) → SolverState → SolverState → TurnEnd → Type 0
 HasShown e values old new (Listed cand) = HasShownCand e values old new cand
 HasShown e values old new other = ⊥
 
@@ -137,7 +137,7 @@ pub record HasSpent (assumptions : Clause) (limit : ℕ) (old new : SolverState)
   pub bound : (run : List Literal) → IsUnitRun (standing old.book) assumptions run → limit < 2 ^ (old.vars - length run)
   pub open_yet : AllByRecursion (λ line. is_open_lemma assumptions line ≡ true) lemmas
 
-abbrev pub TurnsTo : Encoded → Clause → ℕ → SolverState → SolverState → Turn → Type 0
+abbrev pub TurnsTo : Encoded → Clause → ℕ → SolverState → SolverState → TurnEnd → Type 0
 TurnsTo e assumptions limit old new (Listed cand) = HasListedOne e assumptions old new cand
 TurnsTo e assumptions limit old new (Refuted id) = HasRefutedAll assumptions old new id
 TurnsTo e assumptions limit old new Spent = HasSpent assumptions limit old new

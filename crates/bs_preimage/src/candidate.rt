@@ -2,7 +2,7 @@
 ghost use Rattle.std.specs.Prelude.{◌≡◌, ◌<◌, ◌≤◌, length, IfOk};
 ghost use Rattle.bs_clause.specs.Range.{HasVariables};
 ghost use Rattle.bs_solve.specs.Values.{value_of};
-ghost use Rattle.bs_preimage.specs.Turn.{bits_on};
+ghost use Rattle.bs_encode.specs.Cycle.{bits_on};
 
 use bs_bits::Bits;
 use bs_clause::{Assignment, Lit, NoMemory, Var};
@@ -25,9 +25,7 @@ fn bits(alloc: Global, literals: &[Lit], values: &Assignment) -> Result<Bits, No
 {
     let mut bits = Bits::new(alloc);
     'literals: for literal in literals {
-        if bits.push(value(values, literal.var())).is_err() {
-            return Err(NoMemory);
-        }
+        bits.push(value(values, literal.var()))?;
     }
     Ok(bits)
 }

@@ -1,10 +1,10 @@
 //! The search for the candidates of a step.
-ghost use Rattle.std.specs.Prelude.{◌≡◌, ◌≤◌, [], IfOk};
+ghost use Rattle.std.specs.Prelude.{◌≡◌, ◌≤◌, [], true, IfOk};
 ghost use Rattle.bs_preimage.specs.Turn.{IsReadable, MayTurn, Extends};
 ghost use Rattle.bs_solve.specs.declared.stage.Stage.TheVariants.{Begun};
 ghost use Rattle.bs_preimage.specs.Finding.{HasEndedSearch};
 
-use crate::turn::{Turn, take_turn};
+use crate::turn::{TurnEnd, take_turn};
 use bs_clause::{Lits, NoMemory};
 use bs_encode::Encoding;
 use bs_report::{Cand, ListEnd};
@@ -29,13 +29,13 @@ pub(crate) fn find(
     requires candidates { 1 ≤ k }
     requires conflicts { 1 ≤ b }
     ensures ok { IfOk result (HasEndedSearch encoding.now assumptions.now k b solver.old solver.new found.new.items) }
-    ensures lines { Extends solver.old.book solver.new.book }
+    ensures lines { Extends true solver.old.book solver.new.book assumptions.now }
 {
     'turns: while (found.len() as u64) < k {
         match take_turn(alloc, encoding, solver, assumptions, b)? {
-            Turn::Listed(cand) => found.push(cand)?,
-            Turn::Refuted(id) => return Ok(ListEnd::Finished(id)),
-            Turn::Spent => return Ok(ListEnd::Conflicts),
+            TurnEnd::Listed(cand) => found.push(cand)?,
+            TurnEnd::Refuted(id) => return Ok(ListEnd::Finished(id)),
+            TurnEnd::Spent => return Ok(ListEnd::Conflicts),
         }
     }
     Ok(ListEnd::Candidates)

@@ -1,18 +1,20 @@
 //! Lists of candidates by one solver, whose log goes on from list to list.
-ghost use Rattle.std.specs.Prelude.{◌≡◌, ◌+◌, ◌^◌, ◌<◌, ◌≤◌, true, false, length, All, IfOk, IfErr};
+ghost use Rattle.std.specs.Prelude.{◌≡◌, ◌⊎◌, ◌+◌, ◌<◌, ◌≤◌, [], ◌∷◌, ◌++◌, true, false, length, All, IfOk, IfErr};
 ghost use Rattle.bs_net.specs.Netlist.{circuit};
 ghost use Rattle.bs_log.specs.Refusal.{has_distinct_variables, history_of, NoneRefused, IsAccepted};
 ghost use Rattle.bs_log.specs.Lean.{LemmasAreLean};
 ghost use Rattle.bs_log.specs.LineForms.{HasText};
-ghost use Rattle.bs_encode.specs.Encoded.{encoding_of};
+ghost use Rattle.bs_clause.specs.declared.literal.TheConstants.{VARIABLE_LIMIT};
 ghost use Rattle.bs_clause.specs.Range.{HasVariables};
-ghost use Rattle.bs_preimage.specs.Preimage.{fresh, GoesOn};
+ghost use Rattle.bs_encode.specs.declared.encoding.TheConstants.{MAX_GUARDS};
+ghost use Rattle.bs_preimage.specs.Preimage.{fresh, assumptions_in, GoesOn};
 ghost use Rattle.bs_preimage.specs.Rest.{made};
 ghost use Rattle.bs_preimage.specs.Listed.{HasListed};
 
 use crate::listing::Listing;
 use crate::step::{Question, list_step};
 use bs_bits::{Bits, NoMemory};
+use bs_clause::{Clauses, Lits};
 use bs_encode::{Encoding, encodings_are_tidy};
 use bs_log::Log;
 use bs_net::Netlist;
@@ -21,28 +23,27 @@ use bs_solve::Solver;
 use std::alloc::Global;
 use std::marker::Model;
 
-/// The encoding of a netlist and its signature.
-fn encode(alloc: Global, net: &Netlist, choice: &Choice) -> Result<Encoding, NoMemory>
-    requires { choice.now.width ≡ length (circuit net.now).flops }
-    ensures { IfOk result (λ e. e ≡ encoding_of (circuit net.now) choice.now.items) }
+/// The clauses again, for the solver to keep.
+fn copied(alloc: Global, clauses: &Clauses) -> Result<Clauses, NoMemory>
+    ensures { IfOk result (λ all. all ≡ clauses.now) }
 {
-    match Encoding::new(alloc, net, choice) {
-        Ok(encoding) => Ok(encoding),
-        Err(_) => Err(NoMemory),
+    let mut all = Clauses::new(alloc);
+    'clauses: for clause in clauses.slice() {
+        all.push(Lits::copy(alloc, clause.slice())?)?;
     }
+    Ok(all)
 }
 
 /// A solver over the clauses of an encoding.
 fn solver_of(alloc: Global, encoding: &Encoding) -> Result<Solver, NoMemory>
     requires range { All (HasVariables encoding.now.variables) encoding.now.clauses }
     requires distinct { All (λ c. has_distinct_variables c ≡ true) encoding.now.clauses }
-    requires vars { encoding.now.variables < 2 ^ 30 }
+    requires vars { encoding.now.variables < VARIABLE_LIMIT }
     ensures { IfOk result (λ s. s ≡ made encoding.now) }
 {
-    match Solver::new(alloc, encoding.vars(), encoding.clauses()) {
-        Ok(solver) => Ok(solver),
-        Err(_) => Err(NoMemory),
-    }
+    let clauses = copied(alloc, encoding.clauses())?;
+    let solver = Solver::new(alloc, encoding.vars(), clauses)?;
+    Ok(solver)
 }
 
 /// What lists candidates. Contracts see its netlist's circuit, what the signature is taken of, what its log is about, the
@@ -80,7 +81,7 @@ impl<'a> Preimage<'a> {
         ensures { IfOk result (λ p. p ≡ fresh (circuit net.now) choice.now) }
     {
         encodings_are_tidy(net, choice);
-        let encoding = encode(alloc, net, choice)?;
+        let encoding = Encoding::new(alloc, net, choice)?;
         let solver = solver_of(alloc, &encoding)?;
         Ok(Preimage {
             net,
@@ -93,7 +94,8 @@ impl<'a> Preimage<'a> {
     }
 
     /// Lists the states with the stored signature that lead to the present one, each with an input under which it does: all
-    /// of them, or `k` of them, or those that are found until a solve has logged `b` lemmas.
+    /// of them, or `k` of them, or those that are found until a solve has logged `b` lemmas. After want of memory every later
+    /// list answers it and logs nothing.
     pub fn list(
         &mut self,
         alloc: Global,
@@ -106,10 +108,12 @@ impl<'a> Preimage<'a> {
         requires signature { length stored.now ≡ length self.old.choice.items }
         requires candidates { 1 ≤ k }
         requires conflicts { 1 ≤ b }
-        requires calls { self.old.calls < 65536 }
+        requires calls { self.old.calls < MAX_GUARDS }
         ensures ok { IfOk result (HasListed self.old self.new present.now stored.now k b) }
         ensures err { IfErr result (λ _. self.new.failed ≡ true) }
         ensures goes_on { GoesOn self.old self.new }
+        ensures steps { (self.new.problem.steps ≡ self.old.problem.steps) ⊎ (self.new.problem.steps ≡ self.old.problem.steps ++ assumptions_in self.old present.now stored.now ∷ []) }
+        ensures stays { self.old.failed ≡ true → (self.new.problem ≡ self.old.problem) × (self.new.history ≡ self.old.history) }
         ensures calls { self.new.calls ≡ self.old.calls + 1 }
     {
         self.calls += 1;
@@ -123,20 +127,16 @@ impl<'a> Preimage<'a> {
             k,
             b,
         };
-        match list_step(
+        let listing = list_step(
             alloc,
             self.net,
             self.choice,
             &self.encoding,
             &mut self.solver,
             &asked,
-        ) {
-            Ok(listing) => {
-                self.failed = false;
-                Ok(listing)
-            }
-            Err(_) => Err(NoMemory),
-        }
+        )?;
+        self.failed = false;
+        Ok(listing)
     }
 
     /// How many lists were asked for.

@@ -1,9 +1,10 @@
 //! A step of the log: the list of candidates for one present state.
-ghost use Rattle.std.specs.Prelude.{◌≡◌, ◌≤◌, ◌<◌, [], false, length, IfOk};
+ghost use Rattle.std.specs.Prelude.{◌≡◌, ◌≤◌, ◌<◌, [], true, length, IfOk};
 ghost use Rattle.bs_net.specs.Netlist.{circuit};
+ghost use Rattle.bs_encode.specs.declared.encoding.TheConstants.{MAX_GUARDS};
 ghost use Rattle.bs_preimage.specs.Rest.{IsAbout, IsAtRest};
 ghost use Rattle.bs_preimage.specs.Turn.{IsReadable, Extends};
-ghost use Rattle.bs_preimage.specs.Step.{ending_of, HasSought, HasMadeStep};
+ghost use Rattle.bs_preimage.specs.Step.{ending_of, assumptions_at, HasSought, HasMadeStep};
 
 use crate::finding::find;
 use crate::listing::Listing;
@@ -50,14 +51,14 @@ fn seek(
     requires vars { solver.old.book.problem.vars ≡ encoding.now.variables }
     requires clauses { solver.old.book.problem.clauses ≡ encoding.now.clauses }
     requires rest { IsAtRest solver.old }
-    requires few { length solver.old.book.problem.steps < 65536 }
+    requires few { length solver.old.book.problem.steps < MAX_GUARDS }
     requires state { length asked.now.present.now ≡ length encoding.now.next }
     requires signature { length asked.now.stored.now ≡ length encoding.now.signatures }
     requires candidates { 1 ≤ asked.now.k }
     requires conflicts { 1 ≤ asked.now.b }
     requires none { found.old.items ≡ [] }
     ensures ok { IfOk result (HasSought encoding.now solver.old solver.new asked.now.present.now asked.now.stored.now asked.now.k asked.now.b found.new.items) }
-    ensures lines { Extends solver.old.book solver.new.book }
+    ensures lines { Extends true solver.old.book solver.new.book (assumptions_at encoding.now solver.old.book asked.now.present.now asked.now.stored.now) }
 {
     let guard = solver.begin_step()?;
     let assumptions = encoding.assumptions(alloc, guard, asked.present, asked.stored)?;
@@ -85,13 +86,13 @@ pub(crate) fn list_step(
 ) -> Result<Listing, NoMemory>
     requires about { IsAbout (circuit net.now) choice.now encoding.now solver.old.book }
     requires rest { IsAtRest solver.old }
-    requires few { length solver.old.book.problem.steps < 65536 }
+    requires few { length solver.old.book.problem.steps < MAX_GUARDS }
     requires state { length asked.now.present.now ≡ length (circuit net.now).flops }
     requires signature { length asked.now.stored.now ≡ length choice.now.items }
     requires candidates { 1 ≤ asked.now.k }
     requires conflicts { 1 ≤ asked.now.b }
     ensures ok { IfOk result (HasMadeStep (circuit net.now) choice.now solver.old solver.new asked.now.present.now asked.now.stored.now asked.now.k asked.now.b) }
-    ensures lines { Extends solver.old.book solver.new.book }
+    ensures lines { Extends true solver.old.book solver.new.book (assumptions_at encoding.now solver.old.book asked.now.present.now asked.now.stored.now) }
 {
     encodings_are_tidy(net, choice);
     predecessors_are_shown(net, choice);
@@ -99,8 +100,6 @@ pub(crate) fn list_step(
     let mut found = Vec::new(alloc);
     let end = seek(alloc, encoding, solver, asked, &mut found)?;
     let _log = solver.log();
-    match ascending(alloc, found) {
-        Ok(cands) => Ok(Listing { cands, end }),
-        Err(_) => Err(NoMemory),
-    }
+    let cands = ascending(alloc, found)?;
+    Ok(Listing { cands, end })
 }

@@ -1,5 +1,6 @@
 //! A turn of the search for candidates: one solve, and what comes of it.
-ghost use Rattle.std.specs.Prelude.{◌≡◌, ◌≤◌, false, length, IfOk};
+ghost use Rattle.std.specs.Prelude.{◌≡◌, ◌≤◌, [], false, length, IfOk};
+ghost use Rattle.bs_solve.specs.Stages.{is_begun};
 ghost use Rattle.bs_solve.specs.declared.stage.Stage.TheVariants.{Solved};
 ghost use Rattle.bs_preimage.specs.Turn.{IsReadable, MayTurn, TurnsTo, Extends, HasShown};
 
@@ -10,9 +11,9 @@ use bs_report::Cand;
 use bs_solve::{Answer, Solver};
 use std::alloc::Global;
 
-/// What a solve comes to.
+/// How a turn of the search ends.
 #[derive(Drop)]
-pub(crate) enum Turn {
+pub(crate) enum TurnEnd {
     /// A candidate, whose state is now blocked.
     Listed(Cand),
     /// There is no further candidate: the lemma of this id says so.
@@ -28,17 +29,17 @@ pub(crate) fn take_turn(
     solver: &mut Solver,
     assumptions: &Lits,
     limit: u64,
-) -> Result<Turn, NoMemory>
+) -> Result<TurnEnd, NoMemory>
     requires readable { IsReadable encoding.now }
     requires may { MayTurn encoding.now solver.old assumptions.now }
     requires limit { 1 ≤ limit }
     ensures ok { IfOk result (TurnsTo encoding.now assumptions.now limit solver.old solver.new) }
-    ensures lines { Extends solver.old.book solver.new.book }
+    ensures lines { Extends (is_begun solver.old.stage) solver.old.book solver.new.book assumptions.now }
 {
     match solver.solve(alloc, assumptions, limit)? {
         Answer::Found(values) => list_one(alloc, encoding, solver, &values),
-        Answer::Refuted(id) => Ok(Turn::Refuted(id)),
-        Answer::Spent => Ok(Turn::Spent),
+        Answer::Refuted(id) => Ok(TurnEnd::Refuted(id)),
+        Answer::Spent => Ok(TurnEnd::Spent),
     }
 }
 
@@ -48,16 +49,16 @@ fn list_one(
     encoding: &Encoding,
     solver: &mut Solver,
     values: &Assignment,
-) -> Result<Turn, NoMemory>
+) -> Result<TurnEnd, NoMemory>
     requires readable { IsReadable encoding.now }
     requires stage { solver.old.failed ≡ false → solver.old.stage ≡ Solved }
     requires vars { solver.old.book.problem.vars ≡ encoding.now.variables }
     requires values { encoding.now.variables ≤ length values.now }
     ensures ok { IfOk result (HasShown encoding.now values.now solver.old solver.new) }
-    ensures lines { Extends solver.old.book solver.new.book }
+    ensures lines { Extends false solver.old.book solver.new.book [] }
 {
     let cand = candidate(alloc, encoding, values)?;
     let block = encoding.block(alloc, &cand.state)?;
     solver.block(alloc, &block)?;
-    Ok(Turn::Listed(cand))
+    Ok(TurnEnd::Listed(cand))
 }

@@ -1,4 +1,4 @@
-use Rattle.std.proofs.Common.{◌≡◌, ◌<◌, ◌+◌, ◌∙◌, ℕ, Bool, List, ◌++◌, None, ap, sym, subst, length, replicate}
+use Rattle.std.proofs.Common.{◌≡◌, ◌<◌, ◌+◌, ◌∙◌, Bool, List, ◌++◌, None, ap, sym, subst, length, replicate}
 use Rattle.std.specs.Prelude.{sum_by}
 use Rattle.std.specs.List.{flat_map, range_with_len}
 use Rattle.std.proofs.lemmas.List.Elements.{recursion_from_All}
@@ -7,7 +7,7 @@ use Rattle.bs_net.specs.declared.net.Gate.{Gate}
 use Rattle.bs_net.specs.declared.net.Flop.{Flop}
 use Rattle.bs_net.specs.declared.net.Const.{Const}
 use Rattle.bs_net.specs.Netlist.{circuit}
-use Rattle.bs_encode.specs.Transition.{first_helper, first_next, first_item, state_vars, gate_helpers, gates_clauses, unit_clauses, next_clauses, items_clauses}
+use Rattle.bs_encode.specs.Transition.{first_helper, first_next, gate_helpers, gates_clauses, unit_clauses, next_clauses}
 use Rattle.bs_encode.specs.Units.{AreZeros, with_constants}
 use Rattle.bs_encode.proofs.UnitLemmas.{parts_joined, units_in_tables, constants_apart}
 use Rattle.bs_encode.proofs.encoding.lay_cycle.Goals as goal

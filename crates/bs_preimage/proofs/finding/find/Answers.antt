@@ -1,7 +1,6 @@
 use Rattle.std.proofs.Common.{subst, arith}
 use Rattle.bs_preimage.specs.Turn.{TurnsTo}
-use Rattle.bs_preimage.proofs.TurnLemmas.{extends_trans}
-use Rattle.bs_preimage.proofs.FindingLemmas.{under_way_start, under_way_more, may_turn_again, refuted_search, spent_search, logged_extends}
+use Rattle.bs_preimage.proofs.FindingLemmas.{under_way_start, under_way_more, may_turn_again, refuted_search, spent_search, extends_on}
 use Rattle.bs_preimage.proofs.finding.find.Goals as goal
 
 -- src/finding.rt:34:5
@@ -14,7 +13,7 @@ take_turn-requires-clause-may c = may_turn_again _ _ c.args.solver.now _ _ c.req
 
 -- src/finding.rt:35:15
 pub returns-in_err-cand-clause-lines : goal.returns-in_err-cand-clause-lines
-returns-in_err-cand-clause-lines c = extends_trans _ c.turns.solver.book _ (logged_extends _ _ _ _ c.turns.invariant.0.logged) c.take_turn.ensures.lines
+returns-in_err-cand-clause-lines c = extends_on _ _ _ c.turns.solver _ _ c.requires.begun c.turns.invariant.0 c.take_turn.ensures.lines
 
 -- src/finding.rt:34:5
 pub turns-preserved : goal.turns-preserved
@@ -25,7 +24,7 @@ turns-preserved c =
 
 -- src/finding.rt:36:35
 pub returns-in_err-push-in-Listed-clause-lines : goal.returns-in_err-push-in-Listed-clause-lines
-returns-in_err-push-in-Listed-clause-lines c = extends_trans _ c.turns.solver.book _ (logged_extends _ _ _ _ c.turns.invariant.0.logged) c.take_turn.ensures.lines
+returns-in_err-push-in-Listed-clause-lines c = extends_on _ _ _ c.turns.solver _ _ c.requires.begun c.turns.invariant.0 c.take_turn.ensures.lines
 
 -- src/finding.rt:37:34
 pub returns-in-Refuted-clause-ok : goal.returns-in-Refuted-clause-ok
@@ -36,7 +35,7 @@ returns-in-Refuted-clause-ok c =
 
 -- src/finding.rt:37:34
 pub returns-in-Refuted-clause-lines : goal.returns-in-Refuted-clause-lines
-returns-in-Refuted-clause-lines c = extends_trans _ c.turns.solver.book _ (logged_extends _ _ _ _ c.turns.invariant.0.logged) c.take_turn.ensures.lines
+returns-in-Refuted-clause-lines c = extends_on _ _ _ c.turns.solver _ _ c.requires.begun c.turns.invariant.0 c.take_turn.ensures.lines
 
 -- src/finding.rt:38:28
 pub returns-in-Spent-clause-ok : goal.returns-in-Spent-clause-ok
@@ -47,4 +46,4 @@ returns-in-Spent-clause-ok c =
 
 -- src/finding.rt:38:28
 pub returns-in-Spent-clause-lines : goal.returns-in-Spent-clause-lines
-returns-in-Spent-clause-lines c = extends_trans _ c.turns.solver.book _ (logged_extends _ _ _ _ c.turns.invariant.0.logged) c.take_turn.ensures.lines
+returns-in-Spent-clause-lines c = extends_on _ _ _ c.turns.solver _ _ c.requires.begun c.turns.invariant.0 c.take_turn.ensures.lines

@@ -9,8 +9,8 @@ seek-requires-clause-readable c =
     readable_by (circuit c.args.net.now) c.args.choice.now.items c.args.encoding.now c.requires.about.encoding c.encodings_are_tidy.ensures
 
 -- src/step.rt:89:1
-pub returns-in-Ok-clause-ok : goal.returns-in-Ok-clause-ok
-returns-in-Ok-clause-ok c =
+pub returns-clause-ok : goal.returns-clause-ok
+returns-clause-ok c =
     made_step
     (record {
       c = circuit c.args.net.now;
@@ -23,14 +23,14 @@ returns-in-Ok-clause-ok c =
       k = c.args.asked.now.k;
       b = c.args.asked.now.b;
       found = c.seek.new.found.items;
-      cands = c.in-Ok.cands;
+      cands = c.in_ok-cands.cands;
       end = c.in_ok-end.end;
       about = c.requires.about;
       rest = c.requires.rest;
       state = c.requires.state;
       signature = c.requires.signature;
       sought = c.in_ok-end.ensures.ok;
-      order = c.in-Ok.ensures;
+      order = c.in_ok-cands.ensures;
       accepted = accepted_by c.seek.new.solver.book.problem c.seek.new.solver.book.history c.log-log.result.now c.log-log.ensures.lines
           (c.log-log.ensures.accepted c.in_ok-end.ensures.ok.ended.well c.in_ok-end.ensures.ok.ended.stage);
       shown = shown_by (circuit c.args.net.now) c.args.choice.now c.args.encoding.now c.requires.about.encoding c.predecessors_are_shown.ensures;

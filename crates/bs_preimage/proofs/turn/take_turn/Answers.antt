@@ -1,7 +1,7 @@
-use Rattle.std.proofs.Common.{subst}
+use Rattle.std.proofs.Common.{subst, []}
 use Rattle.bs_solve.specs.Solver.{HasSolved}
 use Rattle.bs_preimage.proofs.OrderLemmas.{if_ok}
-use Rattle.bs_preimage.proofs.TurnLemmas.{found_turn, refuted_turn, spent_turn, follows_extends, extends_trans}
+use Rattle.bs_preimage.proofs.TurnLemmas.{found_turn, refuted_turn, spent_turn, follows_extends, extends_then}
 use Rattle.bs_preimage.proofs.turn.take_turn.Goals as goal
 
 -- src/turn.rt:25:1
@@ -15,7 +15,7 @@ returns-in-Found-clause-ok c =
 
 -- src/turn.rt:25:1
 pub returns-in-Found-clause-lines : goal.returns-in-Found-clause-lines
-returns-in-Found-clause-lines c = extends_trans _ c.solve.new.self.book _ (follows_extends _ _ _ c.in_ok-values.ensures.lines) c.list_one.ensures.lines
+returns-in-Found-clause-lines c = extends_then _ _ c.solve.new.self.book _ _ [] (follows_extends _ _ _ _ c.in_ok-values.ensures.lines) c.list_one.ensures.lines
 
 -- src/turn.rt:25:1
 pub returns-in-Refuted-clause-ok : goal.returns-in-Refuted-clause-ok

@@ -1,5 +1,4 @@
-use Rattle.std.proofs.Common.{◌≡◌, ◌<◌, ◌∙◌, ap, List, length, arith, sym, subst}
-use Rattle.std.specs.List.{All}
+use Rattle.std.proofs.Common.{◌≡◌, ◌<◌, ◌∙◌, arith}
 use Rattle.bs_net.specs.Netlist.{circuit}
 use Rattle.bs_encode.proofs.RoomLemmas.{few_variables, short_items}
 use Rattle.bs_encode.proofs.encoding.Encoding.new.Goals as goal
