@@ -11,8 +11,9 @@ pub mod Counts
 pub mod Walks
 pub mod Moving
 pub mod Marking
-pub mod Pointing
 pub mod Lessons
+pub mod Ways
+pub mod Pointing
 pub mod Books
 pub mod Points
 pub mod Sweeps
@@ -20,3 +21,5 @@ pub mod Searching
 pub mod Endings
 pub mod Lines
 pub mod Solving
+pub mod Guards
+pub mod CallerLemmas

@@ -12,7 +12,7 @@ use Rattle.bs_log.specs.Refusal.{has_distinct_variables}
 use Rattle.bs_solve.specs.declared.place.Place.{Place}
 use Rattle.bs_solve.specs.Trail.{IsFalseOn, IsConflict, IsQuiet}
 use Rattle.bs_solve.specs.Places.{literals_of, IsSound}
-use Rattle.bs_solve.specs.Point.{IsPoint, IsLastDecision, IsUnforced}
+use Rattle.bs_solve.specs.Point.{IsPoint, IsLastDecision, IsUnforced, Bypasses}
 use Rattle.bs_solve.specs.Marks.{MarkState, is_marked, marks_in, IsClear, HasMarked, HasTraded}
 use Rattle.bs_solve.proofs.Lists.{same_some, get_take, take_get, Contains_from_get, get_map}
 use Rattle.bs_solve.proofs.Quiet.{absent, Contains-from_has}
@@ -23,16 +23,19 @@ use Rattle.bs_solve.proofs.Counts.{get_drop, OtherPassing, count_some, count_fir
 use Rattle.bs_solve.proofs.Walks.{place_of, true_at_end}
 use Rattle.bs_solve.proofs.Lessons.{alone_from_others}
 use Rattle.bs_solve.proofs.Points.{true_split, false_before}
+use Rattle.bs_solve.proofs.Ways.{WayFrom, way_start, way_past, way_step, bypass}
 use Rattle.bs_solve.proofs.Marking.{MarkWalk, denied_at, mark_start, mark_past, mark_step, at_drop, Taken}
 
 -- the walk is at a place of the last level, and so many marked places are left of it
-pub record PointMarks (clauses : List Clause) (places : List Place) (start down vars : ℕ) (s : MarkState) (hints : List ℕ) (ahead : ℕ) : Type 0 where
+pub record PointMarks (clauses : List Clause) (places : List Place) (conflict start down vars : ℕ) (s : MarkState) (hints : List ℕ) (ahead : ℕ) : Type 0 where
   pub high : down ≤ length places
   pub walk : MarkWalk clauses places down s hints
   pub below : All (IsFalseOn (literals_of (take down places))) walk.left
   pub some : 0 < ahead
   pub counted : marks_in s (drop start places) ≡ ahead
   pub flags : length s.flags ≡ vars + 1
+  pub ways : (k : ℕ) (p : Place) → slice_get places k ≡ Some p → is_marked s p.literal ≡ true → WayFrom clauses places conflict down k
+  pub bypassed : (k : ℕ) → down ≤ k → k < length places → Bypasses clauses places conflict start k
 
 -- a marked place is yet to come
 pub marked_ahead : (clauses : List Clause) (base : ℕ) (a : List Literal) (places : List Place) (down : ℕ) (s : MarkState) (hints : List ℕ) (k : ℕ) (p : Place) → IsSound clauses base a places →
@@ -59,9 +62,9 @@ some_marked places start s h =
     record { at = start + p.at; place = p.value; low = omega arith; there = sym (get_drop start places p.at) ∙ p.there; marked = p.passes }
 
 -- the walk is above the level's first place
-pub above_start : (clauses : List Clause) (base : ℕ) (a : List Literal) (places : List Place) (start down vars : ℕ) (s : MarkState) (hints : List ℕ) (ahead : ℕ) → IsSound clauses base a places →
-    PointMarks clauses places start down vars s hints ahead → start < down
-above_start clauses base a places start down vars s hints ahead sound w =
+pub above_start : (clauses : List Clause) (base : ℕ) (a : List Literal) (places : List Place) (conflict start down vars : ℕ) (s : MarkState) (hints : List ℕ) (ahead : ℕ) → IsSound clauses base a places →
+    PointMarks clauses places conflict start down vars s hints ahead → start < down
+above_start clauses base a places conflict start down vars s hints ahead sound w =
     let one = some_marked places start s (omega (arith, w.some, w.counted)) in
     let before : one.at < down = marked_ahead clauses base a places down s hints one.at one.place sound w.walk w.below one.there one.marked in
     omega (arith, one.low, before)
@@ -69,17 +72,24 @@ above_start clauses base a places start down vars s hints ahead sound w =
 pub point_start : (clauses : List Clause) (base : ℕ) (a : List Literal) (places : List Place) (start vars at : ℕ) (c : Clause) (s0 s : MarkState) (hints : List ℕ) (ahead down : ℕ) →
     IsSound clauses base a places → slice_get clauses at ≡ Some c → has_distinct_variables c ≡ true → IsConflict (literals_of places) c → HasVariables vars c →
     IsQuiet (literals_of (take start places)) clauses → IsClear (vars + 1) s0 → HasMarked s0 s c → marks_in s (drop start places) ≡ ahead → down ≡ length places → hints ≡ at ∷ [] →
-    PointMarks clauses places start down vars s hints ahead
+    PointMarks clauses places at start down vars s hints ahead
 point_start clauses base a places start vars at c s0 s hints ahead down sound there distinct conflict range quiet clear marked count is_down is_hints =
     let first = mark_start clauses base a places at c vars s0 s sound there distinct conflict range clear marked in
-    subst (λ d. PointMarks clauses places start d vars s hints ahead) (sym is_down)
-    (subst (λ hs. PointMarks clauses places start (length places) vars s hs ahead) (sym is_hints) (record {
+    subst (λ d. PointMarks clauses places at start d vars s hints ahead) (sym is_down)
+    (subst (λ hs. PointMarks clauses places at start (length places) vars s hs ahead) (sym is_hints) (record {
       high = omega arith;
       walk = first.0;
       below = subst (λ ps. All (IsFalseOn (literals_of ps)) first.0.left) (sym (take_all (length places) places (omega arith))) (subst (All (IsFalseOn (literals_of places))) (sym first.1) conflict);
       some = subst (λ n. 0 < n) count positive;
       counted = count;
       flags = marked.length_is ∙ clear.length_is;
+      ways = λ k p at_k on. way_start clauses places at (length places) k (record {
+        place = p;
+        there = at_k;
+        denied = subst (λ x. Contains x (negation p.literal)) (first.1 ∙ sym (get_or_from_slice_get clauses at c [] there))
+            (denied_at clauses base a places (length places) s (at ∷ []) k p sound first.0 at_k on);
+      });
+      bypassed = λ k past within. absurd (omega (arith, past, within));
     }))
   where
     find_open : (ls : Clause) → (All (IsFalseOn (literals_of (take start places))) ls) ⊎ ((l : Literal) × Contains ls l × (¬ IsFalseOn (literals_of (take start places)) l))
@@ -105,11 +115,15 @@ point_start clauses base a places start vars at c s0 s hints ahead down sound th
           ]
     ]
 
-pub point_past : (clauses : List Clause) (places : List Place) (start down i vars : ℕ) (s : MarkState) (hints : List ℕ) (ahead : ℕ) (p : Place) → down ≡ suc i → slice_get places i ≡ Some p →
-    is_marked s p.literal ≡ false → PointMarks clauses places start down vars s hints ahead → PointMarks clauses places start i vars s hints ahead
-point_past clauses places start down i vars s hints ahead p e at off v =
-    let w : PointMarks clauses places start (suc i) vars s hints ahead = subst (λ d. PointMarks clauses places start d vars s hints ahead) e v in
+pub point_past : (clauses : List Clause) (base : ℕ) (a : List Literal) (places : List Place) (conflict start down i vars : ℕ) (s : MarkState) (hints : List ℕ) (ahead : ℕ) (p : Place) →
+    IsSound clauses base a places → IsLastDecision places start → IsQuiet (literals_of (take start places)) clauses → down ≡ suc i → slice_get places i ≡ Some p →
+    is_marked s p.literal ≡ false → PointMarks clauses places conflict start down vars s hints ahead → PointMarks clauses places conflict start i vars s hints ahead
+point_past clauses base a places conflict start down i vars s hints ahead p sound last quiet e at off v =
+    let w : PointMarks clauses places conflict start (suc i) vars s hints ahead = subst (λ d. PointMarks clauses places conflict start d vars s hints ahead) e v in
     let next = mark_past clauses places i s hints w.walk in
+    let one = some_marked places start s (omega (arith, w.some, w.counted)) in
+    let before : one.at < suc i = marked_ahead clauses base a places (suc i) s hints one.at one.place sound w.walk w.below one.there one.marked in
+    let other : one.at ≢ i = λ same. false≢true (sym off ∙ ap (λ (x : Place). is_marked s x.literal) (same_some p one.place (sym at ∙ ap (slice_get places) (sym same) ∙ one.there)) ∙ one.marked) in
     record {
       high = (let h = w.high in omega (arith, h));
       walk = next.0;
@@ -120,14 +134,22 @@ point_past clauses places start down i vars s hints ahead p e at off v =
       some = w.some;
       counted = w.counted;
       flags = w.flags;
+      ways = λ k q at_k on. way_past clauses places conflict i k (w.ways k q at_k on);
+      bypassed = λ k past within. elim (cases_eq k i) [
+        | inr later ↦ w.bypassed k (omega (arith, past, λ (x : k ≡ i). later x)) within
+        | inl same ↦ subst (Bypasses clauses places conflict start) (sym same)
+            (bypass clauses base a places conflict start i one.at one.place sound last quiet one.there one.low (omega (arith, before, λ (x : one.at ≡ i). other x))
+            (w.ways one.at one.place one.there one.marked))
+      ];
     }
 
-pub point_step : (clauses : List Clause) (base : ℕ) (a : List Literal) (places : List Place) (start down i vars : ℕ) (s now : MarkState) (hints more : List ℕ) (ahead left_ahead : ℕ) (p : Place) (r : ℕ) →
-    IsSound clauses base a places → All (λ c. has_distinct_variables c ≡ true) clauses → All (HasVariables vars) clauses → down ≡ suc i → slice_get places i ≡ Some p → p.reason ≡ Some r →
+pub point_step : (clauses : List Clause) (base : ℕ) (a : List Literal) (places : List Place) (conflict start down i vars : ℕ) (s now : MarkState) (hints more : List ℕ) (ahead left_ahead : ℕ) (p : Place) (r : ℕ) →
+    IsSound clauses base a places → IsLastDecision places start → IsQuiet (literals_of (take start places)) clauses →
+    All (λ c. has_distinct_variables c ≡ true) clauses → All (HasVariables vars) clauses → down ≡ suc i → slice_get places i ≡ Some p → p.reason ≡ Some r →
     is_marked s p.literal ≡ true → HasTraded s now (get_or clauses r []) p.literal → marks_in now (drop start places) ≡ left_ahead → ahead ≤ left_ahead + 1 → ahead ≢ 1 → more ≡ hints ++ r ∷ [] →
-    PointMarks clauses places start down vars s hints ahead → PointMarks clauses places start i vars now more left_ahead
-point_step clauses base a places start down i vars s now hints more ahead left_ahead p r sound distinct range e at is on traded count fewer many is_more v =
-    let w : PointMarks clauses places start (suc i) vars s hints ahead = subst (λ d. PointMarks clauses places start d vars s hints ahead) e v in
+    PointMarks clauses places conflict start down vars s hints ahead → PointMarks clauses places conflict start i vars now more left_ahead
+point_step clauses base a places conflict start down i vars s now hints more ahead left_ahead p r sound last quiet distinct range e at is on traded count fewer many is_more v =
+    let w : PointMarks clauses places conflict start (suc i) vars s hints ahead = subst (λ d. PointMarks clauses places conflict start d vars s hints ahead) e v in
     let f = (sound.placed i p at).forced r is in
     let c : Clause = f.0 in
     let at_r : get_or clauses r [] ≡ c = get_or_from_slice_get clauses r c [] f.1 in
@@ -135,7 +157,13 @@ point_step clauses base a places start down i vars s now hints more ahead left_a
     let traded_c : HasTraded s now c p.literal = subst (λ x. HasTraded s now x p.literal) at_r traded in
     let next = mark_step clauses base a places i s now hints p r c vars sound w.walk at is f.1 (All-contains (λ x. has_distinct_variables x ≡ true) clauses c distinct in_clauses)
     (All-contains (HasVariables vars) clauses c range in_clauses) w.flags on traded_c in
-    subst (λ hs. PointMarks clauses places start i vars now hs left_ahead) (sym is_more) (record {
+    let low : start < suc i = above_start clauses base a places conflict start (suc i) vars s hints ahead sound w in
+    let two : 1 < marks_in s (drop start places) = (let h = w.some in elim (cases_eq ahead 1) [ inl one ↦ absurd (many one) | inr other ↦ omega (arith, h, w.counted, λ (x : ahead ≡ 1). other x) ]) in
+    let o : OtherPassing (λ (x : Place). is_marked s x.literal) (drop start places) (i - start) = count_other (λ (x : Place). is_marked s x.literal) (drop start places) (i - start) two in
+    let there_o : slice_get places (start + o.one.at) ≡ Some o.one.value = sym (get_drop start places o.one.at) ∙ o.one.there in
+    let before : start + o.one.at < suc i = marked_ahead clauses base a places (suc i) s hints (start + o.one.at) o.one.value sound w.walk w.below there_o o.one.passes in
+    let under : start + o.one.at < i = omega (arith, before, low, λ (x : o.one.at ≡ i - start). o.apart x) in
+    subst (λ hs. PointMarks clauses places conflict start i vars now hs left_ahead) (sym is_more) (record {
       high = (let h = w.high in omega (arith, h));
       walk = next.0;
       below = subst (All (IsFalseOn (literals_of (take i places)))) (sym next.1) (all_from (IsFalseOn (literals_of (take i places))) (resolvent c w.walk.left p.literal) (λ m in_new.
@@ -149,13 +177,31 @@ point_step clauses base a places start down i vars s now hints more ahead left_a
       some = (let h = w.some in elim (cases_eq ahead 1) [ inl one ↦ absurd (many one) | inr other ↦ omega (arith, h, fewer, λ (x : ahead ≡ 1). other x) ]);
       counted = count;
       flags = ap (λ (x : MarkState). length x.flags) traded_c.pivot_gone ∙ length-set traded_c.middle.flags p.literal.variable false ∙ traded_c.marked.length_is ∙ w.flags;
+      ways = λ k q at_k now_on.
+          let denied : Contains (resolvent c w.walk.left p.literal) (negation q.literal) =
+          subst (λ xs. Contains xs (negation q.literal)) next.1 (denied_at clauses base a places i now (hints ++ r ∷ []) k q sound next.0 at_k now_on) in
+          elim (resolvent_cases c w.walk.left p.literal (negation q.literal) denied) as (λ _. WayFrom clauses places conflict i k) [
+            | inl fresh ↦ way_step clauses places conflict i k (record {
+              place = p;
+              there = at;
+              reason = r;
+              is = is;
+              denies = record { place = q; there = at_k; denied = subst (λ x. Contains x (negation q.literal)) (sym at_r) fresh.0 };
+            }) (w.ways i p at on)
+            | inr old ↦ way_past clauses places conflict i k (w.ways k q at_k (All-contains (λ x. is_marked s x ≡ true) w.walk.left (negation q.literal) w.walk.marked old.0))
+          ];
+      bypassed = λ k past within. elim (cases_eq k i) [
+        | inr later ↦ w.bypassed k (omega (arith, past, λ (x : k ≡ i). later x)) within
+        | inl same ↦ subst (Bypasses clauses places conflict start) (sym same)
+            (bypass clauses base a places conflict start i (start + o.one.at) o.one.value sound last quiet there_o (omega arith) under (w.ways (start + o.one.at) o.one.value there_o o.one.passes))
+      ];
     })
 
 -- the only marked place of the level
-pub point_end : (clauses : List Clause) (base : ℕ) (a : List Literal) (places : List Place) (start down i vars : ℕ) (s : MarkState) (hints : List ℕ) (p : Place) (lits : Clause) →
-    IsSound clauses base a places → down ≡ suc i → slice_get places i ≡ Some p → is_marked s p.literal ≡ true → (w : PointMarks clauses places start down vars s hints 1) →
+pub point_end : (clauses : List Clause) (base : ℕ) (a : List Literal) (places : List Place) (conflict start down i vars : ℕ) (s : MarkState) (hints : List ℕ) (p : Place) (lits : Clause) →
+    IsSound clauses base a places → down ≡ suc i → slice_get places i ≡ Some p → is_marked s p.literal ≡ true → (w : PointMarks clauses places conflict start down vars s hints 1) →
     Taken clauses w.walk.left lits hints → IsPoint places start lits i
-point_end clauses base a places start down i vars s hints p lits sound e at on w t = record {
+point_end clauses base a places conflict start down i vars s hints p lits sound e at on w t = record {
   place = p;
   there = at;
   low = low;
@@ -178,7 +224,7 @@ point_end clauses base a places start down i vars s hints p lits sound e at on w
 }
   where
     low : start ≤ i
-    low = let h = above_start clauses base a places start down vars s hints 1 sound w in omega (arith, h, e)
+    low = let h = above_start clauses base a places conflict start down vars s hints 1 sound w in omega (arith, h, e)
 
 -- the walk to what no clause forced
 pub record FinalMarks (clauses : List Clause) (places : List Place) (down vars : ℕ) (s : MarkState) (hints : List ℕ) (ahead : ℕ) : Type 0 where
@@ -292,10 +338,10 @@ stands_behind places start i p low at =
     Contains_from_get (literals_of (drop start places)) (i - start) p.literal (get_map (λ (x : Place). x.literal) (drop start places) (i - start) p (at_drop places start i p low at))
 
 -- where more than one place is marked, the newest was forced
-pub point_forced : (clauses : List Clause) (base : ℕ) (a : List Literal) (places : List Place) (start down i vars : ℕ) (s : MarkState) (hints : List ℕ) (ahead : ℕ) (p : Place) →
+pub point_forced : (clauses : List Clause) (base : ℕ) (a : List Literal) (places : List Place) (conflict start down i vars : ℕ) (s : MarkState) (hints : List ℕ) (ahead : ℕ) (p : Place) →
     IsSound clauses base a places → IsLastDecision places start → down ≡ suc i → slice_get places i ≡ Some p → ahead ≢ 1 → p.reason ≡ None →
-    PointMarks clauses places start down vars s hints ahead → ⊥
-point_forced clauses base a places start down i vars s hints ahead p sound last e at many free w = elim (cases_lt start i) [
+    PointMarks clauses places conflict start down vars s hints ahead → ⊥
+point_forced clauses base a places conflict start down i vars s hints ahead p sound last e at many free w = elim (cases_lt start i) [
   | inl later ↦ false≢true (sym (ap is_some free) ∙ last.forced i p later at)
   | inr first ↦
       let h = w.some in

@@ -1,5 +1,5 @@
 -- Where conflict analysis stops, and where the trail goes back to.
-use Rattle.std.specs.Prelude.{◌≡◌, ◌↔◌, ◌⊎◌, ℕ, ◌<◌, ◌≤◌, Bool, true, false, ◌||◌, List, [], take, length, Some, None, is_some, Contains, slice_get, slice_index_or}
+use Rattle.std.specs.Prelude.{◌≡◌, ◌≢◌, ◌↔◌, ◌⊎◌, ℕ, ◌∷◌, All, ◌<◌, ◌≤◌, Bool, true, false, ◌||◌, List, [], take, length, Some, None, is_some, Contains, slice_get, slice_index_or}
 use Rattle.std.specs.List.{list_all}
 use Rattle.bs_clause.specs.Literal.{Literal, Clause, negation, same_literal, has_literal}
 use Rattle.bs_solve.specs.declared.place.Place.{Place}
@@ -60,3 +60,35 @@ pub record IsCut (places : List Place) (base start : ℕ) (denied : Literal) (c 
   pub decided : IsDecisionAt places cut
   pub alone : is_alone_at places cut denied c ≡ true
   pub earlier : (j : ℕ) → base ≤ j → j < cut → IsDecisionAt places j → is_alone_at places j denied c ≡ false
+
+-- ---- the first unique implication point
+
+-- the clause at this place of the list denies the literal at that place of the trail
+pub record DeniesAt (clauses : List Clause) (places : List Place) (clause at : ℕ) : Type 0 where
+  pub place : Place
+  pub there : slice_get places at ≡ Some place
+  pub denied : Contains (slice_index_or clauses clause []) (negation place.literal)
+
+-- the reason of the later place denies the literal at the earlier one
+pub record ForcedWith (clauses : List Clause) (places : List Place) (earlier later : ℕ) : Type 0 where
+  pub place : Place
+  pub there : slice_get places later ≡ Some place
+  pub reason : ℕ
+  pub is : place.reason ≡ Some reason
+  pub denies : DeniesAt clauses places reason earlier
+
+-- a way along the implications: each place's literal had a part in the next one's, and the last one's in the conflict
+abbrev pub LeadsTo : List Clause → List Place → ℕ → List ℕ → Type 0
+LeadsTo clauses places conflict [] = Unit {0}
+LeadsTo clauses places conflict (at ∷ []) = DeniesAt clauses places conflict at
+LeadsTo clauses places conflict (at ∷ later ∷ more) = ForcedWith clauses places at later × LeadsTo clauses places conflict (later ∷ more)
+
+-- a way from the level's first place to the conflict that does not pass through this place
+pub record Bypasses (clauses : List Clause) (places : List Place) (conflict start at : ℕ) : Type 0 where
+  pub way : List ℕ
+  pub leads : LeadsTo clauses places conflict (start ∷ way)
+  pub apart : All (λ k. k ≢ at) (start ∷ way)
+
+-- no later place of the level has a part in each way from the level's first place to the conflict
+pub record IsFirstPoint (clauses : List Clause) (places : List Place) (conflict start at : ℕ) : Type 0 where
+  pub bypassed : (k : ℕ) → at < k → k < length places → Bypasses clauses places conflict start k

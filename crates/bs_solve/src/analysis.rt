@@ -9,7 +9,7 @@ ghost use Rattle.bs_solve.specs.Places.{literals_of, AreApart, SomeSound};
 ghost use Rattle.bs_solve.specs.Scan.{IsConflictAt};
 ghost use Rattle.bs_solve.specs.Walk.{IsLearnt};
 ghost use Rattle.bs_solve.specs.Marks.{is_marked, marks_in, marked_with, unmarked, HasMarked, HasTraded, HasMoved, AreTouched, IsClear};
-ghost use Rattle.bs_solve.specs.Point.{is_alone_at, IsLastDecision, IsPoint, IsCut, IsUnforced, IsReasonAt, IsDecisionAt, IsAloneFrom, IsAloneWith, AreForced};
+ghost use Rattle.bs_solve.specs.Point.{is_alone_at, IsLastDecision, IsPoint, IsFirstPoint, IsCut, IsUnforced, IsReasonAt, IsDecisionAt, IsAloneFrom, IsAloneWith, AreForced};
 
 use crate::marks::Marks;
 use crate::trail::Trail;
@@ -154,6 +154,7 @@ pub fn first_point(
     requires clear { IsClear (trail.now.vars + 1) marks.old }
     ensures learnt { IfOk result (λ r. IsLearnt clauses.now r.lits r.hints.items) }
     ensures point { IfOk result (λ r. IsPoint trail.now.places start r.lits r.at) }
+    ensures first { IfOk result (λ r. IsFirstPoint clauses.now trail.now.places conflict start r.at) }
     ensures clear { IfOk result (λ _. IsClear (trail.now.vars + 1) marks.new) }
 {
     let mut hints = Vec::new(alloc);
@@ -164,7 +165,8 @@ pub fn first_point(
         down -= 1;
         let place = trail.place(down);
         if marks.has(place.literal) {
-            if ahead == 1 {
+            let only = ahead == 1;
+            if only {
                 let lits = lemma_of(alloc, marks, place.literal)?;
                 return Ok(Learnt {
                     lits,

@@ -70,7 +70,8 @@ impl Solver {
         ensures ok { IfOk result (λ _. self.new ≡ record { book = self.old.book; vars = self.old.vars + 1; stage = Begun; failed = false }) }
         ensures err { IfErr result (λ _. (self.old.failed ≡ true) × (self.new ≡ self.old)) }
     {
-        if self.failed {
+        let failed = self.failed;
+        if failed {
             return Err(NoMemory);
         }
         self.vars += 1;

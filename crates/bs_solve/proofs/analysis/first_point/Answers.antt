@@ -42,7 +42,7 @@ walk-init c =
 
 pub overflow_sub-down : goal.overflow_sub-down
 overflow_sub-down c =
-    let above : c.args.start < c.walk.down = above_start c.args.clauses.now c.requires.sound.0 c.requires.sound.1 c.args.trail.now.places c.args.start c.walk.down c.args.trail.now.vars c.walk.marks
+    let above : c.args.start < c.walk.down = above_start c.args.clauses.now c.requires.sound.0 c.requires.sound.1 c.args.trail.now.places c.args.conflict c.args.start c.walk.down c.args.trail.now.vars c.walk.marks
     c.walk.hints.items c.walk.ahead c.requires.sound.2 c.walk.invariant in
     omega (arith, above)
 
@@ -50,30 +50,30 @@ pub has-requires : goal.has-requires
 has-requires c = (let r = c.place-place.ensures.range in let f = c.walk.invariant.flags in omega (arith, r, f))
 
 pub walk-smaller : goal.walk-smaller
-walk-smaller c = (let above : c.args.start < c.walk.down = above_start c.args.clauses.now c.requires.sound.0 c.requires.sound.1 c.args.trail.now.places c.args.start c.walk.down c.args.trail.now.vars c.walk.marks
+walk-smaller c = (let above : c.args.start < c.walk.down = above_start c.args.clauses.now c.requires.sound.0 c.requires.sound.1 c.args.trail.now.places c.args.conflict c.args.start c.walk.down c.args.trail.now.vars c.walk.marks
     c.walk.hints.items c.walk.ahead c.requires.sound.2 c.walk.invariant in omega (arith, above))
 
 pub walk-smaller-in-Some : goal.walk-smaller-in-Some
-walk-smaller-in-Some c = (let above : c.args.start < c.walk.down = above_start c.args.clauses.now c.requires.sound.0 c.requires.sound.1 c.args.trail.now.places c.args.start c.walk.down c.args.trail.now.vars c.walk.marks
+walk-smaller-in-Some c = (let above : c.args.start < c.walk.down = above_start c.args.clauses.now c.requires.sound.0 c.requires.sound.1 c.args.trail.now.places c.args.conflict c.args.start c.walk.down c.args.trail.now.vars c.walk.marks
     c.walk.hints.items c.walk.ahead c.requires.sound.2 c.walk.invariant in omega (arith, above))
 
 pub walk-smaller-in-None : goal.walk-smaller-in-None
-walk-smaller-in-None c = (let above : c.args.start < c.walk.down = above_start c.args.clauses.now c.requires.sound.0 c.requires.sound.1 c.args.trail.now.places c.args.start c.walk.down c.args.trail.now.vars c.walk.marks
+walk-smaller-in-None c = (let above : c.args.start < c.walk.down = above_start c.args.clauses.now c.requires.sound.0 c.requires.sound.1 c.args.trail.now.places c.args.conflict c.args.start c.walk.down c.args.trail.now.vars c.walk.marks
     c.walk.hints.items c.walk.ahead c.requires.sound.2 c.walk.invariant in omega (arith, above))
 
 pub walk-preserved : goal.walk-preserved
 walk-preserved c =
-    let above : c.args.start < c.walk.down = above_start c.args.clauses.now c.requires.sound.0 c.requires.sound.1 c.args.trail.now.places c.args.start c.walk.down c.args.trail.now.vars c.walk.marks
+    let above : c.args.start < c.walk.down = above_start c.args.clauses.now c.requires.sound.0 c.requires.sound.1 c.args.trail.now.places c.args.conflict c.args.start c.walk.down c.args.trail.now.vars c.walk.marks
     c.walk.hints.items c.walk.ahead c.requires.sound.2 c.walk.invariant in
-    point_past c.args.clauses.now c.args.trail.now.places c.args.start c.walk.down (c.walk.down - 1) c.args.trail.now.vars c.walk.marks c.walk.hints.items c.walk.ahead c.place-place.result
-    (omega (arith, above)) c.place-place.ensures.there (sym c.has.ensures ∙ c.if-has.false) c.walk.invariant
+    point_past c.args.clauses.now c.requires.sound.0 c.requires.sound.1 c.args.trail.now.places c.args.conflict c.args.start c.walk.down (c.walk.down - 1) c.args.trail.now.vars c.walk.marks c.walk.hints.items c.walk.ahead c.place-place.result
+    c.requires.sound.2 c.requires.start c.requires.quiet (omega (arith, above)) c.place-place.ensures.there (sym c.has.ensures ∙ c.if-has.false) c.walk.invariant
 
 pub walk-preserved-in-None : goal.walk-preserved-in-None
 walk-preserved-in-None c =
-    let above : c.args.start < c.walk.down = above_start c.args.clauses.now c.requires.sound.0 c.requires.sound.1 c.args.trail.now.places c.args.start c.walk.down c.args.trail.now.vars c.walk.marks
+    let above : c.args.start < c.walk.down = above_start c.args.clauses.now c.requires.sound.0 c.requires.sound.1 c.args.trail.now.places c.args.conflict c.args.start c.walk.down c.args.trail.now.vars c.walk.marks
     c.walk.hints.items c.walk.ahead c.requires.sound.2 c.walk.invariant in
-    absurd (point_forced c.args.clauses.now c.requires.sound.0 c.requires.sound.1 c.args.trail.now.places c.args.start c.walk.down (c.walk.down - 1) c.args.trail.now.vars c.walk.marks c.walk.hints.items c.walk.ahead
-    c.place-place.result c.requires.sound.2 c.requires.start (omega (arith, above)) c.place-place.ensures.there c.if-ahead-eq1.false c.in-None.is c.walk.invariant)
+    absurd (point_forced c.args.clauses.now c.requires.sound.0 c.requires.sound.1 c.args.trail.now.places c.args.conflict c.args.start c.walk.down (c.walk.down - 1) c.args.trail.now.vars c.walk.marks c.walk.hints.items c.walk.ahead
+    c.place-place.result c.requires.sound.2 c.requires.start (omega (arith, above)) c.place-place.ensures.there c.if-only.false c.in-None.is c.walk.invariant)
 
 pub trade-requires-clause-apart : goal.trade-requires-clause-apart
 trade-requires-clause-apart c = sound_apart c.args.clauses.now c.requires.sound.0 c.requires.sound.1 c.args.trail.now.places c.requires.sound.2
@@ -90,24 +90,24 @@ trade-requires-clause-known c =
 
 pub trade-requires-clause-there : goal.trade-requires-clause-there
 trade-requires-clause-there c =
-    let above : c.args.start < c.walk.down = above_start c.args.clauses.now c.requires.sound.0 c.requires.sound.1 c.args.trail.now.places c.args.start c.walk.down c.args.trail.now.vars c.walk.marks
+    let above : c.args.start < c.walk.down = above_start c.args.clauses.now c.requires.sound.0 c.requires.sound.1 c.args.trail.now.places c.args.conflict c.args.start c.walk.down c.args.trail.now.vars c.walk.marks
     c.walk.hints.items c.walk.ahead c.requires.sound.2 c.walk.invariant in
     stands_behind c.args.trail.now.places c.args.start (c.walk.down - 1) c.place-place.result (omega (arith, above)) c.place-place.ensures.there
 
 pub walk-preserved-in-Some : goal.walk-preserved-in-Some
 walk-preserved-in-Some c =
-    let above : c.args.start < c.walk.down = above_start c.args.clauses.now c.requires.sound.0 c.requires.sound.1 c.args.trail.now.places c.args.start c.walk.down c.args.trail.now.vars c.walk.marks
+    let above : c.args.start < c.walk.down = above_start c.args.clauses.now c.requires.sound.0 c.requires.sound.1 c.args.trail.now.places c.args.conflict c.args.start c.walk.down c.args.trail.now.vars c.walk.marks
     c.walk.hints.items c.walk.ahead c.requires.sound.2 c.walk.invariant in
-    point_step c.args.clauses.now c.requires.sound.0 c.requires.sound.1 c.args.trail.now.places c.args.start c.walk.down (c.walk.down - 1) c.args.trail.now.vars c.walk.marks c.trade.new.marks
-    c.walk.hints.items c.trade.new.hints.items c.walk.ahead c.in_ok-ahead-in-Some.ahead c.place-place.result c.in-Some.reason c.requires.sound.2 c.requires.distinct c.requires.range
-    (omega (arith, above)) c.place-place.ensures.there c.in-Some.is (sym c.has.ensures ∙ c.if-has.true)
-    c.in_ok-ahead-in-Some.ensures.marks c.in_ok-ahead-in-Some.ensures.count c.in_ok-ahead-in-Some.ensures.fewer c.if-ahead-eq1.false c.in_ok-ahead-in-Some.ensures.hints c.walk.invariant
+    point_step c.args.clauses.now c.requires.sound.0 c.requires.sound.1 c.args.trail.now.places c.args.conflict c.args.start c.walk.down (c.walk.down - 1) c.args.trail.now.vars c.walk.marks c.trade.new.marks
+    c.walk.hints.items c.trade.new.hints.items c.walk.ahead c.in_ok-ahead-in-Some.ahead c.place-place.result c.in-Some.reason c.requires.sound.2 c.requires.start c.requires.quiet c.requires.distinct
+    c.requires.range (omega (arith, above)) c.place-place.ensures.there c.in-Some.is (sym c.has.ensures ∙ c.if-has.true)
+    c.in_ok-ahead-in-Some.ensures.marks c.in_ok-ahead-in-Some.ensures.count c.in_ok-ahead-in-Some.ensures.fewer c.if-only.false c.in_ok-ahead-in-Some.ensures.hints c.walk.invariant
 
 pub lemma_of-requires-clause-touched : goal.lemma_of-requires-clause-touched
 lemma_of-requires-clause-touched c = touched_all c.args.clauses.now c.args.trail.now.places c.walk.down c.walk.marks c.walk.hints.items c.walk.invariant.walk
 
-pub returns-then-ahead-eq1-clause-learnt : goal.returns-then-ahead-eq1-clause-learnt
-returns-then-ahead-eq1-clause-learnt c =
+pub returns-then-only-clause-learnt : goal.returns-then-only-clause-learnt
+returns-then-only-clause-learnt c =
     let on : is_marked c.walk.marks c.place-place.result.literal ≡ true = sym c.has.ensures ∙ c.if-has.true in
     let r = c.place-place.ensures.range in
     let f = c.walk.invariant.flags in
@@ -116,18 +116,21 @@ returns-then-ahead-eq1-clause-learnt c =
     (denied_at c.args.clauses.now c.requires.sound.0 c.requires.sound.1 c.args.trail.now.places c.walk.down c.walk.marks c.walk.hints.items (c.walk.down - 1) c.place-place.result c.requires.sound.2 c.walk.invariant.walk
     c.place-place.ensures.there on) (omega (arith, r, f)) c.in_ok-lits.ensures).learnt
 
-pub returns-then-ahead-eq1-clause-point : goal.returns-then-ahead-eq1-clause-point
-returns-then-ahead-eq1-clause-point c =
-    let above : c.args.start < c.walk.down = above_start c.args.clauses.now c.requires.sound.0 c.requires.sound.1 c.args.trail.now.places c.args.start c.walk.down c.args.trail.now.vars c.walk.marks
+pub returns-then-only-clause-point : goal.returns-then-only-clause-point
+returns-then-only-clause-point c =
+    let above : c.args.start < c.walk.down = above_start c.args.clauses.now c.requires.sound.0 c.requires.sound.1 c.args.trail.now.places c.args.conflict c.args.start c.walk.down c.args.trail.now.vars c.walk.marks
     c.walk.hints.items c.walk.ahead c.requires.sound.2 c.walk.invariant in
     let on : is_marked c.walk.marks c.place-place.result.literal ≡ true = sym c.has.ensures ∙ c.if-has.true in
     let r = c.place-place.ensures.range in
     let f = c.walk.invariant.flags in
-    let at_one : PointMarks c.args.clauses.now c.args.trail.now.places c.args.start c.walk.down c.args.trail.now.vars c.walk.marks c.walk.hints.items 1 =
-    subst (PointMarks c.args.clauses.now c.args.trail.now.places c.args.start c.walk.down c.args.trail.now.vars c.walk.marks c.walk.hints.items) c.if-ahead-eq1.true c.walk.invariant in
-    point_end c.args.clauses.now c.requires.sound.0 c.requires.sound.1 c.args.trail.now.places c.args.start c.walk.down (c.walk.down - 1) c.args.trail.now.vars c.walk.marks c.walk.hints.items c.place-place.result
+    let at_one : PointMarks c.args.clauses.now c.args.trail.now.places c.args.conflict c.args.start c.walk.down c.args.trail.now.vars c.walk.marks c.walk.hints.items 1 =
+    subst (PointMarks c.args.clauses.now c.args.trail.now.places c.args.conflict c.args.start c.walk.down c.args.trail.now.vars c.walk.marks c.walk.hints.items) c.if-only.true c.walk.invariant in
+    point_end c.args.clauses.now c.requires.sound.0 c.requires.sound.1 c.args.trail.now.places c.args.conflict c.args.start c.walk.down (c.walk.down - 1) c.args.trail.now.vars c.walk.marks c.walk.hints.items c.place-place.result
     c.in_ok-lits.lits c.requires.sound.2 (omega (arith, above)) c.place-place.ensures.there on at_one
     (taken_at c.args.clauses.now c.requires.sound.0 c.requires.sound.1 c.args.trail.now.places c.walk.down c.walk.marks c.lemma_of.new.marks c.walk.hints.items c.place-place.result.literal c.in_ok-lits.lits
     c.requires.sound.2 at_one.walk
     (denied_at c.args.clauses.now c.requires.sound.0 c.requires.sound.1 c.args.trail.now.places c.walk.down c.walk.marks c.walk.hints.items (c.walk.down - 1) c.place-place.result c.requires.sound.2 at_one.walk
     c.place-place.ensures.there on) (omega (arith, r, f)) c.in_ok-lits.ensures)
+
+pub returns-then-only-clause-first : goal.returns-then-only-clause-first
+returns-then-only-clause-first c = record { bypassed = λ k past within. c.walk.invariant.bypassed k (omega (arith, past)) within }
