@@ -1,0 +1,20 @@
+-- That exactly the texts in the grammar are read, and as what they say.
+use Rattle.std.specs.Prelude.{◌≡◌, ℕ, List, Ok}
+use Rattle.bs_lex.specs.declared.token.Token.{Token}
+use Rattle.bs_lexeme.specs.Lexemes.{lexemes_of, names_of}
+use Rattle.bs_syntax.specs.declared.tree.Module as code
+use Rattle.bs_syntax.specs.Modules.{syntax_of}
+use Rattle.bs_grammar.specs.Symbols.{symbols_of}
+use Rattle.bs_grammar.specs.Written as written
+use Rattle.bs_grammar.specs.Productions.{IsNetlistText}
+use Rattle.bs_grammar.specs.Views.{module_view}
+
+-- a text that is read is in the grammar, and says what it is read as
+pub record ReadsWhatIsWritten (source : List ℕ) (tokens : List Token) : Type 0 where
+  pub sound : (m : code.Module) → syntax_of (lexemes_of source tokens) ≡ Ok m
+      → IsNetlistText (symbols_of source tokens) (module_view (names_of source tokens) m)
+
+-- a text in the grammar is read, as what it says
+pub record ReadsAllThatIsWritten (source : List ℕ) (tokens : List Token) : Type 0 where
+  pub complete : (w : written.Module) → IsNetlistText (symbols_of source tokens) w
+      → (m : code.Module) × ((syntax_of (lexemes_of source tokens) ≡ Ok m) × (module_view (names_of source tokens) m ≡ w))

@@ -1,0 +1,6 @@
+//! The grammar of a netlist text as a relation between its tokens and its top module as written, and that exactly the texts in it are read.
+#![tactic(auto)]
+
+mod law;
+
+pub use law::what_is_read_is_written;
