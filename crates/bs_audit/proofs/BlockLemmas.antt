@@ -26,7 +26,7 @@ use Rattle.bs_log.specs.declared.line.Line.TheVariants.{Solve, Lemma, Block, Fin
 use Rattle.bs_audit.specs.StepLines.{is_block}
 use Rattle.bs_log.specs.Steps.{block_of_line}
 use Rattle.bs_good.specs.Valid.{has_clause, blocks_in, blocks_due, are_right_blocks}
-use Rattle.bs_audit.specs.Blocked.{blocking, Blocks, BlocksNone, StandsAt, IsDueAt, IsNotDue, AreNoted, NotesMore}
+use Rattle.bs_audit.specs.Blocked.{blocking, Blocks, BlocksNone, IsAt, IsDueAt, IsNotDue, AreNoted, NotesMore}
 use Rattle.bs_audit.proofs.Lines.{not_same}
 
 -- ---- clauses
@@ -74,29 +74,36 @@ denials_again (o ∷ own) (b ∷ s) e =
 signs_differ : (own : Clause) (s t : List Bool) → length s ≡ length own → length t ≡ length own → signed own (map not s) ≡ signed own (map not t) → s ≡ t
 signs_differ own s t e f h = sym (denials_again own s e) ∙ (ap denials_of h ∙ denials_again own t f)
 
-blocking_differ : (e : Encoded) (guard : Literal) (s t : List Bool) → length s ≡ length e.states → length t ≡ length e.states → blocking e guard s ≡ blocking e guard t → s ≡ t
+blocking_differ : (e : Encoded) (guard : Literal) (s t : List Bool) → length s ≡ length e.states → length t ≡ length e.states →
+    blocking e guard s ≡ blocking e guard t → s ≡ t
 blocking_differ e guard s t ws wt h = let rest : block_for e s ≡ block_for e t = cc in signs_differ e.states s t ws wt rest
 
 -- ---- the state of a block
 
-pub blocks_state : (e : Encoded) (guard first : Literal) (rest clause : Clause) (state : List Bool) → clause ≡ first ∷ rest → first ≡ negation guard → variables_of rest ≡ variables_of e.states →
+pub blocks_state : (e : Encoded) (guard first : Literal) (rest clause : Clause) (state : List Bool) → clause ≡ first ∷ rest → first ≡ negation guard →
+    variables_of rest ≡ variables_of e.states →
     state ≡ denials_of rest → Blocks e guard clause state
 blocks_state e guard first rest clause state is f v d =
     let width : length (denials_of rest) ≡ length e.states =
-    length-map rest (λ (l : Literal). not l.positive) ∙ (sym (length-map rest (λ (l : Literal). l.variable)) ∙ (ap length v ∙ length-map e.states (λ (l : Literal). l.variable))) in
+    length-map rest (λ (l : Literal). not l.positive)
+    ∙ (sym (length-map rest (λ (l : Literal). l.variable)) ∙ (ap length v ∙ length-map e.states (λ (l : Literal). l.variable))) in
     record {
       width = ap length d ∙ width;
-      is = is ∙ (ap (λ (l : Literal). l ∷ rest) f ∙ ap (λ (k : Clause). negation guard ∷ k) (signed_again e.states rest v ∙ ap (λ (s : List Bool). signed e.states (map not s)) (sym d)));
+      is =
+          is ∙ (ap (λ (l : Literal). l ∷ rest) f
+          ∙ ap (λ (k : Clause). negation guard ∷ k) (signed_again e.states rest v ∙ ap (λ (s : List Bool). signed e.states (map not s)) (sym d)));
     }
 
 pub none_empty : (e : Encoded) (guard : Literal) (clause : Clause) → clause ≡ [] → BlocksNone e guard clause
 none_empty e guard clause is = record { none = λ s w h. cc }
 
-pub none_first : (e : Encoded) (guard first : Literal) (rest clause : Clause) → clause ≡ first ∷ rest → same_literal first (negation guard) ≡ false → BlocksNone e guard clause
+pub none_first : (e : Encoded) (guard first : Literal) (rest clause : Clause) → clause ≡ first ∷ rest → same_literal first (negation guard) ≡ false →
+    BlocksNone e guard clause
 none_first e guard first rest clause is f =
     record { none = λ s w h. let same : first ≡ negation guard = cc in absurd (true≢false (sym ((same_literal_iff first (negation guard)).1 same) ∙ f)) }
 
-pub none_variables : (e : Encoded) (guard first : Literal) (rest clause : Clause) → clause ≡ first ∷ rest → (variables_of rest ≡ variables_of e.states → ⊥) → BlocksNone e guard clause
+pub none_variables : (e : Encoded) (guard first : Literal) (rest clause : Clause) → clause ≡ first ∷ rest →
+    (variables_of rest ≡ variables_of e.states → ⊥) → BlocksNone e guard clause
 none_variables e guard first rest clause is v =
     record { none = λ s w h. let same : rest ≡ block_for e s = cc in v (ap variables_of same ∙ signed_variables e.states (map not s) (length-map s not ∙ w)) }
 
@@ -107,7 +114,8 @@ get_or_at [] i o h = cc
 get_or_at (p ∷ own) zero o h = cc
 get_or_at (p ∷ own) (suc i) o h = get_or_at own i o h
 
-pub variables_more : (ls own : Clause) (i : ℕ) (l o : Literal) → i < length ls → i < length own → l ≡ get_or ls i l → slice_get own i ≡ Some o → l.variable ≡ o.variable →
+pub variables_more : (ls own : Clause) (i : ℕ) (l o : Literal) → i < length ls → i < length own → l ≡ get_or ls i l → slice_get own i ≡ Some o →
+    l.variable ≡ o.variable →
     variables_of (take i ls) ≡ variables_of (take i own) → variables_of (take (i + 1) ls) ≡ variables_of (take (i + 1) own)
 variables_more ls own i l o li lo is at same h =
     map_more (λ (l : Literal). l.variable) ls i l li
@@ -116,15 +124,18 @@ variables_more ls own i l o li lo is at same h =
     ∙ (ap (λ (v : ℕ). variables_of (take i own) ++ v ∷ []) (same ∙ ap (λ (l : Literal). l.variable) (sym (get_or_at own i o at)))
     ∙ sym (map_more (λ (l : Literal). l.variable) own i o lo))))
 
-pub variables_differ : (ls own : Clause) (i : ℕ) (l o : Literal) → i < length ls → i < length own → l ≡ get_or ls i l → slice_get own i ≡ Some o → (l.variable ≡ o.variable → ⊥) →
+pub variables_differ : (ls own : Clause) (i : ℕ) (l o : Literal) → i < length ls → i < length own → l ≡ get_or ls i l → slice_get own i ≡ Some o →
+    (l.variable ≡ o.variable → ⊥) →
     variables_of ls ≡ variables_of own → ⊥
 variables_differ ls own i l o li lo is at differ e =
     differ
     (ap (λ (l : Literal). l.variable) is
     ∙ (sym (get_or-map (λ (l : Literal). l.variable) ls i l 0 li)
-    ∙ (ap (λ (k : List ℕ). get_or k i 0) e ∙ (get_or-map (λ (l : Literal). l.variable) own i o 0 lo ∙ ap (λ (l : Literal). l.variable) (get_or_at own i o at)))))
+    ∙ (ap (λ (k : List ℕ). get_or k i 0) e
+    ∙ (get_or-map (λ (l : Literal). l.variable) own i o 0 lo ∙ ap (λ (l : Literal). l.variable) (get_or_at own i o at)))))
 
-pub all_variables : (ls own : Clause) (n : ℕ) → length ls ≤ n → length own ≤ n → variables_of (take n ls) ≡ variables_of (take n own) → variables_of ls ≡ variables_of own
+pub all_variables : (ls own : Clause) (n : ℕ) → length ls ≤ n → length own ≤ n → variables_of (take n ls) ≡ variables_of (take n own) →
+    variables_of ls ≡ variables_of own
 all_variables ls own n le lo e = ap variables_of (sym (take_all n ls le)) ∙ (e ∙ ap variables_of (take_all n own lo))
 
 pub lengths_differ : (ls own : Clause) → (length ls ≡ length own → ⊥) → variables_of ls ≡ variables_of own → ⊥
@@ -136,11 +147,13 @@ lengths_differ ls own differ e =
 abbrev pub WidthsAre : ℕ → List (List Bool) → Type 0
 WidthsAre width states = All (λ s. length s ≡ width) states
 
-due_here : (e : Encoded) (guard : Literal) (states : List (List Bool)) (j : ℕ) → j < length states → get_or (map (blocking e guard) states) j [] ≡ blocking e guard (get_or states j [])
+due_here : (e : Encoded) (guard : Literal) (states : List (List Bool)) (j : ℕ) → j < length states →
+    get_or (map (blocking e guard) states) j [] ≡ blocking e guard (get_or states j [])
 due_here e guard states j lt = get_or-map (blocking e guard) states j [] [] lt
 
 -- a clause that is a state's block is due exactly where that state is listed
-not_listed : (e : Encoded) (guard : Literal) (states : List (List Bool)) (clause : Clause) (s : List Bool) → WidthsAre (length e.states) states → Blocks e guard clause s → is_listed states s ≡ false →
+not_listed : (e : Encoded) (guard : Literal) (states : List (List Bool)) (clause : Clause) (s : List Bool) → WidthsAre (length e.states) states →
+    Blocks e guard clause s → is_listed states s ≡ false →
     has_clause (map (blocking e guard) states) clause ≡ false
 not_listed e guard states clause s widths is out =
     list_any_none (pointwise same_literal clause) (map (blocking e guard) states)
@@ -148,10 +161,12 @@ not_listed e guard states clause s widths is out =
     let below : j < length states = omega (arith, lt, length-map states (blocking e guard)) in
     by j d lt below (pointwise same_literal clause (get_or (map (blocking e guard) states) j d)) refl)
   where
-    by : (j : ℕ) (d : Clause) → j < length (map (blocking e guard) states) → j < length states → (b : Bool) → pointwise same_literal clause (get_or (map (blocking e guard) states) j d) ≡ b → b ≡ false
+    by : (j : ℕ) (d : Clause) → j < length (map (blocking e guard) states) → j < length states → (b : Bool) →
+        pointwise same_literal clause (get_or (map (blocking e guard) states) j d) ≡ b → b ≡ false
     by j d lt below false h = refl
     by j d lt below true h =
-        let there : clause ≡ blocking e guard (get_or states j []) = same_is clause (get_or (map (blocking e guard) states) j d) h ∙ get_or-map (blocking e guard) states j [] d below in
+        let there : clause ≡ blocking e guard (get_or states j []) =
+        same_is clause (get_or (map (blocking e guard) states) j d) h ∙ get_or-map (blocking e guard) states j [] d below in
         let same : s ≡ get_or states j [] = blocking_differ e guard s (get_or states j []) is.width (widths j [] below) (sym is.is ∙ there) in
         absurd (true≢false (sym (list_any_at (bits_eq s) states j [] below (ap (bits_eq s) (sym same) ∙ bits_same s)) ∙ out))
 
@@ -166,28 +181,37 @@ none_due e guard states clause widths is =
     by : (j : ℕ) (d : Clause) → j < length states → (b : Bool) → pointwise same_literal clause (get_or (map (blocking e guard) states) j d) ≡ b → b ≡ false
     by j d below false h = refl
     by j d below true h =
-        absurd (is.none (get_or states j []) (widths j [] below) (same_is clause (get_or (map (blocking e guard) states) j d) h ∙ get_or-map (blocking e guard) states j [] d below))
+        absurd (is.none (get_or states j []) (widths j [] below)
+        (same_is clause (get_or (map (blocking e guard) states) j d) h ∙ get_or-map (blocking e guard) states j [] d below))
 
-pub not_due_none : (e : Encoded) (guard : Literal) (states : List (List Bool)) (clause : Clause) (width : ℕ) → width ≡ length e.states → WidthsAre width states → BlocksNone e guard clause →
+pub not_due_none : (e : Encoded) (guard : Literal) (states : List (List Bool)) (clause : Clause) (width : ℕ) → width ≡ length e.states →
+    WidthsAre width states → BlocksNone e guard clause →
     IsNotDue e guard states clause
 not_due_none e guard states clause width w widths is = record { none = none_due e guard states clause (subst (λ (n : ℕ). WidthsAre n states) w widths) is }
 
-pub not_due_unlisted : (e : Encoded) (guard : Literal) (states : List (List Bool)) (clause : Clause) (s : List Bool) (width : ℕ) → width ≡ length e.states → WidthsAre width states →
+pub not_due_unlisted : (e : Encoded) (guard : Literal) (states : List (List Bool)) (clause : Clause) (s : List Bool) (width : ℕ) →
+    width ≡ length e.states → WidthsAre width states →
     Blocks e guard clause s → is_listed states s ≡ false → IsNotDue e guard states clause
-not_due_unlisted e guard states clause s width w widths is out = record { none = not_listed e guard states clause s (subst (λ (n : ℕ). WidthsAre n states) w widths) is out }
+not_due_unlisted e guard states clause s width w widths is out =
+    record { none = not_listed e guard states clause s (subst (λ (n : ℕ). WidthsAre n states) w widths) is out }
 
-pub due_listed : (e : Encoded) (guard : Literal) (states : List (List Bool)) (clause : Clause) (s : List Bool) (j : ℕ) → Blocks e guard clause s → StandsAt states s j → IsDueAt e guard states clause j
+pub due_listed : (e : Encoded) (guard : Literal) (states : List (List Bool)) (clause : Clause) (s : List Bool) (j : ℕ) → Blocks e guard clause s →
+    IsAt states s j → IsDueAt e guard states clause j
 due_listed e guard states clause s j is at = record { below = at.below; is = is.is ∙ ap (blocking e guard) (sym at.is) }
 
-pub due_place : (e : Encoded) (guard : Literal) (states : List (List Bool)) (clause : Clause) (s : List Bool) (width : ℕ) (o : Option ℕ) → width ≡ length e.states → WidthsAre width states →
-    Blocks e guard clause s → MatchOption o (is_listed states s ≡ false) (StandsAt states s) → MatchOption o (IsNotDue e guard states clause) (IsDueAt e guard states clause)
+pub due_place : (e : Encoded) (guard : Literal) (states : List (List Bool)) (clause : Clause) (s : List Bool) (width : ℕ) (o : Option ℕ) →
+    width ≡ length e.states → WidthsAre width states →
+    Blocks e guard clause s → MatchOption o (is_listed states s ≡ false) (IsAt states s) →
+    MatchOption o (IsNotDue e guard states clause) (IsDueAt e guard states clause)
 due_place e guard states clause s width None w widths is out = not_due_unlisted e guard states clause s width w widths is out
 due_place e guard states clause s width (Some j) w widths is at = due_listed e guard states clause s j is at
 
-pub due_known : (e : Encoded) (guard : Literal) (states : List (List Bool)) (clause : Clause) (j : ℕ) → IsDueAt e guard states clause j → has_clause (map (blocking e guard) states) clause ≡ true
+pub due_known : (e : Encoded) (guard : Literal) (states : List (List Bool)) (clause : Clause) (j : ℕ) → IsDueAt e guard states clause j →
+    has_clause (map (blocking e guard) states) clause ≡ true
 due_known e guard states clause j at =
     let below : j < length (map (blocking e guard) states) = omega (arith, at.below, length-map states (blocking e guard)) in
-    list_any_at (pointwise same_literal clause) (map (blocking e guard) states) j [] below (is_same clause (get_or (map (blocking e guard) states) j []) (at.is ∙ sym (due_here e guard states j at.below)))
+    list_any_at (pointwise same_literal clause) (map (blocking e guard) states) j [] below
+    (is_same clause (get_or (map (blocking e guard) states) j []) (at.is ∙ sym (due_here e guard states j at.below)))
 
 -- ---- ascending states
 
@@ -228,7 +252,8 @@ equal_is (false ∷ s) (true ∷ t) e = cc
 equal_is (true ∷ s) (false ∷ t) e = cc
 equal_is (true ∷ s) (true ∷ t) e = ap (λ (k : List Bool). true ∷ k) (equal_is s t e)
 
-up_to : (states : List (List Bool)) → Ascend states → (m k : ℕ) → m < length states → k < m + 1 → (k ≡ m) ⊎ (slice_cmp bool_cmp (get_or states k []) (get_or states m []) ≡ Less)
+up_to : (states : List (List Bool)) → Ascend states → (m k : ℕ) → m < length states → k < m + 1 →
+    (k ≡ m) ⊎ (slice_cmp bool_cmp (get_or states k []) (get_or states m []) ≡ Less)
 up_to states asc m k lt le = by (cases_order k m)
   where
     by : (k ≡ m) ⊎ ((k < m) ⊎ (m < k)) → (k ≡ m) ⊎ (slice_cmp bool_cmp (get_or states k []) (get_or states m []) ≡ Less)
@@ -236,14 +261,16 @@ up_to states asc m k lt le = by (cases_order k m)
     by (inr (inl below)) = inr (asc k m [] below lt)
     by (inr (inr above)) = absurd (omega (arith, above, le))
 
-pub less_below : (states : List (List Bool)) (s : List Bool) (m : ℕ) → Ascend states → m < length states → slice_cmp bool_cmp (get_or states m []) s ≡ Less → AllLess states s (m + 1)
+pub less_below : (states : List (List Bool)) (s : List Bool) (m : ℕ) → Ascend states → m < length states →
+    slice_cmp bool_cmp (get_or states m []) s ≡ Less → AllLess states s (m + 1)
 less_below states s m asc lt e k le = by (up_to states asc m k lt le)
   where
     by : (k ≡ m) ⊎ (slice_cmp bool_cmp (get_or states k []) (get_or states m []) ≡ Less) → slice_cmp bool_cmp (get_or states k []) s ≡ Less
     by (inl same) = ap (λ (i : ℕ). slice_cmp bool_cmp (get_or states i []) s) same ∙ e
     by (inr less) = (lists_total bool_cmp_total).trans (get_or states k []) (get_or states m []) s less e
 
-pub greater_above : (states : List (List Bool)) (s : List Bool) (m : ℕ) → Ascend states → m < length states → slice_cmp bool_cmp (get_or states m []) s ≡ Greater → AllGreater states s m
+pub greater_above : (states : List (List Bool)) (s : List Bool) (m : ℕ) → Ascend states → m < length states →
+    slice_cmp bool_cmp (get_or states m []) s ≡ Greater → AllGreater states s m
 greater_above states s m asc lt e k le below = by (cases_order m k)
   where
     here : slice_cmp bool_cmp s (get_or states m []) ≡ Less
@@ -257,18 +284,20 @@ greater_above states s m asc lt e k le below = by (cases_order m k)
 pub middle_below : (low high : ℕ) → low < high → low + (high - low) / 2 < high
 middle_below low high lt = omega arith
 
-pub compared : (cands : List Cand) (m : ℕ) (cand : Cand) (s : List Bool) (order is : Ordering) → m < length cands → order ≡ slice_cmp bool_cmp (get_or cands m cand).state s → order ≡ is →
+pub compared : (cands : List Cand) (m : ℕ) (cand : Cand) (s : List Bool) (order is : Ordering) → m < length cands →
+    order ≡ slice_cmp bool_cmp (get_or cands m cand).state s → order ≡ is →
     slice_cmp bool_cmp (get_or (listed cands) m []) s ≡ is
 compared cands m cand s order is lt e f = ap (λ (t : List Bool). slice_cmp bool_cmp t s) (get_or-map (λ (c : Cand). c.state) cands m cand [] lt) ∙ (sym e ∙ f)
 
 pub listed_length : (cands : List Cand) → length (listed cands) ≡ length cands
 listed_length cands = length-map cands (λ (c : Cand). c.state)
 
-pub stands_at : (states : List (List Bool)) (s : List Bool) (m : ℕ) → m < length states → slice_cmp bool_cmp (get_or states m []) s ≡ Equal → StandsAt states s m
+pub stands_at : (states : List (List Bool)) (s : List Bool) (m : ℕ) → m < length states → slice_cmp bool_cmp (get_or states m []) s ≡ Equal → IsAt states s m
 stands_at states s m lt e = record { below = lt; is = equal_is (get_or states m []) s e }
 
 -- where the halves have met, the state is not listed
-pub not_found : (states : List (List Bool)) (s : List Bool) (low high : ℕ) → high ≤ low → AllLess states s low → AllGreater states s high → is_listed states s ≡ false
+pub not_found : (states : List (List Bool)) (s : List Bool) (low high : ℕ) → high ≤ low → AllLess states s low → AllGreater states s high →
+    is_listed states s ≡ false
 not_found states s low high met less greater =
     list_any_none (bits_eq s) states (λ k d lt. by k d lt (cases_lt k low) (bits_eq s (get_or states k d)) refl)
   where
@@ -277,11 +306,13 @@ not_found states s low high met less greater =
     by k d lt (inl below) true h =
         absurd (less_differ (get_or states k []) s (less k below) (sym (bits_same_is s (get_or states k d) h ∙ sym (get_or_default states k [] d lt))))
     by k d lt (inr above) true h =
-        absurd (less_differ s (get_or states k []) (greater k (omega (arith, met, above)) lt) (bits_same_is s (get_or states k d) h ∙ sym (get_or_default states k [] d lt)))
+        absurd (less_differ s (get_or states k []) (greater k (omega (arith, met, above)) lt)
+        (bits_same_is s (get_or states k d) h ∙ sym (get_or_default states k [] d lt)))
 
 -- ---- blocks that are noted
 
-pub none_are_noted : (e : Encoded) (guard : Literal) (states : List (List Bool)) (noted : List Bool) (count : ℕ) → count ≡ length states → noted ≡ replicate count false →
+pub none_are_noted : (e : Encoded) (guard : Literal) (states : List (List Bool)) (noted : List Bool) (count : ℕ) → count ≡ length states →
+    noted ≡ replicate count false →
     AreNoted e guard states [] noted
 none_are_noted e guard states noted count n is =
     record {
@@ -293,7 +324,9 @@ pub notes_nothing : (e : Encoded) (guard : Literal) (states : List (List Bool)) 
 notes_nothing e guard states noted = record { is = λ blocks h. subst (λ (l : List Clause). AreNoted e guard states l noted) (sym (append-nil blocks)) h }
 
 one_more : (blocks : List Clause) (clause due : Clause) → has_clause (blocks ++ clause ∷ []) due ≡ (has_clause blocks due || pointwise same_literal due clause)
-one_more blocks clause due = list_any-append (pointwise same_literal due) blocks (clause ∷ []) ∙ ap (λ (b : Bool). has_clause blocks due || b) (or_false (pointwise same_literal due clause))
+one_more blocks clause due =
+    list_any-append (pointwise same_literal due) blocks (clause ∷ [])
+    ∙ ap (λ (b : Bool). has_clause blocks due || b) (or_false (pointwise same_literal due clause))
   where
     or_false : (b : Bool) → (b || false) ≡ b
     or_false true = refl
@@ -307,7 +340,8 @@ or_none : (b : Bool) → (b || false) ≡ b
 or_none true = refl
 or_none false = refl
 
-pub notes_block : (e : Encoded) (guard : Literal) (states : List (List Bool)) (clause : Clause) (j width : ℕ) (old new : List Bool) → width ≡ length e.states → WidthsAre width states → Ascend states →
+pub notes_block : (e : Encoded) (guard : Literal) (states : List (List Bool)) (clause : Clause) (j width : ℕ) (old new : List Bool) →
+    width ≡ length e.states → WidthsAre width states → Ascend states →
     IsDueAt e guard states clause j → new ≡ slice_set old j true → NotesMore e guard states (clause ∷ []) old new
 notes_block e guard states clause j width old new w widths asc at is =
     record {
@@ -323,8 +357,10 @@ notes_block e guard states clause j width old new w widths asc at is =
     other : (k : ℕ) → k < length states → (k ≡ j → ⊥) → (b : Bool) → pointwise same_literal (blocking e guard (get_or states k [])) clause ≡ b → b ≡ false
     other k lt differ false t = refl
     other k lt differ true t =
-        let same : blocking e guard (get_or states k []) ≡ blocking e guard (get_or states j []) = same_is (blocking e guard (get_or states k [])) clause t ∙ at.is in
-        absurd (differ (distinct states asc k j lt at.below (blocking_differ e guard (get_or states k []) (get_or states j []) (wide k lt) (wide j at.below) same)))
+        let same : blocking e guard (get_or states k []) ≡ blocking e guard (get_or states j []) =
+        same_is (blocking e guard (get_or states k [])) clause t ∙ at.is in
+        absurd (differ (distinct states asc k j lt at.below
+        (blocking_differ e guard (get_or states k []) (get_or states j []) (wide k lt) (wide j at.below) same)))
 
     apart : (blocks : List Clause) → AreNoted e guard states blocks old → (k : ℕ) → k < length states → (k ≡ j → ⊥) →
         get_or new k false ≡ has_clause (blocks ++ clause ∷ []) (blocking e guard (get_or states k []))
@@ -340,61 +376,77 @@ notes_block e guard states clause j width old new w widths asc at is =
     by : (blocks : List Clause) → AreNoted e guard states blocks old → (k : ℕ) → k < length states → (k ≡ j) ⊎ ((k < j) ⊎ (j < k)) →
         get_or new k false ≡ has_clause (blocks ++ clause ∷ []) (blocking e guard (get_or states k []))
     by blocks h k lt (inl same) =
-        let here : get_or new k false ≡ true = ap (λ (l : List Bool). get_or l k false) is ∙ (ap (λ (i : ℕ). get_or (slice_set old j true) i false) same ∙ get_or-set_same old j true false (omega (arith, at.below, h.each))) in
+        let here : get_or new k false ≡ true =
+        ap (λ (l : List Bool). get_or l k false) is
+        ∙ (ap (λ (i : ℕ). get_or (slice_set old j true) i false) same ∙ get_or-set_same old j true false (omega (arith, at.below, h.each))) in
         let there : pointwise same_literal (blocking e guard (get_or states k [])) clause ≡ true =
         is_same (blocking e guard (get_or states k [])) clause (ap (λ (i : ℕ). blocking e guard (get_or states i [])) same ∙ sym at.is) in
         here
         ∙ sym
         (one_more blocks clause (blocking e guard (get_or states k []))
-        ∙ (ap (λ (b : Bool). has_clause blocks (blocking e guard (get_or states k [])) || b) there ∙ or_true (has_clause blocks (blocking e guard (get_or states k [])))))
+        ∙ (ap (λ (b : Bool). has_clause blocks (blocking e guard (get_or states k [])) || b) there
+        ∙ or_true (has_clause blocks (blocking e guard (get_or states k [])))))
     by blocks h k lt (inr (inl less)) = apart blocks h k lt (λ same. omega (arith, less, same))
     by blocks h k lt (inr (inr more)) = apart blocks h k lt (λ same. omega (arith, more, same))
 
 -- ---- the lines
 
-pub blocks_more : (lines : List Line) (i : ℕ) (line : Line) → i < length lines → line ≡ get_or lines i line → blocks_in (take (i + 1) lines) ≡ blocks_in (take i lines) ++ blocks_in (line ∷ [])
+pub blocks_more : (lines : List Line) (i : ℕ) (line : Line) → i < length lines → line ≡ get_or lines i line →
+    blocks_in (take (i + 1) lines) ≡ blocks_in (take i lines) ++ blocks_in (line ∷ [])
 blocks_more lines i line lt is =
     ap blocks_in (take_more lines i line lt ∙ ap (λ (l : Line). take i lines ++ l ∷ []) (sym is)) ∙ filter_map-append block_of_line (take i lines) (line ∷ [])
 
-pub known_more : (test : Clause → Bool) (lines : List Line) (i : ℕ) (line : Line) → i < length lines → line ≡ get_or lines i line → list_all test (blocks_in (take i lines)) ≡ true →
+pub known_more : (test : Clause → Bool) (lines : List Line) (i : ℕ) (line : Line) → i < length lines → line ≡ get_or lines i line →
+    list_all test (blocks_in (take i lines)) ≡ true →
     list_all test (blocks_in (line ∷ [])) ≡ true → list_all test (blocks_in (take (i + 1) lines)) ≡ true
 known_more test lines i line lt is e f =
     ap (list_all test) (blocks_more lines i line lt is)
     ∙ (list_all-append test (blocks_in (take i lines)) (blocks_in (line ∷ [])) ∙ (ap (λ (b : Bool). b && list_all test (blocks_in (line ∷ []))) e ∙ f))
 
-pub unknown_one : (test : Clause → Bool) (lines : List Line) (i : ℕ) (line : Line) → i < length lines → line ≡ get_or lines i line → list_all test (blocks_in (line ∷ [])) ≡ false →
+pub unknown_one : (test : Clause → Bool) (lines : List Line) (i : ℕ) (line : Line) → i < length lines → line ≡ get_or lines i line →
+    list_all test (blocks_in (line ∷ [])) ≡ false →
     list_all test (blocks_in lines) ≡ false
 unknown_one test lines i line lt is f =
-    ap (λ (l : List Line). list_all test (blocks_in l)) (sym (take-append-drop i lines) ∙ ap (λ (l : List Line). take i lines ++ l) (drop_more lines i line lt ∙ ap (λ (l : Line). l ∷ drop (i + 1) lines) (sym is)))
-    ∙ (ap (list_all test) (filter_map-append block_of_line (take i lines) (line ∷ drop (i + 1) lines) ∙ ap (λ (l : List Clause). blocks_in (take i lines) ++ l) (filter_map-append block_of_line (line ∷ []) (drop (i + 1) lines)))
+    ap (λ (l : List Line). list_all test (blocks_in l))
+    (sym (take-append-drop i lines)
+    ∙ ap (λ (l : List Line). take i lines ++ l) (drop_more lines i line lt ∙ ap (λ (l : Line). l ∷ drop (i + 1) lines) (sym is)))
+    ∙ (ap (list_all test)
+    (filter_map-append block_of_line (take i lines) (line ∷ drop (i + 1) lines)
+    ∙ ap (λ (l : List Clause). blocks_in (take i lines) ++ l) (filter_map-append block_of_line (line ∷ []) (drop (i + 1) lines)))
     ∙ (list_all-append test (blocks_in (take i lines)) (blocks_in (line ∷ []) ++ blocks_in (drop (i + 1) lines))
     ∙ (ap (λ (b : Bool). list_all test (blocks_in (take i lines)) && b)
-    (list_all-append test (blocks_in (line ∷ [])) (blocks_in (drop (i + 1) lines)) ∙ ap (λ (b : Bool). b && list_all test (blocks_in (drop (i + 1) lines))) f) ∙ and_none (list_all test (blocks_in (take i lines))))))
+    (list_all-append test (blocks_in (line ∷ [])) (blocks_in (drop (i + 1) lines))
+    ∙ ap (λ (b : Bool). b && list_all test (blocks_in (drop (i + 1) lines))) f) ∙ and_none (list_all test (blocks_in (take i lines))))))
   where
     and_none : (b : Bool) → (b && false) ≡ false
     and_none true = refl
     and_none false = refl
 
-pub noted_more : (e : Encoded) (guard : Literal) (states : List (List Bool)) (lines : List Line) (i : ℕ) (line : Line) (old new : List Bool) → i < length lines → line ≡ get_or lines i line →
-    AreNoted e guard states (blocks_in (take i lines)) old → NotesMore e guard states (blocks_in (line ∷ [])) old new → AreNoted e guard states (blocks_in (take (i + 1) lines)) new
+pub noted_more : (e : Encoded) (guard : Literal) (states : List (List Bool)) (lines : List Line) (i : ℕ) (line : Line) (old new : List Bool) →
+    i < length lines → line ≡ get_or lines i line →
+    AreNoted e guard states (blocks_in (take i lines)) old → NotesMore e guard states (blocks_in (line ∷ [])) old new →
+    AreNoted e guard states (blocks_in (take (i + 1) lines)) new
 noted_more e guard states lines i line old new lt is h more =
     subst (λ (l : List Clause). AreNoted e guard states l new) (sym (blocks_more lines i line lt is)) (more.is (blocks_in (take i lines)) h)
 
 -- ---- all candidates
 
-all_alike : {X Y : Type 0} (p : X → Bool) (q : Y → Bool) (xs : List X) (ys : List Y) (x : X) (y : Y) → length xs ≡ length ys → ((j : ℕ) → j < length ys → p (get_or xs j x) ≡ q (get_or ys j y)) →
+all_alike : {X Y : Type 0} (p : X → Bool) (q : Y → Bool) (xs : List X) (ys : List Y) (x : X) (y : Y) → length xs ≡ length ys →
+    ((j : ℕ) → j < length ys → p (get_or xs j x) ≡ q (get_or ys j y)) →
     list_all p xs ≡ list_all q ys
 all_alike p q [] [] x y e h = refl
 all_alike p q [] (b ∷ ys) x y e h = absurd (omega arith)
 all_alike p q (a ∷ xs) [] x y e h = absurd (omega arith)
 all_alike p q (a ∷ xs) (b ∷ ys) x y e h =
-    ap (λ (t : Bool). t && list_all p xs) (h 0 (omega arith)) ∙ ap (λ (t : Bool). q b && t) (all_alike p q xs ys x y (omega arith) (λ j lt. h (suc j) (omega arith)))
+    ap (λ (t : Bool). t && list_all p xs) (h 0 (omega arith))
+    ∙ ap (λ (t : Bool). q b && t) (all_alike p q xs ys x y (omega arith) (λ j lt. h (suc j) (omega arith)))
 
 pub all_noted : (e : Encoded) (guard : Literal) (states : List (List Bool)) (blocks : List Clause) (noted : List Bool) → AreNoted e guard states blocks noted →
     list_all (λ b. b) noted ≡ list_all (has_clause blocks) (map (blocking e guard) states)
 all_noted e guard states blocks noted h =
     all_alike (λ (b : Bool). b) (has_clause blocks) noted (map (blocking e guard) states) false [] (h.each ∙ sym (length-map states (blocking e guard)))
-    (λ j lt. let below : j < length states = omega (arith, lt, length-map states (blocking e guard)) in h.right j below ∙ ap (has_clause blocks) (sym (due_here e guard states j below)))
+    (λ j lt. let below : j < length states = omega (arith, lt, length-map states (blocking e guard)) in h.right j below
+    ∙ ap (has_clause blocks) (sym (due_here e guard states j below)))
 
 count_more : (line : Line) (rest : List Line) → count_by is_block (line ∷ rest) ≡ cond (is_block line) 1 0 + count_by is_block rest
 count_more line rest = sum_by-cons (λ (l : Line). cond (is_block l) 1 0) line rest
@@ -410,7 +462,8 @@ blocks_count (Delete ids ∷ rest) = let h = blocks_count rest in omega (arith, 
 
 -- ---- a line's block
 
-pub line_is_due : (e : Encoded) (guard : Literal) (states : List (List Bool)) (clause : Clause) (j id : ℕ) (line : Line) → line ≡ Block id clause → IsDueAt e guard states clause j →
+pub line_is_due : (e : Encoded) (guard : Literal) (states : List (List Bool)) (clause : Clause) (j id : ℕ) (line : Line) → line ≡ Block id clause →
+    IsDueAt e guard states clause j →
     true ≡ list_all (has_clause (map (blocking e guard) states)) (blocks_in (line ∷ []))
 line_is_due e guard states clause j id line is at =
     sym
@@ -418,23 +471,28 @@ line_is_due e guard states clause j id line is at =
     ∙ ap (λ (b : Bool). b && true) (due_known e guard states clause j at))
 
 pub line_is_noted : (e : Encoded) (guard : Literal) (states : List (List Bool)) (clause : Clause) (j id width : ℕ) (line : Line) (old new : List Bool) → line ≡ Block id clause → width ≡ length e.states →
-    WidthsAre width states → Ascend states → IsDueAt e guard states clause j → new ≡ slice_set old j true → NotesMore e guard states (blocks_in (line ∷ [])) old new
+    WidthsAre width states → Ascend states → IsDueAt e guard states clause j → new ≡ slice_set old j true →
+    NotesMore e guard states (blocks_in (line ∷ [])) old new
 line_is_noted e guard states clause j id width line old new is w widths asc at n =
     subst (λ (l : Line). NotesMore e guard states (blocks_in (l ∷ [])) old new) (sym is) (notes_block e guard states clause j width old new w widths asc at n)
 
 -- ---- the whole test
 
-pub counts_differ : (e : Encoded) (guard : Literal) (cands : List Cand) (lines : List Line) (count : ℕ) → count ≡ count_by is_block lines → (count ≡ length cands → ⊥) →
+pub counts_differ : (e : Encoded) (guard : Literal) (cands : List Cand) (lines : List Line) (count : ℕ) → count ≡ count_by is_block lines →
+    (count ≡ length cands → ⊥) →
     false ≡ are_right_blocks (blocks_due guard (block_for e) cands) (blocks_in lines)
 counts_differ e guard cands lines count n differ =
     let long : length (map (blocking e guard) (listed cands)) ≡ length cands = length-map (listed cands) (blocking e guard) ∙ listed_length cands in
     let apart : (length (blocks_in lines) == length (map (blocking e guard) (listed cands))) ≡ false =
     not_same (length (blocks_in lines)) (length (map (blocking e guard) (listed cands))) (λ same. differ (n ∙ (blocks_count lines ∙ (same ∙ long)))) in
     sym
-    (ap (λ (b : Bool). b && list_all (has_clause (map (blocking e guard) (listed cands))) (blocks_in lines) && list_all (has_clause (blocks_in lines)) (map (blocking e guard) (listed cands))) apart)
+    (ap (λ (b : Bool). b && list_all (has_clause (map (blocking e guard) (listed cands))) (blocks_in lines) && list_all (has_clause (blocks_in lines))
+    (map (blocking e guard) (listed cands))) apart)
 
-pub blocks_are_right : (e : Encoded) (guard : Literal) (cands : List Cand) (lines : List Line) (count : ℕ) (noted : List Bool) (known right : Bool) → count ≡ count_by is_block lines → count ≡ length cands →
-    known ≡ list_all (has_clause (map (blocking e guard) (listed cands))) (blocks_in lines) → known ≡ true → AreNoted e guard (listed cands) (blocks_in lines) noted → right ≡ list_all (λ b. b) noted →
+pub blocks_are_right : (e : Encoded) (guard : Literal) (cands : List Cand) (lines : List Line) (count : ℕ) (noted : List Bool) (known right : Bool) →
+    count ≡ count_by is_block lines → count ≡ length cands →
+    known ≡ list_all (has_clause (map (blocking e guard) (listed cands))) (blocks_in lines) → known ≡ true →
+    AreNoted e guard (listed cands) (blocks_in lines) noted → right ≡ list_all (λ b. b) noted →
     right ≡ are_right_blocks (blocks_due guard (block_for e) cands) (blocks_in lines)
 blocks_are_right e guard cands lines count noted known right n same k t h r =
     let long : length (map (blocking e guard) (listed cands)) ≡ length cands = length-map (listed cands) (blocking e guard) ∙ listed_length cands in
@@ -443,5 +501,6 @@ blocks_are_right e guard cands lines count noted known right n same k t h r =
     r
     ∙ (all_noted e guard (listed cands) (blocks_in lines) noted h
     ∙ sym
-    (ap (λ (b : Bool). b && list_all (has_clause (map (blocking e guard) (listed cands))) (blocks_in lines) && list_all (has_clause (blocks_in lines)) (map (blocking e guard) (listed cands))) alike
+    (ap (λ (b : Bool). b && list_all (has_clause (map (blocking e guard) (listed cands))) (blocks_in lines) && list_all (has_clause (blocks_in lines))
+    (map (blocking e guard) (listed cands))) alike
     ∙ ap (λ (b : Bool). b && list_all (has_clause (blocks_in lines)) (map (blocking e guard) (listed cands))) (sym k ∙ t)))

@@ -41,7 +41,8 @@ cond_or false true = refl
 cond_or false false = refl
 
 pub codes_more : {S : Type 0} (before after : HashSet ℕ S) (literals : Clause) (i code : ℕ) (literal : Literal) → HasCodes before literals i →
-    ((q : ℕ) → bag.contains nat_eq after q ≡ cond (nat_eq code q) true (bag.contains nat_eq before q)) → i < length literals → literal ≡ get_or literals i literal → code ≡ code_of literal →
+    ((q : ℕ) → bag.contains nat_eq after q ≡ cond (nat_eq code q) true (bag.contains nat_eq before q)) → i < length literals →
+    literal ≡ get_or literals i literal → code ≡ code_of literal →
     HasCodes after literals (i + 1)
 codes_more before after literals i code literal h up lt is e =
     record {
@@ -52,10 +53,12 @@ codes_more before after literals i code literal h up lt is e =
           up (code_of l)
           ∙ (ap (λ (b : Bool). cond (nat_eq code (code_of l)) true b) (h.exact l)
           ∙ (ap (λ (n : ℕ). cond (nat_eq n (code_of l)) true (has_literal (take i literals) l)) e
-          ∙ (ap (λ (b : Bool). cond b true (has_literal (take i literals) l)) (same_code literal l) ∙ (cond_or (same_literal l literal) (has_literal (take i literals) l) ∙ sym more))));
+          ∙ (ap (λ (b : Bool). cond b true (has_literal (take i literals) l)) (same_code literal l)
+          ∙ (cond_or (same_literal l literal) (has_literal (take i literals) l) ∙ sym more))));
     }
 
-pub is_assumed : {S : Type 0} (codes : HashSet ℕ S) (literals : Clause) (l : Literal) (code : ℕ) (found : Bool) → HasCodes codes literals (length literals) → code ≡ code_of l →
+pub is_assumed : {S : Type 0} (codes : HashSet ℕ S) (literals : Clause) (l : Literal) (code : ℕ) (found : Bool) →
+    HasCodes codes literals (length literals) → code ≡ code_of l →
     found ≡ bag.contains nat_eq codes code → found ≡ has_literal literals l
 is_assumed codes literals l code found h e f =
     f ∙ (ap (bag.contains nat_eq codes) e ∙ (h.exact l ∙ ap (λ (c : Clause). has_literal c l) (take_all (length literals) literals (omega arith))))

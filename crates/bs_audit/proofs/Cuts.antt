@@ -38,7 +38,8 @@ at_last (z ∷ xs) (w ∷ ys) x y = ap (λ (b : Bool). bits_eq z w && b) (at_las
 pub uncut_empty : (lists : List (List Bool)) (last : List Bool) → lists ≡ [] → IsUncut lists (Some last)
 uncut_empty lists last e = record { differ = λ others. ap (λ (l : List (List Bool)). all_bits_eq l (others ++ last ∷ [])) e ∙ some_left others last }
 
-pub uncut_other : (lists front : List (List Bool)) (found last : List Bool) → lists ≡ front ++ found ∷ [] → bits_eq found last ≡ false → IsUncut lists (Some last)
+pub uncut_other : (lists front : List (List Bool)) (found last : List Bool) → lists ≡ front ++ found ∷ [] → bits_eq found last ≡ false →
+    IsUncut lists (Some last)
 uncut_other lists front found last e f =
     record {
       differ = λ others.
@@ -46,7 +47,8 @@ uncut_other lists front found last e f =
           ∙ (at_last front others found last ∙ (ap (λ (b : Bool). all_bits_eq front others && b) f ∙ and_false (all_bits_eq front others)));
     }
 
-pub cut_last : (lists front : List (List Bool)) (found last : List Bool) → lists ≡ front ++ found ∷ [] → bits_eq found last ≡ true → IsCut lists (Some last) front
+pub cut_last : (lists front : List (List Bool)) (found last : List Bool) → lists ≡ front ++ found ∷ [] → bits_eq found last ≡ true →
+    IsCut lists (Some last) front
 cut_last lists front found last e f =
     record {
       same = λ others.
@@ -69,14 +71,18 @@ one_less f steps i step lt e =
     ap (λ (l : List Step). reverse (filter_map f l)) (drop_more steps i step lt ∙ ap (λ (s : Step). s ∷ drop (i + 1) steps) (sym e))
     ∙ reversed (f step) (filter_map f (drop (i + 1) steps))
 
-pub cut_once : (f : Step → Option (List Bool)) (steps : List Step) (i : ℕ) (step : Step) (left front : List (List Bool)) (o : Option (List Bool)) → i < length steps → step ≡ get_or steps i step →
+pub cut_once : (f : Step → Option (List Bool)) (steps : List Step) (i : ℕ) (step : Step) (left front : List (List Bool)) (o : Option (List Bool)) →
+    i < length steps → step ≡ get_or steps i step →
     o ≡ f step → IsCut left o front → all_bits_eq left (reverse (filter_map f (drop i steps))) ≡ all_bits_eq front (reverse (filter_map f (drop (i + 1) steps)))
 cut_once f steps i step left front o lt e same cut =
-    ap (all_bits_eq left) (one_less f steps i step lt e ∙ ap (λ (o : Option (List Bool)). reverse (filter_map f (drop (i + 1) steps)) ++ option_to_list o) (sym same))
+    ap (all_bits_eq left)
+    (one_less f steps i step lt e ∙ ap (λ (o : Option (List Bool)). reverse (filter_map f (drop (i + 1) steps)) ++ option_to_list o) (sym same))
     ∙ cut.same (reverse (filter_map f (drop (i + 1) steps)))
 
-pub uncut_once : (f : Step → Option (List Bool)) (steps : List Step) (i : ℕ) (step : Step) (left : List (List Bool)) (o : Option (List Bool)) → i < length steps → step ≡ get_or steps i step →
+pub uncut_once : (f : Step → Option (List Bool)) (steps : List Step) (i : ℕ) (step : Step) (left : List (List Bool)) (o : Option (List Bool)) →
+    i < length steps → step ≡ get_or steps i step →
     o ≡ f step → IsUncut left o → all_bits_eq left (reverse (filter_map f (drop i steps))) ≡ false
 uncut_once f steps i step left o lt e same uncut =
-    ap (all_bits_eq left) (one_less f steps i step lt e ∙ ap (λ (o : Option (List Bool)). reverse (filter_map f (drop (i + 1) steps)) ++ option_to_list o) (sym same))
+    ap (all_bits_eq left)
+    (one_less f steps i step lt e ∙ ap (λ (o : Option (List Bool)). reverse (filter_map f (drop (i + 1) steps)) ++ option_to_list o) (sym same))
     ∙ uncut.differ (reverse (filter_map f (drop (i + 1) steps)))

@@ -2,7 +2,8 @@
 use Rattle.std.proofs.Common.{◌≡◌, ℕ, suc, zero, ◌<◌, ◌≤◌, ◌+◌, ◌-◌, Bool, true, false, List, [], ◌∷◌, ◌++◌, map, length, get_or, drop, refl, ap, subst, sym, ◌∙◌, ◌⊎◌, inl, inr, Option, Some, None, arith}
 use Rattle.std.specs.Prelude.{Result, Ok, Err, IfOk, option_map, ◌&&◌, ◌==◌, All}
 use Rattle.std.specs.Option.{option_or}
-use Rattle.std.specs.List.{range_with_len}
+use Rattle.std.specs.List.{range_with_len, AllByRecursion as Each}
+use Rattle.std.proofs.lemmas.List.Elements.{All-from_recursion, recursion_from_All}
 use Rattle.std.proofs.Math.Nat.{eq-or-lt_of_le}
 use Rattle.std.proofs.lemmas.Bool.{false≢true, eqb-true}
 use Rattle.std.proofs.lemmas.List.{length-map, drop_more}
@@ -36,7 +37,8 @@ range_at j n lt = let e : n - j ≡ suc (n - (j + 1)) = omega (arith, lt) in ap 
 
 -- one candidate and the others
 pub cands_from : (crash : Crash) (budgets : Budgets) (i : ℕ) (step : Step) (j n : ℕ) (right : Bool) → j < n → right ≡ is_right_cand crash budgets step j →
-    first_of_all (cand_parts crash budgets i step j (n - j)) ≡ option_or (unless right (parts.Candidate (i + 1) (j + 1))) (first_of_all (cand_parts crash budgets i step (j + 1) (n - (j + 1))))
+    first_of_all (cand_parts crash budgets i step j (n - j)) ≡ option_or (unless right (parts.Candidate (i + 1) (j + 1)))
+    (first_of_all (cand_parts crash budgets i step (j + 1) (n - (j + 1))))
 cands_from crash budgets i step j n right lt e =
     ap (λ (js : List ℕ). first_of_all (map (λ j. unless (is_right_cand crash budgets step j) (parts.Candidate (i + 1) (j + 1))) js)) (range_at j n lt)
     ∙ ap (λ (b : Bool). option_or (unless b (parts.Candidate (i + 1) (j + 1))) (first_of_all (cand_parts crash budgets i step (j + 1) (n - (j + 1))))) (sym e)
@@ -48,12 +50,15 @@ cand_holds crash budgets i step from zero e j low high = absurd (omega arith)
 cand_holds crash budgets i step from (suc count) e j low high =
     by (is_right_cand crash budgets step from) refl e (λ h lt. cand_holds crash budgets i step (from + 1) count h j (omega (arith, lt)) (omega arith))
   where
-    at : is_right_cand crash budgets step from ≡ true → (from < j → is_right_cand crash budgets step j ≡ true) → (from ≡ j) ⊎ (from < j) → is_right_cand crash budgets step j ≡ true
+    at : is_right_cand crash budgets step from ≡ true → (from < j → is_right_cand crash budgets step j ≡ true) → (from ≡ j) ⊎ (from < j) →
+        is_right_cand crash budgets step j ≡ true
     at right later (inl same) = ap (is_right_cand crash budgets step) (sym same) ∙ right
     at right later (inr lt) = later lt
 
-    by : (b : Bool) → is_right_cand crash budgets step from ≡ b → option_or (unless b (parts.Candidate (i + 1) (from + 1))) (first_of_all (cand_parts crash budgets i step (from + 1) count)) ≡ None →
-        (first_of_all (cand_parts crash budgets i step (from + 1) count) ≡ None → from < j → is_right_cand crash budgets step j ≡ true) → is_right_cand crash budgets step j ≡ true
+    by : (b : Bool) → is_right_cand crash budgets step from ≡ b →
+        option_or (unless b (parts.Candidate (i + 1) (from + 1))) (first_of_all (cand_parts crash budgets i step (from + 1) count)) ≡ None →
+        (first_of_all (cand_parts crash budgets i step (from + 1) count) ≡ None → from < j → is_right_cand crash budgets step j ≡ true) →
+        is_right_cand crash budgets step j ≡ true
     by true right h later = at right (later h) (eq-or-lt_of_le low)
     by false right h later = cc
 
@@ -65,24 +70,42 @@ right_widths crash budgets i step e j d lt =
     let right = cand_is crash budgets step j (cand_holds crash budgets i step 0 (length step.cands) e j (omega arith) (omega (arith, lt, long))) in
     ap length (state_at_place step.cands j d lt) ∙ right.state
 
+each_width : (n : ℕ) (cands : List Cand) → Each (λ s. length s ≡ n) (listed cands) → Each (λ cand. length cand.state ≡ n) cands
+each_width n [] h = tt
+each_width n (cand ∷ cands) h = (h.0, each_width n cands h.1)
+
+-- and so have the states that the candidates lend
+pub lent_widths : (n : ℕ) (cands : List Cand) → All (λ s. length s ≡ n) (listed cands) → All (λ cand. length cand.state ≡ n) cands
+lent_widths n cands all =
+    All-from_recursion (λ (cand : Cand). length cand.state ≡ n) cands
+    (each_width n cands (recursion_from_All (λ (s : List Bool). length s ≡ n) (listed cands) all))
+
 -- ---- one step and those behind it
 
 -- a step whose first parts hold, and the parts behind them
 parts_after : (crash : Crash) (budgets : Budgets) (i : ℕ) (due : Option Present) (step : Step) → first_of_all (parts_from crash budgets i due step)
-    ≡ option_or (first_of_all (begin_parts i due step)) (option_or (first_of_all (cand_parts crash budgets i step 0 (length step.cands))) (first_of_all (list_parts crash budgets i step)))
+    ≡ option_or (first_of_all (begin_parts i due step))
+    (option_or (first_of_all (cand_parts crash budgets i step 0 (length step.cands))) (first_of_all (list_parts crash budgets i step)))
 parts_after crash budgets i due step =
     first_append (begin_parts i due step) (cand_parts crash budgets i step 0 (length step.cands) ++ list_parts crash budgets i step)
-    ∙ ap (option_or (first_of_all (begin_parts i due step))) (first_append (cand_parts crash budgets i step 0 (length step.cands)) (list_parts crash budgets i step))
+    ∙ ap (option_or (first_of_all (begin_parts i due step)))
+    (first_append (cand_parts crash budgets i step 0 (length step.cands)) (list_parts crash budgets i step))
 
-pub tried_begin : (crash : Crash) (budgets : Budgets) (i : ℕ) (due : Option Present) (step : Step) (part : Part) → Some part ≡ first_of_all (begin_parts i due step) →
+pub tried_begin : (crash : Crash) (budgets : Budgets) (i : ℕ) (due : Option Present) (step : Step) (part : Part) →
+    Some part ≡ first_of_all (begin_parts i due step) →
     first_of_all (parts_from crash budgets i due step) ≡ Some part
 tried_begin crash budgets i due step part e =
-    parts_after crash budgets i due step ∙ ap (λ o. option_or o (option_or (first_of_all (cand_parts crash budgets i step 0 (length step.cands))) (first_of_all (list_parts crash budgets i step)))) (sym e)
+    parts_after crash budgets i due step
+    ∙ ap (λ o. option_or o
+    (option_or (first_of_all (cand_parts crash budgets i step 0 (length step.cands))) (first_of_all (list_parts crash budgets i step)))) (sym e)
 
-pub tried_cands : (crash : Crash) (budgets : Budgets) (i : ℕ) (due : Option Present) (step : Step) (part : Part) → None ≡ first_of_all (begin_parts i due step) →
+pub tried_cands : (crash : Crash) (budgets : Budgets) (i : ℕ) (due : Option Present) (step : Step) (part : Part) →
+    None ≡ first_of_all (begin_parts i due step) →
     Some part ≡ first_of_all (cand_parts crash budgets i step 0 (length step.cands)) → first_of_all (parts_from crash budgets i due step) ≡ Some part
 tried_cands crash budgets i due step part e f =
-    parts_after crash budgets i due step ∙ (ap (λ o. option_or o (option_or (first_of_all (cand_parts crash budgets i step 0 (length step.cands))) (first_of_all (list_parts crash budgets i step)))) (sym e)
+    parts_after crash budgets i due step
+    ∙ (ap (λ o. option_or o
+    (option_or (first_of_all (cand_parts crash budgets i step 0 (length step.cands))) (first_of_all (list_parts crash budgets i step)))) (sym e)
     ∙ ap (λ o. option_or o (first_of_all (list_parts crash budgets i step))) (sym f))
 
 pub tried_list : (crash : Crash) (budgets : Budgets) (i : ℕ) (due : Option Present) (step : Step) (walk : Walk) → None ≡ first_of_all (begin_parts i due step) →
@@ -91,7 +114,9 @@ tried_list crash budgets i due step walk e f h = by walk h
   where
     same : first_of_all (parts_from crash budgets i due step) ≡ first_of_all (list_parts crash budgets i step)
     same =
-        parts_after crash budgets i due step ∙ (ap (λ o. option_or o (option_or (first_of_all (cand_parts crash budgets i step 0 (length step.cands))) (first_of_all (list_parts crash budgets i step)))) (sym e)
+        parts_after crash budgets i due step
+        ∙ (ap (λ o. option_or o
+        (option_or (first_of_all (cand_parts crash budgets i step 0 (length step.cands))) (first_of_all (list_parts crash budgets i step)))) (sym e)
         ∙ ap (λ o. option_or o (first_of_all (list_parts crash budgets i step))) (sym f))
 
     by : (walk : Walk) → IsListed crash budgets i step walk → IsTried crash budgets i due step walk
@@ -99,8 +124,10 @@ tried_list crash budgets i due step walk e f h = by walk h
     by (Holds next) k = (same ∙ k.0, k.1)
 
 -- the first part of a step and of those behind it
-pub steps_at : (crash : Crash) (budgets : Budgets) (i : ℕ) (due : Option Present) (steps : List Step) (step : Step) → i < length steps → step ≡ get_or steps i step →
-    first_from crash budgets i due (drop i steps) ≡ option_or (first_of_all (parts_from crash budgets i due step)) (first_from crash budgets (i + 1) (present_after crash step) (drop (i + 1) steps))
+pub steps_at : (crash : Crash) (budgets : Budgets) (i : ℕ) (due : Option Present) (steps : List Step) (step : Step) → i < length steps →
+    step ≡ get_or steps i step →
+    first_from crash budgets i due (drop i steps) ≡ option_or (first_of_all (parts_from crash budgets i due step))
+    (first_from crash budgets (i + 1) (present_after crash step) (drop (i + 1) steps))
 steps_at crash budgets i due steps step lt e =
     ap (first_from crash budgets i due) (drop_more steps i step lt ∙ ap (λ (s : Step). s ∷ drop (i + 1) steps) (sym e))
     ∙ first_append (parts_from crash budgets i due step) (following_parts crash budgets (i + 1) (present_after crash step) (drop (i + 1) steps))
@@ -128,36 +155,44 @@ dump_in : (hit : Option Hit) → option_map present_in (option_map (λ (hit : Hi
 dump_in None = refl
 dump_in (Some hit) = refl
 
-pub list_holds : (crash : Crash) (budgets : Budgets) (i : ℕ) (step : Step) (hit : Option Hit) (next : Option Dump) → is_right_count budgets step.end (length step.cands) ≡ true →
+pub list_holds : (crash : Crash) (budgets : Budgets) (i : ℕ) (step : Step) (hit : Option Hit) (next : Option Dump) →
+    is_right_count budgets step.end (length step.cands) ≡ true →
     same_hit step.hit (option_map line_of hit) ≡ true → hit_of crash step.cands ≡ option_map line_of hit →
     option_map (present_of_hit crash) (hit_of crash step.cands) ≡ option_map (λ hit. present_in hit.dump) hit → next ≡ option_map (λ hit. hit.dump) hit →
     IsListed crash budgets i step (Holds next)
 list_holds crash budgets i step hit next count same first dump e =
     let right : same_hit step.hit (hit_of crash step.cands) ≡ true = ap (same_hit step.hit) first ∙ same in (
-      ap (λ (b : Bool). option_or (unless b (parts.Listed (i + 1))) (option_or (unless (same_hit step.hit (hit_of crash step.cands)) (parts.Hit (i + 1))) None)) count
+      ap (λ (b : Bool). option_or (unless b (parts.Listed (i + 1)))
+          (option_or (unless (same_hit step.hit (hit_of crash step.cands)) (parts.Hit (i + 1))) None)) count
           ∙ ap (λ (b : Bool). option_or (unless b (parts.Hit (i + 1))) None) right,
-      ap (option_map (present_of_hit crash)) (hit_line_is step.hit (hit_of crash step.cands) right) ∙ (dump ∙ (sym (dump_in hit) ∙ ap (option_map present_in) (sym e))),
+      ap (option_map (present_of_hit crash)) (hit_line_is step.hit (hit_of crash step.cands) right)
+          ∙ (dump ∙ (sym (dump_in hit) ∙ ap (option_map present_in) (sym e))),
     )
 
 -- ---- the walk
 
-pub walk_fails : (crash now : Crash) → now ≡ crash → (budgets : Budgets) (i : ℕ) (due : Option Present) (steps : List Step) (step : Step) (walk : Walk) (part : Part) → walk ≡ Fails part →
+pub walk_fails : (crash now : Crash) → now ≡ crash →
+    (budgets : Budgets) (i : ℕ) (due : Option Present) (steps : List Step) (step : Step) (walk : Walk) (part : Part) → walk ≡ Fails part →
     IsTried now budgets i due step walk → i < length steps → step ≡ get_or steps i step → first_from crash budgets i due (drop i steps) ≡ Some part
 walk_fails crash now same budgets i due steps step walk part is tried lt e =
-    let here : IsTried crash budgets i due step (Fails part) = subst (λ (k : Crash). IsTried k budgets i due step (Fails part)) same (subst (IsTried now budgets i due step) is tried) in
+    let here : IsTried crash budgets i due step (Fails part) =
+    subst (λ (k : Crash). IsTried k budgets i due step (Fails part)) same (subst (IsTried now budgets i due step) is tried) in
     steps_at crash budgets i due steps step lt e ∙ ap (λ o. option_or o (first_from crash budgets (i + 1) (present_after crash step) (drop (i + 1) steps))) here
 
 pub record GoesOn (crash : Crash) (budgets : Budgets) (i : ℕ) (due : Option Present) (steps : List Step) (next : Option Dump) : Type 0 where
   pub rest : first_from crash budgets i due (drop i steps) ≡ first_from crash budgets (i + 1) (option_map present_in next) (drop (i + 1) steps)
   pub last : last_present crash due (drop i steps) ≡ last_present crash (option_map present_in next) (drop (i + 1) steps)
 
-pub walk_goes_on : (crash now : Crash) → now ≡ crash → (budgets : Budgets) (i : ℕ) (due : Option Present) (steps : List Step) (step : Step) (walk : Walk) (next : Option Dump) → walk ≡ Holds next →
+pub walk_goes_on : (crash now : Crash) → now ≡ crash →
+    (budgets : Budgets) (i : ℕ) (due : Option Present) (steps : List Step) (step : Step) (walk : Walk) (next : Option Dump) → walk ≡ Holds next →
     IsTried now budgets i due step walk → i < length steps → step ≡ get_or steps i step → GoesOn crash budgets i due steps next
 walk_goes_on crash now same budgets i due steps step walk next is tried lt e =
-    let here : IsTried crash budgets i due step (Holds next) = subst (λ (k : Crash). IsTried k budgets i due step (Holds next)) same (subst (IsTried now budgets i due step) is tried) in
+    let here : IsTried crash budgets i due step (Holds next) =
+    subst (λ (k : Crash). IsTried k budgets i due step (Holds next)) same (subst (IsTried now budgets i due step) is tried) in
     record {
       rest =
-          steps_at crash budgets i due steps step lt e ∙ (ap (λ o. option_or o (first_from crash budgets (i + 1) (present_after crash step) (drop (i + 1) steps))) here.0
+          steps_at crash budgets i due steps step lt e
+          ∙ (ap (λ o. option_or o (first_from crash budgets (i + 1) (present_after crash step) (drop (i + 1) steps))) here.0
           ∙ ap (λ o. first_from crash budgets (i + 1) o (drop (i + 1) steps)) here.1);
       last = last_at crash i due steps step lt e ∙ ap (λ o. last_present crash o (drop (i + 1) steps)) here.1;
     }

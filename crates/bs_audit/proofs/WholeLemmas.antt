@@ -10,9 +10,6 @@ use Rattle.bs_clause.specs.Literal.{Clause}
 use Rattle.bs_log.specs.FirstRefused.{first_refused}
 use Rattle.bs_log.specs.Shown.{Basis}
 use Rattle.bs_net.specs.Circuit.{Circuit}
-use Rattle.bs_net.specs.Netlist.{Checked, circuit}
-use Rattle.bs_net.specs.Order.{IsChecked}
-use Rattle.bs_stim.specs.Runs.{Recorded, Stimulus, IsRecorded, IsStimulus, inputs_of}
 use Rattle.bs_scan.specs.Choice.{Chosen}
 use Rattle.bs_scan.specs.Moments.{Moment, Run, run_of, state_of, state_at, first_moment}
 use Rattle.bs_scan.specs.Dump.{signatures_of}
@@ -25,13 +22,15 @@ use Rattle.bs_encode.specs.Encoded.{Encoded, encoding_of}
 use Rattle.bs_encode.specs.Assuming.{assumptions_for, steps_from, basis_of}
 use Rattle.bs_encode.proofs.AssumingLemmas.{length_steps_from, assumptions_at}
 use Rattle.bs_encode.specs.Listing.{IsTidy, PredecessorsAreShown}
+use Rattle.bs_report.specs.declared.limits.TheConstants.{MAX_STEPS}
 use Rattle.bs_report.specs.declared.report.HitLine.{HitLine}
 use Rattle.bs_report.specs.declared.report.Step.{Step}
 use Rattle.bs_report.specs.declared.report.Budgets.{Budgets}
 use Rattle.bs_report.specs.declared.report.Report.{Report}
 use Rattle.bs_good.specs.declared.part.Part.{Part}
 use Rattle.bs_good.specs.declared.part.Part.TheVariants as parts
-use Rattle.bs_scan.specs.Crash.{Crash}
+use Rattle.bs_scan.specs.Crash.{Recording, IsRecording, Crash, crash_of, DumpFits}
+use Rattle.bs_scan.proofs.CrashLemmas.{crash_is}
 use Rattle.bs_good.specs.Step.{stored_of, listed, hit_of}
 use Rattle.bs_good.specs.Chain.{present_of, present_of_hit, present_after, last_present}
 use Rattle.bs_good.specs.Valid.{unless, all_bits_eq, cause_after, is_cause, has_state, has_stored, same_hit, first_of_all, each_step, step_parts, log_parts, due_at, first_failing}
@@ -42,8 +41,8 @@ use Rattle.bs_good.proofs.ValidLemmas.{all_same_is, ascend_is, both}
 use Rattle.bs_audit.specs.Following.{begin_parts, cand_parts, list_parts, parts_from, following_parts, first_from, IsWalked}
 use Rattle.bs_audit.specs.declared.steps.Walk.{Walk}
 use Rattle.bs_audit.specs.declared.steps.Walk.TheVariants.{Fails, Holds}
-use Rattle.bs_audit.specs.Logged.{basis_with, refused_part, logged_parts, behind_parts, first_after, IsSound, AreSound, LeavesSound}
-use Rattle.bs_audit.specs.Finding.{crash_for, basis_for, ValidReportsAreGood}
+use Rattle.bs_audit.specs.Logged.{basis_with, refused_part, logged_parts, behind_parts, first_after, IsFit, AreFit, LeavesFit}
+use Rattle.bs_audit.specs.Finding.{basis_for, ValidReportsAreGood}
 use Rattle.bs_audit.proofs.Follows.{first_append, cand_holds, right_widths, hit_line_is}
 
 -- ---- the parts of the steps are those from the present where each is due
@@ -57,12 +56,14 @@ due_from crash r i (step ∷ steps) due h =
     let place : i ≡ i + 0 = omega arith in
     let here : due_at crash r.steps i ≡ due = ap (due_at crash r.steps) place ∙ h 0 (omega arith) in
     ap (λ (o : Option Present).
-    (begin_parts i o step ++ (cand_parts crash r.budgets i step 0 (length step.cands) ++ list_parts crash r.budgets i step)) ++ each_step (step_parts crash r) (i + 1) steps) here
+    (begin_parts i o step ++ (cand_parts crash r.budgets i step 0 (length step.cands) ++ list_parts crash r.budgets i step)) ++ each_step
+    (step_parts crash r) (i + 1) steps) here
     ∙ ap (λ (l : List (Option Part)). parts_from crash r.budgets i due step ++ l)
     (due_from crash r (i + 1) steps (present_after crash step)
     (λ k lt. let next : i + 1 + k ≡ i + suc k = omega arith in ap (due_at crash r.steps) next ∙ h (suc k) (omega (arith, lt))))
 
-pub steps_follow : (crash : Crash) (r : Report) → first_of_all (each_step (step_parts crash r) 0 r.steps) ≡ first_from crash r.budgets 0 (Some (present_in crash.dump)) r.steps
+pub steps_follow : (crash : Crash) (r : Report) →
+    first_of_all (each_step (step_parts crash r) 0 r.steps) ≡ first_from crash r.budgets 0 (Some (present_in crash.dump)) r.steps
 steps_follow crash r =
     ap first_of_all
     (due_from crash r 0 r.steps (Some (present_in crash.dump)) (λ k lt. let place : 0 + k ≡ k = omega arith in ap (due_at crash r.steps) place))
@@ -74,11 +75,13 @@ whole : (crash : Crash) (basis : Basis) (r : Report) → first_failing crash bas
 unfolding first_failing
 whole crash basis r =
     first_append (each_step (step_parts crash r) 0 r.steps) (behind_parts (last_present crash (Some (present_in crash.dump)) r.steps) crash.dump.state basis r)
-    ∙ ap (λ o. option_or o (first_of_all (behind_parts (last_present crash (Some (present_in crash.dump)) r.steps) crash.dump.state basis r))) (steps_follow crash r)
+    ∙ ap (λ o. option_or o (first_of_all (behind_parts (last_present crash (Some (present_in crash.dump)) r.steps) crash.dump.state basis r)))
+    (steps_follow crash r)
 
 pub fails_in_steps : (crash : Crash) (basis : Basis) (r : Report) (part : Part) → IsWalked crash r (Fails part) → Some part ≡ first_failing crash basis r
 fails_in_steps crash basis r part walked =
-    sym (whole crash basis r ∙ ap (λ o. option_or o (first_of_all (behind_parts (last_present crash (Some (present_in crash.dump)) r.steps) crash.dump.state basis r))) walked)
+    sym (whole crash basis r
+    ∙ ap (λ o. option_or o (first_of_all (behind_parts (last_present crash (Some (present_in crash.dump)) r.steps) crash.dump.state basis r))) walked)
 
 pub fails_behind : (crash : Crash) (basis : Basis) (r : Report) (due : Option Dump) (part : Option Part) → IsWalked crash r (Holds due) →
     part ≡ first_of_all (behind_parts (option_map present_in due) crash.dump.state basis r) → part ≡ first_failing crash basis r
@@ -111,7 +114,8 @@ stored_wide c choice run zero = tt
 stored_wide c choice run (suc k) = (length-map choice.items (parity_of (state_at c run k)), tt)
 
 hit_wide : (crash : Crash) (o : Option Moment) →
-    IfSome (option_map (present_of_hit crash) (option_map (λ (m : Moment). record { run = m.run; cycle = m.cycle; state = state_of crash.circuit crash.runs m }) o)) (IsWide crash)
+    IfSome (option_map (present_of_hit crash)
+    (option_map (λ (m : Moment). record { run = m.run; cycle = m.cycle; state = state_of crash.circuit crash.runs m }) o)) (IsWide crash)
 hit_wide crash None = tt
 hit_wide crash (Some m) =
     record {
@@ -123,21 +127,25 @@ record Begins (crash : Crash) (step : Step) : Type 0 where
   present : length step.present ≡ length crash.circuit.flops
   stored : length step.stored ≡ length crash.choice.items
 
-begins : (crash : Crash) (due : Option Present) (step : Step) → IfSome due (IsWide crash) → has_state due step.present ≡ true → has_stored due (stored_of step) ≡ true → Begins crash step
+begins : (crash : Crash) (due : Option Present) (step : Step) → IfSome due (IsWide crash) → has_state due step.present ≡ true →
+    has_stored due (stored_of step) ≡ true → Begins crash step
 begins crash None step wide e f = absurd (false≢true e)
 begins crash (Some due) step wide e f =
     let same : stored_of step ≡ due.stored = all_same_is (stored_of step) due.stored f in
-    let each : Each (λ (t : List Bool). length t ≡ length crash.choice.items) (stored_of step) = subst (Each (λ (t : List Bool). length t ≡ length crash.choice.items)) (sym same) wide.stored in
+    let each : Each (λ (t : List Bool). length t ≡ length crash.choice.items) (stored_of step) =
+    subst (Each (λ (t : List Bool). length t ≡ length crash.choice.items)) (sym same) wide.stored in
     record { present = ap length (bits_same_is step.present due.state e) ∙ wide.state; stored = each.0 }
 
-sound_from : (crash : Crash) (budgets : Budgets) (i : ℕ) (due : Option Present) (steps : List Step) → IfSome due (IsWide crash) → first_from crash budgets i due steps ≡ None →
-    Each (IsSound (length crash.circuit.flops) (length crash.choice.items)) steps
-sound_from crash budgets i due [] wide e = tt
-sound_from crash budgets i due (step ∷ steps) wide e =
+fit_from : (crash : Crash) (budgets : Budgets) (i : ℕ) (due : Option Present) (steps : List Step) → IfSome due (IsWide crash) →
+    first_from crash budgets i due steps ≡ None →
+    Each (IsFit (length crash.circuit.flops) (length crash.choice.items)) steps
+fit_from crash budgets i due [] wide e = tt
+fit_from crash budgets i due (step ∷ steps) wide e =
     let all = none_both (parts_from crash budgets i due step) (following_parts crash budgets (i + 1) (present_after crash step) steps) e in
     let first = none_both (begin_parts i due step) (cand_parts crash budgets i step 0 (length step.cands) ++ list_parts crash budgets i step) all.0 in
     let lists = none_both (cand_parts crash budgets i step 0 (length step.cands)) (list_parts crash budgets i step) first.1 in
-    let state = none_first (has_state due step.present) (parts.Present (i + 1)) (unless (has_stored due (stored_of step)) (parts.Stored (i + 1)) ∷ []) first.0 in
+    let state =
+    none_first (has_state due step.present) (parts.Present (i + 1)) (unless (has_stored due (stored_of step)) (parts.Stored (i + 1)) ∷ []) first.0 in
     let stored = none_first (has_stored due (stored_of step)) (parts.Stored (i + 1)) [] state.1 in
     let begin = begins crash due step wide state.0 stored.0 in
     let count = none_first _ (parts.Listed (i + 1)) (unless (same_hit step.hit (hit_of crash step.cands)) (parts.Hit (i + 1)) ∷ []) lists.1 in
@@ -151,15 +159,18 @@ sound_from crash budgets i due (step ∷ steps) wide e =
         ascend = ascend_is crash budgets step (λ j lt. cand_holds crash budgets i step 0 (length step.cands) lists.0 j (omega arith) (omega (arith, lt)));
         widths = right_widths crash budgets i step lists.0;
       },
-      sound_from crash budgets (i + 1) (present_after crash step) steps after all.1,
+      fit_from crash budgets (i + 1) (present_after crash step) steps after all.1,
     )
 
-pub steps_are_sound : (crash : Crash) (r : Report) (due : Option Dump) → length crash.dump.state ≡ length crash.circuit.flops → All (λ t. length t ≡ length crash.choice.items) (signatures_of crash.dump) →
-    IsWalked crash r (Holds due) → All (IsSound (length crash.circuit.flops) (length crash.choice.items)) r.steps
-steps_are_sound crash r due state stored walked =
-    All-from_recursion (IsSound (length crash.circuit.flops) (length crash.choice.items)) r.steps
-    (sound_from crash r.budgets 0 (Some (present_in crash.dump)) r.steps
-    (record { state = state; stored = recursion_from_All (λ (t : List Bool). length t ≡ length crash.choice.items) (signatures_of crash.dump) stored }) walked.0)
+pub steps_are_fit : (crash : Crash) (r : Report) (due : Option Dump) → DumpFits crash.circuit crash.choice crash.dump →
+    IsWalked crash r (Holds due) → All (IsFit (length crash.circuit.flops) (length crash.choice.items)) r.steps
+steps_are_fit crash r due fits walked =
+    All-from_recursion (IsFit (length crash.circuit.flops) (length crash.choice.items)) r.steps
+    (fit_from crash r.budgets 0 (Some (present_in crash.dump)) r.steps
+    (record {
+      state = fits.state;
+      stored = recursion_from_All (λ (t : List Bool). length t ≡ length crash.choice.items) (signatures_of crash.dump) fits.signatures;
+    }) walked.0)
 
 -- ---- a valid report is good
 
@@ -177,38 +188,30 @@ is_encoded crash steps shown =
       shown = λ i step s x at ws wx agree next.
           let place : 1 + i ≡ i + 1 = omega arith in
           shown (basis_of crash.circuit crash.choice.items (map present_of steps)).problem i (present_of step) s x refl refl
-          (assumptions_at e 1 (map present_of steps) i (present_of step) (presents_get steps i step at) ∙ ap (λ (k : ℕ). Some (assumptions_for e (lit (e.variables + k) true) (present_of step))) place) ws wx agree next;
+          (assumptions_at e 1 (map present_of steps) i (present_of step) (presents_get steps i step at)
+          ∙ ap (λ (k : ℕ). Some (assumptions_for e (lit (e.variables + k) true) (present_of step))) place) ws wx agree next;
     }
 
-inputs_wide : (width count : ℕ) (runs : List Recorded) → width ≡ count → Each (IsRecorded width) runs → Each (λ run. All (λ input. length input ≡ count) run) (map (λ run. run.inputs) runs)
-inputs_wide width count [] w h = tt
-inputs_wide width count (run ∷ runs) w h = (λ k d lt. h.0.widths k d lt ∙ w, inputs_wide width count runs w h.1)
-
-pub valid_good : (net : Checked) (choice : Chosen) (runs : Stimulus) → IsChecked (circuit net) → IsStimulus runs → runs.width ≡ length (circuit net).inputs →
-    PredecessorsAreShown (circuit net) choice (encoding_of (circuit net) choice.items) → ValidReportsAreGood net choice runs
-valid_good net choice runs checked sound wide shown dump r state stored valid =
-    valid_is_good (crash_for net choice runs dump) (basis_for (crash_for net choice runs dump) r) r
-    (record {
-      checked = checked;
-      inputs =
-          All-from_recursion (λ (run : Run). All (λ (input : List Bool). length input ≡ length (circuit net).inputs) run) (inputs_of runs)
-          (inputs_wide runs.width (length (circuit net).inputs) runs.runs wide (recursion_from_All (IsRecorded runs.width) runs.runs sound.recorded));
-      state = state;
-      signatures = stored;
-    }) (is_encoded (crash_for net choice runs dump) r.steps shown) valid
+pub valid_good : (r : Recording) → IsRecording r → PredecessorsAreShown r.circuit r.choice (encoding_of r.circuit r.choice.items) → ValidReportsAreGood r
+valid_good r sound shown dump report fits valid =
+    valid_is_good (crash_of r dump) (basis_for (crash_of r dump) report) report (crash_is r dump sound fits)
+    (is_encoded (crash_of r dump) report.steps shown) valid
 
 -- ---- the log
 
-pub same_basis : (c : Circuit) (items : List (List ℕ)) (presents : List Present) (e : Encoded) (assumptions : List Clause) → e ≡ encoding_of c items → assumptions ≡ steps_from e 1 presents →
+pub same_basis : (c : Circuit) (items : List (List ℕ)) (presents : List Present) (e : Encoded) (assumptions : List Clause) → e ≡ encoding_of c items →
+    assumptions ≡ steps_from e 1 presents →
     basis_with e assumptions ≡ basis_of c items presents
 same_basis c items presents e assumptions h a = ap (basis_with e) a ∙ ap (λ (e : Encoded). basis_with e (steps_from e 1 presents)) h
 
-pub tidy_sound : (c : Circuit) (items : List (List ℕ)) (e : Encoded) (steps : List Step) → IsTidy c items e →
-    All (IsSound (length c.flops) (length items)) steps → AreSound e steps
-tidy_sound c items e steps tidy sound =
-    subst (λ (n : ℕ). All (IsSound n (length e.signatures)) steps) (sym tidy.states_width) (subst (λ (n : ℕ). All (IsSound (length c.flops) n) steps) (sym tidy.signatures_width) sound)
+pub tidy_fit : (c : Circuit) (items : List (List ℕ)) (e : Encoded) (steps : List Step) → IsTidy c items e →
+    All (IsFit (length c.flops) (length items)) steps → AreFit e steps
+tidy_fit c items e steps tidy sound =
+    subst (λ (n : ℕ). All (IsFit n (length e.signatures)) steps) (sym tidy.states_width)
+    (subst (λ (n : ℕ). All (IsFit (length c.flops) n) steps) (sym tidy.signatures_width) sound)
 
-pub log_refused : (basis : Basis) (r : Report) (part : Part) → Some part ≡ refused_part (first_refused basis.problem r.log) → Some part ≡ first_of_all (logged_parts basis r)
+pub log_refused : (basis : Basis) (r : Report) (part : Part) → Some part ≡ refused_part (first_refused basis.problem r.log) →
+    Some part ≡ first_of_all (logged_parts basis r)
 log_refused basis r part e = ap (λ o. option_or o (first_of_all (each_step (log_parts basis r) 0 r.steps))) e
 
 pub log_accepted : {E : Type 0} (basis : Basis) (r : Report) (result : Result (Option Part) E) → None ≡ refused_part (first_refused basis.problem r.log) →
@@ -216,23 +219,27 @@ pub log_accepted : {E : Type 0} (basis : Basis) (r : Report) (result : Result (O
 log_accepted basis r (Ok part) e h = h ∙ ap (λ o. option_or o (first_of_all (each_step (log_parts basis r) 0 r.steps))) e
 log_accepted basis r (Err error) e h = tt
 
-pub log_of : {E : Type 0} (basis other : Basis) (r : Report) (result : Result (Option Part) E) → basis ≡ other → IfOk result (λ part. part ≡ first_of_all (logged_parts basis r)) →
+pub log_of : {E : Type 0} (basis other : Basis) (r : Report) (result : Result (Option Part) E) → basis ≡ other →
+    IfOk result (λ part. part ≡ first_of_all (logged_parts basis r)) →
     IfOk result (λ part. part ≡ first_of_all (logged_parts other r))
 log_of basis other r (Ok part) same h = h ∙ ap (λ (basis : Basis). first_of_all (logged_parts basis r)) same
 log_of basis other r (Err error) same h = tt
 
 -- ---- behind the steps
 
-pub stop_fails : (due : Option Present) (dumped : List Bool) (basis : Basis) (r : Report) (right : Bool) → right ≡ (nat_le (length r.steps) r.budgets.steps && is_cause r.stop (cause_after r.budgets r.steps due)) →
+pub stop_fails : (due : Option Present) (dumped : List Bool) (basis : Basis) (r : Report) (right : Bool) →
+    right ≡ (nat_le (length r.steps) r.budgets.steps && is_cause r.stop (cause_after r.budgets r.steps due)) →
     right ≡ false → Some parts.Stop ≡ first_of_all (behind_parts due dumped basis r)
 stop_fails due dumped basis r right e f =
     sym
     (ap (λ (b : Bool).
     option_or (unless b parts.Stop)
     (first_of_all
-    (unless (all_bits_eq r.states (trace_states dumped r.steps) && all_bits_eq r.inputs (trace_inputs r.steps)) parts.Trace ∷ logged_parts basis r))) (sym e ∙ f))
+    (unless (all_bits_eq r.states (trace_states dumped r.steps) && all_bits_eq r.inputs (trace_inputs r.steps)) parts.Trace ∷ logged_parts basis r)))
+    (sym e ∙ f))
 
-pub trace_fails : (due : Option Present) (dumped : List Bool) (basis : Basis) (r : Report) (stop right : Bool) → stop ≡ (nat_le (length r.steps) r.budgets.steps && is_cause r.stop (cause_after r.budgets r.steps due)) →
+pub trace_fails : (due : Option Present) (dumped : List Bool) (basis : Basis) (r : Report) (stop right : Bool) →
+    stop ≡ (nat_le (length r.steps) r.budgets.steps && is_cause r.stop (cause_after r.budgets r.steps due)) →
     stop ≡ true → right ≡ (all_bits_eq r.states (trace_states dumped r.steps) && all_bits_eq r.inputs (trace_inputs r.steps)) → right ≡ false →
     Some parts.Trace ≡ first_of_all (behind_parts due dumped basis r)
 trace_fails due dumped basis r stop right s t e f =
@@ -240,7 +247,8 @@ trace_fails due dumped basis r stop right s t e f =
     (ap (λ (b : Bool).
     option_or (unless b parts.Stop)
     (first_of_all
-    (unless (all_bits_eq r.states (trace_states dumped r.steps) && all_bits_eq r.inputs (trace_inputs r.steps)) parts.Trace ∷ logged_parts basis r))) (sym s ∙ t)
+    (unless (all_bits_eq r.states (trace_states dumped r.steps) && all_bits_eq r.inputs (trace_inputs r.steps)) parts.Trace ∷ logged_parts basis r)))
+    (sym s ∙ t)
     ∙ ap (λ (b : Bool). option_or (unless b parts.Trace) (first_of_all (logged_parts basis r))) (sym e ∙ f))
 
 pub behind_log : {E : Type 0} (due : Option Present) (dumped : List Bool) (basis : Basis) (r : Report) (stop right : Bool) (result : Result (Option Part) E) →
@@ -253,24 +261,30 @@ behind_log due dumped basis r stop right (Ok part) s t e f h =
     (ap (λ (b : Bool).
     option_or (unless b parts.Stop)
     (first_of_all
-    (unless (all_bits_eq r.states (trace_states dumped r.steps) && all_bits_eq r.inputs (trace_inputs r.steps)) parts.Trace ∷ logged_parts basis r))) (sym s ∙ t)
+    (unless (all_bits_eq r.states (trace_states dumped r.steps) && all_bits_eq r.inputs (trace_inputs r.steps)) parts.Trace ∷ logged_parts basis r)))
+    (sym s ∙ t)
     ∙ ap (λ (b : Bool). option_or (unless b parts.Trace) (first_of_all (logged_parts basis r))) (sym e ∙ f))
 behind_log due dumped basis r stop right (Err error) s t e f h = tt
 
-pub few_steps : (due : Option Present) (r : Report) (stop : Bool) → stop ≡ (nat_le (length r.steps) r.budgets.steps && is_cause r.stop (cause_after r.budgets r.steps due)) → stop ≡ true →
-    r.budgets.steps ≤ 65536 → length r.steps ≤ 65536
+pub few_steps : (due : Option Present) (r : Report) (stop : Bool) →
+    stop ≡ (nat_le (length r.steps) r.budgets.steps && is_cause r.stop (cause_after r.budgets r.steps due)) → stop ≡ true →
+    r.budgets.steps ≤ MAX_STEPS → length r.steps ≤ MAX_STEPS
 few_steps due r stop s t few =
-    let within : length r.steps ≤ r.budgets.steps = leb-true (length r.steps) r.budgets.steps (both (nat_le (length r.steps) r.budgets.steps) (is_cause r.stop (cause_after r.budgets r.steps due)) (sym s ∙ t)).0 in
+    let within : length r.steps ≤ r.budgets.steps =
+    leb-true (length r.steps) r.budgets.steps
+    (both (nat_le (length r.steps) r.budgets.steps) (is_cause r.stop (cause_after r.budgets r.steps due)) (sym s ∙ t)).0 in
     omega (arith, within, few)
 
-pub leaves_sound : (crash : Crash) (r : Report) (walk : Walk) → length crash.dump.state ≡ length crash.circuit.flops → All (λ t. length t ≡ length crash.choice.items) (signatures_of crash.dump) →
-    IsWalked crash r walk → LeavesSound (length crash.circuit.flops) (length crash.choice.items) r.steps walk
-leaves_sound crash r (Fails part) state stored walked = tt
-leaves_sound crash r (Holds due) state stored walked = steps_are_sound crash r due state stored walked
+pub leaves_fit : (crash : Crash) (r : Report) (walk : Walk) → DumpFits crash.circuit crash.choice crash.dump →
+    IsWalked crash r walk → LeavesFit (length crash.circuit.flops) (length crash.choice.items) r.steps walk
+leaves_fit crash r (Fails part) fits walked = tt
+leaves_fit crash r (Holds due) fits walked = steps_are_fit crash r due fits walked
 
-pub part_is : (crash : Crash) (basis : Basis) (r : Report) (walk : Walk) → IsWalked crash r walk → first_after walk crash.dump.state basis r ≡ first_failing crash basis r
+pub part_is : (crash : Crash) (basis : Basis) (r : Report) (walk : Walk) → IsWalked crash r walk →
+    first_after walk crash.dump.state basis r ≡ first_failing crash basis r
 part_is crash basis r (Fails part) walked = fails_in_steps crash basis r part walked
-part_is crash basis r (Holds due) walked = fails_behind crash basis r due (first_of_all (behind_parts (option_map present_in due) crash.dump.state basis r)) walked refl
+part_is crash basis r (Holds due) walked =
+    fails_behind crash basis r due (first_of_all (behind_parts (option_map present_in due) crash.dump.state basis r)) walked refl
 
 pub parts_are : {E : Type 0} (crash : Crash) (basis : Basis) (r : Report) (walk : Walk) (result : Result (Option Part) E) → IsWalked crash r walk →
     IfOk result (λ part. part ≡ first_after walk crash.dump.state basis r) → IfOk result (λ part. part ≡ first_failing crash basis r)

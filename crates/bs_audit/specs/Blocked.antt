@@ -19,7 +19,7 @@ pub record BlocksNone (e : Encoded) (guard : Literal) (clause : Clause) : Type 0
   pub none : (s : List Bool) → length s ≡ length e.states → clause ≢ blocking e guard s
 
 -- a place of a list of states
-pub record StandsAt (states : List (List Bool)) (s : List Bool) (j : ℕ) : Type 0 where
+pub record IsAt (states : List (List Bool)) (s : List Bool) (j : ℕ) : Type 0 where
   pub below : j < length states
   pub is : slice_index_or states j [] ≡ s
 

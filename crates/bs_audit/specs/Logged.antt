@@ -44,7 +44,7 @@ lines_parts e assumptions b i step lines =
     unless (is_right_finish b assumptions lines step.end (finishes_in lines)) (parts.Ended (i + 1)) ∷ []
 
 -- a step whose states have the widths, and whose candidates ascend
-pub record IsSound (flops items : ℕ) (step : Step) : Type 0 where
+pub record IsFit (flops items : ℕ) (step : Step) : Type 0 where
   pub present : length step.present ≡ flops
   pub stored : length step.stored ≡ items
   pub ascend : Ascend (listed step.cands)
@@ -54,9 +54,9 @@ pub record IsSound (flops items : ℕ) (step : Step) : Type 0 where
 abbrev pub refused_part : Option (ℕ × Why) → Option Part
 refused_part refused = option_map (λ refused. parts.Log refused.0 refused.1) refused
 
--- each step of the report is so
-abbrev pub AreSound : Encoded → List Step → Type 0
-AreSound e steps = All (IsSound (length e.states) (length e.signatures)) steps
+-- each step of the report is fit
+abbrev pub AreFit : Encoded → List Step → Type 0
+AreFit e steps = All (IsFit (length e.states) (length e.signatures)) steps
 
 -- the parts of a report against its log
 abbrev pub logged_parts : Basis → Report → List (Option Part)
@@ -74,7 +74,7 @@ abbrev pub first_after : Walk → List Bool → Basis → Report → Option Part
 first_after (Fails part) dumped basis r = Some part
 first_after (Holds due) dumped basis r = first_of_all (behind_parts (option_map present_in due) dumped basis r)
 
--- where all parts of the steps hold, the steps are sound
-abbrev pub LeavesSound : ℕ → ℕ → List Step → Walk → Type 0
-LeavesSound flops items steps (Fails part) = Unit {0}
-LeavesSound flops items steps (Holds due) = All (IsSound flops items) steps
+-- where all parts of the steps hold, the steps are fit
+abbrev pub LeavesFit : ℕ → ℕ → List Step → Walk → Type 0
+LeavesFit flops items steps (Fails part) = Unit {0}
+LeavesFit flops items steps (Holds due) = All (IsFit flops items) steps

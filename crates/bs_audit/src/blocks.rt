@@ -7,7 +7,7 @@ ghost use Rattle.bs_scan.specs.Moments.{is_listed};
 ghost use Rattle.bs_good.specs.Step.{listed, Ascend};
 ghost use Rattle.bs_good.specs.Valid.{are_right_blocks, blocks_due, blocks_in, has_clause};
 ghost use Rattle.bs_audit.specs.StepLines.{is_block};
-ghost use Rattle.bs_audit.specs.Blocked.{Blocks, BlocksNone, StandsAt, IsNotDue, IsDueAt, AreNoted, NotesMore};
+ghost use Rattle.bs_audit.specs.Blocked.{Blocks, BlocksNone, IsAt, IsNotDue, IsDueAt, AreNoted, NotesMore};
 
 use bs_bits::{Bits, List, NoMemory};
 use bs_clause::{Lit, is_same};
@@ -72,7 +72,7 @@ fn blocked_state(
 /// The place of a state among candidates, which ascend.
 fn place_of(cands: &[Cand], state: &Bits) -> Option<usize>
     requires { Ascend (listed cands.now) }
-    ensures { MatchOption result (is_listed (listed cands.now) state.now ≡ false) (StandsAt (listed cands.now) state.now) }
+    ensures { MatchOption result (is_listed (listed cands.now) state.now ≡ false) (IsAt (listed cands.now) state.now) }
 {
     let mut low = 0;
     let mut high = cands.len();

@@ -13,10 +13,10 @@ ghost use Rattle.bs_good.specs.Valid.{cand_at, first_of_all, is_right_cand};
 ghost use Rattle.bs_audit.specs.Following.{cand_parts, line_of};
 
 use crate::replay::Replay;
-use bs_bits::{Bits, List, NoMemory};
+use bs_bits::{Bits, NoMemory};
 use bs_chip::Hit;
 use bs_good::Part;
-use bs_report::{};
+use bs_report::{Budgets, Cand, Step};
 use bs_scan::Choice;
 use bs_sim::Sim;
 use std::alloc::Global;
@@ -59,17 +59,6 @@ fn leads(sim: &mut Sim<'_>, cand: &Cand, present: &Bits) -> bool
     sim.load(&cand.state);
     sim.step(&cand.input);
     sim.state().equals(present)
-}
-
-/// Copies of the states of candidates.
-fn states_of(alloc: Global, cands: &[Cand]) -> Result<List<Bits>, NoMemory>
-    ensures { IfOk result (λ states. states ≡ listed cands.now) }
-{
-    let mut states = List::new(alloc);
-    'cands: for cand in cands {
-        states.push(cand.state.copy()?)?;
-    }
-    Ok(states)
 }
 
 /// The number of a place, counted from 1.
@@ -137,7 +126,6 @@ impl<'a> Replay<'a> {
         ensures dump { IfOk result (λ hit. option_map (present_of_hit self.old) (hit_of self.old cands.now) ≡ option_map (λ hit. present_in hit.dump) hit) }
         ensures kept { self.new ≡ self.old }
     {
-        let states = states_of(alloc, cands)?;
-        self.chip.first(alloc, states.slice())
+        self.chip.first(alloc, cands)
     }
 }

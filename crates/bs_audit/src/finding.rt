@@ -4,14 +4,14 @@ ghost use Rattle.bs_net.specs.Netlist.{circuit};
 ghost use Rattle.bs_encode.specs.Assuming.{basis_of};
 ghost use Rattle.bs_encode.specs.Encoded.{encoding_of};
 ghost use Rattle.bs_encode.specs.Listing.{IsTidy};
-ghost use Rattle.bs_scan.specs.Dump.{signatures_of};
+ghost use Rattle.bs_scan.specs.Crash.{crash_of, recording_of, DumpFits};
 ghost use Rattle.bs_scan.specs.Present.{present_in};
 ghost use Rattle.bs_good.specs.Chain.{present_of};
 ghost use Rattle.bs_good.specs.Good.{IsGood};
 ghost use Rattle.bs_good.specs.Valid.{first_failing, first_of_all};
-ghost use Rattle.bs_audit.specs.Finding.{basis_for, crash_for, part_of};
+ghost use Rattle.bs_audit.specs.Finding.{basis_for, part_of};
 ghost use Rattle.bs_audit.specs.Following.{IsWalked};
-ghost use Rattle.bs_audit.specs.Logged.{basis_with, behind_parts, first_after, logged_parts, AreSound, IsSound, LeavesSound};
+ghost use Rattle.bs_audit.specs.Logged.{basis_with, behind_parts, first_after, logged_parts, AreFit, IsFit, LeavesFit};
 
 use crate::law::valid_reports_are_good;
 use crate::logged::{assumptions, refused_line, wrong_log};
@@ -22,9 +22,9 @@ use crate::trace::is_right_trace;
 use bs_bits::{List, NoMemory};
 use bs_clause::Lits;
 use bs_encode::{Encoding, encodings_are_tidy};
-use bs_net::Netlist;
 use bs_good::Part;
-use bs_report::Report;
+use bs_net::Netlist;
+use bs_report::{MAX_STEPS, Report};
 use bs_scan::{Choice, Dump};
 use bs_stim::Runs;
 use std::alloc::Global;
@@ -55,10 +55,7 @@ fn encoding(alloc: Global, net: &Netlist, choice: &Choice) -> Result<Encoding, N
     ensures tidy { IfOk result (IsTidy (circuit net.now) choice.now.items) }
 {
     encodings_are_tidy(net, choice);
-    match Encoding::new(alloc, net, choice) {
-        Ok(encoding) => Ok(encoding),
-        Err(_) => Err(NoMemory),
-    }
+    Encoding::new(alloc, net, choice)
 }
 
 /// The first part that fails against the log, of which these are the clauses and the assumptions.
@@ -71,7 +68,7 @@ fn logged_part(
 ) -> Result<Option<Part>, NoMemory>
     requires width { width ≡ length encoding.now.states }
     requires room { encoding.now.variables + length report.now.steps < 2 ^ 30 }
-    requires sound { AreSound encoding.now report.now.steps }
+    requires sound { AreFit encoding.now report.now.steps }
     requires assumptions { length assumptions.now ≡ length report.now.steps }
     ensures { IfOk result (λ part. part ≡ first_of_all (logged_parts (basis_with encoding.now assumptions.now) report.now)) }
 {
@@ -89,8 +86,8 @@ fn log_part(
     report: &Report,
 ) -> Result<Option<Part>, NoMemory>
     requires choice { choice.now.width ≡ length (circuit net.now).flops }
-    requires few { length report.now.steps ≤ 65536 }
-    requires sound { All (IsSound (length (circuit net.now).flops) (length choice.now.items)) report.now.steps }
+    requires few { length report.now.steps ≤ MAX_STEPS }
+    requires sound { All (IsFit (length (circuit net.now).flops) (length choice.now.items)) report.now.steps }
     ensures { IfOk result (λ part. part ≡ first_of_all (logged_parts (basis_of (circuit net.now) choice.now.items (map present_of report.now.steps)) report.now)) }
 {
     let encoding = encoding(alloc, net, choice)?;
@@ -108,8 +105,8 @@ fn part_behind(
     due: &Option<Dump>,
 ) -> Result<Option<Part>, NoMemory>
     requires choice { choice.now.width ≡ length (circuit net.now).flops }
-    requires budget { report.now.budgets.steps ≤ 65536 }
-    requires sound { All (IsSound (length (circuit net.now).flops) (length choice.now.items)) report.now.steps }
+    requires budget { report.now.budgets.steps ≤ MAX_STEPS }
+    requires sound { All (IsFit (length (circuit net.now).flops) (length choice.now.items)) report.now.steps }
     ensures { IfOk result (λ part. part ≡ first_of_all (behind_parts (option_map present_in due.now) dump.now.state (basis_of (circuit net.now) choice.now.items (map present_of report.now.steps)) report.now)) }
 {
     if !is_right_stop(report, due) {
@@ -132,7 +129,7 @@ fn walked(
 ) -> Result<Walk, NoMemory>
     requires choice { choice.now.width ≡ length (circuit net.now).flops }
     requires runs { runs.now.width ≡ length (circuit net.now).inputs }
-    ensures { IfOk result (IsWalked (crash_for net.now choice.now runs.now dump.now) report.now) }
+    ensures { IfOk result (IsWalked (crash_of (recording_of net.now.raw choice.now runs.now) dump.now) report.now) }
 {
     let mut replay = Replay::new(alloc, net, choice, runs, dump)?;
     replay.walk(alloc, report)
@@ -148,8 +145,8 @@ fn part_after(
     walk: &Walk,
 ) -> Result<Option<Part>, NoMemory>
     requires choice { choice.now.width ≡ length (circuit net.now).flops }
-    requires budget { report.now.budgets.steps ≤ 65536 }
-    requires sound { LeavesSound (length (circuit net.now).flops) (length choice.now.items) report.now.steps walk.now }
+    requires budget { report.now.budgets.steps ≤ MAX_STEPS }
+    requires sound { LeavesFit (length (circuit net.now).flops) (length choice.now.items) report.now.steps walk.now }
     ensures { IfOk result (λ part. part ≡ first_after walk.now dump.now.state (basis_of (circuit net.now) choice.now.items (map present_of report.now.steps)) report.now) }
 {
     match walk {
@@ -169,10 +166,9 @@ fn failing_part(
 ) -> Result<Option<Part>, NoMemory>
     requires choice { choice.now.width ≡ length (circuit net.now).flops }
     requires runs { runs.now.width ≡ length (circuit net.now).inputs }
-    requires state { length dump.now.state ≡ length (circuit net.now).flops }
-    requires stored { All (λ t. length t ≡ length choice.now.items) (signatures_of dump.now) }
-    requires budget { report.now.budgets.steps ≤ 65536 }
-    ensures { IfOk result (λ part. part ≡ first_failing (crash_for net.now choice.now runs.now dump.now) (basis_for (crash_for net.now choice.now runs.now dump.now) report.now) report.now) }
+    requires dump { DumpFits (circuit net.now) choice.now dump.now }
+    requires budget { report.now.budgets.steps ≤ MAX_STEPS }
+    ensures { IfOk result (λ part. part ≡ first_failing (crash_of (recording_of net.now.raw choice.now runs.now) dump.now) (basis_for (crash_of (recording_of net.now.raw choice.now runs.now) dump.now) report.now) report.now) }
 {
     let walk = walked(alloc, net, choice, runs, dump, report)?;
     part_after(alloc, net, choice, dump, report, &walk)
@@ -191,11 +187,10 @@ pub fn audit(
 ) -> Result<Finding, NoMemory>
     requires choice { choice.now.width ≡ length (circuit net.now).flops }
     requires runs { runs.now.width ≡ length (circuit net.now).inputs }
-    requires state { length dump.now.state ≡ length (circuit net.now).flops }
-    requires stored { All (λ t. length t ≡ length choice.now.items) (signatures_of dump.now) }
-    requires budget { report.now.budgets.steps ≤ 65536 }
-    ensures finding { IfOk result (λ finding. part_of finding ≡ first_failing (crash_for net.now choice.now runs.now dump.now) (basis_for (crash_for net.now choice.now runs.now dump.now) report.now) report.now) }
-    ensures good { IfOk result (λ finding. part_of finding ≡ None → IsGood (crash_for net.now choice.now runs.now dump.now) report.now) }
+    requires dump { DumpFits (circuit net.now) choice.now dump.now }
+    requires budget { report.now.budgets.steps ≤ MAX_STEPS }
+    ensures finding { IfOk result (λ finding. part_of finding ≡ first_failing (crash_of (recording_of net.now.raw choice.now runs.now) dump.now) (basis_for (crash_of (recording_of net.now.raw choice.now runs.now) dump.now) report.now) report.now) }
+    ensures good { IfOk result (λ finding. part_of finding ≡ None → IsGood (crash_of (recording_of net.now.raw choice.now runs.now) dump.now) report.now) }
 {
     valid_reports_are_good(net, choice, runs);
     let part = failing_part(alloc, net, choice, runs, dump, report)?;

@@ -1,6 +1,7 @@
 //! The law of audits.
 ghost use Rattle.std.specs.Prelude.{◌≡◌, length};
 ghost use Rattle.bs_net.specs.Netlist.{circuit};
+ghost use Rattle.bs_scan.specs.Crash.{recording_of};
 ghost use Rattle.bs_audit.specs.Finding.{ValidReportsAreGood};
 
 use bs_encode::predecessors_are_shown;
@@ -12,7 +13,7 @@ use bs_stim::Runs;
 pub fn valid_reports_are_good(net: &Netlist, choice: &Choice, runs: &Runs)
     requires choice { choice.now.width ≡ length (circuit net.now).flops }
     requires runs { runs.now.width ≡ length (circuit net.now).inputs }
-    ensures { ValidReportsAreGood net.now choice.now runs.now }
+    ensures { ValidReportsAreGood (recording_of net.now.raw choice.now runs.now) }
 {
     predecessors_are_shown(net, choice);
     let _raw = net.raw();

@@ -6,7 +6,7 @@ ghost use Rattle.bs_log.specs.FirstRefused.{first_refused};
 ghost use Rattle.bs_rup.specs.Verdict.{refused_by};
 ghost use Rattle.bs_good.specs.Chain.{present_of};
 ghost use Rattle.bs_good.specs.Valid.{each_step, first_of_all, log_parts};
-ghost use Rattle.bs_audit.specs.Logged.{basis_with, lines_parts, refused_part, AreSound, IsSound};
+ghost use Rattle.bs_audit.specs.Logged.{basis_with, lines_parts, refused_part, AreFit, IsFit};
 ghost use Rattle.bs_audit.specs.StepLines.{undeleted};
 
 use crate::blocks::are_right_blocks;
@@ -16,9 +16,9 @@ use crate::step_lines::split_step;
 use bs_bits::{List, NoMemory};
 use bs_clause::{Lit, Lits, Var};
 use bs_encode::Encoding;
-use bs_log::Line;
 use bs_good::Part;
-use bs_report::{};
+use bs_log::Line;
+use bs_report::{Budgets, Report, Step};
 use bs_rup::{Verdict, check};
 use std::alloc::Global;
 
@@ -36,10 +36,7 @@ fn assumed(alloc: Global, encoding: &Encoding, guard: Lit, step: &Step) -> Resul
     requires stored { length step.now.stored ≡ length encoding.now.signatures }
     ensures { IfOk result (λ l. l ≡ assumptions_for encoding.now guard (present_of step.now)) }
 {
-    match encoding.assumptions(alloc, guard, &step.present, &step.stored) {
-        Ok(literals) => Ok(literals),
-        Err(_) => Err(NoMemory),
-    }
+    encoding.assumptions(alloc, guard, &step.present, &step.stored)
 }
 
 /// What each step assumes.
@@ -48,7 +45,7 @@ pub fn assumptions(
     encoding: &Encoding,
     steps: &[Step],
 ) -> Result<List<Lits>, NoMemory>
-    requires sound { AreSound encoding.now steps.now }
+    requires sound { AreFit encoding.now steps.now }
     requires next { length encoding.now.next ≡ length encoding.now.states }
     requires room { encoding.now.variables + length steps.now < 2 ^ 30 }
     ensures { IfOk result (λ l. l ≡ steps_from encoding.now 1 (map present_of steps.now)) }
@@ -74,7 +71,7 @@ fn wrong_lines(
 ) -> Result<Option<Part>, NoMemory>
     requires width { width ≡ length encoding.now.states }
     requires room { encoding.now.variables + (i + 1) < 2 ^ 30 }
-    requires sound { IsSound (length encoding.now.states) (length encoding.now.signatures) step.now }
+    requires sound { IsFit (length encoding.now.states) (length encoding.now.signatures) step.now }
     ensures { IfOk result (λ part. part ≡ first_of_all (lines_parts encoding.now assumptions.now budgets.now.conflicts i step.now (undeleted lines.now))) }
 {
     let guard = guard_of(encoding, i);
@@ -97,7 +94,7 @@ pub fn wrong_log(
 ) -> Result<Option<Part>, NoMemory>
     requires width { width ≡ length encoding.now.states }
     requires room { encoding.now.variables + length report.now.steps < 2 ^ 30 }
-    requires sound { AreSound encoding.now report.now.steps }
+    requires sound { AreFit encoding.now report.now.steps }
     requires assumptions { length assumptions.now ≡ length report.now.steps }
     ensures { IfOk result (λ part. part ≡ first_of_all (each_step (log_parts (basis_with encoding.now assumptions.now) report.now) 0 report.now.steps)) }
 {

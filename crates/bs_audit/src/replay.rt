@@ -1,7 +1,7 @@
 //! The replay of a crashed chip's recorded runs.
 ghost use Rattle.std.specs.Prelude.{◌≡◌, length, IfOk};
 ghost use Rattle.bs_net.specs.Netlist.{circuit};
-ghost use Rattle.bs_audit.specs.Finding.{crash_for};
+ghost use Rattle.bs_scan.specs.Crash.{crash_of, recording_of};
 
 use bs_bits::NoMemory;
 use bs_chip::Chip;
@@ -25,14 +25,13 @@ pub struct Replay<'a> {
 impl<'a> Model for Replay<'a> {
     ghost use Rattle.std.specs.Prelude.{◌≡◌, length};
     ghost use Rattle.bs_net.specs.Netlist.{circuit};
-    ghost use Rattle.bs_scan.specs.Crash.{Crash};
-    ghost use Rattle.bs_audit.specs.Finding.{crash_for};
+    ghost use Rattle.bs_scan.specs.Crash.{Crash, crash_of};
 
     ghost Value = { Crash };
 
-    ghost view = { λ r. crash_for r.net.now r.choice.now r.chip.runs r.dump.now };
+    ghost view = { λ r. crash_of r.chip r.dump.now };
 
-    ghost invariant = { λ r. (r.sim.net ≡ r.net.now) × (r.chip.net ≡ r.net.now) × (r.chip.choice ≡ r.choice.now) × (r.choice.now.width ≡ length (circuit r.net.now).flops) };
+    ghost invariant = { λ r. (r.sim.net ≡ r.net.now) × (r.chip.circuit ≡ circuit r.net.now) × (r.chip.choice ≡ r.choice.now) × (r.choice.now.width ≡ length (circuit r.net.now).flops) };
 }
 
 impl<'a> Replay<'a> {
@@ -46,7 +45,7 @@ impl<'a> Replay<'a> {
     ) -> Result<Replay<'a>, NoMemory>
         requires choice { choice.now.width ≡ length (circuit net.now).flops }
         requires runs { runs.now.width ≡ length (circuit net.now).inputs }
-        ensures { IfOk result (λ r. r ≡ crash_for net.now choice.now runs.now dump.now) }
+        ensures { IfOk result (λ r. r ≡ crash_of (recording_of net.now.raw choice.now runs.now) dump.now) }
     {
         let sim = Sim::new(alloc, net)?;
         let chip = Chip::new(alloc, net, choice, runs)?;

@@ -10,7 +10,7 @@ use crate::replay::Replay;
 use bs_bits::{Bits, NoMemory};
 use bs_chip::Hit;
 use bs_good::Part;
-use bs_report::{};
+use bs_report::{Budgets, HitLine, ListEnd, Report, Step};
 use bs_scan::Dump;
 use std::alloc::Global;
 

@@ -10,5 +10,6 @@ returns-then-not-are_of_state c =
 
 pub returns-in_ok-denied-in-Some : goal.returns-in_ok-denied-in-Some
 returns-in_ok-denied-in-Some c =
-    blocks_state c.args.encoding.now c.args.guard c.in-Some.first.now c.in-Some.rest.now c.args.clause.now c.in_ok-denied-in-Some.field-0 c.in-Some.ensures.cases.0
+    blocks_state c.args.encoding.now c.args.guard c.in-Some.first.now c.in-Some.rest.now c.args.clause.now c.in_ok-denied-in-Some.field-0
+    c.in-Some.ensures.cases.0
     (c.is_same.ensures.same.0 c.if-not-is_same.false ∙ c.negate.ensures) (c.are_of_state.ensures.0 c.if-not-are_of_state.false) c.in_ok-denied-in-Some.ensures

@@ -10,5 +10,6 @@ returns-in-Some-clause-known c =
 
 pub returns-in-Some-clause-noted : goal.returns-in-Some-clause-noted
 returns-in-Some-clause-noted c =
-    λ t. line_is_noted c.args.encoding.now c.args.guard (listed c.args.cands.now) c.in-Block.lits c.in-Some.place c.in-Block.id c.args.width c.args.line.now c.args.noted.now.items _ c.in-Block.is c.requires.width
+    λ t. line_is_noted c.args.encoding.now c.args.guard
+    (listed c.args.cands.now) c.in-Block.lits c.in-Some.place c.in-Block.id c.args.width c.args.line.now c.args.noted.now.items _ c.in-Block.is c.requires.width
     c.requires.widths c.requires.ascend (rw c.slice.ensures at (rw c.in-Some.is at c.in_ok-blocked_place-in-Block.ensures)) refl

@@ -7,5 +7,6 @@ use Rattle.bs_audit.proofs.ends.ends_spent.Goals as goal
 
 pub returns : goal.returns
 returns c =
-    spent_after c.in_ok-is_unfinished.field-0 (length (finishes_in c.args.lines.now)) (is_spent c.args.budget c.args.assumptions.now (last_solve (undeleted c.args.lines.now))) c.is_spent.result
+    spent_after c.in_ok-is_unfinished.field-0 (length (finishes_in c.args.lines.now))
+    (is_spent c.args.budget c.args.assumptions.now (last_solve (undeleted c.args.lines.now))) c.is_spent.result
     c.in_ok-is_unfinished.ensures c.if-not-branch.false c.is_spent.ensures

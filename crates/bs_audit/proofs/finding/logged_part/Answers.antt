@@ -9,4 +9,5 @@ returns-in-Some c =
 
 pub returns-in-None : goal.returns-in-None
 returns-in-None c =
-    log_accepted (basis_with c.args.encoding.now c.args.assumptions.now) c.args.report.now c.wrong_log.result (sym c.in-None.is ∙ c.in_ok-part.ensures) c.wrong_log.ensures
+    log_accepted (basis_with c.args.encoding.now c.args.assumptions.now) c.args.report.now c.wrong_log.result
+    (sym c.in-None.is ∙ c.in_ok-part.ensures) c.wrong_log.ensures

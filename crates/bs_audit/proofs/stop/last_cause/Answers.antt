@@ -6,4 +6,5 @@ use Rattle.bs_audit.proofs.LastLemmas.{last_is}
 use Rattle.bs_audit.proofs.stop.last_cause.Goals as goal
 
 pub returns-in-Some : goal.returns-in-Some
-returns-in-Some c = ap Some c.cause_of_end.ensures ∙ ap (option_map (λ (step : Step). cause_of_end step step.end)) (c.in-Some.ensures.value ∙ last_is c.args.steps.now)
+returns-in-Some c =
+    ap Some c.cause_of_end.ensures ∙ ap (option_map (λ (step : Step). cause_of_end step step.end)) (c.in-Some.ensures.value ∙ last_is c.args.steps.now)

@@ -9,9 +9,13 @@ pub returns-in-None : goal.returns-in-None
 returns-in-None c =
     sym
     (c.steps.invariant
-    ∙ uncut_once (λ (step : Step). option_and_then (input_for step) (hit_state step)) c.args.steps.now c.steps.step-index c.step-item.result c.steps.left.now (option_map (λ bits. bits.now) c.hit_input.result) c.steps-test.true c.step-item.is c.hit_input.ensures c.in-None.ensures)
+    ∙ uncut_once (λ (step : Step). option_and_then (input_for step)
+    (hit_state step)) c.args.steps.now c.steps.step-index c.step-item.result c.steps.left.now
+    (option_map (λ bits. bits.now) c.hit_input.result) c.steps-test.true c.step-item.is c.hit_input.ensures c.in-None.ensures)
 
 pub steps-preserved : goal.steps-preserved
 steps-preserved c =
     c.steps.invariant
-    ∙ cut_once (λ (step : Step). option_and_then (input_for step) (hit_state step)) c.args.steps.now c.steps.step-index c.step-item.result c.steps.left.now c.in-Some.front.now (option_map (λ bits. bits.now) c.hit_input.result) c.steps-test.true c.step-item.is c.hit_input.ensures c.in-Some.ensures
+    ∙ cut_once (λ (step : Step). option_and_then (input_for step)
+    (hit_state step)) c.args.steps.now c.steps.step-index c.step-item.result c.steps.left.now c.in-Some.front.now
+    (option_map (λ bits. bits.now) c.hit_input.result) c.steps-test.true c.step-item.is c.hit_input.ensures c.in-Some.ensures

@@ -8,4 +8,5 @@ returns-then-equals c =
 
 pub returns-else-equals : goal.returns-else-equals
 returns-else-equals c =
-    uncut_other c.args.lists.now c.in-Some.front.now c.in-Some.found.now c.args.last.now c.in-Some.ensures.cases.0 (sym c.equals.ensures.test ∙ c.if-equals.false)
+    uncut_other c.args.lists.now c.in-Some.front.now c.in-Some.found.now c.args.last.now c.in-Some.ensures.cases.0
+    (sym c.equals.ensures.test ∙ c.if-equals.false)

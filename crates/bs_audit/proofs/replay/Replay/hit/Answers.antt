@@ -1,0 +1,10 @@
+use Rattle.std.proofs.Common.{◌≡◌, ℕ, length, All, ap, subst, sym}
+use Rattle.bs_scan.specs.Crash.{Crash}
+use Rattle.bs_report.specs.declared.report.Cand.{Cand}
+use Rattle.bs_audit.proofs.Follows.{lent_widths}
+use Rattle.bs_audit.proofs.replay.Replay.hit.Goals as goal
+
+pub first-requires : goal.first-requires
+first-requires c =
+    subst (λ (n : ℕ). All (λ (cand : Cand). length cand.state ≡ n) c.args.cands.now) (sym (ap (λ (k : Crash). length k.circuit.flops) c.self.view_is))
+    (lent_widths (length c.args.self.now.circuit.flops) c.args.cands.now c.requires)
