@@ -33,9 +33,9 @@ use Rattle.bs_good.specs.Step.{listed}
 use Rattle.bs_good.specs.Valid.{blocks_due}
 use Rattle.bs_preimage.specs.Turn.{Extends, Keeps, HasSearched, MayTurn, HasListedOne, HasRefutedAll, HasSpent, IsShownIn, block_in, guard_in, steps_after}
 use Rattle.bs_preimage.specs.Finding.{is_inner, HasLogged, IsAgain, IsUnderWay, HasEndedSearch}
-use Rattle.bs_preimage.proofs.BoundLemmas.{runs_over}
+use Rattle.bs_solve.proofs.CallerLemmas.{runs_over}
 use Rattle.bs_preimage.proofs.TurnLemmas.{extends_then, extends_from}
-use Rattle.bs_preimage.proofs.StandingLemmas.{lemmas_inner, inner_step}
+use Rattle.bs_preimage.proofs.InnerLemmas.{lemmas_inner, inner_step}
 
 -- ---- the guard of the step
 

@@ -1,5 +1,4 @@
-pub mod BoundLemmas
-pub mod StandingLemmas
+pub mod InnerLemmas
 pub mod TurnLemmas
 pub mod FindingLemmas
 pub mod OrderLemmas

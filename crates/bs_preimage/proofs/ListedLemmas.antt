@@ -50,7 +50,7 @@ use Rattle.bs_preimage.specs.Turn.{IsReadable, IsShownIn, guard_in}
 use Rattle.bs_preimage.specs.Order.{IsInOrder}
 use Rattle.bs_preimage.specs.Step.{HasSought, HasMadeStep, assumptions_at, ending_of}
 use Rattle.bs_solve.proofs.Clauses.{contains_first}
-use Rattle.bs_preimage.proofs.BoundLemmas.{bound_is}
+use Rattle.bs_solve.proofs.CallerLemmas.{bound_is}
 use Rattle.std.proofs.Math.Nat.{eq-or-lt_of_le}
 use Rattle.bs_preimage.proofs.OrderLemmas.{in_order_ascend}
 use Rattle.bs_preimage.proofs.StepLinesLemmas.{is_in_step, finish_lines, in_step, step_kept, step_lines_are, whole_after, get_last, slice_get_last, blocks_are_due, right_blocks, one_finish, finish_is, end_is}

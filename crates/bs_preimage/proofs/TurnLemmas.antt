@@ -8,7 +8,7 @@ use Rattle.std.proofs.lemmas.List.Elements.{All-contains}
 use Rattle.bs_clause.specs.Literal.{Literal, Clause, negation, literal_value, Satisfies}
 use Rattle.bs_clause.specs.UnitRun.{IsUnitRun}
 use Rattle.bs_log.specs.declared.line.Line.{Line}
-use Rattle.bs_log.specs.declared.line.Line.TheVariants.{Solve, Lemma, Block, Finish, Retire, Delete}
+use Rattle.bs_log.specs.declared.line.Line.TheVariants.{Lemma, Block}
 use Rattle.bs_log.specs.History.{Problem}
 use Rattle.bs_log.specs.Steps.{is_lemma_line}
 use Rattle.bs_solve.specs.declared.search.Answer.{Answer}
@@ -26,47 +26,16 @@ use Rattle.bs_encode.specs.Cycle.{bits_on}
 use Rattle.bs_report.specs.declared.report.Cand.{Cand}
 use Rattle.bs_preimage.specs.declared.turn.TurnEnd.{TurnEnd}
 use Rattle.bs_preimage.specs.declared.turn.TurnEnd.TheVariants.{Listed, Refuted, Spent}
-use Rattle.bs_preimage.specs.Turn.{Extends, Keeps, HasSearched, MayTurn, TurnsTo, HasShown, HasShownCand, HasListedOne, block_in, guard_in, steps_after}
-use Rattle.bs_preimage.proofs.StandingLemmas.{lemmas_keep}
+use Rattle.bs_preimage.specs.Turn.{Extends, HasSearched, MayTurn, TurnsTo, HasShown, HasShownCand, HasListedOne, block_in, guard_in, steps_after}
+use Rattle.bs_solve.proofs.CallerLemmas.{begun_history, begun_vars, begun_clauses, open_are_lemmas, solved_keeps}
 
 -- ---- the book as a search begins
-
-begun_history : (t : Bool) (b : Book) (a : Clause) → (begun_book t b a).history ≡ Solve ∷ b.history
-begun_history true b a = refl
-begun_history false b a = refl
-
-begun_vars : (t : Bool) (b : Book) (a : Clause) → (begun_book t b a).problem.vars ≡ b.problem.vars
-begun_vars true b a = refl
-begun_vars false b a = refl
-
-begun_clauses : (t : Bool) (b : Book) (a : Clause) → (begun_book t b a).problem.clauses ≡ b.problem.clauses
-begun_clauses true b a = refl
-begun_clauses false b a = refl
 
 begun_steps : (t : Bool) (b : Book) (a : Clause) → (begun_book t b a).problem.steps ≡ steps_after t b.problem.steps a
 begun_steps true b a = refl
 begun_steps false b a = refl
 
--- ---- the lemmas of a search
-
-open_is_lemma : (a : Clause) (line : Line) → is_open_lemma a line ≡ true → is_lemma_line line ≡ true
-open_is_lemma a (Lemma id lits hints) e = refl
-open_is_lemma a Solve e = e
-open_is_lemma a (Block id lits) e = e
-open_is_lemma a (Finish id) e = e
-open_is_lemma a (Retire id) e = e
-open_is_lemma a (Delete ids) e = e
-
-open_are_lemmas : (a : Clause) (lines : List Line) → Each (λ line. is_open_lemma a line ≡ true) lines → Each (λ line. is_lemma_line line ≡ true) lines
-open_are_lemmas a [] all = tt
-open_are_lemmas a (line ∷ lines) all = (open_is_lemma a line all.0, open_are_lemmas a lines all.1)
-
--- a book that goes on from another by lemmas keeps what stood
-keeps_by : (from to : Book) (lines : List Line) → to.problem ≡ from.problem → to.history ≡ lines ++ from.history →
-    Each (λ line. is_lemma_line line ≡ true) lines → Keeps from to
-keeps_by from to lines p h all c there =
-    let same : to ≡ record { problem = from.problem; history = lines ++ from.history } = λ i. record { problem = p i; history = h i } in
-    subst (λ (b : Book). Contains (standing b) c) (sym same) (lemmas_keep from.problem lines from.history all c there)
+-- ---- the lines of a search
 
 searched_by : (old new : SolverState) (a : Clause) (limit : ℕ) (answer : Answer) → HasSolved old new a limit answer → (lines : List Line) →
     new.book.problem ≡ (begun_book (is_begun old.stage) old.book a).problem → new.book.history ≡ lines ++ (begun_book (is_begun old.stage) old.book a).history →
@@ -81,7 +50,7 @@ searched_by old new a limit answer s lines p h all =
       steps = ap (λ (p : Problem). p.steps) p ∙ begun_steps t old.book a;
       history = h ∙ ap (λ (h : List Line). lines ++ h) (begun_history t old.book a);
       are_lemmas = all;
-      stand = λ c there. keeps_by (begun_book t old.book a) new.book lines p h all c (subst (λ (cs : List Clause). Contains cs c) (sym s.stands) there);
+      stand = solved_keeps old new a limit answer s;
       assumed_is = s.step;
       guards = s.vars;
     }
