@@ -16,10 +16,7 @@ fn netlist(alloc: Global, text: &[u8]) -> Option<Netlist> {
 /// A shift register of so many flip-flops.
 fn shift_register(alloc: Global, count: u64) -> Result<Vec<u8>, NoMemory> {
     let mut text = Vec::new(alloc);
-    push_piece(
-        &mut text,
-        b"module c(ck,a); input ck,a; dff f0(ck,q0,a);\n",
-    )?;
+    push_piece(&mut text, b"module c(ck,a); input ck,a; dff f0(ck,q0,a);\n")?;
     for i in 1..count {
         push_piece(&mut text, b"dff f")?;
         push_number(&mut text, i)?;
@@ -38,11 +35,7 @@ fn sizes(alloc: Global, text: &[u8]) -> Option<(u32, usize, usize)> {
     let net = netlist(alloc, text)?;
     let mut encoding = Encoding::plain(alloc, &net).ok()?;
     let clauses = encoding.take_clauses(alloc);
-    Some((
-        encoding.vars(),
-        clauses.len(),
-        encoding.clauses().len(),
-    ))
+    Some((encoding.vars(), clauses.len(), encoding.clauses().len()))
 }
 
 #[test]

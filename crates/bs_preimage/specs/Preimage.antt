@@ -1,5 +1,5 @@
 -- What makes lists of candidates, as a contract sees it.
-use Rattle.std.specs.Prelude.{◌≡◌, ℕ, ◌+◌, Bool, false, List, [], ◌∷◌, ◌++◌, length}
+use Rattle.std.specs.Prelude.{◌≡◌, ◌⊎◌, ℕ, ◌+◌, Bool, false, List, [], ◌∷◌, ◌++◌, length}
 use Rattle.bs_clause.specs.Literal.{Literal, Clause}
 use Rattle.bs_log.specs.declared.line.Line.{Line}
 use Rattle.bs_log.specs.History.{Problem, History, guard_of}
@@ -54,3 +54,7 @@ pub record GoesOn (old new : PreimageState) : Type 0 where
   pub clauses : new.problem.clauses ≡ old.problem.clauses
   pub more : List Line
   pub history : new.history ≡ more ++ old.history
+
+-- the steps are as before, or have this one more
+abbrev pub MayHaveStep : PreimageState → PreimageState → Clause → Type 0
+MayHaveStep old new step = (new.problem.steps ≡ old.problem.steps) ⊎ (new.problem.steps ≡ old.problem.steps ++ step ∷ [])

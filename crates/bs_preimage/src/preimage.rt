@@ -1,5 +1,5 @@
 //! Lists of candidates by one solver, whose log goes on from list to list.
-ghost use Rattle.std.specs.Prelude.{◌≡◌, ◌⊎◌, ◌+◌, ◌<◌, ◌≤◌, [], ◌∷◌, ◌++◌, true, false, length, All, IfOk, IfErr};
+ghost use Rattle.std.specs.Prelude.{◌≡◌, ◌+◌, ◌<◌, ◌≤◌, true, false, length, All, IfOk, IfErr};
 ghost use Rattle.bs_net.specs.Netlist.{circuit};
 ghost use Rattle.bs_log.specs.Refusal.{has_distinct_variables, history_of, NoneRefused, IsAccepted};
 ghost use Rattle.bs_log.specs.Lean.{LemmasAreLean};
@@ -7,7 +7,7 @@ ghost use Rattle.bs_log.specs.LineForms.{HasText};
 ghost use Rattle.bs_clause.specs.declared.literal.TheConstants.{VARIABLE_LIMIT};
 ghost use Rattle.bs_clause.specs.Range.{HasVariables};
 ghost use Rattle.bs_encode.specs.declared.encoding.TheConstants.{MAX_GUARDS};
-ghost use Rattle.bs_preimage.specs.Preimage.{fresh, assumptions_in, GoesOn};
+ghost use Rattle.bs_preimage.specs.Preimage.{fresh, assumptions_in, GoesOn, MayHaveStep};
 ghost use Rattle.bs_preimage.specs.Rest.{made};
 ghost use Rattle.bs_preimage.specs.Listed.{HasListed};
 
@@ -112,7 +112,7 @@ impl<'a> Preimage<'a> {
         ensures ok { IfOk result (HasListed self.old self.new present.now stored.now k b) }
         ensures err { IfErr result (λ _. self.new.failed ≡ true) }
         ensures goes_on { GoesOn self.old self.new }
-        ensures steps { (self.new.problem.steps ≡ self.old.problem.steps) ⊎ (self.new.problem.steps ≡ self.old.problem.steps ++ assumptions_in self.old present.now stored.now ∷ []) }
+        ensures steps { MayHaveStep self.old self.new (assumptions_in self.old present.now stored.now) }
         ensures stays { self.old.failed ≡ true → (self.new.problem ≡ self.old.problem) × (self.new.history ≡ self.old.history) }
         ensures calls { self.new.calls ≡ self.old.calls + 1 }
     {
