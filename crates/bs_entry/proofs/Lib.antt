@@ -3,4 +3,3 @@ pub mod RefusalExamples
 pub mod ReadingLemmas
 pub mod SignatureFits
 pub mod StimulusFits
-pub mod DumpFits

@@ -3,7 +3,8 @@ use Rattle.std.proofs.Common.{◌≡◌, ℕ, List, length, Result, Ok, Err, sym
 use Rattle.bs_net.specs.Parts.{Parts}
 use Rattle.bs_scan.specs.declared.fault.ChoiceFault.{ChoiceFault}
 use Rattle.bs_scan.specs.Choice.{Chosen}
-use Rattle.bs_scan.specs.ChoiceText.{◌>>=◌, items_of, chosen, choice_of}
+use Rattle.bs_bits.specs.Reading.{◌>>=◌}
+use Rattle.bs_scan.specs.ChoiceText.{items_of, chosen, choice_of}
 
 pub signature_fits : (raw : Parts) (texts : List (List ℕ)) (choice : Chosen) → choice_of raw texts ≡ Ok choice → choice.width ≡ length raw.flops
 signature_fits raw texts choice e = by (items_of raw 1 texts) e

@@ -1,11 +1,11 @@
 -- The files of a job, one after the other, and what they make ready.
 use Rattle.std.specs.Prelude.{ℕ, List, length}
-use Rattle.bs_net.specs.Circuit.{Circuit}
 use Rattle.bs_net.specs.Netlist.{circuit_of}
 use Rattle.bs_net.specs.Parts.{Parts}
-use Rattle.bs_stim.specs.Runs.{Stimulus, inputs_of}
+use Rattle.bs_stim.specs.Runs.{Stimulus}
 use Rattle.bs_scan.specs.Choice.{Chosen}
-use Rattle.bs_scan.specs.Moments.{Moment, Run}
+use Rattle.bs_scan.specs.Crash.{Recording, recording_of}
+use Rattle.bs_scan.specs.Moments.{Moment}
 use Rattle.bs_scan.specs.declared.dump.Dump.{Dump}
 use Rattle.bs_report.specs.declared.report.Report.{Report}
 use Rattle.bs_job.specs.declared.file.File.TheVariants as files
@@ -13,7 +13,7 @@ use Rattle.bs_job.specs.Plan.{Plan, end, ◌>>=◌, fetched, read_as}
 use Rattle.bs_entry.specs.Readings.{netlist_in, signature_in, stimulus_in, dump_in, moment_in, report_read}
 
 -- the names of the first three files
-pub record Names : Type 0 where
+pub record FileNames : Type 0 where
   pub netlist : List ℕ
   pub signature : List ℕ
   pub stimulus : List ℕ
@@ -26,13 +26,9 @@ pub record Setup : Type 0 where
   pub choice : Chosen
   pub runs : Stimulus
 
--- the netlist as a machine
-abbrev pub circuit_in : Setup → Circuit
-circuit_in setup = circuit_of setup.raw
-
--- the inputs of the recorded runs
-abbrev pub runs_in : Setup → List Run
-runs_in setup = inputs_of setup.runs
+-- the recording that they tell
+abbrev pub recording_in : Setup → Recording
+recording_in setup = recording_of setup.raw setup.choice setup.runs
 
 -- the same with a moment of the runs
 pub record Placed : Type 0 where
@@ -76,7 +72,7 @@ dump_of setup name = do
   read_as files.Dump (dump_in setup.raw setup.choice bytes)
 
 -- the first three files of a job, by their names
-abbrev pub setup_of : Names → Plan Parts Setup
+abbrev pub setup_of : FileNames → Plan Parts Setup
 setup_of names = do
   raw ← netlist_of names.netlist
   choice ← signature_of raw names.signature
@@ -84,14 +80,14 @@ setup_of names = do
   end record { raw = raw; choice = choice; runs = runs }
 
 -- three files, and last whether the runs have the moment
-abbrev pub placed_of : Names → (run cycle : ℕ) → Plan Parts Placed
+abbrev pub placed_of : FileNames → (run cycle : ℕ) → Plan Parts Placed
 placed_of names run cycle = do
   setup ← setup_of names
   moment ← read_as files.Dump (moment_in setup.runs run cycle)
   end record { setup = setup; moment = moment }
 
 -- four files
-abbrev pub crashed_of : Names → List ℕ → Plan Parts Crashed
+abbrev pub crashed_of : FileNames → List ℕ → Plan Parts Crashed
 crashed_of names dump = do
   setup ← setup_of names
   dumped ← dump_of setup dump
@@ -103,7 +99,7 @@ report_of name = do
   read_as files.Report (report_read bytes)
 
 -- five files
-abbrev pub claimed_of : Names → (dump report : List ℕ) → Plan Parts Claimed
+abbrev pub claimed_of : FileNames → (dump report : List ℕ) → Plan Parts Claimed
 claimed_of names dump report = do
   crashed ← crashed_of names dump
   claimed ← report_of report

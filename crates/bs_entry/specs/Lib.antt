@@ -1,5 +1,4 @@
 pub mod Refusals
 pub mod Readings
 pub mod Entry
-pub mod Fitting
 pub mod Ready

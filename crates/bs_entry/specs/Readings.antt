@@ -7,7 +7,7 @@ use Rattle.bs_net.specs.Parts.{Parts}
 use Rattle.bs_scan.specs.Choice.{Chosen}
 use Rattle.bs_scan.specs.ChoiceText.{choice_of}
 use Rattle.bs_scan.specs.DumpText.{dump_of}
-use Rattle.bs_scan.specs.Moments.{Moment}
+use Rattle.bs_scan.specs.Moments.{Moment, moment}
 use Rattle.bs_scan.specs.declared.dump.Dump.{Dump}
 use Rattle.bs_stim.specs.Runs.{Stimulus, run_at}
 use Rattle.bs_stim.specs.StimulusText.{stimulus_of}
@@ -49,7 +49,7 @@ has_moment runs run cycle = nat_le 1 run && nat_le run (length runs.runs) && nat
 
 -- a moment of the runs
 abbrev pub moment_in : Stimulus → ℕ → ℕ → Result Moment (Reason Parts)
-moment_in runs run cycle = if has_moment runs run cycle then Ok (record { run = run; cycle = cycle }) else Err range_reason
+moment_in runs run cycle = if has_moment runs run cycle then Ok (moment run cycle) else Err range_reason
 
 -- a report
 abbrev pub report_read : List ℕ → Result Report (Reason Parts)

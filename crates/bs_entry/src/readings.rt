@@ -1,16 +1,16 @@
 //! What a reader makes of the bytes of a file, with the words of its refusal.
-ghost use Rattle.std.specs.Prelude.{◌≡◌, ◌≤◌, ◌^◌, length, IfOk};
+ghost use Rattle.std.specs.Prelude.{◌≡◌, ◌≤◌, length, IfOk};
 ghost use Rattle.std.specs.Bool.{OnTrue};
 ghost use Rattle.bs_net.specs.Netlist.{parts_of, circuit};
-ghost use Rattle.bs_chip.specs.Replay.{IsPlaced};
+ghost use Rattle.bs_job.specs.declared.limits.TheConstants.{MAX_NETLIST_BYTES, MAX_REPORT_BYTES, MAX_SIGNATURE_BYTES, MAX_STIMULUS_BYTES};
+ghost use Rattle.bs_stim.specs.Runs.{inputs_of, run_at};
+ghost use Rattle.bs_scan.specs.Crash.{DumpFits};
+ghost use Rattle.bs_scan.specs.Moments.{IsMoment};
 ghost use Rattle.bs_job.specs.Walks.{Reads};
 ghost use Rattle.bs_entry.specs.Entry.{input_width};
 ghost use Rattle.bs_entry.specs.Readings.{checked_in, dump_in, has_moment, moment_in, netlist_in, report_read, signature_in, stimulus_in};
-ghost use Rattle.bs_entry.specs.Fitting.{IsDump};
-ghost use Rattle.bs_entry.specs.Ready.{moment_of};
 ghost use Rattle.bs_entry.specs.Refusals.{CheckSays};
 
-use crate::ready::Moment;
 use crate::refusals::{
     check_refusal, dump_refusal, netlist_text_refusal, range_refusal, report_refusal,
     signature_refusal, stimulus_refusal,
@@ -18,13 +18,13 @@ use crate::refusals::{
 use bs_job::Refusal;
 use bs_net::{Netlist, Raw};
 use bs_report::Report;
-use bs_scan::{Choice, Dump};
+use bs_scan::{Choice, Dump, Moment};
 use bs_stim::Runs;
 use std::alloc::Global;
 
 /// A netlist that passes the check.
 pub fn read_netlist(alloc: Global, bytes: &[u8]) -> Result<Netlist, Refusal>
-    requires { length bytes.now ≤ 16777216 }
+    requires { length bytes.now ≤ MAX_NETLIST_BYTES }
     ensures { Reads CheckSays (λ net. net.raw) (netlist_in bytes.now) result }
 {
     match bs_verilog::read(alloc, bytes) {
@@ -45,7 +45,7 @@ fn check_netlist(alloc: Global, raw: Raw) -> Result<Netlist, Refusal>
 
 /// The items of a signature.
 pub fn read_signature(alloc: Global, bytes: &[u8], net: &Netlist) -> Result<Choice, Refusal>
-    requires { length bytes.now ≤ 2 ^ 20 }
+    requires { length bytes.now ≤ MAX_SIGNATURE_BYTES }
     ensures reads { Reads CheckSays (λ choice. choice) (signature_in net.now.raw bytes.now) result }
     ensures width { IfOk result (λ choice. choice.width ≡ length (circuit net.now).flops) }
 {
@@ -57,7 +57,7 @@ pub fn read_signature(alloc: Global, bytes: &[u8], net: &Netlist) -> Result<Choi
 
 /// The runs of a stimulus.
 pub fn read_stimulus(alloc: Global, bytes: &[u8], net: &Netlist) -> Result<Runs, Refusal>
-    requires { length bytes.now ≤ 2 ^ 26 }
+    requires { length bytes.now ≤ MAX_STIMULUS_BYTES }
     ensures reads { Reads CheckSays (λ runs. runs) (stimulus_in (input_width net.now.raw) bytes.now) result }
     ensures width { IfOk result (λ runs. runs.width ≡ length (circuit net.now).inputs) }
 {
@@ -75,7 +75,7 @@ pub fn read_dump(
     choice: &Choice,
 ) -> Result<Dump, Refusal>
     ensures reads { Reads CheckSays (λ dump. dump) (dump_in net.now.raw choice.now bytes.now) result }
-    ensures fits { IfOk result (λ dump. IsDump net.now.raw choice.now dump) }
+    ensures fits { IfOk result (λ dump. DumpFits (circuit net.now) choice.now dump) }
 {
     match Dump::read(alloc, bytes, net, choice) {
         Ok(dump) => Ok(dump),
@@ -88,7 +88,9 @@ fn has_moment(runs: &Runs, run: u64, cycle: u64) -> bool
     ensures is { result ≡ has_moment runs.now run cycle }
     ensures run { OnTrue result (run ≤ 256) }
     ensures cycle { OnTrue result (cycle ≤ 65536) }
-    ensures placed { OnTrue result (IsPlaced runs.now run cycle) }
+    ensures from_one { OnTrue result (1 ≤ run) }
+    ensures recorded { OnTrue result (run ≤ length runs.now.runs) }
+    ensures lasts { OnTrue result (cycle ≤ length (run_at runs.now run).inputs) }
 {
     if run < 1 || run > u64::from(runs.count()) {
         return false;
@@ -98,8 +100,8 @@ fn has_moment(runs: &Runs, run: u64, cycle: u64) -> bool
 
 /// A moment of the runs.
 pub fn read_moment(alloc: Global, runs: &Runs, run: u64, cycle: u64) -> Result<Moment, Refusal>
-    ensures reads { Reads CheckSays moment_of (moment_in runs.now run cycle) result }
-    ensures recorded { IfOk result (λ moment. IsPlaced runs.now moment.run moment.cycle) }
+    ensures reads { Reads CheckSays (λ moment. moment) (moment_in runs.now run cycle) result }
+    ensures recorded { IfOk result (λ moment. IsMoment (inputs_of runs.now) moment) }
 {
     if !has_moment(runs, run, cycle) {
         return Err(range_refusal(alloc));
@@ -112,7 +114,7 @@ pub fn read_moment(alloc: Global, runs: &Runs, run: u64, cycle: u64) -> Result<M
 
 /// A report.
 pub fn read_report(alloc: Global, bytes: &[u8]) -> Result<Report, Refusal>
-    requires { length bytes.now ≤ 2 ^ 29 }
+    requires { length bytes.now ≤ MAX_REPORT_BYTES }
     ensures reads { Reads CheckSays (λ report. report) (report_read bytes.now) result }
     ensures steps { IfOk result (λ report. report.budgets.steps ≤ 65536) }
 {

@@ -1,17 +1,18 @@
 //! What the files of a job made ready.
 ghost use Rattle.std.specs.Prelude.{◌≡◌, ◌≤◌, length};
 ghost use Rattle.bs_net.specs.Netlist.{circuit};
-ghost use Rattle.bs_chip.specs.Replay.{IsPlaced};
-ghost use Rattle.bs_entry.specs.Fitting.{IsDump};
+ghost use Rattle.bs_stim.specs.Runs.{inputs_of};
+ghost use Rattle.bs_scan.specs.Crash.{DumpFits};
+ghost use Rattle.bs_scan.specs.Moments.{IsMoment};
 
 use bs_net::Netlist;
 use bs_report::Report;
-use bs_scan::{Choice, Dump};
+use bs_scan::{Choice, Dump, Moment};
 use bs_stim::Runs;
 
 /// The names of the first three files of a job.
 #[derive(Clone, Copy)]
-pub struct Names<'a> {
+pub struct FileNames<'a> {
     pub netlist: &'a str,
     pub signature: &'a str,
     pub stimulus: &'a str,
@@ -27,19 +28,12 @@ pub struct Setup {
     ghost inputs: { runs.width ≡ length (circuit net).inputs },
 }
 
-/// A moment: a run from 1, and a cycle from 0.
-#[derive(Clone, Copy, Debug, PartialEq, Eq)]
-pub struct Moment {
-    pub run: u32,
-    pub cycle: u32,
-}
-
 /// A setup and a moment of its runs.
 #[derive(Drop)]
 pub struct Placed {
     pub setup: Setup,
     pub moment: Moment,
-    ghost recorded: { IsPlaced setup.runs moment.run moment.cycle },
+    ghost recorded: { IsMoment (inputs_of setup.runs) moment },
 }
 
 /// A setup and the dump of the crashed chip.
@@ -47,7 +41,7 @@ pub struct Placed {
 pub struct Crashed {
     pub setup: Setup,
     pub dump: Dump,
-    ghost fits: { IsDump setup.net.raw setup.choice dump },
+    ghost fits: { DumpFits (circuit setup.net) setup.choice dump },
 }
 
 /// A crash and a report of its backtrace.

@@ -1,17 +1,16 @@
 //! The files of a job are fetched and read one after the other, up to the first that stops it.
 ghost use Rattle.std.specs.Prelude.{◌≡◌, ◌≤◌, length, IfOk};
 ghost use Rattle.bs_net.specs.Netlist.{circuit};
-ghost use Rattle.bs_chip.specs.Replay.{IsPlaced};
+ghost use Rattle.bs_scan.specs.Crash.{DumpFits};
 ghost use Rattle.bs_job.specs.Walks.{Walks};
 ghost use Rattle.bs_entry.specs.Entry.{claimed_of, crashed_of, dump_of, netlist_of, placed_of, report_of, setup_of, signature_of, stimulus_of};
-ghost use Rattle.bs_entry.specs.Fitting.{IsDump};
 ghost use Rattle.bs_entry.specs.Ready.{claimed_in, crashed_in, names_in, placed_in, setup_in};
 ghost use Rattle.bs_entry.specs.Refusals.{CheckSays};
 
 use crate::readings::{
     read_dump, read_moment, read_netlist, read_report, read_signature, read_stimulus,
 };
-use crate::ready::{Claimed, Crashed, Names, Placed, Setup};
+use crate::ready::{Claimed, Crashed, FileNames, Placed, Setup};
 use bs_job::{File, JobFault, fetch_file, settle};
 use bs_net::Netlist;
 use bs_outside::Shelf;
@@ -64,7 +63,7 @@ fn take_dump<S: Shelf>(
     setup: &Setup,
 ) -> Result<Dump, JobFault>
     ensures walks { Walks CheckSays S.held S.faults S.leads shelf.old shelf.new (dump_of (setup_in setup.now) name.now) (λ dump. dump) result }
-    ensures fits { IfOk result (λ dump. IsDump setup.now.net.raw setup.now.choice dump) }
+    ensures fits { IfOk result (λ dump. DumpFits (circuit setup.now.net) setup.now.choice dump) }
 {
     let bytes = fetch_file(alloc, shelf, File::Dump, name)?;
     settle(
@@ -74,7 +73,7 @@ fn take_dump<S: Shelf>(
 }
 
 /// The netlist, the signature and the stimulus of a job, by the names of their files.
-pub fn take_setup<S: Shelf>(alloc: Global, shelf: &mut S, names: &Names<'_>) -> Result<Setup, JobFault>
+pub fn take_setup<S: Shelf>(alloc: Global, shelf: &mut S, names: &FileNames<'_>) -> Result<Setup, JobFault>
     ensures { Walks CheckSays S.held S.faults S.leads shelf.old shelf.new (setup_of (names_in names.now)) setup_in result }
 {
     let net = take_netlist(alloc, shelf, names.netlist)?;
@@ -87,7 +86,7 @@ pub fn take_setup<S: Shelf>(alloc: Global, shelf: &mut S, names: &Names<'_>) -> 
 pub fn take_placed<S: Shelf>(
     alloc: Global,
     shelf: &mut S,
-    names: &Names<'_>,
+    names: &FileNames<'_>,
     run: u64,
     cycle: u64,
 ) -> Result<Placed, JobFault>
@@ -102,7 +101,7 @@ pub fn take_placed<S: Shelf>(
 pub fn take_crashed<S: Shelf>(
     alloc: Global,
     shelf: &mut S,
-    names: &Names<'_>,
+    names: &FileNames<'_>,
     dump: &str,
 ) -> Result<Crashed, JobFault>
     ensures { Walks CheckSays S.held S.faults S.leads shelf.old shelf.new (crashed_of (names_in names.now) dump.now) crashed_in result }
@@ -125,7 +124,7 @@ fn take_report<S: Shelf>(alloc: Global, shelf: &mut S, name: &str) -> Result<Rep
 pub fn take_claimed<S: Shelf>(
     alloc: Global,
     shelf: &mut S,
-    names: &Names<'_>,
+    names: &FileNames<'_>,
     dump: &str,
     report: &str,
 ) -> Result<Claimed, JobFault>

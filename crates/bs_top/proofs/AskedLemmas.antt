@@ -2,7 +2,7 @@
 use Rattle.std.proofs.Common.{◌≡◌, ℕ, List, Some, sym}
 use Rattle.bs_words.specs.Job.{RunJob, Run, job_of}
 use Rattle.bs_words.proofs.BudgetLemmas.{FitsJob, job_fits}
-use Rattle.bs_loop.specs.Crash.{IsBudget}
+use Rattle.bs_loop.specs.Budget.{IsBudget}
 use Rattle.bs_top.specs.Work.{budgets_of}
 
 -- the budgets of a run that words ask for are in their ranges

@@ -1,36 +1,28 @@
 -- What holds of a backtrace's report.
 use Rattle.std.proofs.Common.{◌≡◌, map, subst, sym, ◌∙◌, None, Result, Ok, Err}
 use Rattle.std.specs.Prelude.{IfOk}
-use Rattle.bs_net.specs.Netlist.{Checked, circuit}
-use Rattle.bs_net.specs.Order.{IsChecked}
-use Rattle.bs_stim.specs.Runs.{Stimulus, IsStimulus}
-use Rattle.bs_scan.specs.Choice.{Chosen}
 use Rattle.bs_scan.specs.declared.dump.Dump.{Dump}
-use Rattle.bs_chip.specs.Chip.{Chipped, IsFitting, circuit_in}
+use Rattle.bs_scan.specs.Crash.{Recording, Crash, crash_of, IsCrash}
 use Rattle.bs_log.specs.Lean.{LemmasAreLean}
 use Rattle.bs_log.specs.Refusal.{history_of}
 use Rattle.bs_encode.specs.Assuming.{basis_of}
 use Rattle.bs_report.specs.declared.report.Budgets.{Budgets}
 use Rattle.bs_report.specs.declared.report.Report.{Report}
+use Rattle.bs_report.specs.Text.{HasReportText}
 use Rattle.bs_good.specs.Chain.{present_of}
-use Rattle.bs_scan.specs.Crash.{Crash, IsCrash}
 use Rattle.bs_good.specs.Good.{IsGood}
 use Rattle.bs_good.specs.Valid.{first_failing, IsValid}
 use Rattle.bs_good.proofs.EndLemmas.{unhit_is_first, finished_reach_reset}
 use Rattle.bs_good.proofs.ProgressLemmas.{progress}
 use Rattle.bs_good.proofs.ExecutionLemmas.{executed}
-use Rattle.bs_report.specs.Text.{HasReportText}
 use Rattle.bs_loop.specs.Bound.{HasBound}
-use Rattle.bs_loop.specs.Crash.{crash_of}
-use Rattle.bs_loop.proofs.GoodLemmas.{is_crash}
 use Rattle.bs_audit.specs.declared.finding.Finding.{Finding}
 use Rattle.bs_audit.specs.Finding.{part_of, basis_for}
-use Rattle.bs_entry.specs.Fitting.{IsDump}
-use Rattle.bs_top.specs.Sound.{IsSound}
+use Rattle.bs_top.specs.Sound.{IsSoundReport}
 use Rattle.bs_top.specs.Finishes.{IsBacktrace, Finds}
 
 -- a good and valid report of a crash
-pub sound_is : (crash : Crash) (r : Report) → IsCrash crash → IsGood crash r → IsValid crash (basis_for crash r) r → IsSound crash r
+pub sound_is : (crash : Crash) (r : Report) → IsCrash crash → IsGood crash r → IsValid crash (basis_for crash r) r → IsSoundReport crash r
 sound_is crash r crashed good valid = record {
   good = good;
   valid = valid;
@@ -40,40 +32,35 @@ sound_is crash r crashed good valid = record {
   reaches_reset = λ first hit all at hits within. finished_reach_reset crash r first hit crashed good all at hits within;
 }
 
-abbrev chip_of : Checked → Chosen → Stimulus → Chipped
-chip_of net choice runs = record { net = net; choice = choice; runs = runs }
-
--- what was read of the files is a crash
-pub crash_is : (net : Checked) (choice : Chosen) (runs : Stimulus) (dump : Dump) → IsChecked (circuit net) → IsStimulus runs → IsFitting (chip_of net choice runs) → IsDump net.raw choice dump → IsCrash (crash_of (chip_of net choice runs) dump)
-crash_is net choice runs dump checked recorded fitting fits =
-    is_crash (chip_of net choice runs) dump (record { checked = checked; runs = recorded; fitting = fitting }) (record { state = fits.state; signatures = fits.signatures })
-
 -- the facts of a backtrace of a chip
-pub record IsMade (chip : Chipped) (dump : Dump) (budgets : Budgets) (r : Report) : Type 0 where
+pub record IsMade (chip : Recording) (dump : Dump) (budgets : Budgets) (r : Report) : Type 0 where
   pub asked : r.budgets ≡ budgets
   pub good : IsGood (crash_of chip dump) r
-  pub valid : IsValid (crash_of chip dump) (basis_of (circuit_in chip) chip.choice.items (map present_of r.steps)) r
-  pub lean : LemmasAreLean (basis_of (circuit_in chip) chip.choice.items (map present_of r.steps)).problem (history_of r.log)
-  pub bound : HasBound (basis_of (circuit_in chip) chip.choice.items (map present_of r.steps)).problem r
+  pub valid : IsValid (crash_of chip dump) (basis_of chip.circuit chip.choice.items (map present_of r.steps)) r
+  pub lean : LemmasAreLean (basis_of chip.circuit chip.choice.items (map present_of r.steps)).problem (history_of r.log)
+  pub bound : HasBound (basis_of chip.circuit chip.choice.items (map present_of r.steps)).problem r
   pub readable : HasReportText r
 
-made_alike : (chip : Chipped) (dump : Dump) (budgets : Budgets) (r : Report) → IsCrash (crash_of chip dump) → IsMade chip dump budgets r → IsBacktrace (crash_of chip dump) budgets r
-made_alike chip dump budgets r crashed made = record { asked = made.asked; sound = sound_is (crash_of chip dump) r crashed made.good made.valid; lean = made.lean; bound = made.bound; readable = made.readable }
+made_alike : (chip : Recording) (dump : Dump) (budgets : Budgets) (r : Report) → IsCrash (crash_of chip dump) → IsMade chip dump budgets r → IsBacktrace (crash_of chip dump) budgets r
+made_alike chip dump budgets r crashed made = record {
+  asked = made.asked;
+  sound = sound_is (crash_of chip dump) r crashed made.good made.valid;
+  lean = made.lean;
+  bound = made.bound;
+  readable = made.readable;
+}
 
-pub backtrace_is : (net : Checked) (choice : Chosen) (runs : Stimulus) (dump : Dump) (chip : Chipped) (budgets : Budgets) (r : Report) → chip ≡ chip_of net choice runs → IsCrash (crash_of (chip_of net choice runs) dump) → IsMade chip dump budgets r → IsBacktrace (crash_of (chip_of net choice runs) dump) budgets r
-backtrace_is net choice runs dump chip budgets r is crashed made =
-    made_alike (chip_of net choice runs) dump budgets r crashed (subst (λ c. IsMade c dump budgets r) is made)
-
--- the same of what a call answers
-pub backtrace_ok : {E : Type 0} (net : Checked) (choice : Chosen) (runs : Stimulus) (dump : Dump) (chip : Chipped) (budgets : Budgets) (r : Result Report E) → chip ≡ chip_of net choice runs → IsCrash (crash_of (chip_of net choice runs) dump) →
+-- what a call answers of the chip that a recording shows
+pub backtrace_ok : {E : Type 0} (recorded chip : Recording) (dump : Dump) (budgets : Budgets) (r : Result Report E) → chip ≡ recorded → IsCrash (crash_of recorded dump) →
     IfOk r (λ report. report.budgets ≡ budgets) → IfOk r (IsGood (crash_of chip dump)) →
-    IfOk r (λ report. IsValid (crash_of chip dump) (basis_of (circuit_in chip) chip.choice.items (map present_of report.steps)) report) →
-    IfOk r (λ report. LemmasAreLean (basis_of (circuit_in chip) chip.choice.items (map present_of report.steps)).problem (history_of report.log)) →
-    IfOk r (λ report. HasBound (basis_of (circuit_in chip) chip.choice.items (map present_of report.steps)).problem report) → IfOk r HasReportText →
-    IfOk r (IsBacktrace (crash_of (chip_of net choice runs) dump) budgets)
-backtrace_ok net choice runs dump chip budgets (Ok report) is crashed asked good valid lean bound readable =
-    backtrace_is net choice runs dump chip budgets report is crashed (record { asked = asked; good = good; valid = valid; lean = lean; bound = bound; readable = readable })
-backtrace_ok net choice runs dump chip budgets (Err want) is crashed asked good valid lean bound readable = tt
+    IfOk r (λ report. IsValid (crash_of chip dump) (basis_of chip.circuit chip.choice.items (map present_of report.steps)) report) →
+    IfOk r (λ report. LemmasAreLean (basis_of chip.circuit chip.choice.items (map present_of report.steps)).problem (history_of report.log)) →
+    IfOk r (λ report. HasBound (basis_of chip.circuit chip.choice.items (map present_of report.steps)).problem report) → IfOk r HasReportText →
+    IfOk r (IsBacktrace (crash_of recorded dump) budgets)
+backtrace_ok recorded chip dump budgets (Ok report) is crashed asked good valid lean bound readable =
+    made_alike recorded dump budgets report crashed
+    (subst (λ c. IsMade c dump budgets report) is (record { asked = asked; good = good; valid = valid; lean = lean; bound = bound; readable = readable }))
+backtrace_ok recorded chip dump budgets (Err want) is crashed asked good valid lean bound readable = tt
 
 -- what an audit finds
 pub finds_ok : {E : Type 0} (crash : Crash) (report : Report) (r : Result Finding E) → IsCrash crash →

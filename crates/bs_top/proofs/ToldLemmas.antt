@@ -12,7 +12,6 @@ use Rattle.bs_job.specs.declared.walk.JobFault.TheVariants.{NoMemory}
 use Rattle.bs_job.specs.declared.file.File.TheVariants as files
 use Rattle.bs_job.specs.Plan.{Tells, AllTold, with_texts, end, fetched, read_as, ◌>>=◌}
 use Rattle.bs_job.specs.Walks.{Walks, WalksAlone}
-use Rattle.bs_job.proofs.AskingLemmas.{along_none}
 use Rattle.bs_job.proofs.Walking.{told_then, told_fetched, told_read, walks_alone, sure_shelf}
 use Rattle.bs_outside.specs.Memory.{sure_files, sure_held, sure_faults, sure_leads}
 use Rattle.bs_outside.specs.declared.sure.SureShelf.{SureShelf}
@@ -25,6 +24,7 @@ use Rattle.bs_entry.specs.Ready.{placed_in}
 use Rattle.bs_entry.specs.Refusals.{CheckSays}
 use Rattle.bs_entry.specs.Entry.{Setup, placed_of, setup_of, netlist_of, signature_of, stimulus_of, input_width}
 use Rattle.bs_entry.specs.Readings.{netlist_in, signature_in, stimulus_in, moment_in}
+use Rattle.bs_top.specs.declared.budgets.TheConstants.{DEMO_RUN, DEMO_CYCLE}
 use Rattle.bs_top.specs.Demo.{demo_names, demo_of, demo_told, told_of}
 use Rattle.bs_top.specs.Texts.{AreTexts}
 
@@ -50,10 +50,10 @@ held_three files netlist signature stimulus are name =
     else (if bytes_eq (codes "signature") name then Some (are.texts.1 i)
     else (if bytes_eq (codes "stimulus") name then Some (are.texts.2 i) else None)))
 
-all_told : (netlist signature stimulus : List ℕ) → AllTold (told_of netlist signature stimulus) (placed_of demo_names 1 256)
+all_told : (netlist signature stimulus : List ℕ) → AllTold (told_of netlist signature stimulus) (placed_of demo_names DEMO_RUN DEMO_CYCLE)
 all_told netlist signature stimulus =
-    told_then told (setup_of demo_names) (λ (setup : Setup). read_as files.Dump (moment_in setup.runs 1 256) >>= (λ (m : Moment). end record { setup = setup; moment = m })) setup
-    (λ setup. told_then told (read_as files.Dump (moment_in setup.runs 1 256)) (λ (m : Moment). end record { setup = setup; moment = m }) (told_read told files.Dump (moment_in setup.runs 1 256)) (λ m. tt))
+    told_then told (setup_of demo_names) (λ (setup : Setup). read_as files.Dump (moment_in setup.runs DEMO_RUN DEMO_CYCLE) >>= (λ (m : Moment). end record { setup = setup; moment = m })) setup
+    (λ setup. told_then told (read_as files.Dump (moment_in setup.runs DEMO_RUN DEMO_CYCLE)) (λ (m : Moment). end record { setup = setup; moment = m }) (told_read told files.Dump (moment_in setup.runs DEMO_RUN DEMO_CYCLE)) (λ m. tt))
   where
     told : Tells
     told = told_of netlist signature stimulus
@@ -76,14 +76,11 @@ all_told netlist signature stimulus =
 -- a walk over a shelf of the texts is one that asks no shelf
 pub alone_of : (number : ℕ) (before now : SureShelf) (listed : Files) (netlist signature stimulus : List ℕ) (result : Result CodePlaced JobFault) →
     sure_files before ≡ listed → AreTexts listed netlist signature stimulus → netlist ≡ netlist_for number → signature ≡ signature_text → stimulus ≡ stimulus_for number →
-    Walks CheckSays sure_held sure_faults sure_leads before now (placed_of demo_names 1 256) placed_in result →
+    Walks CheckSays sure_held sure_faults sure_leads before now (placed_of demo_names DEMO_RUN DEMO_CYCLE) placed_in result →
     WalksAlone CheckSays (demo_of number) placed_in result
 alone_of number before now listed netlist signature stimulus result is are en es et walks =
     let tells : sure_held before ≡ demo_told number =
     λ i name. (ap (λ (l : Files). held_in l name) is ∙ held_three listed netlist signature stimulus are name ∙ (λ j. told_of (en j) (es j) (et j) name)) i in
-    let all : AllTold (sure_held before) (placed_of demo_names 1 256) =
-    subst (λ (t : Tells). AllTold t (placed_of demo_names 1 256)) (sym tells) (all_told (netlist_for number) signature_text (stimulus_for number)) in
-    subst (λ (t : Tells). WalksAlone CheckSays (with_texts t (placed_of demo_names 1 256)) placed_in result) tells (walks_alone all (sure_shelf before now) walks)
-
-pub wants_memory : (number : ℕ) → WalksAlone CheckSays (demo_of number) placed_in (Err NoMemory)
-wants_memory number = record { is = λ told before. record { told = λ n. refl; counts = λ n. refl }; along = along_none (demo_of number) }
+    let all : AllTold (sure_held before) (placed_of demo_names DEMO_RUN DEMO_CYCLE) =
+    subst (λ (t : Tells). AllTold t (placed_of demo_names DEMO_RUN DEMO_CYCLE)) (sym tells) (all_told (netlist_for number) signature_text (stimulus_for number)) in
+    subst (λ (t : Tells). WalksAlone CheckSays (with_texts t (placed_of demo_names DEMO_RUN DEMO_CYCLE)) placed_in result) tells (walks_alone all (sure_shelf before now) walks)

@@ -4,9 +4,10 @@ use Rattle.std.specs.Str.{bytes_eq}
 use Rattle.bs_net.specs.Parts.{Parts}
 use Rattle.bs_gen.specs.Job.{netlist_for, signature_text, stimulus_for}
 use Rattle.bs_job.specs.Plan.{Tells, Plan, with_texts}
-use Rattle.bs_entry.specs.Entry.{Names, Placed, placed_of}
+use Rattle.bs_top.specs.declared.budgets.TheConstants.{DEMO_RUN, DEMO_CYCLE}
+use Rattle.bs_entry.specs.Entry.{FileNames, Placed, placed_of}
 
-abbrev pub demo_names : Names
+abbrev pub demo_names : FileNames
 demo_names = record { netlist = codes "netlist"; signature = codes "signature"; stimulus = codes "stimulus" }
 
 -- three texts under these names
@@ -20,6 +21,6 @@ told_of netlist signature stimulus name =
 abbrev pub demo_told : ℕ → Tells
 demo_told number = told_of (netlist_for number) signature_text (stimulus_for number)
 
--- they make a setup ready, and the moment of run 1 at cycle 256
+-- they make a setup ready, and the moment of DEMO_RUN at DEMO_CYCLE
 abbrev pub demo_of : ℕ → Plan Parts Placed
-demo_of number = with_texts (demo_told number) (placed_of demo_names 1 256)
+demo_of number = with_texts (demo_told number) (placed_of demo_names DEMO_RUN DEMO_CYCLE)

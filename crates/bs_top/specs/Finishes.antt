@@ -1,40 +1,26 @@
 -- The status and the text of work that is done.
-use Rattle.std.specs.Prelude.{◌≡◌, ℕ, List, Option, None, slice_get}
-use Rattle.bs_scan.specs.Moments.{Moment, run_of, state_of}
-use Rattle.bs_scan.specs.Signature.{stored_at}
+use Rattle.std.specs.Prelude.{◌≡◌, ℕ, List, Option, None}
 use Rattle.bs_scan.specs.DumpText.{dump_text}
-use Rattle.bs_scan.specs.declared.dump.Dump.{Dump}
 use Rattle.bs_log.specs.Lean.{LemmasAreLean}
 use Rattle.bs_log.specs.Refusal.{history_of}
 use Rattle.bs_report.specs.declared.report.Budgets.{Budgets}
 use Rattle.bs_report.specs.declared.report.Report.{Report}
 use Rattle.bs_report.specs.declared.report.Stop.{Stop}
 use Rattle.bs_report.specs.declared.report.Stop.TheVariants.{Reset, Length, Nohit, Empty, Candidates, Conflicts}
-use Rattle.bs_scan.specs.Crash.{Crash}
+use Rattle.bs_scan.specs.Crash.{Crash, crash_of, dump_at}
 use Rattle.bs_report.specs.Text.{report_text, HasReportText}
 use Rattle.bs_good.specs.declared.part.Part.{Part}
 use Rattle.bs_good.specs.Valid.{first_failing}
 use Rattle.bs_job.specs.declared.status.Status.{Status}
 use Rattle.bs_job.specs.declared.status.Status.TheVariants as S
 use Rattle.bs_loop.specs.Bound.{HasBound}
-use Rattle.bs_entry.specs.Entry.{Setup, circuit_in, runs_in}
+use Rattle.bs_entry.specs.Entry.{recording_in}
+use Rattle.bs_top.specs.declared.budgets.TheConstants.{DEMO_STEPS, DEMO_CANDIDATES, DEMO_CONFLICTS}
 use Rattle.bs_top.specs.Summary.{summary_text}
 use Rattle.bs_top.specs.Rejected.{finding_status, finding_text}
 use Rattle.bs_audit.specs.Finding.{basis_for}
-use Rattle.bs_top.specs.Sound.{IsSound}
+use Rattle.bs_top.specs.Sound.{IsSoundReport}
 use Rattle.bs_top.specs.Work.{Work, to_run, to_audit, to_dump, to_demo}
-
--- the dump of a moment: its state, and the signature that the register holds there, if it holds one
-abbrev pub dump_at : Setup → Moment → Dump
-dump_at setup m =
-    record {
-      state = state_of (circuit_in setup) (runs_in setup) m;
-      stored = slice_get (stored_at (circuit_in setup) setup.choice (run_of (runs_in setup) m.run) m.cycle) 0;
-    }
-
--- what a backtrace is about
-abbrev pub crash_of : Setup → Dump → Crash
-crash_of setup dump = record { circuit = circuit_in setup; choice = setup.choice; runs = runs_in setup; dump = dump }
 
 -- the status of a backtrace by its stop
 abbrev pub stop_status : Stop → Status
@@ -49,7 +35,7 @@ stop_status Conflicts = S.Spent
 -- conflicts only as the budget of lemmas allows; and the report is read back from its text.
 pub record IsBacktrace (crash : Crash) (budgets : Budgets) (report : Report) : Type 0 where
   pub asked : report.budgets ≡ budgets
-  pub sound : IsSound crash report
+  pub sound : IsSoundReport crash report
   pub lean : LemmasAreLean (basis_for crash report).problem (history_of report.log)
   pub bound : HasBound (basis_for crash report).problem report
   pub readable : HasReportText report
@@ -65,7 +51,7 @@ pub record Reports (crash : Crash) (budgets : Budgets) (status : Status) (text :
 -- this is the first part of the report that fails, if one does; where none does, the report is sound
 pub record Finds (crash : Crash) (report : Report) (part : Option Part) : Type 0 where
   pub first : part ≡ first_failing crash (basis_for crash report) report
-  pub accepted : part ≡ None → IsSound crash report
+  pub accepted : part ≡ None → IsSoundReport crash report
 
 pub record Audits (crash : Crash) (report : Report) (status : Status) (text : List ℕ) : Type 0 where
   pub part : Option Part
@@ -75,7 +61,7 @@ pub record Audits (crash : Crash) (report : Report) (status : Status) (text : Li
 
 -- the budgets of a generated job's backtrace
 abbrev pub demo_budgets : Budgets
-demo_budgets = record { steps = 64; candidates = 64; conflicts = 10000 }
+demo_budgets = record { steps = DEMO_STEPS; candidates = DEMO_CANDIDATES; conflicts = DEMO_CONFLICTS }
 
 -- there is a backtrace of which this line tells the numbers and the cause
 pub record Summarises (number : ℕ) (crash : Crash) (status : Status) (text : List ℕ) : Type 0 where
@@ -85,7 +71,7 @@ pub record Summarises (number : ℕ) (crash : Crash) (status : Status) (text : L
   pub answered : status ≡ S.Done
 
 abbrev pub finishes : Work → Status → List ℕ → Type 0
-finishes (to_run budgets crashed) status text = Reports (crash_of crashed.setup crashed.dump) budgets status text
-finishes (to_audit claimed) status text = Audits (crash_of claimed.crashed.setup claimed.crashed.dump) claimed.report status text
-finishes (to_dump placed) status text = (status ≡ S.Done) × (text ≡ dump_text (dump_at placed.setup placed.moment))
-finishes (to_demo number placed) status text = Summarises number (crash_of placed.setup (dump_at placed.setup placed.moment)) status text
+finishes (to_run budgets crashed) status text = Reports (crash_of (recording_in crashed.setup) crashed.dump) budgets status text
+finishes (to_audit claimed) status text = Audits (crash_of (recording_in claimed.crashed.setup) claimed.crashed.dump) claimed.report status text
+finishes (to_dump placed) status text = (status ≡ S.Done) × (text ≡ dump_text (dump_at (recording_in placed.setup) placed.moment))
+finishes (to_demo number placed) status text = Summarises number (crash_of (recording_in placed.setup) (dump_at (recording_in placed.setup) placed.moment)) status text

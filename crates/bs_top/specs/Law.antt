@@ -1,12 +1,16 @@
 -- A report that `run` writes is read as it is, and `audit` accepts it.
-use Rattle.std.specs.Prelude.{◌≡◌, ℕ, List, codes, Ok}
+use Rattle.std.specs.Prelude.{◌≡◌, ◌<◌, ◌≤◌, ℕ, List, length, codes, Some, Ok}
 use Rattle.bs_report.specs.declared.report.Budgets.{Budgets}
 use Rattle.bs_report.specs.declared.report.Report.{Report}
+use Rattle.bs_job.specs.declared.file.File.TheVariants as files
+use Rattle.bs_job.specs.declared.limits.TheConstants.{MAX_REPORT_BYTES}
 use Rattle.bs_job.specs.declared.status.Status.{Status}
 use Rattle.bs_job.specs.declared.status.Status.TheVariants.{Done}
+use Rattle.bs_job.specs.Plan.{Tells, exactly, ready, refused, told_end}
+use Rattle.bs_words.specs.Job.{RunJob, AuditJob, Run, Audit}
 use Rattle.bs_entry.specs.Entry.{Crashed}
 use Rattle.bs_entry.specs.Readings.{report_read}
-use Rattle.bs_top.specs.Work.{to_run, to_audit}
+use Rattle.bs_top.specs.Work.{to_run, to_audit, plan_of}
 use Rattle.bs_top.specs.Finishes.{finishes}
 
 -- the text is read as a report, for which nothing but `accepted` is written
@@ -19,3 +23,29 @@ pub record IsAcceptedText (crashed : Crashed) (text : List ℕ) : Type 0 where
 abbrev pub AuditAcceptsWhatRunWrites : Type 0
 AuditAcceptsWhatRunWrites =
     (budgets : Budgets) (crashed : Crashed) (status : Status) (text : List ℕ) → finishes (to_run budgets crashed) status text → IsAcceptedText crashed text
+
+-- ---- the same of commands
+
+-- the audit of a report over the files of a run
+abbrev pub audit_of : RunJob → List ℕ → AuditJob
+audit_of run report = record { netlist = run.netlist; signature = run.signature; stimulus = run.stimulus; dump = run.dump; report = report }
+
+-- the audit comes to this crash and to a report, for which nothing but `accepted` is written
+pub record ComesToAccepted (told : Tells) (job : AuditJob) (crashed : Crashed) : Type 0 where
+  pub report : Report
+  pub comes : told_end told (plan_of (Audit job)) ≡ Some (ready (to_audit (record { crashed = crashed; report = report })))
+  pub accepted : (status : Status) (answer : List ℕ) → finishes (to_audit (record { crashed = crashed; report = report })) status answer →
+      (status ≡ Done) × (answer ≡ codes "accepted\n")
+
+-- The audit accepts a text within the limit of a report, and refuses a longer one as too long.
+pub record AuditEnds (told : Tells) (job : AuditJob) (crashed : Crashed) (text : List ℕ) : Type 0 where
+  pub within : length text ≤ MAX_REPORT_BYTES → ComesToAccepted told job crashed
+  pub beyond : MAX_REPORT_BYTES < length text → told_end told (plan_of (Audit job)) ≡ Some (refused files.Report (exactly (codes "TooLong")))
+
+-- Where the run over told files comes to its work, and the report's file has a text that it may write, so ends the audit over the
+-- same files and this report.
+abbrev pub AuditFollowsRun : Type 0
+AuditFollowsRun =
+    (told : Tells) (run : RunJob) (report : List ℕ) (budgets : Budgets) (crashed : Crashed) (status : Status) (text : List ℕ) →
+    told_end told (plan_of (Run run)) ≡ Some (ready (to_run budgets crashed)) → finishes (to_run budgets crashed) status text →
+    told report ≡ Some text → AuditEnds told (audit_of run report) crashed text

@@ -7,3 +7,4 @@ pub mod Rejected
 pub mod Sound
 pub mod Finishes
 pub mod Law
+pub mod Program

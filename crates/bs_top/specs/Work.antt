@@ -4,7 +4,7 @@ use Rattle.bs_net.specs.Parts.{Parts}
 use Rattle.bs_report.specs.declared.report.Budgets.{Budgets}
 use Rattle.bs_words.specs.Job.{RunJob, AuditJob, DumpJob, Job, Run, Audit, Dump, Demo}
 use Rattle.bs_job.specs.Plan.{Plan, end, ◌>>=◌}
-use Rattle.bs_entry.specs.Entry.{Names, Placed, placed_of, Crashed, crashed_of, Claimed, claimed_of}
+use Rattle.bs_entry.specs.Entry.{FileNames, Placed, placed_of, Crashed, crashed_of, Claimed, claimed_of}
 use Rattle.bs_top.specs.Demo.{demo_of}
 
 -- the backtrace of a dump within budgets, what an audit finds of a report, the dump of a moment, or the line of a generated
@@ -15,16 +15,16 @@ pub data Work : Type 0 where
   to_dump : Placed → Work
   to_demo : ℕ → Placed → Work
 
-abbrev pub run_names : RunJob → Names
+abbrev pub run_names : RunJob → FileNames
 run_names job = record { netlist = job.netlist; signature = job.signature; stimulus = job.stimulus }
 
 abbrev pub budgets_of : RunJob → Budgets
 budgets_of job = record { steps = job.steps; candidates = job.candidates; conflicts = job.conflicts }
 
-abbrev pub audit_names : AuditJob → Names
+abbrev pub audit_names : AuditJob → FileNames
 audit_names job = record { netlist = job.netlist; signature = job.signature; stimulus = job.stimulus }
 
-abbrev pub dump_names : DumpJob → Names
+abbrev pub dump_names : DumpJob → FileNames
 dump_names job = record { netlist = job.netlist; signature = job.signature; stimulus = job.stimulus }
 
 -- the plan of a job

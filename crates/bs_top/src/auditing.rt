@@ -4,15 +4,17 @@ ghost use Rattle.bs_job.specs.Prepared.{Prepared};
 ghost use Rattle.bs_audit.specs.Finding.{part_of};
 ghost use Rattle.bs_entry.specs.Ready.{claimed_in};
 ghost use Rattle.bs_entry.specs.Refusals.{CheckSays};
-ghost use Rattle.bs_words.specs.Job.{Audit};
+ghost use Rattle.bs_words.specs.Job.{Audit as AuditWords};
 ghost use Rattle.bs_top.specs.Work.{plan_of, to_audit};
 ghost use Rattle.bs_top.specs.Words.{audit_job};
 ghost use Rattle.bs_top.specs.Rejected.{finding_status, finding_text, part_words, rejected_text, step_words, why_word};
-ghost use Rattle.bs_top.specs.Finishes.{crash_of, finishes, Finds};
+ghost use Rattle.bs_scan.specs.Crash.{crash_of};
+ghost use Rattle.bs_entry.specs.Entry.{recording_in};
+ghost use Rattle.bs_top.specs.Finishes.{finishes, Finds};
 
 use bs_audit::Finding;
 use bs_bits::{end_line, push_number, push_piece};
-use bs_entry::{Claimed, Names, take_claimed};
+use bs_entry::{Claimed, FileNames, take_claimed};
 use bs_job::{Reply, Status, stopped};
 use bs_log::Why;
 use bs_outside::{NoMemory, Shelf};
@@ -113,7 +115,7 @@ fn finding_status(finding: Finding) -> Status
 
 /// What an audit finds of a report.
 fn find(alloc: Global, claimed: &Claimed) -> Result<Finding, NoMemory>
-    ensures { IfOk result (λ finding. Finds (crash_of (claimed_in claimed.now).crashed.setup claimed.now.crashed.dump) claimed.now.report (part_of finding)) }
+    ensures { IfOk result (λ finding. Finds (crash_of (recording_in (claimed_in claimed.now).crashed.setup) claimed.now.crashed.dump) claimed.now.report (part_of finding)) }
 {
     let crashed = &claimed.crashed;
     let setup = &crashed.setup;
@@ -143,9 +145,9 @@ fn found(alloc: Global, claimed: &Claimed) -> Result<Reply, NoMemory>
 
 /// The answer of the command.
 pub fn audit<S: Shelf>(alloc: Global, shelf: &mut S, job: &AuditJob<'_>) -> Result<Reply, NoMemory>
-    ensures { Prepared CheckSays finishes S.held S.faults S.leads shelf.old shelf.new (Some (plan_of (Audit (audit_job job.now)))) result }
+    ensures { Prepared CheckSays finishes S.held S.faults S.leads shelf.old shelf.new (Some (plan_of (AuditWords (audit_job job.now)))) result }
 {
-    let names = Names {
+    let names = FileNames {
         netlist: job.netlist,
         signature: job.signature,
         stimulus: job.stimulus,

@@ -1,17 +1,19 @@
 //! The command `run`: the backtrace of a dump, and its report.
 ghost use Rattle.std.specs.Prelude.{◌≡◌, ◌+◌, length, IfOk, Some};
 ghost use Rattle.bs_job.specs.Prepared.{Prepared};
-ghost use Rattle.bs_loop.specs.Crash.{IsBudget};
-ghost use Rattle.bs_entry.specs.Fitting.{IsDump};
+ghost use Rattle.bs_loop.specs.Budget.{IsBudget};
 ghost use Rattle.bs_entry.specs.Ready.{crashed_in, setup_in};
 ghost use Rattle.bs_entry.specs.Refusals.{CheckSays};
-ghost use Rattle.bs_words.specs.Job.{Run};
+ghost use Rattle.bs_words.specs.Job.{Run as RunWords};
 ghost use Rattle.bs_top.specs.Work.{budgets_of, plan_of, to_run};
 ghost use Rattle.bs_top.specs.Words.{run_job};
-ghost use Rattle.bs_top.specs.Finishes.{crash_of, finishes, IsBacktrace, stop_status};
+ghost use Rattle.bs_net.specs.Netlist.{circuit};
+ghost use Rattle.bs_scan.specs.Crash.{crash_of, DumpFits};
+ghost use Rattle.bs_entry.specs.Entry.{recording_in};
+ghost use Rattle.bs_top.specs.Finishes.{finishes, IsBacktrace, stop_status};
 
 use bs_chip::Chip;
-use bs_entry::{Crashed, Names, Setup, take_crashed};
+use bs_entry::{Crashed, FileNames, Setup, take_crashed};
 use bs_job::{Reply, Status, stopped};
 use bs_loop::backtrace;
 use bs_outside::{NoMemory, Shelf};
@@ -40,9 +42,9 @@ pub fn report_of(
     dump: &Dump,
     budgets: &Budgets,
 ) -> Result<Report, NoMemory>
-    requires dump { IsDump setup.now.net.raw setup.now.choice dump.now }
+    requires dump { DumpFits (circuit setup.now.net) setup.now.choice dump.now }
     requires budgets { IsBudget budgets.now }
-    ensures backtrace { IfOk result (IsBacktrace (crash_of (setup_in setup.now) dump.now) budgets.now) }
+    ensures backtrace { IfOk result (IsBacktrace (crash_of (recording_in (setup_in setup.now)) dump.now) budgets.now) }
     ensures trace { IfOk result (λ report. length report.states ≡ length report.inputs + 1) }
 {
     let _order = setup.net.order();
@@ -69,9 +71,9 @@ fn reported(alloc: Global, crashed: &Crashed, budgets: &Budgets) -> Result<Reply
 /// The answer of the command.
 pub fn run<S: Shelf>(alloc: Global, shelf: &mut S, job: &RunJob<'_>) -> Result<Reply, NoMemory>
     requires { IsBudget (budgets_of (run_job job.now)) }
-    ensures { Prepared CheckSays finishes S.held S.faults S.leads shelf.old shelf.new (Some (plan_of (Run (run_job job.now)))) result }
+    ensures { Prepared CheckSays finishes S.held S.faults S.leads shelf.old shelf.new (Some (plan_of (RunWords (run_job job.now)))) result }
 {
-    let names = Names {
+    let names = FileNames {
         netlist: job.netlist,
         signature: job.signature,
         stimulus: job.stimulus,

@@ -3,13 +3,15 @@ ghost use Rattle.std.specs.Prelude.{◌≡◌, IfOk, Some};
 ghost use Rattle.bs_job.specs.Prepared.{Prepared};
 ghost use Rattle.bs_entry.specs.Ready.{names_in, placed_in};
 ghost use Rattle.bs_entry.specs.Refusals.{CheckSays};
-ghost use Rattle.bs_words.specs.Job.{Dump};
+ghost use Rattle.bs_words.specs.Job.{Dump as DumpWords};
 ghost use Rattle.bs_top.specs.Work.{dump_names, plan_of, to_dump};
 ghost use Rattle.bs_top.specs.Words.{dump_job};
-ghost use Rattle.bs_top.specs.Finishes.{dump_at, finishes};
+ghost use Rattle.bs_scan.specs.Crash.{dump_at};
+ghost use Rattle.bs_entry.specs.Entry.{recording_in};
+ghost use Rattle.bs_top.specs.Finishes.{finishes};
 
 use bs_chip::Chip;
-use bs_entry::{Names, Placed, take_placed};
+use bs_entry::{FileNames, Placed, take_placed};
 use bs_job::{Reply, Status, stopped};
 use bs_outside::{NoMemory, Shelf};
 use bs_scan::Dump;
@@ -18,7 +20,7 @@ use std::alloc::Global;
 
 /// The dump of a moment.
 pub fn dump_of(alloc: Global, placed: &Placed) -> Result<Dump, NoMemory>
-    ensures { IfOk result (λ dump. dump ≡ dump_at (placed_in placed.now).setup (placed_in placed.now).moment) }
+    ensures { IfOk result (λ dump. dump ≡ dump_at (recording_in (placed_in placed.now).setup) (placed_in placed.now).moment) }
 {
     let setup = &placed.setup;
     let mut chip = Chip::new(alloc, &setup.net, &setup.choice, &setup.runs)?;
@@ -48,9 +50,9 @@ fn dumped(alloc: Global, placed: &Placed) -> Result<Reply, NoMemory>
 
 /// The answer of the command.
 pub fn dump<S: Shelf>(alloc: Global, shelf: &mut S, job: &DumpJob<'_>) -> Result<Reply, NoMemory>
-    ensures { Prepared CheckSays finishes S.held S.faults S.leads shelf.old shelf.new (Some (plan_of (Dump (dump_job job.now)))) result }
+    ensures { Prepared CheckSays finishes S.held S.faults S.leads shelf.old shelf.new (Some (plan_of (DumpWords (dump_job job.now)))) result }
 {
-    let names = Names {
+    let names = FileNames {
         netlist: job.netlist,
         signature: job.signature,
         stimulus: job.stimulus,

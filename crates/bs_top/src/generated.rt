@@ -6,7 +6,8 @@ ghost use Rattle.bs_entry.specs.Refusals.{CheckSays};
 ghost use Rattle.bs_top.specs.Demo.{demo_of};
 ghost use Rattle.bs_top.specs.Texts.{AreTexts};
 
-use bs_entry::{Names, Placed, take_placed};
+use crate::budgets::{DEMO_CYCLE, DEMO_RUN};
+use bs_entry::{FileNames, Placed, take_placed};
 use bs_gen::{Job, make};
 use bs_job::JobFault;
 use bs_outside::SureShelf;
@@ -36,17 +37,17 @@ fn files(alloc: Global, job: &Job) -> Result<Vec<(String, Vec<u8>)>, AllocError>
     Ok(files)
 }
 
-/// What the texts of the number make ready: a setup, and the moment of run 1 at cycle 256. No shelf is asked.
+/// What the texts of the number make ready: a setup, and the moment whose dump is traced back. No shelf is asked.
 pub fn take_demo(alloc: Global, number: u64) -> Result<Placed, JobFault>
     ensures { WalksAlone CheckSays (demo_of number) placed_in result }
 {
     let job = make(alloc, number)?;
     let files = files(alloc, &job)?;
     let mut shelf = SureShelf::new(files);
-    let names = Names {
+    let names = FileNames {
         netlist: "netlist",
         signature: "signature",
         stimulus: "stimulus",
     };
-    take_placed(alloc, &mut shelf, &names, 1, 256)
+    take_placed(alloc, &mut shelf, &names, DEMO_RUN, DEMO_CYCLE)
 }

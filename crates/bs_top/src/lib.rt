@@ -3,13 +3,16 @@
 
 mod auditing;
 mod backtracing;
+mod budgets;
 mod dumping;
 mod generated;
 mod law;
+mod program;
 mod summary;
 mod summing;
 mod top;
 
 pub use bs_job::Status;
-pub use law::audit_accepts_what_run_writes;
+pub use law::{audit_accepts_what_run_writes, audit_follows_run};
+pub use program::run_program;
 pub use top::backspace;

@@ -3,11 +3,12 @@ ghost use Rattle.std.specs.Prelude.{◌≡◌, IfOk};
 ghost use Rattle.bs_job.specs.Prepared.{PreparesAlone};
 ghost use Rattle.bs_entry.specs.Ready.{placed_in};
 ghost use Rattle.bs_entry.specs.Refusals.{CheckSays};
-ghost use Rattle.bs_words.specs.Job.{Demo};
+ghost use Rattle.bs_words.specs.Job.{Demo as DemoWords};
 ghost use Rattle.bs_top.specs.Work.{plan_of, to_demo};
 ghost use Rattle.bs_top.specs.Finishes.{finishes};
 
 use crate::backtracing::report_of;
+use crate::budgets::{DEMO_CANDIDATES, DEMO_CONFLICTS, DEMO_STEPS};
 use crate::dumping::dump_of;
 use crate::generated::take_demo;
 use crate::summary::summary_line;
@@ -23,9 +24,9 @@ fn summary_of(alloc: Global, number: u64, placed: &Placed) -> Result<Vec<u8>, No
 {
     let dump = dump_of(alloc, placed)?;
     let budgets = Budgets {
-        steps: 64,
-        candidates: 64,
-        conflicts: 10_000,
+        steps: DEMO_STEPS,
+        candidates: DEMO_CANDIDATES,
+        conflicts: DEMO_CONFLICTS,
     };
     let report = report_of(alloc, &placed.setup, &dump, &budgets)?;
     let text = summary_line(alloc, number, &report)?;
@@ -45,7 +46,7 @@ fn summed(alloc: Global, number: u64, placed: &Placed) -> Result<Reply, NoMemory
 
 /// The answer of the command. It asks no shelf.
 pub fn demo(alloc: Global, number: u64) -> Result<Reply, NoMemory>
-    ensures { IfOk result (PreparesAlone CheckSays finishes (plan_of (Demo number))) }
+    ensures { IfOk result (PreparesAlone CheckSays finishes (plan_of (DemoWords number))) }
 {
     match take_demo(alloc, number) {
         Ok(placed) => summed(alloc, number, &placed),

@@ -1,9 +1,12 @@
-use Rattle.bs_top.proofs.SoundLemmas.{crash_is, finds_ok}
+use Rattle.bs_scan.specs.Crash.{recording_of}
+use Rattle.bs_scan.proofs.CrashLemmas.{crash_is, recording_is}
+use Rattle.bs_top.proofs.SoundLemmas.{finds_ok}
 use Rattle.bs_top.proofs.auditing.find.Goals as goal
 
 pub returns : goal.returns
 returns c =
-    let setup = c.args.claimed.now.crashed.setup in
+    let crashed = c.args.claimed.now.crashed in
+    let setup = crashed.setup in
     finds_ok _ _ _
-    (crash_is setup.net setup.choice setup.runs _ c.order-order.ensures.checked c.count-count.ensures.sound (record { states = setup.states; inputs = setup.inputs }) c.args.claimed.now.crashed.fits)
+    (crash_is (recording_of setup.net.raw setup.choice setup.runs) crashed.dump (recording_is setup.net.raw setup.choice setup.runs c.order-order.ensures.checked c.count-count.ensures.sound setup.states setup.inputs) crashed.fits)
     c.audit.ensures.finding c.audit.ensures.good

@@ -1,8 +1,12 @@
-use Rattle.bs_top.proofs.SoundLemmas.{crash_is, backtrace_ok}
+use Rattle.bs_scan.specs.Crash.{recording_of}
+use Rattle.bs_scan.proofs.CrashLemmas.{crash_is, recording_is}
+use Rattle.bs_top.proofs.SoundLemmas.{backtrace_ok}
 use Rattle.bs_top.proofs.backtracing.report_of.Goals as goal
 
 pub returns-clause-backtrace : goal.returns-clause-backtrace
 returns-clause-backtrace c =
-    backtrace_ok c.args.setup.now.net c.args.setup.now.choice c.args.setup.now.runs c.args.dump.now _ c.args.budgets.now _ c.in_ok-chip.ensures
-    (crash_is c.args.setup.now.net c.args.setup.now.choice c.args.setup.now.runs c.args.dump.now c.order-order.ensures.checked c.count-count.ensures.sound (record { states = c.args.setup.now.states; inputs = c.args.setup.now.inputs }) c.requires.dump)
+    let setup = c.args.setup.now in
+    let recorded = recording_of setup.net.raw setup.choice setup.runs in
+    backtrace_ok recorded _ c.args.dump.now c.args.budgets.now _ c.in_ok-chip.ensures
+    (crash_is recorded c.args.dump.now (recording_is setup.net.raw setup.choice setup.runs c.order-order.ensures.checked c.count-count.ensures.sound setup.states setup.inputs) c.requires.dump)
     c.backtrace.ensures.budgets c.backtrace.ensures.good c.backtrace.ensures.valid c.backtrace.ensures.lean c.backtrace.ensures.bound c.backtrace.ensures.readable

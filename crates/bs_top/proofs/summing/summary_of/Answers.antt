@@ -1,22 +1,25 @@
 use Rattle.std.proofs.Common.{refl, rules, subst, sym}
+use Rattle.bs_net.specs.Netlist.{circuit_of}
 use Rattle.bs_scan.specs.declared.dump.Dump.{Dump}
-use Rattle.bs_entry.specs.Fitting.{IsDump}
+use Rattle.bs_scan.specs.Crash.{crash_of, DumpFits}
+use Rattle.bs_scan.proofs.CrashLemmas.{dump_at_fits}
+use Rattle.bs_entry.specs.Entry.{recording_in}
 use Rattle.bs_entry.specs.Ready.{placed_in}
-use Rattle.bs_top.specs.Finishes.{crash_of, demo_budgets, IsBacktrace}
-use Rattle.bs_top.proofs.DemoLemmas.{dump_at_fits, demo_budget, demo_steps, demo_listed}
+use Rattle.bs_top.specs.Finishes.{demo_budgets, IsBacktrace}
+use Rattle.bs_top.proofs.DemoLemmas.{demo_budget, demo_steps, demo_listed}
 use Rattle.bs_top.proofs.summing.summary_of.Goals as goal
 
 pub report_of-requires : goal.report_of-requires
 report_of-requires c =
     let placed = placed_in c.args.placed.now in
     record {
-      dump = subst (IsDump placed.setup.raw placed.setup.choice) (sym c.in_ok-dump.ensures) (dump_at_fits placed.setup placed.moment);
+      dump = subst (DumpFits (circuit_of placed.setup.raw) placed.setup.choice) (sym c.in_ok-dump.ensures) (dump_at_fits (recording_in placed.setup) placed.moment);
       budgets = demo_budget;
     }
 
 pub summary_line-requires : goal.summary_line-requires
 summary_line-requires c =
-    let crash = crash_of (placed_in c.args.placed.now).setup c.in_ok-dump.dump in
+    let crash = crash_of (recording_in (placed_in c.args.placed.now).setup) c.in_ok-dump.dump in
     record {
       count = demo_steps crash c.in_ok-report.report c.in_ok-report.ensures.backtrace;
       each = demo_listed crash c.in_ok-report.report c.in_ok-report.ensures.backtrace;
@@ -27,7 +30,7 @@ returns c =
     let placed = placed_in c.args.placed.now in
     record {
       report = c.in_ok-report.report;
-      backtrace = subst (λ (d : Dump). IsBacktrace (crash_of placed.setup d) demo_budgets c.in_ok-report.report) c.in_ok-dump.ensures c.in_ok-report.ensures.backtrace;
+      backtrace = subst (λ (d : Dump). IsBacktrace (crash_of (recording_in placed.setup) d) demo_budgets c.in_ok-report.report) c.in_ok-dump.ensures c.in_ok-report.ensures.backtrace;
       written = search rules;
       answered = refl;
     }
