@@ -2,7 +2,8 @@
 use Rattle.std.proofs.Common.{◌≡◌, ℕ, List, Result, Ok, Err, sym, ap}
 use Rattle.bs_stim.specs.declared.fault.StimFault.{StimFault}
 use Rattle.bs_stim.specs.Runs.{Recorded, Stimulus}
-use Rattle.bs_stim.specs.StimulusText.{◌>>=◌, runs_of, stimulus_of}
+use Rattle.bs_bits.specs.Reading.{◌>>=◌}
+use Rattle.bs_stim.specs.StimulusText.{runs_of, stimulus_of}
 
 pub stimulus_fits : (width : ℕ) (texts : List (List ℕ)) (runs : Stimulus) → stimulus_of width texts ≡ Ok runs → runs.width ≡ width
 stimulus_fits width texts runs e = by (runs_of width texts) e

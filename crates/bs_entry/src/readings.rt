@@ -3,7 +3,9 @@ ghost use Rattle.std.specs.Prelude.{◌≡◌, ◌≤◌, length, IfOk};
 ghost use Rattle.std.specs.Bool.{OnTrue};
 ghost use Rattle.bs_net.specs.Netlist.{parts_of, circuit};
 ghost use Rattle.bs_job.specs.declared.limits.TheConstants.{MAX_NETLIST_BYTES, MAX_REPORT_BYTES, MAX_SIGNATURE_BYTES, MAX_STIMULUS_BYTES};
+ghost use Rattle.bs_stim.specs.declared.limits.TheConstants.{MAX_CYCLES, MAX_RUNS};
 ghost use Rattle.bs_stim.specs.Runs.{inputs_of, run_at};
+ghost use Rattle.bs_report.specs.declared.limits.TheConstants.{MAX_STEPS};
 ghost use Rattle.bs_scan.specs.Crash.{DumpFits};
 ghost use Rattle.bs_scan.specs.Moments.{IsMoment};
 ghost use Rattle.bs_job.specs.Walks.{Reads};
@@ -86,8 +88,8 @@ pub fn read_dump(
 /// Whether the runs have a moment.
 fn has_moment(runs: &Runs, run: u64, cycle: u64) -> bool
     ensures is { result ≡ has_moment runs.now run cycle }
-    ensures run { OnTrue result (run ≤ 256) }
-    ensures cycle { OnTrue result (cycle ≤ 65536) }
+    ensures run { OnTrue result (run ≤ MAX_RUNS) }
+    ensures cycle { OnTrue result (cycle ≤ MAX_CYCLES) }
     ensures from_one { OnTrue result (1 ≤ run) }
     ensures recorded { OnTrue result (run ≤ length runs.now.runs) }
     ensures lasts { OnTrue result (cycle ≤ length (run_at runs.now run).inputs) }
@@ -116,7 +118,7 @@ pub fn read_moment(alloc: Global, runs: &Runs, run: u64, cycle: u64) -> Result<M
 pub fn read_report(alloc: Global, bytes: &[u8]) -> Result<Report, Refusal>
     requires { length bytes.now ≤ MAX_REPORT_BYTES }
     ensures reads { Reads CheckSays (λ report. report) (report_read bytes.now) result }
-    ensures steps { IfOk result (λ report. report.budgets.steps ≤ 65536) }
+    ensures steps { IfOk result (λ report. report.budgets.steps ≤ MAX_STEPS) }
 {
     match Report::read(alloc, bytes) {
         Ok(report) => Ok(report),

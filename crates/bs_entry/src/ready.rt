@@ -1,6 +1,7 @@
 //! What the files of a job made ready.
 ghost use Rattle.std.specs.Prelude.{◌≡◌, ◌≤◌, length};
 ghost use Rattle.bs_net.specs.Netlist.{circuit};
+ghost use Rattle.bs_report.specs.declared.limits.TheConstants.{MAX_STEPS};
 ghost use Rattle.bs_stim.specs.Runs.{inputs_of};
 ghost use Rattle.bs_scan.specs.Crash.{DumpFits};
 ghost use Rattle.bs_scan.specs.Moments.{IsMoment};
@@ -49,5 +50,5 @@ pub struct Crashed {
 pub struct Claimed {
     pub crashed: Crashed,
     pub report: Report,
-    ghost steps: { report.budgets.steps ≤ 65536 },
+    ghost steps: { report.budgets.steps ≤ MAX_STEPS },
 }

@@ -3,6 +3,7 @@ ghost use Rattle.std.specs.Prelude.{◌≡◌, ◌≤◌, length, IfOk};
 ghost use Rattle.bs_net.specs.Netlist.{circuit};
 ghost use Rattle.bs_scan.specs.Crash.{DumpFits};
 ghost use Rattle.bs_job.specs.Walks.{Walks};
+ghost use Rattle.bs_report.specs.declared.limits.TheConstants.{MAX_STEPS};
 ghost use Rattle.bs_entry.specs.Entry.{claimed_of, crashed_of, dump_of, netlist_of, placed_of, report_of, setup_of, signature_of, stimulus_of};
 ghost use Rattle.bs_entry.specs.Ready.{claimed_in, crashed_in, names_in, placed_in, setup_in};
 ghost use Rattle.bs_entry.specs.Refusals.{CheckSays};
@@ -114,7 +115,7 @@ pub fn take_crashed<S: Shelf>(
 /// The report of a backtrace.
 fn take_report<S: Shelf>(alloc: Global, shelf: &mut S, name: &str) -> Result<Report, JobFault>
     ensures walks { Walks CheckSays S.held S.faults S.leads shelf.old shelf.new (report_of name.now) (λ report. report) result }
-    ensures steps { IfOk result (λ report. report.budgets.steps ≤ 65536) }
+    ensures steps { IfOk result (λ report. report.budgets.steps ≤ MAX_STEPS) }
 {
     let bytes = fetch_file(alloc, shelf, File::Report, name)?;
     settle(File::Report, read_report(alloc, &bytes))
