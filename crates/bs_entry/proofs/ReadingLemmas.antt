@@ -14,7 +14,8 @@ pub reads_passing : {T : Type 0} (view : T → Parts) (raw : Parts) (net : T) �
 reads_passing view raw net is passing = rw ((passes_is raw).1 passing, sym is) refl
 
 -- the words of a fault of the check are the reason's
-pub reads_refused : {T : Type 0} (view : T → Parts) (raw given : Parts) (refusal : Refusal) → given ≡ raw → HasCheckWords given refusal → Reads CheckSays view (checked_in raw) (Err refusal)
+pub reads_refused : {T : Type 0} (view : T → Parts) (raw given : Parts) (refusal : Refusal) → given ≡ raw → HasCheckWords given refusal →
+    Reads CheckSays view (checked_in raw) (Err refusal)
 reads_refused view raw given refusal same told = by refusal (subst (λ r. HasCheckWords r refusal) same told)
   where
     by : (refusal : Refusal) → HasCheckWords raw refusal → Reads CheckSays view (checked_in raw) (Err refusal)

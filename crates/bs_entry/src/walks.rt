@@ -74,7 +74,11 @@ fn take_dump<S: Shelf>(
 }
 
 /// The netlist, the signature and the stimulus of a job, by the names of their files.
-pub fn take_setup<S: Shelf>(alloc: Global, shelf: &mut S, names: &FileNames<'_>) -> Result<Setup, JobFault>
+pub fn take_setup<S: Shelf>(
+    alloc: Global,
+    shelf: &mut S,
+    names: &FileNames<'_>,
+) -> Result<Setup, JobFault>
     ensures { Walks CheckSays S.held S.faults S.leads shelf.old shelf.new (setup_of (names_in names.now)) setup_in result }
 {
     let net = take_netlist(alloc, shelf, names.netlist)?;

@@ -9,4 +9,6 @@ returns-in_err-bytes-clause-walks g c =
     rw (p.1, p.2) (fetch_stop _ c.in_err-bytes.ensures)
 
 pub returns-clause-walks : goal.returns-clause-walks
-returns-clause-walks g c = reads_then (dump_in c.args.setup.now.net.raw c.args.setup.now.choice) _ _ c.deref.ensures.value c.settle.ensures c.in_ok-bytes.ensures c.read_dump.ensures.reads
+returns-clause-walks g c =
+    reads_then (dump_in c.args.setup.now.net.raw c.args.setup.now.choice) _ _ c.deref.ensures.value c.settle.ensures c.in_ok-bytes.ensures
+    c.read_dump.ensures.reads

@@ -10,4 +10,5 @@ returns-in_err-bytes-clause-walks g c =
     rw (p.1, p.2) (fetch_stop _ c.in_err-bytes.ensures)
 
 pub returns-clause-walks : goal.returns-clause-walks
-returns-clause-walks g c = reads_then (stimulus_in (input_width c.args.net.now.raw)) _ _ c.deref.ensures.value c.settle.ensures c.in_ok-bytes.ensures c.read_stimulus.ensures.reads
+returns-clause-walks g c =
+    reads_then (stimulus_in (input_width c.args.net.now.raw)) _ _ c.deref.ensures.value c.settle.ensures c.in_ok-bytes.ensures c.read_stimulus.ensures.reads
