@@ -12,8 +12,6 @@ mod recording;
 mod search;
 mod solver;
 mod stage;
-#[cfg(test)]
-mod tests;
 mod trail;
 
 pub use law::{analysis_makes_chains, quiet_trails, reasons_make_hints, trails_are_numbers};

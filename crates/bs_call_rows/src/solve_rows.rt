@@ -1,19 +1,20 @@
-//! Rows from outside, and each call that takes memory.
+//! Solves, blocks and ends of steps: rows from outside, and each call that takes memory with ample memory, at small and at
+//! great sizes.
 ghost use Rattle.std.specs.Prelude.{◌≡◌, ◌==◌, true, All};
 ghost use Rattle.std.specs.Bool.{OnTrue};
 ghost use Rattle.std.specs.List.{list_any};
 ghost use Rattle.bs_log.specs.Refusal.{has_distinct_variables};
 ghost use Rattle.bs_clause.specs.Range.{HasVariables};
 
-use crate::{Answer, Solver};
-use bs_clause::{Clauses, Lit, Lits, Var};
+use bs_clause::{Clauses, Lit, Lits, VARIABLE_LIMIT, Var};
+use bs_solve::{Answer, Solver};
 use std::alloc::Global;
 use std::test::Fail;
 
 // A literal as a whole number, negative for a negation.
 fn lit(number: i32) -> Lit {
     let variable = number.unsigned_abs();
-    if 1 <= variable && variable < 1 << 30 {
+    if 1 <= variable && variable < VARIABLE_LIMIT {
         Lit::new(Var(variable), number > 0)
     } else {
         Lit::new(Var(1), true)
@@ -100,14 +101,12 @@ fn word(answer: &Answer) -> &'static str {
 // How the first solve of these clauses ends, and the length of the log.
 fn ending(
     alloc: Global,
-    rows: &[&[i32]],
+    all: Clauses,
     vars: u32,
-    assumptions: &[i32],
+    given: &Lits,
     limit: u64,
 ) -> Result<(&'static str, usize), Fail> {
-    let all = clauses(alloc, rows)?;
-    let given = clause(alloc, assumptions)?;
-    if 1000 < vars || limit < 1 {
+    if 10000 < vars || limit < 1 {
         return Ok(("unfit", 0));
     }
     if !are_fit(vars, all.slice()) {
@@ -121,8 +120,36 @@ fn ending(
     if !is_distinct(given.slice()) {
         return Ok(("unfit", 0));
     }
-    let answer = solver.solve(alloc, &given, limit)?;
+    let answer = solver.solve(alloc, given, limit)?;
     Ok((word(&answer), solver.log().len()))
+}
+
+// The same of clauses and assumptions as numbers.
+fn ending_of(
+    alloc: Global,
+    rows: &[&[i32]],
+    vars: u32,
+    assumptions: &[i32],
+    limit: u64,
+) -> Result<(&'static str, usize), Fail> {
+    let all = clauses(alloc, rows)?;
+    let given = clause(alloc, assumptions)?;
+    ending(alloc, all, vars, &given, limit)
+}
+
+// The same of one clause of so many negative literals, where all of their variables are assumed.
+fn long_ending(alloc: Global, vars: u32) -> Result<(&'static str, usize), Fail> {
+    let mut long = Lits::new(alloc);
+    let mut given = Lits::new(alloc);
+    if vars < VARIABLE_LIMIT {
+        for variable in 1..vars + 1 {
+            long.push(Lit::new(Var(variable), false))?;
+            given.push(Lit::new(Var(variable), true))?;
+        }
+    }
+    let mut all = Clauses::new(alloc);
+    all.push(long)?;
+    ending(alloc, all, vars, &given, 1)
 }
 
 // A solve, a block of what it found, another solve and the step's end: the block's id, how the second solve ends, and the
@@ -137,7 +164,7 @@ fn again(
     let all = clauses(alloc, rows)?;
     let given = clause(alloc, assumptions)?;
     let block = clause(alloc, blocked)?;
-    if 1000 < vars {
+    if 10000 < vars {
         return Ok((0, "unfit", 0));
     }
     if !are_fit(vars, all.slice()) {
@@ -173,12 +200,14 @@ fn solves_end_as_the_rows_say(rt: HostRuntime) -> Result<(), Fail> {
     let alloc = rt.alloc();
     let four: &[&[i32]] = &[&[-1, 2, 3], &[-1, 2, -3], &[-1, -2, 3], &[-1, -2, -3]];
     assert_eq!(rt;
-        ending(alloc, &[&[-1, 2]], 2, &[3, 1, -2], 1)?,
+        ending_of(alloc, &[&[-1, 2]], 2, &[3, 1, -2], 1)?,
         ("refuted", 2)
     );
-    assert_eq!(rt; ending(alloc, four, 3, &[4, 1], 1)?, ("spent", 2));
-    assert_eq!(rt; ending(alloc, four, 3, &[4, 1], 4)?, ("refuted", 3));
-    assert_eq!(rt; ending(alloc, four, 3, &[4, -1], 1)?, ("found", 1));
+    assert_eq!(rt; ending_of(alloc, four, 3, &[4, 1], 1)?, ("spent", 2));
+    assert_eq!(rt; ending_of(alloc, four, 3, &[4, 1], 4)?, ("refuted", 3));
+    assert_eq!(rt; ending_of(alloc, four, 3, &[4, -1], 1)?, ("found", 1));
     assert_eq!(rt; again(alloc, four, 3, &[4, -1], &[2, 3])?, (5, "found", 4));
+    assert_eq!(rt; long_ending(alloc, 1)?, ("refuted", 2));
+    assert_eq!(rt; long_ending(alloc, 3000)?, ("refuted", 2));
     Ok(())
 }
