@@ -5,6 +5,8 @@ use Rattle.std.specs.Option.{option_map, option_and_then, unwrap_or}
 use Rattle.std.specs.Str.{bytes_eq}
 use Rattle.std.proofs.lemmas.Bool.{leb-true, and_parts}
 use Rattle.bs_bits.specs.Lines.{number_in}
+use Rattle.bs_stim.specs.declared.limits.TheConstants.{MAX_RUNS, MAX_CYCLES}
+use Rattle.bs_words.specs.declared.limits.TheConstants.{MAX_STEPS, MAX_CANDIDATES, MAX_CONFLICTS, DEFAULT_STEPS, DEFAULT_CANDIDATES, DEFAULT_CONFLICTS}
 use Rattle.bs_words.specs.declared.options.Kind.{Kind}
 use Rattle.bs_words.specs.declared.options.Kind.TheVariants.{Steps, Candidates, Conflicts}
 use Rattle.bs_words.specs.declared.line.Mode.{Mode}
@@ -59,9 +61,9 @@ value_fits high word n e = by (number_in word) e
 -- ---- lines
 
 pub record Fits (l : Line) : Type 0 where
-  pub steps : InRangeIf 65536 l.steps
-  pub candidates : InRangeIf 65536 l.candidates
-  pub conflicts : InRangeIf (2 ^ 40) l.conflicts
+  pub steps : InRangeIf MAX_STEPS l.steps
+  pub candidates : InRangeIf MAX_CANDIDATES l.candidates
+  pub conflicts : InRangeIf MAX_CONFLICTS l.conflicts
 
 once_fits : (high : ℕ) (o v p : Option ℕ) → InRangeIf high v → once o v ≡ Some p → InRangeIf high p
 once_fits high (Some m) v p fits e n k = absurd (no_some (Option ℕ) p e)
@@ -72,15 +74,31 @@ once_fits high None v p fits e n k =
 set_fits : (l : Line) (kind : Kind) (word : List ℕ) (new : Line) → Fits l → set_to l kind word ≡ Some new → Fits new
 set_fits l Steps word new fits e =
     let m = mapped (Option ℕ) Line (λ (o : Option ℕ). record l { steps = o }) (once l.steps (value_in Steps word)) new e in
-    subst Fits m.is (record { steps = once_fits 65536 l.steps (value_in Steps word) m.value (value_fits 65536 word) m.there; candidates = fits.candidates; conflicts = fits.conflicts })
+    subst Fits m.is (record {
+      steps = once_fits MAX_CANDIDATES l.steps (value_in Steps word) m.value
+          (value_fits MAX_CANDIDATES word) m.there;
+      candidates = fits.candidates;
+      conflicts = fits.conflicts;
+    })
 set_fits l Candidates word new fits e =
     let m = mapped (Option ℕ) Line (λ (o : Option ℕ). record l { candidates = o }) (once l.candidates (value_in Candidates word)) new e in
-    subst Fits m.is (record { steps = fits.steps; candidates = once_fits 65536 l.candidates (value_in Candidates word) m.value (value_fits 65536 word) m.there; conflicts = fits.conflicts })
+    subst Fits m.is (record {
+      steps = fits.steps;
+      candidates = once_fits MAX_CANDIDATES l.candidates (value_in Candidates word) m.value
+          (value_fits MAX_CANDIDATES word) m.there;
+      conflicts = fits.conflicts;
+    })
 set_fits l Conflicts word new fits e =
     let m = mapped (Option ℕ) Line (λ (o : Option ℕ). record l { conflicts = o }) (once l.conflicts (value_in Conflicts word)) new e in
-    subst Fits m.is (record { steps = fits.steps; candidates = fits.candidates; conflicts = once_fits (2 ^ 40) l.conflicts (value_in Conflicts word) m.value (value_fits (2 ^ 40) word) m.there })
+    subst Fits m.is (record {
+      steps = fits.steps;
+      candidates = fits.candidates;
+      conflicts = once_fits MAX_CONFLICTS l.conflicts
+          (value_in Conflicts word) m.value (value_fits MAX_CONFLICTS word) m.there;
+    })
 
-if_fits : (l : Line) (kind : Kind) (o : Option (List ℕ)) (other : Option Line) (new : Line) → Fits l → (other ≡ Some new → Fits new) → set_if l kind o other ≡ Some new → Fits new
+if_fits : (l : Line) (kind : Kind) (o : Option (List ℕ)) (other : Option Line) (new : Line) → Fits l → (other ≡ Some new → Fits new) →
+    set_if l kind o other ≡ Some new → Fits new
 if_fits l kind None other new fits rest e = rest e
 if_fits l kind (Some word) other new fits rest e = set_fits l kind word new fits e
 
@@ -115,7 +133,10 @@ plain_fits options l word s fits e = dashes (bytes_eq word (codes "--")) e
     outer true k = inner options k
     outer false k = subst (λ (t : State). Fits t.line) (some_same State (record { mode = Plain; line = add_to l word }) s k) (added_fits l word fits)
 
-    dashes : (b : Bool) → (if b then Some record { mode = Names; line = l } else (if is_option word then (if options then option_step l word (kind_of word) else None) else Some record { mode = Plain; line = add_to l word })) ≡ some_in State s → Fits s.line
+    dashes : (b : Bool) →
+        (if b then Some record { mode = Names; line = l } else
+        (if is_option word then
+        (if options then option_step l word (kind_of word) else None) else Some record { mode = Plain; line = add_to l word })) ≡ some_in State s → Fits s.line
     dashes true k = subst (λ (t : State). Fits t.line) (some_same State (record { mode = Names; line = l }) s k) fits
     dashes false k = outer (is_option word) k
 
@@ -126,7 +147,8 @@ step_fits options (Wants kind) l word s fits e = by (has_dash word) e
     by : (b : Bool) → (if b then None else in_mode Plain (set_to l kind word)) ≡ some_in State s → Fits s.line
     by true k = absurd (no_some State s k)
     by false k = moded_fits Plain (set_to l kind word) s (λ new h. set_fits l kind word new fits h) k
-step_fits options Names l word s fits e = subst (λ (t : State). Fits t.line) (some_same State (record { mode = Names; line = add_to l word }) s e) (added_fits l word fits)
+step_fits options Names l word s fits e =
+    subst (λ (t : State). Fits t.line) (some_same State (record { mode = Names; line = add_to l word }) s e) (added_fits l word fits)
 
 finish_fits : (mode : Mode) (l new : Line) → Fits l → finish mode l ≡ Some new → Fits new
 finish_fits Plain l new fits e = subst Fits (some_same Line l new e) fits
@@ -135,7 +157,8 @@ finish_fits Names l new fits e = subst Fits (some_same Line l new e) fits
 
 all_fits : (options : Bool) (words : List (List ℕ)) (s : State) (new : Line) → Fits s.line → read_all options words s ≡ Some new → Fits new
 all_fits options [] s new fits e = finish_fits s.mode s.line new fits e
-all_fits options (word ∷ words) s new fits e = by (step options s.mode s.line word) (λ t k. step_fits options s.mode s.line word t fits k) (λ t f k. all_fits options words t new f k) e
+all_fits options (word ∷ words) s new fits e =
+    by (step options s.mode s.line word) (λ t k. step_fits options s.mode s.line word t fits k) (λ t f k. all_fits options words t new f k) e
   where
     by : (o : Option State) → ((t : State) → o ≡ Some t → Fits t.line) → ((t : State) → Fits t.line → read_all options words t ≡ Some new → Fits new) →
         option_and_then (λ (t : State). read_all options words t) o ≡ Some new → Fits new
@@ -147,11 +170,11 @@ start_fits = record { steps = λ n e. absurd (no_some ℕ n e); candidates = λ 
 
 -- ---- jobs
 
--- the budgets of a run: its steps and candidates at most 65,536, its conflicts at most 2 ^ 40
+-- the budgets of a run are at least 1 and not too great
 pub record FitsJob (job : RunJob) : Type 0 where
-  pub steps : InRange 65536 job.steps
-  pub candidates : InRange 65536 job.candidates
-  pub conflicts : InRange (2 ^ 40) job.conflicts
+  pub steps : InRange MAX_STEPS job.steps
+  pub candidates : InRange MAX_CANDIDATES job.candidates
+  pub conflicts : InRange MAX_CONFLICTS job.conflicts
 
 or_default : (high default : ℕ) (o : Option ℕ) → InRange high default → InRangeIf high o → InRange high (unwrap_or o default)
 or_default high default None fits h = fits
@@ -166,9 +189,9 @@ run_same a b e = cc
 run_fits : (l : Line) (positions : List (List ℕ)) → Fits l → RunFits (run_at l positions)
 run_fits l (netlist ∷ signature ∷ stimulus ∷ dump ∷ []) fits job e =
     subst FitsJob (run_same _ job e) (record {
-      steps = or_default 65536 64 l.steps (record { low = omega arith; most = omega arith }) fits.steps;
-      candidates = or_default 65536 256 l.candidates (record { low = omega arith; most = omega arith }) fits.candidates;
-      conflicts = or_default (2 ^ 40) 100000 l.conflicts (record { low = omega arith; most = omega arith }) fits.conflicts;
+      steps = or_default MAX_STEPS DEFAULT_STEPS l.steps (record { low = omega arith; most = omega arith }) fits.steps;
+      candidates = or_default MAX_CANDIDATES DEFAULT_CANDIDATES l.candidates (record { low = omega arith; most = omega arith }) fits.candidates;
+      conflicts = or_default MAX_CONFLICTS DEFAULT_CONFLICTS l.conflicts (record { low = omega arith; most = omega arith }) fits.conflicts;
     })
 run_fits l [] fits job e = absurd (no_some Job (Run job) e)
 run_fits l (a ∷ []) fits job e = absurd (no_some Job (Run job) e)
@@ -191,7 +214,7 @@ dumped_fits a b c (Some run) None job e = absurd (no_some Job (Run job) e)
 dumped_fits a b c None cycle job e = absurd (no_some Job (Run job) e)
 
 dump_fits : (positions : List (List ℕ)) → RunFits (dump_at positions)
-dump_fits (a ∷ b ∷ c ∷ d ∷ x ∷ []) job e = dumped_fits a b c (number_between 1 256 d) (number_between 0 65536 x) job e
+dump_fits (a ∷ b ∷ c ∷ d ∷ x ∷ []) job e = dumped_fits a b c (number_between 1 MAX_RUNS d) (number_between 0 MAX_CYCLES x) job e
 dump_fits [] job e = absurd (no_some Job (Run job) e)
 dump_fits (a ∷ []) job e = absurd (no_some Job (Run job) e)
 dump_fits (a ∷ b ∷ []) job e = absurd (no_some Job (Run job) e)
@@ -209,9 +232,12 @@ demo_fits [] job e = absurd (no_some Job (Run job) e)
 demo_fits (a ∷ b ∷ bs) job e = absurd (no_some Job (Run job) e)
 
 command_fits : (command : List ℕ) (l : Line) → Fits l → RunFits (command_job command l)
-command_fits command l fits job e = by (bytes_eq command (codes "run")) (bytes_eq command (codes "audit")) (bytes_eq command (codes "dump")) (bytes_eq command (codes "demo")) e
+command_fits command l fits job e =
+    by (bytes_eq command (codes "run")) (bytes_eq command (codes "audit")) (bytes_eq command (codes "dump")) (bytes_eq command (codes "demo")) e
   where
-    by : (r a d m : Bool) → (if r then run_job l else (if a then audit_job l else (if d then dump_job l else (if m then demo_job l else None)))) ≡ some_in Job (Run job) → FitsJob job
+    by : (r a d m : Bool) →
+        (if r then run_job l else (if a then audit_job l else (if d then dump_job l else (if m then demo_job l else None)))) ≡ some_in Job (Run job) →
+        FitsJob job
     by true a d m k = run_fits l l.positions fits job k
     by false true d m k = audit_fits l.positions job k
     by false false true m k = dump_fits l.positions job k
@@ -221,7 +247,8 @@ command_fits command l fits job e = by (bytes_eq command (codes "run")) (bytes_e
 -- the budgets of each run that words ask for
 pub job_fits : (words : List (List ℕ)) (job : RunJob) → job_of words ≡ Some (Run job) → FitsJob job
 job_fits [] job e = absurd (no_some Job (Run job) e)
-job_fits (command ∷ words) job e = by (read_all (bytes_eq command (codes "run")) words start) (λ l k. all_fits (bytes_eq command (codes "run")) words start l start_fits k) e
+job_fits (command ∷ words) job e =
+    by (read_all (bytes_eq command (codes "run")) words start) (λ l k. all_fits (bytes_eq command (codes "run")) words start l start_fits k) e
   where
     by : (o : Option Line) → ((l : Line) → o ≡ Some l → Fits l) → option_and_then (command_job command) o ≡ Some (Run job) → FitsJob job
     by None h k = absurd (no_some Job (Run job) k)

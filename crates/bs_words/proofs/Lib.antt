@@ -1,2 +1,4 @@
 pub mod Prefixes
 pub mod BudgetLemmas
+pub mod SpellingLemmas
+pub mod JobLemmas

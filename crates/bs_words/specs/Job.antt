@@ -2,6 +2,8 @@
 use Rattle.std.specs.Prelude.{ℕ, ◌^◌, ◌-◌, List, [], ◌∷◌, codes, Option, Some, None, if◌then◌else◌}
 use Rattle.std.specs.Option.{option_map, option_and_then, unwrap_or}
 use Rattle.std.specs.Str.{bytes_eq}
+use Rattle.bs_stim.specs.declared.limits.TheConstants.{MAX_RUNS, MAX_CYCLES}
+use Rattle.bs_words.specs.declared.limits.TheConstants.{DEFAULT_STEPS, DEFAULT_CANDIDATES, DEFAULT_CONFLICTS}
 use Rattle.bs_words.specs.Options.{number_between}
 use Rattle.bs_words.specs.Line.{Line, read_all, start}
 
@@ -44,9 +46,9 @@ run_at line (netlist ∷ signature ∷ stimulus ∷ dump ∷ []) = Some (Run rec
   signature = signature;
   stimulus = stimulus;
   dump = dump;
-  steps = unwrap_or line.steps 64;
-  candidates = unwrap_or line.candidates 256;
-  conflicts = unwrap_or line.conflicts 100000;
+  steps = unwrap_or line.steps DEFAULT_STEPS;
+  candidates = unwrap_or line.candidates DEFAULT_CANDIDATES;
+  conflicts = unwrap_or line.conflicts DEFAULT_CONFLICTS;
 })
 run_at line _ = None
 
@@ -55,20 +57,23 @@ run_job line = run_at line line.positions
 
 -- `audit` has five file names
 abbrev pub audit_at : List (List ℕ) → Option Job
-audit_at (netlist ∷ signature ∷ stimulus ∷ dump ∷ report ∷ []) = Some (Audit record { netlist = netlist; signature = signature; stimulus = stimulus; dump = dump; report = report })
+audit_at (netlist ∷ signature ∷ stimulus ∷ dump ∷ report ∷ []) =
+    Some (Audit record { netlist = netlist; signature = signature; stimulus = stimulus; dump = dump; report = report })
 audit_at _ = None
 
 abbrev pub audit_job : Line → Option Job
 audit_job line = audit_at line.positions
 
 abbrev pub dump_of : List ℕ → List ℕ → List ℕ → Option ℕ → Option ℕ → Option Job
-dump_of netlist signature stimulus (Some run) (Some cycle) = Some (Dump record { netlist = netlist; signature = signature; stimulus = stimulus; run = run; cycle = cycle })
+dump_of netlist signature stimulus (Some run) (Some cycle) =
+    Some (Dump record { netlist = netlist; signature = signature; stimulus = stimulus; run = run; cycle = cycle })
 dump_of netlist signature stimulus (Some run) None = None
 dump_of netlist signature stimulus None cycle = None
 
--- `dump` has three file names, a run from 1 to 256 and a cycle from 0 to 65,536
+-- `dump` has three file names, a run from 1 and a cycle from 0
 abbrev pub dump_at : List (List ℕ) → Option Job
-dump_at (netlist ∷ signature ∷ stimulus ∷ run ∷ cycle ∷ []) = dump_of netlist signature stimulus (number_between 1 256 run) (number_between 0 65536 cycle)
+dump_at (netlist ∷ signature ∷ stimulus ∷ run ∷ cycle ∷ []) =
+    dump_of netlist signature stimulus (number_between 1 MAX_RUNS run) (number_between 0 MAX_CYCLES cycle)
 dump_at _ = None
 
 abbrev pub dump_job : Line → Option Job

@@ -1,4 +1,5 @@
 pub mod Options
 pub mod Line
 pub mod Job
+pub mod Spelling
 pub mod Shown

@@ -1,9 +1,10 @@
 -- Options and numbers among the words of a command line (docs/FORMATS.md, "Command words").
-use Rattle.std.specs.Prelude.{ℕ, ◌^◌, ◌==◌, nat_le, nat_eq, Bool, false, not, ◌&&◌, List, [], ◌∷◌, length, drop, codes, Option, Some, None, if◌then◌else◌}
+use Rattle.std.specs.Prelude.{ℕ, ◌==◌, nat_le, nat_eq, Bool, false, not, ◌&&◌, List, [], ◌∷◌, length, drop, codes, Option, Some, None, if◌then◌else◌}
 use Rattle.std.specs.Option.{option_and_then}
 use Rattle.std.specs.Str.{bytes_eq}
 use Rattle.std.specs.List.{starts_with}
 use Rattle.bs_bits.specs.Lines.{number_in}
+use Rattle.bs_words.specs.declared.limits.TheConstants.{MAX_STEPS, MAX_CANDIDATES, MAX_CONFLICTS}
 use Rattle.bs_words.specs.declared.options.Kind.{Kind}
 use Rattle.bs_words.specs.declared.options.Kind.TheVariants.{Steps, Candidates, Conflicts}
 
@@ -13,9 +14,9 @@ number_between low high word = option_and_then (λ (n : ℕ). if nat_le low n &&
 
 -- the greatest value of an option
 abbrev pub greatest : Kind → ℕ
-greatest Steps = 65536
-greatest Candidates = 65536
-greatest Conflicts = 2 ^ 40
+greatest Steps = MAX_STEPS
+greatest Candidates = MAX_CANDIDATES
+greatest Conflicts = MAX_CONFLICTS
 
 -- the value that a word gives an option
 abbrev pub value_in : Kind → List ℕ → Option ℕ
@@ -32,7 +33,9 @@ is_option word = has_dash word && not (bytes_eq word (codes "-"))
 
 -- the option whose value is the next word
 abbrev pub kind_of : List ℕ → Option Kind
-kind_of word = if bytes_eq word (codes "--steps") then Some Steps else (if bytes_eq word (codes "--candidates") then Some Candidates else (if bytes_eq word (codes "--conflicts") then Some Conflicts else None))
+kind_of word =
+    if bytes_eq word (codes "--steps") then Some Steps else
+    (if bytes_eq word (codes "--candidates") then Some Candidates else (if bytes_eq word (codes "--conflicts") then Some Conflicts else None))
 
 -- what stands behind a prefix
 abbrev pub rest_of : List ℕ → List ℕ → Option (List ℕ)

@@ -18,7 +18,8 @@ shown None = None
 shown (Some l) = Some (line_in l)
 
 abbrev pub job_in : CodeJob → Job
-job_in (J.Run r) = Run record { netlist = r.netlist.now; signature = r.signature.now; stimulus = r.stimulus.now; dump = r.dump.now; steps = r.steps; candidates = r.candidates; conflicts = r.conflicts }
+job_in (J.Run r) =
+    Run record { netlist = r.netlist.now; signature = r.signature.now; stimulus = r.stimulus.now; dump = r.dump.now; steps = r.steps; candidates = r.candidates; conflicts = r.conflicts }
 job_in (J.Audit a) = Audit record { netlist = a.netlist.now; signature = a.signature.now; stimulus = a.stimulus.now; dump = a.dump.now; report = a.report.now }
 job_in (J.Dump d) = Dump record { netlist = d.netlist.now; signature = d.signature.now; stimulus = d.stimulus.now; run = d.run; cycle = d.cycle }
 job_in (J.Demo number) = Demo number

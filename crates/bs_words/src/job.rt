@@ -1,10 +1,13 @@
 //! The job that words are: a command, its files and its numbers.
-ghost use Rattle.std.specs.Prelude.{◌≡◌, map, string_bytes, IfOk};
+ghost use Rattle.std.specs.Prelude.{◌≡◌, map, string_bytes, IfOk, MatchOption};
 ghost use Rattle.bs_words.specs.Job.{audit_job, command_job, demo_job, dump_job, job_of, run_job};
 ghost use Rattle.bs_words.specs.Shown.{line_in, shown_job};
+ghost use Rattle.bs_words.specs.Spelling.{IsJob, IsNoJob};
 
+use crate::limits::{DEFAULT_CANDIDATES, DEFAULT_CONFLICTS, DEFAULT_STEPS};
 use crate::line::{Line, read_line};
 use crate::options::number_between;
+use bs_stim::{MAX_CYCLES, MAX_RUNS};
 use std::alloc::{AllocError, Global};
 
 /// `run`: the names of its files, and its budgets.
@@ -59,9 +62,9 @@ fn run_job<'a>(line: &Line<'a>) -> Option<Job<'a>>
             signature,
             stimulus,
             dump,
-            steps: line.steps.unwrap_or(64),
-            candidates: line.candidates.unwrap_or(256),
-            conflicts: line.conflicts.unwrap_or(100_000),
+            steps: line.steps.unwrap_or(DEFAULT_STEPS),
+            candidates: line.candidates.unwrap_or(DEFAULT_CANDIDATES),
+            conflicts: line.conflicts.unwrap_or(DEFAULT_CONFLICTS),
         })),
         _ => None,
     }
@@ -90,8 +93,8 @@ fn dump_job<'a>(line: &Line<'a>) -> Option<Job<'a>>
     match line.positions.as_slice() {
         [netlist, signature, stimulus, run, cycle] => {
             match (
-                number_between(1, 256, run),
-                number_between(0, 65_536, cycle),
+                number_between(1, u64::from(MAX_RUNS), run),
+                number_between(0, u64::from(MAX_CYCLES), cycle),
             ) {
                 (Some(run), Some(cycle)) => Some(Job::Dump(DumpJob {
                     netlist,
@@ -120,9 +123,8 @@ fn demo_job<'a>(line: &Line<'a>) -> Option<Job<'a>>
     }
 }
 
-/// The job that the words of a command line are, without the program's name, if they are one. The first word is the
-/// command; options belong to `run` alone.
-pub fn read_words(alloc: Global, words: &[String]) -> Result<Option<Job<'_>>, AllocError>
+/// The job that words are, if they are one.
+fn job_of_words(alloc: Global, words: &[String]) -> Result<Option<Job<'_>>, AllocError>
     ensures { IfOk result (λ job. shown_job job ≡ job_of (map string_bytes words.now)) }
 {
     let [command, rest @ ..] = words else {
@@ -133,6 +135,17 @@ pub fn read_words(alloc: Global, words: &[String]) -> Result<Option<Job<'_>>, Al
         return Ok(None);
     };
     Ok(job_in(command, &line))
+}
+
+/// The job that the words of a command line are, without the program's name, if they are one. The first word is the
+/// command; options belong to `run` alone.
+#[tactic(auto, using(crate::proofs::JobLemmas::job_spelled))]
+pub fn read_words(alloc: Global, words: &[String]) -> Result<Option<Job<'_>>, AllocError>
+    ensures read { IfOk result (λ job. shown_job job ≡ job_of (map string_bytes words.now)) }
+    ensures spelled { IfOk result (λ job. MatchOption (shown_job job) (IsNoJob (map string_bytes words.now)) (IsJob (map string_bytes words.now))) }
+{
+    let job = job_of_words(alloc, words)?;
+    Ok(job)
 }
 
 /// The job of a command and what stands behind it.

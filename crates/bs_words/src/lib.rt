@@ -2,9 +2,13 @@
 #![tactic(auto)]
 
 mod job;
+mod law;
+mod limits;
 mod line;
 mod options;
-#[cfg(test)]
-mod tests;
 
 pub use job::{AuditJob, DumpJob, Job, RunJob, read_words};
+pub use law::spelled_jobs_are_read;
+pub use limits::{
+    DEFAULT_CANDIDATES, DEFAULT_CONFLICTS, DEFAULT_STEPS, MAX_CANDIDATES, MAX_CONFLICTS, MAX_STEPS,
+};

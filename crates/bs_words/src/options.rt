@@ -3,6 +3,7 @@ ghost use Rattle.std.specs.Prelude.{◌≡◌};
 ghost use Rattle.std.specs.Option.{option_copied};
 ghost use Rattle.bs_words.specs.Options.{greatest, has_dash, is_option, kind_of, number_between, rest_of, value_in};
 
+use crate::limits::{MAX_CANDIDATES, MAX_CONFLICTS, MAX_STEPS};
 use bs_bits::read_number;
 
 /// An option of a run: a budget.
@@ -28,8 +29,9 @@ fn greatest(kind: Kind) -> u64
     ensures { result ≡ greatest kind }
 {
     match kind {
-        Kind::Steps | Kind::Candidates => 65_536,
-        Kind::Conflicts => 1 << 40,
+        Kind::Steps => MAX_STEPS,
+        Kind::Candidates => MAX_CANDIDATES,
+        Kind::Conflicts => MAX_CONFLICTS,
     }
 }
 
