@@ -1,8 +1,7 @@
 -- The report of the steps made is good, and has the log that it owes.
-use Rattle.std.proofs.Common.{◌≡◌, ℕ, ◌+◌, ◌-◌, ◌≤◌, Bool, true, false, List, [], length, map, reverse, ap, subst, sym, ◌∙◌, Option, Some, arith}
-use Rattle.std.specs.Prelude.{slice_get, slice_index_or, unwrap_or, All, option_map}
+use Rattle.std.proofs.Common.{◌≡◌, ℕ, ◌+◌, ◌-◌, ◌≤◌, true, false, List, [], length, map, reverse, ap, subst, sym, ◌∙◌, Option, Some, arith}
+use Rattle.std.specs.Prelude.{slice_get, slice_index_or, unwrap_or, option_map}
 use Rattle.std.proofs.lemmas.List.{reverse-reverse}
-use Rattle.std.proofs.lemmas.List.Elements.{All-map, All-weaker}
 use Rattle.std.proofs.lemmas.Option.{slice_get-map}
 use Rattle.bs_clause.specs.UnitRun.{IsUnitRun}
 use Rattle.bs_clause.specs.Literal.{Clause}
@@ -11,10 +10,9 @@ use Rattle.bs_log.specs.History.{Problem}
 use Rattle.bs_log.specs.Steps.{steps_of}
 use Rattle.bs_log.specs.Lean.{LemmasAreLean}
 use Rattle.bs_log.specs.Refusal.{assumptions_of, history_of, IsAccepted}
-use Rattle.bs_stim.specs.Runs.{Recorded, IsRecorded}
 use Rattle.bs_scan.specs.declared.dump.Dump.{Dump}
-use Rattle.bs_scan.specs.Moments.{Run}
-use Rattle.bs_chip.specs.Chip.{Chipped, circuit_in, runs_in}
+use Rattle.bs_scan.specs.Crash.{Recording, IsRecording, Crash, crash_of, DumpFits}
+use Rattle.bs_scan.proofs.CrashLemmas.{crash_is}
 use Rattle.bs_encode.specs.Tables.{lit}
 use Rattle.bs_encode.specs.Assuming.{assumptions_for, steps_from, problem_of, basis_of}
 use Rattle.bs_encode.proofs.AssumingLemmas.{assumptions_at}
@@ -22,9 +20,7 @@ use Rattle.bs_scan.specs.Present.{Present}
 use Rattle.bs_report.specs.declared.report.Step.{Step}
 use Rattle.bs_report.specs.declared.report.Budgets.{Budgets}
 use Rattle.bs_report.specs.declared.report.Report.{Report}
-use Rattle.bs_scan.specs.Crash.{Crash, IsCrash}
 use Rattle.bs_good.proofs.LoggedLemmas.{good_is_valid}
-use Rattle.bs_loop.specs.Crash.{crash_of, IsDumpFor, IsSound}
 use Rattle.bs_good.specs.Chain.{present_of}
 use Rattle.bs_good.specs.Trace.{IsTrace}
 use Rattle.bs_good.specs.Stop.{StopsFor}
@@ -75,14 +71,17 @@ problem_is : (crash : Crash) (budgets : Budgets) (s : PreimageState) (r : Report
     s.problem ≡ problem_of (encoding_in crash) (map present_of r.steps)
 problem_is crash budgets s r of = ap (λ (p : PreimageState). p.problem) of.ended.made.state
 
-pub is_logged : (crash : Crash) (budgets : Budgets) (s : PreimageState) (r : Report) → IsReportOf crash budgets s r → (s.failed ≡ false → IsAccepted s.problem r.log) →
+pub is_logged : (crash : Crash) (budgets : Budgets) (s : PreimageState) (r : Report) → IsReportOf crash budgets s r →
+    (s.failed ≡ false → IsAccepted s.problem r.log) →
     IsLogged (basis_of crash.circuit crash.choice.items (map present_of r.steps)) r
 is_logged crash budgets s r of accepted =
     record {
-      accepted = subst (λ (p : Problem). IsAccepted p r.log) (problem_is crash budgets s r of) (accepted (ap (λ (p : PreimageState). p.failed) of.ended.made.state));
+      accepted =
+          subst (λ (p : Problem). IsAccepted p r.log) (problem_is crash budgets s r of) (accepted (ap (λ (p : PreimageState). p.failed) of.ended.made.state));
       blocks = λ i step is. (logged_in crash budgets s r of i step is).blocks;
       finish = λ i step is.
-          subst (λ (c : Clause). is_right_finish r.budgets.conflicts c (slice_index_or (steps_of r.log) i []) step.end (finishes_in (slice_index_or (steps_of r.log) i [])) ≡ true)
+          subst (λ (c : Clause). is_right_finish r.budgets.conflicts c (slice_index_or (steps_of r.log) i []) step.end
+          (finishes_in (slice_index_or (steps_of r.log) i [])) ≡ true)
           (assumed crash r.steps i step is) (logged_in crash budgets s r of i step is).finish;
     }
 
@@ -90,22 +89,12 @@ pub is_lean : (crash : Crash) (budgets : Budgets) (s : PreimageState) (r : Repor
     LemmasAreLean (problem_of (encoding_in crash) (map present_of r.steps)) (history_of r.log)
 is_lean crash budgets s r of lean = subst (λ (p : Problem). LemmasAreLean p (history_of r.log)) (problem_is crash budgets s r of) lean
 
-inputs_fit : (chip : Chipped) → IsSound chip → All (λ run. All (λ input. length input ≡ length (circuit_in chip).inputs) run) (runs_in chip)
-inputs_fit chip sound =
-    All-map (λ (run : Run). All (λ (input : List Bool). length input ≡ length (circuit_in chip).inputs) run) (λ (run : Recorded). run.inputs) chip.runs.runs
-    (All-weaker (IsRecorded chip.runs.width) (λ (run : Recorded). All (λ (input : List Bool). length input ≡ length (circuit_in chip).inputs) run.inputs)
-    (λ run is. subst (λ (n : ℕ). All (λ (input : List Bool). length input ≡ n) run.inputs) sound.fitting.inputs is.widths) chip.runs.runs sound.runs.recorded)
-
--- a dump of a chip is what a backtrace can begin at
-pub is_crash : (chip : Chipped) (dump : Dump) → IsSound chip → IsDumpFor chip dump → IsCrash (crash_of chip dump)
-is_crash chip dump sound fits =
-    record { checked = sound.checked; inputs = inputs_fit chip sound; state = fits.state; signatures = fits.signatures }
-
-pub is_valid : (chip : Chipped) (dump : Dump) (budgets : Budgets) (s : PreimageState) (r : Report) → IsSound chip → IsDumpFor chip dump → IsReportOf (crash_of chip dump) budgets s r →
-    (s.failed ≡ false → IsAccepted s.problem r.log) → IsValid (crash_of chip dump) (basis_of (circuit_in chip) chip.choice.items (map present_of r.steps)) r
-is_valid chip dump budgets s r sound fits of accepted =
-    good_is_valid (crash_of chip dump) (basis_of (circuit_in chip) chip.choice.items (map present_of r.steps)) r (is_crash chip dump sound fits)
-    (is_good (crash_of chip dump) budgets s r of) (is_logged (crash_of chip dump) budgets s r of accepted)
+pub is_valid : (r : Recording) (dump : Dump) (budgets : Budgets) (s : PreimageState) (report : Report) → IsRecording r →
+    DumpFits r.circuit r.choice dump → IsReportOf (crash_of r dump) budgets s report →
+    (s.failed ≡ false → IsAccepted s.problem report.log) → IsValid (crash_of r dump) (basis_of r.circuit r.choice.items (map present_of report.steps)) report
+is_valid r dump budgets s report sound fits of accepted =
+    good_is_valid (crash_of r dump) (basis_of r.circuit r.choice.items (map present_of report.steps)) report (crash_is r dump sound fits)
+    (is_good (crash_of r dump) budgets s report of) (is_logged (crash_of r dump) budgets s report of accepted)
 
 pub has_bound : (crash : Crash) (budgets : Budgets) (s : PreimageState) (r : Report) → IsReportOf crash budgets s r →
     HasBound (problem_of (encoding_in crash) (map present_of r.steps)) r

@@ -1,5 +1,5 @@
 -- One more step of a backtrace.
-use Rattle.std.proofs.Common.{◌≡◌, ℕ, suc, zero, ◌+◌, ◌-◌, ◌<◌, ◌^◌, true, List, [], ◌∷◌, ◌++◌, map, length, reverse, ap, subst, sym, ◌∙◌, Some, arith}
+use Rattle.std.proofs.Common.{◌≡◌, ℕ, suc, zero, ◌+◌, ◌-◌, ◌<◌, ◌^◌, Bool, true, Option, List, [], ◌∷◌, ◌++◌, map, length, reverse, ap, subst, sym, ◌∙◌, Some, arith}
 use Rattle.std.specs.Prelude.{slice_get, slice_index_or}
 use Rattle.std.proofs.lemmas.List.{length-append, length-map, map-append}
 use Rattle.std.proofs.lemmas.List.Elements.{All-append, All-from_recursion}
@@ -9,24 +9,25 @@ use Rattle.bs_clause.specs.Range.{HasVariables}
 use Rattle.bs_log.specs.declared.line.Line.{Line}
 use Rattle.bs_log.specs.Steps.{steps_of}
 use Rattle.bs_scan.specs.declared.dump.Dump.{Dump}
+use Rattle.bs_scan.specs.Dump.{signatures_of}
 use Rattle.bs_scan.specs.Present.{Present, present_in}
-use Rattle.bs_chip.specs.Chip.{Chipped}
+use Rattle.bs_scan.specs.Crash.{Recording, Crash, crash_of}
+use Rattle.bs_chip.specs.declared.replay.Hit.{Hit}
 use Rattle.bs_encode.specs.Tables.{lit}
 use Rattle.bs_encode.specs.Assuming.{assumptions_for, block_for, steps_from, problem_of}
 use Rattle.bs_encode.proofs.AssumingLemmas.{length_steps_from, steps_from_more}
 use Rattle.bs_report.specs.declared.report.ListEnd.TheVariants.{Conflicts}
 use Rattle.bs_report.specs.declared.report.Step.{Step}
 use Rattle.bs_report.specs.declared.report.Budgets.{Budgets}
-use Rattle.bs_scan.specs.Crash.{Crash}
 use Rattle.bs_good.specs.Step.{IsRightStep}
 use Rattle.bs_good.specs.Chain.{present_of}
 use Rattle.bs_good.specs.Valid.{blocks_due, are_right_blocks, blocks_in, is_right_finish, finishes_in}
 use Rattle.bs_good.proofs.LoopLemmas.{follow_more}
+use Rattle.bs_preimage.specs.declared.listing.Listing.{Listing}
 use Rattle.bs_preimage.specs.Preimage.{PreimageState, next_guard}
 use Rattle.bs_preimage.specs.Listed.{HasListed}
-use Rattle.bs_loop.specs.Crash.{crash_of}
 use Rattle.bs_loop.specs.Made.{encoding_in, guard_at, IsLoggedStep, state_after, HasMade, StandsAt}
-use Rattle.bs_loop.specs.Turn.{IsStepBack}
+use Rattle.bs_loop.specs.Turn.{step_of, HasLookedBack, IsStepBack}
 
 -- ---- the lines of the steps
 
@@ -49,7 +50,8 @@ guard_next crash steps =
     (length_steps_from (encoding_in crash) 1 (map present_of steps) ∙ length-map steps present_of)
 
 problem_more : (crash : Crash) (steps : List Step) (step : Step) →
-    steps_from (encoding_in crash) 1 (map present_of steps) ++ assumptions_for (encoding_in crash) (next_guard (problem_of (encoding_in crash) (map present_of steps))) (present_of step) ∷ []
+    steps_from (encoding_in crash) 1 (map present_of steps) ++ assumptions_for (encoding_in crash)
+    (next_guard (problem_of (encoding_in crash) (map present_of steps))) (present_of step) ∷ []
     ≡ steps_from (encoding_in crash) 1 (map present_of (steps ++ step ∷ []))
 problem_more crash steps step =
     let e = encoding_in crash in
@@ -60,27 +62,35 @@ problem_more crash steps step =
     ∙ sym (steps_from_more e 1 qs (present_of step))
     ∙ ap (steps_from e 1) (sym (map-append present_of steps (step ∷ [])))
 
-pub made_more : (chip : Chipped) (dump : Dump) (budgets : Budgets) (steps : List Step) (old new : PreimageState) (now : Dump) (step : Step) →
-    HasMade (crash_of chip dump) budgets steps old → StandsAt (crash_of chip dump) steps now → IsStepBack chip budgets old new now step →
-    HasMade (crash_of chip dump) budgets (steps ++ step ∷ []) new
-made_more chip dump budgets steps old new now step made stands back =
-    let crash : Crash = crash_of chip dump in
+step_made : (r : Recording) (dump : Dump) (budgets : Budgets) (steps : List Step) (old new : PreimageState) (now : Dump) (stored : List Bool) (listing : Listing) (hit : Option Hit) →
+    HasMade (crash_of r dump) budgets steps old → StandsAt (crash_of r dump) steps now → signatures_of now ≡ stored ∷ [] →
+    HasLookedBack r budgets old new now stored listing hit →
+    HasMade (crash_of r dump) budgets (steps ++ step_of now stored listing hit ∷ []) new
+step_made r dump budgets steps old new now stored listing hit made stands held back =
+    let crash : Crash = crash_of r dump in
+    let step : Step = step_of now stored listing hit in
     let more : List Step = steps ++ step ∷ [] in
-    let l : HasListed (state_after crash steps old.history) new step.present step.stored budgets.candidates budgets.conflicts (record { cands = step.cands; end = step.end }) =
-    subst (λ (s : PreimageState). HasListed s new step.present step.stored budgets.candidates budgets.conflicts (record { cands = step.cands; end = step.end })) made.state back.listed in
+    let l : HasListed (state_after crash steps old.history) new now.state stored budgets.candidates budgets.conflicts listing =
+    subst (λ (s : PreimageState). HasListed s new now.state stored budgets.candidates budgets.conflicts listing) made.state back.listed in
     let problem : new.problem ≡ problem_of (encoding_in crash) (map present_of more) =
     λ i. record { vars = l.goes_on.vars i; clauses = l.goes_on.clauses i; steps = (l.steps ∙ problem_more crash steps step) i } in
     let calls : new.calls ≡ length more =
     back.calls ∙ ap (λ (s : PreimageState). s.calls + 1) made.state ∙ sym (length-append steps (step ∷ [])) in
     let present : present_in now ≡ present_of step =
-    λ i. record { state = sym back.present i; stored = back.stored i } in
+    λ i. record { state = now.state; stored = held i } in
     let logged : IsLoggedStep crash budgets (length steps) l.lines step =
     record {
       ends = l.ends;
-      blocks = subst (λ (g : Literal). are_right_blocks (blocks_due g (block_for (encoding_in crash)) step.cands) (blocks_in l.lines) ≡ true) (guard_next crash steps) l.blocks;
-      finish = subst (λ (g : Literal). is_right_finish budgets.conflicts (assumptions_for (encoding_in crash) g (present_of step)) l.lines step.end (finishes_in l.lines) ≡ true) (guard_next crash steps) l.finish;
-      bound = subst (λ (g : Literal). step.end ≡ Conflicts → (run : List Literal) → HasVariables (encoding_in crash).variables run →
-          IsUnitRun (encoding_in crash).clauses (assumptions_for (encoding_in crash) g (present_of step)) run → budgets.conflicts < 2 ^ ((encoding_in crash).variables - length run)) (guard_next crash steps) l.bound;
+      blocks =
+          subst (λ (g : Literal). are_right_blocks (blocks_due g (block_for (encoding_in crash)) listing.cands) (blocks_in l.lines) ≡ true)
+          (guard_next crash steps) l.blocks;
+      finish =
+          subst (λ (g : Literal). is_right_finish budgets.conflicts (assumptions_for (encoding_in crash) g (present_of step)) l.lines listing.end
+          (finishes_in l.lines) ≡ true)
+          (guard_next crash steps) l.finish;
+      bound = subst (λ (g : Literal). listing.end ≡ Conflicts → (run : List Literal) → HasVariables (encoding_in crash).variables run →
+          IsUnitRun (encoding_in crash).clauses (assumptions_for (encoding_in crash) g (present_of step)) run →
+          budgets.conflicts < 2 ^ ((encoding_in crash).variables - length run)) (guard_next crash steps) l.bound;
     } in
     record {
       state = λ i. record {
@@ -92,9 +102,22 @@ made_more chip dump budgets steps old new now step made stands back =
         failed = l.well i;
       };
       right = All-append (IsRightStep crash) steps (step ∷ []) made.right
-          (All-from_recursion (IsRightStep crash) (step ∷ []) (record { ascend = l.ascend; candidates = l.candidates; hit = back.hit }, tt));
+          (All-from_recursion (IsRightStep crash) (step ∷ []) (record { ascend = l.ascend; candidates = l.candidates; hit = back.line }, tt));
       follow = follow_more crash (Some (present_in crash.dump)) steps step made.follow (stands ∙ ap Some present);
-      count = ap length l.step_lines ∙ length-append (steps_of (reverse old.history)) (l.lines ∷ []) ∙ ap (λ (n : ℕ). n + 1) made.count ∙ sym (length-append steps (step ∷ []));
-      logged = subst (λ (ls : List (List Line)). (i : ℕ) (s : Step) → slice_get more i ≡ Some s → IsLoggedStep crash budgets i (slice_index_or ls i []) s) (sym l.step_lines)
+      count =
+          ap length l.step_lines
+          ∙ length-append (steps_of (reverse old.history)) (l.lines ∷ [])
+          ∙ ap (λ (n : ℕ). n + 1) made.count
+          ∙ sym (length-append steps (step ∷ []));
+      logged =
+          subst (λ (ls : List (List Line)). (i : ℕ) (s : Step) → slice_get more i ≡ Some s → IsLoggedStep crash budgets i (slice_index_or ls i []) s)
+          (sym l.step_lines)
           (at_more (λ i ls s. IsLoggedStep crash budgets i ls s) steps step (steps_of (reverse old.history)) l.lines made.count made.logged logged);
     }
+
+pub made_more : (r : Recording) (dump : Dump) (budgets : Budgets) (steps : List Step) (old new : PreimageState) (now : Dump) (step : Step) (hit : Option Hit) →
+    HasMade (crash_of r dump) budgets steps old → StandsAt (crash_of r dump) steps now → IsStepBack r budgets old new now step hit →
+    HasMade (crash_of r dump) budgets (steps ++ step ∷ []) new
+made_more r dump budgets steps old new now step hit made stands is =
+    subst (λ (s : Step). HasMade (crash_of r dump) budgets (steps ++ s ∷ []) new) (sym is.step_is)
+    (step_made r dump budgets steps old new now is.stored is.listing hit made stands is.held is.back)

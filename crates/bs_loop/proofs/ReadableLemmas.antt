@@ -4,17 +4,17 @@ use Rattle.std.specs.Prelude.{slice_get, slice_index_or, filter_map, nat_eq, All
 use Rattle.std.specs.List.{AllByRecursion as Each, cons_option}
 use Rattle.std.specs.Cmp.Lexicographic.{pointwise, same_text}
 use Rattle.std.proofs.lemmas.Bool.{false≢true}
-use Rattle.std.proofs.lemmas.List.{length-map, length-reverse}
+use Rattle.std.proofs.lemmas.List.{length-reverse}
 use Rattle.std.proofs.lemmas.List.Elements.{All-from_recursion, All-get_or, recursion_from_All}
 use Rattle.bs_log.specs.declared.line.Line.{Line}
 use Rattle.bs_log.specs.declared.line.Line.TheVariants.{Solve, Lemma, Block, Finish, Retire, Delete}
 use Rattle.bs_log.specs.LineForms.{IsId, HasText}
 use Rattle.bs_log.specs.Steps.{onto_step, steps_of, finish_of_line}
-use Rattle.bs_stim.specs.Runs.{Stimulus, Recorded, IsRecorded, IsStimulus, no_run, run_at, inputs_of}
-use Rattle.bs_chip.specs.Chip.{Chipped, runs_in}
-use Rattle.bs_chip.proofs.ReplayLemmas.{run_inputs}
+use Rattle.bs_scan.specs.Crash.{Recording, IsRecording, crash_of}
 use Rattle.bs_scan.specs.declared.dump.Dump.{Dump}
-use Rattle.bs_scan.specs.Moments.{run_of}
+use Rattle.bs_scan.proofs.MomentLemmas.{each_from}
+use Rattle.bs_scan.specs.Moments.{Run, run_of}
+use Rattle.bs_report.specs.declared.limits.TheConstants.{MAX_STEPS}
 use Rattle.bs_report.specs.declared.report.HitLine.{HitLine}
 use Rattle.bs_report.specs.declared.report.ListEnd.{ListEnd}
 use Rattle.bs_report.specs.declared.report.ListEnd.TheVariants.{Finished, Candidates, Conflicts}
@@ -29,14 +29,15 @@ use Rattle.bs_report.specs.Text.{HasEndText, HasHitText, HasStepText, HasReportT
 use Rattle.bs_good.specs.Valid.{finishes_in, is_right_finish}
 use Rattle.bs_good.proofs.ProgressLemmas.{hit_at, all_at}
 use Rattle.bs_preimage.specs.Preimage.{PreimageState}
-use Rattle.bs_loop.specs.Crash.{crash_of, IsBudget, IsSound}
+use Rattle.bs_loop.specs.Budget.{IsBudget}
 use Rattle.bs_loop.specs.Made.{encoding_in, guard_at}
 use Rattle.bs_loop.proofs.GoodLemmas.{IsReportOf, logged_in, is_good}
 use Rattle.bs_loop.proofs.TraceLemmas.{input_behind, one_state_more}
 
 -- ---- the lines of a step
 
-onto : (line : Line) (ss : List (List Line)) → HasText line → ((k : ℕ) → Each HasText (get_or ss k [])) → (k : ℕ) → Each HasText (get_or (onto_step line ss) k [])
+onto : (line : Line) (ss : List (List Line)) → HasText line → ((k : ℕ) → Each HasText (get_or ss k [])) → (k : ℕ) →
+    Each HasText (get_or (onto_step line ss) k [])
 onto line [] t h k = h k
 onto line (s ∷ ss) t h zero = (t, h zero)
 onto line (s ∷ ss) t h (suc k) = h (suc k)
@@ -64,36 +65,26 @@ named (Finish i ∷ rest) id t e =
     let same : i ≡ id = cc in
     subst IsId same t.0
 
-end_text : (b : ℕ) (assumptions : Clause) (lines : List Line) (end : ListEnd) → Each HasText lines → is_right_finish b assumptions lines end (finishes_in lines) ≡ true → HasEndText end
+end_text : (b : ℕ) (assumptions : Clause) (lines : List Line) (end : ListEnd) → Each HasText lines →
+    is_right_finish b assumptions lines end (finishes_in lines) ≡ true → HasEndText end
 end_text b assumptions lines (Finished id) t e = named lines id t e
 end_text b assumptions lines Candidates t e = tt
 end_text b assumptions lines Conflicts t e = tt
 
 -- ---- the hits
 
-cycles_of : (s : Stimulus) (r : ℕ) → IsStimulus s → 1 ≤ r → r ≤ length s.runs → length (run_of (inputs_of s) r) ≤ 65536
-cycles_of s r is from_one there =
-    let below : r - 1 < length s.runs = omega arith in
-    let recorded : IsRecorded s.width (run_at s r) = All-get_or (IsRecorded s.width) s.runs (r - 1) no_run below is.recorded in
-    subst (λ (run : List (List Bool)). length run ≤ 65536) (sym (run_inputs s r)) recorded.few_cycles
-
-hit_text : (chip : Chipped) (dump : Dump) (step : Step) → IsSound chip → IsRightStep (crash_of chip dump) step → HasHitText step.hit
-hit_text chip dump step sound right = by step.hit refl
+hit_text : (r : Recording) (dump : Dump) (step : Step) → IsRecording r → IsRightStep (crash_of r dump) step → HasHitText step.hit
+hit_text r dump step sound right = by step.hit refl
   where
     by : (o : Option HitLine) → step.hit ≡ o → HasHitText o
     by None e = tt
     by (Some hit) e =
-        let at = (hit_at (crash_of chip dump) step hit (sym e ∙ right.hit)).run_cycle in
-        let runs : length (runs_in chip) ≡ length chip.runs.runs = length-map chip.runs.runs (λ (run : Recorded). run.inputs) in
-        let there : hit.run ≤ length chip.runs.runs = omega (arith, at.recorded, runs) in
-        let cycles : length (run_of (runs_in chip) hit.run) ≤ 65536 = cycles_of chip.runs hit.run sound.runs at.from_one there in
-        (at.from_one, omega (arith, there, sound.runs.few_runs), omega (arith, at.lasts, cycles))
+        let at = (hit_at (crash_of r dump) step hit (sym e ∙ right.hit)).run_cycle in
+        let below : hit.run - 1 < length r.runs = omega (arith, at.from_one, at.recorded) in
+        let cycles : length (run_of r.runs hit.run) ≤ 65536 = All-get_or (λ (run : Run). length run ≤ 65536) r.runs (hit.run - 1) [] below sound.few_cycles in
+        (at.from_one, omega (arith, at.recorded, sound.few_runs), omega (arith, at.lasts, cycles))
 
 -- ---- the whole report
-
-each_from : (P : Step → Type 0) (steps : List Step) → ((i : ℕ) (step : Step) → slice_get steps i ≡ Some step → P step) → Each P steps
-each_from P [] h = tt
-each_from P (step ∷ steps) h = (h 0 step refl, each_from P steps (λ i s is. h (suc i) s is))
 
 no_longer : (f : Step → Option (List Bool)) (steps : List Step) → length (filter_map f steps) ≤ length steps
 no_longer f [] = omega arith
@@ -101,28 +92,34 @@ no_longer f (step ∷ steps) = by (f step) refl (no_longer f steps)
   where
     by : (o : Option (List Bool)) → f step ≡ o → length (filter_map f steps) ≤ length steps → length (filter_map f (step ∷ steps)) ≤ length (step ∷ steps)
     by None e less =
-        let same : length (filter_map f (step ∷ steps)) ≡ length (filter_map f steps) = ap (λ (o : Option (List Bool)). length (cons_option o (filter_map f steps))) e in
+        let same : length (filter_map f (step ∷ steps)) ≡ length (filter_map f steps) =
+        ap (λ (o : Option (List Bool)). length (cons_option o (filter_map f steps))) e in
         omega (arith, same, less)
     by (Some x) e less =
-        let same : length (filter_map f (step ∷ steps)) ≡ suc (length (filter_map f steps)) = ap (λ (o : Option (List Bool)). length (cons_option o (filter_map f steps))) e in
+        let same : length (filter_map f (step ∷ steps)) ≡ suc (length (filter_map f steps)) =
+        ap (λ (o : Option (List Bool)). length (cons_option o (filter_map f steps))) e in
         omega (arith, same, less)
 
-step_text : (chip : Chipped) (dump : Dump) (budgets : Budgets) (s : PreimageState) (r : Report) → IsSound chip → IsReportOf (crash_of chip dump) budgets s r → Each HasText r.log →
+step_text : (chip : Recording) (dump : Dump) (budgets : Budgets) (s : PreimageState) (r : Report) → IsRecording chip →
+    IsReportOf (crash_of chip dump) budgets s r → Each HasText r.log →
     (i : ℕ) (step : Step) → slice_get r.steps i ≡ Some step → HasStepText step
 step_text chip dump budgets s r sound of texts i step is =
     let lines : List Line = slice_index_or (steps_of r.log) i [] in
     record {
-      list = end_text r.budgets.conflicts (assumptions_for (encoding_in (crash_of chip dump)) (guard_at (crash_of chip dump) i) (present_of step)) lines step.end (step_texts r.log texts i)
+      list =
+          end_text r.budgets.conflicts
+          (assumptions_for (encoding_in (crash_of chip dump)) (guard_at (crash_of chip dump) i) (present_of step)) lines step.end (step_texts r.log texts i)
           (logged_in (crash_of chip dump) budgets s r of i step is).finish;
       hit = hit_text chip dump step sound (all_at (IsRightStep (crash_of chip dump)) r.steps i step of.ended.made.right is);
     }
 
-pub readable : (chip : Chipped) (dump : Dump) (budgets : Budgets) (s : PreimageState) (r : Report) → IsSound chip → IsBudget budgets → IsReportOf (crash_of chip dump) budgets s r →
+pub readable : (chip : Recording) (dump : Dump) (budgets : Budgets) (s : PreimageState) (r : Report) → IsRecording chip → IsBudget budgets →
+    IsReportOf (crash_of chip dump) budgets s r →
     All HasText r.log → length r.log < 2 ^ 64 → HasReportText r
 readable chip dump budgets s r sound range of texts lines =
     let asked : IsBudget r.budgets = subst IsBudget (sym of.asked) range in
     let steps : length r.steps ≤ budgets.steps = of.ended.few in
-    let most : budgets.steps ≤ 65536 = range.steps.1 in
+    let most : budgets.steps ≤ MAX_STEPS = range.steps.1 in
     let inputs : length r.inputs ≡ length (filter_map input_behind r.steps) = ap length of.trace.inputs ∙ length-reverse (filter_map input_behind r.steps) in
     let fewer : length (filter_map input_behind r.steps) ≤ length r.steps = no_longer input_behind r.steps in
     record {
@@ -132,7 +129,9 @@ readable chip dump budgets s r sound range of texts lines =
       max_candidates = asked.candidates.1;
       some_conflicts = asked.conflicts.0;
       max_conflicts = asked.conflicts.1;
-      each_step = All-from_recursion HasStepText r.steps (each_from HasStepText r.steps (step_text chip dump budgets s r sound of (recursion_from_All HasText r.log texts)));
+      each_step =
+          All-from_recursion HasStepText r.steps
+          (each_from HasStepText r.steps (step_text chip dump budgets s r sound of (recursion_from_All HasText r.log texts)));
       few_steps = omega (arith, steps, most);
       one_state_more = one_state_more (crash_of chip dump) r (is_good (crash_of chip dump) budgets s r of);
       few_inputs = omega (arith, steps, most, inputs, fewer);

@@ -31,10 +31,12 @@ finished : (step : Step) (id : ℕ) → step.end ≡ Finished id → IsFinished 
 finished step id e = subst IsFinished (sym e) tt
 
 -- the cause after a step without a hit
-pub stops_unhit : (crash : Crash) (budgets : Budgets) (steps : List Step) (step : Step) → step.hit ≡ None → StopsFor crash budgets (steps ++ step ∷ []) (cause_of_end step step.end)
+pub stops_unhit : (crash : Crash) (budgets : Budgets) (steps : List Step) (step : Step) → step.hit ≡ None →
+    StopsFor crash budgets (steps ++ step ∷ []) (cause_of_end step step.end)
 stops_unhit crash budgets steps step none = by step.end refl
   where
-    counted : (id : ℕ) (b : Bool) → (length step.cands == 0) ≡ b → step.end ≡ Finished id → StopsFor crash budgets (steps ++ step ∷ []) (if b then Empty else Nohit)
+    counted : (id : ℕ) (b : Bool) → (length step.cands == 0) ≡ b → step.end ≡ Finished id →
+        StopsFor crash budgets (steps ++ step ∷ []) (if b then Empty else Nohit)
     counted id true zero e =
         last_is (λ (step : Step). IsFinished step.end × (step.cands ≡ [])) steps step
         (finished step id e, nil_from_length step.cands (eqb-true (length step.cands) 0 zero))
@@ -48,7 +50,8 @@ stops_unhit crash budgets steps step none = by step.end refl
     by ByConflicts e = last_is (λ (step : Step). (step.hit ≡ None) × (step.end ≡ ByConflicts)) steps step (none, e)
 
 -- at a present without a stored signature
-pub stops_at_reset : (crash : Crash) (budgets : Budgets) (steps : List Step) (now : Dump) → StandsAt crash steps now → now.stored ≡ None → StopsFor crash budgets steps Reset
+pub stops_at_reset : (crash : Crash) (budgets : Budgets) (steps : List Step) (now : Dump) → StandsAt crash steps now → now.stored ≡ None →
+    StopsFor crash budgets steps Reset
 stops_at_reset crash budgets steps now stands none =
     subst (λ (o : Option Present). IsSomeAnd o (λ (p : Present). p.stored ≡ [])) (sym stands) (ap option_to_list none)
 

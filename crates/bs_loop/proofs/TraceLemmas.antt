@@ -26,7 +26,8 @@ found : (cands : List Cand) (s : List Bool) → is_listed (listed cands) s ≡ t
 found [] s e = absurd (false≢true e)
 found (c ∷ cs) s e = by (bits_eq c.state s) refl (bits_eq s c.state) refl e (found cs s)
   where
-    by : (a : Bool) → bits_eq c.state s ≡ a → (b : Bool) → bits_eq s c.state ≡ b → (b || is_listed (listed cs) s) ≡ true → (is_listed (listed cs) s ≡ true → Found cs s) → Found (c ∷ cs) s
+    by : (a : Bool) → bits_eq c.state s ≡ a → (b : Bool) → bits_eq s c.state ≡ b → (b || is_listed (listed cs) s) ≡ true →
+        (is_listed (listed cs) s ≡ true → Found cs s) → Found (c ∷ cs) s
     by true a b eb e rest = record { cand = c; is = ap (λ t. cond t (Some c) (find (λ (c : Cand). bits_eq c.state s) cs)) a }
     by false a true eb e rest =
         let same : s ≡ c.state = bits_same_is s c.state eb in
@@ -47,11 +48,13 @@ one_each crash (step ∷ steps) right = by step.hit refl (one_each crash steps r
         length (filter_map hit_state (step ∷ steps)) ≡ length (filter_map input_behind (step ∷ steps))
     by None e rest =
         ap (λ (o : Option HitLine). length (cons_option (option_map (λ (h : HitLine). h.state) o) (filter_map hit_state steps))) e ∙ rest
-        ∙ sym (ap (λ (o : Option HitLine). length (cons_option (option_and_then (input_for step) (option_map (λ (h : HitLine). h.state) o)) (filter_map input_behind steps))) e)
+        ∙ sym (ap (λ (o : Option HitLine). length
+        (cons_option (option_and_then (input_for step) (option_map (λ (h : HitLine). h.state) o)) (filter_map input_behind steps))) e)
     by (Some hit) e rest =
         let f = found step.cands hit.state (hit_at crash step hit (sym e ∙ right.0.hit)).reached in
         let input : input_behind step ≡ Some f.cand.input =
-        ap (λ (o : Option HitLine). option_and_then (input_for step) (option_map (λ (h : HitLine). h.state) o)) e ∙ ap (option_map (λ (c : Cand). c.input)) f.is in
+        ap (λ (o : Option HitLine). option_and_then (input_for step) (option_map (λ (h : HitLine). h.state) o)) e
+        ∙ ap (option_map (λ (c : Cand). c.input)) f.is in
         ap (λ (o : Option HitLine). length (cons_option (option_map (λ (h : HitLine). h.state) o) (filter_map hit_state steps))) e ∙ ap suc rest
         ∙ sym (ap (λ (o : Option (List Bool)). length (cons_option o (filter_map input_behind steps))) input)
 
@@ -59,4 +62,5 @@ pub one_state_more : (crash : Crash) (r : Report) → IsGood crash r → length 
 one_state_more crash r good =
     let same = one_each crash r.steps (recursion_from_All (IsRightStep crash) r.steps good.steps) in
     ap length good.trace.states ∙ length-append (reverse (filter_map hit_state r.steps)) (crash.dump.state ∷ [])
-    ∙ ap (λ (n : ℕ). n + 1) (length-reverse (filter_map hit_state r.steps) ∙ same ∙ sym (length-reverse (filter_map input_behind r.steps)) ∙ sym (ap length good.trace.inputs))
+    ∙ ap (λ (n : ℕ). n + 1)
+    (length-reverse (filter_map hit_state r.steps) ∙ same ∙ sym (length-reverse (filter_map input_behind r.steps)) ∙ sym (ap length good.trace.inputs))

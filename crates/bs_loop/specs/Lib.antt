@@ -1,5 +1,5 @@
 -- what public contracts rest on
-pub mod Crash
+pub mod Budget
 pub mod Bound
 -- what inner functions promise each other
 pub mod Made

@@ -34,7 +34,8 @@ pub record IsLoggedStep (crash : Crash) (budgets : Budgets) (i : ℕ) (lines : L
   pub blocks : are_right_blocks (blocks_due (guard_at crash i) (block_for (encoding_in crash)) step.cands) (blocks_in lines) ≡ true
   pub finish : is_right_finish budgets.conflicts (assumptions_for (encoding_in crash) (guard_at crash i) (present_of step)) lines step.end (finishes_in lines) ≡ true
   pub bound : step.end ≡ Conflicts → (run : List Literal) → HasVariables (encoding_in crash).variables run →
-      IsUnitRun (encoding_in crash).clauses (assumptions_for (encoding_in crash) (guard_at crash i) (present_of step)) run → budgets.conflicts < 2 ^ ((encoding_in crash).variables - length run)
+      IsUnitRun (encoding_in crash).clauses (assumptions_for (encoding_in crash) (guard_at crash i) (present_of step)) run →
+      budgets.conflicts < 2 ^ ((encoding_in crash).variables - length run)
 
 -- where the search is after these steps, whose lines are these, the newest first
 abbrev pub state_after : Crash → List Step → History → PreimageState

@@ -1,41 +1,56 @@
 -- What one turn of a backtrace does.
-use Rattle.std.specs.Prelude.{◌≡◌, ◌⊎◌, ◌+◌, List, [], ◌∷◌, ◌++◌, Option, Some, None, option_map}
+use Rattle.std.specs.Prelude.{◌≡◌, ◌⊎◌, ◌+◌, Bool, List, [], ◌∷◌, ◌++◌, Option, Some, None, option_map}
 use Rattle.bs_scan.specs.declared.dump.Dump.{Dump}
+use Rattle.bs_scan.specs.Crash.{Recording, crash_of, dump_at}
 use Rattle.bs_scan.specs.Dump.{signatures_of}
-use Rattle.bs_scan.specs.Present.{present_in}
-use Rattle.bs_chip.specs.Chip.{Chipped}
+use Rattle.bs_scan.specs.Moments.{moment}
+use Rattle.bs_chip.specs.declared.replay.Hit.{Hit}
 use Rattle.bs_report.specs.declared.report.HitLine.{HitLine}
 use Rattle.bs_report.specs.declared.report.Step.{Step}
 use Rattle.bs_report.specs.declared.report.Stop.{Stop}
 use Rattle.bs_report.specs.declared.report.Stop.TheVariants.{Reset}
 use Rattle.bs_report.specs.declared.report.Budgets.{Budgets}
 use Rattle.bs_good.specs.Step.{hit_of}
-use Rattle.bs_good.specs.Chain.{present_of_hit, present_after}
 use Rattle.bs_good.specs.Valid.{cause_of_end}
+use Rattle.bs_preimage.specs.declared.listing.Listing.{Listing}
 use Rattle.bs_preimage.specs.Preimage.{PreimageState}
 use Rattle.bs_preimage.specs.Listed.{HasListed}
-use Rattle.bs_loop.specs.Crash.{chip_alone, IsDumpFor}
 
--- the dump, if there is one, is that of the hit
-pub record IsMetAt (chip : Chipped) (hit : Option HitLine) (dump : Option Dump) : Type 0 where
-  pub present : option_map (present_of_hit (chip_alone chip)) hit ≡ option_map present_in dump
-  pub fits : (d : Dump) → dump ≡ Some d → IsDumpFor chip d
+-- the hit line of a hit
+abbrev pub line_of : Hit → HitLine
+line_of hit = record { run = hit.run; cycle = hit.cycle; state = hit.dump.state }
 
--- a list for the present state and its one stored signature, and the first moment of a run in a listed state
-pub record IsStepBack (chip : Chipped) (budgets : Budgets) (old new : PreimageState) (now : Dump) (step : Step) : Type 0 where
-  pub present : step.present ≡ now.state
-  pub stored : signatures_of now ≡ step.stored ∷ []
-  pub listed : HasListed old new step.present step.stored budgets.candidates budgets.conflicts (record { cands = step.cands; end = step.end })
+-- the hit has the dump of its moment
+abbrev pub HasItsDump : Recording → Hit → Type 0
+HasItsDump r hit = hit.dump ≡ dump_at r (moment hit.run hit.cycle)
+
+-- a list for a present and its one stored signature, and the first moment of a run in a listed state
+pub record HasLookedBack (r : Recording) (budgets : Budgets) (old new : PreimageState) (now : Dump) (stored : List Bool) (listing : Listing) (hit : Option Hit) : Type 0 where
+  pub listed : HasListed old new now.state stored budgets.candidates budgets.conflicts listing
   pub calls : new.calls ≡ old.calls + 1
-  pub hit : step.hit ≡ hit_of (chip_alone chip) step.cands
+  pub line : option_map line_of hit ≡ hit_of (crash_of r now) listing.cands
+  pub dump : (h : Hit) → hit ≡ Some h → HasItsDump r h
+
+-- the step of a list and of the moment that it hit
+abbrev pub step_of : Dump → List Bool → Listing → Option Hit → Step
+step_of now stored listing hit =
+    record { present = now.state; stored = stored; cands = listing.cands; end = listing.end; hit = option_map line_of hit }
+
+-- a step back from a present, and the moment that it hit
+pub record IsStepBack (r : Recording) (budgets : Budgets) (old new : PreimageState) (now : Dump) (step : Step) (hit : Option Hit) : Type 0 where
+  pub stored : List Bool
+  pub held : signatures_of now ≡ stored ∷ []
+  pub listing : Listing
+  pub back : HasLookedBack r budgets old new now stored listing hit
+  pub step_is : step ≡ step_of now stored listing hit
 
 -- one more step, with a hit, whose moment is the next present
-pub record HasStepped (chip : Chipped) (budgets : Budgets) (steps more : List Step) (old new : PreimageState) (now next : Dump) : Type 0 where
+pub record HasStepped (r : Recording) (budgets : Budgets) (steps more : List Step) (old new : PreimageState) (now next : Dump) : Type 0 where
   pub step : Step
-  pub back : IsStepBack chip budgets old new now step
+  pub hit : Hit
+  pub back : IsStepBack r budgets old new now step (Some hit)
   pub made : more ≡ steps ++ step ∷ []
-  pub there : present_after (chip_alone chip) step ≡ Some (present_in next)
-  pub fits : IsDumpFor chip next
+  pub there : next ≡ hit.dump
 
 -- the present has no stored signature, and no step is made
 pub record IsAtReset (steps more : List Step) (old new : PreimageState) (now : Dump) (stop : Stop) : Type 0 where
@@ -45,13 +60,12 @@ pub record IsAtReset (steps more : List Step) (old new : PreimageState) (now : D
   pub rest : new ≡ old
 
 -- one more step, without a hit
-pub record IsUnhit (chip : Chipped) (budgets : Budgets) (steps more : List Step) (old new : PreimageState) (now : Dump) (stop : Stop) : Type 0 where
+pub record IsUnhit (r : Recording) (budgets : Budgets) (steps more : List Step) (old new : PreimageState) (now : Dump) (stop : Stop) : Type 0 where
   pub step : Step
-  pub back : IsStepBack chip budgets old new now step
+  pub back : IsStepBack r budgets old new now step None
   pub made : more ≡ steps ++ step ∷ []
-  pub unhit : step.hit ≡ None
   pub cause : stop ≡ cause_of_end step step.end
 
-abbrev pub HasStopped : Chipped → Budgets → List Step → List Step → PreimageState → PreimageState → Dump → Stop → Type 0
-HasStopped chip budgets steps more old new now stop =
-    IsAtReset steps more old new now stop ⊎ IsUnhit chip budgets steps more old new now stop
+abbrev pub HasStopped : Recording → Budgets → List Step → List Step → PreimageState → PreimageState → Dump → Stop → Type 0
+HasStopped r budgets steps more old new now stop =
+    IsAtReset steps more old new now stop ⊎ IsUnhit r budgets steps more old new now stop

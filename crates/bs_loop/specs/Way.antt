@@ -1,21 +1,19 @@
 -- Between two turns of a backtrace.
 use Rattle.std.specs.Prelude.{◌≡◌, ℕ, ◌≤◌, List, length}
 use Rattle.bs_scan.specs.declared.dump.Dump.{Dump}
-use Rattle.bs_chip.specs.Chip.{Chipped}
 use Rattle.bs_report.specs.declared.report.Step.{Step}
 use Rattle.bs_report.specs.declared.report.Stop.{Stop}
 use Rattle.bs_report.specs.declared.report.Budgets.{Budgets}
-use Rattle.bs_scan.specs.Crash.{Crash}
+use Rattle.bs_scan.specs.Crash.{Recording, Crash, crash_of, DumpFits}
 use Rattle.bs_good.specs.Stop.{StopsFor}
 use Rattle.bs_preimage.specs.Preimage.{PreimageState}
-use Rattle.bs_loop.specs.Crash.{crash_of, IsDumpFor}
 use Rattle.bs_loop.specs.Made.{HasMade, StandsAt}
 
 -- so many steps are made from the dump, each with a hit, and the last hit is the present
-pub record IsUnderWay (chip : Chipped) (dump : Dump) (budgets : Budgets) (steps : List Step) (s : PreimageState) (now : Dump) (number : ℕ) : Type 0 where
-  pub made : HasMade (crash_of chip dump) budgets steps s
-  pub stands : StandsAt (crash_of chip dump) steps now
-  pub fits : IsDumpFor chip now
+pub record IsUnderWay (r : Recording) (dump : Dump) (budgets : Budgets) (steps : List Step) (s : PreimageState) (now : Dump) (number : ℕ) : Type 0 where
+  pub made : HasMade (crash_of r dump) budgets steps s
+  pub stands : StandsAt (crash_of r dump) steps now
+  pub fits : DumpFits r.circuit r.choice now
   pub count : length steps ≡ number
 
 -- the steps made, and the cause for which no more are made

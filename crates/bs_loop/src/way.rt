@@ -3,7 +3,7 @@ ghost use Rattle.std.specs.Prelude.{◌≡◌, ◌≤◌, ◌<◌, ◌^◌, ◌+
 ghost use Rattle.bs_log.specs.LineForms.{HasText};
 ghost use Rattle.bs_log.specs.Refusal.{history_of, IsAccepted};
 ghost use Rattle.bs_log.specs.Lean.{LemmasAreLean};
-ghost use Rattle.bs_chip.specs.Chip.{circuit_in};
+ghost use Rattle.bs_scan.specs.Crash.{crash_of, DumpFits};
 ghost use Rattle.bs_encode.specs.Assuming.{basis_of};
 ghost use Rattle.bs_good.specs.Chain.{present_of};
 ghost use Rattle.bs_good.specs.Stop.{StopsFor};
@@ -12,7 +12,7 @@ ghost use Rattle.bs_report.specs.Text.{HasReportText};
 ghost use Rattle.bs_good.specs.Valid.{IsValid};
 ghost use Rattle.bs_report.specs.declared.report.Stop.TheVariants.{Reset, Length};
 ghost use Rattle.bs_preimage.specs.Preimage.{fresh};
-ghost use Rattle.bs_loop.specs.Crash.{crash_of, IsBudget, IsDumpFor, IsSound};
+ghost use Rattle.bs_loop.specs.Budget.{IsBudget};
 ghost use Rattle.bs_loop.specs.Made.{HasMade};
 ghost use Rattle.bs_loop.specs.Bound.{HasBound};
 
@@ -51,8 +51,8 @@ fn walk(
     dump: &Dump,
     budgets: &Budgets,
 ) -> Result<Way, NoMemory>
-    requires fresh { preimage.old ≡ fresh (circuit_in chip.old) chip.old.choice }
-    requires dump { IsDumpFor chip.old dump.now }
+    requires fresh { preimage.old ≡ fresh chip.old.circuit chip.old.choice }
+    requires dump { DumpFits chip.old.circuit chip.old.choice dump.now }
     requires budgets { IsBudget budgets.now }
     ensures made { IfOk result (λ way. HasMade (crash_of chip.old dump.now) budgets.now way.steps preimage.new) }
     ensures few { IfOk result (λ way. length way.steps ≤ budgets.now.steps) }
@@ -69,14 +69,6 @@ fn walk(
     }
     let stop = cause_at(&now);
     Ok(Way { steps, stop })
-}
-
-/// A chip's netlist has passed its check, and its runs have their widths.
-fn sound(chip: &Chip<'_>)
-    ensures { IsSound chip.now }
-{
-    let _order = chip.net().order();
-    let _count = chip.runs().count();
 }
 
 /// The log of the search.
@@ -101,26 +93,24 @@ pub fn backtrace(
     dump: &Dump,
     budgets: &Budgets,
 ) -> Result<Report, NoMemory>
-    requires fresh { preimage ≡ fresh (circuit_in chip.old) chip.old.choice }
-    requires dump { IsDumpFor chip.old dump.now }
+    requires fresh { preimage ≡ fresh chip.old.circuit chip.old.choice }
+    requires dump { DumpFits chip.old.circuit chip.old.choice dump.now }
     requires budgets { IsBudget budgets.now }
     ensures budgets { IfOk result (λ r. r.budgets ≡ budgets.now) }
     ensures good { IfOk result (IsGood (crash_of chip.old dump.now)) }
-    ensures valid { IfOk result (λ r. IsValid (crash_of chip.old dump.now) (basis_of (circuit_in chip.old) chip.old.choice.items (map present_of r.steps)) r) }
-    ensures bound { IfOk result (λ r. HasBound (basis_of (circuit_in chip.old) chip.old.choice.items (map present_of r.steps)).problem r) }
+    ensures valid { IfOk result (λ r. IsValid (crash_of chip.old dump.now) (basis_of chip.old.circuit chip.old.choice.items (map present_of r.steps)) r) }
+    ensures bound { IfOk result (λ r. HasBound (basis_of chip.old.circuit chip.old.choice.items (map present_of r.steps)).problem r) }
     ensures readable { IfOk result HasReportText }
     ensures trace { IfOk result (λ r. length r.states ≡ length r.inputs + 1) }
-    ensures lean { IfOk result (λ r. LemmasAreLean (basis_of (circuit_in chip.old) chip.old.choice.items (map present_of r.steps)).problem (history_of r.log)) }
-    ensures net { chip.new.net ≡ chip.old.net }
-    ensures choice { chip.new.choice ≡ chip.old.choice }
-    ensures runs { chip.new.runs ≡ chip.old.runs }
+    ensures lean { IfOk result (λ r. LemmasAreLean (basis_of chip.old.circuit chip.old.choice.items (map present_of r.steps)).problem (history_of r.log)) }
+    ensures chip { chip.new ≡ chip.old }
 {
     let mut preimage = preimage;
     let way = walk(alloc, chip, &mut preimage, dump, budgets)?;
     let states = states_back(alloc, way.steps.slice(), &dump.state)?;
     let inputs = inputs_back(alloc, way.steps.slice())?;
     let log = log_of(preimage);
-    sound(chip);
+    chip.is_recording();
     Ok(Report {
         budgets: *budgets,
         steps: way.steps,

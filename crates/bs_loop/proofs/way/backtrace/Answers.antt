@@ -1,9 +1,8 @@
 use Rattle.std.proofs.Common.{refl, ap, subst, ◌∙◌}
-use Rattle.bs_chip.specs.Chip.{Chipped}
+use Rattle.bs_scan.specs.Crash.{IsRecording, crash_of}
 use Rattle.bs_report.specs.declared.report.Report.{Report}
 use Rattle.bs_good.specs.Trace.{trace_states, trace_inputs}
 use Rattle.bs_good.specs.Good.{IsGood}
-use Rattle.bs_loop.specs.Crash.{crash_of, IsSound}
 use Rattle.bs_loop.proofs.GoodLemmas.{IsReportOf, is_good, is_valid, is_lean, has_bound}
 use Rattle.bs_loop.proofs.ReadableLemmas.{readable}
 use Rattle.bs_loop.proofs.TraceLemmas.{one_state_more}
@@ -39,12 +38,11 @@ returns c =
     record {
       budgets = refl;
       good = good;
-      valid = is_valid chip dump budgets state r (subst IsSound way.chip c.sound.ensures) c.requires.dump of c.log_of-log.ensures.accepted;
+      valid = is_valid chip dump budgets state r (subst IsRecording way.chip c.is_recording.ensures) c.requires.dump of c.log_of-log.ensures.accepted;
       bound = has_bound (crash_of chip dump) budgets state r of;
-      readable = readable chip dump budgets state r (subst IsSound way.chip c.sound.ensures) c.requires.budgets of c.log_of-log.ensures.texts c.log_of-log.ensures.few;
+      readable =
+          readable chip dump budgets state r (subst IsRecording way.chip c.is_recording.ensures) c.requires.budgets of c.log_of-log.ensures.texts c.log_of-log.ensures.few;
       trace = one_state_more (crash_of chip dump) r good;
       lean = is_lean (crash_of chip dump) budgets state r of c.log_of-log.ensures.lean;
-      net = ap (λ (k : Chipped). k.net) way.chip;
-      choice = ap (λ (k : Chipped). k.choice) way.chip;
-      runs = ap (λ (k : Chipped). k.runs) way.chip;
+      chip = way.chip;
     }

@@ -1,14 +1,17 @@
 use Rattle.std.proofs.Common.{subst, ◌∙◌}
-use Rattle.bs_chip.specs.Chip.{Chipped}
+use Rattle.bs_scan.specs.Crash.{Recording}
 use Rattle.bs_loop.specs.Turn.{HasStepped, HasStopped}
 use Rattle.bs_loop.proofs.WayLemmas.{stepped, stopped}
 use Rattle.bs_loop.proofs.way.walk.Goals as goal
 
 pub returns-in-Some : goal.returns-in-Some
 returns-in-Some c =
-    let made = stopped c.args.chip.now c.args.dump.now c.args.budgets.now c.turns.steps c.turn.new.steps c.turns.preimage c.turn.new.preimage c.turns.now c.turns.counter c.in-Some.stop
+    let made =
+    stopped c.args.chip.now c.args.dump.now c.args.budgets.now c.turns.steps c.turn.new.steps c.turns.preimage c.turn.new.preimage c.turns.now
+    c.turns.counter c.in-Some.stop
     c.turns.invariant.way c.turns-test.true
-    (subst (λ (k : Chipped). HasStopped k c.args.budgets.now c.turns.steps c.turn.new.steps c.turns.preimage c.turn.new.preimage c.turns.now c.in-Some.stop) c.turns.invariant.chip
+    (subst (λ (k : Recording). HasStopped k c.args.budgets.now c.turns.steps c.turn.new.steps c.turns.preimage c.turn.new.preimage c.turns.now
+    c.in-Some.stop) c.turns.invariant.chip
     (rw c.in-Some.is at c.in_ok-stop.ensures.turn)) in
     record { made = made.made; few = made.few; stop = made.cause; chip = c.in_ok-stop.ensures.chip ∙ c.turns.invariant.chip }
 
@@ -16,8 +19,11 @@ pub turns-preserved : goal.turns-preserved
 turns-preserved c =
     record {
       chip = c.in_ok-stop.ensures.chip ∙ c.turns.invariant.chip;
-      way = stepped c.args.chip.now c.args.dump.now c.args.budgets.now c.turns.steps c.turn.new.steps c.turns.preimage c.turn.new.preimage c.turns.now c.turn.new.now c.turns.counter
+      way =
+          stepped c.args.chip.now c.args.dump.now c.args.budgets.now c.turns.steps c.turn.new.steps c.turns.preimage c.turn.new.preimage c.turns.now
+          c.turn.new.now c.turns.counter
           c.turns.invariant.way
-          (subst (λ (k : Chipped). HasStepped k c.args.budgets.now c.turns.steps c.turn.new.steps c.turns.preimage c.turn.new.preimage c.turns.now c.turn.new.now) c.turns.invariant.chip
+          (subst (λ (k : Recording). HasStepped k c.args.budgets.now c.turns.steps c.turn.new.steps c.turns.preimage c.turn.new.preimage c.turns.now
+          c.turn.new.now) c.turns.invariant.chip
           (rw c.in-None.is at c.in_ok-stop.ensures.turn));
     }
