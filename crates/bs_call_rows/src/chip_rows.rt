@@ -61,7 +61,10 @@ fn is_hit(hit: &Option<Hit>, run: u32, cycle: u32, bit: bool) -> bool {
         Some(hit) => {
             let state = &hit.dump.state;
             let shown = (0..state.len()).all(|i| i < state.len() && state.get(i) == bit);
-            hit.run == run && hit.cycle == cycle && shown && hit.dump.stored.is_some() == (cycle > 0)
+            hit.run == run
+                && hit.cycle == cycle
+                && shown
+                && hit.dump.stored.is_some() == (cycle > 0)
         }
         None => false,
     }

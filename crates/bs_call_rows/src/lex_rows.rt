@@ -19,7 +19,10 @@ fn texts_have_tokens(rt: HostRuntime) -> Result<(), Fail> {
     let alloc = rt.alloc();
     let line = b"and \\u1.q (1'b0/* */`abc $d \"\\\"\"//\xff";
     assert_eq!(rt; token_count(alloc, line), Some(Ok(7)));
-    assert_eq!(rt; token_count(alloc, b"a\x00"), Some(Err(LexFault::BadByte(1))));
+    assert_eq!(rt;
+        token_count(alloc, b"a\x00"),
+        Some(Err(LexFault::BadByte(1)))
+    );
     let mut great = Vec::new(alloc);
     for _ in 0..40_000 {
         great.extend_from_slice(b"and g(a,b);\n")?;

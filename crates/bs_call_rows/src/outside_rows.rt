@@ -5,10 +5,9 @@ use bs_outside::{
     fetch_opened, write_whole,
 };
 use std::alloc::{AllocError, Global};
-use std::fs;
-use std::io;
 use std::io::{ErrorKind, Read, Write};
 use std::test::Fail;
+use std::{fs, io};
 
 /// A file `a` of three bytes, a second one of that name, and an empty file `b`.
 fn files(alloc: Global) -> Result<Vec<(String, Vec<u8>)>, AllocError> {
@@ -68,9 +67,7 @@ struct Narrow {
 
 impl Write for Narrow {
     fn write(&mut self, bytes: &[u8]) -> io::Result<usize> {
-        let may = self
-            .most
-            .min(self.whole.saturating_sub(self.taken.len()));
+        let may = self.most.min(self.whole.saturating_sub(self.taken.len()));
         let count = may.min(bytes.len());
         if count == 0 && !bytes.is_empty() {
             return Err(io::Error::from(ErrorKind::Other));

@@ -28,7 +28,8 @@ fn counted(alloc: Global, text: &[u8]) -> Result<Counts, VerilogFault> {
     Ok(counts_of(&raw))
 }
 
-const PLAIN: &[u8] = b"module m(ck,v,\\u1.q ); input ck; input [1:2] v; input [3:3] \\u1.q ; wire \\w+x ; supply1 s; supply0 [1:0] t; buf (\\w+x ,y,v[2]); dffs f(.D(\\u1.q ),.CK(\\ck ),.Q(q)); endmodule";
+const PLAIN: &[u8] =
+    b"module m(ck,v,\\u1.q ); input ck; input [1:2] v; input [3:3] \\u1.q ; wire \\w+x ; supply1 s; supply0 [1:0] t; buf (\\w+x ,y,v[2]); dffs f(.D(\\u1.q ),.CK(\\ck ),.Q(q)); endmodule";
 
 const EACH_FORM: &[u8] = b"`timescale 1ns/1ps
 module dff(CK,Q,D); input CK,D; output Q; reg Q; always @(posedge CK) Q <= D; endmodule

@@ -1,22 +1,15 @@
 //! Worked rows that cross the crates, from a netlist's text on, and each call that allocates with ample memory.
-ghost use Rattle.std.specs.Prelude.{◌≡◌, length};
-ghost use Rattle.std.specs.Bool.{OnTrue};
-ghost use Rattle.bs_chip.specs.Chip.{IsFitting, circuit_in};
 
-use bs_bits::{Bits, NoMemory, push_number, push_piece};
-use bs_chip::{Chip, Hit};
+use bs_bits::{Bits, NoMemory};
 use bs_clause::{Clauses, Lit};
 use bs_encode::Encoding;
 use bs_net::{NetId, Netlist};
 use bs_scan::{Choice, ChoiceFault};
 use bs_sim::{Event, Schedule, Settled, Sim};
-use bs_stim::Runs;
 use std::alloc::Global;
 use std::test::Fail;
 
 const TOGGLE: &[u8] = b"module t(ck); input ck; not g(d,q); dff f(ck,q,d); endmodule";
-
-const SHIFT: &[u8] = b"module sh(ck,a); input ck,a; dff f0(ck,q0,a); dff f1(ck,q1,q0); endmodule";
 
 const XNOR: &[u8] =
     b"module x(ck); input ck; xnor g(d0,q0,q1,1'b0); nand h(d1,q0); dff f0(ck,q0,d0); dff f1(ck,q1,d1); endmodule";
@@ -75,25 +68,6 @@ fn choice(alloc: Global, text: &str, net: &Netlist) -> Result<Choice, ChoiceFaul
         return Err(ChoiceFault::NoMemory);
     }
     Choice::read(alloc, text.as_bytes(), net)
-}
-
-/// The shift register, with its second flip-flop as its signature.
-fn shift_register(alloc: Global) -> Option<(Netlist, Choice)> {
-    let Some(net) = netlist(alloc, SHIFT) else {
-        return None;
-    };
-    match choice(alloc, "bit q1\n", &net) {
-        Ok(choice) => Some((net, choice)),
-        Err(_) => None,
-    }
-}
-
-/// The runs of a stimulus for a netlist, if it is short and they are.
-fn runs(alloc: Global, text: &str, net: &Netlist) -> Option<Runs> {
-    if text.len() > 1000 {
-        return None;
-    }
-    bs_stim::read(alloc, text.as_bytes(), net.data_inputs().len()).ok()
 }
 
 // ---- simulators
@@ -350,142 +324,5 @@ fn netlists_are_encoded(rt: HostRuntime) -> Result<(), Fail> {
     assert_eq!(rt; sizes(alloc, XNOR, ""), Some((9, 16)));
     let toggle: [&[i32]; 5] = [&[-2, -3], &[2, 3], &[-1], &[-4, 2], &[4, -2]];
     assert!(rt; are_of_toggle(alloc, &toggle));
-    Ok(())
-}
-
-// ---- recorded runs
-
-/// Whether the widths of a signature and of runs are the netlist's.
-fn is_fitting(net: &Netlist, choice: &Choice, runs: &Runs) -> bool
-    ensures { OnTrue result (IsFitting (record { net = net.now; choice = choice.now; runs = runs.now })) }
-{
-    choice.width() == net.width() && runs.width() == net.data_inputs().len()
-}
-
-/// The run and the cycle of a moment, and the text of its dump.
-fn moment_text(alloc: Global, hit: &Hit) -> Result<Vec<u8>, NoMemory> {
-    let mut text = Vec::new(alloc);
-    push_number(&mut text, u64::from(hit.run))?;
-    push_piece(&mut text, b" ")?;
-    push_number(&mut text, u64::from(hit.cycle))?;
-    push_piece(&mut text, b" ")?;
-    hit.dump.text(&mut text)?;
-    Ok(text)
-}
-
-/// The text of the first moment in a state; nothing where there is none.
-fn first_moment(chip: &mut Chip<'_>, alloc: Global, state: Bits) -> Result<Vec<u8>, NoMemory>
-    requires { length state ≡ length (circuit_in chip.old).flops }
-{
-    let list = [state];
-    match chip.first(alloc, &list)? {
-        Some(hit) => moment_text(alloc, &hit),
-        None => Ok(Vec::new(alloc)),
-    }
-}
-
-/// The text of the first moment of recorded runs in a state.
-fn first_of(
-    alloc: Global,
-    net: &Netlist,
-    choice: &Choice,
-    runs: &Runs,
-    state: Bits,
-) -> Result<Vec<u8>, NoMemory> {
-    if !is_fitting(net, choice, runs) || state.len() != net.width() {
-        return Ok(Vec::new(alloc));
-    }
-    let mut chip = Chip::new(alloc, net, choice, runs)?;
-    first_moment(&mut chip, alloc, state)
-}
-
-/// The same for a stimulus and a text of bits.
-fn first_in(
-    alloc: Global,
-    net: &Netlist,
-    choice: &Choice,
-    stimulus: &str,
-    state: &str,
-) -> Result<Vec<u8>, NoMemory> {
-    match runs(alloc, stimulus, net) {
-        Some(runs) => first_of(alloc, net, choice, &runs, bits(alloc, state)?),
-        None => Ok(Vec::new(alloc)),
-    }
-}
-
-/// The same for the shift register.
-fn first_text(alloc: Global, stimulus: &str, state: &str) -> Result<Vec<u8>, NoMemory> {
-    match shift_register(alloc) {
-        Some((net, choice)) => first_in(alloc, &net, &choice, stimulus, state),
-        None => Ok(Vec::new(alloc)),
-    }
-}
-
-/// The text of the dump of the first run's moment, where it is recorded.
-fn dump_of(
-    alloc: Global,
-    net: &Netlist,
-    choice: &Choice,
-    runs: &Runs,
-    cycle: u32,
-) -> Result<Vec<u8>, NoMemory> {
-    let mut text = Vec::new(alloc);
-    if !is_fitting(net, choice, runs) || runs.count() < 1 {
-        return Ok(text);
-    }
-    if cycle > runs.cycles(1) {
-        return Ok(text);
-    }
-    let mut chip = Chip::new(alloc, net, choice, runs)?;
-    let dump = chip.dump_at(alloc, 1, cycle)?;
-    dump.text(&mut text)?;
-    Ok(text)
-}
-
-/// The same for a stimulus.
-fn dump_in(
-    alloc: Global,
-    net: &Netlist,
-    choice: &Choice,
-    stimulus: &str,
-    cycle: u32,
-) -> Result<Vec<u8>, NoMemory> {
-    match runs(alloc, stimulus, net) {
-        Some(runs) => dump_of(alloc, net, choice, &runs, cycle),
-        None => Ok(Vec::new(alloc)),
-    }
-}
-
-/// The same for the shift register.
-fn dump_text(alloc: Global, stimulus: &str, cycle: u32) -> Result<Vec<u8>, NoMemory> {
-    match shift_register(alloc) {
-        Some((net, choice)) => dump_in(alloc, &net, &choice, stimulus, cycle),
-        None => Ok(Vec::new(alloc)),
-    }
-}
-
-/// Whether the first moment in a state is this.
-fn is_first(alloc: Global, (stimulus, state): (&str, &str), want: &str) -> Result<bool, NoMemory> {
-    let text = first_text(alloc, stimulus, state)?;
-    Ok(text.as_slice() == want.as_bytes())
-}
-
-/// Whether the dump of a moment of the first run is this.
-fn is_dump(alloc: Global, (stimulus, cycle): (&str, u32), want: &str) -> Result<bool, NoMemory> {
-    let text = dump_text(alloc, stimulus, cycle)?;
-    Ok(text.as_slice() == want.as_bytes())
-}
-
-#[test]
-fn chips_replay_their_runs(rt: HostRuntime) -> Result<(), Fail> {
-    let alloc = rt.alloc();
-    let twice = "run a 2\n1\n1\nend\nrun b 2\n1\n1\nend\n";
-    let ended = "run a 1\n1\nend\nrun b 5\n0\n0\n1\n0\n0\nend\n";
-    let ones = "run a 3\n1\n1\n1\nend\n";
-    assert!(rt; is_first(alloc, (twice, "10"), "1 1 state 10\nsig 0\nend\n")?);
-    assert!(rt; is_first(alloc, (twice, "01"), "")?);
-    assert!(rt; is_first(alloc, (ended, "01"), "2 4 state 01\nsig 0\nend\n")?);
-    assert!(rt; is_dump(alloc, (ones, 3), "state 11\nsig 1\nend\n")?);
-    assert!(rt; is_dump(alloc, (ones, 0), "state 00\nsig none\nend\n")?);
     Ok(())
 }

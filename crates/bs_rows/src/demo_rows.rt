@@ -90,8 +90,21 @@ fn is_traced_back(alloc: Global, number: u64) -> bool {
 #[test]
 fn a_generated_job_is_traced_back(rt: HostRuntime) -> Result<(), Fail> {
     assert!(rt; is_traced_back(rt.alloc(), 7));
-    let want = "demo 7 steps 64 finished 64 listed 512 stop length\n";
     let texts = ["", "", "", "", ""];
-    assert!(rt; answers(rt.alloc(), "demo 7", texts, SOUND, Status::Done, want));
+    for (line, want) in [
+        (
+            "demo 7",
+            "demo 7 steps 64 finished 64 listed 512 stop length\n",
+        ),
+        (
+            "demo 8",
+            "demo 8 steps 64 finished 64 listed 512 stop length\n",
+        ),
+    ] {
+        assert!(rt;
+            answers(rt.alloc(), line, texts, SOUND, Status::Done, want),
+            "{line}"
+        );
+    }
     Ok(())
 }

@@ -121,6 +121,74 @@ fn is_stopped(alloc: Global, faults: Faults, status: Status, want: &str) -> bool
     answers(alloc, "run n s t d", toggle(""), faults, status, want)
 }
 
+/// Whether an audit of this front of a report is answered as too short.
+fn is_short(alloc: Global, front: &str) -> bool {
+    let texts = toggle(front);
+    answers(
+        alloc,
+        "audit n s t d r",
+        texts,
+        SOUND,
+        Status::Report,
+        "refused report Short\n",
+    )
+}
+
+#[test]
+fn a_report_that_is_cut_short_is_refused(rt: HostRuntime) -> Result<(), Fail> {
+    let alloc = rt.alloc();
+    let mut front = String::new(alloc);
+    for character in TOGGLED.chars() {
+        assert!(rt; is_short(alloc, front.as_str()), "{front}");
+        front.push(character)?;
+    }
+    Ok(())
+}
+
+/// Whether a run whose second fetch fails is answered by the first file's refusal.
+fn is_refused_first(alloc: Global) -> bool {
+    let faults = Faults {
+        fetch: 2,
+        put: (0, 0),
+        room: 65536,
+    };
+    let texts = ["", "", "", "", ""];
+    answers(
+        alloc,
+        "run n s t d",
+        texts,
+        faults,
+        Status::Netlist,
+        "refused netlist Syntax 0\n",
+    )
+}
+
+/// Whether a refusal is cut where its one put fails.
+fn is_refusal_cut(alloc: Global) -> bool {
+    let faults = Faults {
+        fetch: 0,
+        put: (1, 7),
+        room: 65536,
+    };
+    let texts = shift("bit q1\n", ONES, "state 11\nsig none\nend\n");
+    answers(
+        alloc,
+        "run n s t d",
+        texts,
+        faults,
+        Status::WriteFault,
+        "refused",
+    )
+}
+
+#[test]
+fn refusals_and_faults_meet(rt: HostRuntime) -> Result<(), Fail> {
+    let alloc = rt.alloc();
+    assert!(rt; is_refused_first(alloc));
+    assert!(rt; is_refusal_cut(alloc));
+    Ok(())
+}
+
 #[test]
 fn faults_of_a_run_are_answered(rt: HostRuntime) -> Result<(), Fail> {
     let alloc = rt.alloc();

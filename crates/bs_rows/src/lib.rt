@@ -12,6 +12,8 @@ mod demo_rows;
 #[cfg(test)]
 mod fault_rows;
 #[cfg(test)]
+mod limit_rows;
+#[cfg(test)]
 mod list_rows;
 #[cfg(test)]
 mod refusal_rows;

@@ -60,6 +60,29 @@ fn netlists_are_refused(rt: HostRuntime) -> Result<(), Fail> {
             "module m(ck); input ck; not (d,ck); dff f(ck,q,d); endmodule",
             "ClockMixed ck",
         ),
+        (
+            "module m(ck); input ck; and #(1,2 g(z,a); endmodule",
+            "Syntax 34",
+        ),
+        (
+            "module m(ck); input ck; not (b, a[1:0]); endmodule",
+            "Unsupported 35 Width",
+        ),
+        ("module m(ck); inout d;", "Unsupported 14 Direction"),
+        (
+            "module m(ck); input ck; assign a = b & ck; endmodule",
+            "Unsupported 37 Expression",
+        ),
+        (
+            "module m(ck); input ck; and (z,1'bx,ck); endmodule",
+            "Unsupported 31 Constant",
+        ),
+        ("module m(ck); input ck; /* x", "Syntax 24"),
+        ("module m(ck,z); input ck; and g(z); endmodule", "Port 12"),
+        (
+            "module m(ck); input ck; wire [65536:0] v; endmodule",
+            "Index 29",
+        ),
     ] {
         let want = format!(in alloc; "refused netlist {why}\n")?;
         assert!(rt; is_refused(alloc, netlist, want.as_str()), "{why}");
