@@ -11,3 +11,5 @@ mod encode_rows;
 mod log_rows;
 #[cfg(test)]
 mod rup_rows;
+#[cfg(test)]
+mod solve_rows;
