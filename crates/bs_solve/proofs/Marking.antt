@@ -91,10 +91,13 @@ more_marked a b d c m h g = record {
       | inl first ↦ inl first
       | inr old ↦ inr (Contains-append_left c (m ∷ []) l old.0, old.1)
     ]
-    | inr new ↦ inr (Contains-append_right c (m ∷ []) l new.0, elim (cases_Bool (is_marked a l)) [
-      | inr is_clear ↦ is_clear
-      | inl is_set ↦ absurd (false≢true (sym new.1 ∙ h.kept l.variable is_set))
-    ])
+    | inr new ↦ inr (
+      Contains-append_right c (m ∷ []) l new.0,
+      elim (cases_Bool (is_marked a l)) [
+        | inr is_clear ↦ is_clear
+        | inl is_set ↦ absurd (false≢true (sym new.1 ∙ h.kept l.variable is_set))
+      ],
+    )
   ];
 }
 
@@ -197,7 +200,7 @@ count_step first now c i m places start vars ahead at apart range flags known ma
     elim (All-contains (λ x. (is_marked first x ≡ true) ⊎ IsFalseOn (literals_of places) x) c m known in_c) [ inl old ↦ inl (marked.kept m.variable old) | inr f ↦ inr f ] in (
       subst (HasMarked first (marked_with now m)) (sym (take_push_at c i m at)) (more_marked first now (marked_with now m) (take i c) m marked (one_marked now m within)),
       count_marked now m places start apart within known_now ∙
-      ap (λ n. cond (not (is_marked now m) && not (has_literal (literals_of (take start places)) (negation m))) 1 0 + n) count,
+          ap (λ n. cond (not (is_marked now m) && not (has_literal (literals_of (take start places)) (negation m))) 1 0 + n) count,
     )
 
 -- ---- the walk over marks
@@ -228,24 +231,27 @@ denied_at clauses base a places down s hints k p sound w at t =
 pub mark_start : (clauses : List Clause) (base : ℕ) (a : List Literal) (places : List Place) (at : ℕ) (c : Clause) (vars : ℕ) (s0 s : MarkState) → IsSound clauses base a places →
     slice_get clauses at ≡ Some c → has_distinct_variables c ≡ true → IsConflict (literals_of places) c → HasVariables vars c → IsClear (vars + 1) s0 → HasMarked s0 s c →
     (w : MarkWalk clauses places (length places) s (at ∷ [])) × (w.left ≡ c)
-mark_start clauses base a places at c vars s0 s sound there distinct conflict range clear marked = (record {
-  left = c;
-  walk = walk_start clauses places at c there distinct conflict;
-  marked = marked.stands;
-  known = λ v t. elim (marked.only v t) [
-    | inl old ↦ absurd (false≢true (sym (clear.none v) ∙ old))
-    | inr new ↦ (new.0, new.1, new.3)
-  ];
-  touched = λ l in_c. elim (marked.only l.variable (All-contains (λ x. is_marked s x ≡ true) c l marked.stands in_c)) [
-    | inl old ↦ absurd (false≢true (sym (clear.none l.variable) ∙ old))
-    | inr new ↦ subst (Contains s.touched)
-        (false_same clauses base a places sound new.0 l (All-contains (IsFalseOn (literals_of places)) c new.0 conflict new.1) (All-contains (IsFalseOn (literals_of places)) c l conflict in_c) new.3) new.2
-  ];
-  only = all_from (IsFalseOn (literals_of places)) s.touched (λ l t. All-contains (IsFalseOn (literals_of places)) c l conflict (in_clause l t));
-  range = all_from (λ l. l.variable < length s.flags) s.touched (λ l t.
-      let within = (All-contains (IsWithin vars) c l range (in_clause l t)).1 in
-      omega (arith, within, marked.length_is, clear.length_is));
-}, refl)
+mark_start clauses base a places at c vars s0 s sound there distinct conflict range clear marked = (
+  record {
+    left = c;
+    walk = walk_start clauses places at c there distinct conflict;
+    marked = marked.stands;
+    known = λ v t. elim (marked.only v t) [
+      | inl old ↦ absurd (false≢true (sym (clear.none v) ∙ old))
+      | inr new ↦ (new.0, new.1, new.3)
+    ];
+    touched = λ l in_c. elim (marked.only l.variable (All-contains (λ x. is_marked s x ≡ true) c l marked.stands in_c)) [
+      | inl old ↦ absurd (false≢true (sym (clear.none l.variable) ∙ old))
+      | inr new ↦ subst (Contains s.touched)
+          (false_same clauses base a places sound new.0 l (All-contains (IsFalseOn (literals_of places)) c new.0 conflict new.1) (All-contains (IsFalseOn (literals_of places)) c l conflict in_c) new.3) new.2
+    ];
+    only = all_from (IsFalseOn (literals_of places)) s.touched (λ l t. All-contains (IsFalseOn (literals_of places)) c l conflict (in_clause l t));
+    range = all_from (λ l. l.variable < length s.flags) s.touched (λ l t.
+        let within = (All-contains (IsWithin vars) c l range (in_clause l t)).1 in
+        omega (arith, within, marked.length_is, clear.length_is));
+  },
+  refl,
+)
   where
     in_clause : (l : Literal) → Contains s.touched l → Contains c l
     in_clause l t = elim (marked.touched_only l t) [
@@ -255,62 +261,68 @@ mark_start clauses base a places at c vars s0 s sound there distinct conflict ra
 
 pub mark_past : (clauses : List Clause) (places : List Place) (i : ℕ) (s : MarkState) (hints : List ℕ) → (w : MarkWalk clauses places (suc i) s hints) →
     (v : MarkWalk clauses places i s hints) × (v.left ≡ w.left)
-mark_past clauses places i s hints w = (record {
-  left = w.left;
-  walk = walk_past clauses places i w.left hints w.walk;
-  marked = w.marked;
-  known = w.known;
-  touched = w.touched;
-  only = w.only;
-  range = w.range;
-}, refl)
+mark_past clauses places i s hints w = (
+  record {
+    left = w.left;
+    walk = walk_past clauses places i w.left hints w.walk;
+    marked = w.marked;
+    known = w.known;
+    touched = w.touched;
+    only = w.only;
+    range = w.range;
+  },
+  refl,
+)
 
 pub mark_step : (clauses : List Clause) (base : ℕ) (a : List Literal) (places : List Place) (i : ℕ) (s now : MarkState) (hints : List ℕ) (p : Place) (r : ℕ) (c : Clause) (vars : ℕ) →
     IsSound clauses base a places → (w : MarkWalk clauses places (suc i) s hints) → slice_get places i ≡ Some p → p.reason ≡ Some r → slice_get clauses r ≡ Some c →
     has_distinct_variables c ≡ true → HasVariables vars c → length s.flags ≡ vars + 1 → is_marked s p.literal ≡ true → HasTraded s now c p.literal →
     (v : MarkWalk clauses places i now (hints ++ r ∷ [])) × (v.left ≡ resolvent c w.left p.literal)
 mark_step clauses base a places i s now hints p r c vars sound w at is there distinct range flags is_set traded =
-    subst (λ n. (v : MarkWalk clauses places i n (hints ++ r ∷ [])) × (v.left ≡ next)) (sym traded.pivot_gone) (record {
-      left = next;
-      walk = stepped;
-      marked = all_from (λ l. is_marked (unmarked middle pivot) l ≡ true) next (λ l in_next.
-          get_or-set_other middle.flags pivot.variable l.variable false false (apart l in_next) ∙ (elim (resolvent_cases c w.left pivot l in_next) [
-            | inl new ↦ All-contains (λ x. is_marked middle x ≡ true) c l marked.stands new.0
-            | inr old ↦ marked.kept l.variable (All-contains (λ x. is_marked s x ≡ true) w.left l w.marked old.0)
-          ]));
-      known = λ v t. elim (cases_eq v pivot.variable) as (λ _. (l : Literal) × Contains next l × (l.variable ≡ v)) [
-        | inl same ↦ absurd (false≢true (sym (ap (λ n. get_or (set middle.flags pivot.variable false) n false) same ∙ get_or-set_same middle.flags pivot.variable false false pivot_within) ∙ t))
-        | inr other ↦ elim (marked.only v (sym (get_or-set_other middle.flags pivot.variable v false false other) ∙ t)) [
+    subst (λ n. (v : MarkWalk clauses places i n (hints ++ r ∷ [])) × (v.left ≡ next)) (sym traded.pivot_gone) (
+      record {
+        left = next;
+        walk = stepped;
+        marked = all_from (λ l. is_marked (unmarked middle pivot) l ≡ true) next (λ l in_next.
+            get_or-set_other middle.flags pivot.variable l.variable false false (apart l in_next) ∙ (elim (resolvent_cases c w.left pivot l in_next) [
+              | inl new ↦ All-contains (λ x. is_marked middle x ≡ true) c l marked.stands new.0
+              | inr old ↦ marked.kept l.variable (All-contains (λ x. is_marked s x ≡ true) w.left l w.marked old.0)
+            ]));
+        known = λ v t. elim (cases_eq v pivot.variable) as (λ _. (l : Literal) × Contains next l × (l.variable ≡ v)) [
+          | inl same ↦ absurd (false≢true (sym (ap (λ n. get_or (set middle.flags pivot.variable false) n false) same ∙ get_or-set_same middle.flags pivot.variable false false pivot_within) ∙ t))
+          | inr other ↦ elim (marked.only v (sym (get_or-set_other middle.flags pivot.variable v false false other) ∙ t)) [
+            | inl old ↦
+                let (l, in_left, same) = w.known v old in
+                (l, resolvent_left c w.left pivot l in_left (λ e. other (sym same ∙ ap (λ (x : Literal). x.variable) e)), same)
+            | inr new ↦ (new.0, resolvent_reason c w.left pivot new.0 new.1 (λ e. other (sym new.3 ∙ ap (λ (x : Literal). x.variable) e)), new.3)
+          ]
+        ];
+        touched = λ l in_next. elim (resolvent_cases c w.left pivot l in_next) [
+          | inr old ↦ marked.touched l (w.touched l old.0)
+          | inl new ↦
+              let false_l : IsFalseOn (literals_of places) l = reason_false l new.0 new.1 in
+              elim (marked.only l.variable (All-contains (λ x. is_marked middle x ≡ true) c l marked.stands new.0)) [
+                | inl before ↦ marked.touched l (w.touched l (marked_is_left clauses base a places (suc i) s hints l sound w false_l before))
+                | inr fresh ↦
+                    let other : fresh.0 ≢ pivot = λ e. apart l in_next (sym fresh.3 ∙ ap (λ (x : Literal). x.variable) e) in
+                    subst (Contains middle.touched) (false_same clauses base a places sound fresh.0 l (reason_false fresh.0 fresh.1 other) false_l fresh.3) fresh.2
+              ]
+        ];
+        only = all_from (IsFalseOn (literals_of places)) middle.touched (λ l t. elim (marked.touched_only l t) [
+          | inl old ↦ All-contains (IsFalseOn (literals_of places)) s.touched l w.only old
+          | inr new ↦ reason_false l new.0 (λ e. false≢true (sym new.1 ∙ ap (is_marked s) e ∙ is_set))
+        ]);
+        range = all_from (λ l. l.variable < length (set middle.flags pivot.variable false)) middle.touched (λ l t. elim (marked.touched_only l t) [
           | inl old ↦
-              let (l, in_left, same) = w.known v old in
-              (l, resolvent_left c w.left pivot l in_left (λ e. other (sym same ∙ ap (λ (x : Literal). x.variable) e)), same)
-          | inr new ↦ (new.0, resolvent_reason c w.left pivot new.0 new.1 (λ e. other (sym new.3 ∙ ap (λ (x : Literal). x.variable) e)), new.3)
-        ]
-      ];
-      touched = λ l in_next. elim (resolvent_cases c w.left pivot l in_next) [
-        | inr old ↦ marked.touched l (w.touched l old.0)
-        | inl new ↦
-            let false_l : IsFalseOn (literals_of places) l = reason_false l new.0 new.1 in
-            elim (marked.only l.variable (All-contains (λ x. is_marked middle x ≡ true) c l marked.stands new.0)) [
-              | inl before ↦ marked.touched l (w.touched l (marked_is_left clauses base a places (suc i) s hints l sound w false_l before))
-              | inr fresh ↦
-                  let other : fresh.0 ≢ pivot = λ e. apart l in_next (sym fresh.3 ∙ ap (λ (x : Literal). x.variable) e) in
-                  subst (Contains middle.touched) (false_same clauses base a places sound fresh.0 l (reason_false fresh.0 fresh.1 other) false_l fresh.3) fresh.2
-            ]
-      ];
-      only = all_from (IsFalseOn (literals_of places)) middle.touched (λ l t. elim (marked.touched_only l t) [
-        | inl old ↦ All-contains (IsFalseOn (literals_of places)) s.touched l w.only old
-        | inr new ↦ reason_false l new.0 (λ e. false≢true (sym new.1 ∙ ap (is_marked s) e ∙ is_set))
-      ]);
-      range = all_from (λ l. l.variable < length (set middle.flags pivot.variable false)) middle.touched (λ l t. elim (marked.touched_only l t) [
-        | inl old ↦
-            let within : l.variable < length s.flags = All-contains (λ x. x.variable < length s.flags) s.touched l w.range old in
-            omega (arith, within, marked.length_is, length-set middle.flags pivot.variable false)
-        | inr new ↦
-            let within = (All-contains (IsWithin vars) c l range new.0).1 in
-            omega (arith, within, flags, marked.length_is, length-set middle.flags pivot.variable false)
-      ]);
-    }, refl)
+              let within : l.variable < length s.flags = All-contains (λ x. x.variable < length s.flags) s.touched l w.range old in
+              omega (arith, within, marked.length_is, length-set middle.flags pivot.variable false)
+          | inr new ↦
+              let within = (All-contains (IsWithin vars) c l range new.0).1 in
+              omega (arith, within, flags, marked.length_is, length-set middle.flags pivot.variable false)
+        ]);
+      },
+      refl,
+    )
   where
     pivot : Literal
     pivot = p.literal

@@ -67,10 +67,13 @@ moving_step first now before after seen m within is_set w = record {
     | inl before_l ↦
         let old = All-contains (λ x. Contains seen x × (get_or first x.variable false ≡ true)) w.more l w.from_marks before_l in
         (Contains-append_left seen (m ∷ []) l old.0, old.1)
-    | inr new ↦ (Contains-append_right seen (m ∷ []) l new, elim (contains_cases m [] l new) [
-      | inl is ↦ ap (λ (x : Literal). get_or first x.variable false) (sym is) ∙ w.fewer m.variable is_set
-      | inr none ↦ absurd (nothing_in l none)
-    ])
+    | inr new ↦ (
+      Contains-append_right seen (m ∷ []) l new,
+      elim (contains_cases m [] l new) [
+        | inl is ↦ ap (λ (x : Literal). get_or first x.variable false) (sym is) ∙ w.fewer m.variable is_set
+        | inr none ↦ absurd (nothing_in l none)
+      ],
+    )
   ]);
   fewer = λ v t. elim (cases_eq v m.variable) [
     | inl same ↦ absurd (false≢true (sym (cleared v same) ∙ t))

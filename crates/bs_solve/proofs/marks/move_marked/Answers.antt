@@ -21,11 +21,11 @@ loop-l-preserved c =
     let seen : take (c.loop-l.l-index + 1) touched ≡ take c.loop-l.l-index touched ++ m ∷ [] =
     ap (λ n. take n touched) (let e : c.loop-l.l-index + 1 ≡ suc c.loop-l.l-index = omega arith in e) ∙ take_push_at touched c.loop-l.l-index m at in
     subst (Moving first c.if-index.flags.items c.args.lits.now c.if-index.lits) (sym seen) (elim c.if-index.branch [
-      | then-index+in_ok-push w ↦ 
+      | then-index+in_ok-push w ↦
           subst (λ ls. Moving first c.if-index.flags.items c.args.lits.now ls (take c.loop-l.l-index touched ++ m ∷ [])) (sym (w.lits-is ∙ w.in_ok-push.ensures.ok))
           (subst (λ fs. Moving first fs c.args.lits.now (c.loop-l.lits ++ m ∷ []) (take c.loop-l.l-index touched ++ m ∷ [])) (sym (ap (λ f. f.items) w.flags-is ∙ w.set_flag.ensures))
           (moving_step first now c.args.lits.now c.loop-l.lits (take c.loop-l.l-index touched) m within (is ∙ w.if-index.true) c.loop-l.invariant))
-      | else-index w ↦ 
+      | else-index w ↦
           subst (λ ls. Moving first c.if-index.flags.items c.args.lits.now ls (take c.loop-l.l-index touched ++ m ∷ [])) (sym w.lits-is)
           (subst (λ fs. Moving first fs c.args.lits.now c.loop-l.lits (take c.loop-l.l-index touched ++ m ∷ [])) (sym (ap (λ f. f.items) w.flags-is))
           (moving_past first now c.args.lits.now c.loop-l.lits (take c.loop-l.l-index touched) m (is ∙ w.if-index.false) c.loop-l.invariant))
