@@ -5,13 +5,13 @@ use Rattle.std.proofs.lemmas.Bool.{cases_lt}
 use Rattle.std.proofs.lemmas.List.{take_all}
 use Rattle.std.proofs.lemmas.List.Sorted.{IsPermutation-refl, IsPermutation-trans, Contains-permutation, All-permutation}
 use Rattle.bs_clause.specs.Literal.{Literal, Clause, negation}
-use Rattle.bs_arena.specs.Arena.{Held, held_at, literals_at}
+use Rattle.bs_arena.specs.Arena.{Content, Held, held_at, literals_at}
 use Rattle.bs_watch.specs.Trail.{IsTrueOn, IsFalseOn, Forces}
 use Rattle.bs_watch.specs.Places.{Place, literals_of}
 use Rattle.bs_watch.specs.Look.{IsFirstTwo, HasTrue}
 use Rattle.bs_watch.specs.Lists.{row, IsAttached}
 use Rattle.bs_watch.specs.declared.lists.Watcher.{Watcher}
-use Rattle.bs_watch.specs.Scene.{Scene, trues, AreListed, AreShuffled, IsForced, Grows, Advances, AreMet}
+use Rattle.bs_watch.specs.Scene.{Scene, trues, AreListed, AreShuffled, IsForced, Grows, Advances, AreMet, KeepsRoom}
 use Rattle.bs_watch.proofs.Gets.{get_take, take_get, get_within, get_map, get_map_cases, get_from_Contains, Contains_from_get, none_is_not_some}
 
 -- ---- what is true stays true
@@ -135,3 +135,8 @@ met_more s f at m here = record {
     | inr late ↦ let same : k ≡ at = omega (arith, late, before) in here w (ap (slice_get (row s.lists f)) (sym same) ∙ e)
   ];
 }
+
+-- ---- room
+
+pub room_trans : (a b c : Content) → KeepsRoom a b → KeepsRoom b c → KeepsRoom a c
+room_trans a b c x y = record { places = y.places ∙ x.places; words = y.words ∙ x.words; spare = y.spare ∙ x.spare }

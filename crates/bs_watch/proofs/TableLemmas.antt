@@ -299,6 +299,12 @@ place_of causes ls l (inr lost) =
 pub on_level : (causes : List Cause) (ls : List Literal) (l : Literal) → IsAssignedOn ls l → IsOnLevel (places_in causes ls) l (cause_of causes l).level
 on_level causes ls l a = let (p, is, level, reason) = place_of causes ls l a in (p, is, level)
 
+-- a variable has one level
+pub one_level : (places : List Place) (l : Literal) (i j : ℕ) → AreApart places → IsOnLevel places l i → IsOnLevel places l j → i ≡ j
+one_level places l i j a x y =
+    let same : x.1.at ≡ y.1.at = a.apart x.1.at y.1.at x.0 y.0 x.1.there y.1.there (x.1.same ∙ sym y.1.same) in
+    sym x.2 ∙ ap (λ (p : Place). p.level) (same_some x.0 y.0 (sym x.1.there ∙ ap (slice_get places) same ∙ y.1.there)) ∙ y.2
+
 pub forced_by : (causes : List Cause) (ls : List Literal) (l : Literal) (o : Option ℕ) → IsAssignedOn ls l → (cause_of causes l).reason ≡ o → IfSome o (IsForcedBy (places_in causes ls) l)
 forced_by causes ls l None a is = tt
 forced_by causes ls l (Some r) a is = let (p, at, level, reason) = place_of causes ls l a in (p, at, reason ∙ is)

@@ -49,6 +49,11 @@ pub record IsPlaceOf (places : List Place) (l : Literal) (p : Place) : Type 0 wh
 abbrev pub IsOnLevel : List Place → Literal → ℕ → Type 0
 IsOnLevel places l level = (p : Place) × IsPlaceOf places l p × (p.level ≡ level)
 
+-- and on no other
+pub record IsLevelOf (places : List Place) (l : Literal) (level : ℕ) : Type 0 where
+  pub on : IsOnLevel places l level
+  pub only : (n : ℕ) → IsOnLevel places l n → n ≡ level
+
 -- the variable of the literal was forced by the clause
 abbrev pub IsForcedBy : List Place → Literal → ℕ → Type 0
 IsForcedBy places l r = (p : Place) × IsPlaceOf places l p × (p.reason ≡ Some r)

@@ -50,6 +50,12 @@ pub record AreListed (s : Scene) : Type 0 where
       IsFirstTwo (literals_at s.clauses r) m → IsIn (row s.lists m) r
   pub once : (l : Literal) → IsOnce (row s.lists l)
 
+-- the words of an arena, what it has room for, and the references that it has given are the same
+pub record KeepsRoom (old new : Content) : Type 0 where
+  pub places : new.places ≡ old.places
+  pub words : new.words ≡ old.words
+  pub spare : new.spare ≡ old.spare
+
 -- ---- from one scene to a later one
 
 abbrev pub name_of : Held → ℕ × ℕ

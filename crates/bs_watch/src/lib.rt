@@ -3,10 +3,12 @@
 
 mod attachment;
 mod cause;
+mod choice;
 mod lists;
 mod look;
 mod propagation;
 mod renaming;
+mod sweep;
 mod tables;
 mod trail;
 mod visit;

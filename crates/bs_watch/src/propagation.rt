@@ -1,6 +1,6 @@
 //! Propagation: the literals of the trail are looked at, one after another.
 ghost use Rattle.std.specs.Prelude.{◌≡◌, ◌<◌, ◌≤◌, length, IfOk};
-ghost use Rattle.bs_watch.specs.Scene.{AreListed, AreGuarded, Advances, Propagated, scene_in};
+ghost use Rattle.bs_watch.specs.Scene.{AreListed, AreGuarded, Advances, Propagated, KeepsRoom, scene_in};
 
 use crate::lists::Lists;
 use crate::trail::Trail;
@@ -24,6 +24,7 @@ pub fn look_on(
         (scene_in trail.new lists.new arena.new) }
     ensures guarded { AreGuarded lists.new arena.new.clauses trail.new.places head.new }
     ensures head { head.new ≤ length trail.new.places }
+    ensures room { KeepsRoom arena.old arena.new }
     ensures ok { IfOk result (Propagated (scene_in trail.new lists.new arena.new)) }
 {
     'heads: while *head < trail.len() {

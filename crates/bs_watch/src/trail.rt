@@ -2,7 +2,7 @@
 ghost use Rattle.std.specs.Prelude.{◌≡◌, ◌↔◌, ◌-◌, ◌+◌, ◌*◌, ◌^◌, ◌<◌, ◌≤◌, [], ◌∷◌, ◌++◌, false, length, map, take, replicate, slice_get, slice_set, vec_len, vec_capacity, Option, Some, None, IfOk, IfSome, IfNone, IsTrue, OnOk, OnErr};
 ghost use Rattle.bs_clause.specs.Literal.{code_of};
 ghost use Rattle.bs_watch.specs.Trail.{IsTrueOn, IsFalseOn, IsOpenOn, IsAssignedOn, IsValueOn, IsFirstOpen, AreAssignedBelow};
-ghost use Rattle.bs_watch.specs.Places.{IsUnassigned, IsOnLevel, IsForcedBy, HasNoReason, IsLiteralAt, AreApart, literals_of, renamed_place, with_place};
+ghost use Rattle.bs_watch.specs.Places.{IsUnassigned, IsLevelOf, IsForcedBy, HasNoReason, IsLiteralAt, AreApart, literals_of, renamed_place, with_place};
 ghost use Rattle.bs_watch.specs.Tables.{no_cause};
 
 use crate::cause::Cause;
@@ -130,7 +130,7 @@ impl Trail {
     /// The level of a variable that has a value.
     pub fn level_of(&self, l: Lit) -> u32
         requires { IsAssignedOn (literals_of self.now.places) l }
-        ensures { IsOnLevel self.now.places l result }
+        ensures { IsLevelOf self.now.places l result }
     {
         self.causes[l.var().0 as usize].level
     }

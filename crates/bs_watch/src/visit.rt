@@ -3,7 +3,7 @@ ghost use Rattle.std.specs.Prelude.{◌≡◌, ◌<◌, ◌≤◌, ◌+◌, ◌*
 ghost use Rattle.bs_watch.specs.Trail.{IsFalseOn};
 ghost use Rattle.bs_watch.specs.Places.{literals_of};
 ghost use Rattle.bs_watch.specs.Lists.{row};
-ghost use Rattle.bs_watch.specs.Scene.{AreListed, AreMet, Advances, Visited, AllVisited, scene_in};
+ghost use Rattle.bs_watch.specs.Scene.{AreListed, AreMet, Advances, Visited, AllVisited, KeepsRoom, scene_in};
 
 use crate::lists::{Lists, Watcher};
 use crate::look::{Look, look_at};
@@ -47,6 +47,7 @@ pub fn visit_at(
     requires met { AreMet (scene_in trail.old lists.old arena.old) falsified at }
     ensures advances { Advances level (scene_in trail.old lists.old arena.old)
         (scene_in trail.new lists.new arena.new) }
+    ensures room { KeepsRoom arena.old arena.new }
     ensures ok { IfOk result (Visited (scene_in trail.old lists.old arena.old)
         (scene_in trail.new lists.new arena.new) falsified at) }
 {
@@ -103,6 +104,7 @@ pub fn visit_all(
     requires lost { IsFalseOn (literals_of trail.old.places) falsified }
     ensures advances { Advances level (scene_in trail.old lists.old arena.old)
         (scene_in trail.new lists.new arena.new) }
+    ensures room { KeepsRoom arena.old arena.new }
     ensures ok { IfOk result (AllVisited (scene_in trail.new lists.new arena.new) falsified) }
 {
     let mut at = 0;

@@ -1,15 +1,20 @@
 //! A trail with levels and reasons, and the watched literals of clauses.
-ghost use Rattle.std.specs.Prelude.{◌≡◌, ◌+◌, ◌^◌, ◌<◌, ◌≤◌, [], length, take, slice_get, IfOk, IfSome, IfNone, IsSome, OnOk, OnErr};
+ghost use Rattle.std.specs.Prelude.{◌≡◌, ◌+◌, ◌^◌, ◌<◌, ◌≤◌, [], length, take, slice_get, IfOk, IfSome, IfNone, IsSome, IsPermutation, OnOk, OnErr};
 ghost use Rattle.bs_watch.specs.Trail.{IsAssignedOn, IsValueOn, IsFirstOpen, AreAssignedBelow};
-ghost use Rattle.bs_watch.specs.Places.{IsUnassigned, IsOnLevel, IsForcedBy, HasNoReason, AreApart, literals_of};
-ghost use Rattle.bs_watch.specs.Scene.{IsWatchable, Advances, Propagated};
+ghost use Rattle.bs_watch.specs.Places.{IsUnassigned, IsLevelOf, IsForcedBy, HasNoReason, AreApart, literals_of};
+ghost use Rattle.bs_watch.specs.Scene.{IsWatchable, Advances, Propagated, KeepsRoom};
+ghost use Rattle.bs_clause.specs.Range.{HasVariables};
+ghost use Rattle.bs_watch.specs.Choice.{AreHighest};
+ghost use Rattle.bs_watch.specs.Sweep.{HasServed, HasSwept};
 ghost use Rattle.bs_watch.specs.Lists.{IsAttached};
-ghost use Rattle.bs_arena.specs.Arena.{held_at, literals_at};
+ghost use Rattle.bs_arena.specs.Arena.{KeepsOthers, held_at, literals_at};
 ghost use Rattle.bs_watch.specs.Watch.{Serves, ServesAll, HasNone, KeepsService, MayAttach, HasAttached, HasGoneBack, ServesRenamed, AreLevelled, scene, grown, decided, assigned, renamed_watch};
 
 use crate::attachment::join_two;
+use crate::choice::lift;
 use crate::lists::Lists;
 use crate::propagation::look_on;
+use crate::sweep::sweep_lists;
 use crate::trail::Trail;
 use crate::visit::Outcome;
 use bs_arena::{Arena, Ref, Renaming};
@@ -108,6 +113,35 @@ impl Watch {
         )
     }
 
+    /// Moves the two literals to the front of a clause that are not false, or became so last. The
+    /// clause can then be attached as it is, or once the trail has gone back to the level of the
+    /// second one and the first one has been assigned.
+    pub fn choose_watches(&self, arena: &mut Arena, r: Ref)
+        requires live { IsSome (held_at arena.old.clauses r) }
+        requires watchable { IsWatchable self.now.trail.vars (literals_at arena.old.clauses r) }
+        ensures live { IsSome (held_at arena.new.clauses r) }
+        ensures watchable { IsWatchable self.now.trail.vars (literals_at arena.new.clauses r) }
+        ensures same { IsPermutation (literals_at arena.old.clauses r) (literals_at arena.new.clauses r) }
+        ensures highest { AreHighest self.now.trail.places (literals_at arena.new.clauses r) }
+        ensures others { KeepsOthers arena.old.clauses arena.new.clauses r }
+        ensures room { KeepsRoom arena.old arena.new }
+    {
+        self.holds_levels();
+        lift(&self.trail, arena, r, 0);
+        lift(&self.trail, arena, r, 1);
+    }
+
+    /// Detaches the clauses that were killed since the watch served the arena. They are watched by
+    /// these literals, which the caller has read of them before: the first two of each. Each list is
+    /// looked through once for each time that its literal is given.
+    pub fn sweep(&mut self, arena: &Arena, literals: &[Lit])
+        requires served { HasServed self.old arena.now literals.now }
+        requires range { HasVariables self.old.trail.vars literals.now }
+        ensures { HasSwept self.old self.new arena.now.clauses }
+    {
+        sweep_lists(&mut self.lists, arena, literals);
+    }
+
     /// The number of variables.
     pub fn vars(&self) -> u32
         ensures { result ≡ self.now.trail.vars }
@@ -133,7 +167,7 @@ impl Watch {
     /// The level of a variable that has a value.
     pub fn level_of(&self, lit: Lit) -> u32
         requires { IsAssignedOn (literals_of self.now.trail.places) lit }
-        ensures { IsOnLevel self.now.trail.places lit result }
+        ensures { IsLevelOf self.now.trail.places lit result }
     {
         self.trail.level_of(lit)
     }
@@ -204,6 +238,7 @@ impl Watch {
         ensures advances { Advances (length self.old.levels) (scene self.old arena.old.clauses)
             (scene self.new arena.new.clauses) }
         ensures levels { self.new.levels ≡ self.old.levels }
+        ensures room { KeepsRoom arena.old arena.new }
         ensures ok { IfOk result (Propagated (scene self.new arena.new.clauses)) }
     {
         let level = self.levels.len() as u32;
