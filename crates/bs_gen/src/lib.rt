@@ -7,7 +7,5 @@ mod gates;
 mod job;
 mod names;
 mod stimulus;
-#[cfg(test)]
-mod tests;
 
 pub use job::{Job, make};
