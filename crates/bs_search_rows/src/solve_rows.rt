@@ -21,6 +21,15 @@ fn lit(number: i32) -> Lit {
     }
 }
 
+// The literal of the variable after a number, or of the first one where there is none.
+fn literal_after(number: u32) -> Lit {
+    if number < VARIABLE_LIMIT - 1 {
+        Lit::new(Var(number + 1), true)
+    } else {
+        Lit::new(Var(1), true)
+    }
+}
+
 fn clause(alloc: Global, numbers: &[i32]) -> Result<Lits, Fail> {
     let mut literals = Lits::new(alloc);
     for number in numbers {
@@ -141,11 +150,10 @@ fn ending_of(
 fn long_ending(alloc: Global, vars: u32) -> Result<(&'static str, usize), Fail> {
     let mut long = Lits::new(alloc);
     let mut given = Lits::new(alloc);
-    if vars < VARIABLE_LIMIT {
-        for variable in 1..vars + 1 {
-            long.push(Lit::new(Var(variable), false))?;
-            given.push(Lit::new(Var(variable), true))?;
-        }
+    for number in 0..vars {
+        let l = literal_after(number);
+        long.push(l.negate())?;
+        given.push(l)?;
     }
     let mut all = Clauses::new(alloc);
     all.push(long)?;

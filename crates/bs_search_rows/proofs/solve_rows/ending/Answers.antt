@@ -4,7 +4,7 @@ use Rattle.bs_solve.specs.declared.stage.Stage.{Stage}
 use Rattle.bs_solve.specs.declared.stage.Stage.TheVariants.{Begun}
 use Rattle.bs_solve.specs.Stages.{is_begun}
 use Rattle.bs_solve.specs.Solver.{SolverState}
-use Rattle.bs_call_rows.proofs.solve_rows.ending.Goals as goal
+use Rattle.bs_search_rows.proofs.solve_rows.ending.Goals as goal
 
 pub solve-requires-clause-stage : goal.solve-requires-clause-stage
 solve-requires-clause-stage c =
