@@ -6,3 +6,6 @@ pub mod Extends
 pub mod ModulesSound
 pub mod Bridge
 pub mod LawLemmas
+pub mod Next
+pub mod TermsComplete
+pub mod PartsComplete
