@@ -1,6 +1,6 @@
 -- Declarations, headers, gates, cells and assignments that are in the grammar are read.
 use Rattle.std.proofs.Common.{◌≡◌, ℕ, ◌<◌, Bool, true, false, cond, List, [], ◌∷◌, length, map, Option, Some, None, Result, Ok, Err, refl, sym, ap, ◌∙◌, arith, subst, ◌⊎◌, inl, inr}
-use Rattle.std.specs.Prelude.{option_map, is_some, unwrap_or, ◌&&◌}
+use Rattle.std.specs.Prelude.{if◌then◌else◌, option_map, is_some, unwrap_or, ◌&&◌}
 use Rattle.bs_bits.specs.Reading.{◌>>=◌}
 use Rattle.bs_net.specs.declared.net.Kind.{Kind}
 use Rattle.bs_lexeme.specs.declared.lexeme.Cell.{Cell}
@@ -28,10 +28,10 @@ use Rattle.bs_syntax.specs.Declarations as declarations
 use Rattle.bs_syntax.specs.Declarations.{direction, net, is_wire, range, port_says, net_says, declared_name, names, plain_port, header_port, carried, passed_on, header}
 use Rattle.bs_syntax.specs.Parts as parts
 use Rattle.bs_syntax.specs.Parts.{is_strength, instance_name, opened, gates, instances, assignments}
-use Rattle.bs_grammar.specs.Symbols.{Text, keyword}
-use Rattle.bs_grammar.specs.Written.{Range, Says, Declared, Connection, Component, HeaderPort}
+use Rattle.bs_grammar.specs.Symbols.{Symbol, Text, keyword}
+use Rattle.bs_grammar.specs.Written.{Range, Says, Declared, Term, Connection, empty, place, pin, Component, HeaderPort, Ports}
 use Rattle.bs_grammar.specs.Symbols as symbols
-use Rattle.bs_grammar.specs.Productions.{begins_with, comma, semicolon, colon, dot, equals, sharp, left_round, right_round, left_square, right_square, IsListed, last, more, AreAttributes, IsTerm, IsDelay, IsRange, unranged, ranged, direction_word, net_word, port_said, net_said, IsPortSays, plain, wire, IsDeclared, declares, IsPlainPort, bare_port, IsHeaderPort, with_direction, without, taken_over, AreCarried, carried_all, carried_on, nothing_said, ArePorts, no_port, plain_ports, declaring_ports, IsHeader, portless, with_ports, IsLabel, unlabelled, labelled, IsByPlace, by_place, IsPlace, nothing, something, IsPin, unconnected, connected, AreConnections, no_connection, places, pins, IsGate, gate, IsInstance, instance, IsAssignment, assignment}
+use Rattle.bs_grammar.specs.Productions.{begins_with, no_more, one_more, comma, semicolon, colon, dot, equals, sharp, left_round, right_round, left_square, right_square, IsListed, last, more, AreAttributes, IsTerm, IsDelay, IsRange, unranged, ranged, direction_word, net_word, port_said, net_said, IsPortSays, plain, wire, IsDeclared, declares, IsPlainPort, bare_port, IsHeaderPort, with_direction, without, taken_over, AreCarried, carried_all, carried_on, nothing_said, ArePorts, no_port, plain_ports, declaring_ports, IsHeader, portless, with_ports, IsLabel, unlabelled, labelled, IsByPlace, by_place, IsPlace, nothing, something, IsPin, unconnected, connected, AreConnections, no_connection, places, pins, IsGate, gate, IsInstance, instance, IsAssignment, assignment}
 use Rattle.bs_grammar.specs.Views.{number_view, name_view, range_view, says_view, declared_view, term_view, connection_view, component_view, port_view, ports_view}
 use Rattle.bs_grammar.proofs.Sound.{Sound, value, fault, and_then, and_known, if_so, weaker, both, holds}
 use Rattle.bs_grammar.proofs.Shown.{seen_as, shown, mark_shown, name_shown, at_is, some_left, marked, a_name, a_number}
@@ -39,6 +39,7 @@ use Rattle.bs_grammar.proofs.TermsSound.{listed_sound, first_sound, HasFirst, at
 use Rattle.bs_lexeme.specs.declared.lexeme.Word.{Word}
 use Rattle.bs_grammar.proofs.Extends.{declared_extends, plain_port_extends, header_port_extends, by_place_extends, place_extends, pin_extends, gate_extends, instance_extends, assignment_extends}
 use Rattle.bs_grammar.proofs.Next.{Reads, Skips, then_is, true_is, false_is, tested, mark_next, word_next, name_next, mark_read, name_read, number_read, listed_complete}
+use Rattle.bs_grammar.proofs.PartsSound.{carried_sound, names_view}
 use Rattle.bs_grammar.proofs.TermsComplete.{opens_here, attributes_complete, term_complete, IsUndelayed, IsUntimed, delay_complete}
 
 
@@ -134,6 +135,187 @@ module _ (table : List (List ℕ)) where
         value = a.value;
         left = rest a.left;
         is = then_is (listed (declared_name says) ts) _ (a.value, a.left) _ a.is (then_is (expect ";" due.AfterDeclared a.left) _ (rest a.left) _ c.0 refl);
+        shows = c.1;
+        says = a.says;
+      }
+
+  pub net_says_complete : (n : code_net.Net) (ts : Rest) (from to : Text) (r : Option Range) → IsRange from to r → shown table ts ≡ from → begins_with 91 to ≡ false
+      → Reads table (net_says n ts) (says_view table) to (net_said n r)
+  unfolding net_says
+  net_says_complete n ts from to r p e f =
+      let a = range_complete ts from to r p e f in
+      record {
+        value = record { direction = None; net = Some n; range = a.value };
+        left = a.left;
+        is = then_is (range ts) _ (a.value, a.left) _ a.is refl;
+        shows = a.shows;
+        says = ap (λ x. net_said n x) a.says;
+      }
+
+  -- ---- headers
+
+  plain_port_complete : (ts : Rest) (from to : Text) (n : List ℕ) → IsPlainPort from to n → shown table ts ≡ from → Unit {0}
+      → Reads table (plain_port ts) (name_view table) to n
+  unfolding plain_port
+  plain_port_complete ts from to n (bare_port {cell} a) e f =
+      let here = attributes_complete table ts from (symbols.name cell n ∷ to) a e refl in
+      let x = name_read table cell n here.left to here.shows in
+      record {
+        value = reading.name here.left;
+        left = rest here.left;
+        is = then_is (attributes ts) _ here.left _ here.is x.0;
+        shows = x.1.1;
+        says = x.1.0;
+      }
+
+  direction_closed : (d : code.Direction) (us : Text) → opens_here (direction_word d ∷ us) ≡ false
+  direction_closed directions.Input us = refl
+  direction_closed directions.Output us = refl
+
+  pub direction_next : (d : code.Direction) (ts : Rest) (us : Text) → shown table ts ≡ direction_word d ∷ us
+      → (direction (sort ts) ≡ Some d) × ((is_name (sort ts) ≡ false) × (shown table (rest ts) ≡ us))
+  direction_next directions.Input ts us e = let w = word_next table words.Input ts us e in (ap direction w.0, (ap is_name w.0, w.1))
+  direction_next directions.Output ts us e = let w = word_next table words.Output ts us e in (ap direction w.0, (ap is_name w.0, w.1))
+
+  port_at : Rest → Option code.Direction → Read code_port.HeaderPort
+  port_at here o =
+      elim o [
+        | Some d ↦ port_says d (rest here) >>= λ says. expect_name says.1 >>= λ n. Ok (record { says = Some says.0; name = n.0 }, n.1)
+        | None ↦ if is_name (sort here) then Ok (record { says = None; name = reading.name here }, rest here) else Err (refused due.Port here)
+      ]
+
+  header_port_complete : (ts : Rest) (from to : Text) (p : HeaderPort) → IsHeaderPort from to p → shown table ts ≡ from → Unit {0}
+      → Reads table (header_port ts) (port_view table) to p
+  unfolding header_port port_at
+  header_port_complete ts from to p (with_direction {d} {cell} {n} {next = next} {says = says} a s) e f =
+      let here = attributes_complete table ts from (direction_word d ∷ next) a e (direction_closed d next) in
+      let x = direction_next d here.left next here.shows in
+      let y = port_says_complete d (rest here.left) next to cell n says s (x.1.1) in
+      let z = name_read table cell n y.left to y.shows in
+      record {
+        value = record { says = Some y.value; name = reading.name y.left };
+        left = rest y.left;
+        is = then_is (attributes ts) _ here.left _ here.is (ap (port_at here.left) x.0
+            ∙ then_is (port_says d (rest here.left)) _ (y.value, y.left) _ y.is (then_is (expect_name y.left) _ (reading.name y.left, rest y.left) _ z.0 refl));
+        shows = z.1.1;
+        says = ap (λ m. record { says = Some (says_view table y.value); name = m }) (z.1.0) ∙ ap (λ m. record { says = Some m; name = n }) y.says;
+      }
+  header_port_complete ts from to p (without {cell} {n} a) e f =
+      let here = attributes_complete table ts from (symbols.name cell n ∷ to) a e refl in
+      let x = name_next table cell n here.left to here.shows in
+      record {
+        value = record { says = None; name = reading.name here.left };
+        left = rest here.left;
+        is = then_is (attributes ts) _ here.left _ here.is (ap (port_at here.left) (ap direction x.0)
+            ∙ true_is (is_name (sort here.left)) _ _ _ (ap is_name x.0) refl);
+        shows = x.1.1;
+        says = ap (λ m. record { says = None; name = m }) (x.1.0);
+      }
+
+  -- where attributes lead to a symbol that is no mark, no mark stands before them
+  unmarked : (c : ℕ) (from us : Text) (s : Symbol) → AreAttributes from (s ∷ us) → begins_with c (s ∷ us) ≡ false → begins_with c from ≡ false
+  unmarked c from us s no_more f = f
+  unmarked c from us s (one_more i h) f = refl
+
+  plain_first : (ts : Rest) (from to : Text) (ns : List (List ℕ)) → IsListed IsPlainPort from to ns → shown table ts ≡ from
+      → (here : Rest) × ((attributes ts ≡ Ok here) × ((is_name (sort here) ≡ true) × (begins_with 41 from ≡ false)))
+  plain_first ts from to ns (last (bare_port {cell} {n} {to = after} a)) e =
+      let here = attributes_complete table ts from (symbols.name cell n ∷ after) a e refl in
+      (here.left, (here.is, (ap is_name (name_next table cell n here.left after here.shows).0, unmarked 41 from after (symbols.name cell n) a refl)))
+  plain_first ts from to ns (more (bare_port {cell} {n} {to = after} a) l) e =
+      let here = attributes_complete table ts from (symbols.name cell n ∷ after) a e refl in
+      (here.left, (here.is, (ap is_name (name_next table cell n here.left after here.shows).0, unmarked 41 from after (symbols.name cell n) a refl)))
+
+  direction_unmarked : (d : code.Direction) (us : Text) → begins_with 41 (direction_word d ∷ us) ≡ false
+  direction_unmarked directions.Input us = refl
+  direction_unmarked directions.Output us = refl
+
+  port_first : (ts : Rest) (from to : Text) (p : HeaderPort) → IsHeaderPort from to p → is_some p.says ≡ true → shown table ts ≡ from
+      → (here : Rest) × ((attributes ts ≡ Ok here) × ((is_name (sort here) ≡ false) × (begins_with 41 from ≡ false)))
+  port_first ts from to p (with_direction {d} {next = next} a s) i e =
+      let here = attributes_complete table ts from (direction_word d ∷ next) a e (direction_closed d next) in
+      (here.left, (here.is, ((direction_next d here.left next here.shows).1.0, unmarked 41 from next (direction_word d) a (direction_unmarked d next))))
+  port_first ts from to p (without a) i e = absurd cc
+
+  header_first : (ts : Rest) (from to : Text) (p : HeaderPort) (ps : List HeaderPort) → IsListed IsHeaderPort from to (p ∷ ps) → is_some p.says ≡ true → shown table ts ≡ from
+      → (here : Rest) × ((attributes ts ≡ Ok here) × ((is_name (sort here) ≡ false) × (begins_with 41 from ≡ false)))
+  header_first ts from to p ps (last h) i e = port_first ts from to p h i e
+  header_first ts from to p ps (more {next} h l) i e = port_first ts from (comma ∷ next) p h i e
+
+  carried_once : (before : Says) (ps : List HeaderPort) (ds es : List Declared) → AreCarried before ps ds → AreCarried before ps es → ds ≡ es
+  carried_once before ps ds es carried_all carried_all = refl
+  carried_once before ps ds es (carried_on {p = p} {ps = qs} {ds = xs} c) (carried_on {ds = ys} d) =
+      ap (λ zs. record { says = unwrap_or p.says (taken_over before); name = p.name } ∷ zs) (carried_once (unwrap_or p.says (taken_over before)) qs xs ys c d)
+
+  ports_complete : (ts : Rest) (from to : Text) (p : Ports) → ArePorts from to p → shown table ts ≡ from → Reads table (declarations.ports ts) (ports_view table) to p
+  unfolding declarations.ports
+  ports_complete ts from to p no_port e =
+      let m = mark_next table 41 ts to e in
+      record {
+        value = record { header = []; declared = [] };
+        left = rest ts;
+        is = true_is (is_at ")" ts) _ _ _ (tested table 41 (omega arith) ts (right_round ∷ to) true e refl) refl;
+        shows = m.1;
+        says = refl;
+      }
+  ports_complete ts from to p (plain_ports {names = ns} l) e =
+      let first = plain_first ts from (right_round ∷ to) ns l e in
+      let a =
+          listed_complete table plain_port IsPlainPort (name_view table) (λ u. Unit {0}) (λ u. tt) plain_port_extends plain_port_complete ts from (right_round ∷ to)
+          ns l e tt refl in
+      let c = mark_read table 41 (omega arith) due.Nothing a.left to a.shows in
+      record {
+        value = record { header = a.value; declared = [] };
+        left = rest a.left;
+        is = false_is (is_at ")" ts) _ _ _ (tested table 41 (omega arith) ts from false e (first.1.1.1))
+            (then_is (attributes ts) _ first.0 _ (first.1.0) (true_is (is_name (sort first.0)) _ _ _ (first.1.1.0)
+            (then_is (listed plain_port ts) _ (a.value, a.left) _ a.is (then_is (expect ")" due.Nothing a.left) _ (rest a.left) _ c.0 refl))));
+        shows = c.1;
+        says = ap (λ m. record { header = m; declared = [] }) a.says;
+      }
+  ports_complete ts from to p (declaring_ports {p = q} {ps = qs} {ds = ds} l i c) e =
+      let first = header_first ts from (right_round ∷ to) q qs l i e in
+      let a =
+          listed_complete table header_port IsHeaderPort (port_view table) (λ u. Unit {0}) (λ u. tt) header_port_extends header_port_complete ts from
+          (right_round ∷ to) (q ∷ qs) l e tt refl in
+      let m = mark_read table 41 (omega arith) due.AfterDeclared a.left to a.shows in
+      let names_are : map (name_view table) (map (λ (x : code_port.HeaderPort). x.name) a.value) ≡ map (λ (x : HeaderPort). x.name) (q ∷ qs) =
+      names_view table a.value ∙ ap (map (λ (x : HeaderPort). x.name)) a.says in
+      let sound = subst (λ (xs : List HeaderPort). AreCarried nothing_said xs (map (declared_view table) (carried declarations.nothing_said a.value))) a.says
+          (carried_sound table declarations.nothing_said a.value) in
+      let declared_are = carried_once nothing_said (q ∷ qs) (map (declared_view table) (carried declarations.nothing_said a.value)) ds sound c in
+      record {
+        value = record { header = map (λ (x : code_port.HeaderPort). x.name) a.value; declared = carried declarations.nothing_said a.value };
+        left = rest a.left;
+        is = false_is (is_at ")" ts) _ _ _ (tested table 41 (omega arith) ts from false e (first.1.1.1))
+            (then_is (attributes ts) _ first.0 _ (first.1.0) (false_is (is_name (sort first.0)) _ _ _ (first.1.1.0)
+            (then_is (listed header_port ts) _ (a.value, a.left) _ a.is (then_is (expect ")" due.AfterDeclared a.left) _ (rest a.left) _ m.0 refl))));
+        shows = m.1;
+        says = ap (λ h. record { header = h; declared = map (declared_view table) (carried declarations.nothing_said a.value) }) names_are
+            ∙ ap (λ d. record { header = map (λ (x : HeaderPort). x.name) (q ∷ qs); declared = d }) declared_are;
+      }
+
+  pub header_complete : (ts : Rest) (from to : Text) (p : Ports) → IsHeader from to p → shown table ts ≡ from → Reads table (header ts) (ports_view table) to p
+  unfolding header
+  header_complete ts from to p portless e =
+      let c = mark_read table 59 (omega arith) due.AfterModule ts to e in
+      record {
+        value = record { header = []; declared = [] };
+        left = rest ts;
+        is = false_is (is_at "(" ts) _ _ _ (tested table 40 (omega arith) ts (semicolon ∷ to) false e refl)
+            (then_is (expect ";" due.AfterModule ts) _ (rest ts) _ c.0 refl);
+        shows = c.1;
+        says = refl;
+      }
+  header_complete ts from to p (with_ports {from = inner} h) e =
+      let m = mark_next table 40 ts inner e in
+      let a = ports_complete (rest ts) inner (semicolon ∷ to) p h m.1 in
+      let c = mark_read table 59 (omega arith) due.Nothing a.left to a.shows in
+      record {
+        value = a.value;
+        left = rest a.left;
+        is = true_is (is_at "(" ts) _ _ _ (tested table 40 (omega arith) ts _ true e refl)
+            (then_is (declarations.ports (rest ts)) _ (a.value, a.left) _ a.is (then_is (expect ";" due.Nothing a.left) _ (rest a.left) _ c.0 refl));
         shows = c.1;
         says = a.says;
       }
