@@ -1,6 +1,6 @@
 -- Declarations, headers, gates, cells and assignments that are in the grammar are read.
 use Rattle.std.proofs.Common.{◌≡◌, ℕ, ◌<◌, Bool, true, false, cond, List, [], ◌∷◌, length, map, Option, Some, None, Result, Ok, Err, refl, sym, ap, ◌∙◌, arith, subst, ◌⊎◌, inl, inr}
-use Rattle.std.specs.Prelude.{if◌then◌else◌, option_map, is_some, unwrap_or, ◌&&◌}
+use Rattle.std.specs.Prelude.{if◌then◌else◌, option_map, is_some, unwrap_or, ◌&&◌, ◌||◌, ◌==◌}
 use Rattle.bs_bits.specs.Reading.{◌>>=◌}
 use Rattle.bs_net.specs.declared.net.Kind.{Kind}
 use Rattle.bs_lexeme.specs.declared.lexeme.Cell.{Cell}
@@ -20,7 +20,7 @@ use Rattle.bs_syntax.specs.declared.tree.Says as code_says
 use Rattle.bs_syntax.specs.declared.tree.HeaderPort as code_port
 use Rattle.bs_syntax.specs.declared.tree.Connection.TheVariants.{Empty, Place, Pin}
 use Rattle.bs_syntax.specs.declared.tree.Shape.TheVariants as shapes
-use Rattle.bs_syntax.specs.Unsupported.{after_direction}
+use Rattle.bs_syntax.specs.Unsupported.{symbol, after_direction}
 use Rattle.bs_syntax.specs.Reading.{Rest, Read, Skip, at, sort, rest, is_at, refused, expect, expect_name, expect_digits, listed}
 use Rattle.bs_syntax.specs.Reading as reading
 use Rattle.bs_syntax.specs.Terms.{term, delay, attributes}
@@ -31,7 +31,7 @@ use Rattle.bs_syntax.specs.Parts.{is_strength, instance_name, opened, gates, ins
 use Rattle.bs_grammar.specs.Symbols.{Symbol, Text, keyword}
 use Rattle.bs_grammar.specs.Written.{Range, Says, Declared, Term, Connection, empty, place, pin, Component, HeaderPort, Ports}
 use Rattle.bs_grammar.specs.Symbols as symbols
-use Rattle.bs_grammar.specs.Productions.{begins_with, no_more, one_more, comma, semicolon, colon, dot, equals, sharp, left_round, right_round, left_square, right_square, IsListed, last, more, AreAttributes, IsTerm, IsDelay, IsRange, unranged, ranged, direction_word, net_word, port_said, net_said, IsPortSays, plain, wire, IsDeclared, declares, IsPlainPort, bare_port, IsHeaderPort, with_direction, without, taken_over, AreCarried, carried_all, carried_on, nothing_said, ArePorts, no_port, plain_ports, declaring_ports, IsHeader, portless, with_ports, IsLabel, unlabelled, labelled, IsByPlace, by_place, IsPlace, nothing, something, IsPin, unconnected, connected, AreConnections, no_connection, places, pins, IsGate, gate, IsInstance, instance, IsAssignment, assignment}
+use Rattle.bs_grammar.specs.Productions.{begins_with, no_more, one_more, comma, semicolon, colon, dot, equals, sharp, left_round, right_round, left_square, right_square, IsListed, last, more, AreAttributes, IsTerm, scalar, indexed, one_bit, IsDelay, IsRange, unranged, ranged, direction_word, net_word, port_said, net_said, IsPortSays, plain, wire, IsDeclared, declares, IsPlainPort, bare_port, IsHeaderPort, with_direction, without, taken_over, AreCarried, carried_all, carried_on, nothing_said, ArePorts, no_port, plain_ports, declaring_ports, IsHeader, portless, with_ports, IsLabel, unlabelled, labelled, IsByPlace, by_place, IsPlace, nothing, something, IsPin, unconnected, connected, AreConnections, no_connection, places, pins, IsGate, gate, IsInstance, instance, IsAssignment, assignment}
 use Rattle.bs_grammar.specs.Views.{number_view, name_view, range_view, says_view, declared_view, term_view, connection_view, component_view, port_view, ports_view}
 use Rattle.bs_grammar.proofs.Sound.{Sound, value, fault, and_then, and_known, if_so, weaker, both, holds}
 use Rattle.bs_grammar.proofs.Shown.{seen_as, shown, mark_shown, name_shown, at_is, some_left, marked, a_name, a_number}
@@ -318,4 +318,208 @@ module _ (table : List (List ℕ)) where
             (then_is (declarations.ports (rest ts)) _ (a.value, a.left) _ a.is (then_is (expect ";" due.Nothing a.left) _ (rest a.left) _ c.0 refl));
         shows = c.1;
         says = a.says;
+      }
+
+  -- ---- gates, cells and assignments
+
+  -- no index follows
+  abbrev pub IsUnindexed : Text → Type 0
+  IsUnindexed to = begins_with 91 to ≡ false
+
+  by_place_complete : (ts : Rest) (from to : Text) (c : Connection) → IsByPlace from to c → shown table ts ≡ from → IsUnindexed to
+      → Reads table (parts.by_place ts) (connection_view table) to c
+  unfolding parts.by_place
+  by_place_complete ts from to c (by_place {t} h) e f =
+      let a = term_complete table ts from to t h e f in
+      record {
+        value = Place a.value;
+        left = a.left;
+        is = then_is (term ts) _ (a.value, a.left) _ a.is refl;
+        shows = a.shows;
+        says = ap (λ x. place x) a.says;
+      }
+
+  label_complete : (ts : Rest) (from inside : Text) → IsLabel from (left_round ∷ inside) → shown table ts ≡ from
+      → shown table (instance_name ts) ≡ left_round ∷ inside
+  label_complete ts from inside unlabelled e =
+      let m = mark_next table 40 ts inside e in
+      ap (λ s. shown table (cond (is_name s) (rest ts) ts)) m.0 ∙ e
+  label_complete ts from inside (labelled {cell} {n}) e =
+      let x = name_next table cell n ts (left_round ∷ inside) e in
+      ap (λ s. shown table (cond (is_name s) (rest ts) ts)) x.0 ∙ x.1.1
+
+  gate_complete : (kind : Kind) (ts : Rest) (from to : Text) (p : Component) → IsGate kind from to p → shown table ts ≡ from → Unit {0}
+      → Reads table (parts.gate kind ts) (component_view table) to p
+  unfolding parts.gate
+  gate_complete kind ts from to p (gate {inside = inside} {cs = cs} b l) e f =
+      let here = instance_name ts in
+      let o = mark_read table 40 (omega arith) (if is_name (sort ts) then due.AfterInstance else due.Nothing) here inside (label_complete ts from inside b e) in
+      let a =
+          listed_complete table parts.by_place IsByPlace (connection_view table) IsUnindexed (λ u. refl) by_place_extends by_place_complete (rest here) inside
+          (right_round ∷ to) cs l o.1 refl refl in
+      let c = mark_read table 41 (omega arith) due.AfterTerm a.left to a.shows in
+      record {
+        value = record { shape = shapes.Gate kind; at = at here; connections = a.value };
+        left = rest a.left;
+        is = then_is (opened ts here) _ (rest here) _ o.0 (then_is (listed parts.by_place (rest here)) _ (a.value, a.left) _ a.is
+            (then_is (expect ")" due.AfterTerm a.left) _ (rest a.left) _ c.0 refl));
+        shows = c.1;
+        says = ap (λ xs. record { shape = shapes.Gate kind; connections = xs }) a.says;
+      }
+
+  -- what may follow a connection by its place: a `,` or a `)`
+  pub record IsEnding (to : Text) : Type 0 where
+    pub ends : (begins_with 44 to || begins_with 41 to) ≡ true
+    pub unindexed : IsUnindexed to
+
+  ends_test : (ts : Rest) (from : Text) (b : Bool) → shown table ts ≡ from → (begins_with 44 from || begins_with 41 from) ≡ b → is_at ",)" ts ≡ b
+  ends_test ts from b e f =
+      ap (λ x. x || (symbol (sort ts) == 41)) (tested table 44 (omega arith) ts from (begins_with 44 from) e refl)
+      ∙ (ap (λ x. begins_with 44 from || x) (tested table 41 (omega arith) ts from (begins_with 41 from) e refl) ∙ f)
+
+  term_unmarked : (from to : Text) (t : Term) → IsTerm from to t → (c : ℕ) → begins_with c from ≡ false
+  term_unmarked from to t scalar c = refl
+  term_unmarked from to t indexed c = refl
+  term_unmarked from to t one_bit c = refl
+
+  place_complete : (ts : Rest) (from to : Text) (c : Connection) → IsPlace from to c → shown table ts ≡ from → IsEnding to
+      → Reads table (parts.place ts) (connection_view table) to c
+  unfolding parts.place
+  place_complete ts from to c nothing e f =
+      record { value = Empty; left = ts; is = true_is (is_at ",)" ts) _ _ _ (ends_test ts to true e f.ends) refl; shows = e; says = refl }
+  place_complete ts from to c (something {t} h) e f =
+      let a = by_place_complete ts from to (place t) (by_place h) e f.unindexed in
+      let none : (begins_with 44 from || begins_with 41 from) ≡ false =
+      ap (λ x. x || begins_with 41 from) (term_unmarked from to t h 44) ∙ term_unmarked from to t h 41 in
+      record {
+        value = a.value;
+        left = a.left;
+        is = false_is (is_at ",)" ts) _ _ _ (ends_test ts from false e none) a.is;
+        shows = a.shows;
+        says = a.says;
+      }
+
+  pin_complete : (ts : Rest) (from to : Text) (c : Connection) → IsPin from to c → shown table ts ≡ from → Unit {0}
+      → Reads table (parts.pin ts) (connection_view table) to c
+  unfolding parts.pin
+  pin_complete ts from to c (unconnected {cell} {n}) e f =
+      let d = mark_read table 46 (omega arith) due.Nothing ts _ e in
+      let x = name_read table cell n (rest ts) _ d.1 in
+      let o = mark_read table 40 (omega arith) due.Nothing (rest (rest ts)) _ (x.1.1) in
+      let inside = rest (rest (rest ts)) in
+      let m = mark_next table 41 inside to o.1 in
+      record {
+        value = Pin (reading.name (rest ts)) None;
+        left = rest inside;
+        is = then_is (expect "." due.Nothing ts) _ (rest ts) _ d.0 (then_is (expect_name (rest ts)) _ (reading.name (rest ts), rest (rest ts)) _ x.0
+            (then_is (expect "(" due.Nothing (rest (rest ts))) _ inside _ o.0
+            (true_is (is_at ")" inside) _ _ _ (tested table 41 (omega arith) inside (right_round ∷ to) true o.1 refl) refl)));
+        shows = m.1;
+        says = ap (λ y. pin y None) (x.1.0);
+      }
+  pin_complete ts from to c (connected {cell} {n} {from = inner} {t = t} h) e f =
+      let d = mark_read table 46 (omega arith) due.Nothing ts _ e in
+      let x = name_read table cell n (rest ts) _ d.1 in
+      let o = mark_read table 40 (omega arith) due.Nothing (rest (rest ts)) inner (x.1.1) in
+      let inside = rest (rest (rest ts)) in
+      let a = term_complete table inside inner (right_round ∷ to) t h o.1 refl in
+      let m = mark_read table 41 (omega arith) due.AfterTerm a.left to a.shows in
+      record {
+        value = Pin (reading.name (rest ts)) (Some a.value);
+        left = rest a.left;
+        is = then_is (expect "." due.Nothing ts) _ (rest ts) _ d.0 (then_is (expect_name (rest ts)) _ (reading.name (rest ts), rest (rest ts)) _ x.0
+            (then_is (expect "(" due.Nothing (rest (rest ts))) _ inside _ o.0
+            (false_is (is_at ")" inside) _ _ _ (tested table 41 (omega arith) inside inner false o.1 (term_unmarked inner (right_round ∷ to) t h 41))
+            (then_is (term inside) _ (a.value, a.left) _ a.is (then_is (expect ")" due.AfterTerm a.left) _ (rest a.left) _ m.0 refl)))));
+        shows = m.1;
+        says = ap (λ y. pin y (Some (term_view table a.value))) (x.1.0) ∙ ap (λ y. pin n (Some y)) a.says;
+      }
+
+  place_start : (from to : Text) (c : Connection) → IsPlace from to c → begins_with 46 to ≡ false → begins_with 46 from ≡ false
+  place_start from to c nothing f = f
+  place_start from to c (something {t} h) f = term_unmarked from to t h 46
+
+  places_start : (from to : Text) (cs : List Connection) → IsListed IsPlace from (right_round ∷ to) cs → begins_with 46 from ≡ false
+  places_start from to cs (last {x} p) = place_start from (right_round ∷ to) x p refl
+  places_start from to cs (more {next} {x} p l) = place_start from (comma ∷ next) x p refl
+
+  pin_start : (from to : Text) (c : Connection) → IsPin from to c → (begins_with 46 from ≡ true) × (begins_with 41 from ≡ false)
+  pin_start from to c unconnected = (refl, refl)
+  pin_start from to c (connected h) = (refl, refl)
+
+  pins_start : (from to : Text) (cs : List Connection) → IsListed IsPin from to cs → (begins_with 46 from ≡ true) × (begins_with 41 from ≡ false)
+  pins_start from to cs (last p) = pin_start _ _ _ p
+  pins_start from to cs (more p l) = pin_start _ _ _ p
+
+  connections_complete : (ts : Rest) (from to : Text) (cs : List Connection) → AreConnections from to cs → shown table ts ≡ from
+      → Reads table (parts.connections ts) (map (connection_view table)) to cs
+  unfolding parts.connections
+  connections_complete ts from to cs no_connection e =
+      let m = mark_next table 41 ts to e in
+      record {
+        value = [];
+        left = rest ts;
+        is = true_is (is_at ")" ts) _ _ _ (tested table 41 (omega arith) ts (right_round ∷ to) true e refl) refl;
+        shows = m.1;
+        says = refl;
+      }
+  connections_complete ts from to cs (places n l) e =
+      let a =
+          listed_complete table parts.place IsPlace (connection_view table) IsEnding (λ u. record { ends = refl; unindexed = refl }) place_extends place_complete ts
+          from (right_round ∷ to) cs l e (record { ends = refl; unindexed = refl }) refl in
+      let c = mark_read table 41 (omega arith) due.AfterTerm a.left to a.shows in
+      record {
+        value = a.value;
+        left = rest a.left;
+        is = false_is (is_at ")" ts) _ _ _ (tested table 41 (omega arith) ts from false e n)
+            (false_is (is_at "." ts) _ _ _ (tested table 46 (omega arith) ts from false e (places_start from to cs l))
+            (then_is (listed parts.place ts) _ (a.value, a.left) _ a.is (then_is (expect ")" due.AfterTerm a.left) _ (rest a.left) _ c.0 refl)));
+        shows = c.1;
+        says = a.says;
+      }
+  connections_complete ts from to cs (pins l) e =
+      let a =
+          listed_complete table parts.pin IsPin (connection_view table) (λ u. Unit {0}) (λ u. tt) pin_extends pin_complete ts from (right_round ∷ to) cs l e tt refl in
+      let c = mark_read table 41 (omega arith) due.Nothing a.left to a.shows in
+      let start = pins_start from (right_round ∷ to) cs l in
+      record {
+        value = a.value;
+        left = rest a.left;
+        is = false_is (is_at ")" ts) _ _ _ (tested table 41 (omega arith) ts from false e start.1)
+            (true_is (is_at "." ts) _ _ _ (tested table 46 (omega arith) ts from true e start.0)
+            (then_is (listed parts.pin ts) _ (a.value, a.left) _ a.is (then_is (expect ")" due.Nothing a.left) _ (rest a.left) _ c.0 refl)));
+        shows = c.1;
+        says = a.says;
+      }
+
+  instance_complete : (cell : Cell) (ts : Rest) (from to : Text) (p : Component) → IsInstance cell from to p → shown table ts ≡ from → Unit {0}
+      → Reads table (parts.instance cell ts) (component_view table) to p
+  unfolding parts.instance
+  instance_complete cell ts from to p (instance {inside = inside} {cs = cs} b l) e f =
+      let here = instance_name ts in
+      let o = mark_read table 40 (omega arith) (if is_name (sort ts) then due.AfterInstance else due.Nothing) here inside (label_complete ts from inside b e) in
+      let a = connections_complete (rest here) inside to cs l o.1 in
+      record {
+        value = record { shape = shapes.Cell cell; at = at here; connections = a.value };
+        left = a.left;
+        is = then_is (opened ts here) _ (rest here) _ o.0 (then_is (parts.connections (rest here)) _ (a.value, a.left) _ a.is refl);
+        shows = a.shows;
+        says = ap (λ xs. record { shape = shapes.Cell cell; connections = xs }) a.says;
+      }
+
+  assignment_complete : (ts : Rest) (from to : Text) (p : Component) → IsAssignment from to p → shown table ts ≡ from → IsUnindexed to
+      → Reads table (parts.assignment ts) (component_view table) to p
+  unfolding parts.assignment
+  assignment_complete ts from to p (assignment {next = next} {left = l} {right = r} h k) e f =
+      let a = term_complete table ts from (equals ∷ next) l h e refl in
+      let m = mark_read table 61 (omega arith) due.AfterTerm a.left next a.shows in
+      let b = term_complete table (rest a.left) next to r k m.1 f in
+      record {
+        value = record { shape = shapes.Assign; at = at ts; connections = Place a.value ∷ Place b.value ∷ [] };
+        left = b.left;
+        is = then_is (term ts) _ (a.value, a.left) _ a.is (then_is (expect "=" due.AfterTerm a.left) _ (rest a.left) _ m.0
+            (then_is (term (rest a.left)) _ (b.value, b.left) _ b.is refl));
+        shows = b.shows;
+        says = ap (λ x. record { shape = shapes.Assign; connections = place x ∷ place (term_view table b.value) ∷ [] }) a.says
+            ∙ ap (λ x. record { shape = shapes.Assign; connections = place l ∷ place x ∷ [] }) b.says;
       }
