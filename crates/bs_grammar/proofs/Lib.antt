@@ -9,3 +9,4 @@ pub mod LawLemmas
 pub mod Next
 pub mod TermsComplete
 pub mod PartsComplete
+pub mod ModulesComplete

@@ -166,7 +166,7 @@ module _ (table : List (List ℕ)) where
         says = rw (m.says, others.says) refl;
       }
 
-  shown_length : (ts : Rest) → length (shown table ts) ≡ length ts
+  pub shown_length : (ts : Rest) → length (shown table ts) ≡ length ts
   shown_length [] = refl
   shown_length (t ∷ ts) = ap suc (shown_length ts)
 

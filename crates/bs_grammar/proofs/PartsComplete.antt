@@ -348,7 +348,7 @@ module _ (table : List (List ℕ)) where
       let x = name_next table cell n ts (left_round ∷ inside) e in
       ap (λ s. shown table (cond (is_name s) (rest ts) ts)) x.0 ∙ x.1.1
 
-  gate_complete : (kind : Kind) (ts : Rest) (from to : Text) (p : Component) → IsGate kind from to p → shown table ts ≡ from → Unit {0}
+  pub gate_complete : (kind : Kind) (ts : Rest) (from to : Text) (p : Component) → IsGate kind from to p → shown table ts ≡ from → Unit {0}
       → Reads table (parts.gate kind ts) (component_view table) to p
   unfolding parts.gate
   gate_complete kind ts from to p (gate {inside = inside} {cs = cs} b l) e f =
@@ -377,7 +377,7 @@ module _ (table : List (List ℕ)) where
       ap (λ x. x || (symbol (sort ts) == 41)) (tested table 44 (omega arith) ts from (begins_with 44 from) e refl)
       ∙ (ap (λ x. begins_with 44 from || x) (tested table 41 (omega arith) ts from (begins_with 41 from) e refl) ∙ f)
 
-  term_unmarked : (from to : Text) (t : Term) → IsTerm from to t → (c : ℕ) → begins_with c from ≡ false
+  pub term_unmarked : (from to : Text) (t : Term) → IsTerm from to t → (c : ℕ) → begins_with c from ≡ false
   term_unmarked from to t scalar c = refl
   term_unmarked from to t indexed c = refl
   term_unmarked from to t one_bit c = refl
@@ -492,7 +492,7 @@ module _ (table : List (List ℕ)) where
         says = a.says;
       }
 
-  instance_complete : (cell : Cell) (ts : Rest) (from to : Text) (p : Component) → IsInstance cell from to p → shown table ts ≡ from → Unit {0}
+  pub instance_complete : (cell : Cell) (ts : Rest) (from to : Text) (p : Component) → IsInstance cell from to p → shown table ts ≡ from → Unit {0}
       → Reads table (parts.instance cell ts) (component_view table) to p
   unfolding parts.instance
   instance_complete cell ts from to p (instance {inside = inside} {cs = cs} b l) e f =
@@ -507,7 +507,7 @@ module _ (table : List (List ℕ)) where
         says = ap (λ xs. record { shape = shapes.Cell cell; connections = xs }) a.says;
       }
 
-  assignment_complete : (ts : Rest) (from to : Text) (p : Component) → IsAssignment from to p → shown table ts ≡ from → IsUnindexed to
+  pub assignment_complete : (ts : Rest) (from to : Text) (p : Component) → IsAssignment from to p → shown table ts ≡ from → IsUnindexed to
       → Reads table (parts.assignment ts) (component_view table) to p
   unfolding parts.assignment
   assignment_complete ts from to p (assignment {next = next} {left = l} {right = r} h k) e f =
