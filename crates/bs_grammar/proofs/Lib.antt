@@ -5,8 +5,8 @@ pub mod PartsSound
 pub mod Extends
 pub mod ModulesSound
 pub mod Bridge
-pub mod LawLemmas
 pub mod Next
 pub mod TermsComplete
 pub mod PartsComplete
 pub mod ModulesComplete
+pub mod LawLemmas

@@ -25,14 +25,15 @@ use Rattle.bs_syntax.specs.Terms.{attribute_step, attributes_from, attributes}
 use Rattle.bs_syntax.specs.Declarations.{direction, net, port_says, net_says, names, header}
 use Rattle.bs_syntax.specs.Parts.{gates, instances, assignments}
 use Rattle.bs_syntax.specs.Modules as modules
-use Rattle.bs_syntax.specs.Modules.{statement, item, items, top, is_endmodule, is_end, is_cell, is_module, skipped, begun, cells, leading, syntax_of}
+use Rattle.bs_syntax.specs.Modules.{statement, item, items, is_endmodule, is_end, is_cell, is_module, skipped, begun, cells, leading, syntax_of}
 use Rattle.bs_grammar.specs.Symbols.{Symbol, Text, keyword, finish}
 use Rattle.bs_grammar.specs.Symbols as symbols
 use Rattle.bs_grammar.specs.Written.{Says, Adds}
 use Rattle.bs_grammar.specs.Productions as productions
-use Rattle.bs_grammar.specs.Productions.{semicolon, IsListed, AreAttributes, no_more, IsDeclared, direction_word, net_word, net_said, IsItem, port_item, net_item, assign_item, gate_item, cell_item, AreItems, no_item, one_item, IsTop, IsPassed, ended, passing, is_passed, AreCells, no_cell, one_cell, IsNetlistText, netlist}
+use Rattle.bs_grammar.specs.Productions.{semicolon, IsListed, AreAttributes, IsDeclared, direction_word, net_word, net_said, IsItem, port_item, net_item, assign_item, gate_item, cell_item, AreItems, no_item, one_item, IsTop, IsPassed, ended, passing, is_passed, AreCells, no_cell, one_cell, IsNetlistText, netlist}
 use Rattle.bs_grammar.specs.Views.{name_view, says_view, declared_view, component_view, adds_view, ports_view, module_view}
 use Rattle.bs_syntax.specs.declared.tree.Component as code_component
+use Rattle.bs_syntax.specs.declared.tree.Module as code_module
 use Rattle.bs_syntax.specs.Parts as parts
 use Rattle.bs_syntax.specs.Parts.{is_strength}
 use Rattle.bs_syntax.specs.Reading.{is_at, expect, listed}
@@ -43,7 +44,7 @@ use Rattle.std.specs.Prelude.{◌&&◌, ◌≤◌}
 use Rattle.bs_syntax.specs.Unsupported.{symbol}
 use Rattle.bs_grammar.specs.Symbols.{opens}
 use Rattle.bs_grammar.specs.Written.{Declared, Connection, Component, Ports, Module, Term}
-use Rattle.bs_grammar.specs.Productions.{begins_with, comma, sharp, left_round, right_round, last, more, one_more, IsTerm, scalar, indexed, one_bit, IsByPlace, by_place, IsLabel, unlabelled, labelled, IsDelay, undelayed, by_time, by_times, IsRange, IsPortSays, declares, IsGate, gate, IsInstance, instance, IsAssignment, assignment, IsHeader, declaring, placing, together, module_said}
+use Rattle.bs_grammar.specs.Productions.{begins_with, comma, sharp, left_round, right_round, last, more, no_more, one_more, IsTerm, scalar, indexed, one_bit, IsByPlace, by_place, IsLabel, unlabelled, labelled, IsDelay, undelayed, by_time, by_times, IsRange, IsPortSays, declares, IsGate, gate, IsInstance, instance, IsAssignment, assignment, IsHeader, top, declaring, placing, together, module_said}
 use Rattle.bs_grammar.proofs.Shown.{seen_as, shown}
 use Rattle.bs_grammar.proofs.Extends.{Extends, no_longer, attributes_extend, item_extends, passed_extends, gate_extends, instance_extends, assignment_extends}
 use Rattle.bs_grammar.proofs.Next.{Reads, Skips, then_is, true_is, false_is, tested, mark_next, word_next, name_next, bit_next, mark_read, name_read, listed_complete, shown_length}
@@ -96,8 +97,8 @@ module _ (table : List (List ℕ)) where
   gates_complete kind ts from next to ps d l e =
       let first = delay_complete table ts from next d e (gates_start kind next (semicolon ∷ to) ps l) in
       let a =
-          listed_complete table (parts.gate kind) (IsGate kind) (component_view table) (λ u. Unit {0}) (λ u. tt) gate_extends (gate_complete table kind) first.left
-          next (semicolon ∷ to) ps l first.shows tt refl in
+      listed_complete table (parts.gate kind) (IsGate kind) (component_view table) (λ u. Unit {0}) (λ u. tt) gate_extends (gate_complete table kind) first.left
+      next (semicolon ∷ to) ps l first.shows tt refl in
       let c = mark_read table 59 (omega arith) due.Nothing a.left to a.shows in
       record {
         value = a.value;
@@ -118,8 +119,8 @@ module _ (table : List (List ℕ)) where
   unfolding instances
   instances_complete cell ts from to ps l e =
       let a =
-          listed_complete table (parts.instance cell) (IsInstance cell) (component_view table) (λ u. Unit {0}) (λ u. tt) instance_extends (instance_complete table cell) ts
-          from (semicolon ∷ to) ps l e tt refl in
+      listed_complete table (parts.instance cell) (IsInstance cell) (component_view table) (λ u. Unit {0}) (λ u. tt) instance_extends (instance_complete table cell) ts
+      from (semicolon ∷ to) ps l e tt refl in
       let c = mark_read table 59 (omega arith) due.Nothing a.left to a.shows in
       record {
         value = a.value;
@@ -147,8 +148,8 @@ module _ (table : List (List ℕ)) where
   assignments_complete ts from next to ps d l e =
       let first = delay_complete table ts from next d e (assignments_start next (semicolon ∷ to) ps l) in
       let a =
-          listed_complete table parts.assignment IsAssignment (component_view table) (IsUnindexed table) (λ u. refl) assignment_extends (assignment_complete table) first.left
-          next (semicolon ∷ to) ps l first.shows refl refl in
+      listed_complete table parts.assignment IsAssignment (component_view table) (IsUnindexed table) (λ u. refl) assignment_extends (assignment_complete table) first.left
+      next (semicolon ∷ to) ps l first.shows refl refl in
       let c = mark_read table 59 (omega arith) due.AfterTerm a.left to a.shows in
       record {
         value = a.value;
@@ -199,11 +200,11 @@ module _ (table : List (List ℕ)) where
       let w = direction_next table d ts inner e in
       let first = names_start says next (semicolon ∷ to) ds l in
       let y =
-          port_says_complete table d (rest ts) inner (first.1.1.0) (first.0) (first.1.0) says
-          (subst (λ (u : Text). IsPortSays d inner u says) (first.1.1.1) s) (w.1.1) in
+      port_says_complete table d (rest ts) inner (first.1.1.0) (first.0) (first.1.0) says
+      (subst (λ (u : Text). IsPortSays d inner u says) (first.1.1.1) s) (w.1.1) in
       let z =
-          names_complete table y.value y.left next to ds (subst (λ (v : Says). IsListed (IsDeclared v) next (semicolon ∷ to) ds) (sym y.says) l)
-          (y.shows ∙ sym (first.1.1.1)) in
+      names_complete table y.value y.left next to ds (subst (λ (v : Says). IsListed (IsDeclared v) next (semicolon ∷ to) ds) (sym y.says) l)
+      (y.shows ∙ sym (first.1.1.1)) in
       record {
         value = record { declared = z.value; parts = [] };
         left = z.left;
@@ -217,7 +218,7 @@ module _ (table : List (List ℕ)) where
       let none : begins_with 91 next ≡ false = ap (begins_with 91) (first.1.1.1) in
       let y = net_says_complete table n (rest ts) inner next r p (w.1.1) none in
       let z =
-          names_complete table y.value y.left next to ds (subst (λ (v : Says). IsListed (IsDeclared v) next (semicolon ∷ to) ds) (sym y.says) l) y.shows in
+      names_complete table y.value y.left next to ds (subst (λ (v : Says). IsListed (IsDeclared v) next (semicolon ∷ to) ds) (sym y.says) l) y.shows in
       record {
         value = record { declared = z.value; parts = [] };
         left = z.left;
@@ -256,3 +257,242 @@ module _ (table : List (List ℕ)) where
         shows = a.shows;
         says = ap (λ m. placing m) a.says;
       }
+
+  -- what begins an item does not end a module
+
+  direction_start : (d : code.Direction) (ts : Rest) (us : Text) → shown table ts ≡ direction_word d ∷ us → is_endmodule (sort ts) ≡ false
+  direction_start directions.Input ts us e = ap is_endmodule (word_next table words.Input ts us e).0
+  direction_start directions.Output ts us e = ap is_endmodule (word_next table words.Output ts us e).0
+
+  net_start : (n : code_net.Net) (ts : Rest) (us : Text) → shown table ts ≡ net_word n ∷ us → is_endmodule (sort ts) ≡ false
+  net_start nets.Wire ts us e = ap is_endmodule (word_next table words.Wire ts us e).0
+  net_start nets.Supply0 ts us e = ap is_endmodule (word_next table words.Supply0 ts us e).0
+  net_start nets.Supply1 ts us e = ap is_endmodule (word_next table words.Supply1 ts us e).0
+
+  item_start : (ts : Rest) (from to : Text) (x : Adds) → IsItem from to x → shown table ts ≡ from → is_endmodule (sort ts) ≡ false
+  item_start ts from to x (port_item {d} {from = inner} s l) e = direction_start d ts inner e
+  item_start ts from to x (net_item {net = n} {from = inner} p l) e = net_start n ts inner e
+  item_start ts from to x (assign_item {from = inner} d l) e = ap is_endmodule (word_next table words.Assign ts inner e).0
+  item_start ts from to x (gate_item {kind} {from = inner} d l) e =
+      ap is_endmodule (word_next table (words.Gate kind) ts inner e).0
+  item_start ts from to x (cell_item {cell} {n} {from = inner} l) e =
+      ap is_endmodule (name_next table (Some cell) n ts inner e).0
+
+  opens_next : (ts : Rest) (us : Text) → shown table ts ≡ opens ∷ us → sort ts ≡ sorts.AttrOpen
+  opens_next [] us e = absurd cc
+  opens_next (t ∷ ts) us e = by t.sort e
+    where
+      by : (s : Sort) → seen_as table s t.name ∷ shown table ts ≡ opens ∷ us → s ≡ sorts.AttrOpen
+      by sorts.AttrOpen e = refl
+      by _ e = absurd cc
+
+  not_ended : (ts : Rest) (from here to : Text) (x : Adds) → AreAttributes from here → IsItem here to x → shown table ts ≡ from → is_endmodule (sort ts) ≡ false
+  not_ended ts from here to x no_more i e = item_start ts here to x i e
+  not_ended ts from here to x (one_more {from = inner} j h) i e = ap is_endmodule (opens_next ts inner e)
+
+  direction_closed : (d : code.Direction) (us : Text) → opens_here (direction_word d ∷ us) ≡ false
+  direction_closed directions.Input us = refl
+  direction_closed directions.Output us = refl
+
+  net_closed : (n : code_net.Net) (us : Text) → opens_here (net_word n ∷ us) ≡ false
+  net_closed nets.Wire us = refl
+  net_closed nets.Supply0 us = refl
+  net_closed nets.Supply1 us = refl
+
+  item_closed : (from to : Text) (x : Adds) → IsItem from to x → opens_here from ≡ false
+  item_closed from to x (port_item {d} {from = inner} s l) = direction_closed d inner
+  item_closed from to x (net_item {net = n} {from = inner} p l) = net_closed n inner
+  item_closed from to x (assign_item d l) = refl
+  item_closed from to x (gate_item d l) = refl
+  item_closed from to x (cell_item l) = refl
+
+  item_shorter : (from to : Text) (x : Adds) → IsItem from to x → length to < length from
+  item_shorter from to x i =
+      let e = item_extends i in
+      let less = no_longer (e.1.1.1.1) in
+      let long : length from ≡ suc (length (e.1.0)) = ap length (e.1.1.0) in
+      omega (arith, less, long)
+
+  together_view : (a b : code_adds.Adds) → adds_view table (modules.together a b) ≡ together (adds_view table a) (adds_view table b)
+  together_view a b =
+      ap (λ d. record { declared = d; parts = map (component_view table) (a.parts ++ b.parts) }) (map-append (declared_view table) a.declared b.declared)
+      ∙ ap (λ p. record { declared = map (declared_view table) a.declared ++ map (declared_view table) b.declared; parts = p })
+      (map-append (component_view table) a.parts b.parts)
+
+  items_complete : (n : ℕ) (ts : Rest) (from to : Text) (x : Adds) → AreItems from to x → shown table ts ≡ from → length from < n
+      → Reads table (items n ts) (adds_view table) to x
+  unfolding items
+  items_complete zero ts from to x l e bound = absurd (omega (arith, bound))
+  items_complete (suc n) ts from to x no_item e bound =
+      let w = word_next table words.Endmodule ts to e in
+      record {
+        value = record { declared = []; parts = [] };
+        left = rest ts;
+        is = true_is (is_endmodule (sort ts)) _ _ _ (ap is_endmodule w.0) refl;
+        shows = w.1;
+        says = refl;
+      }
+  items_complete (suc n) ts from to x (one_item {here = here} {next = next} {x = y} {xs = ys} a i l) e bound =
+      let at_item = not_ended ts from here next y a i e in
+      let start = item_closed here next y i in
+      let begins = attributes_complete table ts from here a e start in
+      let first = item_complete begins.left here next y i begins.shows in
+      let one_less : length next < length here = item_shorter here next y i in
+      let not_more = no_longer (attributes_extend a) in
+      let others = items_complete n first.left next to ys l first.shows (omega (arith, one_less, not_more, bound)) in
+      record {
+        value = modules.together first.value others.value;
+        left = others.left;
+        is = false_is (is_endmodule (sort ts)) _ _ _ at_item (then_is (attributes ts) _ begins.left _ begins.is
+            (then_is (item begins.left) _ (first.value, first.left) _ first.is (then_is (items n first.left) _ (others.value, others.left) _ others.is refl)));
+        shows = others.shows;
+        says = together_view first.value others.value
+            ∙ (ap (λ u. together u (adds_view table others.value)) first.says ∙ ap (λ u. together y u) others.says);
+      }
+
+  -- ---- modules
+
+  pub top_complete : (ts : Rest) (from to : Text) (m : Module) → IsTop from to m → shown table ts ≡ from
+      → (is_cell (sort ts) ≡ false) × Reads table (modules.top ts) (module_view table) to m
+  unfolding modules.top
+  top_complete ts from to m (top {n} {from = inner} {next = next} {ports = p} {adds = a} h i) e =
+      let x = name_read table None n ts inner e in
+      let kind = name_next table None n ts inner e in
+      let head = header_complete table (rest ts) inner next p h (x.1.1) in
+      let long : length next ≡ length head.left = ap length (sym head.shows) ∙ shown_length table head.left in
+      let body = items_complete (length head.left + 1) head.left next to a i head.shows (omega (arith, long)) in (
+        ap is_cell kind.0,
+        record {
+          value = record { header = head.value.header; declared = head.value.declared ++ body.value.declared; parts = body.value.parts };
+          left = body.left;
+          is = then_is (expect_name ts) _ (reading.name ts, rest ts) _ x.0 (then_is (header (rest ts)) _ (head.value, head.left) _ head.is
+              (then_is (items (length head.left + 1) head.left) _ (body.value, body.left) _ body.is refl));
+          shows = body.shows;
+          says = ap (λ d. record {
+            header = map (name_view table) head.value.header;
+            declared = d;
+            parts = map (component_view table) body.value.parts;
+          }) (map-append (declared_view table) head.value.declared body.value.declared)
+              ∙ (ap (λ q. module_said q (adds_view table body.value)) head.says ∙ ap (λ b. module_said p b) body.says);
+        },
+      )
+
+  passed_complete : (ts : Rest) (from to : Text) → IsPassed from to → shown table ts ≡ from → Skips table (skipped ts) to
+  unfolding skipped
+  passed_complete [] from to ended e = absurd cc
+  passed_complete [] from to (passing p h) e = absurd cc
+  passed_complete (t ∷ ts) from to ended e = by t.sort e
+    where
+      by : (s : Sort) → seen_as table s t.name ∷ shown table ts ≡ keyword words.Endmodule ∷ to
+          → Skips table (if is_endmodule s then Ok ts else if is_end s then Err (Syntax t.at) else skipped ts) to
+      by (sorts.Word words.Endmodule) e = let left : shown table ts ≡ to = cc in record { left = ts; is = refl; shows = left }
+      by _ e = absurd cc
+  passed_complete (t ∷ ts) from to (passing {s = x} {from = inner} p h) e = by t.sort e (λ left. passed_complete ts inner to h left)
+    where
+      by : (s : Sort) → seen_as table s t.name ∷ shown table ts ≡ x ∷ inner → (shown table ts ≡ inner → Skips table (skipped ts) to)
+          → Skips table (if is_endmodule s then Ok ts else if is_end s then Err (Syntax t.at) else skipped ts) to
+      by (sorts.Word words.Endmodule) e r =
+          let same : keyword words.Endmodule ≡ x = cc in
+          let other : false ≡ true = ap is_passed same ∙ p in
+          absurd cc
+      by sorts.End e r =
+          let same : finish ≡ x = cc in
+          let other : false ≡ true = ap is_passed same ∙ p in
+          absurd cc
+      by _ e r = let left : shown table ts ≡ inner = cc in r left
+
+  begun_complete : (ts : Rest) (from us : Text) → AreAttributes from (keyword words.Module ∷ us) → shown table ts ≡ from → Skips table (begun ts) us
+  unfolding begun
+  begun_complete ts from us a e =
+      let here = attributes_complete table ts from (keyword words.Module ∷ us) a e refl in
+      let w = word_next table words.Module here.left us here.shows in
+      record {
+        left = rest here.left;
+        is = then_is (attributes ts) _ here.left _ here.is (true_is (is_module (sort here.left)) _ _ _ (ap is_module w.0) refl);
+        shows = w.1;
+      }
+
+  leading_complete : (n : ℕ) (ts : Rest) (from here next after : Text) (m : Module) → AreCells from here → AreAttributes here (keyword words.Module ∷ next)
+      → IsTop next after m → shown table ts ≡ from → length from < n → Skips table (leading n ts) next
+  unfolding leading
+  leading_complete zero ts from here next after m l a t e bound = absurd (omega (arith, bound))
+  leading_complete (suc n) ts from here next after m no_cell a t e bound =
+      let b = begun_complete ts from next a e in
+      record {
+        left = b.left;
+        is = then_is (begun ts) _ b.left _ b.is (false_is (is_cell (sort b.left)) _ _ _ ((top_complete b.left next after m t b.shows).0) refl);
+        shows = b.shows;
+      }
+  leading_complete (suc n) ts from here next after m (one_cell {cell} {n = k} {inside = inside} {next = behind} c p l) a t e bound =
+      let b = begun_complete ts from (symbols.name (Some cell) k ∷ inside) c e in
+      let x = name_next table (Some cell) k b.left inside b.shows in
+      let s = passed_complete b.left (symbols.name (Some cell) k ∷ inside) behind (passing refl p) b.shows in
+      let less = no_longer (passed_extends p) in
+      let not_more = no_longer (attributes_extend c) in
+      let others = leading_complete n s.left behind here next after m l a t s.shows (omega (arith, less, not_more, bound)) in
+      record {
+        left = others.left;
+        is = then_is (begun ts) _ b.left _ b.is (true_is (is_cell (sort b.left)) _ _ _ (ap is_cell x.0) (then_is (skipped b.left) _ s.left _ s.is others.is));
+        shows = others.shows;
+      }
+
+  finish_next : (ts : Rest) (us : Text) → shown table ts ≡ finish ∷ us → is_end (sort ts) ≡ true
+  finish_next [] us e = refl
+  finish_next (t ∷ ts) us e = by t.sort e
+    where
+      by : (s : Sort) → seen_as table s t.name ∷ shown table ts ≡ finish ∷ us → is_end s ≡ true
+      by sorts.End e = refl
+      by _ e = absurd cc
+
+  cell_start : (ts : Rest) (from us : Text) → AreAttributes from (keyword words.Module ∷ us) → shown table ts ≡ from → is_end (sort ts) ≡ false
+  cell_start ts from us no_more e = ap is_end (word_next table words.Module ts us e).0
+  cell_start ts from us (one_more {from = inner} i h) e = ap is_end (opens_next ts inner e)
+
+  further_complete : (cell : Cell) (k : List ℕ) (ts : Rest) (from inside to : Text) → AreAttributes from (keyword words.Module ∷ symbols.name (Some cell) k ∷ inside)
+      → IsPassed inside to → shown table ts ≡ from → Skips table (modules.further ts) to
+  unfolding modules.further
+  further_complete cell k ts from inside to c p e =
+      let here = attributes_complete table ts from (keyword words.Module ∷ symbols.name (Some cell) k ∷ inside) c e refl in
+      let b = begun_complete here.left (keyword words.Module ∷ symbols.name (Some cell) k ∷ inside) (symbols.name (Some cell) k ∷ inside) no_more here.shows in
+      let x = name_next table (Some cell) k b.left inside b.shows in
+      let s = passed_complete b.left (symbols.name (Some cell) k ∷ inside) to (passing refl p) b.shows in
+      record {
+        left = s.left;
+        is = then_is (attributes ts) _ here.left _ here.is (then_is (begun here.left) _ b.left _ b.is (true_is (is_cell (sort b.left)) _ _ _ (ap is_cell x.0) s.is));
+        shows = s.shows;
+      }
+
+  cells_complete : (n : ℕ) (ts : Rest) (from us : Text) → AreCells from (finish ∷ us) → shown table ts ≡ from → length from < n
+      → Skips table (cells n ts) (finish ∷ us)
+  unfolding cells
+  cells_complete zero ts from us l e bound = absurd (omega (arith, bound))
+  cells_complete (suc n) ts from us no_cell e bound =
+      record { left = ts; is = true_is (is_end (sort ts)) _ _ _ (finish_next ts us e) refl; shows = e }
+  cells_complete (suc n) ts from us (one_cell {cell} {n = k} {inside = inside} {next = behind} c p l) e bound =
+      let s = further_complete cell k ts from inside behind c p e in
+      let less = no_longer (passed_extends p) in
+      let not_more = no_longer (attributes_extend c) in
+      let others = cells_complete n s.left behind us l s.shows (omega (arith, less, not_more, bound)) in
+      record {
+        left = others.left;
+        is = false_is (is_end (sort ts)) _ _ _ (cell_start ts from (symbols.name (Some cell) k ∷ inside) c e)
+            (then_is (modules.further ts) _ s.left _ s.is others.is);
+        shows = others.shows;
+      }
+
+  pub syntax_complete : (ts : Rest) (from : Text) (w : Module) → IsNetlistText from w → shown table ts ≡ from
+      → (m : code_module.Module) × ((syntax_of ts ≡ Ok m) × (module_view table m ≡ w))
+  unfolding syntax_of
+  syntax_complete ts from w (netlist {here = here} {next = next} {after = after} c a t l) e =
+      let long : length from ≡ length ts = ap length (sym e) ∙ shown_length table ts in
+      let led = leading_complete (length ts + 1) ts from here next after w c a t e (omega (arith, long)) in
+      let m = (top_complete led.left next after w t led.shows).1 in
+      let longer : length after ≡ length m.left = ap length (sym m.shows) ∙ shown_length table m.left in
+      let s = cells_complete (length m.left + 1) m.left after [] l m.shows (omega (arith, longer)) in (
+        m.value,
+        (
+          then_is (leading (length ts + 1) ts) _ led.left _ led.is (then_is (modules.top led.left) _ (m.value, m.left) _ m.is
+              (then_is (cells (length m.left + 1) m.left) _ s.left _ s.is refl)),
+          m.says,
+        ),
+      )

@@ -116,11 +116,10 @@ module _ (table : List (List ℕ)) where
 
   pub mark_read : (c : ℕ) → 0 < c → (d : Due) (ts : Rest) (us : Text) → shown table ts ≡ mark c ∷ us
       → (cond (symbol (sort ts) == c) (Ok (rest ts)) (Err (refused d ts)) ≡ Ok (rest ts)) × (shown table (rest ts) ≡ us)
-  mark_read c h d ts us e =
-      (
-        true_is (symbol (sort ts) == c) (Ok (rest ts)) (Err (refused d ts)) (Ok (rest ts)) (tested c h ts (mark c ∷ us) true e (same_mark c)) refl,
-        (mark_next c ts us e).1,
-      )
+  mark_read c h d ts us e = (
+    true_is (symbol (sort ts) == c) (Ok (rest ts)) (Err (refused d ts)) (Ok (rest ts)) (tested c h ts (mark c ∷ us) true e (same_mark c)) refl,
+    (mark_next c ts us e).1,
+  )
 
   pub name_read : (cell : Option Cell) (n : List ℕ) (ts : Rest) (us : Text) → shown table ts ≡ symbols.name cell n ∷ us
       → (expect_name ts ≡ Ok (reading.name ts, rest ts)) × ((name_view table (reading.name ts) ≡ n) × (shown table (rest ts) ≡ us))

@@ -42,7 +42,6 @@ use Rattle.bs_grammar.proofs.Next.{Reads, Skips, then_is, true_is, false_is, tes
 use Rattle.bs_grammar.proofs.PartsSound.{carried_sound, names_view}
 use Rattle.bs_grammar.proofs.TermsComplete.{opens_here, attributes_complete, term_complete, IsUndelayed, IsUntimed, delay_complete}
 
-
 -- what a function of the next symbol gives, by what that is
 module _ (table : List (List ℕ)) where
   pub range_complete : (ts : Rest) (from to : Text) (r : Option Range) → IsRange from to r → shown table ts ≡ from → begins_with 91 to ≡ false
@@ -128,8 +127,8 @@ module _ (table : List (List ℕ)) where
   unfolding names
   names_complete says ts from to ds l e =
       let a =
-          listed_complete table (declared_name says) (IsDeclared (says_view table says)) (declared_view table) (λ u. Unit {0}) (λ u. tt) declared_extends
-          (declared_complete says) ts from (semicolon ∷ to) ds l e tt refl in
+      listed_complete table (declared_name says) (IsDeclared (says_view table says)) (declared_view table) (λ u. Unit {0}) (λ u. tt) declared_extends
+      (declared_complete says) ts from (semicolon ∷ to) ds l e tt refl in
       let c = mark_read table 59 (omega arith) due.AfterDeclared a.left to a.shows in
       record {
         value = a.value;
@@ -261,8 +260,8 @@ module _ (table : List (List ℕ)) where
   ports_complete ts from to p (plain_ports {names = ns} l) e =
       let first = plain_first ts from (right_round ∷ to) ns l e in
       let a =
-          listed_complete table plain_port IsPlainPort (name_view table) (λ u. Unit {0}) (λ u. tt) plain_port_extends plain_port_complete ts from (right_round ∷ to)
-          ns l e tt refl in
+      listed_complete table plain_port IsPlainPort (name_view table) (λ u. Unit {0}) (λ u. tt) plain_port_extends plain_port_complete ts from (right_round ∷ to)
+      ns l e tt refl in
       let c = mark_read table 41 (omega arith) due.Nothing a.left to a.shows in
       record {
         value = record { header = a.value; declared = [] };
@@ -276,13 +275,13 @@ module _ (table : List (List ℕ)) where
   ports_complete ts from to p (declaring_ports {p = q} {ps = qs} {ds = ds} l i c) e =
       let first = header_first ts from (right_round ∷ to) q qs l i e in
       let a =
-          listed_complete table header_port IsHeaderPort (port_view table) (λ u. Unit {0}) (λ u. tt) header_port_extends header_port_complete ts from
-          (right_round ∷ to) (q ∷ qs) l e tt refl in
+      listed_complete table header_port IsHeaderPort (port_view table) (λ u. Unit {0}) (λ u. tt) header_port_extends header_port_complete ts from
+      (right_round ∷ to) (q ∷ qs) l e tt refl in
       let m = mark_read table 41 (omega arith) due.AfterDeclared a.left to a.shows in
       let names_are : map (name_view table) (map (λ (x : code_port.HeaderPort). x.name) a.value) ≡ map (λ (x : HeaderPort). x.name) (q ∷ qs) =
       names_view table a.value ∙ ap (map (λ (x : HeaderPort). x.name)) a.says in
       let sound = subst (λ (xs : List HeaderPort). AreCarried nothing_said xs (map (declared_view table) (carried declarations.nothing_said a.value))) a.says
-          (carried_sound table declarations.nothing_said a.value) in
+      (carried_sound table declarations.nothing_said a.value) in
       let declared_are = carried_once nothing_said (q ∷ qs) (map (declared_view table) (carried declarations.nothing_said a.value)) ds sound c in
       record {
         value = record { header = map (λ (x : code_port.HeaderPort). x.name) a.value; declared = carried declarations.nothing_said a.value };
@@ -355,8 +354,8 @@ module _ (table : List (List ℕ)) where
       let here = instance_name ts in
       let o = mark_read table 40 (omega arith) (if is_name (sort ts) then due.AfterInstance else due.Nothing) here inside (label_complete ts from inside b e) in
       let a =
-          listed_complete table parts.by_place IsByPlace (connection_view table) IsUnindexed (λ u. refl) by_place_extends by_place_complete (rest here) inside
-          (right_round ∷ to) cs l o.1 refl refl in
+      listed_complete table parts.by_place IsByPlace (connection_view table) IsUnindexed (λ u. refl) by_place_extends by_place_complete (rest here) inside
+      (right_round ∷ to) cs l o.1 refl refl in
       let c = mark_read table 41 (omega arith) due.AfterTerm a.left to a.shows in
       record {
         value = record { shape = shapes.Gate kind; at = at here; connections = a.value };
@@ -465,8 +464,8 @@ module _ (table : List (List ℕ)) where
       }
   connections_complete ts from to cs (places n l) e =
       let a =
-          listed_complete table parts.place IsPlace (connection_view table) IsEnding (λ u. record { ends = refl; unindexed = refl }) place_extends place_complete ts
-          from (right_round ∷ to) cs l e (record { ends = refl; unindexed = refl }) refl in
+      listed_complete table parts.place IsPlace (connection_view table) IsEnding (λ u. record { ends = refl; unindexed = refl }) place_extends place_complete ts
+      from (right_round ∷ to) cs l e (record { ends = refl; unindexed = refl }) refl in
       let c = mark_read table 41 (omega arith) due.AfterTerm a.left to a.shows in
       record {
         value = a.value;
@@ -479,7 +478,7 @@ module _ (table : List (List ℕ)) where
       }
   connections_complete ts from to cs (pins l) e =
       let a =
-          listed_complete table parts.pin IsPin (connection_view table) (λ u. Unit {0}) (λ u. tt) pin_extends pin_complete ts from (right_round ∷ to) cs l e tt refl in
+      listed_complete table parts.pin IsPin (connection_view table) (λ u. Unit {0}) (λ u. tt) pin_extends pin_complete ts from (right_round ∷ to) cs l e tt refl in
       let c = mark_read table 41 (omega arith) due.Nothing a.left to a.shows in
       let start = pins_start from (right_round ∷ to) cs l in
       record {

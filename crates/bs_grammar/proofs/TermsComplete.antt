@@ -234,8 +234,8 @@ module _ (table : List (List ℕ)) where
       let m = mark_next table 35 ts _ e in
       let o = mark_next table 40 (rest ts) inner m.1 in
       let a =
-          listed_complete table timed IsTimed (λ (c : Bool). tt) IsUntimed (λ u. record { fraction = refl; colon = refl }) time_extends timed_complete
-          (rest (rest ts)) inner (mark 41 ∷ to) times l o.1 (record { fraction = refl; colon = refl }) refl in
+      listed_complete table timed IsTimed (λ (c : Bool). tt) IsUntimed (λ u. record { fraction = refl; colon = refl }) time_extends timed_complete
+      (rest (rest ts)) inner (mark 41 ∷ to) times l o.1 (record { fraction = refl; colon = refl }) refl in
       let c = mark_read table 41 (omega arith) due.Nothing a.left to a.shows in
       record {
         left = rest a.left;
