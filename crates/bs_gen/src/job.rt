@@ -13,7 +13,7 @@ use std::alloc::Global;
 
 /// The texts of a job.
 #[derive(Drop)]
-pub struct Job {
+pub struct GeneratedJob {
     pub netlist: List<u8>,
     pub signature: List<u8>,
     pub stimulus: List<u8>,
@@ -81,7 +81,7 @@ fn stimulus(alloc: Global, draws: &mut Draws) -> Result<List<u8>, NoMemory>
 
 /// The job with a number.
 #[tactic(auto, unfolding(crate::specs::Job::netlist_for, crate::specs::Job::stimulus_for))]
-pub fn make(alloc: Global, number: u64) -> Result<Job, NoMemory>
+pub fn make(alloc: Global, number: u64) -> Result<GeneratedJob, NoMemory>
     ensures netlist { IfOk result (λ job. job.netlist ≡ netlist_for number) }
     ensures signature { IfOk result (λ job. job.signature ≡ signature_text) }
     ensures stimulus { IfOk result (λ job. job.stimulus ≡ stimulus_for number) }
@@ -90,7 +90,7 @@ pub fn make(alloc: Global, number: u64) -> Result<Job, NoMemory>
     let netlist = netlist(alloc, &mut draws)?;
     let signature = signature(alloc)?;
     let stimulus = stimulus(alloc, &mut draws)?;
-    Ok(Job {
+    Ok(GeneratedJob {
         netlist,
         signature,
         stimulus,

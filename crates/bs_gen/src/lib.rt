@@ -8,4 +8,4 @@ mod job;
 mod names;
 mod stimulus;
 
-pub use job::{Job, make};
+pub use job::{GeneratedJob, make};

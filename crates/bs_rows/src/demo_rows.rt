@@ -1,7 +1,7 @@
 //! The generated job.
 
 use crate::calls::{SOUND, answers, call};
-use bs_gen::{Job, make};
+use bs_gen::{GeneratedJob, make};
 use bs_top::Status;
 use std::alloc::Global;
 use std::test::Fail;
@@ -66,7 +66,7 @@ fn is_dumped_and_run(alloc: Global, texts: [&str; 3]) -> bool {
 }
 
 /// Whether the texts of a job are traced back so.
-fn is_job(alloc: Global, job: &Job) -> bool {
+fn is_job(alloc: Global, job: &GeneratedJob) -> bool {
     match (
         str::from_utf8(job.netlist.slice()),
         str::from_utf8(job.signature.slice()),

@@ -8,7 +8,7 @@ ghost use Rattle.bs_top.specs.Texts.{AreTexts};
 
 use crate::budgets::{DEMO_CYCLE, DEMO_RUN};
 use bs_entry::{FileNames, Placed, take_placed};
-use bs_gen::{Job, make};
+use bs_gen::{GeneratedJob, make};
 use bs_job::JobFault;
 use bs_outside::SureShelf;
 use std::alloc::{AllocError, Global};
@@ -24,7 +24,7 @@ fn file(alloc: Global, name: &str, text: &[u8]) -> Result<(String, Vec<u8>), All
 }
 
 /// The texts of a job under their names.
-fn files(alloc: Global, job: &Job) -> Result<Vec<(String, Vec<u8>)>, AllocError>
+fn files(alloc: Global, job: &GeneratedJob) -> Result<Vec<(String, Vec<u8>)>, AllocError>
     ensures { IfOk result (λ files. AreTexts files.items job.now.netlist job.now.signature job.now.stimulus) }
 {
     let netlist = file(alloc, "netlist", job.netlist.slice())?;
