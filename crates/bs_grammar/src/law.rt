@@ -1,5 +1,5 @@
 //! The laws of the grammar, as functions with empty bodies.
-ghost use Rattle.bs_grammar.specs.Law.{ReadsWhatIsWritten, ReadsAllThatIsWritten};
+ghost use Rattle.bs_grammar.specs.Law.{ReadsWhatIsWritten, ReadsAllThatIsWritten, ReadsExactly};
 
 use bs_lex::Token;
 
@@ -11,4 +11,9 @@ pub fn what_is_read_is_written(source: &[u8], tokens: &[Token])
 /// A text in the grammar is read, as what it says.
 pub fn what_is_written_is_read(source: &[u8], tokens: &[Token])
     ensures { ReadsAllThatIsWritten source.now tokens.now }
+{}
+
+/// The netlist that a text is has a value exactly for the texts in the grammar whose names and ports agree.
+pub fn netlists_are_in_the_grammar(source: &[u8])
+    ensures { ReadsExactly source.now }
 {}

@@ -3,4 +3,4 @@
 
 mod law;
 
-pub use law::{what_is_read_is_written, what_is_written_is_read};
+pub use law::{netlists_are_in_the_grammar, what_is_read_is_written, what_is_written_is_read};
