@@ -15,10 +15,10 @@ ghost use Rattle.bs_top.specs.Finishes.{finishes, Finds};
 use bs_audit::Finding;
 use bs_bits::{end_line, push_number, push_piece};
 use bs_entry::{Claimed, FileNames, take_claimed};
+use bs_good::Part;
 use bs_job::{Reply, Status, stopped};
 use bs_log::Why;
 use bs_outside::{NoMemory, Shelf};
-use bs_good::Part;
 use bs_words::AuditJob;
 use std::alloc::Global;
 

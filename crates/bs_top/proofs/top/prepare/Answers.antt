@@ -1,9 +1,27 @@
 use Rattle.std.proofs.Common.{Some, sym, ◌∙◌, ap}
 use Rattle.std.specs.Prelude.{map, string_bytes}
+use Rattle.bs_job.proofs.Preparing.{prepares_alone}
+use Rattle.bs_words.specs.Job.{job_of}
 use Rattle.bs_words.specs.Shown.{job_in, shown_job}
 use Rattle.bs_top.proofs.AskedLemmas.{budget_is}
+use Rattle.bs_top.proofs.WorkLemmas.{prepared_for, prepared_short}
 use Rattle.bs_top.proofs.top.prepare.Goals as goal
 
 pub run-requires : goal.run-requires
 run-requires g c =
-    budget_is (map string_bytes c.args.words.now) _ (sym (sym c.in_ok-job.ensures ∙ (ap shown_job c.in-Some-Run.is ∙ ap (λ j. Some (job_in j)) c.in-Some-Run.field-0-is)))
+    budget_is (map string_bytes c.args.words.now) _ (sym (sym c.in_ok-job.ensures.read ∙ (ap shown_job c.in-Some-Run.is ∙ ap (λ j. Some (job_in j)) c.in-Some-Run.field-0-is)))
+
+pub returns-in_err-job : goal.returns-in_err-job
+returns-in_err-job g c = prepared_short _ _ c.from_residual.ensures.0
+
+pub returns-in-Some-Run : goal.returns-in-Some-Run
+returns-in-Some-Run g c =
+    prepared_for _ (job_of (map string_bytes c.args.words.now)) (sym (sym c.in_ok-job.ensures.read ∙ (ap shown_job c.in-Some-Run.is ∙ ap (λ j. Some (job_in j)) c.in-Some-Run.field-0-is))) c.run.ensures
+
+pub returns-in-Some-Audit : goal.returns-in-Some-Audit
+returns-in-Some-Audit g c =
+    prepared_for _ (job_of (map string_bytes c.args.words.now)) (sym (sym c.in_ok-job.ensures.read ∙ (ap shown_job c.in-Some-Audit.is ∙ ap (λ j. Some (job_in j)) c.in-Some-Audit.field-0-is))) c.audit.ensures
+
+pub returns-in-Some-Demo : goal.returns-in-Some-Demo
+returns-in-Some-Demo g c =
+    prepared_for _ (job_of (map string_bytes c.args.words.now)) (sym (sym c.in_ok-job.ensures.read ∙ (ap shown_job c.in-Some-Demo.is ∙ ap (λ j. Some (job_in j)) c.in-Some-Demo.field-0-is))) (prepares_alone _ c.demo.ensures)
