@@ -25,3 +25,7 @@ returns-in-Some-Audit g c =
 pub returns-in-Some-Demo : goal.returns-in-Some-Demo
 returns-in-Some-Demo g c =
     prepared_for _ (job_of (map string_bytes c.args.words.now)) (sym (sym c.in_ok-job.ensures.read ∙ (ap shown_job c.in-Some-Demo.is ∙ ap (λ j. Some (job_in j)) c.in-Some-Demo.field-0-is))) (prepares_alone _ c.demo.ensures)
+
+pub returns-in-Some-Dump : goal.returns-in-Some-Dump
+returns-in-Some-Dump g c =
+    prepared_for _ (job_of (map string_bytes c.args.words.now)) (sym (sym c.in_ok-job.ensures.read ∙ (ap shown_job c.in-Some-Dump.is ∙ ap (λ j. Some (job_in j)) c.in-Some-Dump.field-0-is))) c.dump.ensures
