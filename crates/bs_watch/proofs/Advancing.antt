@@ -23,10 +23,12 @@ true_in_front n places l t =
     let (before, in_all) = get_take n places k p there in
     Contains_from_get (literals_of places) k l (get_map (λ (x : Place). x.literal) places k p in_all ∙ ap Some same)
 
-pub stays_true : (clauses : List Held) (level : ℕ) (old new : List Place) (l : Literal) → Grows clauses level old new → IsTrueOn (literals_of old) l → IsTrueOn (literals_of new) l
+pub stays_true : (clauses : List Held) (level : ℕ) (old new : List Place) (l : Literal) → Grows clauses level old new → IsTrueOn (literals_of old) l →
+    IsTrueOn (literals_of new) l
 stays_true clauses level old new l g t = true_in_front (length old) new l (subst (λ ps. IsTrueOn (literals_of ps) l) (sym g.front) t)
 
-pub true_carries : (trail later : List Literal) (c d : Clause) → ((l : Literal) → IsTrueOn trail l → IsTrueOn later l) → IsPermutation c d → HasTrue trail c → HasTrue later d
+pub true_carries : (trail later : List Literal) (c d : Clause) → ((l : Literal) → IsTrueOn trail l → IsTrueOn later l) → IsPermutation c d →
+    HasTrue trail c → HasTrue later d
 true_carries trail later c d more p h = record {
   literal = h.literal;
   stands = Contains-permutation c d h.literal p h.stands;
@@ -57,7 +59,8 @@ forced_still old new earlier p s f = record {
   forces = record {
     stands = Contains-permutation (literals_at old f.by) (literals_at new f.by) p.literal (s.same f.by) f.forces.stands;
     unassigned = f.forces.unassigned;
-    others = All-permutation (λ m. (m ≡ p.literal) ⊎ IsFalseOn (literals_of earlier) m) (literals_at old f.by) (literals_at new f.by) (s.same f.by) f.forces.others;
+    others =
+        All-permutation (λ m. (m ≡ p.literal) ⊎ IsFalseOn (literals_of earlier) m) (literals_at old f.by) (literals_at new f.by) (s.same f.by) f.forces.others;
   };
 }
 
@@ -123,12 +126,14 @@ met_still level a b f at x front m = record {
   met = λ k w before e.
       let (v, was, same) = front k w before e in
       subst (λ r. HasTrue (trues b) (literals_at b.clauses r)) same
-      (true_carries (trues a) (trues b) (literals_at a.clauses v.clause) (literals_at b.clauses v.clause) (λ l. stays_true b.clauses level a.trail.places b.trail.places l x.grows)
+      (true_carries (trues a) (trues b) (literals_at a.clauses v.clause) (literals_at b.clauses v.clause)
+      (λ l. stays_true b.clauses level a.trail.places b.trail.places l x.grows)
       (x.shuffled.same v.clause) (m.met k v before was));
 }
 
 -- one more clause has a true literal
-pub met_more : (s : Scene) (f : Literal) (at : ℕ) → AreMet s f at → ((w : Watcher) → slice_get (row s.lists f) at ≡ Some w → HasTrue (trues s) (literals_at s.clauses w.clause)) → AreMet s f (at + 1)
+pub met_more : (s : Scene) (f : Literal) (at : ℕ) → AreMet s f at →
+    ((w : Watcher) → slice_get (row s.lists f) at ≡ Some w → HasTrue (trues s) (literals_at s.clauses w.clause)) → AreMet s f (at + 1)
 met_more s f at m here = record {
   met = λ k w before e. elim (cases_lt k at) [
     | inl early ↦ m.met k w early e

@@ -19,7 +19,8 @@ use Rattle.bs_watch.proofs.Removals.{get_swap_first, get_swap_second, get_swap_o
 pub no_lower_refl : (places : List Place) (l : Literal) → ((i j : ℕ) → IsOnLevel places l i → IsOnLevel places l j → i ≡ j) → IsNoLower places l l
 no_lower_refl places l one = λ lost. (lost, λ i j a b. let e = one i j a b in omega (arith, e))
 
-pub no_lower_trans : (places : List Place) (l m n : Literal) → (IsFalseOn (literals_of places) m → (j : ℕ) × IsOnLevel places m j) → IsNoLower places l m → IsNoLower places m n → IsNoLower places l n
+pub no_lower_trans : (places : List Place) (l m n : Literal) → (IsFalseOn (literals_of places) m → (j : ℕ) × IsOnLevel places m j) →
+    IsNoLower places l m → IsNoLower places m n → IsNoLower places l n
 no_lower_trans places l m n has a b = λ lost.
     let (lost_m, low_m) = a lost in
     let (lost_n, low_n) = b lost_m in
@@ -56,14 +57,16 @@ some_there [] k h = absurd (omega (arith, h))
 some_there (x ∷ xs) zero h = (x, refl)
 some_there (x ∷ xs) (suc k) h = some_there xs k (omega (arith, h))
 
-pub from_swap : {X : Type 0} (xs : List X) (i j k : ℕ) (x : X) → i < length xs → j < length xs → slice_get (swap xs i j) k ≡ Some x → (was : ℕ) × (slice_get xs was ≡ Some x) × Stood i j k was
+pub from_swap : {X : Type 0} (xs : List X) (i j k : ℕ) (x : X) → i < length xs → j < length xs → slice_get (swap xs i j) k ≡ Some x →
+    (was : ℕ) × (slice_get xs was ≡ Some x) × Stood i j k was
 from_swap {X} xs i j k x in_i in_j e =
     let (y, at_i) = some_there xs i in_i in
     let (z, at_j) = some_there xs j in_j in
     elim (cases_eq k j) as (λ _. (was : ℕ) × (slice_get xs was ≡ Some x) × Stood i j k was) [
       | inl is_j ↦ (i, at_i ∙ sym (sym e ∙ ap (slice_get (swap xs i j)) is_j ∙ get_swap_second xs i j y z at_i at_j), record { is = inr (inl (is_j, refl)) })
       | inr not_j ↦ elim (cases_eq k i) as (λ _. (was : ℕ) × (slice_get xs was ≡ Some x) × Stood i j k was) [
-        | inl is_i ↦ (j, at_j ∙ sym (sym e ∙ ap (slice_get (swap xs i j)) is_i ∙ get_swap_first xs i j y z (λ same. not_j (is_i ∙ same)) at_i at_j), record { is = inl (is_i, refl) })
+        | inl is_i ↦ (j, at_j
+        ∙ sym (sym e ∙ ap (slice_get (swap xs i j)) is_i ∙ get_swap_first xs i j y z (λ same. not_j (is_i ∙ same)) at_i at_j), record { is = inl (is_i, refl) })
         | inr not_i ↦ (k, sym (get_swap_other xs i j k y z at_i at_j not_i not_j) ∙ e, record { is = inr (inr (not_i, (not_j, refl))) })
       ]
     ]
@@ -101,7 +104,8 @@ apart_stood i j k n was a b = elim a.is as (λ _. k ≡ n) [
 pub lifted_permuted : (places : List Place) (c d : Clause) (to : ℕ) → to < length c → IsLifted places c d to → IsPermutation c d
 lifted_permuted places c d to within x = IsPermutation-swap c d to x.best within x.highest.high x.exchanged
 
-pub lifted_watchable : (vars : ℕ) (places : List Place) (c d : Clause) (to : ℕ) → to < length c → IsLifted places c d to → IsWatchable vars c → IsWatchable vars d
+pub lifted_watchable : (vars : ℕ) (places : List Place) (c d : Clause) (to : ℕ) → to < length c → IsLifted places c d to → IsWatchable vars c →
+    IsWatchable vars d
 lifted_watchable vars places c d to within x w = record {
   long = let long : length d ≡ length c = ap length x.exchanged ∙ length-swap c to x.best in omega (arith, long, w.long);
   apart = λ i j l m a b same.
@@ -127,8 +131,10 @@ chosen places c d e long x y =
               | inr z ↦ z.1.1
             ]
           ] in
-          let (old_l, here_l, stood_l) = from_swap c 0 x.best 0 l (omega (arith, long)) x.highest.high (ap (λ z. slice_get z 0) (sym x.exchanged) ∙ ap (slice_get d) (sym zeroth) ∙ there_l) in
-          let (old_m, here_m, stood_m) = from_swap c 0 x.best was_m m (omega (arith, long)) x.highest.high (ap (λ z. slice_get z was_m) (sym x.exchanged) ∙ there_m) in
+          let (old_l, here_l, stood_l) =
+          from_swap c 0 x.best 0 l (omega (arith, long)) x.highest.high (ap (λ z. slice_get z 0) (sym x.exchanged) ∙ ap (slice_get d) (sym zeroth) ∙ there_l) in
+          let (old_m, here_m, stood_m) =
+          from_swap c 0 x.best was_m m (omega (arith, long)) x.highest.high (ap (λ z. slice_get z was_m) (sym x.exchanged) ∙ there_m) in
           let best : old_l ≡ x.best = elim stood_l.is as (λ _. old_l ≡ x.best) [
             | inl z ↦ z.1
             | inr more ↦ elim more as (λ _. old_l ≡ x.best) [
@@ -158,7 +164,8 @@ chosen places c d e long x y =
     }
 
 -- one more literal is looked at
-pub higher_more : (places : List Place) (c : Clause) (start at best result : ℕ) → AreApart places → start < at → at ≤ length c → IsHighestOf places c start at best → IsHigherOf places c best at result → IsHighestOf places c start (at + 1) result
+pub higher_more : (places : List Place) (c : Clause) (start at best result : ℕ) → AreApart places → start < at → at ≤ length c →
+    IsHighestOf places c start at best → IsHigherOf places c best at result → IsHighestOf places c start (at + 1) result
 higher_more places c start at best result a past inside h r =
     let (b, at_b) = some_there c best (omega (arith, h.high, inside)) in
     record {
@@ -166,7 +173,8 @@ higher_more places c start at best result a past inside h r =
       high = elim r.one [ inl same ↦ omega (arith, same, h.high) | inr same ↦ omega (arith, same) ];
       highest = λ k l m low before at_l at_m. elim (cases_eq k at) [
         | inl same ↦ r.no_lower k l m (inr same) at_l at_m
-        | inr other ↦ no_lower_trans places l b m (false_has_level places b) (r.no_lower best l b (inl refl) at_l at_b) (h.highest k b m low (below k other before) at_b at_m)
+        | inr other ↦ no_lower_trans places l b m (false_has_level places b) (r.no_lower best l b (inl refl) at_l at_b)
+        (h.highest k b m low (below k other before) at_b at_m)
       ];
     }
   where
@@ -174,7 +182,8 @@ higher_more places c start at best result a past inside h r =
     below k other before = elim (cases_lt k at) [ inl less ↦ less | inr more ↦ absurd (other (omega (arith, more, before))) ]
 
 -- the higher one of two literals
-pub higher_of : (places : List Place) (c : Clause) (a b n : ℕ) (x y : Literal) → AreApart places → (n ≡ a) ⊎ (n ≡ b) → slice_get c a ≡ Some x → slice_get c b ≡ Some y →
+pub higher_of : (places : List Place) (c : Clause) (a b n : ℕ) (x y : Literal) → AreApart places → (n ≡ a) ⊎ (n ≡ b) → slice_get c a ≡ Some x →
+    slice_get c b ≡ Some y →
     ((z : Literal) → slice_get c n ≡ Some z → IsNoLower places z x × IsNoLower places z y) → IsHigherOf places c a b n
 higher_of places c a b n x y apart one at_x at_y both = record {
   one = one;

@@ -47,7 +47,8 @@ grown_serves w = record {
   };
 }
   where
-    guards : (clauses : List Held) (places : List Place) (looked : ℕ) → AreGuarded w.lists clauses places looked → AreGuarded (w.lists ++ [] ∷ [] ∷ []) clauses places looked
+    guards : (clauses : List Held) (places : List Place) (looked : ℕ) → AreGuarded w.lists clauses places looked →
+        AreGuarded (w.lists ++ [] ∷ [] ∷ []) clauses places looked
     guards clauses places looked g = record {
       guarded = λ r a. g.guarded r (a.0, subst (λ ws. IsIn ws r) (grown_row w.lists a.0) a.1);
     }

@@ -30,7 +30,8 @@ none_levelled = record {
   below = λ j k v p a e h. absurd (none_is_not_some p e);
 }
 
-pub decided_levelled : (places : List Place) (levels : List Level) (v : Level) → v.start ≡ length places → AreLevelled places levels → AreLevelled places (levels ++ v ∷ [])
+pub decided_levelled : (places : List Place) (levels : List Level) (v : Level) → v.start ≡ length places → AreLevelled places levels →
+    AreLevelled places (levels ++ v ∷ [])
 decided_levelled places levels v at a = record {
   few = λ k p e. let h = a.few k p e in omega (arith, h, length_push levels v);
   above = λ j k u p e there h. elim (get_push_cases levels v u j e) [
@@ -102,16 +103,24 @@ grown_levelled clauses old new levels g begun a = record {
     was : (k : ℕ) (p : Place) → k < length old → slice_get new k ≡ Some p → slice_get old k ≡ Some p
     was k p early e = ap (λ ps. slice_get ps k) (sym g.front) ∙ take_get (length old) new k p early e
 
-pub mapped_levelled : (names : List (ℕ × ℕ)) (places : List Place) (levels : List Level) → AreLevelled places levels → AreLevelled (map (renamed_place names) places) levels
+pub mapped_levelled : (names : List (ℕ × ℕ)) (places : List Place) (levels : List Level) → AreLevelled places levels →
+    AreLevelled (map (renamed_place names) places) levels
 mapped_levelled names places levels a = record {
-  few = λ k q e. let (p, there, is) = get_map_cases (renamed_place names) places k q e in subst (λ n. n ≤ length levels) (ap (λ (x : Place). x.level) is) (a.few k p there);
-  above = λ j k v q e at h. let (p, there, is) = get_map_cases (renamed_place names) places k q at in subst (λ n. j < n) (ap (λ (x : Place). x.level) is) (a.above j k v p e there h);
-  below = λ j k v q e at h. let (p, there, is) = get_map_cases (renamed_place names) places k q at in subst (λ n. n ≤ j) (ap (λ (x : Place). x.level) is) (a.below j k v p e there h);
+  few =
+      λ k q e. let (p, there, is) =
+          get_map_cases (renamed_place names) places k q e in subst (λ n. n ≤ length levels) (ap (λ (x : Place). x.level) is) (a.few k p there);
+  above =
+      λ j k v q e at h. let (p, there, is) =
+          get_map_cases (renamed_place names) places k q at in subst (λ n. j < n) (ap (λ (x : Place). x.level) is) (a.above j k v p e there h);
+  below =
+      λ j k v q e at h. let (p, there, is) =
+          get_map_cases (renamed_place names) places k q at in subst (λ n. n ≤ j) (ap (λ (x : Place). x.level) is) (a.below j k v p e there h);
 }
 
 -- ---- what holds of every watch
 
-pub new_watch : (w : WatchState) (vars capacity : ℕ) → vars < 2 ^ 30 → w.trail ≡ record { vars = vars; places = [] } → w.levels ≡ [] → w.head ≡ 0 → vars + 1 ≤ capacity → IsWatch w capacity
+pub new_watch : (w : WatchState) (vars capacity : ℕ) → vars < 2 ^ 30 → w.trail ≡ record { vars = vars; places = [] } → w.levels ≡ [] → w.head ≡ 0 →
+    vars + 1 ≤ capacity → IsWatch w capacity
 new_watch w vars capacity small trail levels head room = record {
   small = subst (λ n. n < 2 ^ 30) (sym (ap (λ (t : TrailState). t.vars) trail)) small;
   looked = omega (arith, head);
@@ -122,7 +131,8 @@ new_watch w vars capacity small trail levels head room = record {
   room = let same : w.trail.vars ≡ vars = ap (λ (t : TrailState). t.vars) trail in omega (arith, same, room);
 }
 
-pub decided_watch : (w new : WatchState) (capacity after : ℕ) → IsWatch w capacity → length w.levels ≤ w.trail.vars → capacity ≤ after → new ≡ decided w → IsWatch new after
+pub decided_watch : (w new : WatchState) (capacity after : ℕ) → IsWatch w capacity → length w.levels ≤ w.trail.vars → capacity ≤ after →
+    new ≡ decided w → IsWatch new after
 decided_watch w new capacity after is few more at = subst (λ u. IsWatch u after) (sym at) (record {
   small = is.small;
   looked = is.looked;
@@ -148,7 +158,8 @@ decided_watch w new capacity after is few more at = subst (λ u. IsWatch u after
 })
 
 pub assigned_watch : (w new : WatchState) (capacity : ℕ) (p : Place) → IsWatch w capacity → p.level ≡ length w.levels →
-    new ≡ record { trail = record { vars = w.trail.vars; places = w.trail.places ++ p ∷ [] }; levels = w.levels; head = w.head; lists = w.lists } → IsWatch new capacity
+    new ≡ record { trail = record { vars = w.trail.vars; places = w.trail.places ++ p ∷ [] }; levels = w.levels; head = w.head; lists = w.lists } →
+    IsWatch new capacity
 assigned_watch w new capacity p is level at = subst (λ u. IsWatch u capacity) (sym at) (record {
   small = is.small;
   looked = omega (arith, is.looked, length_push w.trail.places p);
@@ -159,13 +170,16 @@ assigned_watch w new capacity p is level at = subst (λ u. IsWatch u capacity) (
   room = is.room;
 })
 
-pub cancelled_watch : (w new : WatchState) (capacity after level : ℕ) (begun : Level) → IsWatch w capacity → slice_get w.levels level ≡ Some begun → capacity ≤ after →
-    new.trail ≡ record { vars = w.trail.vars; places = take begun.start w.trail.places } → new.levels ≡ take level w.levels → new.head ≡ begun.looked → IsWatch new after
+pub cancelled_watch : (w new : WatchState) (capacity after level : ℕ) (begun : Level) → IsWatch w capacity → slice_get w.levels level ≡ Some begun →
+    capacity ≤ after →
+    new.trail ≡ record { vars = w.trail.vars; places = take begun.start w.trail.places } → new.levels ≡ take level w.levels →
+    new.head ≡ begun.looked → IsWatch new after
 cancelled_watch w new capacity after level begun is at more trail levels head =
     let long : length (take begun.start w.trail.places) ≡ begun.start = length_front begun.start w.trail.places (is.begun level begun at).0 in
     let places : new.trail.places ≡ take begun.start w.trail.places = ap (λ (t : TrailState). t.places) trail in
     let as_long : length new.trail.places ≡ begun.start = ap length places ∙ long in
-    let was : (k : ℕ) (v : Level) → slice_get new.levels k ≡ Some v → (k < level) × (slice_get w.levels k ≡ Some v) = λ k v e. get_take level w.levels k v (ap (λ vs. slice_get vs k) (sym levels) ∙ e) in
+    let was : (k : ℕ) (v : Level) → slice_get new.levels k ≡ Some v → (k < level) × (slice_get w.levels k ≡ Some v) =
+    λ k v e. get_take level w.levels k v (ap (λ vs. slice_get vs k) (sym levels) ∙ e) in
     record {
       small = subst (λ n. n < 2 ^ 30) (sym (ap (λ (t : TrailState). t.vars) trail)) is.small;
       looked = omega (arith, head, as_long, (is.begun level begun at).1);
@@ -179,11 +193,14 @@ cancelled_watch w new capacity after level begun is at more trail levels head =
           let same : length new.levels ≡ length (take level w.levels) = ap length levels in
           let vars : new.trail.vars ≡ w.trail.vars = ap (λ (t : TrailState). t.vars) trail in
           omega (arith, is.few, fewer, same, vars);
-      levelled = subst (λ ps. AreLevelled ps new.levels) (sym places) (subst (AreLevelled (take begun.start w.trail.places)) (sym levels) (cancelled_levelled w.trail.places w.levels level begun at is.levelled));
+      levelled =
+          subst (λ ps. AreLevelled ps new.levels) (sym places)
+          (subst (AreLevelled (take begun.start w.trail.places)) (sym levels) (cancelled_levelled w.trail.places w.levels level begun at is.levelled));
       room = let vars : new.trail.vars ≡ w.trail.vars = ap (λ (t : TrailState). t.vars) trail in omega (arith, is.room, more, vars);
     }
 
-pub propagated_watch : (w new : WatchState) (clauses : List Held) (capacity : ℕ) → IsWatch w capacity → new.trail.vars ≡ w.trail.vars → new.levels ≡ w.levels → new.head ≤ length new.trail.places →
+pub propagated_watch : (w new : WatchState) (clauses : List Held) (capacity : ℕ) → IsWatch w capacity → new.trail.vars ≡ w.trail.vars →
+    new.levels ≡ w.levels → new.head ≤ length new.trail.places →
     Grows clauses (length w.levels) w.trail.places new.trail.places → IsWatch new capacity
 propagated_watch w new clauses capacity is vars levels head g =
     let was : (k : ℕ) (v : Level) → slice_get new.levels k ≡ Some v → slice_get w.levels k ≡ Some v = λ k v e. ap (λ vs. slice_get vs k) (sym levels) ∙ e in
@@ -193,7 +210,9 @@ propagated_watch w new clauses capacity is vars levels head g =
       begun = λ k v e. let h = is.begun k v (was k v e) in (omega (arith, h.0, g.longer), h.1);
       ascends = λ i j u v before a b. is.ascends i j u v before (was i u a) (was j v b);
       few = let same : length new.levels ≡ length w.levels = ap length levels in omega (arith, is.few, same, vars);
-      levelled = subst (AreLevelled new.trail.places) (sym levels) (grown_levelled clauses w.trail.places new.trail.places w.levels g (λ j v e. (is.begun j v e).0) is.levelled);
+      levelled =
+          subst (AreLevelled new.trail.places) (sym levels)
+          (grown_levelled clauses w.trail.places new.trail.places w.levels g (λ j v e. (is.begun j v e).0) is.levelled);
       room = omega (arith, is.room, vars);
     }
 
@@ -208,7 +227,8 @@ renamed_is_watch w new capacity names is at = subst (λ u. IsWatch u capacity) (
   room = is.room;
 })
 
-pub grown_watch : (w new : WatchState) (capacity after : ℕ) → IsWatch w capacity → w.trail.vars + 1 < 2 ^ 30 → w.trail.vars + 2 ≤ after → new ≡ grown w → IsWatch new after
+pub grown_watch : (w new : WatchState) (capacity after : ℕ) → IsWatch w capacity → w.trail.vars + 1 < 2 ^ 30 → w.trail.vars + 2 ≤ after →
+    new ≡ grown w → IsWatch new after
 grown_watch w new capacity after is small room at = subst (λ u. IsWatch u after) (sym at) (record {
   small = small;
   looked = is.looked;

@@ -21,7 +21,8 @@ get_set_other (y ∷ xs) (suc i) (suc k) x h = get_set_other xs i k x (λ e. h (
 
 -- ---- two elements exchanged
 
-pub get_swap_first : {X : Type 0} (xs : List X) (i j : ℕ) (x y : X) → i ≢ j → slice_get xs i ≡ Some x → slice_get xs j ≡ Some y → slice_get (swap xs i j) i ≡ Some y
+pub get_swap_first : {X : Type 0} (xs : List X) (i j : ℕ) (x y : X) → i ≢ j → slice_get xs i ≡ Some x → slice_get xs j ≡ Some y →
+    slice_get (swap xs i j) i ≡ Some y
 get_swap_first xs i j x y apart at_i at_j =
     let in_i : i < length xs = get_within xs i x at_i in
     let in_j : j < length xs = get_within xs j y at_j in
@@ -33,9 +34,11 @@ get_swap_second xs i j x y at_i at_j =
     let in_i : i < length xs = get_within xs i x at_i in
     let in_j : j < length xs = get_within xs j y at_j in
     ap (λ ys. slice_get ys j) (sym (swap_is xs i j x in_i in_j)) ∙
-    get_set_same (set xs i (get_or xs j x)) j (get_or xs i x) (omega (arith, in_j, length-set xs i (get_or xs j x))) ∙ ap Some (get_or_from_slice_get xs i x x at_i)
+    get_set_same (set xs i (get_or xs j x)) j (get_or xs i x) (omega (arith, in_j, length-set xs i (get_or xs j x)))
+    ∙ ap Some (get_or_from_slice_get xs i x x at_i)
 
-pub get_swap_other : {X : Type 0} (xs : List X) (i j k : ℕ) (x y : X) → slice_get xs i ≡ Some x → slice_get xs j ≡ Some y → k ≢ i → k ≢ j → slice_get (swap xs i j) k ≡ slice_get xs k
+pub get_swap_other : {X : Type 0} (xs : List X) (i j k : ℕ) (x y : X) → slice_get xs i ≡ Some x → slice_get xs j ≡ Some y → k ≢ i → k ≢ j →
+    slice_get (swap xs i j) k ≡ slice_get xs k
 get_swap_other xs i j k x y at_i at_j not_i not_j =
     let in_i : i < length xs = get_within xs i x at_i in
     let in_j : j < length xs = get_within xs j y at_j in
@@ -62,14 +65,16 @@ removed_cases xs i k d x within e =
       elim (cases_eq k i) as (λ _. ((k ≢ i) × (slice_get xs k ≡ Some x)) ⊎ ((k ≡ i) × (slice_get xs (length xs - 1) ≡ Some x))) [
         | inl same ↦ inr (
           same,
-          slice_get-get_or xs (length xs - 1) d (omega (arith, within)) ∙ sym (get_set_same xs i (get_or xs (length xs - 1) d) within) ∙ ap (slice_get (set xs i (get_or xs (length xs - 1) d))) (sym same) ∙ t.1,
+          slice_get-get_or xs (length xs - 1) d (omega (arith, within)) ∙ sym (get_set_same xs i (get_or xs (length xs - 1) d) within)
+          ∙ ap (slice_get (set xs i (get_or xs (length xs - 1) d))) (sym same) ∙ t.1,
         )
         | inr other ↦ inl (other, sym (get_set_other xs i k (get_or xs (length xs - 1) d) other) ∙ t.1)
       ],
     )
 
 -- an element at another place is still there
-pub removed_keeps : {X : Type 0} (xs : List X) (i k : ℕ) (d x : X) → i < length xs → k ≢ i → slice_get xs k ≡ Some x → (j : ℕ) × (slice_get (swap_remove xs i d) j ≡ Some x)
+pub removed_keeps : {X : Type 0} (xs : List X) (i k : ℕ) (d x : X) → i < length xs → k ≢ i → slice_get xs k ≡ Some x →
+    (j : ℕ) × (slice_get (swap_remove xs i d) j ≡ Some x)
 removed_keeps xs i k d x within other there =
     let in_k : k < length xs = get_within xs k x there in
     elim (cases_eq (k + 1) (length xs)) as (λ _. (j : ℕ) × (slice_get (swap_remove xs i d) j ≡ Some x)) [
@@ -79,7 +84,8 @@ removed_keeps xs i k d x within other there =
             take_get (length xs - 1) (set xs i (get_or xs (length xs - 1) d)) i x (omega (arith, last, within, other))
                 (get_set_same xs i (get_or xs (length xs - 1) d) within ∙ ap Some (ap (λ n. get_or xs n d) (sym at) ∙ get_or_from_slice_get xs k x d there)),
           )
-      | inr inner ↦ (k, take_get (length xs - 1) (set xs i (get_or xs (length xs - 1) d)) k x (omega (arith, inner, in_k)) (get_set_other xs i k (get_or xs (length xs - 1) d) other ∙ there))
+      | inr inner ↦ (k, take_get (length xs - 1) (set xs i (get_or xs (length xs - 1) d)) k x (omega (arith, inner, in_k))
+      (get_set_other xs i k (get_or xs (length xs - 1) d) other ∙ there))
     ]
 
 pub length_removed : {X : Type 0} (xs : List X) (i : ℕ) (d : X) → 0 < length xs → length (swap_remove xs i d) + 1 ≡ length xs

@@ -23,12 +23,14 @@ use Rattle.bs_watch.proofs.Gets.{same_some, get_map, get_map_cases}
 literals_from : Option (ℕ × List Literal) → List Literal
 literals_from o = unwrap_or (option_map (λ (m : ℕ × List Literal). m.1) o) []
 
-by_meaning : (o : Option Held) → unwrap_or (option_map (λ (h : Held). h.literals) o) [] ≡ unwrap_or (option_map (λ (m : ℕ × List Literal). m.1) (option_map meaning o)) []
+by_meaning : (o : Option Held) →
+    unwrap_or (option_map (λ (h : Held). h.literals) o) [] ≡ unwrap_or (option_map (λ (m : ℕ × List Literal). m.1) (option_map meaning o)) []
 by_meaning None = refl
 by_meaning (Some h) = refl
 
 -- a clause has the same literals under its new name
-pub same_literals : (old new : List Held) (names : List (ℕ × ℕ)) (r s : ℕ) → IsRenaming old new names → new_name names r ≡ Some s → literals_at new s ≡ literals_at old r
+pub same_literals : (old new : List Held) (names : List (ℕ × ℕ)) (r s : ℕ) → IsRenaming old new names → new_name names r ≡ Some s →
+    literals_at new s ≡ literals_at old r
 same_literals old new names r s renames is =
     by_meaning (held_at new s) ∙ ap (λ o. unwrap_or (option_map (λ (m : ℕ × List Literal). m.1) o) []) (renames.same r s is) ∙ sym (by_meaning (held_at old r))
 
@@ -46,17 +48,20 @@ pub record OldName (names : List (ℕ × ℕ)) (ws : List Watcher) (s : ℕ) : T
   pub stood : IsIn ws old
   pub named : new_name names old ≡ Some s
 
-old_name : (names : List (ℕ × ℕ)) (old new : WatchState) → IsRenamed names old new → (l : Literal) (s : ℕ) → IsIn (row new.lists l) s → OldName names (row old.lists l) s
+old_name : (names : List (ℕ × ℕ)) (old new : WatchState) → IsRenamed names old new → (l : Literal) (s : ℕ) → IsIn (row new.lists l) s →
+    OldName names (row old.lists l) s
 old_name names old new n l s i =
     let (v, there, named, _) = n.back l i.at i.watcher i.there in
     record { old = v.clause; stood = record { at = i.at; watcher = v; there = there; same = refl }; named = named ∙ ap Some i.same }
 
-new_in : (names : List (ℕ × ℕ)) (old new : WatchState) → IsRenamed names old new → (l : Literal) (r s : ℕ) → new_name names r ≡ Some s → IsIn (row old.lists l) r → IsIn (row new.lists l) s
+new_in : (names : List (ℕ × ℕ)) (old new : WatchState) → IsRenamed names old new → (l : Literal) (r s : ℕ) → new_name names r ≡ Some s →
+    IsIn (row old.lists l) r → IsIn (row new.lists l) s
 new_in names old new n l r s is i =
     let (x, there, named) = n.on l i.at i.watcher i.there in
     record { at = i.at; watcher = x; there = there; same = same_some x.clause s (sym named ∙ ap (new_name names) i.same ∙ is) }
 
-pub renamed_serves : (w new : WatchState) (clauses after : List Held) (names : List (ℕ × ℕ)) → Serves w clauses → IsRenaming clauses after names → IsRenamed names w new → Serves new after
+pub renamed_serves : (w new : WatchState) (clauses after : List Held) (names : List (ℕ × ℕ)) → Serves w clauses → IsRenaming clauses after names →
+    IsRenamed names w new → Serves new after
 renamed_serves w new clauses after names s renames n = record {
   listed = record {
     rows = n.rows ∙ s.listed.rows ∙ ap (λ v. 2 * v + 2) (sym n.vars);
@@ -82,17 +87,20 @@ renamed_serves w new clauses after names s renames n = record {
     };
   };
   guarded = subst (AreGuarded new.lists after new.trail.places) (sym n.head) (guards w.trail.places new.trail.places w.head n.literals s.guarded);
-  levels = λ k v e. guards (take v.start w.trail.places) (take v.start new.trail.places) v.looked (same_fronts v.start w.trail.places new.trail.places n.literals)
+  levels =
+      λ k v e. guards (take v.start w.trail.places) (take v.start new.trail.places) v.looked (same_fronts v.start w.trail.places new.trail.places n.literals)
       (s.levels k v (ap (λ vs. slice_get vs k) (sym n.levels) ∙ e));
 }
   where
-    guards : (old_places new_places : List Place) (looked : ℕ) → literals_of new_places ≡ literals_of old_places → AreGuarded w.lists clauses old_places looked → AreGuarded new.lists after new_places looked
+    guards : (old_places new_places : List Place) (looked : ℕ) → literals_of new_places ≡ literals_of old_places →
+        AreGuarded w.lists clauses old_places looked → AreGuarded new.lists after new_places looked
     guards old_places new_places looked is g = record {
       guarded = λ q a.
           let o = old_name names w new n a.0 q a.1 in
           subst (IsGuarded (literals_of new_places) (literals_of (take looked new_places))) (sym (same_literals clauses after names o.old q renames o.named))
           (subst (λ ls. IsGuarded ls (literals_of (take looked new_places)) (literals_at clauses o.old)) (sym is)
-          (subst (λ ls. IsGuarded (literals_of old_places) ls (literals_at clauses o.old)) (sym (same_fronts looked old_places new_places is)) (g.guarded o.old (a.0, o.stood))));
+          (subst (λ ls. IsGuarded (literals_of old_places) ls (literals_at clauses o.old)) (sym (same_fronts looked old_places new_places is))
+          (g.guarded o.old (a.0, o.stood))));
     }
 
 -- ---- from the lists that are mapped
@@ -101,7 +109,8 @@ literals_mapped : (names : List (ℕ × ℕ)) (places : List Place) → literals
 literals_mapped names [] = refl
 literals_mapped names (p ∷ places) = ap (λ ls. p.literal ∷ ls) (literals_mapped names places)
 
-row_mapped : (names : List (ℕ × ℕ)) (lists : List (List Watcher)) (l : Literal) → row (map (λ ws. map (renamed names) ws) lists) l ≡ map (renamed names) (row lists l)
+row_mapped : (names : List (ℕ × ℕ)) (lists : List (List Watcher)) (l : Literal) →
+    row (map (λ ws. map (renamed names) ws) lists) l ≡ map (renamed names) (row lists l)
 row_mapped names lists l = by_place lists (code_of l)
   where
     by_place : (ls : List (List Watcher)) (i : ℕ) → get_or (map (λ ws. map (renamed names) ws) ls) i [] ≡ map (renamed names) (get_or ls i [])
@@ -114,11 +123,14 @@ named None d e = absurd (false≢true e)
 named (Some s) d e = refl
 
 pub serves_renamed : (w : WatchState) (names : List (ℕ × ℕ)) →
-    ServesRenamed w (record { trail = record { vars = w.trail.vars; places = map (renamed_place names) w.trail.places }; levels = w.levels; head = w.head; lists = map (λ ws. map (renamed names) ws) w.lists }) names
+    ServesRenamed w (record { trail = record { vars = w.trail.vars; places = map
+    (renamed_place names) w.trail.places }; levels = w.levels; head = w.head; lists = map (λ ws. map (renamed names) ws) w.lists }) names
 serves_renamed w names = record {
   serves = λ clauses after s renames.
-      let new : WatchState = record { trail = record { vars = w.trail.vars; places = map (renamed_place names) w.trail.places }; levels = w.levels; head = w.head; lists = map (λ ws. map (renamed names) ws) w.lists } in
-      let has_name : (l : Literal) (k : ℕ) (v : Watcher) → slice_get (row w.lists l) k ≡ Some v → new_name names v.clause ≡ Some (unwrap_or (new_name names v.clause) v.clause) =
+      let new : WatchState =
+      record { trail = record { vars = w.trail.vars; places = map (renamed_place names) w.trail.places }; levels = w.levels; head = w.head; lists = map (λ ws. map (renamed names) ws) w.lists } in
+      let has_name : (l : Literal) (k : ℕ) (v : Watcher) → slice_get (row w.lists l) k ≡ Some v →
+      new_name names v.clause ≡ Some (unwrap_or (new_name names v.clause) v.clause) =
       λ l k v e. named (new_name names v.clause) v.clause (renames.named v.clause ∙ (s.listed.listed l k v e).live) in
       renamed_serves w new clauses after names s renames (record {
         vars = refl;
@@ -126,7 +138,9 @@ serves_renamed w names = record {
         levels = refl;
         head = refl;
         rows = length-map w.lists (λ ws. map (renamed names) ws);
-        on = λ l k v e. (renamed names v, ap (λ ws. slice_get ws k) (row_mapped names w.lists l) ∙ get_map (renamed names) (row w.lists l) k v e, has_name l k v e);
+        on =
+            λ l k v e. (renamed names v, ap (λ ws. slice_get ws k) (row_mapped names w.lists l)
+            ∙ get_map (renamed names) (row w.lists l) k v e, has_name l k v e);
         back = λ l k x e.
             let (v, there, is) = get_map_cases (renamed names) (row w.lists l) k x (ap (λ ws. slice_get ws k) (sym (row_mapped names w.lists l)) ∙ e) in
             (v, there, has_name l k v there ∙ ap (λ (y : Watcher). Some y.clause) is, ap (λ (y : Watcher). y.blocker) is);
@@ -134,5 +148,6 @@ serves_renamed w names = record {
 }
 
 pub renames_by : (w u : WatchState) (names : List (ℕ × ℕ)) →
-    u ≡ record { trail = record { vars = w.trail.vars; places = map (renamed_place names) w.trail.places }; levels = w.levels; head = w.head; lists = map (λ ws. map (renamed names) ws) w.lists } → ServesRenamed w u names
+    u ≡ record { trail = record { vars = w.trail.vars; places = map
+    (renamed_place names) w.trail.places }; levels = w.levels; head = w.head; lists = map (λ ws. map (renamed names) ws) w.lists } → ServesRenamed w u names
 renames_by w u names is = subst (λ x. ServesRenamed w x names) (sym is) (serves_renamed w names)

@@ -33,14 +33,17 @@ thins_trans clauses a b c s t = record {
 
 pub placed_thin : (clauses : List Held) (places : List ℕ) (old new : List (List Watcher)) → Thins clauses old new → ArePlaced old places → ArePlaced new places
 placed_thin clauses places old new t p = record {
-  each = λ r a. let (n, there) = t.came a.0 a.1.at a.1.watcher a.1.there in p.each r (a.0, record { at = n; watcher = a.1.watcher; there = there; same = a.1.same });
+  each =
+      λ r a. let (n, there) =
+          t.came a.0 a.1.at a.1.watcher a.1.there in p.each r (a.0, record { at = n; watcher = a.1.watcher; there = there; same = a.1.same });
 }
 
 pub live_thin : (clauses : List Held) (old new : List (List Watcher)) (l : Literal) → Thins clauses old new → AllLive clauses old l → AllLive clauses new l
 live_thin clauses old new l t a = record { each = λ k v e. let (n, there) = t.came l k v e in a.each n v there }
 
 -- a watcher of a dead clause is taken out
-pub removed_thin : (clauses : List Held) (lists new : List (List Watcher)) (f : Literal) (at : ℕ) (w d : Watcher) → code_of f < length lists → slice_get (row lists f) at ≡ Some w →
+pub removed_thin : (clauses : List Held) (lists new : List (List Watcher)) (f : Literal) (at : ℕ) (w d : Watcher) → code_of f < length lists →
+    slice_get (row lists f) at ≡ Some w →
     is_some (held_at clauses w.clause) ≡ false → new ≡ set lists (code_of f) (swap_remove (row lists f) at d) → Thins clauses lists new
 removed_thin clauses lists new f at w d within there dead is =
     let here : row new f ≡ swap_remove (row lists f) at d = ap (λ ls. row ls f) is ∙ row_now lists f (swap_remove (row lists f) at d) within in
@@ -50,7 +53,8 @@ removed_thin clauses lists new f at w d within there dead is =
       rows = ap length is ∙ length-set lists (code_of f) (swap_remove (row lists f) at d);
       came = λ l k v e. elim (cases_literal l f) [
         | inl same ↦
-            let left : Left (row lists f) at v = left_from (row lists f) at k d v inside (ap (λ ws. slice_get ws k) (sym here) ∙ ap (λ x. slice_get (row new x) k) (sym same) ∙ e) in
+            let left : Left (row lists f) at v =
+            left_from (row lists f) at k d v inside (ap (λ ws. slice_get ws k) (sym here) ∙ ap (λ x. slice_get (row new x) k) (sym same) ∙ e) in
             (left.from', ap (λ x. slice_get (row lists x) left.from') same ∙ left.there)
         | inr ne ↦ (k, ap (λ ws. slice_get ws k) (sym (other l ne)) ∙ e)
       ];
@@ -71,13 +75,15 @@ removed_thin clauses lists new f at w d within there dead is =
     }
 
 -- those before the place stay there
-pub removed_live : (clauses : List Held) (lists new : List (List Watcher)) (f : Literal) (at : ℕ) (d : Watcher) → code_of f < length lists → at < length (row lists f) →
+pub removed_live : (clauses : List Held) (lists new : List (List Watcher)) (f : Literal) (at : ℕ) (d : Watcher) → code_of f < length lists →
+    at < length (row lists f) →
     new ≡ set lists (code_of f) (swap_remove (row lists f) at d) → AreLiveTo clauses lists f at → AreLiveTo clauses new f at
 removed_live clauses lists new f at d within inside is a =
     let here : row new f ≡ swap_remove (row lists f) at d = ap (λ ls. row ls f) is ∙ row_now lists f (swap_remove (row lists f) at d) within in
     record { each = λ k v before e. a.each k v before (removed_front (row lists f) at k d v inside before (ap (λ ws. slice_get ws k) (sym here) ∙ e)) }
 
-pub live_more : (clauses : List Held) (lists : List (List Watcher)) (f : Literal) (at : ℕ) (w : Watcher) → slice_get (row lists f) at ≡ Some w → is_some (held_at clauses w.clause) ≡ true →
+pub live_more : (clauses : List Held) (lists : List (List Watcher)) (f : Literal) (at : ℕ) (w : Watcher) → slice_get (row lists f) at ≡ Some w →
+    is_some (held_at clauses w.clause) ≡ true →
     AreLiveTo clauses lists f at → AreLiveTo clauses lists f (at + 1)
 live_more clauses lists f at w there live a = record {
   each = λ k v before e. elim (cases_lt k at) [
@@ -89,7 +95,8 @@ live_more clauses lists f at w there live a = record {
 }
 
 -- one more list has been swept
-pub live_in_more : (clauses : List Held) (old new : List (List Watcher)) (ls : List Literal) (at : ℕ) (l : Literal) → slice_get ls at ≡ Some l → Thins clauses old new → AllLive clauses new l →
+pub live_in_more : (clauses : List Held) (old new : List (List Watcher)) (ls : List Literal) (at : ℕ) (l : Literal) → slice_get ls at ≡ Some l →
+    Thins clauses old new → AllLive clauses new l →
     AreLiveIn clauses old ls at → AreLiveIn clauses new ls (at + 1)
 live_in_more clauses old new ls at l there t all a = record {
   each = λ i m before e. elim (cases_lt i at) [
@@ -102,7 +109,8 @@ live_in_more clauses old new ls at l there t all a = record {
 
 -- ---- the watch after its lists have been swept
 
-pub swept : (w new : WatchState) (arena : Content) (ls : List Literal) → HasServed w arena ls → Thins arena.clauses w.lists new.lists → AreLiveIn arena.clauses new.lists ls (length ls) →
+pub swept : (w new : WatchState) (arena : Content) (ls : List Literal) → HasServed w arena ls → Thins arena.clauses w.lists new.lists →
+    AreLiveIn arena.clauses new.lists ls (length ls) →
     new.trail ≡ w.trail → new.levels ≡ w.levels → new.head ≡ w.head → HasSwept w new arena.clauses
 swept w new arena ls h t a trail levels head =
     let live : (l : Literal) (k : ℕ) (v : Watcher) → slice_get (row new.lists l) k ≡ Some v → is_some (held_at arena.clauses v.clause) ≡ true = λ l k v e.
@@ -113,14 +121,21 @@ swept w new arena ls h t a trail levels head =
           let (i, there) = get_from_Contains ls l (h.watched l n v was dead) in
           (a.each i l (get_within ls i l there) there).each k v e
     ] in
-    let same : (r : ℕ) → is_some (held_at arena.clauses r) ≡ true → literals_at arena.clauses r ≡ literals_at h.before r = λ r alive. ap (λ o. unwrap_or (option_map (λ (x : Held). x.literals) o) []) (h.kept r alive) in
-    let back : (l : Literal) (r : ℕ) → IsIn (row new.lists l) r → IsIn (row w.lists l) r = λ l r i. let (n, was) = t.came l i.at i.watcher i.there in record { at = n; watcher = i.watcher; there = was; same = i.same } in
-    let alive : (l : Literal) (r : ℕ) → IsIn (row new.lists l) r → is_some (held_at arena.clauses r) ≡ true = λ l r i. subst (λ q. is_some (held_at arena.clauses q) ≡ true) i.same (live l i.at i.watcher i.there) in
+    let same : (r : ℕ) → is_some (held_at arena.clauses r) ≡ true → literals_at arena.clauses r ≡ literals_at h.before r =
+    λ r alive. ap (λ o. unwrap_or (option_map (λ (x : Held). x.literals) o) []) (h.kept r alive) in
+    let back : (l : Literal) (r : ℕ) → IsIn (row new.lists l) r → IsIn (row w.lists l) r =
+    λ l r i. let (n, was) = t.came l i.at i.watcher i.there in record { at = n; watcher = i.watcher; there = was; same = i.same } in
+    let alive : (l : Literal) (r : ℕ) → IsIn (row new.lists l) r → is_some (held_at arena.clauses r) ≡ true =
+    λ l r i. subst (λ q. is_some (held_at arena.clauses q) ≡ true) i.same (live l i.at i.watcher i.there) in
     let on : (l : Literal) (r : ℕ) → IsIn (row w.lists l) r → is_some (held_at arena.clauses r) ≡ true → IsIn (row new.lists l) r = λ l r i lives.
-    let (n, there) = t.stays l i.at i.watcher i.there (subst (λ q. is_some (held_at arena.clauses q) ≡ true) (sym i.same) lives) in record { at = n; watcher = i.watcher; there = there; same = i.same } in
-    let guards : (places : List Place) (looked : ℕ) → AreGuarded w.lists h.before places looked → AreGuarded new.lists arena.clauses places looked = λ places looked g. record {
+    let (n, there) =
+    t.stays l i.at i.watcher i.there
+    (subst (λ q. is_some (held_at arena.clauses q) ≡ true) (sym i.same) lives) in record { at = n; watcher = i.watcher; there = there; same = i.same } in
+    let guards : (places : List Place) (looked : ℕ) → AreGuarded w.lists h.before places looked → AreGuarded new.lists arena.clauses places looked =
+    λ places looked g. record {
       guarded = λ r attached.
-          subst (IsGuarded (literals_of places) (literals_of (take looked places))) (sym (same r (alive attached.0 r attached.1))) (g.guarded r (attached.0, back attached.0 r attached.1));
+          subst (IsGuarded (literals_of places) (literals_of (take looked places))) (sym (same r (alive attached.0 r attached.1)))
+          (g.guarded r (attached.0, back attached.0 r attached.1));
     } in
     record {
       serves = record {
@@ -133,7 +148,9 @@ swept w new arena ls h t a trail levels head =
               let eq : literals_at h.before v.clause ≡ literals_at arena.clauses v.clause = sym (same v.clause lives) in
               record {
                 live = lives;
-                watchable = subst (λ (x : TrailState). IsWatchable x.vars (literals_at arena.clauses v.clause)) (sym trail) (subst (IsWatchable w.trail.vars) eq old.watchable);
+                watchable =
+                    subst (λ (x : TrailState). IsWatchable x.vars (literals_at arena.clauses v.clause)) (sym trail)
+                    (subst (IsWatchable w.trail.vars) eq old.watchable);
                 watched = subst (λ c. IsFirstTwo c l) eq old.watched;
                 blocker = subst (λ c. Contains c v.blocker) eq old.blocker;
               };
@@ -142,7 +159,9 @@ swept w new arena ls h t a trail levels head =
               on m r (h.serves.listed.both l m r (back l r i) (subst (λ c. IsFirstTwo c m) (same r lives) first)) lives;
           once = λ l. t.once l (h.serves.listed.once l);
         };
-        guarded = subst (λ (x : TrailState). AreGuarded new.lists arena.clauses x.places new.head) (sym trail) (subst (AreGuarded new.lists arena.clauses w.trail.places) (sym head) (guards w.trail.places w.head h.serves.guarded));
+        guarded =
+            subst (λ (x : TrailState). AreGuarded new.lists arena.clauses x.places new.head) (sym trail)
+            (subst (AreGuarded new.lists arena.clauses w.trail.places) (sym head) (guards w.trail.places w.head h.serves.guarded));
         levels = λ k v e.
             subst (λ (x : TrailState). AreGuarded new.lists arena.clauses (take v.start x.places) v.looked) (sym trail)
               (guards (take v.start w.trail.places) v.looked (h.serves.levels k v (ap (λ vs. slice_get vs k) (sym levels) ∙ e)));

@@ -58,7 +58,8 @@ assigned_places causes ls l c o within =
     let last : place_with l (cause_of (set causes l.variable c) l) ≡ place_with l c = ap (place_with l) (get_or-set_same causes l.variable c no_cause within) in
     map-append (λ (m : Literal). place_with m (cause_of (set causes l.variable c) m)) ls (l ∷ []) ∙ (λ i. front i ++ last i ∷ [])
 
-renamed_at : (names : List (ℕ × ℕ)) (causes : List Cause) (v : ℕ) → get_or (map (renamed_cause names) causes) v no_cause ≡ renamed_cause names (get_or causes v no_cause)
+renamed_at : (names : List (ℕ × ℕ)) (causes : List Cause) (v : ℕ) →
+    get_or (map (renamed_cause names) causes) v no_cause ≡ renamed_cause names (get_or causes v no_cause)
 renamed_at names [] v = refl
 renamed_at names (c ∷ causes) zero = refl
 renamed_at names (c ∷ causes) (suc v) = renamed_at names causes v
@@ -120,7 +121,8 @@ no_value n l = elim (cases_lt (code_of l) n) [
 nothing_in : {X : Type 0} (x : X) → Contains [] x → ⊥
 nothing_in x c = let h : c.0 < 0 = c.1 in omega (arith, h)
 
-pub new_trail : (vars n k capacity : ℕ) → vars < 2 ^ 30 → n ≡ 2 * vars + 2 → k ≡ vars + 1 → vars ≤ capacity → IsTrail vars (replicate n false) (replicate k no_cause) [] 1 capacity
+pub new_trail : (vars n k capacity : ℕ) → vars < 2 ^ 30 → n ≡ 2 * vars + 2 → k ≡ vars + 1 → vars ≤ capacity →
+    IsTrail vars (replicate n false) (replicate k no_cause) [] 1 capacity
 new_trail vars n k capacity small is_n is_k room = record {
   small = small;
   values_are = record {
@@ -156,14 +158,16 @@ assigned_trail vars values causes ls first capacity after l c t o low high room 
       values_are = record {
         holds = λ m e. elim (cases_literal m l) [
           | inl is ↦ subst (Contains (ls ++ l ∷ [])) (sym is) (Contains_from_get (ls ++ l ∷ []) (length ls) l (get_last ls l))
-          | inr other ↦ in_left ls l m (t.values_are.holds m (sym (get_or-set_other values (code_of l) (code_of m) true false (λ same. other (code_of-injective m l same))) ∙ e))
+          | inr other ↦ in_left ls l m
+          (t.values_are.holds m (sym (get_or-set_other values (code_of l) (code_of m) true false (λ same. other (code_of-injective m l same))) ∙ e))
         ];
         noted = λ m there. elim (cases_literal m l) [
           | inl is ↦ ap (λ x. value_of (set values (code_of l) true) x) is ∙ get_or-set_same values (code_of l) true false within
           | inr other ↦
               let (k, e) = get_from_Contains (ls ++ l ∷ []) m there in
               elim (get_push_cases ls l m k e) [
-                | inl was ↦ get_or-set_other values (code_of l) (code_of m) true false (λ same. other (code_of-injective m l same)) ∙ t.values_are.noted m (Contains_from_get ls k m was)
+                | inl was ↦ get_or-set_other values (code_of l) (code_of m) true false (λ same. other (code_of-injective m l same))
+                ∙ t.values_are.noted m (Contains_from_get ls k m was)
                 | inr last ↦ absurd (other (sym last.1))
               ]
         ];
@@ -212,8 +216,10 @@ undone_trail vars values causes ls front first next capacity after l old parts l
       small = t.small;
       values_are = record {
         holds = λ m e. elim (cases_literal m l) [
-          | inl is ↦ absurd (false≢true (sym (ap (λ x. value_of (set values (code_of l) false) x) is ∙ get_or-set_same values (code_of l) false false within) ∙ e))
-          | inr other ↦ back m other (t.values_are.holds m (sym (get_or-set_other values (code_of l) (code_of m) false false (λ same. other (code_of-injective m l same))) ∙ e))
+          | inl is ↦ absurd (false≢true
+          (sym (ap (λ x. value_of (set values (code_of l) false) x) is ∙ get_or-set_same values (code_of l) false false within) ∙ e))
+          | inr other ↦ back m other
+          (t.values_are.holds m (sym (get_or-set_other values (code_of l) (code_of m) false false (λ same. other (code_of-injective m l same))) ∙ e))
         ];
         noted = λ m there.
             let (k, e) = get_from_Contains front m there in
@@ -222,9 +228,11 @@ undone_trail vars values causes ls front first next capacity after l old parts l
             let clash : k ≡ length front = t.distinct.apart k (length front) m l still last_at (ap (λ (x : Literal). x.variable) is) in
             let inside = get_within front k m e in
             omega (arith, clash, inside) in
-            get_or-set_other values (code_of l) (code_of m) false false (λ same. other (code_of-injective m l same)) ∙ t.values_are.noted m (Contains_from_get (front ++ l ∷ []) k m still);
+            get_or-set_other values (code_of l) (code_of m) false false (λ same. other (code_of-injective m l same))
+            ∙ t.values_are.noted m (Contains_from_get (front ++ l ∷ []) k m still);
       };
-      distinct = record { apart = λ i j a b at_a at_b same. t.distinct.apart i j a b (get_left front (l ∷ []) i a at_a) (get_left front (l ∷ []) j b at_b) same };
+      distinct =
+          record { apart = λ i j a b at_a at_b same. t.distinct.apart i j a b (get_left front (l ∷ []) i a at_a) (get_left front (l ∷ []) j b at_b) same };
       in_range = all_from_gets _ front (λ k m e. range_at vars (front ++ l ∷ []) k m t.in_range (get_left front (l ∷ []) k m e));
       by_code = length-set values (code_of l) false ∙ t.by_code;
       by_variable = t.by_variable;
@@ -233,7 +241,8 @@ undone_trail vars values causes ls front first next capacity after l old parts l
       below = record {
         each = λ m at_least before. elim (t.below.each m at_least (omega (arith, before, lower))) [
           | inl holds ↦ inl (back m (λ is. let e : m.variable ≡ l.variable = ap (λ (x : Literal). x.variable) is in omega (arith, e, before, under)) holds)
-          | inr lost ↦ inr (back (negation m) (λ is. let e : m.variable ≡ l.variable = ap (λ (x : Literal). x.variable) is in omega (arith, e, before, under)) lost)
+          | inr lost ↦ inr (back (negation m)
+          (λ is. let e : m.variable ≡ l.variable = ap (λ (x : Literal). x.variable) is in omega (arith, e, before, under)) lost)
         ];
       };
       room = omega (arith, t.room, room);
@@ -280,7 +289,8 @@ places_room vars causes ls d range =
     let few = at_most vars ls d range in
     omega (arith, few, length-map ls (λ (l : Literal). place_with l (cause_of causes l)))
 
-pub place_there : (causes : List Cause) (ls : List Literal) (k : ℕ) (l : Literal) → slice_get ls k ≡ Some l → slice_get (places_in causes ls) k ≡ Some (place_with l (cause_of causes l))
+pub place_there : (causes : List Cause) (ls : List Literal) (k : ℕ) (l : Literal) → slice_get ls k ≡ Some l →
+    slice_get (places_in causes ls) k ≡ Some (place_with l (cause_of causes l))
 place_there causes ls k l e = get_map (λ (m : Literal). place_with m (cause_of causes m)) ls k l e
 
 pub assigned_range : (vars : ℕ) (ls : List Literal) (l : Literal) → HasVariables vars ls → IsAssignedOn ls l → (1 ≤ l.variable) × (l.variable ≤ vars)
@@ -288,7 +298,8 @@ assigned_range vars ls l range (inl holds) = let (k, e) = get_from_Contains ls l
 assigned_range vars ls l range (inr lost) = let (k, e) = get_from_Contains ls (negation l) lost in range_at vars ls k (negation l) range e
 
 -- the place of a variable that has a value
-pub place_of : (causes : List Cause) (ls : List Literal) (l : Literal) → IsAssignedOn ls l → (p : Place) × IsPlaceOf (places_in causes ls) l p × (p.level ≡ (cause_of causes l).level) × (p.reason ≡ (cause_of causes l).reason)
+pub place_of : (causes : List Cause) (ls : List Literal) (l : Literal) → IsAssignedOn ls l →
+    (p : Place) × IsPlaceOf (places_in causes ls) l p × (p.level ≡ (cause_of causes l).level) × (p.reason ≡ (cause_of causes l).reason)
 place_of causes ls l (inl holds) =
     let (k, e) = get_from_Contains ls l holds in
     (place_with l (cause_of causes l), record { at = k; there = place_there causes ls k l e; same = refl }, refl, refl)
@@ -305,11 +316,13 @@ one_level places l i j a x y =
     let same : x.1.at ≡ y.1.at = a.apart x.1.at y.1.at x.0 y.0 x.1.there y.1.there (x.1.same ∙ sym y.1.same) in
     sym x.2 ∙ ap (λ (p : Place). p.level) (same_some x.0 y.0 (sym x.1.there ∙ ap (slice_get places) same ∙ y.1.there)) ∙ y.2
 
-pub forced_by : (causes : List Cause) (ls : List Literal) (l : Literal) (o : Option ℕ) → IsAssignedOn ls l → (cause_of causes l).reason ≡ o → IfSome o (IsForcedBy (places_in causes ls) l)
+pub forced_by : (causes : List Cause) (ls : List Literal) (l : Literal) (o : Option ℕ) → IsAssignedOn ls l → (cause_of causes l).reason ≡ o →
+    IfSome o (IsForcedBy (places_in causes ls) l)
 forced_by causes ls l None a is = tt
 forced_by causes ls l (Some r) a is = let (p, at, level, reason) = place_of causes ls l a in (p, at, reason ∙ is)
 
-cause_at : (causes : List Cause) (ls : List Literal) (l : Literal) (p : Place) → IsPlaceOf (places_in causes ls) l p → (p.reason ≡ (cause_of causes l).reason) × IsAssignedOn ls l
+cause_at : (causes : List Cause) (ls : List Literal) (l : Literal) (p : Place) → IsPlaceOf (places_in causes ls) l p →
+    (p.reason ≡ (cause_of causes l).reason) × IsAssignedOn ls l
 cause_at causes ls l p at =
     let (m, there, is) = get_map_cases (λ (x : Literal). place_with x (cause_of causes x)) ls at.at p at.there in
     let same : m.variable ≡ l.variable = ap variable_of is ∙ at.same in
@@ -321,7 +334,8 @@ cause_at causes ls l p at =
       ],
     )
 
-pub not_forced : (causes : List Cause) (ls : List Literal) (l : Literal) (o : Option ℕ) → (cause_of causes l).reason ≡ o → IfNone o (HasNoReason (places_in causes ls) l)
+pub not_forced : (causes : List Cause) (ls : List Literal) (l : Literal) (o : Option ℕ) → (cause_of causes l).reason ≡ o →
+    IfNone o (HasNoReason (places_in causes ls) l)
 not_forced causes ls l None is = record { none = λ p at. (cause_at causes ls l p at).0 ∙ is }
 not_forced causes ls l (Some r) is = tt
 
@@ -337,7 +351,8 @@ value_assigned trail l false is = inr is
 -- ---- one of a variable's two literals is true
 
 -- by the two codes of a variable
-pub either_true : (values : List Bool) (l : Literal) (v : ℕ) → l.variable ≡ v → (get_or values (2 * v) false ≡ true) ⊎ (get_or values (2 * v + 1) false ≡ true) →
+pub either_true : (values : List Bool) (l : Literal) (v : ℕ) → l.variable ≡ v →
+    (get_or values (2 * v) false ≡ true) ⊎ (get_or values (2 * v + 1) false ≡ true) →
     (value_of values l ≡ true) ⊎ (value_of values (negation l) ≡ true)
 either_true values l v is some = by_sign l.positive refl
   where
@@ -396,7 +411,8 @@ pub length_two : {X : Type 0} (xs : List X) (x y : X) → length (xs ++ x ∷ y 
 length_two [] x y = refl
 length_two (z ∷ xs) x y = let h = length_two xs x y in omega (arith, h)
 
-pub grown_trail : (vars : ℕ) (values : List Bool) (causes : List Cause) (ls : List Literal) (first capacity after : ℕ) → IsTrail vars values causes ls first capacity → vars + 1 < 2 ^ 30 → vars + 1 ≤ after →
+pub grown_trail : (vars : ℕ) (values : List Bool) (causes : List Cause) (ls : List Literal) (first capacity after : ℕ) →
+    IsTrail vars values causes ls first capacity → vars + 1 < 2 ^ 30 → vars + 1 ≤ after →
     IsTrail (vars + 1) (values ++ false ∷ false ∷ []) (causes ++ no_cause ∷ []) ls first after
 grown_trail vars values causes ls first capacity after t small room = record {
   small = small;
@@ -414,7 +430,8 @@ grown_trail vars values causes ls first capacity after t small room = record {
   room = room;
 }
 
-pub roomier_trail : (vars : ℕ) (values : List Bool) (causes : List Cause) (ls : List Literal) (first capacity after : ℕ) → IsTrail vars values causes ls first capacity → capacity ≤ after → IsTrail vars values causes ls first after
+pub roomier_trail : (vars : ℕ) (values : List Bool) (causes : List Cause) (ls : List Literal) (first capacity after : ℕ) →
+    IsTrail vars values causes ls first capacity → capacity ≤ after → IsTrail vars values causes ls first after
 roomier_trail vars values causes ls first capacity after t more = record {
   small = t.small;
   values_are = t.values_are;

@@ -24,10 +24,12 @@ in_range vars c l all there = (All-contains (IsWithin vars) c l all there).1
 pub met_here : (s : Scene) (f : Literal) (at : ℕ) (w : Watcher) (l : Literal) → AreMet s f at → slice_get (row s.lists f) at ≡ Some w →
     Contains (literals_at s.clauses w.clause) l → IsTrueOn (trues s) l → AreMet s f (at + 1)
 met_here s f at w l m there stands holds =
-    met_more s f at m (λ v e. subst (λ (x : Watcher). HasTrue (trues s) (literals_at s.clauses x.clause)) (same_some w v (sym there ∙ e)) (record { literal = l; stands = stands; holds = holds }))
+    met_more s f at m (λ v e. subst (λ (x : Watcher). HasTrue (trues s) (literals_at s.clauses x.clause)) (same_some w v (sym there ∙ e))
+    (record { literal = l; stands = stands; holds = holds }))
 
 pub met_blocked : (level : ℕ) (trail : TrailState) (lists new : List (List Watcher)) (clauses : List Held) (f : Literal) (at : ℕ) (w b : Watcher) →
-    AreListed (record { trail = trail; lists = lists; clauses = clauses }) → code_of f < length lists → slice_get (row lists f) at ≡ Some w → b.clause ≡ w.clause →
+    AreListed (record { trail = trail; lists = lists; clauses = clauses }) → code_of f < length lists → slice_get (row lists f) at ≡ Some w →
+    b.clause ≡ w.clause →
     Contains (literals_at clauses w.clause) b.blocker → IsTrueOn (literals_of trail.places) b.blocker → new ≡ set lists (code_of f) (set (row lists f) at b) →
     AreMet (record { trail = trail; lists = lists; clauses = clauses }) f at →
     AreMet (record { trail = trail; lists = new; clauses = clauses }) f (at + 1) × (length (row new f) ≡ length (row lists f))
@@ -41,17 +43,21 @@ met_blocked level trail lists new clauses f at w b a within there same stands ho
     )
 
 pub met_forced : (level : ℕ) (trail : TrailState) (lists : List (List Watcher)) (clauses : List Held) (f : Literal) (at : ℕ) (w : Watcher) (p : Place) →
-    AreListed (record { trail = trail; lists = lists; clauses = clauses }) → p.reason ≡ Some w.clause → p.level ≡ level → is_some (held_at clauses w.clause) ≡ true → Forces (literals_of trail.places) (literals_at clauses w.clause) p.literal →
+    AreListed (record { trail = trail; lists = lists; clauses = clauses }) → p.reason ≡ Some w.clause → p.level ≡ level →
+    is_some (held_at clauses w.clause) ≡ true → Forces (literals_of trail.places) (literals_at clauses w.clause) p.literal →
     slice_get (row lists f) at ≡ Some w → AreMet (record { trail = trail; lists = lists; clauses = clauses }) f at →
     AreMet (record { trail = record { vars = trail.vars; places = trail.places ++ p ∷ [] }; lists = lists; clauses = clauses }) f (at + 1)
 met_forced level trail lists clauses f at w p a reason at_level live forces there m =
     let new : Scene = record { trail = record { vars = trail.vars; places = trail.places ++ p ∷ [] }; lists = lists; clauses = clauses } in
     met_here new f at w p.literal
-    (met_still level (record { trail = trail; lists = lists; clauses = clauses }) new f at (forced_one level trail lists clauses w.clause p a reason at_level live forces) (λ k v before e. (v, e, refl)) m)
+    (met_still level (record { trail = trail; lists = lists; clauses = clauses }) new f at
+    (forced_one level trail lists clauses w.clause p a reason at_level live forces) (λ k v before e. (v, e, refl)) m)
     there forces.stands
-    (Contains_from_get (literals_of (trail.places ++ p ∷ [])) (length trail.places) p.literal (get_map (λ (x : Place). x.literal) (trail.places ++ p ∷ []) (length trail.places) p (get_last trail.places p)))
+    (Contains_from_get (literals_of (trail.places ++ p ∷ [])) (length trail.places) p.literal
+    (get_map (λ (x : Place). x.literal) (trail.places ++ p ∷ []) (length trail.places) p (get_last trail.places p)))
 
-pub conflict_of : (s : Scene) (f : Literal) (at : ℕ) (w : Watcher) → AreListed s → slice_get (row s.lists f) at ≡ Some w → IsConflict (trues s) (literals_at s.clauses w.clause) → IsConflictOf s w.clause
+pub conflict_of : (s : Scene) (f : Literal) (at : ℕ) (w : Watcher) → AreListed s → slice_get (row s.lists f) at ≡ Some w →
+    IsConflict (trues s) (literals_at s.clauses w.clause) → IsConflictOf s w.clause
 conflict_of s f at w a there lost = record {
   attached = (f, record { at = at; watcher = w; there = there; same = refl });
   live = (a.listed f at w there).live;

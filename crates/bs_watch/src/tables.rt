@@ -38,7 +38,8 @@ pub fn set_value(values: &mut Vec<bool>, l: Lit, value: bool)
 /// Notes the cause of the literal's variable.
 pub fn set_cause(causes: &mut Vec<Cause>, l: Lit, reason: Option<Ref>, level: u32)
     requires { l.variable < length causes.old.items }
-    ensures cause { causes.new.items ≡ slice_set causes.old.items l.variable (record { reason = reason; level = level }) }
+    ensures cause { causes.new.items ≡ slice_set causes.old.items l.variable
+        (record { reason = reason; level = level }) }
     ensures low { 1 ≤ l.variable }
 {
     causes[l.var().0 as usize] = Cause { reason, level };

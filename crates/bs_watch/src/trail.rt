@@ -150,8 +150,10 @@ impl Trail {
     /// The lowest variable without a value. The search begins at the first that can be one.
     pub fn first_open(&mut self) -> Option<Var>
         ensures same { self.new ≡ self.old }
-        ensures some { IfSome result (λ v. IsFirstOpen (literals_of self.old.places) self.old.vars v.0) }
-        ensures none { IfNone result (AreAssignedBelow (literals_of self.old.places) (self.old.vars + 1)) }
+        ensures some { IfSome result (λ v.
+            IsFirstOpen (literals_of self.old.places) self.old.vars v.0) }
+        ensures none { IfNone result
+            (AreAssignedBelow (literals_of self.old.places) (self.old.vars + 1)) }
     {
         let next = next_open(self.values.as_slice(), self.first, self.vars);
         self.first = next;
@@ -180,7 +182,8 @@ impl Trail {
     // Gives up the newest place.
     fn undo(&mut self)
         requires { 0 < length self.old.places }
-        ensures { self.new ≡ record self.old { places = take (length self.old.places - 1) self.old.places } }
+        ensures { self.new ≡ record self.old {
+            places = take (length self.old.places - 1) self.old.places } }
     {
         let last = self.literals.len() - 1;
         let literal = self.literals[last];
@@ -191,7 +194,8 @@ impl Trail {
 
     /// Each reason has its new reference.
     pub fn rename(&mut self, names: &Renaming)
-        ensures { self.new ≡ record self.old { places = map (renamed_place names.now.names) self.old.places } }
+        ensures { self.new ≡ record self.old {
+            places = map (renamed_place names.now.names) self.old.places } }
     {
         rename_causes(&mut self.causes, names);
     }

@@ -121,7 +121,8 @@ impl Watch {
         requires watchable { IsWatchable self.now.trail.vars (literals_at arena.old.clauses r) }
         ensures live { IsSome (held_at arena.new.clauses r) }
         ensures watchable { IsWatchable self.now.trail.vars (literals_at arena.new.clauses r) }
-        ensures same { IsPermutation (literals_at arena.old.clauses r) (literals_at arena.new.clauses r) }
+        ensures same { IsPermutation (literals_at arena.old.clauses r)
+            (literals_at arena.new.clauses r) }
         ensures highest { AreHighest self.now.trail.places (literals_at arena.new.clauses r) }
         ensures others { KeepsOthers arena.old.clauses arena.new.clauses r }
         ensures room { KeepsRoom arena.old arena.new }
@@ -131,9 +132,9 @@ impl Watch {
         lift(&self.trail, arena, r, 1);
     }
 
-    /// Detaches the clauses that were killed since the watch served the arena. They are watched by
-    /// these literals, which the caller has read of them before: the first two of each. Each list is
-    /// looked through once for each time that its literal is given.
+    /// Detaches the clauses that were killed since the watch served the arena. These literals watch
+    /// them, the first two of each, which the caller has read before the kills. A list is looked
+    /// through once for each time that its literal is given.
     pub fn sweep(&mut self, arena: &Arena, literals: &[Lit])
         requires served { HasServed self.old arena.now literals.now }
         requires range { HasVariables self.old.trail.vars literals.now }
@@ -185,8 +186,10 @@ impl Watch {
     /// only as far as the trail does.
     pub fn first_open(&mut self) -> Option<Var>
         ensures same { self.new ≡ self.old }
-        ensures some { IfSome result (λ v. IsFirstOpen (literals_of self.old.trail.places) self.old.trail.vars v.0) }
-        ensures none { IfNone result (AreAssignedBelow (literals_of self.old.trail.places) (self.old.trail.vars + 1)) }
+        ensures some { IfSome result (λ v.
+            IsFirstOpen (literals_of self.old.trail.places) self.old.trail.vars v.0) }
+        ensures none { IfNone result
+            (AreAssignedBelow (literals_of self.old.trail.places) (self.old.trail.vars + 1)) }
     {
         self.trail.first_open()
     }

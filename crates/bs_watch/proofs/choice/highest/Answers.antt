@@ -1,4 +1,4 @@
-use Rattle.std.proofs.Common.{◌≡◌, ◌≤◌, ◌<◌, ◌+◌, map, length, ap, sym, subst, ◌∙◌, arith}
+use Rattle.std.proofs.Common.{◌≡◌, map, length, subst, arith}
 use Rattle.std.proofs.lemmas.List.{length-map}
 use Rattle.bs_arena.specs.Arena.{literal_of}
 use Rattle.bs_watch.specs.Choice.{IsHighestOf}
@@ -16,7 +16,9 @@ pub literals-preserved : goal.literals-preserved
 literals-preserved c = record {
   past = omega (arith, c.literals.invariant.past);
   inside = omega (arith, c.literals-test.true);
-  best = higher_more c.args.trail.now.places (map literal_of c.args.codes.now) c.args.start c.literals.at c.literals.best c.higher-best.result c.requires.apart c.literals.invariant.past
+  best =
+      higher_more c.args.trail.now.places (map literal_of c.args.codes.now) c.args.start c.literals.at c.literals.best c.higher-best.result
+      c.requires.apart c.literals.invariant.past
       (omega (arith, c.literals.invariant.inside, length-map c.args.codes.now literal_of)) c.literals.invariant.best c.higher-best.ensures;
 }
 

@@ -1,4 +1,4 @@
-use Rattle.std.proofs.Common.{◌≡◌, ◌≤◌, ◌<◌, ◌-◌, map, length}
+use Rattle.std.proofs.Common.{◌≤◌, ◌<◌, ◌-◌, map, length}
 use Rattle.bs_arena.specs.Arena.{literal_of}
 use Rattle.bs_watch.specs.Choice.{IsHighestOf}
 use Rattle.bs_watch.proofs.choice.highest.Given as goal

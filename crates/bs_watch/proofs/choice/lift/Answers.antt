@@ -1,5 +1,4 @@
-use Rattle.std.proofs.Common.{◌≡◌, ◌≤◌, ◌<◌, map, length, ap, sym, subst, ◌∙◌, arith}
-use Rattle.std.specs.Prelude.{All}
+use Rattle.std.proofs.Common.{◌≡◌, map, length, ap, sym, subst, ◌∙◌}
 use Rattle.std.proofs.lemmas.List.{length-map}
 use Rattle.bs_clause.specs.Literal.{code_of}
 use Rattle.bs_clause.specs.Range.{HasVariables}
@@ -11,13 +10,16 @@ use Rattle.bs_watch.proofs.choice.lift.Goals as goal
 
 pub highest-best-requires-clause-range : goal.highest-best-requires-clause-range
 highest-best-requires-clause-range c =
-    subst (HasVariables c.args.trail.now.vars) (sym (ap (map literal_of) c.lits.ensures.literals ∙ literals_back (literals_at c.args.arena.now.clauses c.args.r))) c.requires.range
+    subst (HasVariables c.args.trail.now.vars)
+    (sym (ap (map literal_of) c.lits.ensures.literals ∙ literals_back (literals_at c.args.arena.now.clauses c.args.r))) c.requires.range
 
 pub returns-clause-lifted : goal.returns-clause-lifted
 returns-clause-lifted c =
     let clause = literals_at c.args.arena.now.clauses c.args.r in
-    let back : map literal_of c.lits.result.now ≡ literals_at c.args.arena.now.clauses c.args.r = ap (map literal_of) c.lits.ensures.literals ∙ literals_back (literals_at c.args.arena.now.clauses c.args.r) in
-    let long : length c.lits.result.now ≡ length (literals_at c.args.arena.now.clauses c.args.r) = ap length c.lits.ensures.literals ∙ length-map (literals_at c.args.arena.now.clauses c.args.r) code_of in
+    let back : map literal_of c.lits.result.now ≡ literals_at c.args.arena.now.clauses c.args.r =
+    ap (map literal_of) c.lits.ensures.literals ∙ literals_back (literals_at c.args.arena.now.clauses c.args.r) in
+    let long : length c.lits.result.now ≡ length (literals_at c.args.arena.now.clauses c.args.r) =
+    ap length c.lits.ensures.literals ∙ length-map (literals_at c.args.arena.now.clauses c.args.r) code_of in
     record {
       best = c.highest-best.result;
       highest = subst (λ n. IsHighestOf c.args.trail.now.places (literals_at c.args.arena.now.clauses c.args.r) c.args.to n c.highest-best.result) long

@@ -1,4 +1,4 @@
-use Rattle.std.proofs.Common.{◌≡◌, ◌<◌, ◌≤◌, length, false, sym, ◌∙◌, arith}
+use Rattle.std.proofs.Common.{◌≡◌, ◌<◌, length, false, sym, ◌∙◌, arith}
 use Rattle.std.specs.Prelude.{is_some}
 use Rattle.bs_clause.specs.Literal.{code_of}
 use Rattle.bs_arena.specs.Arena.{held_at}
@@ -14,7 +14,8 @@ watchers-preserved c =
     let dead : is_some (held_at c.args.arena.now.clauses c.get.result.clause) ≡ false = sym c.is_live.ensures ∙ c.if-is_live.false in
     record {
       thins = thins_trans c.args.arena.now.clauses c.args.lists.now c.watchers.lists c.remove.new.self c.watchers.invariant.thins
-          (removed_thin c.args.arena.now.clauses c.watchers.lists c.remove.new.self c.args.l c.watchers.at c.get.result c.remove.result within c.get.ensures dead c.remove.ensures);
+          (removed_thin c.args.arena.now.clauses c.watchers.lists c.remove.new.self c.args.l c.watchers.at c.get.result c.remove.result within
+          c.get.ensures dead c.remove.ensures);
       live = removed_live c.args.arena.now.clauses c.watchers.lists c.remove.new.self c.args.l c.watchers.at c.remove.result within
           (get_within (row c.watchers.lists c.args.l) c.watchers.at c.get.result c.get.ensures) c.remove.ensures c.watchers.invariant.live;
     }

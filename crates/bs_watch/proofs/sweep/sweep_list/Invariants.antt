@@ -1,4 +1,4 @@
-use Rattle.std.proofs.Common.{◌≡◌, ◌≤◌, ◌-◌, length}
+use Rattle.std.proofs.Common.{◌-◌, length}
 use Rattle.bs_watch.specs.Lists.{row}
 use Rattle.bs_watch.specs.Sweep.{Thins, AreLiveTo}
 use Rattle.bs_watch.proofs.sweep.sweep_list.Given as goal

@@ -1,4 +1,3 @@
-use Rattle.std.proofs.Common.{◌≡◌, length}
 use Rattle.bs_watch.specs.Sweep.{Thins, AreLiveIn}
 use Rattle.bs_watch.proofs.sweep.sweep_lists.Given as goal
 

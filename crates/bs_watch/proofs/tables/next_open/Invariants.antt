@@ -1,4 +1,4 @@
-use Rattle.std.proofs.Common.{◌≡◌, ◌⊎◌, ◌≤◌, ◌<◌, ◌+◌, ◌-◌, ℕ, true}
+use Rattle.std.proofs.Common.{◌≡◌, ◌⊎◌, ◌≤◌, ◌<◌, ◌+◌, ◌-◌, true}
 use Rattle.bs_clause.specs.Literal.{Literal, negation}
 use Rattle.bs_watch.specs.Tables.{value_of}
 use Rattle.bs_watch.proofs.tables.next_open.Given as goal

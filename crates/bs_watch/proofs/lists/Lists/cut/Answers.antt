@@ -1,4 +1,4 @@
-use Rattle.std.proofs.Common.{◌≡◌, map, take, ap, sym, ◌∙◌}
+use Rattle.std.proofs.Common.{map, take, ap, sym, ◌∙◌}
 use Rattle.std.proofs.lemmas.List.{take-map}
 use Rattle.bs_watch.proofs.lists.Lists.cut.Goals as goal
 

@@ -1,4 +1,4 @@
-use Rattle.std.proofs.Common.{◌≡◌, ◌<◌, ◌≤◌, ◌+◌, ◌^◌, ◌++◌, ◌∷◌, [], false, sym, subst, ap, ◌∙◌, arith}
+use Rattle.std.proofs.Common.{◌<◌, ◌+◌, ◌^◌, ◌++◌, ◌∷◌, [], false, sym, subst, ap, ◌∙◌}
 use Rattle.std.specs.Prelude.{vec_capacity}
 use Rattle.bs_watch.specs.Places.{TrailState}
 use Rattle.bs_watch.specs.Tables.{IsTrail, no_cause}
@@ -10,8 +10,13 @@ invariant_of-self-2 c =
     let room = vec_capacity c.make_room.new.literals in
     let first = c.self.inside.first in
     let small : c.self.inside.vars + 1 < 2 ^ 30 = subst (λ (s : TrailState). s.vars + 1 < 2 ^ 30) (sym c.self.view_is) c.requires in
-    let after = grown_trail c.self.inside.vars c.self.inside.values.items c.self.inside.causes.items c.self.inside.literals.items c.self.inside.first (vec_capacity c.self.inside.literals) (vec_capacity c.make_room.new.literals)
+    let after =
+    grown_trail c.self.inside.vars c.self.inside.values.items c.self.inside.causes.items c.self.inside.literals.items c.self.inside.first
+    (vec_capacity c.self.inside.literals) (vec_capacity c.make_room.new.literals)
     c.self.invariant small c.in_ok-make_room.ensures.for_literals in
-    subst (λ vs. IsTrail (c.self.inside.vars + 1) vs c.push_cause.new.causes.items c.make_room.new.literals.items c.self.inside.first (vec_capacity c.make_room.new.literals)) (sym (c.push_values.ensures ∙ ap (λ xs. xs ++ false ∷ false ∷ []) c.make_room.ensures.values))
-    (subst (λ cs. IsTrail (c.self.inside.vars + 1) (c.self.inside.values.items ++ false ∷ false ∷ []) cs c.make_room.new.literals.items c.self.inside.first (vec_capacity c.make_room.new.literals)) (sym (c.push_cause.ensures ∙ ap (λ xs. xs ++ no_cause ∷ []) c.make_room.ensures.causes))
-    (subst (λ ls. IsTrail (c.self.inside.vars + 1) (c.self.inside.values.items ++ false ∷ false ∷ []) (c.self.inside.causes.items ++ no_cause ∷ []) ls c.self.inside.first (vec_capacity c.make_room.new.literals)) (sym c.make_room.ensures.literals) after))
+    subst (λ vs. IsTrail (c.self.inside.vars + 1) vs c.push_cause.new.causes.items c.make_room.new.literals.items c.self.inside.first
+    (vec_capacity c.make_room.new.literals)) (sym (c.push_values.ensures ∙ ap (λ xs. xs ++ false ∷ false ∷ []) c.make_room.ensures.values))
+    (subst (λ cs. IsTrail (c.self.inside.vars + 1) (c.self.inside.values.items ++ false ∷ false ∷ []) cs c.make_room.new.literals.items
+    c.self.inside.first (vec_capacity c.make_room.new.literals)) (sym (c.push_cause.ensures ∙ ap (λ xs. xs ++ no_cause ∷ []) c.make_room.ensures.causes))
+    (subst (λ ls. IsTrail (c.self.inside.vars + 1) (c.self.inside.values.items ++ false ∷ false ∷ []) (c.self.inside.causes.items ++ no_cause ∷ []) ls
+    c.self.inside.first (vec_capacity c.make_room.new.literals)) (sym c.make_room.ensures.literals) after))

@@ -1,4 +1,4 @@
-use Rattle.std.proofs.Common.{◌≡◌, ◌≤◌, ◌<◌, ◌+◌, List, length, ap, ◌∙◌, sym, subst, arith, get_or}
+use Rattle.std.proofs.Common.{◌≡◌, List, ap, ◌∙◌, sym, subst, arith, get_or}
 use Rattle.std.proofs.lemmas.List.{get_or_default}
 use Rattle.bs_clause.specs.Literal.{Literal}
 use Rattle.bs_watch.specs.declared.cause.Cause.{Cause}
@@ -25,8 +25,10 @@ returns c =
     let range = assigned_range c.self.inside.vars ls c.args.l c.self.invariant.in_range assigned in
     let known : cause_of causes c.args.l ≡ c.index.result.now =
     ap (λ v. get_or causes v no_cause) (sym c.var.ensures.variable) ∙
-    get_or_default causes c.var.result.0 no_cause c.index.result.now (omega (arith, range.1, c.var.ensures.variable, c.self.invariant.by_variable)) ∙ sym c.index.ensures in
-    let on : IsOnLevel (places_in causes ls) c.args.l c.index.result.now.level = subst (IsOnLevel (places_in causes ls) c.args.l) (ap (λ (x : Cause). x.level) known) (on_level causes ls c.args.l assigned) in
+    get_or_default causes c.var.result.0 no_cause c.index.result.now (omega (arith, range.1, c.var.ensures.variable, c.self.invariant.by_variable))
+    ∙ sym c.index.ensures in
+    let on : IsOnLevel (places_in causes ls) c.args.l c.index.result.now.level =
+    subst (IsOnLevel (places_in causes ls) c.args.l) (ap (λ (x : Cause). x.level) known) (on_level causes ls c.args.l assigned) in
     subst (λ (s : TrailState). IsLevelOf s.places c.args.l c.index.result.now.level) c.self.view_is (record {
       on = on;
       only = λ n other. one_level (places_in causes ls) c.args.l n c.index.result.now.level (places_apart causes ls c.self.invariant.distinct) other on;

@@ -1,4 +1,4 @@
-use Rattle.std.proofs.Common.{◌≡◌, ap, sym, ◌∙◌}
+use Rattle.std.proofs.Common.{ap, sym, ◌∙◌}
 use Rattle.bs_watch.specs.Places.{TrailState, literals_of}
 use Rattle.bs_watch.proofs.TableLemmas.{literals_in}
 use Rattle.bs_watch.proofs.trail.Trail.literals.Goals as goal

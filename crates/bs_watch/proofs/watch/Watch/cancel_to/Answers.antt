@@ -1,4 +1,4 @@
-use Rattle.std.proofs.Common.{◌≡◌, ◌≤◌, ◌<◌, length, take, ap, refl, sym, subst, ◌∙◌, arith, None, Some}
+use Rattle.std.proofs.Common.{◌≡◌, ◌≤◌, ◌<◌, length, take, ap, refl, sym, subst, ◌∙◌, arith, Some}
 use Rattle.std.specs.Prelude.{vec_capacity, slice_get, IfSome}
 use Rattle.std.proofs.lemmas.Option.{slice_get_read, slice_get_past}
 use Rattle.bs_watch.specs.Watch.{WatchState, KeepsService, HasGoneBack}
@@ -8,12 +8,15 @@ use Rattle.bs_watch.proofs.watch.Watch.cancel_to.Goals as goal
 
 pub returns-then-level-len-clause-serves : goal.returns-then-level-len-clause-serves
 returns-then-level-len-clause-serves c =
-    let old : WatchState = record { trail = c.self.inside.trail; levels = c.self.inside.levels.items; head = c.self.inside.head; lists = c.self.inside.lists } in
-    let new : WatchState = record { trail = c.cut.new.self; levels = c.truncate.new.self.items; head = c.index-begun.result.now.looked; lists = c.self.inside.lists } in
+    let old : WatchState =
+    record { trail = c.self.inside.trail; levels = c.self.inside.levels.items; head = c.self.inside.head; lists = c.self.inside.lists } in
+    let new : WatchState =
+    record { trail = c.cut.new.self; levels = c.truncate.new.self.items; head = c.index-begun.result.now.looked; lists = c.self.inside.lists } in
     let within : c.args.level < length c.self.inside.levels.items = omega (arith, c.len.ensures, c.self.inside.levels.ok.0) in
     subst (λ w. KeepsService w new) c.self.view_is
     (cancelled_serves (vec_capacity c.self.inside.levels) old new c.args.level c.index-begun.result.now c.self.invariant
-    (slice_get_read c.self.inside.levels.items (length c.self.inside.levels.items) c.args.level c.index-begun.result.now (omega arith) within c.index-begun.ensures)
+    (slice_get_read c.self.inside.levels.items (length c.self.inside.levels.items) c.args.level c.index-begun.result.now (omega arith) within
+    c.index-begun.ensures)
     c.cut.ensures c.truncate.ensures.items refl refl)
 
 pub returns-else-level-len-clause-back : goal.returns-else-level-len-clause-back
@@ -24,8 +27,10 @@ returns-else-level-len-clause-back c =
 
 pub invariant_of-self : goal.invariant_of-self
 invariant_of-self c =
-    let old : WatchState = record { trail = c.self.inside.trail; levels = c.self.inside.levels.items; head = c.self.inside.head; lists = c.self.inside.lists } in
-    let new : WatchState = record { trail = c.cut.new.self; levels = c.truncate.new.self.items; head = c.index-begun.result.now.looked; lists = c.self.inside.lists } in
+    let old : WatchState =
+    record { trail = c.self.inside.trail; levels = c.self.inside.levels.items; head = c.self.inside.head; lists = c.self.inside.lists } in
+    let new : WatchState =
+    record { trail = c.cut.new.self; levels = c.truncate.new.self.items; head = c.index-begun.result.now.looked; lists = c.self.inside.lists } in
     let within : c.args.level < length c.self.inside.levels.items = omega (arith, c.len.ensures, c.self.inside.levels.ok.0) in
     cancelled_watch old new (vec_capacity c.self.inside.levels) (vec_capacity c.truncate.new.self) c.args.level c.index-begun.result.now c.self.invariant
     (slice_get_read c.self.inside.levels.items (length c.self.inside.levels.items) c.args.level c.index-begun.result.now refl within c.index-begun.ensures)
@@ -36,8 +41,12 @@ returns-then-level-len-clause-back c =
     let within : c.args.level < length c.self.inside.levels.items = omega (arith, c.len.ensures, c.self.inside.levels.ok.0) in
     let there : slice_get c.self.inside.levels.items c.args.level ≡ Some c.index-begun.result.now =
     slice_get_read c.self.inside.levels.items (length c.self.inside.levels.items) c.args.level c.index-begun.result.now refl within c.index-begun.ensures in
-    let now : slice_get c.args.self.now.levels c.args.level ≡ Some c.index-begun.result.now = ap (λ (w : WatchState). slice_get w.levels c.args.level) (sym c.self.view_is) ∙ there in
-    subst (λ o. IfSome o (HasGoneBack c.args.self.now (record { trail = c.cut.new.self; levels = c.truncate.new.self.items; head = c.index-begun.result.now.looked; lists = c.self.inside.lists }))) (sym now) (record {
-      trail = c.cut.ensures ∙ ap (λ (w : WatchState). record { vars = w.trail.vars; places = take c.index-begun.result.now.start w.trail.places }) c.self.view_is;
+    let now : slice_get c.args.self.now.levels c.args.level ≡ Some c.index-begun.result.now =
+    ap (λ (w : WatchState). slice_get w.levels c.args.level) (sym c.self.view_is) ∙ there in
+    subst (λ o. IfSome o (HasGoneBack c.args.self.now
+    (record { trail = c.cut.new.self; levels = c.truncate.new.self.items; head = c.index-begun.result.now.looked; lists = c.self.inside.lists })))
+    (sym now) (record {
+      trail =
+          c.cut.ensures ∙ ap (λ (w : WatchState). record { vars = w.trail.vars; places = take c.index-begun.result.now.start w.trail.places }) c.self.view_is;
       head = refl;
     })
