@@ -13,3 +13,5 @@ mod log_rows;
 mod rup_rows;
 #[cfg(test)]
 mod solve_rows;
+#[cfg(test)]
+mod watch_rows;

@@ -46,7 +46,12 @@ fn attach_two(arena: &mut Arena, watch: &mut Watch, a: Lit, b: Lit) -> Result<bo
     requires serves { Serves watch.old arena.old.clauses }
     ensures serves { Serves watch.new arena.new.clauses }
 {
-    if watch.level() == 0 && watch.trail().len() == 0 && fits(a, watch.vars()) && fits(b, watch.vars()) && differ(a, b) {
+    if watch.level() == 0
+        && watch.trail().len() == 0
+        && fits(a, watch.vars())
+        && fits(b, watch.vars())
+        && differ(a, b)
+    {
         attach(arena, watch, &[a, b])?;
         return Ok(true);
     }
@@ -101,7 +106,12 @@ fn chain(arena: &mut Arena, watch: &mut Watch, vars: u32) -> Result<(), NoMemory
     ensures serves { Serves watch.new arena.new.clauses }
 {
     'links: for v in 1..vars {
-        attach_two(arena, watch, Lit::new(Var(v), false), Lit::new(Var(v + 1), true))?;
+        attach_two(
+            arena,
+            watch,
+            Lit::new(Var(v), false),
+            Lit::new(Var(v + 1), true),
+        )?;
     }
     Ok(())
 }
@@ -112,7 +122,10 @@ fn a_chain_of_five_thousand_is_true(rt: HostRuntime) -> Result<(), Fail> {
     let mut arena = Arena::new(alloc);
     let mut watch = begun(alloc, &arena, 5_000)?;
     chain(&mut arena, &mut watch, 5_000)?;
-    assert_eq!(rt; decided(&mut arena, &mut watch, Lit::new(Var(1), true))?, Some(true));
+    assert_eq!(rt;
+        decided(&mut arena, &mut watch, Lit::new(Var(1), true))?,
+        Some(true)
+    );
     assert_eq!(rt; watch.trail().len(), 5_000);
     Ok(())
 }

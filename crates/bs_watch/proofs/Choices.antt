@@ -65,8 +65,12 @@ from_swap {X} xs i j k x in_i in_j e =
     elim (cases_eq k j) as (λ _. (was : ℕ) × (slice_get xs was ≡ Some x) × Stood i j k was) [
       | inl is_j ↦ (i, at_i ∙ sym (sym e ∙ ap (slice_get (swap xs i j)) is_j ∙ get_swap_second xs i j y z at_i at_j), record { is = inr (inl (is_j, refl)) })
       | inr not_j ↦ elim (cases_eq k i) as (λ _. (was : ℕ) × (slice_get xs was ≡ Some x) × Stood i j k was) [
-        | inl is_i ↦ (j, at_j
-        ∙ sym (sym e ∙ ap (slice_get (swap xs i j)) is_i ∙ get_swap_first xs i j y z (λ same. not_j (is_i ∙ same)) at_i at_j), record { is = inl (is_i, refl) })
+        | inl is_i ↦ (
+          j,
+          at_j
+              ∙ sym (sym e ∙ ap (slice_get (swap xs i j)) is_i ∙ get_swap_first xs i j y z (λ same. not_j (is_i ∙ same)) at_i at_j),
+          record { is = inl (is_i, refl) },
+        )
         | inr not_i ↦ (k, sym (get_swap_other xs i j k y z at_i at_j not_i not_j) ∙ e, record { is = inr (inr (not_i, (not_j, refl))) })
       ]
     ]
@@ -174,7 +178,7 @@ higher_more places c start at best result a past inside h r =
       highest = λ k l m low before at_l at_m. elim (cases_eq k at) [
         | inl same ↦ r.no_lower k l m (inr same) at_l at_m
         | inr other ↦ no_lower_trans places l b m (false_has_level places b) (r.no_lower best l b (inl refl) at_l at_b)
-        (h.highest k b m low (below k other before) at_b at_m)
+            (h.highest k b m low (below k other before) at_b at_m)
       ];
     }
   where

@@ -108,13 +108,13 @@ pub mapped_levelled : (names : List (ℕ × ℕ)) (places : List Place) (levels 
 mapped_levelled names places levels a = record {
   few =
       λ k q e. let (p, there, is) =
-          get_map_cases (renamed_place names) places k q e in subst (λ n. n ≤ length levels) (ap (λ (x : Place). x.level) is) (a.few k p there);
+      get_map_cases (renamed_place names) places k q e in subst (λ n. n ≤ length levels) (ap (λ (x : Place). x.level) is) (a.few k p there);
   above =
       λ j k v q e at h. let (p, there, is) =
-          get_map_cases (renamed_place names) places k q at in subst (λ n. j < n) (ap (λ (x : Place). x.level) is) (a.above j k v p e there h);
+      get_map_cases (renamed_place names) places k q at in subst (λ n. j < n) (ap (λ (x : Place). x.level) is) (a.above j k v p e there h);
   below =
       λ j k v q e at h. let (p, there, is) =
-          get_map_cases (renamed_place names) places k q at in subst (λ n. n ≤ j) (ap (λ (x : Place). x.level) is) (a.below j k v p e there h);
+      get_map_cases (renamed_place names) places k q at in subst (λ n. n ≤ j) (ap (λ (x : Place). x.level) is) (a.below j k v p e there h);
 }
 
 -- ---- what holds of every watch

@@ -66,7 +66,7 @@ removed_cases xs i k d x within e =
         | inl same ↦ inr (
           same,
           slice_get-get_or xs (length xs - 1) d (omega (arith, within)) ∙ sym (get_set_same xs i (get_or xs (length xs - 1) d) within)
-          ∙ ap (slice_get (set xs i (get_or xs (length xs - 1) d))) (sym same) ∙ t.1,
+              ∙ ap (slice_get (set xs i (get_or xs (length xs - 1) d))) (sym same) ∙ t.1,
         )
         | inr other ↦ inl (other, sym (get_set_other xs i k (get_or xs (length xs - 1) d) other) ∙ t.1)
       ],
@@ -84,8 +84,11 @@ removed_keeps xs i k d x within other there =
             take_get (length xs - 1) (set xs i (get_or xs (length xs - 1) d)) i x (omega (arith, last, within, other))
                 (get_set_same xs i (get_or xs (length xs - 1) d) within ∙ ap Some (ap (λ n. get_or xs n d) (sym at) ∙ get_or_from_slice_get xs k x d there)),
           )
-      | inr inner ↦ (k, take_get (length xs - 1) (set xs i (get_or xs (length xs - 1) d)) k x (omega (arith, inner, in_k))
-      (get_set_other xs i k (get_or xs (length xs - 1) d) other ∙ there))
+      | inr inner ↦ (
+        k,
+        take_get (length xs - 1) (set xs i (get_or xs (length xs - 1) d)) k x (omega (arith, inner, in_k))
+            (get_set_other xs i k (get_or xs (length xs - 1) d) other ∙ there),
+      )
     ]
 
 pub length_removed : {X : Type 0} (xs : List X) (i : ℕ) (d : X) → 0 < length xs → length (swap_remove xs i d) + 1 ≡ length xs

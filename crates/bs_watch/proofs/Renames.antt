@@ -123,8 +123,16 @@ named None d e = absurd (false≢true e)
 named (Some s) d e = refl
 
 pub serves_renamed : (w : WatchState) (names : List (ℕ × ℕ)) →
-    ServesRenamed w (record { trail = record { vars = w.trail.vars; places = map
-    (renamed_place names) w.trail.places }; levels = w.levels; head = w.head; lists = map (λ ws. map (renamed names) ws) w.lists }) names
+    ServesRenamed w (record {
+      trail = record {
+        vars = w.trail.vars;
+        places = map
+            (renamed_place names) w.trail.places;
+      };
+      levels = w.levels;
+      head = w.head;
+      lists = map (λ ws. map (renamed names) ws) w.lists;
+    }) names
 serves_renamed w names = record {
   serves = λ clauses after s renames.
       let new : WatchState =
@@ -139,8 +147,12 @@ serves_renamed w names = record {
         head = refl;
         rows = length-map w.lists (λ ws. map (renamed names) ws);
         on =
-            λ l k v e. (renamed names v, ap (λ ws. slice_get ws k) (row_mapped names w.lists l)
-            ∙ get_map (renamed names) (row w.lists l) k v e, has_name l k v e);
+            λ l k v e. (
+              renamed names v,
+              ap (λ ws. slice_get ws k) (row_mapped names w.lists l)
+                  ∙ get_map (renamed names) (row w.lists l) k v e,
+              has_name l k v e,
+            );
         back = λ l k x e.
             let (v, there, is) = get_map_cases (renamed names) (row w.lists l) k x (ap (λ ws. slice_get ws k) (sym (row_mapped names w.lists l)) ∙ e) in
             (v, there, has_name l k v there ∙ ap (λ (y : Watcher). Some y.clause) is, ap (λ (y : Watcher). y.blocker) is);
@@ -148,6 +160,14 @@ serves_renamed w names = record {
 }
 
 pub renames_by : (w u : WatchState) (names : List (ℕ × ℕ)) →
-    u ≡ record { trail = record { vars = w.trail.vars; places = map
-    (renamed_place names) w.trail.places }; levels = w.levels; head = w.head; lists = map (λ ws. map (renamed names) ws) w.lists } → ServesRenamed w u names
+    u ≡ record {
+      trail = record {
+        vars = w.trail.vars;
+        places = map
+            (renamed_place names) w.trail.places;
+      };
+      levels = w.levels;
+      head = w.head;
+      lists = map (λ ws. map (renamed names) ws) w.lists;
+    } → ServesRenamed w u names
 renames_by w u names is = subst (λ x. ServesRenamed w x names) (sym is) (serves_renamed w names)

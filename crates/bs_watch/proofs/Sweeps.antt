@@ -35,7 +35,7 @@ pub placed_thin : (clauses : List Held) (places : List ℕ) (old new : List (Lis
 placed_thin clauses places old new t p = record {
   each =
       λ r a. let (n, there) =
-          t.came a.0 a.1.at a.1.watcher a.1.there in p.each r (a.0, record { at = n; watcher = a.1.watcher; there = there; same = a.1.same });
+      t.came a.0 a.1.at a.1.watcher a.1.there in p.each r (a.0, record { at = n; watcher = a.1.watcher; there = there; same = a.1.same });
 }
 
 pub live_thin : (clauses : List Held) (old new : List (List Watcher)) (l : Literal) → Thins clauses old new → AllLive clauses old l → AllLive clauses new l
@@ -164,7 +164,7 @@ swept w new arena ls h t a trail levels head =
             (subst (AreGuarded new.lists arena.clauses w.trail.places) (sym head) (guards w.trail.places w.head h.serves.guarded));
         levels = λ k v e.
             subst (λ (x : TrailState). AreGuarded new.lists arena.clauses (take v.start x.places) v.looked) (sym trail)
-              (guards (take v.start w.trail.places) v.looked (h.serves.levels k v (ap (λ vs. slice_get vs k) (sym levels) ∙ e)));
+            (guards (take v.start w.trail.places) v.looked (h.serves.levels k v (ap (λ vs. slice_get vs k) (sym levels) ∙ e)));
       };
       attached = λ r. (
         λ attached. ((attached.0, back attached.0 r attached.1), alive attached.0 r attached.1),

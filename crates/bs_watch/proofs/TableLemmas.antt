@@ -159,7 +159,7 @@ assigned_trail vars values causes ls first capacity after l c t o low high room 
         holds = λ m e. elim (cases_literal m l) [
           | inl is ↦ subst (Contains (ls ++ l ∷ [])) (sym is) (Contains_from_get (ls ++ l ∷ []) (length ls) l (get_last ls l))
           | inr other ↦ in_left ls l m
-          (t.values_are.holds m (sym (get_or-set_other values (code_of l) (code_of m) true false (λ same. other (code_of-injective m l same))) ∙ e))
+              (t.values_are.holds m (sym (get_or-set_other values (code_of l) (code_of m) true false (λ same. other (code_of-injective m l same))) ∙ e))
         ];
         noted = λ m there. elim (cases_literal m l) [
           | inl is ↦ ap (λ x. value_of (set values (code_of l) true) x) is ∙ get_or-set_same values (code_of l) true false within
@@ -167,7 +167,7 @@ assigned_trail vars values causes ls first capacity after l c t o low high room 
               let (k, e) = get_from_Contains (ls ++ l ∷ []) m there in
               elim (get_push_cases ls l m k e) [
                 | inl was ↦ get_or-set_other values (code_of l) (code_of m) true false (λ same. other (code_of-injective m l same))
-                ∙ t.values_are.noted m (Contains_from_get ls k m was)
+                    ∙ t.values_are.noted m (Contains_from_get ls k m was)
                 | inr last ↦ absurd (other (sym last.1))
               ]
         ];
@@ -217,9 +217,9 @@ undone_trail vars values causes ls front first next capacity after l old parts l
       values_are = record {
         holds = λ m e. elim (cases_literal m l) [
           | inl is ↦ absurd (false≢true
-          (sym (ap (λ x. value_of (set values (code_of l) false) x) is ∙ get_or-set_same values (code_of l) false false within) ∙ e))
+              (sym (ap (λ x. value_of (set values (code_of l) false) x) is ∙ get_or-set_same values (code_of l) false false within) ∙ e))
           | inr other ↦ back m other
-          (t.values_are.holds m (sym (get_or-set_other values (code_of l) (code_of m) false false (λ same. other (code_of-injective m l same))) ∙ e))
+              (t.values_are.holds m (sym (get_or-set_other values (code_of l) (code_of m) false false (λ same. other (code_of-injective m l same))) ∙ e))
         ];
         noted = λ m there.
             let (k, e) = get_from_Contains front m there in
@@ -242,7 +242,7 @@ undone_trail vars values causes ls front first next capacity after l old parts l
         each = λ m at_least before. elim (t.below.each m at_least (omega (arith, before, lower))) [
           | inl holds ↦ inl (back m (λ is. let e : m.variable ≡ l.variable = ap (λ (x : Literal). x.variable) is in omega (arith, e, before, under)) holds)
           | inr lost ↦ inr (back (negation m)
-          (λ is. let e : m.variable ≡ l.variable = ap (λ (x : Literal). x.variable) is in omega (arith, e, before, under)) lost)
+              (λ is. let e : m.variable ≡ l.variable = ap (λ (x : Literal). x.variable) is in omega (arith, e, before, under)) lost)
         ];
       };
       room = omega (arith, t.room, room);

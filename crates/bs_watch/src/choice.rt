@@ -36,7 +36,11 @@ fn higher(trail: &Trail, codes: &[u32], a: usize, b: usize) -> usize
     requires second { b < length codes.now }
     ensures { IsHigherOf trail.now.places (map literal_of codes.now) a b result }
 {
-    if is_higher(trail, Lit::from_code(codes[b]), Lit::from_code(codes[a])) { b } else { a }
+    if is_higher(trail, Lit::from_code(codes[b]), Lit::from_code(codes[a])) {
+        b
+    } else {
+        a
+    }
 }
 
 // The place of the highest literal from a place on.
@@ -46,7 +50,7 @@ fn highest(trail: &Trail, codes: &[u32], start: usize) -> usize
     requires range { HasVariables trail.now.vars (map literal_of codes.now) }
     requires some { start < length codes.now }
     ensures { IsHighestOf trail.now.places (map literal_of codes.now) start (length codes.now)
-                result }
+        result }
 {
     let mut best = start;
     let mut at = start + 1;
@@ -65,7 +69,7 @@ pub fn lift(trail: &Trail, arena: &mut Arena, r: Ref, to: usize)
     requires some { to < length (literals_at arena.old.clauses r) }
     ensures live { IsSome (held_at arena.new.clauses r) }
     ensures lifted { IsLifted trail.now.places (literals_at arena.old.clauses r)
-                       (literals_at arena.new.clauses r) to }
+        (literals_at arena.new.clauses r) to }
     ensures others { KeepsOthers arena.old.clauses arena.new.clauses r }
     ensures room { KeepsRoom arena.old arena.new }
 {

@@ -183,7 +183,8 @@ impl Trail {
     fn undo(&mut self)
         requires { 0 < length self.old.places }
         ensures { self.new ≡ record self.old {
-            places = take (length self.old.places - 1) self.old.places } }
+          places = take (length self.old.places - 1) self.old.places;
+        } }
     {
         let last = self.literals.len() - 1;
         let literal = self.literals[last];
@@ -195,7 +196,8 @@ impl Trail {
     /// Each reason has its new reference.
     pub fn rename(&mut self, names: &Renaming)
         ensures { self.new ≡ record self.old {
-            places = map (renamed_place names.now.names) self.old.places } }
+          places = map (renamed_place names.now.names) self.old.places;
+        } }
     {
         rename_causes(&mut self.causes, names);
     }

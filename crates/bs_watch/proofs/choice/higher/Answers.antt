@@ -46,5 +46,5 @@ returns-else-is_higher c =
     let same : z ≡ c.from_code-2.result = same_some z c.from_code-2.result (sym at_z ∙ at_a) in (
       no_lower_same c.args.trail.now.places z c.from_code-2.result c.requires.apart same,
       subst (λ (x : Literal). IsNoLower c.args.trail.now.places x c.from_code.result) (sym same)
-      (c.is_higher.ensures.not_higher (λ yes. false≢true (sym c.if-is_higher.false ∙ yes))),
+          (c.is_higher.ensures.not_higher (λ yes. false≢true (sym c.if-is_higher.false ∙ yes))),
     ))

@@ -28,9 +28,11 @@ returns-then-is_true-clause-advances c =
 
 pub returns-then-is_true-clause-ok : goal.returns-then-is_true-clause-ok
 returns-then-is_true-clause-ok c =
-    let w = c.requires.listed.listed c.args.falsified c.args.at c.get-watcher.result c.get-watcher.ensures in
-    (met_here (record { trail = c.args.trail.now; lists = c.args.lists.now; clauses = c.args.arena.now.clauses }) c.args.falsified c.args.at
-    c.get-watcher.result c.get-watcher.result.blocker c.requires.met c.get-watcher.ensures w.blocker (c.is_true.ensures.0 c.if-is_true.true), refl)
+    let w = c.requires.listed.listed c.args.falsified c.args.at c.get-watcher.result c.get-watcher.ensures in (
+      met_here (record { trail = c.args.trail.now; lists = c.args.lists.now; clauses = c.args.arena.now.clauses }) c.args.falsified c.args.at
+          c.get-watcher.result c.get-watcher.result.blocker c.requires.met c.get-watcher.ensures w.blocker (c.is_true.ensures.0 c.if-is_true.true),
+      refl,
+    )
 
 pub look_at-requires-clause-two : goal.look_at-requires-clause-two
 look_at-requires-clause-two c =
@@ -190,7 +192,7 @@ returns-in_ok-push-in-Free-clause-ok c =
           c.in_ok-push-in-Free.ensures.ok;
     } in (
       met_still c.args.level (record { trail = c.args.trail.now; lists = c.args.lists.now; clauses = c.args.arena.now.clauses })
-      (record { trail = c.args.trail.now; lists = c.remove.new.self; clauses = c.swap.new.self.clauses }) c.args.falsified c.args.at
+          (record { trail = c.args.trail.now; lists = c.remove.new.self; clauses = c.swap.new.self.clauses }) c.args.falsified c.args.at
           (moved c.args.level c.args.trail.now c.args.lists.now c.remove.new.self c.args.arena.now.clauses c.swap.new.self.clauses c.args.falsified
           c.in-Free.literal c.in-Free.side c.in-Free.place c.args.at c.get-watcher.result
           (record { clause = c.get-watcher.result.clause; blocker = c.get-watcher.result.blocker }) c.remove.result move)
@@ -198,8 +200,8 @@ returns-in_ok-push-in-Free-clause-ok c =
           c.in-Free.literal c.in-Free.side c.in-Free.place c.args.at c.get-watcher.result
           (record { clause = c.get-watcher.result.clause; blocker = c.get-watcher.result.blocker }) c.remove.result move) c.requires.met,
       moved_length c.args.trail.now c.args.lists.now c.remove.new.self c.args.arena.now.clauses c.swap.new.self.clauses c.args.falsified
-      c.in-Free.literal c.in-Free.side c.in-Free.place c.args.at c.get-watcher.result
-      (record { clause = c.get-watcher.result.clause; blocker = c.get-watcher.result.blocker }) c.remove.result move,
+          c.in-Free.literal c.in-Free.side c.in-Free.place c.args.at c.get-watcher.result
+          (record { clause = c.get-watcher.result.clause; blocker = c.get-watcher.result.blocker }) c.remove.result move,
     )
 
 pub returns-in-Unit-clause-advances : goal.returns-in-Unit-clause-advances
@@ -224,7 +226,7 @@ returns-in-Unit-clause-ok c =
     let forces : Forces (literals_of c.args.trail.now.places) (literals_at c.args.arena.now.clauses c.get-watcher.result.clause) c.in-Unit.literal =
     subst (λ d. Forces (literals_of c.args.trail.now.places) d c.in-Unit.literal) back c.in-Unit.ensures in (
       subst (λ t. AreMet (record { trail = t; lists = c.args.lists.now; clauses = c.args.arena.now.clauses }) c.args.falsified (c.args.at + 1))
-      (sym c.assign.ensures)
+          (sym c.assign.ensures)
           (met_forced c.args.level c.args.trail.now c.args.lists.now c.args.arena.now.clauses c.args.falsified c.args.at c.get-watcher.result
           (record { literal = c.in-Unit.literal; reason = Some c.get-watcher.result.clause; level = c.args.level })
           c.requires.listed refl refl w.live forces c.get-watcher.ensures c.requires.met),

@@ -12,8 +12,11 @@ returns-clause-literal c =
     let causes = c.self.inside.causes.items in
     let ls = c.self.inside.literals.items in
     let inside : c.args.at < length ls =
-    omega (arith, subst (λ (s : TrailState). c.args.at < length s.places) (sym c.self.view_is) c.requires,
-    length-map ls (λ (l : Literal). place_with l (cause_of causes l))) in
+    omega (
+      arith,
+      subst (λ (s : TrailState). c.args.at < length s.places) (sym c.self.view_is) c.requires,
+      length-map ls (λ (l : Literal). place_with l (cause_of causes l)),
+    ) in
     let there = slice_get_read ls (length ls) c.args.at c.index.result.now refl inside c.index.ensures in
     subst (λ (s : TrailState). IsLiteralAt s.places c.args.at c.index.result.now) c.self.view_is
     (place_with c.index.result.now (cause_of causes c.index.result.now), place_there causes ls c.args.at c.index.result.now there, refl)

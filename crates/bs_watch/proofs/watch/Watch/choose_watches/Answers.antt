@@ -12,7 +12,7 @@ pub lift-requires-2-clause-range : goal.lift-requires-2-clause-range
 lift-requires-2-clause-range c =
     (lifted_watchable c.self.inside.trail.vars c.self.inside.trail.places (literals_at c.args.arena.now.clauses c.args.r)
     (literals_at c.lift.new.arena.clauses c.args.r) 0 (omega (arith, c.requires.watchable.long)) c.lift.ensures.lifted
-      (subst (λ (w : WatchState). IsWatchable w.trail.vars (literals_at c.args.arena.now.clauses c.args.r)) (sym c.self.view_is) c.requires.watchable)).range
+    (subst (λ (w : WatchState). IsWatchable w.trail.vars (literals_at c.args.arena.now.clauses c.args.r)) (sym c.self.view_is) c.requires.watchable)).range
 
 pub returns-clause-watchable : goal.returns-clause-watchable
 returns-clause-watchable c =

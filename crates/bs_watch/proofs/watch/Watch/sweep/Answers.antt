@@ -26,4 +26,4 @@ returns c =
     record { trail = c.self.inside.trail; levels = c.self.inside.levels.items; head = c.self.inside.head; lists = c.sweep_lists.new.lists } in
     subst (λ w. HasSwept w new c.args.arena.now.clauses) c.self.view_is
     (swept old new c.args.arena.now c.args.literals.now (subst (λ w. HasServed w c.args.arena.now c.args.literals.now) (sym c.self.view_is) c.requires.served)
-      c.sweep_lists.ensures.thins c.sweep_lists.ensures.live refl refl refl)
+    c.sweep_lists.ensures.thins c.sweep_lists.ensures.live refl refl refl)
