@@ -18,5 +18,8 @@ attach-requires-clause-guarded c = may_attach_empty c.args.watch.now (literals_a
 
 pub returns : goal.returns
 returns c =
-    attached_serves c.args.watch.now c.attach.new.self c.add.new.self.clauses c.in_ok-r.r c.attach.result
-    (serves_more c.args.watch.now c.args.arena.now.clauses c.add.new.self.clauses c.requires.serves c.in_ok-r.ensures.keeps) c.attach.ensures.ok c.attach.ensures.err
+    record {
+      serves =
+          attached_serves c.args.watch.now c.attach.new.self c.add.new.self.clauses c.in_ok-r.r c.attach.result
+          (serves_more c.args.watch.now c.args.arena.now.clauses c.add.new.self.clauses c.requires.serves c.in_ok-r.ensures.keeps) c.attach.ensures.ok c.attach.ensures.err;
+    }
