@@ -5,7 +5,7 @@ use Rattle.bs_clause.specs.Range.{HasVariables}
 use Rattle.bs_arena.specs.Arena.{Content, Held, held_at, literals_at}
 use Rattle.bs_watch.specs.declared.lists.Watcher.{Watcher}
 use Rattle.bs_watch.specs.declared.visit.Visit.{Visit}
-use Rattle.bs_watch.specs.declared.visit.Visit.TheVariants.{Stays, Moves, Conflict as IsFalse}
+use Rattle.bs_watch.specs.declared.visit.Visit.TheVariants.{Stays, Moves, Conflict as Clash}
 use Rattle.bs_watch.specs.declared.visit.Outcome.{Outcome}
 use Rattle.bs_watch.specs.declared.visit.Outcome.TheVariants.{Quiet, Conflict}
 use Rattle.bs_watch.specs.Trail.{IsFalseOn, IsConflict, IsUnit, Forces}
@@ -116,7 +116,7 @@ Visited old new falsified at Stays =
 Visited old new falsified at Moves =
     AreMet new falsified at ×
     (length (row new.lists falsified) + 1 ≡ length (row old.lists falsified))
-Visited old new falsified at (IsFalse r) = IsConflictOf new r
+Visited old new falsified at (Clash r) = IsConflictOf new r
 
 abbrev pub AllVisited : Scene → Literal → Outcome → Type 0
 AllVisited new falsified Quiet = AreMet new falsified (length (row new.lists falsified))
