@@ -5,8 +5,11 @@ use bs_net::Netlist;
 use std::alloc::Global;
 use std::test::Fail;
 
-/// The netlist of a text.
+/// The netlist of a text, if it is short enough, read and checked.
 fn netlist(alloc: Global, text: &[u8]) -> Option<Netlist> {
+    if text.len() > 1_000_000 {
+        return None;
+    }
     match bs_verilog::read(alloc, text) {
         Ok(raw) => Netlist::check(alloc, raw).ok(),
         Err(_) => None,

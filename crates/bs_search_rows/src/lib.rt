@@ -1,16 +1,10 @@
-//! Worked rows on calls of the crates of the search and of its log, each with ample memory: tests alone.
+//! Worked rows on calls of the crates of the search, each with ample memory: tests alone.
 #![tactic(auto)]
 
 #[cfg(test)]
 mod arena_rows;
 #[cfg(test)]
-mod clause_rows;
-#[cfg(test)]
 mod encode_rows;
-#[cfg(test)]
-mod log_rows;
-#[cfg(test)]
-mod rup_rows;
 #[cfg(test)]
 mod solve_rows;
 #[cfg(test)]

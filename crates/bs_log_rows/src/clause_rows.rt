@@ -16,8 +16,8 @@ fn literal(variable: u32, positive: bool) -> Lit {
 fn clause_up_to(alloc: Global, first: bool, last: u32) -> Result<Lits, Fail> {
     let mut clause = Lits::new(alloc);
     clause.push(literal(1, first))?;
-    for variable in 2..last + 1 {
-        clause.push(literal(variable, true))?;
+    for variable in 1..last {
+        clause.push(literal(variable + 1, true))?;
     }
     Ok(clause)
 }
