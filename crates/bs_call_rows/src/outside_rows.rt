@@ -81,6 +81,14 @@ impl Write for Narrow {
     }
 }
 
+/// Whether bytes are the first of others, this many of them.
+fn is_front(front: &[u8], whole: &[u8], count: usize) -> bool {
+    if count > whole.len() {
+        return false;
+    }
+    front == &whole[..count]
+}
+
 #[test]
 fn readers_give_little_at_a_time_or_fail(rt: HostRuntime) -> Result<(), Fail> {
     let alloc = rt.alloc();
@@ -108,7 +116,10 @@ fn readers_give_little_at_a_time_or_fail(rt: HostRuntime) -> Result<(), Fail> {
         let answer = fetch_opened(Ok(reader), &mut counted, limit, &mut into);
         assert_eq!(rt; answer, want, "{most} {whole} {limit}");
         assert_eq!(rt; counted, faults, "{most} {whole} {limit}");
-        assert_eq!(rt; into.as_slice(), &bytes[..count], "{most} {whole} {limit}");
+        assert!(rt;
+            is_front(into.as_slice(), bytes.as_slice(), count),
+            "{most} {whole} {limit}"
+        );
     }
     for (kind, want, faults) in [
         (ErrorKind::NotFound, Fetch::Failed, 1),
@@ -148,7 +159,10 @@ fn writers_take_little_at_a_time_or_fail(rt: HostRuntime) -> Result<(), Fail> {
         let answer = write_whole(&mut writer, &mut counted, &bytes);
         assert_eq!(rt; answer, want, "{most} {whole}");
         assert_eq!(rt; counted, faults, "{most} {whole}");
-        assert_eq!(rt; writer.taken.as_slice(), &bytes[..whole], "{most} {whole}");
+        assert!(rt;
+            is_front(writer.taken.as_slice(), bytes.as_slice(), whole),
+            "{most} {whole}"
+        );
     }
     Ok(())
 }
