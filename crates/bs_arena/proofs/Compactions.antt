@@ -1,5 +1,6 @@
 -- How far a compaction has come.
-use Rattle.std.proofs.Common.{◌≡◌, ℕ, suc, ◌+◌, ◌-◌, ◌<◌, ◌≤◌, arith, true, false, cond, List, [], ◌∷◌, ◌++◌, map, filter, length, take, drop, refl, sym, ap, subst, ◌∙◌, All}
+use Rattle.std.proofs.Common.{◌≡◌, ℕ, suc, ◌+◌, ◌-◌, ◌<◌, ◌≤◌, arith, true, false, cond, List, [], ◌∷◌, ◌++◌, map, filter, length, take, drop, refl}
+use Rattle.std.proofs.Common.{sym, ap, subst, ◌∙◌, All}
 use Rattle.std.specs.List.{AllByRecursion, zip, copy_within}
 use Rattle.std.specs.Prelude.{sum_by}
 use Rattle.bs_clause.specs.Literal.{Literal, literal_of}

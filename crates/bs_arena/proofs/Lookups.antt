@@ -1,5 +1,6 @@
 -- What a reference names after each call.
-use Rattle.std.proofs.Common.{◌≡◌, ◌≢◌, ℕ, ◌+◌, ◌≤◌, arith, Bool, true, false, not, cond, List, [], ◌∷◌, ◌++◌, map, filter, length, refl, sym, ap, subst, ◌∙◌, eqb, Some, None, Option, inr}
+use Rattle.std.proofs.Common.{◌≡◌, ◌≢◌, ℕ, ◌+◌, ◌≤◌, arith, Bool, true, false, not, cond, List, [], ◌∷◌, ◌++◌, map, filter, length, refl, sym, ap}
+use Rattle.std.proofs.Common.{subst, ◌∙◌, eqb, Some, None, Option, inr}
 use Rattle.std.specs.List.{AllByRecursion, find}
 use Rattle.std.specs.Prelude.{is_some, option_map}
 use Rattle.std.proofs.lemmas.Bool.{eqb-true, eq-eqb, ne_eqb, false≢true}
@@ -119,7 +120,8 @@ named_where_live from to (c ∷ cs) r =
     (cond b (record { place = from; clause = c } ∷ filter (λ p. p.clause.live) (placed_from (from + size c) cs))
     (filter (λ p. p.clause.live) (placed_from (from + size c) cs)))) r)) [
       | true ↦ elim (eqb from r) as
-          (λ t. is_some (option_map (λ (n : ℕ × ℕ). n.1) (cond t (Some (from, to)) (find (λ (n : ℕ × ℕ). eqb n.0 r) (names_of (from + size c) (to + size c) cs)))) ≡
+          (λ t. is_some (option_map (λ (n : ℕ × ℕ). n.1)
+          (cond t (Some (from, to)) (find (λ (n : ℕ × ℕ). eqb n.0 r) (names_of (from + size c) (to + size c) cs)))) ≡
           is_some (cond t (Some (held (record { place = from; clause = c }))) (held_at (live_in (placed_from (from + size c) cs)) r))) [
             | true ↦ refl
             | false ↦ named_where_live (from + size c) (to + size c) cs r
@@ -151,7 +153,8 @@ same_meaning from to (c ∷ cs) r s e =
     (map held (cond b (record { place = from; clause = c } ∷ filter (λ p. p.clause.live) (placed_from (from + size c) cs))
     (filter (λ p. p.clause.live) (placed_from (from + size c) cs)))) r)) [
       | true ↦ λ is. elim (eqb from r) as
-          (λ t. option_map (λ (n : ℕ × ℕ). n.1) (cond t (Some (from, to)) (find (λ (n : ℕ × ℕ). eqb n.0 r) (names_of (from + size c) (to + size c) cs))) ≡ Some s →
+          (λ t. option_map (λ (n : ℕ × ℕ). n.1) (cond t (Some (from, to))
+          (find (λ (n : ℕ × ℕ). eqb n.0 r) (names_of (from + size c) (to + size c) cs))) ≡ Some s →
           option_map meaning (held_at (live_in (placed_from to (c ∷ kept cs))) s) ≡
           option_map meaning (cond t (Some (held (record { place = from; clause = c }))) (held_at (live_in (placed_from (from + size c) cs)) r))) [
             | true ↦ λ here.

@@ -1,5 +1,6 @@
 -- Ascending pairs are searched by halves.
-use Rattle.std.proofs.Common.{◌≡◌, ℕ, zero, suc, ◌+◌, ◌<◌, ◌≤◌, arith, Bool, true, false, cond, List, [], ◌∷◌, ◌++◌, length, get_or, find, refl, sym, ap, subst, ◌∙◌, eqb, Some, None, inl, inr, All}
+use Rattle.std.proofs.Common.{◌≡◌, ℕ, zero, suc, ◌+◌, ◌<◌, ◌≤◌, arith, Bool, true, false, cond, List, [], ◌∷◌, ◌++◌, length, get_or, find, refl, sym}
+use Rattle.std.proofs.Common.{ap, subst, ◌∙◌, eqb, Some, None, inl, inr, All}
 use Rattle.std.specs.Prelude.{option_map}
 use Rattle.std.proofs.lemmas.Bool.{eq-eqb, ne_eqb, cases_order}
 use Rattle.std.proofs.lemmas.List.{get_or_read, get_or_append_left, length-append}

@@ -1,5 +1,6 @@
 -- The places of all clauses that the words spell, dead ones among them.
-use Rattle.std.proofs.Common.{◌≡◌, ℕ, zero, suc, ◌+◌, ◌<◌, arith, true, false, cond, List, [], ◌∷◌, ◌++◌, map, filter, length, set, swap, get_or, refl, sym, ap, subst, ◌∙◌, eqb, Some, inl, inr, All}
+use Rattle.std.proofs.Common.{◌≡◌, ℕ, zero, suc, ◌+◌, ◌<◌, arith, true, false, cond, List, [], ◌∷◌, ◌++◌, map, filter, length, set, swap, get_or}
+use Rattle.std.proofs.Common.{refl, sym, ap, subst, ◌∙◌, eqb, Some, inl, inr, All}
 use Rattle.std.specs.List.{AllByRecursion}
 use Rattle.std.specs.Prelude.{Contains, is_some}
 use Rattle.std.proofs.lemmas.Bool.{eq-eqb}

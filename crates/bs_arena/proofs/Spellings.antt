@@ -1,5 +1,6 @@
 -- Clauses are read back from their words.
-use Rattle.std.proofs.Common.{◌≡◌, ℕ, zero, suc, ◌+◌, ◌*◌, ◌/◌, ◌%◌, ◌^◌, arith, Bool, true, false, cond, List, [], ◌∷◌, ◌++◌, length, take, drop, refl, sym, ap, ◌∙◌, eqb}
+use Rattle.std.proofs.Common.{◌≡◌, ℕ, zero, suc, ◌+◌, ◌*◌, ◌/◌, ◌%◌, ◌^◌, arith, Bool, true, false, cond, List, [], ◌∷◌, ◌++◌, length, take, drop}
+use Rattle.std.proofs.Common.{refl, sym, ap, ◌∙◌, eqb}
 use Rattle.std.proofs.lemmas.List.{take_at, drop_at, append_assoc, append-nil, length-append, map-append, get_or-append-add}
 use Rattle.std.proofs.Common.{Some, map}
 use Rattle.std.specs.List.{find, filter}

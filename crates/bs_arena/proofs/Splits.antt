@@ -1,10 +1,12 @@
 -- The clause of a live reference, with the clauses before and after it.
-use Rattle.std.proofs.Common.{◌≡◌, ℕ, ◌+◌, ◌/◌, ◌%◌, ◌^◌, ◌<◌, ◌≤◌, arith, Bool, true, false, not, cond, List, [], ◌∷◌, ◌++◌, map, filter, length, ◌-◌, set, get_or, swap, refl, sym, ap, subst, ◌∙◌, eqb, Some, None, Option, inl, inr, ◌⊎◌, All}
+use Rattle.std.proofs.Common.{◌≡◌, ℕ, ◌+◌, ◌/◌, ◌%◌, ◌^◌, ◌<◌, ◌≤◌, arith, Bool, true, false, not, cond, List, [], ◌∷◌, ◌++◌, map, filter, length}
+use Rattle.std.proofs.Common.{◌-◌, set, get_or, swap, refl, sym, ap, subst, ◌∙◌, eqb, Some, None, Option, inl, inr, ◌⊎◌, All}
 use Rattle.std.specs.List.{AllByRecursion}
 use Rattle.std.specs.Prelude.{is_some, option_map}
 use Rattle.std.specs.Option.{unwrap_or}
 use Rattle.std.proofs.lemmas.Bool.{eq-eqb, ne_eqb, false≢true}
-use Rattle.std.proofs.lemmas.List.{append_assoc, length-append, length-set, length-map, set-append_left, set-append_right, get_or-append-add, get_or_append_left, get_or-map, map-set, map-append}
+use Rattle.std.proofs.lemmas.List.{append_assoc, length-append, length-set, length-map, set-append_left, set-append_right, get_or-append-add}
+use Rattle.std.proofs.lemmas.List.{get_or_append_left, get_or-map, map-set, map-append}
 use Rattle.std.proofs.lemmas.List.Edits.{swap_is, length-swap}
 use Rattle.std.proofs.lemmas.List.Sums.{sum_by-append, sum_by-cons}
 use Rattle.std.proofs.lemmas.List.Elements.{filter-append, All-set, All-get_or, All-head, All-tail, All-cons}
@@ -258,7 +260,8 @@ swapped_words words r i j s li lj =
     ap (λ ws. swap ws (r + 4 + i) (r + 4 + j)) opened ∙
     swap_inside (spelling_of s.before ++ header) s.clause.codes (spelling_of s.after) (r + 4) i j 0 long li lj ∙
     append_assoc (spelling_of s.before) header (swap s.clause.codes i j ++ spelling_of s.after) ∙
-    ap (λ n. spelling_of s.before ++ (s.clause.id % 2 ^ 32 ∷ s.clause.id / 2 ^ 32 ∷ n ∷ cond s.clause.live 1 0 ∷ (swap s.clause.codes i j ++ spelling_of s.after)))
+    ap (λ n. spelling_of s.before ++ (s.clause.id % 2 ^ 32 ∷ s.clause.id / 2 ^ 32 ∷ n ∷ cond s.clause.live 1 0 ∷
+    (swap s.clause.codes i j ++ spelling_of s.after)))
     (sym (length-swap s.clause.codes i j)) ∙
     sym (spelling_of-append s.before (swapped_clause ∷ s.after))
 

@@ -1,5 +1,6 @@
 -- What an arena holds.
-use Rattle.std.specs.Prelude.{◌≡◌, ◌≢◌, IsSome, ℕ, ◌+◌, ◌-◌, ◌==◌, ◌<◌, ◌≤◌, ◌^◌, min, List, [], length, map, Option, sum_by, swap, option_map, All, AllPairs, Contains}
+use Rattle.std.specs.Prelude.{◌≡◌, ◌≢◌, IsSome, ℕ, ◌+◌, ◌-◌, ◌==◌, ◌<◌, ◌≤◌, ◌^◌, min, List, [], length, map, Option, sum_by, swap, option_map, All}
+use Rattle.std.specs.Prelude.{AllPairs, Contains}
 use Rattle.std.specs.List.{find, filter}
 use Rattle.std.specs.Option.{unwrap_or}
 use Rattle.bs_clause.specs.Literal.{Literal, IsVariable}

@@ -1,5 +1,6 @@
 //! The arena, a list of live clauses in one vector.
-ghost use Rattle.std.specs.Prelude.{◌≡◌, ◌+◌, ◌<◌, ◌≤◌, ◌==◌, not, [], ◌∷◌, ◌++◌, map, length, filter, if◌then◌else◌, zip, option_map, Some, None, Contains, IsSome, is_some, IsOk, OnOk, OnErr, IfOk};
+ghost use Rattle.std.specs.Prelude.{◌≡◌, ◌+◌, ◌<◌, ◌≤◌, ◌==◌, not, [], ◌∷◌, ◌++◌, map, length, filter, if◌then◌else◌, zip, option_map, Some, None};
+ghost use Rattle.std.specs.Prelude.{Contains, IsSome, is_some, IsOk, OnOk, OnErr, IfOk};
 ghost use Rattle.bs_clause.specs.Literal.{AreCodes, code_of};
 ghost use Rattle.bs_arena.specs.Arena.{IsContent, Keeps, KeepsOthers, held_at, literals_at, live_words, meaning, swapped};
 ghost use Rattle.bs_arena.specs.Renaming.{IsRenaming};

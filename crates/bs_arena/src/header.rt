@@ -1,5 +1,6 @@
 //! How a clause stands in the words: a header of four words, and the codes of its literals.
-ghost use Rattle.std.specs.Prelude.{◌≡◌, ℕ, List, ◌+◌, ◌*◌, ◌^◌, ◌<◌, ◌≤◌, ◌==◌, ◌++◌, true, map, length, slice_index, vec_len, vec_capacity, All, IsOk, OnOk, OnErr};
+ghost use Rattle.std.specs.Prelude.{◌≡◌, ℕ, List, ◌+◌, ◌*◌, ◌^◌, ◌<◌, ◌≤◌, ◌==◌, ◌++◌, true, map, length, slice_index, vec_len, vec_capacity, All};
+ghost use Rattle.std.specs.Prelude.{IsOk, OnOk, OnErr};
 ghost use Rattle.bs_clause.specs.Literal.{code_of, IsCode};
 ghost use Rattle.bs_arena.specs.Arena.{spare_of};
 ghost use Rattle.bs_arena.specs.Words.{Stored, spelling, IsClauseAt};

@@ -1,5 +1,6 @@
 -- The states that a step's blocks exclude.
-use Rattle.std.proofs.Common.{◌≡◌, ℕ, suc, zero, ◌<◌, ◌≤◌, ◌+◌, ◌-◌, ◌/◌, Bool, true, false, cond, List, [], ◌∷◌, ◌++◌, map, length, get_or, take, drop, refl, ap, subst, sym, ◌∙◌, ◌⊎◌, inl, inr, Option, Some, None, arith}
+use Rattle.std.proofs.Common.{◌≡◌, ℕ, suc, zero, ◌<◌, ◌≤◌, ◌+◌, ◌-◌, ◌/◌, Bool, true, false, cond, List, [], ◌∷◌, ◌++◌, map, length, get_or, take}
+use Rattle.std.proofs.Common.{drop, refl, ap, subst, sym, ◌∙◌, ◌⊎◌, inl, inr, Option, Some, None, arith}
 use Rattle.std.specs.Prelude.{slice_get, MatchOption, count_by, not, ◌&&◌, ◌||◌, ◌==◌, All, replicate, slice_set}
 use Rattle.std.specs.Cmp.{bool_cmp_total}
 use Rattle.std.specs.Cmp.Lexicographic.{pointwise, pointwise_decides, slice_cmp, lists_total}
@@ -8,7 +9,8 @@ use Rattle.std.specs.declared.cmp.Ordering.{Ordering}
 use Rattle.std.specs.declared.cmp.Ordering.TheVariants.{Less, Equal, Greater}
 use Rattle.std.specs.List.{list_all}
 use Rattle.std.proofs.lemmas.Bool.{true≢false, eq-eqb, cases_lt, cases_order}
-use Rattle.std.proofs.lemmas.List.{length-map, map_more, take_all, take_more, drop_more, append-nil, get_or-map, get_or-set_same, get_or-set_other, get_or_default, length-set, length-replicate, get_or-replicate, take-append-drop}
+use Rattle.std.proofs.lemmas.List.{length-map, map_more, take_all, take_more, drop_more, append-nil, get_or-map, get_or-set_same, get_or-set_other}
+use Rattle.std.proofs.lemmas.List.{get_or_default, length-set, length-replicate, get_or-replicate, take-append-drop}
 use Rattle.std.proofs.lemmas.List.Elements.{filter_map-append}
 use Rattle.std.proofs.lemmas.List.Sums.{sum_by-cons}
 use Rattle.std.proofs.lemmas.List.Folds.{list_any-append, list_all-append, list_any_at, list_any_none}
@@ -470,7 +472,8 @@ line_is_due e guard states clause j id line is at =
     (ap (λ (l : Line). list_all (has_clause (map (blocking e guard) states)) (blocks_in (l ∷ []))) is
     ∙ ap (λ (b : Bool). b && true) (due_known e guard states clause j at))
 
-pub line_is_noted : (e : Encoded) (guard : Literal) (states : List (List Bool)) (clause : Clause) (j id width : ℕ) (line : Line) (old new : List Bool) → line ≡ Block id clause → width ≡ length e.states →
+pub line_is_noted : (e : Encoded) (guard : Literal) (states : List (List Bool)) (clause : Clause) (j id width : ℕ) (line : Line)
+    (old new : List Bool) → line ≡ Block id clause → width ≡ length e.states →
     WidthsAre width states → Ascend states → IsDueAt e guard states clause j → new ≡ slice_set old j true →
     NotesMore e guard states (blocks_in (line ∷ [])) old new
 line_is_noted e guard states clause j id width line old new is w widths asc at n =

@@ -1,5 +1,6 @@
 -- Parts one after another, and the first of them that fails.
-use Rattle.std.proofs.Common.{◌≡◌, ℕ, suc, zero, ◌<◌, ◌≤◌, ◌+◌, ◌-◌, Bool, true, false, List, [], ◌∷◌, ◌++◌, map, length, get_or, drop, refl, ap, subst, sym, ◌∙◌, ◌⊎◌, inl, inr, Option, Some, None, arith}
+use Rattle.std.proofs.Common.{◌≡◌, ℕ, suc, zero, ◌<◌, ◌≤◌, ◌+◌, ◌-◌, Bool, true, false, List, [], ◌∷◌, ◌++◌, map, length, get_or, drop, refl, ap}
+use Rattle.std.proofs.Common.{subst, sym, ◌∙◌, ◌⊎◌, inl, inr, Option, Some, None, arith}
 use Rattle.std.specs.Prelude.{Result, Ok, Err, IfOk, option_map, ◌&&◌, ◌==◌, All}
 use Rattle.std.specs.Option.{option_or}
 use Rattle.std.specs.List.{range_with_len, AllByRecursion as Each}

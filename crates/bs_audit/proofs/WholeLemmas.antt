@@ -1,5 +1,6 @@
 -- The whole report.
-use Rattle.std.proofs.Common.{◌≡◌, ℕ, suc, zero, ◌<◌, ◌≤◌, ◌+◌, Bool, true, false, List, [], ◌∷◌, ◌++◌, map, length, get_or, refl, ap, subst, sym, ◌∙◌, Option, Some, None, arith}
+use Rattle.std.proofs.Common.{◌≡◌, ℕ, suc, zero, ◌<◌, ◌≤◌, ◌+◌, Bool, true, false, List, [], ◌∷◌, ◌++◌, map, length, get_or, refl, ap, subst, sym}
+use Rattle.std.proofs.Common.{◌∙◌, Option, Some, None, arith}
 use Rattle.std.specs.Prelude.{Result, Ok, Err, IfOk, slice_get, option_map, ◌&&◌, All, nat_le}
 use Rattle.std.specs.Option.{option_or, IfSome}
 use Rattle.std.specs.List.{AllByRecursion as Each}
@@ -33,7 +34,8 @@ use Rattle.bs_scan.specs.Crash.{Recording, IsRecording, Crash, crash_of, DumpFit
 use Rattle.bs_scan.proofs.CrashLemmas.{crash_is}
 use Rattle.bs_good.specs.Step.{stored_of, listed, hit_of}
 use Rattle.bs_good.specs.Chain.{present_of, present_of_hit, present_after, last_present}
-use Rattle.bs_good.specs.Valid.{unless, all_bits_eq, cause_after, is_cause, has_state, has_stored, same_hit, first_of_all, each_step, step_parts, log_parts, due_at, first_failing}
+use Rattle.bs_good.specs.Valid.{unless, all_bits_eq, cause_after, is_cause, has_state, has_stored, same_hit, first_of_all, each_step, step_parts}
+use Rattle.bs_good.specs.Valid.{log_parts, due_at, first_failing}
 use Rattle.bs_good.specs.Trace.{trace_states, trace_inputs}
 use Rattle.bs_good.specs.ValidLaw.{IsEncoded}
 use Rattle.bs_good.proofs.GoodLemmas.{valid_is_good}

@@ -29,9 +29,9 @@ impl<'a> Model for Replay<'a> {
 
     ghost Value = { Crash };
 
-    ghost view = { λ r. crash_of r.chip r.dump.now };
+    ghost view = { λ r. crash_of r.chip.recording r.dump.now };
 
-    ghost invariant = { λ r. (r.sim.net ≡ r.net.now) × (r.chip.circuit ≡ circuit r.net.now) × (r.chip.choice ≡ r.choice.now) × (r.choice.now.width ≡ length (circuit r.net.now).flops) };
+    ghost invariant = { λ r. (r.sim.net ≡ r.net.now) × (r.chip.recording.circuit ≡ circuit r.net.now) × (r.chip.recording.choice ≡ r.choice.now) × (r.choice.now.width ≡ length (circuit r.net.now).flops) };
 }
 
 impl<'a> Replay<'a> {

@@ -36,7 +36,8 @@ something_left [] e = absurd (true≢false e)
 something_left (b ∷ bs) e = omega arith
 
 -- cut where no byte is left
-pub cut_at_end : (bs front rest : List ℕ) (n : ℕ) → n ≤ length bs → ((k : ℕ) → k < n → (get_or bs k 0 == 10) ≡ false) → front ≡ take n bs → rest ≡ drop n bs → (length bs == 0) ≡ false → (length rest == 0) ≡ true →
+pub cut_at_end : (bs front rest : List ℕ) (n : ℕ) → n ≤ length bs → ((k : ℕ) → k < n → (get_or bs k 0 == 10) ≡ false) → front ≡ take n bs →
+    rest ≡ drop n bs → (length bs == 0) ≡ false → (length rest == 0) ≡ true →
     lines_of bs ≡ front ∷ lines_of rest
 cut_at_end [] front rest n le none f r some empty = absurd (true≢false some)
 cut_at_end (b ∷ bs) front rest n le none f r some empty =
@@ -46,7 +47,8 @@ cut_at_end (b ∷ bs) front rest n le none f r some empty =
     rw (no_rest, f, whole) (only_line b bs (λ k lt. none k (omega arith)))
 
 -- cut at a line feed
-pub cut_at_feed : (bs front rest : List ℕ) (n : ℕ) → n ≤ length bs → ((k : ℕ) → k < n → (get_or bs k 0 == 10) ≡ false) → (n < length bs → (get_or bs n 0 == 10) ≡ true) →
+pub cut_at_feed : (bs front rest : List ℕ) (n : ℕ) → n ≤ length bs → ((k : ℕ) → k < n → (get_or bs k 0 == 10) ≡ false) →
+    (n < length bs → (get_or bs n 0 == 10) ≡ true) →
     front ≡ take n bs → rest ≡ drop n bs → (length rest == 0) ≡ false →
     lines_of bs ≡ front ∷ lines_of (take (length rest - 1) (drop 1 rest))
 cut_at_feed bs front rest n le none here f r some =
@@ -74,7 +76,8 @@ only_word [] none = refl
 only_word (b ∷ bs) none = onto_word b bs (none 0 (omega arith)) ∙ ap (onto_first b) (only_word bs (λ k lt. none (suc k) (omega arith)))
 
 -- cut where no byte is left
-pub word_at_end : (bs front rest : List ℕ) (n : ℕ) → n ≤ length bs → ((k : ℕ) → k < n → (get_or bs k 0 == 32) ≡ false) → front ≡ take n bs → rest ≡ drop n bs → (length rest == 0) ≡ true →
+pub word_at_end : (bs front rest : List ℕ) (n : ℕ) → n ≤ length bs → ((k : ℕ) → k < n → (get_or bs k 0 == 32) ≡ false) → front ≡ take n bs →
+    rest ≡ drop n bs → (length rest == 0) ≡ true →
     words_of bs ≡ front ∷ []
 word_at_end bs front rest n le none f r empty =
     let no_rest : rest ≡ [] = nothing_left rest empty in
@@ -83,7 +86,8 @@ word_at_end bs front rest n le none f r empty =
     rw (f, whole) (only_word bs (λ k lt. none k (omega arith)))
 
 -- cut at a space
-pub word_at_space : (bs front rest : List ℕ) (n : ℕ) → n ≤ length bs → ((k : ℕ) → k < n → (get_or bs k 0 == 32) ≡ false) → (n < length bs → (get_or bs n 0 == 32) ≡ true) →
+pub word_at_space : (bs front rest : List ℕ) (n : ℕ) → n ≤ length bs → ((k : ℕ) → k < n → (get_or bs k 0 == 32) ≡ false) →
+    (n < length bs → (get_or bs n 0 == 32) ≡ true) →
     front ≡ take n bs → rest ≡ drop n bs → (length rest == 0) ≡ false →
     words_of bs ≡ front ∷ words_of (take (length rest - 1) (drop 1 rest))
 word_at_space bs front rest n le none here f r some =

@@ -1,5 +1,6 @@
 -- The number that digits stand for, digit by digit, and its one form.
-use Rattle.std.proofs.Common.{◌≡◌, ◌≢◌, ℕ, suc, zero, ◌<◌, ◌≤◌, ◌+◌, ◌-◌, ◌*◌, ◌^◌, Bool, true, false, cond, not, ◌&&◌, ◌||◌, nat_lt, nat_le, Option, Some, None, List, [], ◌∷◌, length, drop, get_or, fold, refl, arith, ap, sym, ◌∙◌}
+use Rattle.std.proofs.Common.{◌≡◌, ◌≢◌, ℕ, suc, zero, ◌<◌, ◌≤◌, ◌+◌, ◌-◌, ◌*◌, ◌^◌, Bool, true, false, cond, not, ◌&&◌, ◌||◌, nat_lt, nat_le, Option}
+use Rattle.std.proofs.Common.{Some, None, List, [], ◌∷◌, length, drop, get_or, fold, refl, arith, ap, sym, ◌∙◌}
 use Rattle.std.specs.Prelude.{◌==◌}
 use Rattle.std.specs.Prelude.{decimal, MatchOption}
 use Rattle.std.proofs.lemmas.Bool.{ltb-true, ltb-false, leb-true, le-leb, eqb-true, eqb-false, ne_eqb, not-true, and_parts, and_from}
@@ -28,7 +29,8 @@ one_more n (d ∷ ds) zero h = refl
 one_more n (d ∷ ds) (suc i) h = one_more n ds i (omega arith)
 
 -- where the number so far is too large, the whole is
-pub too_large : (n : ℕ) (digits : List ℕ) (i : ℕ) → i < length digits → after n (drop i digits) ≡ number_of digits → 2 ^ 64 ≤ 10 * n + (get_or digits i 0 - 48) → None ≡ digits_in digits
+pub too_large : (n : ℕ) (digits : List ℕ) (i : ℕ) → i < length digits → after n (drop i digits) ≡ number_of digits →
+    2 ^ 64 ≤ 10 * n + (get_or digits i 0 - 48) → None ≡ digits_in digits
 too_large n digits i h whole large = by (nat_lt (number_of digits) (2 ^ 64)) refl
   where
     by : (b : Bool) → nat_lt (number_of digits) (2 ^ 64) ≡ b → None ≡ cond b (Some (number_of digits)) None
@@ -107,7 +109,8 @@ not_canonical text other n h e =
     cc
 
 -- a canonical text is the form of its number, where that is below 2 ^ 64
-pub canonical : (text : List ℕ) (r : Option ℕ) → is_canonical text ≡ true → r ≡ digits_in text → MatchOption r ((n : ℕ) → n < 2 ^ 64 → decimal n ≢ text) (λ n. decimal n ≡ text)
+pub canonical : (text : List ℕ) (r : Option ℕ) → is_canonical text ≡ true → r ≡ digits_in text →
+    MatchOption r ((n : ℕ) → n < 2 ^ 64 → decimal n ≢ text) (λ n. decimal n ≡ text)
 canonical [] r form read = cc
 canonical (d ∷ ds) r form read = rw read (by (nat_lt (number_of (d ∷ ds)) (2 ^ 64)) refl)
   where
@@ -123,6 +126,7 @@ canonical (d ∷ ds) r form read = rw read (by (nat_lt (number_of (d ∷ ds)) (2
             let high : not (d == 48) ≡ true = sym (ap (λ b. b || not (d == 48)) z) ∙ both.1 in
             absurd (eqb-false d 48 (not-true (d == 48) high) e)
 
-    by : (b : Bool) → nat_lt (number_of (d ∷ ds)) (2 ^ 64) ≡ b → MatchOption (cond b (Some (number_of (d ∷ ds))) None) ((n : ℕ) → n < 2 ^ 64 → decimal n ≢ d ∷ ds) (λ n. decimal n ≡ d ∷ ds)
+    by : (b : Bool) → nat_lt (number_of (d ∷ ds)) (2 ^ 64) ≡ b →
+        MatchOption (cond b (Some (number_of (d ∷ ds))) None) ((n : ℕ) → n < 2 ^ 64 → decimal n ≢ d ∷ ds) (λ n. decimal n ≡ d ∷ ds)
     by true e = decimal-digits_value own (d ∷ ds) both.0 (omega arith) short (ltb-true (number_of (d ∷ ds)) (2 ^ 64) e)
     by false e = λ n h is. absurd (omega (arith, h, ltb-false (number_of (d ∷ ds)) (2 ^ 64) e, sym (digits_value-decimal own n h) ∙ ap number_of is))

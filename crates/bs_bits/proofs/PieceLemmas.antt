@@ -22,13 +22,15 @@ only_piece [] none = refl
 only_piece (b ∷ bs) none = onto b bs (none 0 (omega arith)) ∙ ap (onto_first b) (only_piece bs (λ k lt. none (suc k) (omega arith)))
 
 -- cut where no byte is left
-pub piece_at_end : (bs rest : List ℕ) (n : ℕ) → n ≤ length bs → ((k : ℕ) → k < n → (get_or bs k 0 == 10) ≡ false) → rest ≡ drop n bs → (length rest == 0) ≡ true → pieces_of bs ≡ bs ∷ []
+pub piece_at_end : (bs rest : List ℕ) (n : ℕ) → n ≤ length bs → ((k : ℕ) → k < n → (get_or bs k 0 == 10) ≡ false) → rest ≡ drop n bs →
+    (length rest == 0) ≡ true → pieces_of bs ≡ bs ∷ []
 piece_at_end bs rest n le none r empty =
     let no_rest : rest ≡ [] = nothing_left rest empty in
     only_piece bs (λ k lt. none k (omega (arith, length-drop n bs, ap length r, ap length no_rest, le, lt)))
 
 -- cut at a line feed
-pub piece_at_feed : (bs front rest : List ℕ) (n : ℕ) → n ≤ length bs → ((k : ℕ) → k < n → (get_or bs k 0 == 10) ≡ false) → (n < length bs → (get_or bs n 0 == 10) ≡ true) →
+pub piece_at_feed : (bs front rest : List ℕ) (n : ℕ) → n ≤ length bs → ((k : ℕ) → k < n → (get_or bs k 0 == 10) ≡ false) →
+    (n < length bs → (get_or bs n 0 == 10) ≡ true) →
     front ≡ take n bs → rest ≡ drop n bs → (length rest == 0) ≡ false →
     pieces_of bs ≡ front ∷ pieces_of (take (length rest - 1) (drop 1 rest))
 piece_at_feed bs front rest n le none here f r some =

@@ -1,5 +1,6 @@
 -- The lines of a text, the words of a line, and the numbers among them (docs/FORMATS.md, "Lines, words and numbers").
-use Rattle.std.specs.Prelude.{ℕ, ◌+◌, ◌-◌, ◌*◌, ◌^◌, ◌==◌, nat_lt, nat_le, Bool, false, not, Option, Some, None, ◌&&◌, ◌||◌, List, [], ◌∷◌, ◌++◌, length, fold, if◌then◌else◌}
+use Rattle.std.specs.Prelude.{ℕ, ◌+◌, ◌-◌, ◌*◌, ◌^◌, ◌==◌, nat_lt, nat_le, Bool, false, not, Option, Some, None, ◌&&◌, ◌||◌, List, [], ◌∷◌, ◌++◌}
+use Rattle.std.specs.Prelude.{length, fold, if◌then◌else◌}
 use Rattle.std.specs.List.{list_all}
 
 -- a byte before the first line

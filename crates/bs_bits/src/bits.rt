@@ -1,5 +1,6 @@
 //! Lists of bits, seen by contracts as lists of `Bool`.
-ghost use Rattle.std.specs.Prelude.{◌≡◌, ◌≢◌, ◌<◌, ◌↔◌, [], ◌∷◌, ◌++◌, Some, Bool, false, slice_get, slice_index_or, slice_set, length, IsTrue, IfOk, OnOk, OnErr, MatchOption};
+ghost use Rattle.std.specs.Prelude.{◌≡◌, ◌≢◌, ◌<◌, ◌↔◌, [], ◌∷◌, ◌++◌, Some, Bool, false, slice_get, slice_index_or, slice_set, length, IsTrue, IfOk};
+ghost use Rattle.std.specs.Prelude.{OnOk, OnErr, MatchOption};
 ghost use Rattle.std.specs.Prelude.{List as Seq};
 ghost use Rattle.bs_bits.specs.Bits.{bits_eq, bits_cmp};
 ghost use Rattle.bs_bits.specs.Text.{bits_text, bits_of};

@@ -1,3 +1,8 @@
 pub mod ReplayLemmas
 pub mod MomentLemmas
-pub mod ListedLemmas
+pub mod LaneLemmas
+pub mod LiveLemmas
+pub mod LookLemmas
+pub mod InputLemmas
+pub mod StepLemmas
+pub mod TrackLemmas

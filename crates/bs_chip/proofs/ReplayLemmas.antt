@@ -1,16 +1,16 @@
 -- One cycle of a replay, and one shift of an unloading.
-use Rattle.std.proofs.Common.{◌≡◌, ℕ, suc, ◌<◌, ◌≤◌, ◌+◌, ◌-◌, Bool, false, List, [], ◌∷◌, ◌++◌, length, get_or, refl, arith, ap, sym, subst, ◌∙◌, ◌⊎◌, inl, inr, add-one, append_assoc, append-nil, length-append}
-use Rattle.std.proofs.Math.Nat.{eq-or-lt_of_le}
+use Rattle.std.proofs.Common.{◌≡◌, ℕ, ◌≤◌, ◌+◌, Bool, List, [], ◌∷◌, ◌++◌, length, get_or, refl, arith, ap, sym, subst, ◌∙◌}
+use Rattle.std.proofs.Common.{add-one, append_assoc, append-nil, length-append}
 use Rattle.bs_net.specs.Circuit.{Circuit, next, reset_state}
 use Rattle.bs_net.specs.Netlist.{Checked, circuit}
 use Rattle.bs_stim.specs.Runs.{Stimulus, run_at, inputs_of}
 use Rattle.bs_scan.proofs.CrashLemmas.{run_inputs}
 use Rattle.bs_scan.specs.Choice.{Chosen}
-use Rattle.bs_scan.specs.Moments.{Run, moment, run_of, state_of, state_at, is_listed}
+use Rattle.bs_scan.specs.Moments.{Run, moment, run_of, state_of, state_at}
 use Rattle.bs_scan.specs.Signature.{stored_at}
 use Rattle.bs_scan.specs.Register.{Register, clocked}
 use Rattle.bs_scan.proofs.ChainLemmas.{parts}
-use Rattle.bs_chip.specs.Replay.{Played, in_state, lists, NoneListed}
+use Rattle.bs_chip.specs.Replay.{Played, in_state}
 
 -- ---- cycles
 
@@ -72,29 +72,3 @@ unload_more state bits chain next shifts o i h e same =
 
 pub unloaded : (state bits chain : List Bool) (shifts : ℕ) → Unloads state bits chain shifts → length state ≤ shifts → shifts ≤ length state → bits ≡ state
 unloaded state bits chain shifts h le ge = (parts state h.zeros bits chain (omega (arith, h.out, le, ge)) h.whole).0
-
--- ---- what is listed
-
-pub listed_at : (c : Circuit) (run : Run) (states : List (List Bool)) (k : ℕ) (s : List Bool) (r b : Bool) → s ≡ state_at c run k →
-    r ≡ is_listed states s → r ≡ b → lists c run states k ≡ b
-listed_at c run states k s r b e f g = ap (is_listed states) (sym e) ∙ (sym f ∙ g)
-
-pub none_below : (c : Circuit) (run : Run) (states : List (List Bool)) → NoneListed c run states 0
-none_below c run states = λ k h. absurd (omega arith)
-
-pub unlisted_more : (c : Circuit) (run : Run) (states : List (List Bool)) (n : ℕ) → NoneListed c run states n → lists c run states n ≡ false →
-    NoneListed c run states (n + 1)
-unlisted_more c run states n none here = λ k h. by k (order_cases k n (omega arith))
-  where
-    order_cases : (a b : ℕ) → a ≤ b → (a ≡ b) ⊎ (a < b)
-    order_cases a b le = eq-or-lt_of_le le
-
-    by : (k : ℕ) → (k ≡ n) ⊎ (k < n) → lists c run states k ≡ false
-    by k (inl same) = ap (lists c run states) same ∙ here
-    by k (inr less) = none k less
-
-pub state_to : (c : Circuit) (run : Run) (cycle : ℕ) (s x : List Bool) → 1 ≤ cycle → s ≡ state_at c run (cycle - 1) → x ≡ get_or run (cycle - 1) [] →
-    next c s x ≡ state_at c run cycle
-state_to c run cycle s x from e f =
-    let here : cycle - 1 + 1 ≡ cycle = omega arith in
-    state_more c run (cycle - 1) s x e f ∙ ap (state_at c run) here

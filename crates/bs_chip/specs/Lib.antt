@@ -1,3 +1,7 @@
+-- what public contracts rest on
+pub mod Stepped
 -- what inner functions promise each other
 pub mod Replay
-pub mod Listed
+pub mod Live
+pub mod Lockstep
+pub mod Inputs

@@ -1,17 +1,20 @@
 //! A simulator that recorded runs drive.
-ghost use Rattle.std.specs.Prelude.{◌≡◌, ◌≤◌, ◌+◌, length, IfOk};
+ghost use Rattle.std.specs.Prelude.{◌≡◌, ◌≤◌, ◌+◌, ◌-◌, ◌*◌, length, IfOk};
 ghost use Rattle.bs_net.specs.Circuit.{reset_state};
 ghost use Rattle.bs_net.specs.Netlist.{circuit};
 ghost use Rattle.bs_stim.specs.Runs.{inputs_of};
 ghost use Rattle.bs_scan.specs.Crash.{IsRecording, recording_of};
-ghost use Rattle.bs_scan.specs.Moments.{IsMoment, moment, run_of, state_of};
+ghost use Rattle.bs_scan.specs.Moments.{IsMoment, moment, state_of};
+ghost use Rattle.bs_plane.specs.Planes.{lane};
+ghost use Rattle.bs_chip.specs.Lockstep.{wide_of};
 ghost use Rattle.bs_chip.specs.Replay.{Played, in_state};
 
+use crate::lanes::{read_lane, wide_for};
 use bs_bits::{Bits, NoMemory};
 use bs_net::Netlist;
 use bs_scan::Moment;
 use bs_sim::Sim;
-use bs_stim::{MAX_CYCLES, MAX_RUNS, Runs};
+use bs_stim::Runs;
 use std::alloc::Global;
 use std::marker::Model;
 
@@ -23,6 +26,7 @@ pub struct Player<'a> {
     runs: &'a Runs,
     sim: Sim<'a>,
     input: Bits,
+    entered: Bits,
 }
 
 impl<'a> Model for Player<'a> {
@@ -35,7 +39,7 @@ impl<'a> Model for Player<'a> {
 
     ghost view = { λ p. record { circuit = circuit p.net.now; runs = inputs_of p.runs.now; state = p.sim.state } };
 
-    ghost invariant = { λ p. (p.sim.net ≡ p.net.now) × (p.runs.now.width ≡ length (circuit p.net.now).inputs) × (length p.input ≡ p.runs.now.width) };
+    ghost invariant = { λ p. (p.sim.net ≡ p.net.now) × (p.runs.now.width ≡ length (circuit p.net.now).inputs) × (length p.input ≡ p.runs.now.width) × (length p.entered ≡ length (circuit p.net.now).flops) };
 }
 
 /// As many zeros.
@@ -57,11 +61,13 @@ impl<'a> Player<'a> {
     {
         let sim = Sim::new(alloc, net)?;
         let input = zeros(alloc, runs.width())?;
+        let entered = zeros(alloc, net.reset().len())?;
         Ok(Player {
             net,
             runs,
             sim,
             input,
+            entered,
         })
     }
 
@@ -72,29 +78,30 @@ impl<'a> Player<'a> {
         self.sim.state()
     }
 
-    /// How many runs there are.
-    pub fn count(&self) -> u32
-        ensures count { result ≡ length self.now.runs }
-        ensures few { result ≤ MAX_RUNS }
-    {
-        self.runs.count()
-    }
-
-    /// How many cycles a run has.
-    pub fn cycles(&self, run: u32) -> u32
-        requires from_one { 1 ≤ run }
-        requires there { run ≤ length self.now.runs }
-        ensures count { result ≡ length (run_of self.now.runs run) }
-        ensures few { result ≤ MAX_CYCLES }
-    {
-        self.runs.cycles(run)
-    }
-
     /// Goes back to the reset state.
     pub fn reset(&mut self)
         ensures { self.new ≡ in_state self.old (reset_state self.old.circuit) }
     {
         self.sim.load(self.net.reset());
+    }
+
+    /// How many bits a state has.
+    pub fn width(&self) -> usize
+        ensures { result ≡ length self.now.circuit.flops }
+    {
+        self.entered.len()
+    }
+
+    /// Goes to the state that the lane of a run shows in the flip-flops' planes.
+    pub fn enter(&mut self, planes: &[u64], run: u32)
+        requires from_one { 1 ≤ run }
+        requires there { run ≤ length self.old.runs }
+        requires size { length planes.now ≡ length self.old.circuit.flops * wide_of (length self.old.runs) }
+        ensures { self.new ≡ in_state self.old (lane (wide_of (length self.old.runs)) (length self.old.circuit.flops) planes.now (run - 1)) }
+    {
+        let wide = wide_for(self.runs);
+        read_lane(planes, wide, run as usize - 1, &mut self.entered);
+        self.sim.load(&self.entered);
     }
 
     /// One clock edge under the input of a cycle of a run.

@@ -2,12 +2,19 @@
 ghost use Rattle.std.specs.Prelude.{◌≡◌, length, map, option_map, slice_get, All, IfOk, IfSome};
 ghost use Rattle.bs_net.specs.Netlist.{circuit};
 ghost use Rattle.bs_scan.specs.Crash.{dump_at, recording_of, IsRecording};
-ghost use Rattle.bs_scan.specs.Moments.{first_moment as first_moment_of, moment, IsMoment};
+ghost use Rattle.bs_scan.specs.Moments.{first_moment as first_moment_of, moment, run_of, state_of, IsMoment};
+ghost use Rattle.bs_scan.specs.Signature.{stored_at};
+ghost use Rattle.bs_chip.specs.Lockstep.{TrackShows};
+ghost use Rattle.bs_chip.specs.Replay.{in_state};
+ghost use Rattle.bs_chip.specs.Stepped.{StandsAt};
 
-use crate::listed::Listed;
-use crate::moments::{first_moment, replay, unload};
+use crate::moments::{replay, unload};
+use crate::pass::Pass;
 use crate::player::Player;
-use bs_bits::{Bits, NoMemory};
+use crate::track::{first_moment, first_track, recall};
+use bs_bits::{Bits, List, NoMemory};
+use bs_break::Bank;
+use bs_lanes::Lanes;
 use bs_net::Netlist;
 use bs_scan::{Choice, Dump, HasState, Moment, SigReg};
 use bs_stim::Runs;
@@ -22,21 +29,50 @@ pub struct Hit {
     pub dump: Dump,
 }
 
-/// A chip that replays recorded runs. Contracts see the recording.
+/// How many bytes the planes of the cycles that a chip keeps may take, unless it is made with another bound.
+pub const MAX_TRACK_BYTES: usize = 536_870_912;
+
+/// A chip that replays recorded runs. It steps all runs in lock step and keeps the flip-flops' planes of each cycle, so
+/// that a cycle is stepped once and looked at many times; cycles beyond its bound are stepped again. Contracts see the
+/// recording, and the cycle at which the lanes stand.
 #[derive(Drop)]
 pub struct Chip<'a> {
     player: Player<'a>,
     register: SigReg<'a>,
+    pass: Pass<'a>,
+    track: List<List<u64>>,
+    most: usize,
 }
 
 impl<'a> Model for Chip<'a> {
-    ghost use Rattle.bs_scan.specs.Crash.{Recording, IsRecording};
+    ghost use Rattle.bs_chip.specs.Lockstep.{IsChip};
+    ghost use Rattle.bs_chip.specs.Stepped.{Stepped};
 
-    ghost Value = { Recording };
+    ghost Value = { Stepped };
 
-    ghost view = { λ chip. record { circuit = chip.player.circuit; choice = chip.register.choice; runs = chip.player.runs } };
+    ghost view = { λ chip. record { recording = record { circuit = chip.player.circuit; choice = chip.register.choice; runs = chip.player.runs }; at = chip.pass.cycle } };
 
-    ghost invariant = { λ chip. IsRecording (record { circuit = chip.player.circuit; choice = chip.register.choice; runs = chip.player.runs }) };
+    ghost invariant = { λ chip. IsChip (record { circuit = chip.player.circuit; choice = chip.register.choice; runs = chip.player.runs }) chip.pass chip.track };
+}
+
+/// Brings a player and a register to a moment: out of the track, or else by a replay of the run from reset.
+fn bring(
+    player: &mut Player<'_>,
+    register: &mut SigReg<'_>,
+    track: &List<List<u64>>,
+    moment: Moment,
+)
+    requires moment { IsMoment player.old.runs moment }
+    requires shows { TrackShows player.old.circuit player.old.runs track.now }
+    requires width { register.old.choice.width ≡ length player.old.circuit.flops }
+    ensures player { player.new ≡ in_state player.old (state_of player.old.circuit player.old.runs moment) }
+    ensures stored { register.new ≡ record { choice = register.old.choice; stored = stored_at player.old.circuit register.old.choice (run_of player.old.runs moment.run) moment.cycle } }
+{
+    if (moment.cycle as usize) < track.len() {
+        recall(player, register, track, moment);
+    } else {
+        replay(player, register, moment);
+    }
 }
 
 /// The dump of a state and of what a register holds, the state unloaded through the scan chain.
@@ -51,9 +87,13 @@ fn dump_of(alloc: Global, state: &Bits, register: &SigReg<'_>) -> Result<Dump, N
     Ok(Dump { state, stored })
 }
 
+/// How many cycles may be kept of so many words each.
+fn cycles_within(bytes: usize, words: usize) -> usize {
+    bytes / 8 / words.saturating_add(8)
+}
+
 impl<'a> Chip<'a> {
     /// A chip of a netlist, with a signature and runs of its widths.
-    #[tactic(auto, using(bs_scan::proofs::CrashLemmas::recording_is))]
     pub fn new(
         alloc: Global,
         net: &'a Netlist,
@@ -62,18 +102,43 @@ impl<'a> Chip<'a> {
     ) -> Result<Chip<'a>, NoMemory>
         requires states { choice.now.width ≡ length (circuit net.now).flops }
         requires inputs { runs.now.width ≡ length (circuit net.now).inputs }
-        ensures { IfOk result (λ chip. chip ≡ recording_of net.now.raw choice.now runs.now) }
+        ensures { IfOk result (λ chip. chip.recording ≡ recording_of net.now.raw choice.now runs.now) }
+    {
+        Chip::with_bound(alloc, net, choice, runs, MAX_TRACK_BYTES)
+    }
+
+    /// The same, where the planes of the cycles that are kept take at most so many bytes. The cycle of reset is kept in
+    /// any case.
+    pub fn with_bound(
+        alloc: Global,
+        net: &'a Netlist,
+        choice: &'a Choice,
+        runs: &'a Runs,
+        bytes: usize,
+    ) -> Result<Chip<'a>, NoMemory>
+        requires states { choice.now.width ≡ length (circuit net.now).flops }
+        requires inputs { runs.now.width ≡ length (circuit net.now).inputs }
+        ensures { IfOk result (λ chip. chip.recording ≡ recording_of net.now.raw choice.now runs.now) }
     {
         let _order = net.order();
         let _count = runs.count();
         let player = Player::new(alloc, net, runs)?;
+        let pass = Pass::new(alloc, net, runs)?;
+        let track = first_track(alloc, pass.planes())?;
         let register = SigReg::new(alloc, choice)?;
-        Ok(Chip { player, register })
+        let most = cycles_within(bytes, pass.planes().len());
+        Ok(Chip {
+            player,
+            register,
+            pass,
+            track,
+            most,
+        })
     }
 
     /// The recording has its widths, and its netlist has passed the check.
     pub fn is_recording(&self)
-        ensures { IsRecording self.now }
+        ensures { IsRecording self.now.recording }
     {
         let _state = self.player.state();
     }
@@ -81,29 +146,54 @@ impl<'a> Chip<'a> {
     /// The dump of a moment: its state, unloaded through the scan chain, and its stored signature. Runs are numbered
     /// from 1, and cycles from 0.
     pub fn dump_at(&mut self, alloc: Global, run: u32, cycle: u32) -> Result<Dump, NoMemory>
-        requires { IsMoment self.old.runs (moment run cycle) }
-        ensures dump { IfOk result (λ dump. dump ≡ dump_at self.old (moment run cycle)) }
+        requires { IsMoment self.old.recording.runs (moment run cycle) }
+        ensures dump { IfOk result (λ dump. dump ≡ dump_at self.old.recording (moment run cycle)) }
         ensures kept { self.new ≡ self.old }
     {
         let moment = Moment { run, cycle };
-        replay(&mut self.player, &mut self.register, moment);
+        bring(&mut self.player, &mut self.register, &self.track, moment);
         dump_of(alloc, self.player.state(), &self.register)
     }
 
-    /// The first moment, by cycle and then by run, at which a run is in a listed state, with its dump.
+    /// The first moment, by cycle and then by run, at which a run is in a listed state, with its dump. After a hit the
+    /// lanes stand at its cycle.
     pub fn first<S: HasState>(&mut self, alloc: Global, list: &[S]) -> Result<Option<Hit>, NoMemory>
-        requires { All (λ listed. length (S.shown listed) ≡ length self.old.circuit.flops) list.now }
-        ensures first { IfOk result (λ hit. first_moment_of self.old.circuit self.old.runs (map S.shown list.now) ≡ option_map (λ hit. moment hit.run hit.cycle) hit) }
-        ensures dump { IfOk result (λ hit. IfSome hit (λ hit. hit.dump ≡ dump_at self.old (moment hit.run hit.cycle))) }
-        ensures kept { self.new ≡ self.old }
+        requires { All (λ listed. length (S.shown listed) ≡ length self.old.recording.circuit.flops) list.now }
+        ensures first { IfOk result (λ hit. first_moment_of self.old.recording.circuit self.old.recording.runs (map S.shown list.now) ≡ option_map (λ hit. moment hit.run hit.cycle) hit) }
+        ensures dump { IfOk result (λ hit. IfSome hit (λ hit. hit.dump ≡ dump_at self.old.recording (moment hit.run hit.cycle))) }
+        ensures stands { IfOk result (λ hit. IfSome hit (λ hit. self.new.at ≡ hit.cycle)) }
+        ensures kept { self.new.recording ≡ self.old.recording }
     {
-        let listed = Listed::new(alloc, list)?;
-        match first_moment(&mut self.player, &listed) {
+        match self.moment_of(alloc, list)? {
             Some(Moment { run, cycle }) => {
                 let dump = self.dump_at(alloc, run, cycle)?;
                 Ok(Some(Hit { run, cycle, dump }))
             }
             None => Ok(None),
         }
+    }
+
+    /// The first moment at which a run is in a listed state. The lanes stand at its cycle then.
+    fn moment_of<S: HasState>(
+        &mut self,
+        alloc: Global,
+        list: &[S],
+    ) -> Result<Option<Moment>, NoMemory>
+        requires { All (λ listed. length (S.shown listed) ≡ length self.old.recording.circuit.flops) list.now }
+        ensures first { IfOk result (λ found. found ≡ first_moment_of self.old.recording.circuit self.old.recording.runs (map S.shown list.now)) }
+        ensures found { IfOk result (λ found. IfSome found (IsMoment self.old.recording.runs)) }
+        ensures stands { IfOk result (λ found. IfSome found (λ moment. self.new.at ≡ moment.cycle)) }
+        ensures kept { self.new.recording ≡ self.old.recording }
+    {
+        let bank = Bank::load(alloc, list, self.player.width())?;
+        first_moment(alloc, &mut self.pass, &bank, &mut self.track, self.most)
+    }
+
+    /// The chip's lanes. Each run that lasts to the cycle at which they stand is in its state there: after a `first` that
+    /// gave a hit, and until the next one, at the hit's cycle.
+    pub fn lanes(&self) -> &Lanes<'a>
+        ensures { StandsAt self.now.recording result.now self.now.at }
+    {
+        self.pass.lanes()
     }
 }

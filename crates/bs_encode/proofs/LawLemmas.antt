@@ -1,5 +1,6 @@
 -- The transition clauses say exactly what fits.
-use Rattle.std.proofs.Common.{◌≡◌, ℕ, zero, suc, ◌+◌, ◌-◌, ◌<◌, Bool, true, false, ◌&&◌, List, [], ◌∷◌, ◌++◌, map, length, get_or, refl, sym, ap, ◌∙◌, arith, subst, zero-add}
+use Rattle.std.proofs.Common.{◌≡◌, ℕ, zero, suc, ◌+◌, ◌-◌, ◌<◌, Bool, true, false, ◌&&◌, List, [], ◌∷◌, ◌++◌, map, length, get_or, refl, sym, ap, ◌∙◌}
+use Rattle.std.proofs.Common.{arith, subst, zero-add}
 use Rattle.std.specs.List.{AllByRecursion, All, range_with_len, flat_map}
 use Rattle.std.proofs.lemmas.List.{length-map, get_or_append_left}
 use Rattle.std.proofs.lemmas.List.Elements.{All-from_recursion, recursion_from_All}
@@ -14,11 +15,14 @@ use Rattle.bs_net.specs.Parts.{Parts, PartsArePlaced}
 use Rattle.bs_net.specs.Netlist.{circuit_of, clock_of}
 use Rattle.bs_net.proofs.NetlistLemmas.{without_placed}
 use Rattle.bs_net.proofs.NextLemmas.{below_from_range, range_from_below}
-use Rattle.bs_encode.specs.Transition.{net_var, first_helper, first_next, first_item, state_vars, gates_clauses, unit_clauses, next_clauses, items_clauses, table_clauses, transition_clauses}
+use Rattle.bs_encode.specs.Transition.{net_var, first_helper, first_next, first_item, state_vars, gates_clauses, unit_clauses, next_clauses}
+use Rattle.bs_encode.specs.Transition.{items_clauses, table_clauses, transition_clauses}
 use Rattle.bs_encode.specs.Meaning.{IsClosed, ShowsStep, nets_of, ClausesEqualGates}
 use Rattle.bs_encode.proofs.TidyLemmas.{meets, meets_all, meets-tidied}
 use Rattle.bs_encode.proofs.TableLemmas.{and_true, meets_all-append, Has, has_left, has_right}
-use Rattle.bs_encode.proofs.PartLemmas.{OnNets, GatePlaced, FlopPlaced, ItemPlaced, OnState, UnitsSay, gates_bits, length-gates_bits, items_bits, gates-sound, gates-complete, next-sound, next-complete, items-sound, items-complete, unit-sound, unit-complete, flat-sound, flat-complete}
+use Rattle.bs_encode.proofs.PartLemmas.{OnNets, GatePlaced, FlopPlaced, ItemPlaced, OnState, UnitsSay, gates_bits, length-gates_bits, items_bits}
+use Rattle.bs_encode.proofs.PartLemmas.{gates-sound, gates-complete, next-sound, next-complete, items-sound, items-complete, unit-sound}
+use Rattle.bs_encode.proofs.PartLemmas.{unit-complete, flat-sound, flat-complete}
 
 -- ---- each clause is met, and all are
 

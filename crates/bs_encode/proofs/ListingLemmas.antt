@@ -1,5 +1,6 @@
 -- What the lists of candidates need of the encoding of a checked netlist.
-use Rattle.std.proofs.Common.{◌≡◌, ℕ, ◌+◌, ◌-◌, ◌<◌, ◌≤◌, ◌^◌, Bool, true, false, not, cond, List, [], ◌∷◌, ◌++◌, map, length, eqb, leb, refl, sym, ap, ◌∙◌, arith, subst}
+use Rattle.std.proofs.Common.{◌≡◌, ℕ, ◌+◌, ◌-◌, ◌<◌, ◌≤◌, ◌^◌, Bool, true, false, not, cond, List, [], ◌∷◌, ◌++◌, map, length, eqb, leb, refl, sym}
+use Rattle.std.proofs.Common.{ap, ◌∙◌, arith, subst}
 use Rattle.std.specs.Prelude.{slice_get, slice_index_or, unwrap_or, IsTrue}
 use Rattle.std.specs.Bool.{beq}
 use Rattle.std.specs.List.{AllByRecursion, All, list_any}
@@ -23,7 +24,8 @@ use Rattle.bs_encode.specs.Assuming.{signed, assumptions_for, block_for}
 use Rattle.bs_encode.specs.Meaning.{IsClosed}
 use Rattle.bs_encode.specs.Listing.{IsTidy, PredecessorsAreShown, SolutionsArePredecessors}
 use Rattle.bs_encode.proofs.RangeLemmas.{InRange, Ranged, join, transition_ranged, states_ranged, next_literals_ranged, signatures_ranged}
-use Rattle.bs_encode.proofs.DistinctLemmas.{left_all, right_all, apart_from_each, weaken, distinct_cons, append_distinct, signed_all, signed_distinct, below_numbers, above_items, items_distinct}
+use Rattle.bs_encode.proofs.DistinctLemmas.{left_all, right_all, apart_from_each, weaken, distinct_cons, append_distinct, signed_all, signed_distinct}
+use Rattle.bs_encode.proofs.DistinctLemmas.{below_numbers, above_items, items_distinct}
 use Rattle.bs_encode.specs.Cycle.{bits_on, IsTransition}
 use Rattle.bs_encode.proofs.LiteralLemmas.{AllTrue, still_met, same_bits, signs_true, bits_shown, block_broken, met_or_not}
 use Rattle.bs_encode.proofs.CycleLemmas.{is_transition}

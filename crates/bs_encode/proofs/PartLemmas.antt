@@ -1,5 +1,6 @@
 -- What the clauses of the gates, the units, the flip-flops and the items say.
-use Rattle.std.proofs.Common.{◌≡◌, ℕ, zero, suc, ◌+◌, ◌-◌, ◌<◌, ◌≤◌, ◌==◌, Bool, true, false, ◌&&◌, ◌||◌, cond, List, [], ◌∷◌, ◌++◌, map, length, get_or, refl, sym, ap, ◌∙◌, arith, subst, length-append}
+use Rattle.std.proofs.Common.{◌≡◌, ℕ, zero, suc, ◌+◌, ◌-◌, ◌<◌, ◌≤◌, ◌==◌, Bool, true, false, ◌&&◌, ◌||◌, cond, List, [], ◌∷◌, ◌++◌, map, length}
+use Rattle.std.proofs.Common.{get_or, refl, sym, ap, ◌∙◌, arith, subst, length-append}
 use Rattle.std.specs.Prelude.{sum_by, filter}
 use Rattle.std.specs.Bool.{beq}
 use Rattle.std.specs.List.{AllByRecursion, range_with_len, flat_map}
@@ -17,11 +18,13 @@ use Rattle.bs_net.specs.declared.net.Const.{Const}
 use Rattle.bs_net.specs.Circuit.{Circuit, gate_value, bit_at, shown, loaded, is_odd, is_zero_net}
 use Rattle.bs_scan.specs.Signature.{parity_of}
 use Rattle.bs_encode.specs.Tables.{lit, gate_clauses, odd_clauses, helpers_of}
-use Rattle.bs_encode.specs.Transition.{net_var, gate_helpers, item_helpers, item_vars, state_vars, chosen, gates_clauses, unit_clauses, load_clauses, next_clauses, items_clauses}
+use Rattle.bs_encode.specs.Transition.{net_var, gate_helpers, item_helpers, item_vars, state_vars, chosen, gates_clauses, unit_clauses, load_clauses}
+use Rattle.bs_encode.specs.Transition.{next_clauses, items_clauses}
 use Rattle.bs_encode.specs.Encoded.{literals}
 use Rattle.std.proofs.Common.{◌^◌, ◌≤◌, append_assoc}
 use Rattle.bs_encode.proofs.TidyLemmas.{meets, meets_all}
-use Rattle.bs_encode.proofs.TableLemmas.{beq-from, and_true, meets_all-append, Has, has_left, has_right, helper_bits, gate_bits, gate-sound, gate-complete, odd-sound, odd-complete, same_means, length-helper_bits, length-gate_bits}
+use Rattle.bs_encode.proofs.TableLemmas.{beq-from, and_true, meets_all-append, Has, has_left, has_right, helper_bits, gate_bits, gate-sound}
+use Rattle.bs_encode.proofs.TableLemmas.{gate-complete, odd-sound, odd-complete, same_means, length-helper_bits, length-gate_bits}
 
 -- the assignment shows v on the first nets
 abbrev pub OnNets : (ℕ → Bool) → List Bool → ℕ → Type 0

@@ -1,5 +1,6 @@
 -- Every literal of the transition clauses is one of the encoding's variables.
-use Rattle.std.proofs.Common.{◌≡◌, ℕ, zero, suc, ◌+◌, ◌-◌, ◌<◌, ◌≤◌, eqb, Bool, true, false, not, cond, List, [], ◌∷◌, ◌++◌, map, length, get_or, sym, ap, arith, subst}
+use Rattle.std.proofs.Common.{◌≡◌, ℕ, zero, suc, ◌+◌, ◌-◌, ◌<◌, ◌≤◌, eqb, Bool, true, false, not, cond, List, [], ◌∷◌, ◌++◌, map, length, get_or, sym}
+use Rattle.std.proofs.Common.{ap, arith, subst}
 use Rattle.std.specs.Prelude.{sum_by, filter}
 use Rattle.std.specs.List.{AllByRecursion, range_with_len, flat_map}
 use Rattle.std.proofs.lemmas.List.{length-map}
@@ -18,7 +19,9 @@ use Rattle.bs_net.specs.declared.net.Const.{Const}
 use Rattle.bs_net.specs.Circuit.{Circuit, is_zero_net}
 use Rattle.bs_net.proofs.NextLemmas.{range_from_below}
 use Rattle.bs_encode.specs.Tables.{lit, all_clauses, any_clauses, same_clauses, differ_clauses, odd_from, odd_clauses, first_clauses, gate_clauses, helpers_of}
-use Rattle.bs_encode.specs.Transition.{net_var, gate_helpers, item_helpers, item_vars, state_vars, first_helper, first_next, first_item, variables, chosen, gates_clauses, unit_clauses, load_clauses, next_clauses, items_clauses, table_clauses, is_tautology, tidied, transition_clauses}
+use Rattle.bs_encode.specs.Transition.{net_var, gate_helpers, item_helpers, item_vars, state_vars, first_helper, first_next, first_item, variables}
+use Rattle.bs_encode.specs.Transition.{chosen, gates_clauses, unit_clauses, load_clauses, next_clauses, items_clauses, table_clauses, is_tautology}
+use Rattle.bs_encode.specs.Transition.{tidied, transition_clauses}
 use Rattle.bs_encode.specs.Encoded.{literals}
 use Rattle.bs_encode.specs.Meaning.{IsClosed}
 use Rattle.bs_encode.proofs.PartLemmas.{GatePlaced, FlopPlaced}

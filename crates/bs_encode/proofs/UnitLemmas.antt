@@ -1,5 +1,7 @@
 -- The tables of units say what the definition says.
-use Rattle.std.proofs.Common.{◌≡◌, ℕ, suc, zero, ◌<◌, ◌≤◌, ◌+◌, ◌==◌, Bool, true, false, not, ◌||◌, cond, List, [], ◌∷◌, ◌++◌, map, length, get_or, set, replicate, refl, arith, subst, ap, sym, ◌∙◌, ⊎_elim, nat_eq, eq-eqb, ne_eqb, length-set, get_or-set_same, get_or-set_other, Option, Some, None, append-nil, append_assoc}
+use Rattle.std.proofs.Common.{◌≡◌, ℕ, suc, zero, ◌<◌, ◌≤◌, ◌+◌, ◌==◌, Bool, true, false, not, ◌||◌, cond, List, [], ◌∷◌, ◌++◌, map, length, get_or}
+use Rattle.std.proofs.Common.{set, replicate, refl, arith, subst, ap, sym, ◌∙◌, ⊎_elim, nat_eq, eq-eqb, ne_eqb, length-set, get_or-set_same}
+use Rattle.std.proofs.Common.{get_or-set_other, Option, Some, None, append-nil, append_assoc}
 use Rattle.std.specs.Prelude.{filter}
 use Rattle.std.specs.List.{AllByRecursion, flat_map, range_with_len, list_any, IsDistinct}
 use Rattle.std.proofs.lemmas.Bool.{cases_eq, eqb-false}

@@ -1,5 +1,6 @@
 //! The units of the constants and of the nets that show 0.
-ghost use Rattle.std.specs.Prelude.{◌≡◌, ◌<◌, ◌≤◌, ◌+◌, ◌++◌, ◌==◌, ◌&&◌, ℕ, not, true, false, None, Option, length, map, replicate, All, IfOk, OnOk, slice_index_or, slice_set};
+ghost use Rattle.std.specs.Prelude.{◌≡◌, ◌<◌, ◌≤◌, ◌+◌, ◌++◌, ◌==◌, ◌&&◌, ℕ, not, true, false, None, Option, length, map, replicate, All, IfOk, OnOk};
+ghost use Rattle.std.specs.Prelude.{slice_index_or, slice_set};
 ghost use Rattle.std.specs.List.{flat_map, range_with_len, list_any};
 ghost use Rattle.bs_net.specs.declared.limits.TheConstants.{MAX_NETS};
 ghost use Rattle.bs_net.specs.Circuit.{number, drivers};

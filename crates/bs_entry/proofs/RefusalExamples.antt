@@ -6,9 +6,9 @@ use Rattle.bs_syntax.specs.declared.fault.What.TheVariants as what
 use Rattle.bs_scan.specs.declared.fault.ChoiceFault.TheVariants as choice
 use Rattle.bs_scan.specs.declared.fault.DumpFault.TheVariants as dump
 use Rattle.bs_stim.specs.declared.fault.StimFault.TheVariants as stimulus
-use Rattle.bs_job.specs.declared.file.File.TheVariants.{Netlist, Signature, Stimulus, Dump}
+use Rattle.bs_job.specs.declared.file.File.TheVariants.{Netlist, Signature, Stimulus, Dump, Report}
 use Rattle.bs_job.specs.Files.{refusal_line}
-use Rattle.bs_entry.specs.Refusals.{netlist_text_words, signature_words, stimulus_words, dump_words, range_words}
+use Rattle.bs_entry.specs.Refusals.{netlist_text_words, signature_words, stimulus_words, dump_words, range_words, too_large_words}
 
 empty_netlist : refusal_line Netlist (netlist_text_words (verilog.Syntax 0)) ≡ codes "refused netlist Syntax 0\n"
 unfolding digits
@@ -58,3 +58,6 @@ not_at_reset = refl
 
 no_such_moment : refusal_line Dump range_words ≡ codes "refused dump Range\n"
 no_such_moment = refl
+
+too_large : refusal_line Report too_large_words ≡ codes "refused report TooLarge\n"
+too_large = refl

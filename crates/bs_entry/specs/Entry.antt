@@ -1,5 +1,5 @@
 -- The files of a job, one after the other, and what they make ready.
-use Rattle.std.specs.Prelude.{ℕ, List, length}
+use Rattle.std.specs.Prelude.{ℕ, Bool, List, length}
 use Rattle.bs_net.specs.Netlist.{circuit_of}
 use Rattle.bs_net.specs.Parts.{Parts}
 use Rattle.bs_stim.specs.Runs.{Stimulus}
@@ -10,7 +10,7 @@ use Rattle.bs_scan.specs.declared.dump.Dump.{Dump}
 use Rattle.bs_report.specs.declared.report.Report.{Report}
 use Rattle.bs_job.specs.declared.file.File.TheVariants as files
 use Rattle.bs_job.specs.Plan.{Plan, end, ◌>>=◌, fetched, read_as}
-use Rattle.bs_entry.specs.Readings.{netlist_in, signature_in, stimulus_in, dump_in, moment_in, report_read}
+use Rattle.bs_entry.specs.Readings.{netlist_in, signature_in, stimulus_in, dump_in, moment_in, report_read, size_in}
 
 -- the names of the first three files
 pub record FileNames : Type 0 where
@@ -104,3 +104,10 @@ claimed_of names dump report = do
   crashed ← crashed_of names dump
   claimed ← report_of report
   end record { crashed = crashed; report = claimed }
+
+-- five files, and last whether a waveform of the report's trace is not too large
+abbrev pub drawn_of : FileNames → (dump report : List ℕ) → Plan Parts Claimed
+drawn_of names dump report = do
+  claimed ← claimed_of names dump report
+  fits ← read_as files.Report (size_in claimed.crashed.setup.raw claimed.report)
+  end claimed

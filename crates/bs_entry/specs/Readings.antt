@@ -1,5 +1,5 @@
 -- What the bytes of a file are to a job: a value, or the reason of their refusal.
-use Rattle.std.specs.Prelude.{ℕ, ◌&&◌, nat_le, Bool, List, length, Result, Ok, Err, if◌then◌else◌}
+use Rattle.std.specs.Prelude.{ℕ, ◌*◌, ◌&&◌, nat_le, Bool, true, List, length, Result, Ok, Err, if◌then◌else◌}
 use Rattle.bs_bits.specs.Lines.{lines_of}
 use Rattle.bs_net.specs.Circuit.{reset_state}
 use Rattle.bs_net.specs.Netlist.{circuit_of}
@@ -16,7 +16,9 @@ use Rattle.bs_verilog.specs.Netlist.{netlist_text}
 use Rattle.bs_report.specs.declared.report.Report.{Report}
 use Rattle.bs_report.specs.Reading.{report_in}
 use Rattle.bs_job.specs.Plan.{Reason}
-use Rattle.bs_entry.specs.Refusals.{netlist_text_reason, check_reason, signature_reason, stimulus_reason, dump_reason, range_reason, report_reason, with_reason}
+use Rattle.bs_entry.specs.Refusals.{netlist_text_reason, check_reason, signature_reason, stimulus_reason, dump_reason, range_reason, report_reason}
+use Rattle.bs_entry.specs.Refusals.{too_large_reason, with_reason}
+use Rattle.bs_entry.specs.declared.limits.TheConstants.{MAX_WAVE_VALUES}
 
 -- parts that pass the check of a netlist
 abbrev pub checked_in : Parts → Result Parts (Reason Parts)
@@ -54,3 +56,10 @@ moment_in runs run cycle = if has_moment runs run cycle then Ok (moment run cycl
 -- a report
 abbrev pub report_read : List ℕ → Result Report (Reason Parts)
 report_read bytes = with_reason report_reason (report_in bytes)
+
+-- whether a waveform of the report's trace has few enough values: one for each net at each state
+abbrev pub is_drawable : Parts → Report → Bool
+is_drawable raw report = nat_le (length raw.names * length report.states) MAX_WAVE_VALUES
+
+abbrev pub size_in : Parts → Report → Result Bool (Reason Parts)
+size_in raw report = if is_drawable raw report then Ok true else Err too_large_reason

@@ -77,6 +77,10 @@ report_words report.NoMemory = []
 abbrev pub range_words : List ℕ
 range_words = codes "Range"
 
+-- a report whose trace has too large a waveform
+abbrev pub too_large_words : List ℕ
+too_large_words = codes "TooLarge"
+
 -- ---- the check of a netlist
 
 -- the word for what there is too much of
@@ -136,6 +140,9 @@ report_reason fault = exactly (report_words fault)
 
 abbrev pub range_reason : Reason Parts
 range_reason = exactly range_words
+
+abbrev pub too_large_reason : Reason Parts
+too_large_reason = exactly too_large_words
 
 -- what a reader's definition wants, with a reason for its fault
 abbrev pub with_reason : {V F : Type 0} → (F → Reason Parts) → Result V F → Result V (Reason Parts)

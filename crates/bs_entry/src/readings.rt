@@ -1,5 +1,5 @@
 //! What a reader makes of the bytes of a file, with the words of its refusal.
-ghost use Rattle.std.specs.Prelude.{◌≡◌, ◌≤◌, length, IfOk};
+ghost use Rattle.std.specs.Prelude.{◌≡◌, ◌≤◌, length, true, IfOk};
 ghost use Rattle.std.specs.Bool.{OnTrue};
 ghost use Rattle.bs_net.specs.Netlist.{parts_of, circuit};
 ghost use Rattle.bs_job.specs.declared.limits.TheConstants.{MAX_NETLIST_BYTES, MAX_REPORT_BYTES, MAX_SIGNATURE_BYTES, MAX_STIMULUS_BYTES};
@@ -10,12 +10,13 @@ ghost use Rattle.bs_scan.specs.Crash.{DumpFits};
 ghost use Rattle.bs_scan.specs.Moments.{IsMoment};
 ghost use Rattle.bs_job.specs.Walks.{Reads};
 ghost use Rattle.bs_entry.specs.Entry.{input_width};
-ghost use Rattle.bs_entry.specs.Readings.{checked_in, dump_in, has_moment, moment_in, netlist_in, report_read, signature_in, stimulus_in};
+ghost use Rattle.bs_entry.specs.Readings.{checked_in, dump_in, has_moment, is_drawable, moment_in, netlist_in, report_read, signature_in, size_in, stimulus_in};
 ghost use Rattle.bs_entry.specs.Refusals.{CheckSays};
 
+use crate::limits::MAX_WAVE_VALUES;
 use crate::refusals::{
     check_refusal, dump_refusal, netlist_text_refusal, range_refusal, report_refusal,
-    signature_refusal, stimulus_refusal,
+    signature_refusal, stimulus_refusal, too_large_refusal,
 };
 use bs_job::Refusal;
 use bs_net::{Netlist, Raw};
@@ -123,5 +124,27 @@ pub fn read_report(alloc: Global, bytes: &[u8]) -> Result<Report, Refusal>
     match Report::read(alloc, bytes) {
         Ok(report) => Ok(report),
         Err(fault) => Err(report_refusal(alloc, fault)),
+    }
+}
+
+/// Whether a waveform of the report's trace has few enough values.
+fn is_drawable(net: &Netlist, report: &Report) -> bool
+    ensures { result ≡ is_drawable net.now.raw report.now }
+{
+    let nets = u64::from(net.raw().names.len());
+    match nets.checked_mul(report.states.len() as u64) {
+        Some(values) => values <= MAX_WAVE_VALUES,
+        None => false,
+    }
+}
+
+/// The size of a waveform of the report's trace.
+pub fn check_size(alloc: Global, net: &Netlist, report: &Report) -> Result<(), Refusal>
+    ensures { Reads CheckSays (λ _. true) (size_in net.now.raw report.now) result }
+{
+    if is_drawable(net, report) {
+        Ok(())
+    } else {
+        Err(too_large_refusal(alloc))
     }
 }

@@ -12,7 +12,8 @@ ghost use Rattle.bs_scan.specs.declared.fault.DumpFault.TheVariants.{NoMemory as
 ghost use Rattle.bs_stim.specs.declared.fault.StimFault.TheVariants.{NoMemory as StimWant};
 ghost use Rattle.bs_report.specs.declared.fault.ReportFault.TheVariants.{NoMemory as ReportWant};
 ghost use Rattle.bs_job.specs.declared.walk.Refusal.TheVariants.{NoMemory as Want};
-ghost use Rattle.bs_entry.specs.Refusals.{HasCheckWords, HasWords, check_words, count_word, dump_words, gate_piece, key_of, netlist_text_words, range_words, report_words, signature_words, stimulus_words, too_many_words, unsupported_words};
+ghost use Rattle.bs_entry.specs.Refusals.{HasCheckWords, HasWords, check_words, count_word, dump_words, gate_piece, key_of, netlist_text_words};
+ghost use Rattle.bs_entry.specs.Refusals.{range_words, report_words, signature_words, stimulus_words, too_large_words, too_many_words, unsupported_words};
 
 use bs_bits::{NoMemory, push_number, push_piece};
 use bs_job::Refusal;
@@ -286,4 +287,11 @@ pub fn range_refusal(alloc: Global) -> Refusal
     ensures { HasWords range_words result }
 {
     worded(alloc, b"Range")
+}
+
+/// The refusal of a report whose trace has too large a waveform.
+pub fn too_large_refusal(alloc: Global) -> Refusal
+    ensures { HasWords too_large_words result }
+{
+    worded(alloc, b"TooLarge")
 }

@@ -4,12 +4,12 @@ ghost use Rattle.bs_net.specs.Netlist.{circuit};
 ghost use Rattle.bs_scan.specs.Crash.{DumpFits};
 ghost use Rattle.bs_job.specs.Walks.{Walks};
 ghost use Rattle.bs_report.specs.declared.limits.TheConstants.{MAX_STEPS};
-ghost use Rattle.bs_entry.specs.Entry.{claimed_of, crashed_of, dump_of, netlist_of, placed_of, report_of, setup_of, signature_of, stimulus_of};
+ghost use Rattle.bs_entry.specs.Entry.{claimed_of, crashed_of, drawn_of, dump_of, netlist_of, placed_of, report_of, setup_of, signature_of, stimulus_of};
 ghost use Rattle.bs_entry.specs.Ready.{claimed_in, crashed_in, names_in, placed_in, setup_in};
 ghost use Rattle.bs_entry.specs.Refusals.{CheckSays};
 
 use crate::readings::{
-    read_dump, read_moment, read_netlist, read_report, read_signature, read_stimulus,
+    check_size, read_dump, read_moment, read_netlist, read_report, read_signature, read_stimulus,
 };
 use crate::ready::{Claimed, Crashed, FileNames, Placed, Setup};
 use bs_job::{File, JobFault, fetch_file, settle};
@@ -138,4 +138,20 @@ pub fn take_claimed<S: Shelf>(
     let crashed = take_crashed(alloc, shelf, names, dump)?;
     let report = take_report(alloc, shelf, report)?;
     Ok(Claimed { crashed, report })
+}
+
+/// The same, where a waveform of the report's trace is not too large.
+pub fn take_drawn<S: Shelf>(
+    alloc: Global,
+    shelf: &mut S,
+    names: &FileNames<'_>,
+    dump: &str,
+    report: &str,
+) -> Result<Claimed, JobFault>
+    ensures { Walks CheckSays S.held S.faults S.leads shelf.old shelf.new (drawn_of (names_in names.now) dump.now report.now) claimed_in result }
+{
+    let claimed = take_claimed(alloc, shelf, names, dump, report)?;
+    let size = check_size(alloc, &claimed.crashed.setup.net, &claimed.report);
+    let _fits = settle(File::Report, size)?;
+    Ok(claimed)
 }

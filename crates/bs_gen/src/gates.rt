@@ -2,7 +2,8 @@
 ghost use Rattle.std.specs.Prelude.{◌≡◌, ◌<◌, ◌++◌, OnOk};
 ghost use Rattle.bs_gen.specs.Draws.{after};
 ghost use Rattle.bs_gen.specs.Each.{each};
-ghost use Rattle.bs_gen.specs.Gates.{bit_lines, carry_line, carry_terminal, counter_text, drawn_line, drawn_text, exchange_line, feed_line, feed_terminals, feeds_text, gate_line, kind_word, terminal};
+ghost use Rattle.bs_gen.specs.Gates.{bit_lines, carry_line, carry_terminal, counter_text, drawn_line, drawn_text, exchange_line, feed_line};
+ghost use Rattle.bs_gen.specs.Gates.{feed_terminals, feeds_text, gate_line, kind_word, terminal};
 
 use crate::draws::Draws;
 use crate::names::{push_counter_bit, push_drawn_net, push_member, push_stage};

@@ -1,5 +1,6 @@
 -- A trace ends an execution from reset.
-use Rattle.std.proofs.Common.{◌≡◌, ℕ, suc, zero, ◌<◌, ◌+◌, Bool, true, false, cond, List, [], ◌∷◌, ◌++◌, map, reverse, take, length, get_or, refl, ap, subst, sym, ◌∙◌, ◌⊎◌, inl, inr, ⊎_elim, Option, Some, None, arith, add-one, append_assoc}
+use Rattle.std.proofs.Common.{◌≡◌, ℕ, suc, zero, ◌<◌, ◌+◌, Bool, true, false, cond, List, [], ◌∷◌, ◌++◌, map, reverse, take, length, get_or, refl, ap}
+use Rattle.std.proofs.Common.{subst, sym, ◌∙◌, ◌⊎◌, inl, inr, ⊎_elim, Option, Some, None, arith, add-one, append_assoc}
 use Rattle.std.specs.Prelude.{option_map, option_and_then, filter_map, find, ◌||◌}
 use Rattle.std.specs.List.{AllByRecursion as Each, range_with_len, cons_option, last_or}
 use Rattle.std.proofs.lemmas.Bool.{true≢false, false≢true}

@@ -1,5 +1,6 @@
 -- A good report whose log is right is valid.
-use Rattle.std.proofs.Common.{◌≡◌, ◌≢◌, ℕ, suc, zero, ◌<◌, ◌≤◌, ◌+◌, ◌-◌, Bool, true, false, List, [], ◌∷◌, ◌++◌, map, length, get_or, refl, ap, subst, sym, ◌∙◌, Option, Some, None, arith}
+use Rattle.std.proofs.Common.{◌≡◌, ◌≢◌, ℕ, suc, zero, ◌<◌, ◌≤◌, ◌+◌, ◌-◌, Bool, true, false, List, [], ◌∷◌, ◌++◌, map, length, get_or, refl, ap}
+use Rattle.std.proofs.Common.{subst, sym, ◌∙◌, Option, Some, None, arith}
 use Rattle.std.specs.Prelude.{slice_get, option_map, not, ◌&&◌, ◌||◌, ◌==◌, nat_le, if◌then◌else◌}
 use Rattle.std.specs.Option.{IsSomeAnd}
 use Rattle.std.specs.List.{AllByRecursion as Each, range_with_len, last_or}
@@ -37,7 +38,9 @@ use Rattle.bs_good.specs.Chain.{present_of, present_of_hit, present_after, last_
 use Rattle.bs_good.specs.Stop.{StopsFor, LastIs, IsFinished}
 use Rattle.bs_good.specs.Trace.{trace_states, trace_inputs}
 use Rattle.bs_good.specs.Good.{IsGood}
-use Rattle.bs_good.specs.Valid.{unless, all_bits_eq, due_at, has_state, has_stored, is_right_cand, is_right_count, same_hit, step_parts, log_parts, each_step, parts_of, first_of_all, first_failing, is_cause, cause_of, cause_at, cause_after, cause_of_end, stop_number, cand_at, no_cand, lines_at, IsLogged, IsValid}
+use Rattle.bs_good.specs.Valid.{unless, all_bits_eq, due_at, has_state, has_stored, is_right_cand, is_right_count, same_hit, step_parts, log_parts}
+use Rattle.bs_good.specs.Valid.{each_step, parts_of, first_of_all, first_failing, is_cause, cause_of, cause_at, cause_after, cause_of_end}
+use Rattle.bs_good.specs.Valid.{stop_number, cand_at, no_cand, lines_at, IsLogged, IsValid}
 use Rattle.bs_good.specs.ValidLaw.{GoodIsValid}
 use Rattle.bs_good.proofs.ProgressLemmas.{all_at, hit_at}
 use Rattle.bs_good.proofs.ExecutionLemmas.{leads_next, led_widths}

@@ -1,5 +1,6 @@
 -- What it says that no part of a report fails.
-use Rattle.std.proofs.Common.{◌≡◌, ◌≢◌, ℕ, suc, zero, ◌<◌, ◌≤◌, ◌+◌, ◌-◌, Bool, true, false, cond, List, [], ◌∷◌, ◌++◌, map, length, get_or, refl, ap, subst, sym, ◌∙◌, ◌⊎◌, inl, inr, Option, Some, None, arith}
+use Rattle.std.proofs.Common.{◌≡◌, ◌≢◌, ℕ, suc, zero, ◌<◌, ◌≤◌, ◌+◌, ◌-◌, Bool, true, false, cond, List, [], ◌∷◌, ◌++◌, map, length, get_or, refl, ap}
+use Rattle.std.proofs.Common.{subst, sym, ◌∙◌, ◌⊎◌, inl, inr, Option, Some, None, arith}
 use Rattle.std.specs.Prelude.{slice_get, option_map, ◌&&◌, ◌||◌, ◌==◌, nat_le, nat_lt}
 use Rattle.std.specs.Option.{IsSomeAnd}
 use Rattle.std.specs.List.{AllByRecursion as Each, range_with_len, last_or}
@@ -49,7 +50,9 @@ use Rattle.bs_good.specs.Chain.{present_of, present_of_hit, present_after, last_
 use Rattle.bs_good.specs.Stop.{StopsFor, IsFinished}
 use Rattle.bs_good.specs.Trace.{IsTrace, trace_states, trace_inputs}
 use Rattle.bs_log.specs.Shown.{Basis}
-use Rattle.bs_good.specs.Valid.{unless, all_bits_eq, due_at, has_state, has_stored, is_right_cand, is_right_count, same_hit, step_parts, log_parts, each_step, parts_of, first_of_all, first_failing, is_cause, cause_of, cause_at, cause_after, cause_of_end, stop_number, IsValid, cand_at, no_cand, is_right_finish, lines_at}
+use Rattle.bs_good.specs.Valid.{unless, all_bits_eq, due_at, has_state, has_stored, is_right_cand, is_right_count, same_hit, step_parts, log_parts}
+use Rattle.bs_good.specs.Valid.{each_step, parts_of, first_of_all, first_failing, is_cause, cause_of, cause_at, cause_after, cause_of_end}
+use Rattle.bs_good.specs.Valid.{stop_number, IsValid, cand_at, no_cand, is_right_finish, lines_at}
 
 abbrev pub IsRight : Option Part → Type 0
 IsRight part = part ≡ None

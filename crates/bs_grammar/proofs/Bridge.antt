@@ -1,11 +1,12 @@
 -- The lexemes of a text show the symbols of its tokens.
-use Rattle.std.proofs.Common.{◌≡◌, ℕ, zero, suc, ◌+◌, ◌-◌, ◌<◌, ◌≤◌, Bool, true, false, cond, List, [], ◌∷◌, ◌++◌, length, map, get_or, Option, Some, None, refl, sym, ap, ◌∙◌, arith, subst, ◌⊎◌, inl, inr, nat_lt}
+use Rattle.std.proofs.Common.{◌≡◌, ℕ, suc, ◌+◌, ◌-◌, ◌<◌, Bool, true, false, cond, List, [], ◌∷◌, ◌++◌, map, get_or, Option, Some}
+use Rattle.std.proofs.Common.{None, refl, sym, ap, ◌∙◌, arith, inl, inr}
 use Rattle.std.specs.Prelude.{slice_get, slice_index_or, min, unwrap_or, slice_index}
 use Rattle.std.specs.List.{list_all}
 use Rattle.std.specs.Str.{bytes_eq}
 use Rattle.std.proofs.lemmas.List.{map-append}
 use Rattle.std.specs.Cmp.Lexicographic.{bytes_decides}
-use Rattle.std.proofs.lemmas.Bool.{ltb-true, le-ltb, lt-ltb}
+use Rattle.std.proofs.lemmas.Bool.{le-ltb, lt-ltb}
 use Rattle.std.proofs.lemmas.List.Quantifiers.{position-Some}
 use Rattle.bs_net.specs.Names.{number_of}
 use Rattle.bs_lex.specs.Bytes.{◌∈◌, is_digit}
@@ -17,12 +18,12 @@ use Rattle.bs_lexeme.specs.declared.lexeme.Sort.TheVariants as sorts
 use Rattle.bs_lexeme.specs.declared.lexeme.Word as code
 use Rattle.bs_lexeme.specs.declared.lexeme.Cell.{Cell}
 use Rattle.bs_lexeme.specs.Lexemes
-use Rattle.bs_lexeme.specs.Lexemes.{sort_of, sort_of_name, sort_of_number, word_of, is_one_bit, spelling, token_sort, is_name, is_great, name_text, without_zeros, decimal_from, names_of, number_in, numbered_sort, numbered_lexeme, lexeme_of, lexemes_of, end_of}
+use Rattle.bs_lexeme.specs.Lexemes.{sort_of, sort_of_name, sort_of_number, word_of, is_one_bit, spelling, token_sort, is_name, is_great, name_text}
+use Rattle.bs_lexeme.specs.Lexemes.{without_zeros, decimal_from, names_of, number_in, numbered_sort, numbered_lexeme, lexeme_of, lexemes_of, end_of}
 use Rattle.bs_lexeme.specs.Apart.{IsDigits, value}
 use Rattle.bs_lexeme.proofs.ApartLemmas.{le_or, sees, same_value, is_small, is_greater, placed, place}
 use Rattle.bs_grammar.specs.Symbols.{Symbol, Text, digits, finish, symbol_seen, symbol_of, symbols_of}
 use Rattle.bs_grammar.specs.Symbols as symbols
-use Rattle.bs_grammar.specs.Views.{number_view}
 use Rattle.bs_grammar.proofs.Shown.{seen_as, seen, shown}
 use Rattle.bs_grammar.proofs.Extends.{is_finish, EndsOnce, at_end, before_end}
 
@@ -75,7 +76,8 @@ module _ (source : List ℕ) (tokens : List Token) where
           elim (le_or (value source t) 65535) [
             | inl small ↦
                 ap (λ s. seen_as names (numbered_sort k s) k) (sym e) ∙ (ap (λ s. seen_as names s k) (is_small source tokens t d small)
-                ∙ ap (λ b. digits (cond b (decimal_from 0 (slice_index_or names (value source t - 65536) [])) (value source t))) (le-ltb 65535 (value source t) small))
+                ∙ ap (λ b. digits (cond b (decimal_from 0 (slice_index_or names (value source t - 65536) [])) (value source t)))
+                (le-ltb 65535 (value source t) small))
             | inr great ↦
                 let p = place source tokens t in
                 let less : 65535 < 65536 + p = omega arith in
@@ -118,7 +120,8 @@ no_finish kinds.Name text = by (word_of text)
 no_finish kinds.Number text = by (list_all is_digit text) (is_one_bit text)
   where
     by : (a b : Bool)
-        → is_finish (symbol_seen text (cond a (sorts.Digits (min (decimal_from 0 text) 65536)) (cond b (sorts.Bit (slice_index text 3 ∈ "1")) sorts.Number))) ≡ false
+        → is_finish (symbol_seen text (cond a (sorts.Digits (min (decimal_from 0 text) 65536))
+        (cond b (sorts.Bit (slice_index text 3 ∈ "1")) sorts.Number))) ≡ false
     by true b = refl
     by false true = refl
     by false false = refl

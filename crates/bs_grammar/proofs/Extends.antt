@@ -1,16 +1,22 @@
 -- What each production stands for is some of the symbols before the end of the text, and then what is left.
-use Rattle.std.proofs.Common.{◌≡◌, ℕ, ◌≤◌, ◌<◌, Bool, true, false, List, [], ◌∷◌, length, Option, Some, None, refl, arith}
+use Rattle.std.proofs.Common.{◌≡◌, ℕ, ◌≤◌, Bool, true, false, List, [], ◌∷◌, length, Option, refl, arith}
 use Rattle.bs_net.specs.declared.net.Kind.{Kind}
 use Rattle.bs_lexeme.specs.declared.lexeme.Cell.{Cell}
-use Rattle.bs_lexeme.specs.declared.lexeme.Word.{Word}
-use Rattle.bs_lexeme.specs.declared.lexeme.Word.TheVariants as words
 use Rattle.bs_syntax.specs.declared.tree.Direction as code
 use Rattle.bs_syntax.specs.declared.tree.Direction.TheVariants as directions
 use Rattle.bs_syntax.specs.declared.tree.Net as code_net
 use Rattle.bs_syntax.specs.declared.tree.Net.TheVariants as nets
-use Rattle.bs_grammar.specs.Symbols.{Symbol, Text, keyword, name, bit, digits, mark, opens, closes, finish}
+use Rattle.bs_grammar.specs.Symbols.{Symbol, Text, finish}
 use Rattle.bs_grammar.specs.Written.{Range, Says, Declared, Term, Connection, Component, HeaderPort, Ports, Adds, Module}
-use Rattle.bs_grammar.specs.Productions.{comma, is_inside, is_passed, direction_word, net_word, IsListed, last, more, IsInside, closed, on, AreAttributes, no_more, one_more, IsTerm, scalar, indexed, one_bit, IsNum, whole, fraction, IsTime, single, triple, IsTimed, IsDelay, undelayed, by_time, by_times, IsRange, unranged, ranged, IsPortSays, plain, wire, IsDeclared, declares, IsPlainPort, bare_port, IsHeaderPort, with_direction, without, ArePorts, no_port, plain_ports, declaring_ports, IsHeader, portless, with_ports, IsLabel, unlabelled, labelled, IsByPlace, by_place, IsPlace, nothing, something, IsPin, unconnected, connected, AreConnections, no_connection, places, pins, IsGate, gate, IsInstance, instance, IsAssignment, assignment, IsItem, port_item, net_item, assign_item, gate_item, cell_item, AreItems, no_item, one_item, IsTop, top, IsPassed, ended, passing, AreCells, no_cell, one_cell}
+use Rattle.bs_grammar.specs.Productions.{is_inside, is_passed, direction_word, net_word, IsListed, last, more, IsInside, closed, on}
+use Rattle.bs_grammar.specs.Productions.{AreAttributes, no_more, one_more, IsTerm, scalar, indexed, one_bit, IsNum, whole, fraction, single}
+use Rattle.bs_grammar.specs.Productions.{triple, IsTimed, IsDelay, undelayed, by_time, by_times, IsRange, unranged, ranged, IsPortSays, plain, wire}
+use Rattle.bs_grammar.specs.Productions.{IsDeclared, declares, IsPlainPort, bare_port, IsHeaderPort, with_direction, without, ArePorts, no_port}
+use Rattle.bs_grammar.specs.Productions.{plain_ports, declaring_ports, IsHeader, portless, with_ports, IsLabel, unlabelled, labelled, IsByPlace}
+use Rattle.bs_grammar.specs.Productions.{by_place, IsPlace, nothing, something, IsPin, unconnected, connected, AreConnections, no_connection, places}
+use Rattle.bs_grammar.specs.Productions.{pins, IsGate, gate, IsInstance, instance, IsAssignment, assignment, IsItem, port_item, net_item, assign_item}
+use Rattle.bs_grammar.specs.Productions.{gate_item, cell_item, AreItems, no_item, one_item, IsTop, top, IsPassed, ended, passing, AreCells, no_cell}
+use Rattle.bs_grammar.specs.Productions.{one_cell}
 
 abbrev pub is_finish : Symbol → Bool
 is_finish finish = true
@@ -151,7 +157,8 @@ pub assignment_extends : (from to : Text) (p : Component) → IsAssignment from 
 assignment_extends from to p (assignment l r) = further (off refl (term_extends _ _ _ l)) (term_extends _ _ _ r)
 
 -- an item is at least one symbol
-pub item_extends : {from to : Text} {x : Adds} → IsItem from to x → (s : Symbol) × ((next : Text) × ((from ≡ s ∷ next) × ((is_finish s ≡ false) × Extends next to)))
+pub item_extends : {from to : Text} {x : Adds} → IsItem from to x →
+    (s : Symbol) × ((next : Text) × ((from ≡ s ∷ next) × ((is_finish s ≡ false) × Extends next to)))
 item_extends (port_item {d} s l) =
     (direction_word d, (_, (refl, (direction_off d, further (port_says_extends s) (off refl (listed_extends declared_extends l))))))
 item_extends (net_item {net} r l) = (net_word net, (_, (refl, (net_off net, further (range_extends r) (off refl (listed_extends declared_extends l))))))

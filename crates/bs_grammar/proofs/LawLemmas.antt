@@ -49,7 +49,8 @@ module _ (source : List ℕ) where
   by_syntax p tokens (Err f) t s e = absurd cc
 
   by_tokens : (p : Parts) (r : Result (List Token) ℕ) → tokens_of source ≡ r
-      → ((elim r [ Ok tokens ↦ Ok tokens | Err at ↦ Err (Syntax at) ]) >>= λ (tokens : List Token). syntax_of (lexemes_of source tokens) >>= λ m. meaning_of (names_of source tokens) m) ≡ Ok p
+      → ((elim r [ Ok tokens ↦ Ok tokens | Err at ↦ Err (Syntax at) ]) >>= λ (tokens : List Token). syntax_of
+      (lexemes_of source tokens) >>= λ m. meaning_of (names_of source tokens) m) ≡ Ok p
       → IsWritten p
   by_tokens p (Ok tokens) t e = by_syntax p tokens (syntax_of (lexemes_of source tokens)) t refl e
   by_tokens p (Err at) t e = absurd cc
@@ -64,8 +65,10 @@ module _ (source : List ℕ) where
               c.0,
               (
                 c.1.1,
-                ap (λ (r : Result (List Token) ℕ). (elim r [ Ok tokens ↦ Ok tokens | Err at ↦ Err (Syntax at) ]) >>= λ (tokens : List Token). syntax_of (lexemes_of source tokens) >>= λ m. meaning_of (names_of source tokens) m) t
-                    ∙ then_is (syntax_of (lexemes_of source tokens)) (λ m. meaning_of (names_of source tokens) m) c.0 (meaning_of (names_of source tokens) c.0) (c.1.0) refl,
+                ap (λ (r : Result (List Token) ℕ). (elim r [ Ok tokens ↦ Ok tokens | Err at ↦ Err (Syntax at) ]) >>= λ (tokens : List Token). syntax_of
+                    (lexemes_of source tokens) >>= λ m. meaning_of (names_of source tokens) m) t
+                    ∙ then_is (syntax_of (lexemes_of source tokens)) (λ m. meaning_of (names_of source tokens) m) c.0
+                    (meaning_of (names_of source tokens) c.0) (c.1.0) refl,
               ),
             );
       }

@@ -1,27 +1,22 @@
 -- Items, modules and whole texts that are in the grammar are read.
-use Rattle.std.proofs.Common.{◌≡◌, ℕ, zero, suc, ◌+◌, ◌<◌, Bool, true, false, cond, List, [], ◌∷◌, ◌++◌, length, map, Option, Some, None, Result, Ok, Err, refl, sym, ap, ◌∙◌, arith, subst}
+use Rattle.std.proofs.Common.{◌≡◌, ℕ, zero, suc, ◌+◌, ◌<◌, Bool, true, false, List, [], ◌∷◌, ◌++◌, length, map, Option, Some, None, Ok}
+use Rattle.std.proofs.Common.{Err, refl, sym, ap, ◌∙◌, arith, subst}
 use Rattle.std.proofs.lemmas.List.{map-append}
 use Rattle.std.specs.Prelude.{if◌then◌else◌}
 use Rattle.bs_bits.specs.Reading.{◌>>=◌}
 use Rattle.bs_lexeme.specs.declared.lexeme.Cell.{Cell}
-use Rattle.bs_lexeme.specs.declared.lexeme.Word.{Word}
 use Rattle.bs_lexeme.specs.declared.lexeme.Word.TheVariants as words
 use Rattle.bs_lexeme.specs.declared.lexeme.Sort.{Sort}
 use Rattle.bs_lexeme.specs.declared.lexeme.Sort.TheVariants as sorts
-use Rattle.bs_lexeme.specs.declared.lexeme.Name as code_name
-use Rattle.bs_lexeme.specs.Lexemes.{is_name}
-use Rattle.bs_syntax.specs.declared.fault.VerilogFault.{VerilogFault}
-use Rattle.bs_syntax.specs.declared.fault.VerilogFault.TheVariants.{Syntax, Unsupported}
-use Rattle.bs_syntax.specs.declared.fault.What.TheVariants as what
+use Rattle.bs_syntax.specs.declared.fault.VerilogFault.TheVariants.{Syntax}
 use Rattle.bs_syntax.specs.declared.reading.Due.TheVariants as due
-use Rattle.bs_syntax.specs.declared.reading.AttributeStep.TheVariants.{On, Over, Unclosed}
 use Rattle.bs_syntax.specs.declared.tree.Direction as code
 use Rattle.bs_syntax.specs.declared.tree.Net as code_net
 use Rattle.bs_syntax.specs.declared.tree.Net.TheVariants as nets
 use Rattle.bs_syntax.specs.declared.tree.Adds as code_adds
 use Rattle.bs_syntax.specs.Reading.{Rest, Read, Skip, at, sort, rest, refused, expect_name}
 use Rattle.bs_syntax.specs.Reading as reading
-use Rattle.bs_syntax.specs.Terms.{attribute_step, attributes_from, attributes}
+use Rattle.bs_syntax.specs.Terms.{attributes}
 use Rattle.bs_syntax.specs.Declarations.{direction, net, port_says, net_says, names, header}
 use Rattle.bs_syntax.specs.Parts.{gates, instances, assignments}
 use Rattle.bs_syntax.specs.Modules as modules
@@ -29,10 +24,10 @@ use Rattle.bs_syntax.specs.Modules.{statement, item, items, is_endmodule, is_end
 use Rattle.bs_grammar.specs.Symbols.{Symbol, Text, keyword, finish}
 use Rattle.bs_grammar.specs.Symbols as symbols
 use Rattle.bs_grammar.specs.Written.{Says, Adds}
-use Rattle.bs_grammar.specs.Productions as productions
-use Rattle.bs_grammar.specs.Productions.{semicolon, IsListed, AreAttributes, IsDeclared, direction_word, net_word, net_said, IsItem, port_item, net_item, assign_item, gate_item, cell_item, AreItems, no_item, one_item, IsTop, IsPassed, ended, passing, is_passed, AreCells, no_cell, one_cell, IsNetlistText, netlist}
-use Rattle.bs_grammar.specs.Views.{name_view, says_view, declared_view, component_view, adds_view, ports_view, module_view}
-use Rattle.bs_syntax.specs.declared.tree.Component as code_component
+use Rattle.bs_grammar.specs.Productions.{semicolon, IsListed, AreAttributes, IsDeclared, direction_word, net_word, net_said, IsItem, port_item}
+use Rattle.bs_grammar.specs.Productions.{net_item, assign_item, gate_item, cell_item, AreItems, no_item, one_item, IsTop, IsPassed, ended, passing}
+use Rattle.bs_grammar.specs.Productions.{is_passed, AreCells, no_cell, one_cell, IsNetlistText, netlist}
+use Rattle.bs_grammar.specs.Views.{name_view, declared_view, component_view, adds_view, module_view}
 use Rattle.bs_syntax.specs.declared.tree.Module as code_module
 use Rattle.bs_syntax.specs.Parts as parts
 use Rattle.bs_syntax.specs.Parts.{is_strength}
@@ -40,16 +35,20 @@ use Rattle.bs_syntax.specs.Reading.{is_at, expect, listed}
 use Rattle.bs_syntax.specs.Terms.{delay}
 use Rattle.bs_syntax.specs.declared.tree.Direction.TheVariants as directions
 use Rattle.bs_net.specs.declared.net.Kind.{Kind}
-use Rattle.std.specs.Prelude.{◌&&◌, ◌≤◌}
-use Rattle.bs_syntax.specs.Unsupported.{symbol}
+use Rattle.std.specs.Prelude.{◌&&◌}
 use Rattle.bs_grammar.specs.Symbols.{opens}
-use Rattle.bs_grammar.specs.Written.{Declared, Connection, Component, Ports, Module, Term}
-use Rattle.bs_grammar.specs.Productions.{begins_with, comma, sharp, left_round, right_round, last, more, no_more, one_more, IsTerm, scalar, indexed, one_bit, IsByPlace, by_place, IsLabel, unlabelled, labelled, IsDelay, undelayed, by_time, by_times, IsRange, IsPortSays, declares, IsGate, gate, IsInstance, instance, IsAssignment, assignment, IsHeader, top, declaring, placing, together, module_said}
+use Rattle.bs_grammar.specs.Written.{Declared, Connection, Component, Module, Term}
+use Rattle.bs_grammar.specs.Productions.{begins_with, comma, sharp, left_round, last, more, no_more, one_more, IsTerm, scalar, indexed}
+use Rattle.bs_grammar.specs.Productions.{one_bit, IsByPlace, by_place, IsLabel, unlabelled, labelled, IsDelay, undelayed, by_time, by_times}
+use Rattle.bs_grammar.specs.Productions.{IsPortSays, declares, IsGate, gate, IsInstance, instance, IsAssignment, assignment, top, declaring}
+use Rattle.bs_grammar.specs.Productions.{placing, together, module_said}
 use Rattle.bs_grammar.proofs.Shown.{seen_as, shown}
-use Rattle.bs_grammar.proofs.Extends.{Extends, no_longer, attributes_extend, item_extends, passed_extends, gate_extends, instance_extends, assignment_extends}
-use Rattle.bs_grammar.proofs.Next.{Reads, Skips, then_is, true_is, false_is, tested, mark_next, word_next, name_next, bit_next, mark_read, name_read, listed_complete, shown_length}
-use Rattle.bs_grammar.proofs.TermsComplete.{opens_here, attributes_complete, IsUndelayed, IsUntimed, delay_complete}
-use Rattle.bs_grammar.proofs.PartsComplete.{range_complete, port_says_complete, net_says_complete, names_complete, direction_next, header_complete, gate_complete, instance_complete, assignment_complete, IsUnindexed, term_unmarked}
+use Rattle.bs_grammar.proofs.Extends.{no_longer, attributes_extend, item_extends, passed_extends, gate_extends, instance_extends, assignment_extends}
+use Rattle.bs_grammar.proofs.Next.{Reads, Skips, then_is, true_is, false_is, tested, mark_next, word_next, name_next, bit_next, mark_read, name_read}
+use Rattle.bs_grammar.proofs.Next.{listed_complete, shown_length}
+use Rattle.bs_grammar.proofs.TermsComplete.{opens_here, attributes_complete, IsUndelayed, delay_complete}
+use Rattle.bs_grammar.proofs.PartsComplete.{port_says_complete, net_says_complete, names_complete, direction_next, header_complete}
+use Rattle.bs_grammar.proofs.PartsComplete.{gate_complete, instance_complete, assignment_complete, IsUnindexed, term_unmarked}
 
 module _ (table : List (List ℕ)) where
   -- ---- statements
@@ -78,13 +77,15 @@ module _ (table : List (List ℕ)) where
   no_round : (ts : Rest) (from : Text) → shown table ts ≡ from → begins_with 40 from ≡ false → (is_at "(" ts && is_strength (sort (rest ts))) ≡ false
   no_round ts from e f = ap (λ b. b && is_strength (sort (rest ts))) (tested table 40 (omega arith) ts from false e f)
 
-  weak_gate : (ts : Rest) (from inside to : Text) (cs : List Connection) → IsLabel from (left_round ∷ inside) → IsListed IsByPlace inside to cs → shown table ts ≡ from
+  weak_gate : (ts : Rest) (from inside to : Text) (cs : List Connection) → IsLabel from (left_round ∷ inside) → IsListed IsByPlace inside to cs →
+      shown table ts ≡ from
       → (is_at "(" ts && is_strength (sort (rest ts))) ≡ false
   weak_gate ts from inside to cs unlabelled l e =
       ap (λ b. is_at "(" ts && b) (weak_first (rest ts) inside to cs l (mark_next table 40 ts inside e).1) ∙ and_false (is_at "(" ts)
   weak_gate ts from inside to cs (labelled {cell} {n}) l e = no_round ts (symbols.name cell n ∷ left_round ∷ inside) e refl
 
-  weak_gates : (kind : Kind) (ts : Rest) (from next to : Text) (ps : List Component) → IsDelay from next → IsListed (IsGate kind) next to ps → shown table ts ≡ from
+  weak_gates : (kind : Kind) (ts : Rest) (from next to : Text) (ps : List Component) → IsDelay from next → IsListed (IsGate kind) next to ps →
+      shown table ts ≡ from
       → (is_at "(" ts && is_strength (sort (rest ts))) ≡ false
   weak_gates kind ts from next to ps undelayed (last (gate {inside = inside} {cs = cs} b l)) e = weak_gate ts from inside _ cs b l e
   weak_gates kind ts from next to ps undelayed (more (gate {inside = inside} {cs = cs} b l) k) e = weak_gate ts from inside _ cs b l e
@@ -119,7 +120,8 @@ module _ (table : List (List ℕ)) where
   unfolding instances
   instances_complete cell ts from to ps l e =
       let a =
-      listed_complete table (parts.instance cell) (IsInstance cell) (component_view table) (λ u. Unit {0}) (λ u. tt) instance_extends (instance_complete table cell) ts
+      listed_complete table (parts.instance cell) (IsInstance cell) (component_view table) (λ u. Unit {0}) (λ u. tt) instance_extends
+      (instance_complete table cell) ts
       from (semicolon ∷ to) ps l e tt refl in
       let c = mark_read table 59 (omega arith) due.Nothing a.left to a.shows in
       record {
@@ -148,7 +150,8 @@ module _ (table : List (List ℕ)) where
   assignments_complete ts from next to ps d l e =
       let first = delay_complete table ts from next d e (assignments_start next (semicolon ∷ to) ps l) in
       let a =
-      listed_complete table parts.assignment IsAssignment (component_view table) (IsUnindexed table) (λ u. refl) assignment_extends (assignment_complete table) first.left
+      listed_complete table parts.assignment IsAssignment (component_view table) (IsUnindexed table) (λ u. refl) assignment_extends
+      (assignment_complete table) first.left
       next (semicolon ∷ to) ps l first.shows refl refl in
       let c = mark_read table 59 (omega arith) due.AfterTerm a.left to a.shows in
       record {
@@ -448,7 +451,8 @@ module _ (table : List (List ℕ)) where
   cell_start ts from us no_more e = ap is_end (word_next table words.Module ts us e).0
   cell_start ts from us (one_more {from = inner} i h) e = ap is_end (opens_next ts inner e)
 
-  further_complete : (cell : Cell) (k : List ℕ) (ts : Rest) (from inside to : Text) → AreAttributes from (keyword words.Module ∷ symbols.name (Some cell) k ∷ inside)
+  further_complete : (cell : Cell) (k : List ℕ) (ts : Rest) (from inside to : Text) →
+      AreAttributes from (keyword words.Module ∷ symbols.name (Some cell) k ∷ inside)
       → IsPassed inside to → shown table ts ≡ from → Skips table (modules.further ts) to
   unfolding modules.further
   further_complete cell k ts from inside to c p e =
@@ -458,7 +462,8 @@ module _ (table : List (List ℕ)) where
       let s = passed_complete b.left (symbols.name (Some cell) k ∷ inside) to (passing refl p) b.shows in
       record {
         left = s.left;
-        is = then_is (attributes ts) _ here.left _ here.is (then_is (begun here.left) _ b.left _ b.is (true_is (is_cell (sort b.left)) _ _ _ (ap is_cell x.0) s.is));
+        is = then_is (attributes ts) _ here.left _ here.is
+            (then_is (begun here.left) _ b.left _ b.is (true_is (is_cell (sort b.left)) _ _ _ (ap is_cell x.0) s.is));
         shows = s.shows;
       }
 

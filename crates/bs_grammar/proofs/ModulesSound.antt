@@ -1,24 +1,22 @@
 -- What items, modules and whole texts are read from is in the grammar.
-use Rattle.std.proofs.Common.{◌≡◌, ℕ, zero, suc, ◌+◌, ◌<◌, Bool, true, false, cond, List, [], ◌∷◌, ◌++◌, length, map, Option, Some, None, Result, Ok, Err, refl, sym, ap, ◌∙◌, arith, subst}
+use Rattle.std.proofs.Common.{◌≡◌, ℕ, zero, suc, ◌+◌, ◌<◌, Bool, true, false, List, [], ◌∷◌, length, map, Option, Some, None, Ok}
+use Rattle.std.proofs.Common.{Err, refl, sym, ap, arith, subst}
 use Rattle.std.proofs.lemmas.List.{map-append}
 use Rattle.std.specs.Prelude.{if◌then◌else◌}
 use Rattle.bs_bits.specs.Reading.{◌>>=◌}
 use Rattle.bs_lexeme.specs.declared.lexeme.Cell.{Cell}
-use Rattle.bs_lexeme.specs.declared.lexeme.Word.{Word}
 use Rattle.bs_lexeme.specs.declared.lexeme.Word.TheVariants as words
 use Rattle.bs_lexeme.specs.declared.lexeme.Sort.{Sort}
 use Rattle.bs_lexeme.specs.declared.lexeme.Sort.TheVariants as sorts
 use Rattle.bs_lexeme.specs.declared.lexeme.Name as code_name
 use Rattle.bs_lexeme.specs.Lexemes.{is_name}
 use Rattle.bs_syntax.specs.declared.fault.VerilogFault.{VerilogFault}
-use Rattle.bs_syntax.specs.declared.fault.VerilogFault.TheVariants.{Syntax, Unsupported}
-use Rattle.bs_syntax.specs.declared.fault.What.TheVariants as what
+use Rattle.bs_syntax.specs.declared.fault.VerilogFault.TheVariants.{Syntax}
 use Rattle.bs_syntax.specs.declared.reading.Due.TheVariants as due
 use Rattle.bs_syntax.specs.declared.reading.AttributeStep.TheVariants.{On, Over, Unclosed}
 use Rattle.bs_syntax.specs.declared.tree.Direction as code
 use Rattle.bs_syntax.specs.declared.tree.Net as code_net
 use Rattle.bs_syntax.specs.declared.tree.Net.TheVariants as nets
-use Rattle.bs_syntax.specs.declared.tree.Adds as code_adds
 use Rattle.bs_syntax.specs.Reading.{Rest, Read, Skip, at, sort, rest, refused, expect_name}
 use Rattle.bs_syntax.specs.Reading as reading
 use Rattle.bs_syntax.specs.Terms.{attribute_step, attributes_from, attributes}
@@ -30,13 +28,17 @@ use Rattle.bs_grammar.specs.Symbols.{Symbol, Text, keyword, finish}
 use Rattle.bs_grammar.specs.Symbols as symbols
 use Rattle.bs_grammar.specs.Written.{Says, Adds}
 use Rattle.bs_grammar.specs.Productions as productions
-use Rattle.bs_grammar.specs.Productions.{semicolon, IsListed, AreAttributes, no_more, IsDeclared, direction_word, net_word, net_said, IsItem, port_item, net_item, assign_item, gate_item, cell_item, AreItems, no_item, one_item, IsTop, IsPassed, ended, passing, is_passed, AreCells, no_cell, one_cell, IsNetlistText, netlist}
-use Rattle.bs_grammar.specs.Views.{name_view, says_view, declared_view, component_view, adds_view, ports_view, module_view}
-use Rattle.bs_grammar.proofs.Sound.{Sound, value, fault, and_then, if_so, weaker, both, holds}
-use Rattle.bs_grammar.proofs.Shown.{seen_as, shown, name_shown, some_left}
+use Rattle.bs_grammar.specs.Productions.{semicolon, IsListed, AreAttributes, no_more, IsDeclared, direction_word, net_word, net_said, IsItem}
+use Rattle.bs_grammar.specs.Productions.{port_item, net_item, assign_item, gate_item, cell_item, AreItems, no_item, one_item, IsTop, IsPassed, ended}
+use Rattle.bs_grammar.specs.Productions.{passing, is_passed, AreCells, no_cell, one_cell, IsNetlistText, netlist}
+use Rattle.bs_grammar.specs.Views.{name_view, declared_view, component_view, adds_view, module_view}
+use Rattle.bs_grammar.proofs.Sound.{Sound, and_then, if_so, weaker, both}
+use Rattle.bs_grammar.proofs.Shown.{seen_as, shown, some_left}
 use Rattle.bs_grammar.proofs.TermsSound.{attributes_sound}
-use Rattle.bs_grammar.proofs.PartsSound.{keep, direction_shown, port_says_sound, net_says_sound, names_sound, header_sound, gates_sound, instances_sound, assignments_sound}
-use Rattle.bs_grammar.proofs.Extends.{is_finish, EndsOnce, at_end, before_end, tail_once, once_left, attributes_extend, passed_extends, top_extends, off, cells_extend}
+use Rattle.bs_grammar.proofs.PartsSound.{keep, direction_shown, port_says_sound, net_says_sound, names_sound, header_sound, gates_sound}
+use Rattle.bs_grammar.proofs.PartsSound.{instances_sound, assignments_sound}
+use Rattle.bs_grammar.proofs.Extends.{EndsOnce, at_end, before_end, tail_once, once_left, attributes_extend, top_extends}
+use Rattle.bs_grammar.proofs.Extends.{off, cells_extend}
 
 module _ (table : List (List ℕ)) where
   net_shown : (ts : Rest) (n : code_net.Net) → net (sort ts) ≡ Some n → shown table ts ≡ net_word n ∷ shown table (rest ts)
@@ -221,7 +223,11 @@ module _ (table : List (List ℕ)) where
         l.0,
         (
           l.1.0,
-          (one_cell (keep (λ u. AreAttributes (shown table ts) (keyword words.Module ∷ u)) _ _ (shows.1) b) (p (led_some next (shown table left) (l.1))) (l.1.1.0), l.1.1.1),
+          (
+            one_cell (keep (λ u. AreAttributes (shown table ts) (keyword words.Module ∷ u)) _ _ (shows.1) b)
+                (p (led_some next (shown table left) (l.1))) (l.1.1.0),
+            l.1.1.1,
+          ),
         ),
       ))))
       (λ c. record { is = (c, (shown table ts, (no_cell, b))) }))
@@ -248,7 +254,8 @@ module _ (table : List (List ℕ)) where
       by : (inside : Bool) (s : Sort) → EndsOnce (seen_as table s t.name ∷ shown table ts)
           → (EndsOnce (shown table ts) → Sound (attributes_from true ts) (λ left. EndsOnce (shown table left)))
           → (EndsOnce (shown table ts) → Sound (attributes_from false ts) (λ left. EndsOnce (shown table left)))
-          → Sound {A = Rest} {F = VerilogFault} (elim (attribute_step inside s) [ On next ↦ attributes_from next ts | Over ↦ Ok (t ∷ ts) | Unclosed ↦ Err (Syntax t.at) ])
+          → Sound {A = Rest} {F = VerilogFault} (elim
+          (attribute_step inside s) [ On next ↦ attributes_from next ts | Over ↦ Ok (t ∷ ts) | Unclosed ↦ Err (Syntax t.at) ])
           (λ left. EndsOnce (shown table left))
       by true sorts.AttrClose k o c = c (tail_once refl k)
       by true sorts.End k o c = record { is = tt }
@@ -278,7 +285,8 @@ module _ (table : List (List ℕ)) where
 
   IsFurther : Text → Text → Type 0
   IsFurther from to =
-      (cell : Cell) × ((n : List ℕ) × ((inside : Text) × ((AreAttributes from (keyword words.Module ∷ symbols.name (Some cell) n ∷ inside)) × (IsPassed inside to))))
+      (cell : Cell) × ((n : List ℕ) × ((inside : Text) ×
+      ((AreAttributes from (keyword words.Module ∷ symbols.name (Some cell) n ∷ inside)) × (IsPassed inside to))))
 
   further_sound : (ts : Rest) → EndsOnce (shown table ts)
       → Sound (modules.further ts) (λ left. EndsOnce (shown table left) × IsFurther (shown table ts) (shown table left))
@@ -298,7 +306,8 @@ module _ (table : List (List ℕ)) where
             (
               shown table (rest inside),
               (
-                joined (shown table ts) (shown table here) (keyword words.Module ∷ symbols.name (Some (shows.0)) (name_view table (reading.name inside)) ∷ shown table (rest inside))
+                joined (shown table ts) (shown table here)
+                    (keyword words.Module ∷ symbols.name (Some (shows.0)) (name_view table (reading.name inside)) ∷ shown table (rest inside))
                     (a.0 (once_some here a.1)) (keep (λ u. AreAttributes (shown table here) (keyword words.Module ∷ u)) _ _ (shows.1) b),
                 p.0 (once_some left p.1),
               ),

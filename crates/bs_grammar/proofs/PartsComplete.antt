@@ -1,16 +1,12 @@
 -- Declarations, headers, gates, cells and assignments that are in the grammar are read.
-use Rattle.std.proofs.Common.{◌≡◌, ℕ, ◌<◌, Bool, true, false, cond, List, [], ◌∷◌, length, map, Option, Some, None, Result, Ok, Err, refl, sym, ap, ◌∙◌, arith, subst, ◌⊎◌, inl, inr}
-use Rattle.std.specs.Prelude.{if◌then◌else◌, option_map, is_some, unwrap_or, ◌&&◌, ◌||◌, ◌==◌}
+use Rattle.std.proofs.Common.{◌≡◌, ℕ, Bool, true, false, cond, List, [], ◌∷◌, map, Option, Some, None, Ok, Err, refl, ap}
+use Rattle.std.proofs.Common.{◌∙◌, arith, subst, ◌⊎◌, inl, inr}
+use Rattle.std.specs.Prelude.{if◌then◌else◌, option_map, is_some, unwrap_or, ◌||◌, ◌==◌}
 use Rattle.bs_bits.specs.Reading.{◌>>=◌}
 use Rattle.bs_net.specs.declared.net.Kind.{Kind}
 use Rattle.bs_lexeme.specs.declared.lexeme.Cell.{Cell}
-use Rattle.bs_lexeme.specs.declared.lexeme.Sort.{Sort}
-use Rattle.bs_lexeme.specs.declared.lexeme.Sort.TheVariants as sorts
 use Rattle.bs_lexeme.specs.declared.lexeme.Word.TheVariants as words
 use Rattle.bs_lexeme.specs.Lexemes.{is_name}
-use Rattle.bs_syntax.specs.declared.fault.VerilogFault.{VerilogFault}
-use Rattle.bs_syntax.specs.declared.fault.VerilogFault.TheVariants.{Unsupported}
-use Rattle.bs_syntax.specs.declared.fault.What.TheVariants as what
 use Rattle.bs_syntax.specs.declared.reading.Due.TheVariants as due
 use Rattle.bs_syntax.specs.declared.tree.Direction as code
 use Rattle.bs_syntax.specs.declared.tree.Direction.TheVariants as directions
@@ -23,24 +19,31 @@ use Rattle.bs_syntax.specs.declared.tree.Shape.TheVariants as shapes
 use Rattle.bs_syntax.specs.Unsupported.{symbol, after_direction}
 use Rattle.bs_syntax.specs.Reading.{Rest, Read, Skip, at, sort, rest, is_at, refused, expect, expect_name, expect_digits, listed}
 use Rattle.bs_syntax.specs.Reading as reading
-use Rattle.bs_syntax.specs.Terms.{term, delay, attributes}
+use Rattle.bs_syntax.specs.Terms.{term, attributes}
 use Rattle.bs_syntax.specs.Declarations as declarations
-use Rattle.bs_syntax.specs.Declarations.{direction, net, is_wire, range, port_says, net_says, declared_name, names, plain_port, header_port, carried, passed_on, header}
+use Rattle.bs_syntax.specs.Declarations.{direction, net, is_wire, range, port_says, net_says, declared_name, names, plain_port, header_port, carried}
+use Rattle.bs_syntax.specs.Declarations.{passed_on, header}
 use Rattle.bs_syntax.specs.Parts as parts
 use Rattle.bs_syntax.specs.Parts.{is_strength, instance_name, opened, gates, instances, assignments}
 use Rattle.bs_grammar.specs.Symbols.{Symbol, Text, keyword}
-use Rattle.bs_grammar.specs.Written.{Range, Says, Declared, Term, Connection, empty, place, pin, Component, HeaderPort, Ports}
+use Rattle.bs_grammar.specs.Written.{Range, Says, Declared, Term, Connection, place, pin, Component, HeaderPort, Ports}
 use Rattle.bs_grammar.specs.Symbols as symbols
-use Rattle.bs_grammar.specs.Productions.{begins_with, no_more, one_more, comma, semicolon, colon, dot, equals, sharp, left_round, right_round, left_square, right_square, IsListed, last, more, AreAttributes, IsTerm, scalar, indexed, one_bit, IsDelay, IsRange, unranged, ranged, direction_word, net_word, port_said, net_said, IsPortSays, plain, wire, IsDeclared, declares, IsPlainPort, bare_port, IsHeaderPort, with_direction, without, taken_over, AreCarried, carried_all, carried_on, nothing_said, ArePorts, no_port, plain_ports, declaring_ports, IsHeader, portless, with_ports, IsLabel, unlabelled, labelled, IsByPlace, by_place, IsPlace, nothing, something, IsPin, unconnected, connected, AreConnections, no_connection, places, pins, IsGate, gate, IsInstance, instance, IsAssignment, assignment}
-use Rattle.bs_grammar.specs.Views.{number_view, name_view, range_view, says_view, declared_view, term_view, connection_view, component_view, port_view, ports_view}
-use Rattle.bs_grammar.proofs.Sound.{Sound, value, fault, and_then, and_known, if_so, weaker, both, holds}
-use Rattle.bs_grammar.proofs.Shown.{seen_as, shown, mark_shown, name_shown, at_is, some_left, marked, a_name, a_number}
-use Rattle.bs_grammar.proofs.TermsSound.{listed_sound, first_sound, HasFirst, attributes_sound, term_sound, delay_sound}
-use Rattle.bs_lexeme.specs.declared.lexeme.Word.{Word}
-use Rattle.bs_grammar.proofs.Extends.{declared_extends, plain_port_extends, header_port_extends, by_place_extends, place_extends, pin_extends, gate_extends, instance_extends, assignment_extends}
-use Rattle.bs_grammar.proofs.Next.{Reads, Skips, then_is, true_is, false_is, tested, mark_next, word_next, name_next, mark_read, name_read, number_read, listed_complete}
+use Rattle.bs_grammar.specs.Productions.{begins_with, no_more, one_more, comma, semicolon, equals, left_round, right_round}
+use Rattle.bs_grammar.specs.Productions.{IsListed, last, more, AreAttributes, IsTerm, scalar, indexed, one_bit}
+use Rattle.bs_grammar.specs.Productions.{IsRange, unranged, ranged, direction_word, port_said, net_said, IsPortSays, plain, wire}
+use Rattle.bs_grammar.specs.Productions.{IsDeclared, declares, IsPlainPort, bare_port, IsHeaderPort, with_direction, without, taken_over, AreCarried}
+use Rattle.bs_grammar.specs.Productions.{carried_all, carried_on, nothing_said, ArePorts, no_port, plain_ports, declaring_ports, IsHeader, portless}
+use Rattle.bs_grammar.specs.Productions.{with_ports, IsLabel, unlabelled, labelled, IsByPlace, by_place, IsPlace, nothing, something, IsPin}
+use Rattle.bs_grammar.specs.Productions.{unconnected, connected, AreConnections, no_connection, places, pins, IsGate, gate, IsInstance, instance}
+use Rattle.bs_grammar.specs.Productions.{IsAssignment, assignment}
+use Rattle.bs_grammar.specs.Views.{number_view, name_view, range_view, says_view, declared_view, term_view, connection_view, component_view}
+use Rattle.bs_grammar.specs.Views.{port_view, ports_view}
+use Rattle.bs_grammar.proofs.Shown.{shown}
+use Rattle.bs_grammar.proofs.Extends.{declared_extends, plain_port_extends, header_port_extends, by_place_extends, place_extends, pin_extends}
+use Rattle.bs_grammar.proofs.Next.{Reads, then_is, true_is, false_is, tested, mark_next, word_next, name_next, mark_read, name_read}
+use Rattle.bs_grammar.proofs.Next.{number_read, listed_complete}
 use Rattle.bs_grammar.proofs.PartsSound.{carried_sound, names_view}
-use Rattle.bs_grammar.proofs.TermsComplete.{opens_here, attributes_complete, term_complete, IsUndelayed, IsUntimed, delay_complete}
+use Rattle.bs_grammar.proofs.TermsComplete.{opens_here, attributes_complete, term_complete}
 
 -- what a function of the next symbol gives, by what that is
 module _ (table : List (List ℕ)) where
@@ -73,7 +76,8 @@ module _ (table : List (List ℕ)) where
   range_starts from to cell n r unranged = inl refl
   range_starts from to cell n r ranged = inr refl
 
-  plain_next : (ts : Rest) (from to : Text) (cell : Option Cell) (n : List ℕ) (r : Option Range) → IsRange from (symbols.name cell n ∷ to) r → shown table ts ≡ from
+  plain_next : (ts : Rest) (from to : Text) (cell : Option Cell) (n : List ℕ) (r : Option Range) → IsRange from (symbols.name cell n ∷ to) r →
+      shown table ts ≡ from
       → (is_some (after_direction (sort ts)) ≡ false) × (is_wire (sort ts) ≡ false)
   plain_next ts from to cell n r unranged e =
       let x = name_next table cell n ts to e in
@@ -103,7 +107,8 @@ module _ (table : List (List ℕ)) where
       record {
         value = record { direction = Some d; net = Some nets.Wire; range = a.value };
         left = a.left;
-        is = false_is (is_some (after_direction (sort ts))) _ _ _ (ap (λ s. is_some (after_direction s)) w.0) (true_is (is_wire (sort ts)) _ _ _ (ap is_wire w.0)
+        is = false_is (is_some (after_direction (sort ts))) _ _ _ (ap (λ s. is_some (after_direction s)) w.0)
+            (true_is (is_wire (sort ts)) _ _ _ (ap is_wire w.0)
             (then_is (range (rest ts)) _ (a.value, a.left) _ a.is refl));
         shows = a.shows;
         says = ap (λ x. port_said d (Some nets.Wire) x) a.says;
@@ -122,7 +127,8 @@ module _ (table : List (List ℕ)) where
         says = ap (λ m. record { says = says_view table says; name = m }) (x.1.0);
       }
 
-  pub names_complete : (says : code_says.Says) (ts : Rest) (from to : Text) (ds : List Declared) → IsListed (IsDeclared (says_view table says)) from (semicolon ∷ to) ds
+  pub names_complete : (says : code_says.Says) (ts : Rest) (from to : Text) (ds : List Declared) →
+      IsListed (IsDeclared (says_view table says)) from (semicolon ∷ to) ds
       → shown table ts ≡ from → Reads table (names says ts) (map (declared_view table)) to ds
   unfolding names
   names_complete says ts from to ds l e =
@@ -138,7 +144,8 @@ module _ (table : List (List ℕ)) where
         says = a.says;
       }
 
-  pub net_says_complete : (n : code_net.Net) (ts : Rest) (from to : Text) (r : Option Range) → IsRange from to r → shown table ts ≡ from → begins_with 91 to ≡ false
+  pub net_says_complete : (n : code_net.Net) (ts : Rest) (from to : Text) (r : Option Range) → IsRange from to r → shown table ts ≡ from →
+      begins_with 91 to ≡ false
       → Reads table (net_says n ts) (says_view table) to (net_said n r)
   unfolding net_says
   net_says_complete n ts from to r p e f =
@@ -236,7 +243,8 @@ module _ (table : List (List ℕ)) where
       (here.left, (here.is, ((direction_next d here.left next here.shows).1.0, unmarked 41 from next (direction_word d) a (direction_unmarked d next))))
   port_first ts from to p (without a) i e = absurd cc
 
-  header_first : (ts : Rest) (from to : Text) (p : HeaderPort) (ps : List HeaderPort) → IsListed IsHeaderPort from to (p ∷ ps) → is_some p.says ≡ true → shown table ts ≡ from
+  header_first : (ts : Rest) (from to : Text) (p : HeaderPort) (ps : List HeaderPort) → IsListed IsHeaderPort from to (p ∷ ps) →
+      is_some p.says ≡ true → shown table ts ≡ from
       → (here : Rest) × ((attributes ts ≡ Ok here) × ((is_name (sort here) ≡ false) × (begins_with 41 from ≡ false)))
   header_first ts from to p ps (last h) i e = port_first ts from to p h i e
   header_first ts from to p ps (more {next} h l) i e = port_first ts from (comma ∷ next) p h i e
@@ -246,7 +254,8 @@ module _ (table : List (List ℕ)) where
   carried_once before ps ds es (carried_on {p = p} {ps = qs} {ds = xs} c) (carried_on {ds = ys} d) =
       ap (λ zs. record { says = unwrap_or p.says (taken_over before); name = p.name } ∷ zs) (carried_once (unwrap_or p.says (taken_over before)) qs xs ys c d)
 
-  ports_complete : (ts : Rest) (from to : Text) (p : Ports) → ArePorts from to p → shown table ts ≡ from → Reads table (declarations.ports ts) (ports_view table) to p
+  ports_complete : (ts : Rest) (from to : Text) (p : Ports) → ArePorts from to p → shown table ts ≡ from →
+      Reads table (declarations.ports ts) (ports_view table) to p
   unfolding declarations.ports
   ports_complete ts from to p no_port e =
       let m = mark_next table 41 ts to e in
@@ -478,7 +487,8 @@ module _ (table : List (List ℕ)) where
       }
   connections_complete ts from to cs (pins l) e =
       let a =
-      listed_complete table parts.pin IsPin (connection_view table) (λ u. Unit {0}) (λ u. tt) pin_extends pin_complete ts from (right_round ∷ to) cs l e tt refl in
+      listed_complete table parts.pin IsPin (connection_view table) (λ u. Unit {0}) (λ u. tt) pin_extends pin_complete ts from
+      (right_round ∷ to) cs l e tt refl in
       let c = mark_read table 41 (omega arith) due.Nothing a.left to a.shows in
       let start = pins_start from (right_round ∷ to) cs l in
       record {

@@ -1,5 +1,6 @@
 -- What declarations, headers, gates, cells and assignments are read from is in the grammar.
-use Rattle.std.proofs.Common.{◌≡◌, ℕ, ◌<◌, Bool, true, false, cond, List, [], ◌∷◌, length, map, Option, Some, None, Result, Ok, Err, refl, sym, ap, ◌∙◌, arith, subst}
+use Rattle.std.proofs.Common.{◌≡◌, ℕ, ◌<◌, Bool, true, false, cond, List, [], ◌∷◌, length, map, Option, Some, None, Ok, Err, refl, sym, ap}
+use Rattle.std.proofs.Common.{◌∙◌, arith, subst}
 use Rattle.std.specs.Prelude.{if◌then◌else◌, option_map, is_some, unwrap_or, ◌&&◌}
 use Rattle.bs_bits.specs.Reading.{◌>>=◌}
 use Rattle.bs_net.specs.declared.net.Kind.{Kind}
@@ -8,32 +9,33 @@ use Rattle.bs_lexeme.specs.declared.lexeme.Sort.{Sort}
 use Rattle.bs_lexeme.specs.declared.lexeme.Sort.TheVariants as sorts
 use Rattle.bs_lexeme.specs.declared.lexeme.Word.TheVariants as words
 use Rattle.bs_lexeme.specs.Lexemes.{is_name}
-use Rattle.bs_syntax.specs.declared.fault.VerilogFault.{VerilogFault}
-use Rattle.bs_syntax.specs.declared.fault.VerilogFault.TheVariants.{Unsupported}
-use Rattle.bs_syntax.specs.declared.fault.What.TheVariants as what
 use Rattle.bs_syntax.specs.declared.reading.Due.TheVariants as due
 use Rattle.bs_syntax.specs.declared.tree.Direction as code
 use Rattle.bs_syntax.specs.declared.tree.Direction.TheVariants as directions
 use Rattle.bs_syntax.specs.declared.tree.Net as code_net
-use Rattle.bs_syntax.specs.declared.tree.Net.TheVariants as nets
 use Rattle.bs_syntax.specs.declared.tree.Says as code_says
 use Rattle.bs_syntax.specs.declared.tree.HeaderPort as code_port
-use Rattle.bs_syntax.specs.declared.tree.Connection.TheVariants.{Empty, Place, Pin}
-use Rattle.bs_syntax.specs.declared.tree.Shape.TheVariants as shapes
 use Rattle.bs_syntax.specs.Unsupported.{after_direction}
 use Rattle.bs_syntax.specs.Reading.{Rest, Read, Skip, at, sort, rest, is_at, refused, expect, expect_name, expect_digits, listed}
 use Rattle.bs_syntax.specs.Reading as reading
 use Rattle.bs_syntax.specs.Terms.{term, delay, attributes}
 use Rattle.bs_syntax.specs.Declarations as declarations
-use Rattle.bs_syntax.specs.Declarations.{direction, net, is_wire, range, port_says, net_says, declared_name, names, plain_port, header_port, carried, passed_on, header}
+use Rattle.bs_syntax.specs.Declarations.{direction, net, is_wire, range, port_says, net_says, declared_name, names, plain_port, header_port, carried}
+use Rattle.bs_syntax.specs.Declarations.{passed_on, header}
 use Rattle.bs_syntax.specs.Parts as parts
 use Rattle.bs_syntax.specs.Parts.{is_strength, instance_name, opened, gates, instances, assignments}
 use Rattle.bs_grammar.specs.Symbols.{Text, keyword}
 use Rattle.bs_grammar.specs.Written.{Range, Says, Declared, Connection, Component, HeaderPort}
-use Rattle.bs_grammar.specs.Symbols as symbols
-use Rattle.bs_grammar.specs.Productions.{begins_with, comma, semicolon, colon, dot, equals, sharp, left_round, right_round, left_square, right_square, IsListed, last, more, AreAttributes, IsTerm, IsDelay, IsRange, unranged, ranged, direction_word, net_word, port_said, net_said, IsPortSays, plain, wire, IsDeclared, declares, IsPlainPort, bare_port, IsHeaderPort, with_direction, without, taken_over, AreCarried, carried_all, carried_on, nothing_said, ArePorts, no_port, plain_ports, declaring_ports, IsHeader, portless, with_ports, IsLabel, unlabelled, labelled, IsByPlace, by_place, IsPlace, nothing, something, IsPin, unconnected, connected, AreConnections, no_connection, places, pins, IsGate, gate, IsInstance, instance, IsAssignment, assignment}
-use Rattle.bs_grammar.specs.Views.{number_view, name_view, range_view, says_view, declared_view, term_view, connection_view, component_view, port_view, ports_view}
-use Rattle.bs_grammar.proofs.Sound.{Sound, value, fault, and_then, and_known, if_so, weaker, both, holds}
+use Rattle.bs_grammar.specs.Productions.{semicolon, right_round}
+use Rattle.bs_grammar.specs.Productions.{IsListed, AreAttributes, IsTerm, IsDelay, IsRange, unranged, ranged, direction_word}
+use Rattle.bs_grammar.specs.Productions.{net_said, IsPortSays, plain, wire, IsDeclared, declares, IsPlainPort, bare_port, IsHeaderPort}
+use Rattle.bs_grammar.specs.Productions.{with_direction, without, taken_over, AreCarried, carried_all, carried_on, ArePorts, no_port}
+use Rattle.bs_grammar.specs.Productions.{plain_ports, declaring_ports, IsHeader, portless, with_ports, IsLabel, unlabelled, labelled, IsByPlace}
+use Rattle.bs_grammar.specs.Productions.{by_place, IsPlace, nothing, something, IsPin, unconnected, connected, AreConnections, no_connection, places}
+use Rattle.bs_grammar.specs.Productions.{pins, IsGate, gate, IsInstance, instance, IsAssignment, assignment}
+use Rattle.bs_grammar.specs.Views.{name_view, range_view, says_view, declared_view, term_view, connection_view, component_view}
+use Rattle.bs_grammar.specs.Views.{port_view, ports_view}
+use Rattle.bs_grammar.proofs.Sound.{Sound, and_then, and_known, if_so, weaker, both}
 use Rattle.bs_grammar.proofs.Shown.{seen_as, shown, mark_shown, name_shown, at_is, some_left, marked, a_name, a_number}
 use Rattle.bs_grammar.proofs.TermsSound.{listed_sound, first_sound, HasFirst, attributes_sound, term_sound, delay_sound}
 
@@ -231,7 +233,8 @@ module _ (table : List (List ℕ)) where
   gate_sound : (kind : Kind) (ts : Rest) → Sound (parts.gate kind ts) (λ y. IsGate kind (shown table ts) (shown table y.1) (component_view table y.0))
   unfolding parts.gate
   gate_sound kind ts =
-      and_then (opened ts (instance_name ts)) _ _ _ (marked table 40 (if is_name (sort ts) then due.AfterInstance else due.Nothing) (instance_name ts) (omega arith))
+      and_then (opened ts (instance_name ts)) _ _ _
+      (marked table 40 (if is_name (sort ts) then due.AfterInstance else due.Nothing) (instance_name ts) (omega arith))
       (λ inside o. and_then (listed parts.by_place inside) _ _ _ (listed_sound table parts.by_place IsByPlace (connection_view table) by_place_sound inside)
       (λ l h. and_then (expect ")" due.AfterTerm l.1) _ _ _ (marked table 41 due.AfterTerm l.1 (omega arith)) (λ after m.
       record {
@@ -279,7 +282,8 @@ module _ (table : List (List ℕ)) where
       → Sound (parts.instance cell ts) (λ y. IsInstance cell (shown table ts) (shown table y.1) (component_view table y.0))
   unfolding parts.instance
   instance_sound cell ts =
-      and_then (opened ts (instance_name ts)) _ _ _ (marked table 40 (if is_name (sort ts) then due.AfterInstance else due.Nothing) (instance_name ts) (omega arith))
+      and_then (opened ts (instance_name ts)) _ _ _
+      (marked table 40 (if is_name (sort ts) then due.AfterInstance else due.Nothing) (instance_name ts) (omega arith))
       (λ inside o. and_then (parts.connections inside) _ _ _ (connections_sound inside) (λ l h.
       record { is = instance (keep (λ u. IsLabel (shown table ts) u) _ _ o (label_sound ts)) h }))
 
@@ -302,7 +306,8 @@ module _ (table : List (List ℕ)) where
   gates_sound kind ts =
       if_so (is_at "(" ts && is_strength (sort (rest ts))) _ _ _ (λ e. record { is = tt })
       (λ e. and_then (delay ts) _ _ _ (delay_sound table ts) (λ first d.
-      and_then (listed (parts.gate kind) first) _ _ _ (listed_sound table (parts.gate kind) (IsGate kind) (component_view table) (gate_sound table kind) first) (λ l h.
+      and_then (listed (parts.gate kind) first) _ _ _
+      (listed_sound table (parts.gate kind) (IsGate kind) (component_view table) (gate_sound table kind) first) (λ l h.
       and_then (expect ";" due.Nothing l.1) _ _ _ (marked table 59 due.Nothing l.1 (omega arith)) (λ after m.
       record { is = (shown table first, (d, keep (λ u. IsListed (IsGate kind) (shown table first) u (map (component_view table) l.0)) _ _ m h)) }))))
 
@@ -311,7 +316,8 @@ module _ (table : List (List ℕ)) where
   unfolding instances
   instances_sound cell ts =
       if_so (is_at "#" ts) _ _ _ (λ e. record { is = tt })
-      (λ e. and_then (listed (parts.instance cell) ts) _ _ _ (listed_sound table (parts.instance cell) (IsInstance cell) (component_view table) (instance_sound table cell) ts)
+      (λ e. and_then (listed (parts.instance cell) ts) _ _ _
+      (listed_sound table (parts.instance cell) (IsInstance cell) (component_view table) (instance_sound table cell) ts)
       (λ l h. and_then (expect ";" due.Nothing l.1) _ _ _ (marked table 59 due.Nothing l.1 (omega arith)) (λ after m.
       record { is = keep (λ u. IsListed (IsInstance cell) (shown table ts) u (map (component_view table) l.0)) _ _ m h })))
 
@@ -320,6 +326,7 @@ module _ (table : List (List ℕ)) where
   unfolding assignments
   assignments_sound ts =
       and_then (delay ts) _ _ _ (delay_sound table ts) (λ first d.
-      and_then (listed parts.assignment first) _ _ _ (listed_sound table parts.assignment IsAssignment (component_view table) (assignment_sound table) first) (λ l h.
+      and_then (listed parts.assignment first) _ _ _
+      (listed_sound table parts.assignment IsAssignment (component_view table) (assignment_sound table) first) (λ l h.
       and_then (expect ";" due.AfterTerm l.1) _ _ _ (marked table 59 due.AfterTerm l.1 (omega arith)) (λ after m.
       record { is = (shown table first, (d, keep (λ u. IsListed IsAssignment (shown table first) u (map (component_view table) l.0)) _ _ m h)) })))

@@ -1,15 +1,13 @@
 -- Lexemes as symbols, and what the first of them shows.
-use Rattle.std.proofs.Common.{◌≡◌, ℕ, zero, suc, ◌<◌, Bool, true, false, cond, List, [], ◌∷◌, length, map, Option, Some, None, Result, Ok, Err, refl, sym, ap, ◌∙◌, arith}
+use Rattle.std.proofs.Common.{◌≡◌, ℕ, zero, suc, ◌<◌, true, false, cond, List, [], ◌∷◌, length, map, Option, Some, None, Ok, Err, refl}
+use Rattle.std.proofs.Common.{ap, arith}
 use Rattle.std.specs.Prelude.{◌==◌, slice_index_or}
 use Rattle.std.proofs.lemmas.Bool.{eqb-true}
 use Rattle.std.proofs.Math.Dec.{eqb-zero-suc}
-use Rattle.bs_bits.specs.Reading.{◌>>=◌}
-use Rattle.bs_lexeme.specs.declared.lexeme.Lexeme.{Lexeme}
+use Rattle.bs_lexeme.specs.Packed.{Lexeme}
 use Rattle.bs_lexeme.specs.declared.lexeme.Sort.{Sort}
 use Rattle.bs_lexeme.specs.declared.lexeme.Sort.TheVariants as sorts
-use Rattle.bs_lexeme.specs.declared.lexeme.Word.{Word}
 use Rattle.bs_lexeme.specs.declared.lexeme.Cell.{Cell}
-use Rattle.bs_lexeme.specs.declared.lexeme.Name as code_name
 use Rattle.bs_lexeme.specs.Lexemes.{is_name}
 use Rattle.bs_syntax.specs.declared.fault.VerilogFault.{VerilogFault}
 use Rattle.bs_syntax.specs.declared.reading.Due.{Due}
@@ -82,7 +80,8 @@ module _ (table : List (List ℕ)) where
 
   -- a mark that must be next
   pub marked : (c : ℕ) (d : Due) (ts : Rest) → 0 < c
-      → Sound {A = Rest} {F = VerilogFault} (cond (symbol (sort ts) == c) (Ok (rest ts)) (Err (refused d ts))) (λ left. shown table ts ≡ mark c ∷ shown table left)
+      → Sound {A = Rest} {F = VerilogFault} (cond (symbol (sort ts) == c) (Ok (rest ts)) (Err (refused d ts)))
+      (λ left. shown table ts ≡ mark c ∷ shown table left)
   marked c d ts h =
       if_so (symbol (sort ts) == c) _ _ _ (λ e. value (rest ts) _ (mark_shown c ts h e)) (λ e. fault (refused d ts) _)
 

@@ -1,5 +1,5 @@
 -- Readings that have a property wherever they have a value, put together as readings are.
-use Rattle.std.proofs.Common.{◌≡◌, ℕ, ◌<◌, Bool, true, false, cond, Option, Some, None, Result, Ok, Err, refl}
+use Rattle.std.proofs.Common.{◌≡◌, Bool, true, false, cond, Result, Ok, Err, refl}
 use Rattle.bs_bits.specs.Reading.{◌>>=◌}
 
 -- the value has the property, where there is one

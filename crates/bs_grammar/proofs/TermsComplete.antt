@@ -1,5 +1,6 @@
 -- Attributes, terms and delays that are in the grammar are read.
-use Rattle.std.proofs.Common.{◌≡◌, ℕ, zero, suc, ◌<◌, Bool, true, false, cond, List, [], ◌∷◌, length, map, Option, Some, None, Result, Ok, Err, refl, sym, ap, ◌∙◌, arith}
+use Rattle.std.proofs.Common.{◌≡◌, ℕ, Bool, true, false, List, [], ◌∷◌, Option, Some, None, Result, Ok, Err, refl}
+use Rattle.std.proofs.Common.{ap, ◌∙◌, arith}
 use Rattle.std.specs.Prelude.{option_map, if◌then◌else◌}
 use Rattle.bs_bits.specs.Reading.{◌>>=◌}
 use Rattle.bs_lexeme.specs.declared.lexeme.Sort.{Sort}
@@ -16,10 +17,12 @@ use Rattle.bs_syntax.specs.Reading as reading
 use Rattle.bs_syntax.specs.Terms.{index, term, num, time, timed, delay, attribute_step, attributes_from, attributes}
 use Rattle.bs_grammar.specs.Symbols.{Symbol, Text, opens, closes, mark}
 use Rattle.bs_grammar.specs.Symbols as symbols
-use Rattle.bs_grammar.specs.Written.{Term, constant, named}
-use Rattle.bs_grammar.specs.Productions.{comma, colon, dot, sharp, left_round, right_round, left_square, right_square, begins_with, IsListed, last, more, is_inside, IsInside, closed, on, AreAttributes, no_more, one_more, IsTerm, scalar, indexed, one_bit, IsNum, whole, fraction, IsTime, single, triple, IsTimed, IsDelay, undelayed, by_time, by_times}
-use Rattle.bs_grammar.specs.Views.{number_view, name_view, term_view}
-use Rattle.bs_grammar.proofs.Shown.{seen_as, shown, at_is}
+use Rattle.bs_grammar.specs.Written.{Term, named}
+use Rattle.bs_grammar.specs.Productions.{left_square, right_square, begins_with}
+use Rattle.bs_grammar.specs.Productions.{is_inside, IsInside, closed, on, AreAttributes, no_more, one_more, IsTerm, scalar, indexed, one_bit}
+use Rattle.bs_grammar.specs.Productions.{IsNum, whole, fraction, IsTime, single, triple, IsTimed, IsDelay, undelayed, by_time, by_times}
+use Rattle.bs_grammar.specs.Views.{number_view, term_view}
+use Rattle.bs_grammar.proofs.Shown.{seen_as, shown}
 use Rattle.bs_grammar.proofs.TermsSound.{IsIndex, unindexed, at_index}
 use Rattle.bs_grammar.proofs.Extends.{time_extends}
 use Rattle.bs_grammar.proofs.Next.{Reads, Skips, then_is, true_is, false_is, tested, mark_next, bit_next, name_next, mark_read, number_read, listed_complete}
@@ -38,14 +41,18 @@ module _ (table : List (List ℕ)) where
   inside_complete (t ∷ ts) from next closed e = by t.sort e
     where
       by : (s : Sort) → seen_as table s t.name ∷ shown table ts ≡ closes ∷ next
-          → (left : Rest) × ((◌≡◌ {A = Result Rest VerilogFault} (elim (attribute_step true s) [ On next_open ↦ attributes_from next_open ts | Over ↦ Ok (t ∷ ts) | Unclosed ↦ Err (Syntax t.at) ]) (attributes_from false left)) × (shown table left ≡ next))
+          → (left : Rest) × ((◌≡◌ {A = Result Rest VerilogFault}
+          (elim (attribute_step true s) [ On next_open ↦ attributes_from next_open ts | Over ↦ Ok (t ∷ ts) | Unclosed ↦ Err (Syntax t.at) ])
+          (attributes_from false left)) × (shown table left ≡ next))
       by sorts.AttrClose e = let left : shown table ts ≡ next = cc in (ts, (refl, left))
       by _ e = absurd cc
   inside_complete (t ∷ ts) from next (on {s = x} {from = inner} i h) e = by t.sort e (λ left. inside_complete ts inner next h left)
     where
       by : (s : Sort) → seen_as table s t.name ∷ shown table ts ≡ x ∷ inner
           → (shown table ts ≡ inner → (left : Rest) × ((attributes_from true ts ≡ attributes_from false left) × (shown table left ≡ next)))
-          → (left : Rest) × ((◌≡◌ {A = Result Rest VerilogFault} (elim (attribute_step true s) [ On next_open ↦ attributes_from next_open ts | Over ↦ Ok (t ∷ ts) | Unclosed ↦ Err (Syntax t.at) ]) (attributes_from false left)) × (shown table left ≡ next))
+          → (left : Rest) × ((◌≡◌ {A = Result Rest VerilogFault}
+          (elim (attribute_step true s) [ On next_open ↦ attributes_from next_open ts | Over ↦ Ok (t ∷ ts) | Unclosed ↦ Err (Syntax t.at) ])
+          (attributes_from false left)) × (shown table left ≡ next))
       by sorts.AttrClose e r =
           let same : closes ≡ x = cc in
           let other : is_inside closes ≡ true = ap is_inside same ∙ i in
@@ -62,21 +69,26 @@ module _ (table : List (List ℕ)) where
   over_here (t ∷ ts) to e f = by t.sort (ap opens_here e ∙ f)
     where
       by : (s : Sort) → opens_here (seen_as table s t.name ∷ shown table ts) ≡ false
-          → ◌≡◌ {A = Result Rest VerilogFault} (elim (attribute_step false s) [ On next_open ↦ attributes_from next_open ts | Over ↦ Ok (t ∷ ts) | Unclosed ↦ Err (Syntax t.at) ]) (Ok (t ∷ ts))
+          → ◌≡◌ {A = Result Rest VerilogFault} (elim
+          (attribute_step false s) [ On next_open ↦ attributes_from next_open ts | Over ↦ Ok (t ∷ ts) | Unclosed ↦ Err (Syntax t.at) ]) (Ok (t ∷ ts))
       by sorts.AttrOpen f = absurd cc
       by _ f = refl
 
-  opened_here : (ts : Rest) (us : Text) → shown table ts ≡ opens ∷ us → (attributes_from false ts ≡ attributes_from true (rest ts)) × (shown table (rest ts) ≡ us)
+  opened_here : (ts : Rest) (us : Text) → shown table ts ≡ opens ∷ us →
+      (attributes_from false ts ≡ attributes_from true (rest ts)) × (shown table (rest ts) ≡ us)
   unfolding attributes_from
   opened_here [] us e = absurd cc
   opened_here (t ∷ ts) us e = by t.sort e
     where
       by : (s : Sort) → seen_as table s t.name ∷ shown table ts ≡ opens ∷ us
-          → (◌≡◌ {A = Result Rest VerilogFault} (elim (attribute_step false s) [ On next_open ↦ attributes_from next_open ts | Over ↦ Ok (t ∷ ts) | Unclosed ↦ Err (Syntax t.at) ]) (attributes_from true ts)) × (shown table ts ≡ us)
+          → (◌≡◌ {A = Result Rest VerilogFault} (elim
+          (attribute_step false s) [ On next_open ↦ attributes_from next_open ts | Over ↦ Ok (t ∷ ts) | Unclosed ↦ Err (Syntax t.at) ])
+          (attributes_from true ts)) × (shown table ts ≡ us)
       by sorts.AttrOpen e = let left : shown table ts ≡ us = cc in (refl, left)
       by _ e = absurd cc
 
-  pub attributes_complete : (ts : Rest) (from to : Text) → AreAttributes from to → shown table ts ≡ from → opens_here to ≡ false → Skips table (attributes ts) to
+  pub attributes_complete : (ts : Rest) (from to : Text) → AreAttributes from to → shown table ts ≡ from → opens_here to ≡ false →
+      Skips table (attributes ts) to
   attributes_complete ts from to no_more e f = record { left = ts; is = over_here ts to e f; shows = e }
   attributes_complete ts from to (one_more {from = inner} {next = next} i h) e f =
       let o = opened_here ts inner e in
@@ -105,7 +117,8 @@ module _ (table : List (List ℕ)) where
         value = Some n.0;
         left = rest (rest (rest ts));
         is = true_is (is_at "[" ts) _ _ _ (tested table 91 (omega arith) ts _ true e refl)
-            (then_is (expect_digits (rest ts)) _ (n.0, rest (rest ts)) _ (n.1.0) (then_is (expect "]" due.AfterIndex (rest (rest ts))) _ (rest (rest (rest ts))) _ p.0 refl));
+            (then_is (expect_digits (rest ts)) _ (n.0, rest (rest ts)) _ (n.1.0)
+            (then_is (expect "]" due.AfterIndex (rest (rest ts))) _ (rest (rest (rest ts))) _ p.0 refl));
         shows = p.1;
         says = ap (λ x. Some x) (n.1.1.0);
       }
@@ -155,7 +168,8 @@ module _ (table : List (List ℕ)) where
       let n = number_read table _ ts _ e in
       record {
         left = rest ts;
-        is = then_is (expect_digits ts) _ (n.0, rest ts) _ (n.1.0) (false_is (is_at "." (rest ts)) _ _ _ (tested table 46 (omega arith) (rest ts) to false (n.1.1.1) f) refl);
+        is = then_is (expect_digits ts) _ (n.0, rest ts) _ (n.1.0)
+            (false_is (is_at "." (rest ts)) _ _ _ (tested table 46 (omega arith) (rest ts) to false (n.1.1.1) f) refl);
         shows = n.1.1.1;
       }
   num_complete ts from to fraction e f =
@@ -164,7 +178,8 @@ module _ (table : List (List ℕ)) where
       let k = number_read table _ (rest (rest ts)) _ d.1 in
       record {
         left = rest (rest (rest ts));
-        is = then_is (expect_digits ts) _ (n.0, rest ts) _ (n.1.0) (true_is (is_at "." (rest ts)) _ _ _ (tested table 46 (omega arith) (rest ts) _ true (n.1.1.1) refl)
+        is = then_is (expect_digits ts) _ (n.0, rest ts) _ (n.1.0)
+            (true_is (is_at "." (rest ts)) _ _ _ (tested table 46 (omega arith) (rest ts) _ true (n.1.1.1) refl)
             (then_is (expect_digits (rest (rest ts))) _ (k.0, rest (rest (rest ts))) _ (k.1.0) refl));
         shows = k.1.1.1;
       }

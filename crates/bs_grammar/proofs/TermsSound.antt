@@ -1,5 +1,6 @@
 -- What lists, attributes, terms and delays are read from is in the grammar.
-use Rattle.std.proofs.Common.{◌≡◌, ℕ, zero, suc, ◌<◌, Bool, true, false, cond, List, [], ◌∷◌, length, map, Option, Some, None, Result, Ok, Err, refl, sym, ap, ◌∙◌, arith, subst}
+use Rattle.std.proofs.Common.{◌≡◌, ℕ, zero, suc, ◌<◌, Bool, true, false, List, [], ◌∷◌, length, map, Option, Some, None, Result, Ok, Err, refl}
+use Rattle.std.proofs.Common.{arith, subst}
 use Rattle.std.specs.Prelude.{option_map, if◌then◌else◌}
 use Rattle.bs_bits.specs.Reading.{◌>>=◌}
 use Rattle.bs_lexeme.specs.declared.lexeme.Cell.{Cell}
@@ -18,14 +19,17 @@ use Rattle.bs_syntax.specs.Terms.{index, term, num, time, timed, delay, attribut
 use Rattle.bs_grammar.specs.Symbols.{Text}
 use Rattle.bs_grammar.specs.Symbols as symbols
 use Rattle.bs_grammar.specs.Written.{named}
-use Rattle.bs_grammar.specs.Productions.{comma, colon, dot, sharp, left_round, right_round, left_square, right_square, IsListed, last, more, IsInside, closed, on, AreAttributes, no_more, one_more, IsTerm, scalar, indexed, one_bit, IsNum, whole, fraction, IsTime, single, triple, IsTimed, IsDelay, undelayed, by_time, by_times}
-use Rattle.bs_grammar.specs.Views.{number_view, name_view, term_view}
+use Rattle.bs_grammar.specs.Productions.{left_square, right_square, IsListed, last, more, IsInside}
+use Rattle.bs_grammar.specs.Productions.{closed, on, AreAttributes, no_more, one_more, IsTerm, scalar, indexed, one_bit, IsNum, whole, fraction}
+use Rattle.bs_grammar.specs.Productions.{IsTime, single, triple, IsTimed, IsDelay, undelayed, by_time, by_times}
+use Rattle.bs_grammar.specs.Views.{number_view, term_view}
 use Rattle.bs_grammar.proofs.Sound.{Sound, value, fault, and_then, if_so, weaker}
 use Rattle.bs_grammar.proofs.Shown.{seen_as, shown, mark_shown, marked, a_number}
 
 -- ---- lists
 
-module _ (table : List (List ℕ)) {A B : Type 0} (one : Rest → Read A) (P : Text → Text → B → Type 0) (view : A → B) (member : (ts : Rest) → Sound (one ts) (λ y. P (shown table ts) (shown table y.1) (view y.0))) where
+module _ (table : List (List ℕ)) {A B : Type 0} (one : Rest → Read A) (P : Text → Text → B → Type 0) (view : A → B)
+    (member : (ts : Rest) → Sound (one ts) (λ y. P (shown table ts) (shown table y.1) (view y.0))) where
   commas_sound : (n : ℕ) (ts : Rest) → Sound (with_commas one n ts) (λ y. IsListed P (shown table ts) (shown table y.1) (map view y.0))
   unfolding with_commas
   commas_sound zero ts = fault (refused due.Nothing ts) _
@@ -71,9 +75,11 @@ module _ (table : List (List ℕ)) where
   going_sound inside [] = value [] _ (λ some. absurd (omega (arith, some)))
   going_sound inside (t ∷ ts) = by inside t.sort refl (going_sound true ts) (going_sound false ts)
     where
-      by : (inside : Bool) (s : Sort) → t.sort ≡ s → Sound (attributes_from true ts) (λ left. 0 < length left → AreGoing true (shown table ts) (shown table left))
+      by : (inside : Bool) (s : Sort) → t.sort ≡ s →
+          Sound (attributes_from true ts) (λ left. 0 < length left → AreGoing true (shown table ts) (shown table left))
           → Sound (attributes_from false ts) (λ left. 0 < length left → AreGoing false (shown table ts) (shown table left))
-          → Sound {A = Rest} {F = VerilogFault} (elim (attribute_step inside s) [ On next ↦ attributes_from next ts | Over ↦ Ok (t ∷ ts) | Unclosed ↦ Err (Syntax t.at) ])
+          → Sound {A = Rest} {F = VerilogFault} (elim
+          (attribute_step inside s) [ On next ↦ attributes_from next ts | Over ↦ Ok (t ∷ ts) | Unclosed ↦ Err (Syntax t.at) ])
           (λ left. 0 < length left → AreGoing inside (seen_as table s t.name ∷ shown table ts) (shown table left))
       by true sorts.AttrClose is o c = weaker (attributes_from false ts) _ _ c (λ left h some. (shown table ts, closed, h some))
       by true sorts.End is o c = fault (Syntax t.at) _

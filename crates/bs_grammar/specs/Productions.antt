@@ -3,7 +3,6 @@
 use Rattle.std.specs.Prelude.{◌≡◌, ◌==◌, ℕ, Bool, true, false, List, [], ◌∷◌, ◌++◌, map, Option, Some, None, is_some, unwrap_or}
 use Rattle.bs_net.specs.declared.net.Kind.{Kind}
 use Rattle.bs_lexeme.specs.declared.lexeme.Cell.{Cell}
-use Rattle.bs_lexeme.specs.declared.lexeme.Word.{Word}
 use Rattle.bs_lexeme.specs.declared.lexeme.Word.TheVariants as words
 use Rattle.bs_syntax.specs.declared.tree.Direction as code
 use Rattle.bs_syntax.specs.declared.tree.Direction.TheVariants as directions
@@ -172,7 +171,8 @@ pub data ArePorts : Text → Text → Ports → Type 0 where
   plain_ports : {from to : Text} {names : List (List ℕ)} → IsListed IsPlainPort from (right_round ∷ to) names
       → ArePorts from to (record { header = names; declared = [] })
   declaring_ports : {from to : Text} {p : HeaderPort} {ps : List HeaderPort} {ds : List Declared} → IsListed IsHeaderPort from (right_round ∷ to) (p ∷ ps)
-      → is_some p.says ≡ true → AreCarried nothing_said (p ∷ ps) ds → ArePorts from to (record { header = map (λ (q : HeaderPort). q.name) (p ∷ ps); declared = ds })
+      → is_some p.says ≡ true → AreCarried nothing_said (p ∷ ps) ds →
+      ArePorts from to (record { header = map (λ (q : HeaderPort). q.name) (p ∷ ps); declared = ds })
 
 -- [ "(" [ ports ] ")" ] ";"
 pub data IsHeader : Text → Text → Ports → Type 0 where

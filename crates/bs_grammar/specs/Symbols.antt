@@ -1,7 +1,6 @@
 -- What each token of a text is to the grammar: the symbols that its productions speak of (docs/FORMATS.md, "Words of a netlist").
 use Rattle.std.specs.Prelude.{ℕ, Bool, List, [], ◌∷◌, ◌++◌, map, Option}
 use Rattle.bs_lex.specs.declared.token.Token.{Token}
-use Rattle.bs_lex.specs.declared.token.TokenKind.{TokenKind}
 use Rattle.bs_lexeme.specs.declared.lexeme.Cell.{Cell}
 use Rattle.bs_lexeme.specs.declared.lexeme.Word.{Word}
 use Rattle.bs_lexeme.specs.declared.lexeme.Sort.{Sort}

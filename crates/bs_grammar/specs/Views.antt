@@ -1,5 +1,5 @@
 -- What the reader's syntax value says as it is written: its names by the table of names, its great numbers as the numbers that they stand for.
-use Rattle.std.specs.Prelude.{ℕ, ◌-◌, nat_lt, if◌then◌else◌, List, [], ◌∷◌, map, Option, Some, None, option_map, slice_index_or}
+use Rattle.std.specs.Prelude.{ℕ, ◌-◌, nat_lt, if◌then◌else◌, List, [], map, option_map, slice_index_or}
 use Rattle.bs_lexeme.specs.declared.limits.TheConstants.{MAX_INDEX, GREAT}
 use Rattle.bs_lexeme.specs.declared.lexeme.Name.{Name}
 use Rattle.bs_lexeme.specs.Lexemes.{decimal_from}

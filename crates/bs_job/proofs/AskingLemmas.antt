@@ -13,7 +13,8 @@ use Rattle.bs_job.specs.declared.walk.Refusal.TheVariants as Q
 use Rattle.bs_job.specs.declared.walk.JobFault.{JobFault}
 use Rattle.bs_job.specs.declared.walk.JobFault.TheVariants as S
 use Rattle.bs_job.specs.Files.{limit_of}
-use Rattle.bs_job.specs.Plan.{Tells, Counts, Wanted, Reason, exactly, Says, Plan, fetch, refuse, end, ◌>>=◌, fetched, given_next, with_texts, AllTold, read_as, Outcome, ready, refused, faulted, Ends}
+use Rattle.bs_job.specs.Plan.{Tells, Counts, Wanted, Reason, exactly, Says, Plan, fetch, refuse, end, ◌>>=◌, fetched, given_next, with_texts, AllTold}
+use Rattle.bs_job.specs.Plan.{read_as, Outcome, ready, refused, faulted, Ends}
 use Rattle.bs_job.specs.Walks.{ComesTo, WalksTo, Reads, settled}
 use Rattle.bs_job.specs.Asking.{AfterFetch, Along, CallTo, GoesTo}
 use Rattle.bs_job.proofs.Plans.{ready_in, refused_in, faulted_in, ready_same, refused_same, faulted_same}
@@ -135,7 +136,8 @@ stops_faulted R A B file = record {
     wants : Some (faulted_in R A file) ≡ None → ⊥
     wants e = cc
 
-after_stop : {R A B : Type 0} (w : Wanted) (answer : Fetch) (calls : List FetchCall) (one : Option (Outcome R A)) (other : Option (Outcome R B)) (P Q : Type 0) → StopsAs one other → (P → Q) → AfterFetch w answer calls one P → AfterFetch w answer calls other Q
+after_stop : {R A B : Type 0} (w : Wanted) (answer : Fetch) (calls : List FetchCall) (one : Option (Outcome R A)) (other : Option (Outcome R B))
+    (P Q : Type 0) → StopsAs one other → (P → Q) → AfterFetch w answer calls one P → AfterFetch w answer calls other Q
 after_stop w F.Done calls one other P Q stands step h = step h
 after_stop w F.TooLong calls one other P Q stands step h = (h.0, stands.refuses w.file (exactly (codes "TooLong")) h.1)
 after_stop w F.Failed calls one other P Q stands step h = (h.0, stands.faults w.file h.1)

@@ -14,7 +14,8 @@ use Rattle.bs_job.specs.Plan.{Tells, Counts, Reason, Plan, Outcome, ready, refus
 use Rattle.bs_job.specs.Answers.{Answers, CallsFor, CallsByTold}
 use Rattle.bs_job.specs.Prepared.{Prepares, Prepared, IsWork}
 use Rattle.bs_job.specs.Delivery.{Delivers, PutsLines}
-use Rattle.bs_job.specs.Clauses.{Answered, AnsweredAsTold, AnsweredWhole, CallByCall, CallsWanting, FailedToRead, ReadFaultOf, IsCalm, IsWordsOnlyFor, Refuses, RefusesFirstOf}
+use Rattle.bs_job.specs.Clauses.{Answered, AnsweredAsTold, AnsweredWhole, CallByCall, CallsWanting, FailedToRead, ReadFaultOf, IsCalm, IsWordsOnlyFor}
+use Rattle.bs_job.specs.Clauses.{Refuses, RefusesFirstOf}
 use Rattle.bs_job.proofs.Plans.{ready_in, refused_in, faulted_in, ends_as_told, ends_by_fault}
 use Rattle.bs_job.proofs.Preparing.{IsPlain, work_plain, refusal_plain, refused_again}
 use Rattle.std.specs.Option.{option_map}
@@ -53,7 +54,8 @@ pub answered_as_told : {R W : Type 0} {allows : R → List ℕ → Type 0} {fini
     Type 0} {told : Tells} {before now : Counts} {plan : Option (Plan R W)} {answer : Reply} {w0 w1 : Option (List ℕ)} {f0 f1 : ℕ} {status : Status} →
     Prepares allows finishes told before now plan answer → Delivers answer.status answer.text.items w0 w1 f0 f1 status → status ≢ ReadFault →
     status ≢ WriteFault → AnsweredAsTold allows finishes told plan w0 w1 status
-answered_as_told {allows = allows} {finishes = finishes} {told = told} {before = before} {now = now} {plan = plan} {answer = answer} {w0 = w0} {w1 = w1} {status = status} made sent read write =
+answered_as_told {allows = allows} {finishes = finishes} {told = told} {before = before} {now = now} {plan = plan} {answer = answer} {w0 = w0} {w1 =
+    w1} {status = status} made sent read write =
     let whole = sent.whole write in
     record {
       text = answer.text.items;
@@ -112,7 +114,8 @@ pub read_fault_of : {R W : Type 0} {allows : R → List ℕ → Type 0} {finishe
     Type 0} {told : Tells} {before now : Counts} {plan : Option (Plan R W)} {answer : Reply} {w0 w1 : Option (List ℕ)} {f0 f1 : ℕ} {status : Status} →
     IsWork finishes → Prepares allows finishes told before now plan answer → Delivers answer.status answer.text.items w0 w1 f0 f1 status →
     status ≡ ReadFault → ReadFaultOf told before now plan w0 w1
-read_fault_of {allows = allows} {finishes = finishes} {told = told} {before = before} {now = now} {plan = plan} {answer = answer} {w0 = w0} {w1 = w1} {status = status} kind made sent is =
+read_fault_of {allows = allows} {finishes = finishes} {told = told} {before = before} {now = now} {plan = plan} {answer = answer} {w0 = w0} {w1 =
+    w1} {status = status} kind made sent is =
     let whole = sent.whole (read_no_write status is) in
     failed_of allows finishes told before now plan w0 w1 answer.status answer.text.items kind made.calls (sym whole.0 ∙ is)
     (subst (λ (l : List ℕ). Appends w0 w1 l) whole.1 sent.wrote)
@@ -235,7 +238,8 @@ pub complete_whole : {R W : Type 0} {allows : R → List ℕ → Type 0} {finish
     Type 0} {told : Tells} {before now : Counts} {plan : Option (Plan R W)} {answer : Reply} {w0 w1 : Option (List ℕ)} {f0 f1 : ℕ} {status : Status} →
     IsWork finishes → Prepares allows finishes told before now plan answer → Delivers answer.status answer.text.items w0 w1 f0 f1 status →
     IsCalm told before now plan f0 f1 → AnsweredWhole allows finishes told before now plan w0 w1 status
-complete_whole {allows = allows} {finishes = finishes} {told = told} {before = before} {now = now} {plan = plan} {answer = answer} {w0 = w0} {w1 = w1} {f0 = f0} {f1 = f1} {status = status} kind made sent calm =
+complete_whole {allows = allows} {finishes = finishes} {told = told} {before = before} {now = now} {plan = plan} {answer = answer} {w0 = w0} {w1 =
+    w1} {f0 = f0} {f1 = f1} {status = status} kind made sent calm =
     record {
       text = answer.text.items;
       calls = subst (λ s. CallsFor allows finishes told before now plan s answer.text.items) (sym whole.0) made.calls;

@@ -5,7 +5,8 @@ use Rattle.std.specs.Prelude.{Bool, true, false, nat_lt, if◌then◌else◌, If
 use Rattle.bs_outside.specs.Faults.{Rose}
 use Rattle.bs_job.specs.declared.file.File.{File}
 use Rattle.bs_job.specs.Files.{limit_of}
-use Rattle.bs_job.specs.Plan.{Tells, Counts, Wanted, Reason, exactly, Plan, fetch, refuse, end, ◌>>=◌, Outcome, ready, refused, faulted, Ends, told_next, told_end, Reaches}
+use Rattle.bs_job.specs.Plan.{Tells, Counts, Wanted, Reason, exactly, Plan, fetch, refuse, end, ◌>>=◌, Outcome, ready, refused, faulted, Ends}
+use Rattle.bs_job.specs.Plan.{told_next, told_end, Reaches}
 
 if_some_along : (told told' : Option (List ℕ)) (P : List ℕ → Type 0) → told' ≡ told → IfSome told' P → IfSome told P
 if_some_along told told' P same h = subst (λ (t : Option (List ℕ)). IfSome t P) same h

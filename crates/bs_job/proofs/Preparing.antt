@@ -69,7 +69,8 @@ pub prepares_work : {R W T : Type 0} {allows : R → List ℕ → Type 0} {finis
     Tells} {faults : S → Counts} {leads : S → FetchCall → S → Type 0} {before now : S} {plan : Plan R W} {view : T →
     W} {t : T} (r : Result Reply NoMemory) → IsWork finishes → Walks allows held faults leads before now plan view (Ok t) →
     IfOk r (λ answer. finishes (view t) answer.status answer.text.items) → Prepared allows finishes held faults leads before now (Some plan) r
-prepares_work {allows = allows} {finishes = finishes} {held = held} {faults = faults} {before = before} {now = now} {plan = plan} {view = view} {t = t} (Ok answer) kind walks done =
+prepares_work {allows = allows} {finishes = finishes} {held = held} {faults = faults} {before = before} {now = now} {plan = plan} {view = view} {t = t}
+    (Ok answer) kind walks done =
     record {
       answer = work_prepares allows finishes (held before) (held now) (faults before) (faults now) plan view t answer kind walks.is done;
       fetches = walks.fetches;

@@ -1,5 +1,6 @@
 -- A plan is followed a file at a time.
-use Rattle.std.proofs.Common.{◌≡◌, inl, inr, ℕ, ◌<◌, ◌≤◌, List, [], ◌∷◌, ◌++◌, length, drop, Option, Some, None, Result, Ok, Err, codes, refl, sym, ◌∙◌, ap, subst, arith, Vec}
+use Rattle.std.proofs.Common.{◌≡◌, inl, inr, ℕ, ◌<◌, ◌≤◌, List, [], ◌∷◌, ◌++◌, length, drop, Option, Some, None, Result, Ok, Err, codes, refl, sym}
+use Rattle.std.proofs.Common.{◌∙◌, ap, subst, arith, Vec}
 use Rattle.std.proofs.lemmas.Bool.{le-ltb, lt-ltb, false≢true}
 use Rattle.std.proofs.lemmas.List.{length-take}
 use Rattle.std.specs.Prelude.{IfSome, IsSome, MatchResult}
@@ -19,7 +20,8 @@ use Rattle.bs_job.specs.declared.walk.Refusal.TheVariants as Q
 use Rattle.bs_job.specs.declared.walk.JobFault.{JobFault}
 use Rattle.bs_job.specs.declared.walk.JobFault.TheVariants as S
 use Rattle.bs_job.specs.Files.{limit_of}
-use Rattle.bs_job.specs.Plan.{Tells, Counts, Wanted, Comes, Reason, exactly, Says, Plan, fetch, refuse, end, ◌>>=◌, fetched, given_next, with_texts, AllTold, read_as, Outcome, ready, refused, faulted, Ends}
+use Rattle.bs_job.specs.Plan.{Tells, Counts, Wanted, Comes, Reason, exactly, Says, Plan, fetch, refuse, end, ◌>>=◌, fetched, given_next, with_texts}
+use Rattle.bs_job.specs.Plan.{AllTold, read_as, Outcome, ready, refused, faulted, Ends}
 use Rattle.bs_job.specs.Asking.{AsksFor, CallTo}
 use Rattle.bs_job.specs.Walks.{IsSame, IsLater, IsTooLong, ComesTo, FetchedTo, WalksTo, Walks, WalksAlone, Reads, settled}
 use Rattle.bs_job.proofs.Plans.{ends_along, ends_then, ends_refused, ends_faulted}
@@ -37,13 +39,19 @@ pub fetched_all : (told told' : Tells) (before now : Counts) (file : File) (name
 fetched_all told told' before now file name old new limit is empty same all counts =
     let new_is : new ≡ all.bytes = all.appended ∙ ap (λ (l : List ℕ). l ++ all.bytes) empty in (
       record { told = same; counts = counts.steady (λ e. cc) },
-      record { within = omega (arith, all.within, ap length new_is); shown = subst (λ (l : List ℕ). IfSome (told name) (λ every. every ≡ l)) (sym new_is) all.told },
+      record {
+        within = omega (arith, all.within, ap length new_is);
+        shown =
+            subst (λ (l : List ℕ). IfSome (told name) (λ every. every ≡ l)) (sym new_is) all.told;
+      },
     )
 
 longer : (limit : ℕ) (bytes every : List ℕ) → limit < length bytes → StartsWith every bytes → limit < length every
 longer limit bytes every beyond starts = omega (arith, beyond, ap length starts, length-take (length bytes) every)
 
-pub fetched_long : (told told' : Tells) (before now : Counts) (file : File) (name old new : List ℕ) (limit : ℕ) (result : Result (Vec ℕ Global) JobFault) → limit ≡ limit_of file → IsTooLong file result → ((other : List ℕ) → told' other ≡ told other) → FetchesTooMany (told name) limit old new → CountsFaults before now name TooLong → ComesTo told told' before now (record { file = file; name = name }) result
+pub fetched_long : (told told' : Tells) (before now : Counts) (file : File) (name old new : List ℕ) (limit : ℕ)
+    (result : Result (Vec ℕ Global) JobFault) → limit ≡ limit_of file → IsTooLong file result → ((other : List ℕ) → told' other ≡ told other) →
+    FetchesTooMany (told name) limit old new → CountsFaults before now name TooLong → ComesTo told told' before now (record { file = file; name = name }) result
 fetched_long told told' before now file name old new limit (Ok v) is long same many counts = absurd long
 fetched_long told told' before now file name old new limit (Err S.NoMemory) is long same many counts = record { told = same; counts = counts.steady (λ e. cc) }
 fetched_long told told' before now file name old new limit (Err (S.Faulted other)) is long same many counts = absurd long
@@ -147,7 +155,8 @@ stops_to allows told told' before now plan f view next_view (S.Refused file why)
 pub walks_stop : {R A B T U : Type 0} {allows : R → List ℕ → Type 0} {S : Type 0} {held : S → Tells} {faults : S → Counts} {leads : S → FetchCall →
     S → Type 0} {before now : S} {plan : Plan R A} {view : T → A} {next_view : U → B} {stop : JobFault} (f : A → Plan R B) →
     Walks allows held faults leads before now plan view (Err stop) → Walks allows held faults leads before now (plan >>= f) next_view (Err stop)
-walks_stop {allows = allows} {held = held} {faults = faults} {before = before} {now = now} {plan = plan} {view = view} {next_view = next_view} {stop = stop} f h =
+walks_stop {allows = allows} {held = held} {faults = faults} {before = before} {now = now} {plan = plan} {view = view} {next_view =
+    next_view} {stop = stop} f h =
     record {
       is = stops_to allows (held before) (held now) (faults before) (faults now) plan f view next_view stop h.is;
       fetches = h.fetches;
@@ -190,7 +199,8 @@ pub walks_then : {R A B T U : Type 0} {allows : R → List ℕ → Type 0} {S : 
     S → Type 0} {before mid now : S} {plan : Plan R A} {view : T → A} {a : T} {next_view : U → B} {result : Result U JobFault} (f : A → Plan R B) →
     Walks allows held faults leads before mid plan view (Ok a) → Walks allows held faults leads mid now (f (view a)) next_view result →
     Walks allows held faults leads before now (plan >>= f) next_view result
-walks_then {allows = allows} {held = held} {faults = faults} {leads = leads} {before = before} {mid = mid} {now = now} {plan = plan} {view = view} {a = a} {next_view = next_view} {result = result} f first h =
+walks_then {allows = allows} {held = held} {faults = faults} {leads = leads} {before = before} {mid = mid} {now = now} {plan = plan} {view = view} {a =
+    a} {next_view = next_view} {result = result} f first h =
     record {
       is = then_to allows (held before) (held mid) (held now) (faults before) (faults mid) (faults now) plan f (view a) next_view result first.is h.is;
       fetches = first.fetches ++ h.fetches;
@@ -315,7 +325,11 @@ pub walks_alone : {R T V : Type 0} {allows : R → List ℕ → Type 0} {S : Typ
 walks_alone {allows = allows} {held = held} {faults = faults} {before = before} {now = now} {plan = plan} {view = view} {result = result} all sure h =
     let is : (told2 : Tells) (before2 : Counts) → WalksTo allows told2 told2 before2 before2 (with_texts (held before) plan) view result =
     λ told2 before2. alone_to allows (held before) (held now) told2 (faults before) (faults now) before2 plan view result all sure h.is in
-    record { is = is; along = alone_goes allows (λ _. None) (λ _. 0) (with_texts (held before) plan) view result (texts_ask_nothing (held before) plan all) (is (λ _. None) (λ _. 0)) }
+    record {
+      is = is;
+      along = alone_goes allows (λ _. None) (λ _. 0) (with_texts (held before) plan) view result
+          (texts_ask_nothing (held before) plan all) (is (λ _. None) (λ _. 0));
+    }
 
 -- a `SureShelf` is such a shelf
 zero_faults : (place : Option ℕ) (f : ℕ → Option (List ℕ)) → IsSome (option_and_then f place) → sure_count place ≡ 0

@@ -17,7 +17,8 @@ abbrev pub RefusesWords : Status → List ℕ → Type 0
 RefusesWords status text = (status ≡ Words) × (text ≡ codes "refused words\n")
 
 -- the plan ended in some way that agrees with the shelf, and calls for this
-pub record Serves {R W : Type 0} (allows : R → List ℕ → Type 0) (finishes : W → Status → List ℕ → Type 0) (told : Tells) (before now : Counts) (plan : Plan R W) (status : Status) (text : List ℕ) : Type 0 where
+pub record Serves {R W : Type 0} (allows : R → List ℕ → Type 0) (finishes : W → Status → List ℕ → Type 0) (told : Tells) (before now : Counts)
+    (plan : Plan R W) (status : Status) (text : List ℕ) : Type 0 where
   pub outcome : Outcome R W
   pub ends : Ends told before now plan outcome
   pub answers : Answers allows finishes outcome status text

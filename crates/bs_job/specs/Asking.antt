@@ -49,7 +49,8 @@ GoesTo {R = R} allows plan view calls (Err (Refused file why)) =
     (reason : Reason R) × Says allows reason why.items × Along plan calls (Some (refused file reason))
 
 -- the fetches go along the plan to an end that calls for this status and text
-pub record AsksTo {R W : Type 0} (allows : R → List ℕ → Type 0) (finishes : W → Status → List ℕ → Type 0) (plan : Plan R W) (calls : List FetchCall) (status : Status) (text : List ℕ) : Type 0 where
+pub record AsksTo {R W : Type 0} (allows : R → List ℕ → Type 0) (finishes : W → Status → List ℕ → Type 0) (plan : Plan R W) (calls : List FetchCall)
+    (status : Status) (text : List ℕ) : Type 0 where
   pub outcome : Outcome R W
   pub along : Along plan calls (Some outcome)
   pub answers : Answers allows finishes outcome status text

@@ -14,7 +14,8 @@ use Rattle.bs_job.specs.Asking.{AsksWhole, AsksShort}
 use Rattle.bs_job.specs.Delivery.{PutsLines}
 
 -- What the words call for was written whole, or its front, where a put failed.
-pub record Answered {R W : Type 0} (allows : R → List ℕ → Type 0) (finishes : W → Status → List ℕ → Type 0) (told : Tells) (before now : Counts) (plan : Option (Plan R W)) (written_before written_now : Option (List ℕ)) (status : Status) : Type 0 where
+pub record Answered {R W : Type 0} (allows : R → List ℕ → Type 0) (finishes : W → Status → List ℕ → Type 0) (told : Tells) (before now : Counts)
+    (plan : Option (Plan R W)) (written_before written_now : Option (List ℕ)) (status : Status) : Type 0 where
   pub called_for : Status
   pub text : List ℕ
   pub calls : CallsFor allows finishes told before now plan called_for text
@@ -24,7 +25,8 @@ pub record Answered {R W : Type 0} (allows : R → List ℕ → Type 0) (finishe
   pub cut : status ≡ WriteFault → StartsWith text part
 
 -- the whole text was written that the words call for, by what the shelf tells
-pub record AnsweredAsTold {R W : Type 0} (allows : R → List ℕ → Type 0) (finishes : W → Status → List ℕ → Type 0) (told : Tells) (plan : Option (Plan R W)) (written_before written_now : Option (List ℕ)) (status : Status) : Type 0 where
+pub record AnsweredAsTold {R W : Type 0} (allows : R → List ℕ → Type 0) (finishes : W → Status → List ℕ → Type 0) (told : Tells)
+    (plan : Option (Plan R W)) (written_before written_now : Option (List ℕ)) (status : Status) : Type 0 where
   pub text : List ℕ
   pub calls : CallsByTold allows finishes told plan status text
   pub wrote : Appends written_before written_now text
@@ -71,7 +73,8 @@ pub record IsCalm {R W : Type 0} (told : Tells) (before now : Counts) (plan : Op
   pub sink : Rose sink_before sink_now → ⊥
 
 -- The whole text was written that the words call for, in some way that agrees with the shelf, and no fault is answered.
-pub record AnsweredWhole {R W : Type 0} (allows : R → List ℕ → Type 0) (finishes : W → Status → List ℕ → Type 0) (told : Tells) (before now : Counts) (plan : Option (Plan R W)) (written_before written_now : Option (List ℕ)) (status : Status) : Type 0 where
+pub record AnsweredWhole {R W : Type 0} (allows : R → List ℕ → Type 0) (finishes : W → Status → List ℕ → Type 0) (told : Tells) (before now : Counts)
+    (plan : Option (Plan R W)) (written_before written_now : Option (List ℕ)) (status : Status) : Type 0 where
   pub text : List ℕ
   pub calls : CallsFor allows finishes told before now plan status text
   pub wrote : Appends written_before written_now text
@@ -80,7 +83,9 @@ pub record AnsweredWhole {R W : Type 0} (allows : R → List ℕ → Type 0) (fi
 
 -- What was asked of the shelf and put into the sink, call by call: the files of the job in their order, each once, up to the one that
 -- stopped it; then the lines of the text that this calls for, one by one, up to and with one that failed.
-pub record CallByCall {S K R W : Type 0} (allows : R → List ℕ → Type 0) (finishes : W → Status → List ℕ → Type 0) (fetch_leads : S → FetchCall → S → Type 0) (shelf_before shelf_now : S) (put_leads : K → PutCall → K → Type 0) (sink_before sink_now : K) (plan : Option (Plan R W)) (status : Status) : Type 0 where
+pub record CallByCall {S K R W : Type 0} (allows : R → List ℕ → Type 0) (finishes : W → Status → List ℕ → Type 0)
+    (fetch_leads : S → FetchCall → S → Type 0) (shelf_before shelf_now : S) (put_leads : K → PutCall → K → Type 0) (sink_before sink_now : K)
+    (plan : Option (Plan R W)) (status : Status) : Type 0 where
   pub called_for : Status
   pub text : List ℕ
   pub fetches : List FetchCall
@@ -90,7 +95,8 @@ pub record CallByCall {S K R W : Type 0} (allows : R → List ℕ → Type 0) (f
   pub answered : status ≢ WriteFault → status ≡ called_for
 
 -- The same after want of memory: the first of those files, and no put.
-pub record CallsWanting {S K R W : Type 0} (fetch_leads : S → FetchCall → S → Type 0) (shelf_before shelf_now : S) (sink_before sink_now : K) (plan : Option (Plan R W)) : Type 0 where
+pub record CallsWanting {S K R W : Type 0} (fetch_leads : S → FetchCall → S → Type 0) (shelf_before shelf_now : S) (sink_before sink_now : K)
+    (plan : Option (Plan R W)) : Type 0 where
   pub fetches : List FetchCall
   pub asked : InTurn fetch_leads shelf_before fetches shelf_now
   pub along : AsksShort plan fetches

@@ -11,7 +11,8 @@ use Rattle.bs_job.specs.declared.status.Status.{Status}
 use Rattle.bs_job.specs.declared.status.Status.TheVariants.{WriteFault}
 
 -- the text was written whole and its status answered, or its front, where a put failed
-pub record Delivers (status : Status) (text : List ℕ) (written_before written_now : Option (List ℕ)) (faults_before faults_now : ℕ) (answered : Status) : Type 0 where
+pub record Delivers (status : Status) (text : List ℕ) (written_before written_now : Option (List ℕ)) (faults_before faults_now : ℕ)
+    (answered : Status) : Type 0 where
   pub part : List ℕ
   pub wrote : Appends written_before written_now part
   pub whole : answered ≢ WriteFault → (answered ≡ status) × (part ≡ text)

@@ -13,19 +13,22 @@ use Rattle.bs_job.specs.Answers.{CallsFor}
 use Rattle.bs_job.specs.Asking.{AsksTo, AsksWhole, AsksShort}
 
 -- the answer is one that the words call for; a count rose only where it is a read fault
-pub record Prepares {R W : Type 0} (allows : R → List ℕ → Type 0) (finishes : W → Status → List ℕ → Type 0) (told : Tells) (before now : Counts) (plan : Option (Plan R W)) (answer : Reply) : Type 0 where
+pub record Prepares {R W : Type 0} (allows : R → List ℕ → Type 0) (finishes : W → Status → List ℕ → Type 0) (told : Tells) (before now : Counts)
+    (plan : Option (Plan R W)) (answer : Reply) : Type 0 where
   pub calls : CallsFor allows finishes told before now plan answer.status answer.text.items
   pub steady : answer.status ≢ ReadFault → (name : List ℕ) → now name ≡ before name
   pub no_write : answer.status ≢ WriteFault
 
 -- the same, where no shelf is asked
-pub record PreparesAlone {R W : Type 0} (allows : R → List ℕ → Type 0) (finishes : W → Status → List ℕ → Type 0) (plan : Plan R W) (answer : Reply) : Type 0 where
+pub record PreparesAlone {R W : Type 0} (allows : R → List ℕ → Type 0) (finishes : W → Status → List ℕ → Type 0) (plan : Plan R W)
+    (answer : Reply) : Type 0 where
   pub is : (told : Tells) (before : Counts) → Prepares allows finishes told before before (Some plan) answer
   pub along : AsksTo allows finishes plan [] answer.status answer.text.items
 
 -- The answer is one that the words call for, unless memory ran out; and the shelf was asked for the files of the job alone, in their
 -- order, each once, up to the one that stopped it.
-pub record Prepared {S R W : Type 0} (allows : R → List ℕ → Type 0) (finishes : W → Status → List ℕ → Type 0) (held : S → Tells) (faults : S → Counts) (leads : S → FetchCall → S → Type 0) (before now : S) (plan : Option (Plan R W)) (result : Result Reply WantsMemory) : Type 0 where
+pub record Prepared {S R W : Type 0} (allows : R → List ℕ → Type 0) (finishes : W → Status → List ℕ → Type 0) (held : S → Tells) (faults : S → Counts)
+    (leads : S → FetchCall → S → Type 0) (before now : S) (plan : Option (Plan R W)) (result : Result Reply WantsMemory) : Type 0 where
   pub answer : IfOk result (Prepares allows finishes (held before) (faults before) (faults now) plan)
   pub fetches : List FetchCall
   pub asked : InTurn leads before fetches now

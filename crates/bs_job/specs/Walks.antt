@@ -36,7 +36,8 @@ ComesTo told_before told_now before now w (Err (Refused other why)) =
     IsSame told_before told_now before now × IsLong told_before w × (other ≡ w.file) × (why.items ≡ codes "TooLong")
 
 -- the file was fetched, in one call: its bytes came, it failed, or it is too long, unless memory ran out
-pub record FetchedTo {S : Type 0} (held : S → Tells) (faults : S → Counts) (leads : S → FetchCall → S → Type 0) (before now : S) (file : File) (name : List ℕ) (result : Result (Vec ℕ Global) JobFault) : Type 0 where
+pub record FetchedTo {S : Type 0} (held : S → Tells) (faults : S → Counts) (leads : S → FetchCall → S → Type 0) (before now : S) (file : File)
+    (name : List ℕ) (result : Result (Vec ℕ Global) JobFault) : Type 0 where
   pub is : ComesTo (held before) (held now) (faults before) (faults now) (record { file = file; name = name }) result
   pub call : FetchCall
   pub asked : leads before call now
@@ -52,7 +53,8 @@ WalksTo {R = R} allows told_before told_now before now plan view (Err (Refused f
     IsSame told_before told_now before now × ((reason : Reason R) × Says allows reason why.items × Ends told_before before now plan (refused file reason))
 
 -- the plan was followed to this end, or memory ran out; and the shelf was asked for the plan's files alone, each once
-pub record Walks {S R T V : Type 0} (allows : R → List ℕ → Type 0) (held : S → Tells) (faults : S → Counts) (leads : S → FetchCall → S → Type 0) (before now : S) (plan : Plan R V) (view : T → V) (result : Result T JobFault) : Type 0 where
+pub record Walks {S R T V : Type 0} (allows : R → List ℕ → Type 0) (held : S → Tells) (faults : S → Counts) (leads : S → FetchCall → S → Type 0)
+    (before now : S) (plan : Plan R V) (view : T → V) (result : Result T JobFault) : Type 0 where
   pub is : WalksTo allows (held before) (held now) (faults before) (faults now) plan view result
   pub fetches : List FetchCall
   pub asked : InTurn leads before fetches now

@@ -1,22 +1,22 @@
--- Names are ASCII, and where tokens lie.
-use Rattle.std.proofs.Common.{◌≡◌, ℕ, zero, suc, ◌+◌, ◌-◌, ◌<◌, ◌≤◌, Bool, true, false, ◌||◌, ◌&&◌, ◌==◌, List, [], ◌∷◌, ◌++◌, length, get_or, take, drop, Option, Some, None, ◌⊎◌, inl, inr, subst, sym, arith, get_or-take, length-take, length-drop}
-use Rattle.std.specs.Prelude.{⊤, All, slice_index, nat_lt}
+-- Names are ASCII, and tokens lie in their source.
+use Rattle.std.proofs.Common.{◌≡◌, ℕ, zero, suc, ◌+◌, ◌-◌, ◌<◌, ◌≤◌, Bool, true, false, ◌||◌, ◌&&◌, ◌==◌, List, [], ◌∷◌, length, get_or, take, drop}
+use Rattle.std.proofs.Common.{Option, Some, None, ◌⊎◌, inl, inr, subst, sym, arith, get_or-take, length-take, length-drop}
+use Rattle.std.specs.Prelude.{⊤, slice_index, nat_lt}
 use Rattle.std.specs.List.{prefix_len}
 use Rattle.std.specs.Str.{IsAscii}
 use Rattle.std.specs.Char.{is_ascii_alphanumeric}
 use Rattle.std.specs.Int.{is_in_range}
 use Rattle.std.proofs.lemmas.Bool.{leb-true, eqb-true, and_parts, or_cases, cases_lt, cond_both}
-use Rattle.std.proofs.lemmas.List.{get_or_past, get_or_push, get_or_append_left, length_push}
+use Rattle.std.proofs.lemmas.List.{get_or_past}
 use Rattle.std.proofs.lemmas.List.Sums.{prefix_len_passes}
-use Rattle.std.proofs.lemmas.List.Elements.{All-nil, All-push, All-weaker}
-use Rattle.bs_lex.specs.declared.token.Token.{Token}
 use Rattle.bs_lex.specs.declared.token.TokenKind.{TokenKind}
 use Rattle.bs_lex.specs.declared.token.TokenKind.TheVariants.{Text}
 use Rattle.bs_lex.specs.declared.token.Piece.{Piece}
 use Rattle.bs_lex.specs.declared.token.Piece.TheVariants.{Passed, Made, Bad}
 use Rattle.bs_lex.specs.Bytes.{◌∈◌, is_space, is_digit, begins_name, is_of_name, is_graphic, is_symbol}
-use Rattle.bs_lex.specs.Tokens.{first, comment_size, quoted_size, slash, quoted, escaped, system, directive, is_passed_over, number_size, number, mark, piece_at}
-use Rattle.bs_lex.specs.Placing.{IsAsciiName, LiesIn, IsInOrder, AreTokensOf, token_text}
+use Rattle.bs_lex.specs.Tokens.{first, comment_size, quoted_size, slash, quoted, escaped, system, directive, is_passed_over, number_size, number, mark}
+use Rattle.bs_lex.specs.Tokens.{piece_at}
+use Rattle.bs_lex.specs.Placing.{IsAsciiName}
 
 in_range : (lo hi c : ℕ) → hi < 128 → is_in_range lo hi c ≡ true → c < 128
 in_range lo hi c h e = omega (arith, leb-true c hi (and_parts _ _ e).1)
@@ -117,59 +117,12 @@ made_is_ascii : (kind : TokenKind) (size : ℕ) (text : List ℕ) → 1 ≤ leng
 made_is_ascii kind size [] some e = absurd (omega arith)
 made_is_ascii kind size (c ∷ rest) some e = subst (IsAsciiPiece (c ∷ rest)) (sym e) (of_piece c rest)
 
--- The tokens that are made before a place.
-pub record ArePlacedBefore (source : List ℕ) (at : ℕ) (ts : List Token) : Type 0 where
-  within : All (LiesIn source) ts
-  before : All (λ (t : Token). t.stop ≤ at) ts
-  ascii : All (λ (t : Token). IsAsciiName t.kind (token_text source t)) ts
-  in_order : IsInOrder ts
-  few : length ts ≤ at
-
-pub nothing_made : (source : List ℕ) → ArePlacedBefore source 0 []
-nothing_made source = record {
-  within = All-nil (LiesIn source);
-  before = All-nil (λ (t : Token). t.stop ≤ 0);
-  ascii = All-nil (λ (t : Token). IsAsciiName t.kind (token_text source t));
-  in_order = (λ i j d h within. absurd (omega arith));
-  few = omega arith;
-}
-
-pub further : (source : List ℕ) (at size : ℕ) (ts : List Token) → ArePlacedBefore source at ts → ArePlacedBefore source (at + size) ts
-further source at size ts h = record {
-  within = h.within;
-  before = All-weaker (λ (t : Token). t.stop ≤ at) (λ (t : Token). t.stop ≤ at + size) (λ t le. omega (arith, le)) ts h.before;
-  ascii = h.ascii;
-  in_order = h.in_order;
-  few = omega (arith, h.few);
-}
-
--- a token that begins where the others end
-in_order_push : (ts : List Token) (t : Token) → All (λ (u : Token). u.stop ≤ t.start) ts → IsInOrder ts → IsInOrder (ts ++ t ∷ [])
-in_order_push ts t before sorted i j d less within = by (cases_lt j (length ts))
-  where
-    by : (j < length ts) ⊎ (length ts ≤ j) → (get_or (ts ++ t ∷ []) i d).stop ≤ (get_or (ts ++ t ∷ []) j d).start
-    by (inl h) =
-        rw (get_or_append_left ts (t ∷ []) d j h, get_or_append_left ts (t ∷ []) d i (omega (arith, h, less))) (sorted i j d less h)
-    by (inr h) =
-        let last : length ts ≡ j = omega (arith, h, within, length_push ts t) in
-        rw (get_or_push ts t d j last, get_or_append_left ts (t ∷ []) d i (omega (arith, last, less))) (before i d (omega (arith, last, less)))
-
-pub one_made : (source : List ℕ) (at size : ℕ) (kind : TokenKind) (ts : List Token) → at < length source → Made kind size ≡ piece_at (drop at source)
-    → (1 ≤ size) × (size ≤ length source - at) → ArePlacedBefore source at ts
-    → ArePlacedBefore source (at + size) (ts ++ record { kind = kind; start = at; stop = at + size } ∷ [])
-one_made source at size kind ts h e within before =
-    let t : Token = record { kind = kind; start = at; stop = at + size } in
-    let rest = further source at size ts before in
+-- a token that is made lies in its source, and is ASCII where it is a name
+pub made_lies : (source : List ℕ) (from at size : ℕ) (kind : TokenKind) → from ≤ at → at < length source → Made kind size ≡ piece_at (drop at source)
+    → (1 ≤ size) × (size ≤ length source - at)
+    → (from ≤ at) × (((at < at + size) × (at + size ≤ length source)) × IsAsciiName kind (take (at + size - at) (drop at source)))
+made_lies source from at size kind before h e within =
     let some : 1 ≤ length (drop at source) = omega (arith, h, length-drop at source) in
     let span : at + size - at ≡ size = omega arith in
     let text : IsAsciiName kind (take (at + size - at) (drop at source)) = rw span (made_is_ascii kind size (drop at source) some e) in
-    record {
-      within = All-push (LiesIn source) ts t rest.within (omega (arith, within.0), omega (arith, h, within.1));
-      before = All-push (λ (u : Token). u.stop ≤ at + size) ts t rest.before (omega arith);
-      ascii = All-push (λ (u : Token). IsAsciiName u.kind (token_text source u)) ts t rest.ascii text;
-      in_order = in_order_push ts t before.before before.in_order;
-      few = omega (arith, before.few, within.0, length_push ts t);
-    }
-
-pub placed : (source : List ℕ) (at : ℕ) (ts : List Token) → at ≤ length source → ArePlacedBefore source at ts → AreTokensOf source ts
-placed source at ts h before = record { within = before.within; ascii = before.ascii; in_order = before.in_order; few = omega (arith, h, before.few) }
+    (before, ((omega (arith, within.0), omega (arith, h, within.1)), text))

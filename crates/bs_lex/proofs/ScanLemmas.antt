@@ -1,15 +1,10 @@
 -- The tokens of a text, piece by piece.
-use Rattle.std.proofs.Common.{◌≡◌, ℕ, zero, suc, ◌+◌, ◌-◌, ◌<◌, ◌≤◌, List, [], ◌∷◌, ◌++◌, length, drop, Result, Ok, Err, refl, sym, ap, ◌∙◌, arith, append_assoc, length-drop}
-use Rattle.std.proofs.lemmas.List.{append-nil, drop_all, drop-drop}
-use Rattle.bs_lex.specs.declared.token.Token.{Token}
+use Rattle.std.proofs.Common.{◌≡◌, ℕ, zero, suc, ◌+◌, ◌-◌, ◌<◌, ◌≤◌, List, [], ◌∷◌, length, drop, Ok, Err, refl, ap, ◌∙◌, arith, length-drop}
+use Rattle.std.proofs.lemmas.List.{drop_all, drop-drop}
 use Rattle.bs_lex.specs.declared.token.TokenKind.{TokenKind}
 use Rattle.bs_lex.specs.declared.token.Piece.TheVariants.{Passed, Made, Bad}
-use Rattle.bs_lex.specs.Tokens.{piece_at, tokens_from, tokens_of, with_token}
-
--- the tokens of a front, and what a rest answers
-abbrev pub with_front : List Token → Result (List Token) ℕ → Result (List Token) ℕ
-with_front front (Ok ts) = Ok (front ++ ts)
-with_front front (Err at) = Err at
+use Rattle.bs_lex.specs.Tokens.{piece_at, tokens_from, with_token}
+use Rattle.bs_lex.specs.Placing.{tokens_after}
 
 skipped : (at n : ℕ) (text : List ℕ) → n ≤ length text → tokens_from at n text ≡ tokens_from (at + n) 0 (drop n text)
 unfolding tokens_from
@@ -45,53 +40,30 @@ unfolding tokens_from
 bad at ahead [] some e = absurd (omega arith)
 bad at ahead (c ∷ text) some e = rw (tokens_from, ← e) refl
 
-pub one_more : (front : List Token) (t : Token) (r : Result (List Token) ℕ) → with_front front (with_token t r) ≡ with_front (front ++ t ∷ []) r
-one_more front t (Ok ts) = ap (λ (x : List Token). Ok x) (sym (append_assoc front (t ∷ []) ts))
-one_more front t (Err at) = refl
+moved : (at size : ℕ) (source : List ℕ) → tokens_from (at + size) 0 (drop size (drop at source)) ≡ tokens_after source (at + size)
+moved at size source = ap (tokens_from (at + size) 0) (drop-drop size at source)
 
-pub no_front : (r : Result (List Token) ℕ) → with_front [] r ≡ r
-no_front (Ok ts) = refl
-no_front (Err at) = refl
+pub on_passed : (source : List ℕ) (from at size : ℕ) → at < length source → Passed size ≡ piece_at (drop at source)
+    → (1 ≤ size) × (size ≤ length source - at) → tokens_after source from ≡ tokens_after source at
+    → tokens_after source from ≡ tokens_after source (at + size)
+on_passed source from at size h e within so_far =
+    let room : length (drop at source) ≡ length source - at = length-drop at source in
+    so_far ∙ (passed at size (drop at source) (omega (arith, room, h)) e within.0 (omega (arith, room, within.1)) ∙ moved at size source)
 
-pub at_end : (front : List Token) (at : ℕ) (text : List ℕ) (total : Result (List Token) ℕ) → length text ≤ at
-    → with_front front (tokens_from at 0 (drop at text)) ≡ total → total ≡ Ok front
+pub on_made : (source : List ℕ) (from at size : ℕ) (kind : TokenKind) → at < length source → Made kind size ≡ piece_at (drop at source)
+    → (1 ≤ size) × (size ≤ length source - at) → tokens_after source from ≡ tokens_after source at
+    → tokens_after source from ≡ with_token (record { kind = kind; start = at; stop = at + size }) (tokens_after source (at + size))
+on_made source from at size kind h e within so_far =
+    let room : length (drop at source) ≡ length source - at = length-drop at source in
+    so_far
+    ∙ (made at size kind (drop at source) (omega (arith, room, h)) e within.0 (omega (arith, room, within.1)) ∙ ap (with_token _) (moved at size source))
+
+pub on_bad : (source : List ℕ) (from at ahead : ℕ) → at < length source → Bad ahead ≡ piece_at (drop at source)
+    → tokens_after source from ≡ tokens_after source at → tokens_after source from ≡ Err (at + ahead)
+on_bad source from at ahead h e so_far =
+    let room : length (drop at source) ≡ length source - at = length-drop at source in
+    so_far ∙ bad at ahead (drop at source) (omega (arith, room, h)) e
+
+pub at_end : (source : List ℕ) (from at : ℕ) → length source ≤ at → tokens_after source from ≡ tokens_after source at → tokens_after source from ≡ Ok []
 unfolding tokens_from
-at_end front at text total h so_far =
-    let e : with_front front (tokens_from at 0 (drop at text)) ≡ Ok front = rw (drop_all at text h) (ap (λ (x : List Token). Ok x) (append-nil front)) in
-    sym so_far ∙ e
-
--- the place after a piece
-abbrev pub IsNext : List Token → ℕ → List ℕ → Result (List Token) ℕ → Type 0
-IsNext front at bytes total = (at ≤ length bytes) × (with_front front (tokens_from at 0 (drop at bytes)) ≡ total)
-
-moved : (at size : ℕ) (bytes : List ℕ) → tokens_from (at + size) 0 (drop size (drop at bytes)) ≡ tokens_from (at + size) 0 (drop (at + size) bytes)
-moved at size bytes = ap (tokens_from (at + size) 0) (drop-drop size at bytes)
-
-pub on_passed : (front : List Token) (at size : ℕ) (bytes : List ℕ) (total : Result (List Token) ℕ) → at < length bytes → Passed size ≡ piece_at (drop at bytes)
-    → (1 ≤ size) × (size ≤ length bytes - at) → IsNext front at bytes total → IsNext front (at + size) bytes total
-on_passed front at size bytes total h e within so_far =
-    let room : length (drop at bytes) ≡ length bytes - at = length-drop at bytes in (
-      omega (arith, room, within.1),
-      ap (with_front front) (sym (passed at size (drop at bytes) (omega (arith, room)) e within.0
-          (omega (arith, room, within.1)) ∙ moved at size bytes)) ∙ so_far.1,
-    )
-
-pub on_made : (front : List Token) (at size : ℕ) (kind : TokenKind) (bytes : List ℕ) (total : Result (List Token) ℕ) → at < length bytes
-    → Made kind size ≡ piece_at (drop at bytes)
-    → (1 ≤ size) × (size ≤ length bytes - at) → IsNext front at bytes total
-    → IsNext (front ++ record { kind = kind; start = at; stop = at + size } ∷ []) (at + size) bytes total
-on_made front at size kind bytes total h e within so_far =
-    let room : length (drop at bytes) ≡ length bytes - at = length-drop at bytes in
-    let t : Token = record { kind = kind; start = at; stop = at + size } in
-    let step : tokens_from at 0 (drop at bytes) ≡ with_token t (tokens_from (at + size) 0 (drop (at + size) bytes)) =
-    made at size kind (drop at bytes) (omega (arith, room)) e within.0 (omega (arith, room, within.1)) ∙ ap (with_token t) (moved at size bytes) in
-    (omega (arith, room, within.1), sym (one_more front t _) ∙ ap (with_front front) (sym step) ∙ so_far.1)
-
-pub on_bad : (front : List Token) (at ahead : ℕ) (bytes : List ℕ) (total : Result (List Token) ℕ) → at < length bytes → Bad ahead ≡ piece_at (drop at bytes)
-    → IsNext front at bytes total → total ≡ Err (at + ahead)
-on_bad front at ahead bytes total h e so_far =
-    let room : length (drop at bytes) ≡ length bytes - at = length-drop at bytes in
-    sym so_far.1 ∙ ap (with_front front) (bad at ahead (drop at bytes) (omega (arith, room)) e)
-
-pub at_start : (bytes : List ℕ) → IsNext [] 0 bytes (tokens_of bytes)
-at_start bytes = (omega arith, no_front (tokens_of bytes))
+at_end source from at h so_far = so_far ∙ ap (tokens_from at 0) (drop_all at source h)

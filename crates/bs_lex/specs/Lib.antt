@@ -1,4 +1,4 @@
--- What the contract of `tokens` rests on.
+-- What the contract of `next_token` rests on.
 pub mod Tokens
 pub mod Placing
 -- What inner functions promise each other.

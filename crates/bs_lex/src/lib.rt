@@ -1,8 +1,7 @@
-//! The tokens of a netlist text, each a slice of its source, in order.
+//! The tokens of a netlist text, each a slice of its source, one after another.
 #![tactic(auto)]
 
 mod classes;
-mod fault;
 mod forms;
 mod limits;
 mod numbers;
@@ -11,7 +10,6 @@ mod scan;
 mod token;
 
 pub use classes::{begins_name, byte_at, is_base, is_of_name};
-pub use fault::LexFault;
 pub use limits::MAX_BYTES;
-pub use scan::tokens;
-pub use token::{Token, TokenKind, TokenList};
+pub use scan::next_token;
+pub use token::{Next, Token, TokenKind};

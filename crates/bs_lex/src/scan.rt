@@ -1,36 +1,31 @@
 //! The scan of a text.
-ghost use Rattle.std.specs.Prelude.{◌≤◌, length, IfOk};
+ghost use Rattle.std.specs.Prelude.{◌≤◌, length};
 ghost use Rattle.bs_lex.specs.declared.limits.TheConstants.{MAX_BYTES};
-ghost use Rattle.bs_lex.specs.Placing.{AreTokensOf};
-ghost use Rattle.bs_lex.specs.Tokens.{tokens_of, Answers};
+ghost use Rattle.bs_lex.specs.Placing.{IsNext};
 
-use crate::fault::LexFault;
 use crate::pieces::piece_from;
-use crate::token::{Piece, Token, TokenList};
-use std::alloc::Global;
+use crate::token::{Next, Piece, Token};
 
-/// The tokens of a text of at most 16 MiB in order, or the first place at which no white space, comment or token
-/// begins (docs/FORMATS.md, "Tokens").
-pub fn tokens(alloc: Global, bytes: &[u8]) -> Result<TokenList, LexFault>
-    requires { length bytes.now ≤ MAX_BYTES }
-    ensures tokens { Answers (λ ts. ts) result (tokens_of bytes.now) }
-    ensures placed { IfOk result (λ ts. AreTokensOf bytes.now ts) }
+/// What stands next in a text of at most 16 MiB from a place on: a token, the end, or the first place at which no white
+/// space, comment or token begins (docs/FORMATS.md, "Tokens").
+pub fn next_token(bytes: &[u8], from: usize) -> Next
+    requires few { length bytes.now ≤ MAX_BYTES }
+    requires within { from ≤ length bytes.now }
+    ensures { IsNext bytes.now from result }
 {
-    let mut items = Vec::new(alloc);
-    let mut at: usize = 0;
+    let mut at = from;
     while at < bytes.len() {
         match piece_from(bytes, at) {
             Piece::Passed(size) => at += size,
             Piece::Made(kind, size) => {
-                items.push(Token {
+                return Next::Found(Token {
                     kind,
                     start: at as u32,
                     stop: (at + size) as u32,
-                })?;
-                at += size;
+                });
             }
-            Piece::Bad(ahead) => return Err(LexFault::BadByte((at + ahead) as u32)),
+            Piece::Bad(ahead) => return Next::Refused((at + ahead) as u32),
         }
     }
-    Ok(TokenList { items })
+    Next::End
 }

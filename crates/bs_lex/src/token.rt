@@ -1,7 +1,4 @@
-//! Tokens, and lists of them.
-ghost use Rattle.std.specs.Prelude.{◌≡◌};
-
-use std::marker::Model;
+//! Tokens, and what else stands in a text.
 
 /// The kind of a token.
 #[derive(Clone, Copy, Debug, PartialEq, Eq)]
@@ -34,28 +31,15 @@ pub struct Token {
     pub stop: u32,
 }
 
-/// The tokens of a text in order.
-#[derive(Debug, Drop)]
-pub struct TokenList {
-    pub(crate) items: Vec<Token>,
-}
-
-impl Model for TokenList {
-    ghost use Rattle.std.specs.Prelude.{List};
-    ghost use Rattle.bs_lex.specs.declared.token.Token.{Token};
-
-    ghost Value = { List Token };
-
-    ghost view = { λ l. l.items.items };
-}
-
-impl TokenList {
-    /// The tokens as a slice.
-    pub fn slice(&self) -> &[Token]
-        ensures { result.now ≡ self.now }
-    {
-        self.items.as_slice()
-    }
+/// What stands next in a text.
+#[derive(Clone, Copy, Debug, PartialEq, Eq)]
+pub enum Next {
+    /// A token, after white space and comments.
+    Found(Token),
+    /// Nothing but white space and comments.
+    End,
+    /// The first place at which no white space, comment or token begins.
+    Refused(u32),
 }
 
 /// What begins at a place of a text.

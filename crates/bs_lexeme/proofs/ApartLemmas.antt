@@ -1,5 +1,6 @@
 -- Numbers of digits are told apart as numbers.
-use Rattle.std.proofs.Common.{◌≡◌, ◌≢◌, ℕ, zero, suc, ◌+◌, ◌-◌, ◌*◌, ◌<◌, ◌≤◌, ◌⊎◌, inl, inr, Bool, true, false, cond, List, [], ◌∷◌, length, get_or, min, Some, None, refl, sym, ap, ◌∙◌, arith, nat_lt}
+use Rattle.std.proofs.Common.{◌≡◌, ◌≢◌, ℕ, zero, suc, ◌+◌, ◌-◌, ◌*◌, ◌<◌, ◌≤◌, ◌⊎◌, inl, inr, Bool, true, false, cond, List, [], ◌∷◌, length, get_or}
+use Rattle.std.proofs.Common.{min, Some, None, refl, sym, ap, ◌∙◌, arith, nat_lt}
 use Rattle.std.specs.Prelude.{◌==◌, ◌↔◌, if◌then◌else◌, nat_le, unwrap_or, slice_get, slice_index}
 use Rattle.std.specs.List.{list_all}
 use Rattle.std.specs.Str.{bytes_eq}
@@ -13,7 +14,8 @@ use Rattle.bs_lex.specs.declared.token.Token.{Token}
 use Rattle.bs_lex.specs.declared.token.TokenKind.TheVariants as kinds
 use Rattle.bs_lexeme.specs.declared.lexeme.Sort.{Sort}
 use Rattle.bs_lexeme.specs.declared.lexeme.Sort.TheVariants as sorts
-use Rattle.bs_lexeme.specs.Lexemes.{is_name, sort_of, is_one_bit, is_great, has_leading_zero, without_zeros, decimal_from, spelling, token_sort, name_text, with_name, names_from, names_of, number_in, numbered_sort}
+use Rattle.bs_lexeme.specs.Lexemes.{is_name, sort_of, is_one_bit, is_great, has_leading_zero, without_zeros, decimal_from, spelling, token_sort}
+use Rattle.bs_lexeme.specs.Lexemes.{name_text, with_name, names_from, names_of, number_in, numbered_sort}
 use Rattle.bs_lexeme.specs.Apart.{IsDigits, value, seen, TellsNumbersApart}
 use Rattle.bs_lexeme.proofs.NamingLemmas.{numbered, stays_from}
 
@@ -119,7 +121,8 @@ values_agree a b e = sym (same_value a) ∙ (ap (decimal_from 0) e ∙ same_valu
 
 -- ---- what stands among the names
 
-pub sees : (names : List (List ℕ)) (source : List ℕ) (ts : List Token) (i : ℕ) (t : Token) (key : List ℕ) → slice_get ts i ≡ Some t → name_text source t ≡ Some key
+pub sees : (names : List (List ℕ)) (source : List ℕ) (ts : List Token) (i : ℕ) (t : Token) (key : List ℕ) → slice_get ts i ≡ Some t →
+    name_text source t ≡ Some key
     → (k : ℕ) × (number_of (names_from names source ts) key ≡ Some k)
 unfolding names_from
 sees names source [] i t key e h = absurd cc

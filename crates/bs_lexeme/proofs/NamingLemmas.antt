@@ -1,11 +1,12 @@
 -- The names of a text, numbered as they come.
-use Rattle.std.proofs.Common.{◌≡◌, ℕ, ◌+◌, ◌-◌, ◌<◌, ◌≤◌, Bool, true, false, cond, List, [], ◌∷◌, ◌++◌, map, length, get_or, take, drop, Option, Some, None, Result, Ok, Err, refl, sym, ap, ◌∙◌, arith, nat_lt, length-append}
+use Rattle.std.proofs.Common.{◌≡◌, ℕ, ◌+◌, ◌-◌, ◌<◌, ◌≤◌, Bool, true, false, cond, List, [], ◌∷◌, ◌++◌, map, length, take, drop, Option, Some, None}
+use Rattle.std.proofs.Common.{Result, Ok, Err, refl, sym, ap, ◌∙◌, arith, nat_lt, length-append, append_assoc}
 use Rattle.std.specs.Prelude.{if◌then◌else◌, unwrap_or, MatchResult, IsOk, zero, suc, nat_le, min, ◌==◌, slice_index}
 use Rattle.std.specs.List.{list_any, list_all, position_or_len}
 use Rattle.std.specs.Str.{bytes_eq, IsAscii}
 use Rattle.std.proofs.lemmas.Bool.{cond_both, ne_eqb, true≢false, and_parts, leb-true}
 use Rattle.std.proofs.lemmas.Bool.Decides.{nat_tests}
-use Rattle.std.proofs.lemmas.List.{get_or-drop, map-append, take_more, take_all, at_drop_more, drop_all}
+use Rattle.std.proofs.lemmas.List.{get_or-drop, map-append, append-nil, take_all}
 use Rattle.std.proofs.lemmas.List.Folds.{position_or_len_push}
 use Rattle.bs_net.specs.Names.{with_key, number_of}
 use Rattle.bs_net.proofs.NamesLemmas.{kept, appended, appended_number, number_within, with_key-one_more}
@@ -13,11 +14,16 @@ use Rattle.bs_lex.specs.Bytes.{◌∈◌, is_digit}
 use Rattle.bs_lex.specs.declared.token.Token.{Token}
 use Rattle.bs_lex.specs.declared.token.TokenKind.{TokenKind}
 use Rattle.bs_lex.specs.declared.token.TokenKind.TheVariants as kinds
-use Rattle.bs_lex.specs.Placing.{token_text, IsAsciiName}
-use Rattle.bs_lexeme.specs.declared.lexeme.Lexeme.{Lexeme}
+use Rattle.bs_lex.specs.declared.token.Next.TheVariants.{Found, End}
+use Rattle.bs_lex.specs.Tokens.{tokens_of, with_token}
+use Rattle.bs_lex.specs.Placing.{token_text, IsAsciiName, IsNext, tokens_after}
+use Rattle.bs_lexeme.specs.declared.fault.LexFault.TheVariants.{BadByte}
+use Rattle.bs_lexeme.specs.Packed.{Lexeme}
 use Rattle.bs_lexeme.specs.declared.lexeme.Sort.TheVariants as sorts
 use Rattle.bs_lexeme.specs.declared.lexeme.Word as code
-use Rattle.bs_lexeme.specs.Lexemes.{sort_of, sort_of_name, sort_of_number, word_of, cell_of, decimal_from, has_leading_zero, is_one_bit, is_escaped, spelling, token_sort, name_text, is_great, without_zeros, numbered_lexeme, with_name, names_from, names_of, number_in, lexeme_of, lexemes_of, end_of, is_name}
+use Rattle.bs_lexeme.specs.Lexemes.{sort_of, sort_of_name, sort_of_number, word_of, cell_of, decimal_from, has_leading_zero, is_one_bit, is_escaped, spelling}
+use Rattle.bs_lexeme.specs.Lexemes.{token_sort, name_text, is_great, without_zeros, numbered_lexeme, with_name, names_from, names_of, number_in, lexeme_of}
+use Rattle.bs_lexeme.specs.Lexemes.{lexemes_of, lexed, end_of, is_name}
 
 -- what is readable unless it is not UTF-8
 pub is_readable : {X Y : Type 0} (r : Result X Y) (P : X → Type 0) (Q : Y → Type 0) (U : Type 0) → U → MatchResult r P (λ e. (U → ⊥) × Q e) → IsOk r
@@ -165,55 +171,101 @@ final_number names source ts (Some key) =
 
 -- ---- the loop over the tokens
 
--- the tokens before a place have their lexemes, and the table has their names
-pub record AreNamed (source : List ℕ) (tokens : List Token) (i : ℕ) (table : List (List ℕ)) (lexemes : List Lexeme) : Type 0 where
-  pub names : names_from table source (drop i tokens) ≡ names_of source tokens
-  pub made : lexemes ≡ map (lexeme_of (names_of source tokens) source) (take i tokens)
-  pub few : length table ≤ i
-
-pub none_named : (source : List ℕ) (tokens : List Token) → AreNamed source tokens 0 [] []
-none_named source tokens = record { names = refl; made = refl; few = omega arith }
-
-first_name : (names : List (List ℕ)) (source : List ℕ) (t : Token) (ts : List Token)
-    → names_from names source (t ∷ ts) ≡ names_from (with_name names (name_text source t)) source ts
+-- the names of a list of tokens, and then of further ones
+names_more : (names : List (List ℕ)) (source : List ℕ) (ts us : List Token)
+    → names_from names source (ts ++ us) ≡ names_from (names_from names source ts) source us
 unfolding names_from
-first_name names source t ts = refl
+names_more names source [] us = refl
+names_more names source (t ∷ ts) us = names_more (with_name names (name_text source t)) source ts us
+
+-- the number of a name stays as further names are added
+number_stays : (names : List (List ℕ)) (source : List ℕ) (ts us : List Token) (o : Option (List ℕ))
+    → number_in (names_from (names_from (with_name names o) source ts) source us) o ≡ number_in (names_from (with_name names o) source ts) o
+number_stays names source ts us o =
+    ap (λ all. number_in all o) (sym (names_more (with_name names o) source ts us))
+    ∙ (final_number names source (ts ++ us) o ∙ sym (final_number names source ts o))
+
+-- and with it the lexemes
+lexemes_stay : (names : List (List ℕ)) (source : List ℕ) (ts us : List Token)
+    → map (lexeme_of (names_from (names_from names source ts) source us) source) ts ≡ map (lexeme_of (names_from names source ts) source) ts
+unfolding names_from
+lexemes_stay names source [] us = refl
+lexemes_stay names source (t ∷ ts) us =
+    let after = with_name names (name_text source t) in
+    let number = number_stays names source ts us (name_text source t) in
+    let rest = lexemes_stay after source ts us in
+    λ i. numbered_lexeme (number i) source t ∷ rest i
+
+-- the tokens of a front, and what a rest answers
+abbrev pub with_front : List Token → Result (List Token) ℕ → Result (List Token) ℕ
+with_front front (Ok ts) = Ok (front ++ ts)
+with_front front (Err at) = Err at
+
+no_front : (r : Result (List Token) ℕ) → with_front [] r ≡ r
+no_front (Ok ts) = refl
+no_front (Err at) = refl
+
+one_more : (front : List Token) (t : Token) (r : Result (List Token) ℕ) → with_front front (with_token t r) ≡ with_front (front ++ t ∷ []) r
+one_more front t (Ok ts) = ap (λ (x : List Token). Ok x) (sym (append_assoc front (t ∷ []) ts))
+one_more front t (Err at) = refl
+
+-- The tokens up to a place have their lexemes, and the table has their names.
+pub record HasRead (source : List ℕ) (at : ℕ) (table : List (List ℕ)) (lexemes : List Lexeme) (done : List Token) : Type 0 where
+  pub within : at ≤ length source
+  pub whole : with_front done (tokens_after source at) ≡ tokens_of source
+  pub names : table ≡ names_of source done
+  pub made : lexemes ≡ map (lexeme_of (names_of source done) source) done
+  pub few : length table ≤ at
+
+abbrev pub IsRead : List ℕ → ℕ → List (List ℕ) → List Lexeme → Type 0
+IsRead source at table lexemes = (done : List Token) × HasRead source at table lexemes done
+
+pub none_read : (source : List ℕ) → IsRead source 0 [] []
+unfolding names_from
+none_read source = ([], record { within = omega arith; whole = no_front (tokens_of source); names = refl; made = refl; few = omega arith })
 
 few_more : (names : List (List ℕ)) (o : Option (List ℕ)) → length (with_name names o) ≤ length names + 1
 few_more names (Some key) = with_key-one_more names key
 few_more names None = omega arith
 
-pub one_named : (source : List ℕ) (tokens : List Token) (i : ℕ) (table after : List (List ℕ)) (lexemes : List Lexeme) (t d : Token) (l : Lexeme)
-    → i < length tokens → t ≡ get_or tokens i d → after ≡ with_name table (name_text source t) → l ≡ lexeme_of after source t
-    → AreNamed source tokens i table lexemes → AreNamed source tokens (i + 1) after (lexemes ++ l ∷ [])
-one_named source tokens i table after lexemes t d l h is added read so_far =
-    let all = names_of source tokens in
-    let rest = drop (i + 1) tokens in
-    let names : names_from after source rest ≡ all =
-    ap (λ ns. names_from ns source rest) added
-    ∙ (sym (first_name table source t rest)
-    ∙ (ap (λ u. names_from table source (u ∷ rest)) is
-    ∙ (sym (at_drop_more (names_from table source) tokens i d h) ∙ so_far.names))) in
-    let number : number_in all (name_text source t) ≡ number_in after (name_text source t) =
-    ap (λ ns. number_in ns (name_text source t)) (sym names ∙ ap (λ ns. names_from ns source rest) added)
-    ∙ (final_number table source rest (name_text source t) ∙ ap (λ ns. number_in ns (name_text source t)) (sym added)) in
-    let same : l ≡ lexeme_of all source t =
-    read ∙ ap (λ n. numbered_lexeme n source t) (sym number) in
-    let made : lexemes ++ l ∷ [] ≡ map (lexeme_of all source) (take (i + 1) tokens) =
-    ap (λ ls. ls ++ l ∷ []) so_far.made
-    ∙ (ap (λ k. map (lexeme_of all source) (take i tokens) ++ k ∷ []) (same ∙ ap (lexeme_of all source) is)
-    ∙ (sym (map-append (lexeme_of all source) (take i tokens) (get_or tokens i d ∷ []))
-    ∙ ap (map (lexeme_of all source)) (sym (take_more tokens i d h)))) in
-    record { names = names; made = made; few = omega (arith, few_more table (name_text source t), so_far.few, ap length added) }
-
-no_more : (names : List (List ℕ)) (source : List ℕ) → names_from names source [] ≡ names
+last_name : (names : List (List ℕ)) (source : List ℕ) (t : Token) → names_from names source (t ∷ []) ≡ with_name names (name_text source t)
 unfolding names_from
-no_more names source = refl
+last_name names source t = refl
 
-pub all_named : (source : List ℕ) (tokens : List Token) (i : ℕ) (table : List (List ℕ)) (lexemes : List Lexeme) → length tokens ≤ i
-    → AreNamed source tokens i table lexemes → (table ≡ names_of source tokens) × (lexemes ++ end_of source ∷ [] ≡ lexemes_of source tokens)
+pub one_read : (source : List ℕ) (at : ℕ) (table after : List (List ℕ)) (lexemes : List Lexeme) (t : Token) (l : Lexeme) → IsNext source at (Found t)
+    → after ≡ with_name table (name_text source t) → l ≡ lexeme_of after source t → IsRead source at table lexemes
+    → IsRead source t.stop after (lexemes ++ l ∷ [])
+one_read source at table after lexemes t l next added read so_far =
+    let done = so_far.0 in
+    let before = so_far.1 in
+    let all : after ≡ names_of source (done ++ t ∷ []) =
+    added ∙ (ap (λ names. with_name names (name_text source t)) before.names
+    ∙ (sym (last_name (names_of source done) source t) ∙ sym (names_more [] source done (t ∷ [])))) in
+    let named = names_of source (done ++ t ∷ []) in
+    let older : map (lexeme_of (names_of source done) source) done ≡ map (lexeme_of named source) done =
+    sym (lexemes_stay [] source done (t ∷ [])) ∙ ap (λ names. map (lexeme_of names source) done) (sym (names_more [] source done (t ∷ []))) in
+    let made : lexemes ++ l ∷ [] ≡ map (lexeme_of named source) (done ++ t ∷ []) =
+    ap (λ ls. ls ++ l ∷ []) (before.made ∙ older)
+    ∙ (ap (λ k. map (lexeme_of named source) done ++ k ∷ []) (read ∙ ap (λ names. lexeme_of names source t) all)
+    ∙ sym (map-append (lexeme_of named source) done (t ∷ []))) in
+    let whole : with_front (done ++ t ∷ []) (tokens_after source t.stop) ≡ tokens_of source =
+    sym (one_more done t (tokens_after source t.stop)) ∙ (ap (with_front done) (sym next.0) ∙ before.whole) in (
+      done ++ t ∷ [],
+      record {
+        within = next.1.1.0.1;
+        whole = whole;
+        names = all;
+        made = made;
+        few = omega (arith, few_more table (name_text source t), before.few, ap length added, next.1.0, next.1.1.0.0);
+      },
+    )
+
+pub all_read : (source : List ℕ) (at : ℕ) (table : List (List ℕ)) (lexemes : List Lexeme) → IsNext source at End → IsRead source at table lexemes
+    → lexed source ≡ Ok (lexemes ++ end_of source ∷ [], table)
 unfolding lexemes_of
-all_named source tokens i table lexemes h so_far =
-    let names : table ≡ names_of source tokens =
-    sym (no_more table source) ∙ (ap (names_from table source) (sym (drop_all i tokens h)) ∙ so_far.names) in
-    (names, ap (λ ls. ls ++ end_of source ∷ []) (so_far.made ∙ ap (map (lexeme_of (names_of source tokens) source)) (take_all i tokens h)))
+all_read source at table lexemes next so_far =
+    let done = so_far.0 in
+    let before = so_far.1 in
+    let tokens : tokens_of source ≡ Ok done = sym before.whole ∙ (ap (with_front done) next ∙ ap (λ (ts : List Token). Ok ts) (append-nil done)) in
+    ap (λ (r : Result (List Token) ℕ). elim r [ Ok ts ↦ Ok (lexemes_of source ts, names_of source ts) | Err place ↦ Err (BadByte place) ]) tokens
+    ∙ λ i. Ok (sym before.made i ++ end_of source ∷ [], sym before.names i)

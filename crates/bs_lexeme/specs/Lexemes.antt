@@ -1,5 +1,6 @@
 -- What the grammar sees of each token (docs/FORMATS.md, "Words of a netlist").
-use Rattle.std.specs.Prelude.{ℕ, ◌+◌, ◌-◌, ◌*◌, Bool, true, false, ◌&&◌, ◌==◌, nat_lt, if◌then◌else◌, List, [], ◌∷◌, ◌++◌, length, drop, map, min, codes, Option, Some, None, slice_index, unwrap_or}
+use Rattle.std.specs.Prelude.{ℕ, ◌+◌, ◌-◌, ◌*◌, Bool, true, false, ◌&&◌, ◌||◌, ◌==◌, nat_lt, if◌then◌else◌, List, [], ◌∷◌, ◌++◌, length, drop, map, min, codes}
+use Rattle.std.specs.Prelude.{Option, Some, None, slice_index, unwrap_or, Result, Ok, Err}
 use Rattle.std.specs.List.{list_any, list_all}
 use Rattle.std.specs.Str.{bytes_eq}
 use Prim.Native.String.{String}
@@ -8,11 +9,13 @@ use Rattle.bs_net.specs.Names.{with_key, number_of}
 use Rattle.bs_lex.specs.declared.token.Token.{Token}
 use Rattle.bs_lex.specs.declared.token.TokenKind.TheVariants as kinds
 use Rattle.bs_lex.specs.Bytes.{◌∈◌, is_digit, is_base}
-use Rattle.bs_lex.specs.Tokens.{first}
+use Rattle.bs_lex.specs.Tokens.{first, tokens_of}
 use Rattle.bs_lex.specs.Placing.{token_text}
 use Rattle.bs_lex.specs.declared.token.TokenKind.{TokenKind}
 use Rattle.bs_lexeme.specs.declared.limits.TheConstants.{MAX_INDEX, GREAT}
-use Rattle.bs_lexeme.specs.declared.lexeme.Lexeme.{Lexeme}
+use Rattle.bs_lexeme.specs.Packed.{Lexeme}
+use Rattle.bs_lexeme.specs.declared.fault.LexFault.{LexFault}
+use Rattle.bs_lexeme.specs.declared.fault.LexFault.TheVariants.{BadByte}
 use Rattle.bs_lexeme.specs.declared.lexeme.Sort.{Sort}
 use Rattle.bs_lexeme.specs.declared.lexeme.Sort.TheVariants as sorts
 use Rattle.bs_lexeme.specs.declared.lexeme.Word as code
@@ -129,6 +132,10 @@ abbrev pub is_great : Sort → Bool
 is_great (sorts.Digits n) = nat_lt MAX_INDEX n
 is_great _ = false
 
+-- a name or a great number, which have a number among the names
+abbrev pub has_number : Sort → Bool
+has_number sort = is_name sort || is_great sort
+
 -- the first digit is a zero
 abbrev pub has_leading_zero : List ℕ → Bool
 has_leading_zero [] = false
@@ -184,3 +191,7 @@ end_of source = record { sort = sorts.End; at = length source; name = 0 }
 -- what the grammar reads: a lexeme for each token, and the end
 unfoldable pub lexemes_of : List ℕ → List Token → List Lexeme
 lexemes_of source tokens = map (lexeme_of (names_of source tokens) source) tokens ++ end_of source ∷ []
+
+-- the lexemes of a text and its names, or the first place where no token begins
+abbrev pub lexed : List ℕ → Result (List Lexeme × List (List ℕ)) LexFault
+lexed source = elim (tokens_of source) [ Ok tokens ↦ Ok (lexemes_of source tokens, names_of source tokens) | Err at ↦ Err (BadByte at) ]

@@ -54,15 +54,6 @@ pub enum Sort {
     End,
 }
 
-/// A token as the grammar sees it: where it begins, and the number of its name among the names of the text (0 where
-/// it has none); a number above `MAX_INDEX` stands among the names.
-#[derive(Clone, Copy, Debug, PartialEq, Eq)]
-pub struct Lexeme {
-    pub sort: Sort,
-    pub at: u32,
-    pub name: u32,
-}
-
 /// A name: where its token begins, and its number among the names of the text.
 #[derive(Clone, Copy, Debug, PartialEq, Eq)]
 pub struct Name {

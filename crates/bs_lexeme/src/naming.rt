@@ -1,16 +1,20 @@
 //! The lexemes of a text, and the table of its names.
-ghost use Rattle.std.specs.Prelude.{◌≡◌, ◌≤◌, ◌<◌, [], length, Some, None, IfOk, OnOk, Ok, slice_index_or};
+ghost use Rattle.std.specs.Prelude.{◌≡◌, ◌≤◌, ◌<◌, [], length, Some, None, IfOk, IfSome, OnOk, Ok, slice_index_or};
 ghost use Rattle.std.specs.Str.{IsAscii};
+ghost use Rattle.bs_bits.specs.Reading.{Answers};
 ghost use Rattle.bs_net.specs.Names.{with_key, number_of};
-ghost use Rattle.bs_lex.specs.Placing.{token_text, AreTokensOf, IsAsciiName, LiesIn};
+ghost use Rattle.bs_lex.specs.Placing.{token_text, IsAsciiName, LiesIn};
 ghost use Rattle.bs_lex.specs.declared.limits.TheConstants.{MAX_BYTES};
 ghost use Rattle.bs_lexeme.specs.Lexemes as spec;
+ghost use Rattle.bs_lexeme.specs.declared.fault.LexFault.TheVariants.{NoMemory as want};
 
-use crate::lexeme::{Lexeme, Name, Sort, is_name};
-use crate::limits::{GREAT, MAX_INDEX};
+use crate::fault::LexFault;
+use crate::lexeme::{Name, Sort, is_name};
+use crate::limits::MAX_INDEX;
+use crate::packed::Lexeme;
 use crate::words::sort_of;
 use bs_bits::{List, NoMemory};
-use bs_lex::{Token, TokenKind};
+use bs_lex::{Next, Token, TokenKind, next_token};
 use indexmap::IndexSet;
 use std::alloc::Global;
 use std::marker::Model;
@@ -56,7 +60,8 @@ impl Table {
 
     /// The number of a name, if it is there.
     fn number(&self, name: &str) -> Option<u32>
-        ensures { result ≡ number_of self.now name.now }
+        ensures number { result ≡ number_of self.now name.now }
+        ensures range { IfSome result (λ number. number < MAX_BYTES) }
     {
         match self.names.get_index_of(name) {
             Some(number) => Some(number as u32),
@@ -69,6 +74,7 @@ impl Table {
         requires { length self.old < MAX_BYTES }
         ensures ok { OnOk result (self.new ≡ with_key self.old name.now) }
         ensures number { IfOk result (λ number. Some number ≡ number_of self.new name.now) }
+        ensures range { IfOk result (λ number. number < MAX_BYTES) }
     {
         match self.number(name) {
             Some(number) => Ok(number),
@@ -82,6 +88,7 @@ impl Table {
         requires room { length self.old < MAX_BYTES }
         ensures ok { OnOk result (self.new ≡ with_key self.old name.now) }
         ensures number { IfOk result (λ number. Some number ≡ number_of self.new name.now) }
+        ensures range { IfOk result (λ number. number < MAX_BYTES) }
     {
         let text = String::from_str(alloc, name)?;
         let (number, _) = self.names.insert_full(text)?;
@@ -161,16 +168,14 @@ fn lexeme(alloc: Global, table: &mut Table, source: &[u8], token: Token) -> Resu
 {
     let text = spelling(source, token);
     let sort = sort_of(token.kind, text);
-    let at = token.start;
     if is_name(sort) {
-        let name = table.add(alloc, ascii_text(text))?;
-        Ok(Lexeme { sort, at, name })
+        let number = table.add(alloc, ascii_text(text))?;
+        Ok(Lexeme::new(sort, token.start, number))
     } else if is_great(sort) {
-        let name = table.add(alloc, ascii_text(without_zeros(text)))?;
-        let sort = Sort::Digits(GREAT + name);
-        Ok(Lexeme { sort, at, name })
+        let number = table.add(alloc, ascii_text(without_zeros(text)))?;
+        Ok(Lexeme::new(sort, token.start, number))
     } else {
-        Ok(Lexeme { sort, at, name: 0 })
+        Ok(Lexeme::new(sort, token.start, 0))
     }
 }
 
@@ -179,30 +184,30 @@ fn end(source: &[u8]) -> Lexeme
     requires { length source.now ≤ MAX_BYTES }
     ensures { result ≡ spec.end_of source.now }
 {
-    Lexeme {
-        sort: Sort::End,
-        at: source.len() as u32,
-        name: 0,
-    }
+    Lexeme::new(Sort::End, source.len() as u32, 0)
 }
 
-/// The lexemes of a text of at most 16 MiB: one for each token, and the end. With them the names of the text.
-#[tactic(auto, unfolding(crate::specs::Lexemes::lexemes_of))]
-pub fn lexemes(
-    alloc: Global,
-    source: &[u8],
-    tokens: &[Token],
-) -> Result<(List<Lexeme>, Table), NoMemory>
-    requires few { length source.now ≤ MAX_BYTES }
-    requires placed { AreTokensOf source.now tokens.now }
-    ensures { IfOk result (λ x. x ≡ (spec.lexemes_of source.now tokens.now, spec.names_of source.now tokens.now)) }
+/// The lexemes of a text of at most 16 MiB: one for each token, and the end. With them the names of the text. Otherwise
+/// the first place where no token begins.
+pub fn lexemes(alloc: Global, source: &[u8]) -> Result<(List<Lexeme>, Table), LexFault>
+    requires { length source.now ≤ MAX_BYTES }
+    ensures { Answers want (λ x. x) result (spec.lexed source.now) }
 {
     let mut table = Table::new(alloc);
     let mut lexemes = List::new(alloc);
-    'each: for &token in tokens {
-        let lexeme = lexeme(alloc, &mut table, source, token)?;
-        lexemes.push(lexeme)?;
+    let mut at: usize = 0;
+    'each: loop {
+        match next_token(source, at) {
+            Next::Found(token) => {
+                let lexeme = lexeme(alloc, &mut table, source, token)?;
+                lexemes.push(lexeme)?;
+                at = token.stop as usize;
+            }
+            Next::Refused(place) => return Err(LexFault::BadByte(place)),
+            Next::End => {
+                lexemes.push(end(source))?;
+                return Ok((lexemes, table));
+            }
+        }
     }
-    lexemes.push(end(source))?;
-    Ok((lexemes, table))
 }

@@ -1,5 +1,6 @@
 -- Reading and writing of lines are each other's inverse.
-use Rattle.std.proofs.Common.{◌≡◌, ◌≢◌, ℕ, ◌<◌, arith, Bool, true, false, ◌&&◌, cond, List, [], ◌∷◌, ◌++◌, length, map, refl, sym, ap, subst, ◌∙◌, Option, Some, None, eqb}
+use Rattle.std.proofs.Common.{◌≡◌, ◌≢◌, ℕ, ◌<◌, arith, Bool, true, false, ◌&&◌, cond, List, [], ◌∷◌, ◌++◌, length, map, refl, sym, ap, subst, ◌∙◌}
+use Rattle.std.proofs.Common.{Option, Some, None, eqb}
 use Rattle.std.specs.Prelude.{Result, Ok, Err, IfOk, nat_lt, decimal, codes, option_map, option_and_then}
 use Rattle.std.specs.List.{flat_map, AllByRecursion}
 use Rattle.std.proofs.lemmas.Bool.{eqb-true, ltb-true, lt-ltb}
@@ -9,9 +10,11 @@ use Rattle.bs_clause.specs.Literal.{Literal, Clause}
 use Rattle.bs_log.specs.declared.line.Line.{Line}
 use Rattle.bs_log.specs.declared.line.Line.TheVariants.{Solve, Lemma, Block, Finish, Retire, Delete}
 use Rattle.bs_log.specs.LineText.{line_text, literal_text, id_text}
-use Rattle.bs_log.specs.LineReading.{is_letter, id_in, literal_in, onto_found, up_to_zero, some_and_end, some_to_end, solve_in, sole_id, block_in, with_hints, lemma_in, line_of_words, line_in}
+use Rattle.bs_log.specs.LineReading.{is_letter, id_in, literal_in, onto_found, up_to_zero, some_and_end, some_to_end, solve_in, sole_id, block_in}
+use Rattle.bs_log.specs.LineReading.{with_hints, lemma_in, line_of_words, line_in}
 use Rattle.bs_log.specs.LineForms.{IsId, HasVariable, HasText, IsLineOf, LinesReadBack, TextsAreLines}
-use Rattle.bs_log.proofs.WordLemmas.{id_is, id_of_decimal, literal_word, literal_is, literal_of_word, IsWord, id_word, literal_is_word, no_letter, joined, joined_words, words_joined, joined_onto, ending}
+use Rattle.bs_log.proofs.WordLemmas.{id_is, id_of_decimal, literal_word, literal_is, literal_of_word, IsWord, id_word, literal_is_word, no_letter}
+use Rattle.bs_log.proofs.WordLemmas.{joined, joined_words, words_joined, joined_onto, ending}
 
 -- ---- the words of a line
 

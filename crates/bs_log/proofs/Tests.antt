@@ -4,7 +4,8 @@ use Rattle.std.specs.List.{AllByRecursion}
 use Rattle.bs_log.specs.declared.line.Line.{Line}
 use Rattle.bs_log.specs.declared.why.Why.{Why}
 use Rattle.bs_log.specs.History.{Problem, State}
-use Rattle.bs_log.specs.Refusal.{refusal, tests_of, first_failing, in_order, names_stand, names_no_variable_twice, block_fits, lemma_is_unit, lemma_is_false, finish_fits}
+use Rattle.bs_log.specs.Refusal.{refusal, tests_of, first_failing, in_order, names_stand, names_no_variable_twice, block_fits, lemma_is_unit}
+use Rattle.bs_log.specs.Refusal.{lemma_is_false, finish_fits}
 
 pub record IsRight (p : Problem) (h : State) (line : Line) : Type 0 where
   pub order : in_order p h line ≡ true

@@ -1,5 +1,6 @@
 -- Which lines a log may have, and which it is refused for.
-use Rattle.std.specs.Prelude.{◌≡◌, ℕ, ◌+◌, ◌-◌, ◌==◌, nat_le, nat_lt, Bool, true, false, not, ◌&&◌, ◌||◌, cond, List, [], ◌∷◌, ◌++◌, length, reverse, Option, Some, None, is_some, unwrap_or, slice_get, option_map, IsTrue}
+use Rattle.std.specs.Prelude.{◌≡◌, ℕ, ◌+◌, ◌-◌, ◌==◌, nat_le, nat_lt, Bool, true, false, not, ◌&&◌, ◌||◌, cond, List, [], ◌∷◌, ◌++◌, length, reverse}
+use Rattle.std.specs.Prelude.{Option, Some, None, is_some, unwrap_or, slice_get, option_map, IsTrue}
 use Rattle.std.specs.List.{list_any, list_all, find, filter_map}
 use Rattle.bs_clause.specs.Literal.{Clause, negation, same_literal, has_literal}
 use Rattle.bs_log.specs.declared.line.Line.{Line}

@@ -3,7 +3,8 @@ ghost use Rattle.std.specs.Prelude.{◌≡◌, IfOk, IfSome, Some, None, MatchOp
 ghost use Rattle.bs_bits.specs.Lines.{number_in};
 ghost use Rattle.bs_clause.specs.Literal.{IsVariable};
 ghost use Rattle.bs_log.specs.LineForms.{IsLineOf};
-ghost use Rattle.bs_log.specs.LineReading.{block_in, id_in, is_letter, lemma_in, line_in, literal_in, signed, sole_id, solve_in, some_to_end, up_to_zero, variable_of, with_hints};
+ghost use Rattle.bs_log.specs.LineReading.{block_in, id_in, is_letter, lemma_in, line_in, literal_in, signed, sole_id, solve_in, some_to_end};
+ghost use Rattle.bs_log.specs.LineReading.{up_to_zero, variable_of, with_hints};
 
 use crate::line::Line;
 use bs_bits::{List, NoMemory, Words, read_number};

@@ -8,7 +8,7 @@ use Rattle.bs_clause.specs.Literal.{Clause}
 use Rattle.bs_log.specs.declared.line.Line.{Line}
 use Rattle.bs_log.specs.History.{Problem}
 use Rattle.bs_log.specs.Steps.{steps_of}
-use Rattle.bs_log.specs.Lean.{LemmasAreLean}
+use Rattle.bs_log.specs.Lean.{IsLean}
 use Rattle.bs_log.specs.Refusal.{assumptions_of, history_of, IsAccepted}
 use Rattle.bs_scan.specs.declared.dump.Dump.{Dump}
 use Rattle.bs_scan.specs.Crash.{Recording, IsRecording, Crash, crash_of, DumpFits}
@@ -85,9 +85,11 @@ is_logged crash budgets s r of accepted =
           (assumed crash r.steps i step is) (logged_in crash budgets s r of i step is).finish;
     }
 
-pub is_lean : (crash : Crash) (budgets : Budgets) (s : PreimageState) (r : Report) → IsReportOf crash budgets s r → LemmasAreLean s.problem (history_of r.log) →
-    LemmasAreLean (problem_of (encoding_in crash) (map present_of r.steps)) (history_of r.log)
-is_lean crash budgets s r of lean = subst (λ (p : Problem). LemmasAreLean p (history_of r.log)) (problem_is crash budgets s r of) lean
+pub is_lean : (crash : Crash) (budgets : Budgets) (s : PreimageState) (r : Report) → IsReportOf crash budgets s r →
+    (s.failed ≡ false → IsLean s.problem (history_of r.log)) → IsLean (problem_of (encoding_in crash) (map present_of r.steps)) (history_of r.log)
+is_lean crash budgets s r of lean =
+    subst (λ (p : Problem). IsLean p (history_of r.log)) (problem_is crash budgets s r of)
+    (lean (ap (λ (p : PreimageState). p.failed) of.ended.made.state))
 
 pub is_valid : (r : Recording) (dump : Dump) (budgets : Budgets) (s : PreimageState) (report : Report) → IsRecording r →
     DumpFits r.circuit r.choice dump → IsReportOf (crash_of r dump) budgets s report →

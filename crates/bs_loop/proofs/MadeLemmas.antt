@@ -1,5 +1,6 @@
 -- One more step of a backtrace.
-use Rattle.std.proofs.Common.{◌≡◌, ℕ, suc, zero, ◌+◌, ◌-◌, ◌<◌, ◌^◌, Bool, true, Option, List, [], ◌∷◌, ◌++◌, map, length, reverse, ap, subst, sym, ◌∙◌, Some, arith}
+use Rattle.std.proofs.Common.{◌≡◌, ℕ, suc, zero, ◌+◌, ◌-◌, ◌<◌, ◌^◌, Bool, true, Option, List, [], ◌∷◌, ◌++◌, map, length, reverse, ap, subst, sym}
+use Rattle.std.proofs.Common.{◌∙◌, Some, arith}
 use Rattle.std.specs.Prelude.{slice_get, slice_index_or}
 use Rattle.std.proofs.lemmas.List.{length-append, length-map, map-append}
 use Rattle.std.proofs.lemmas.List.Elements.{All-append, All-from_recursion}
@@ -62,7 +63,8 @@ problem_more crash steps step =
     ∙ sym (steps_from_more e 1 qs (present_of step))
     ∙ ap (steps_from e 1) (sym (map-append present_of steps (step ∷ [])))
 
-step_made : (r : Recording) (dump : Dump) (budgets : Budgets) (steps : List Step) (old new : PreimageState) (now : Dump) (stored : List Bool) (listing : Listing) (hit : Option Hit) →
+step_made : (r : Recording) (dump : Dump) (budgets : Budgets) (steps : List Step) (old new : PreimageState) (now : Dump) (stored : List Bool)
+    (listing : Listing) (hit : Option Hit) →
     HasMade (crash_of r dump) budgets steps old → StandsAt (crash_of r dump) steps now → signatures_of now ≡ stored ∷ [] →
     HasLookedBack r budgets old new now stored listing hit →
     HasMade (crash_of r dump) budgets (steps ++ step_of now stored listing hit ∷ []) new

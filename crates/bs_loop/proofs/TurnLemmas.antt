@@ -14,7 +14,8 @@ use Rattle.bs_preimage.specs.Preimage.{PreimageState}
 use Rattle.bs_loop.specs.Turn.{step_of, HasLookedBack, HasStepped, HasStopped}
 
 -- what a turn has done, where the step stands behind the others, and the present is the moment hit
-turned_here : (r : Recording) (budgets : Budgets) (steps more : List Step) (old new : PreimageState) (now next : Dump) (stored : List Bool) (listing : Listing) (step : Step) (hit : Option Hit) (stop : Option Stop) →
+turned_here : (r : Recording) (budgets : Budgets) (steps more : List Step) (old new : PreimageState) (now next : Dump) (stored : List Bool)
+    (listing : Listing) (step : Step) (hit : Option Hit) (stop : Option Stop) →
     signatures_of now ≡ stored ∷ [] → HasLookedBack r budgets old new now stored listing hit → step ≡ step_of now stored listing hit →
     more ≡ steps ++ step ∷ [] →
     MatchOption hit (stop ≡ Some (cause_of_end step step.end)) (λ hit. (stop ≡ None) × (next ≡ hit.dump)) →
@@ -39,7 +40,8 @@ turned_here r budgets steps more old new now next stored listing step (Some hit)
       there = ends.1;
     })
 
-pub turned : {E : Type 0} (r : Recording) (budgets : Budgets) (steps more : List Step) (old new : PreimageState) (now next : Dump) (stored : List Bool) (listing : Listing) (step : Step) (hit : Option Hit) (result : Result (Option Stop) E) →
+pub turned : {E : Type 0} (r : Recording) (budgets : Budgets) (steps more : List Step) (old new : PreimageState) (now next : Dump) (stored : List Bool)
+    (listing : Listing) (step : Step) (hit : Option Hit) (result : Result (Option Stop) E) →
     signatures_of now ≡ stored ∷ [] → HasLookedBack r budgets old new now stored listing hit → step ≡ step_of now stored listing hit →
     IfOk result (λ _. more ≡ steps ++ step ∷ []) →
     IfOk result (λ stop. MatchOption hit (stop ≡ Some (cause_of_end step step.end)) (λ hit. (stop ≡ None) × (next ≡ hit.dump))) →

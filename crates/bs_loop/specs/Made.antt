@@ -32,7 +32,8 @@ guard_at crash i = lit ((encoding_in crash).variables + (i + 1)) true
 pub record IsLoggedStep (crash : Crash) (budgets : Budgets) (i : ℕ) (lines : List Line) (step : Step) : Type 0 where
   pub ends : IsRightEnd (asked_of crash step) budgets.candidates budgets.conflicts lines step.cands step.end
   pub blocks : are_right_blocks (blocks_due (guard_at crash i) (block_for (encoding_in crash)) step.cands) (blocks_in lines) ≡ true
-  pub finish : is_right_finish budgets.conflicts (assumptions_for (encoding_in crash) (guard_at crash i) (present_of step)) lines step.end (finishes_in lines) ≡ true
+  pub finish : is_right_finish budgets.conflicts (assumptions_for (encoding_in crash) (guard_at crash i) (present_of step)) lines step.end
+      (finishes_in lines) ≡ true
   pub bound : step.end ≡ Conflicts → (run : List Literal) → HasVariables (encoding_in crash).variables run →
       IsUnitRun (encoding_in crash).clauses (assumptions_for (encoding_in crash) (guard_at crash i) (present_of step)) run →
       budgets.conflicts < 2 ^ ((encoding_in crash).variables - length run)

@@ -25,7 +25,8 @@ abbrev pub HasItsDump : Recording → Hit → Type 0
 HasItsDump r hit = hit.dump ≡ dump_at r (moment hit.run hit.cycle)
 
 -- a list for a present and its one stored signature, and the first moment of a run in a listed state
-pub record HasLookedBack (r : Recording) (budgets : Budgets) (old new : PreimageState) (now : Dump) (stored : List Bool) (listing : Listing) (hit : Option Hit) : Type 0 where
+pub record HasLookedBack (r : Recording) (budgets : Budgets) (old new : PreimageState) (now : Dump) (stored : List Bool) (listing : Listing)
+    (hit : Option Hit) : Type 0 where
   pub listed : HasListed old new now.state stored budgets.candidates budgets.conflicts listing
   pub calls : new.calls ≡ old.calls + 1
   pub line : option_map line_of hit ≡ hit_of (crash_of r now) listing.cands

@@ -30,14 +30,14 @@ fn look_back(
     stored: &Bits,
     budgets: &Budgets,
 ) -> Result<Back, NoMemory>
-    requires circuit { preimage.old.circuit ≡ chip.old.circuit }
-    requires choice { preimage.old.choice ≡ chip.old.choice }
-    requires dump { DumpFits chip.old.circuit chip.old.choice now.now }
+    requires circuit { preimage.old.circuit ≡ chip.old.recording.circuit }
+    requires choice { preimage.old.choice ≡ chip.old.recording.choice }
+    requires dump { DumpFits chip.old.recording.circuit chip.old.recording.choice now.now }
     requires stored { signatures_of now.now ≡ stored.now ∷ [] }
     requires budgets { IsBudget budgets.now }
     requires calls { preimage.old.calls < MAX_STEPS }
-    ensures back { IfOk result (λ back. HasLookedBack chip.old budgets.now preimage.old preimage.new now.now stored.now back.listing back.hit) }
-    ensures chip { chip.new ≡ chip.old }
+    ensures back { IfOk result (λ back. HasLookedBack chip.old.recording budgets.now preimage.old preimage.new now.now stored.now back.listing back.hit) }
+    ensures chip { chip.new.recording ≡ chip.old.recording }
 {
     let listing = preimage.list(
         alloc,
@@ -111,13 +111,13 @@ pub fn turn(
     steps: &mut List<Step>,
     now: &mut Dump,
 ) -> Result<Option<Stop>, NoMemory>
-    requires circuit { preimage.old.circuit ≡ chip.old.circuit }
-    requires choice { preimage.old.choice ≡ chip.old.choice }
-    requires dump { DumpFits chip.old.circuit chip.old.choice now.old }
+    requires circuit { preimage.old.circuit ≡ chip.old.recording.circuit }
+    requires choice { preimage.old.choice ≡ chip.old.recording.choice }
+    requires dump { DumpFits chip.old.recording.circuit chip.old.recording.choice now.old }
     requires budgets { IsBudget budgets.now }
     requires calls { preimage.old.calls < MAX_STEPS }
-    ensures turn { IfOk result (λ stop. MatchOption stop (HasStepped chip.old budgets.now steps.old steps.new preimage.old preimage.new now.old now.new) (HasStopped chip.old budgets.now steps.old steps.new preimage.old preimage.new now.old)) }
-    ensures chip { chip.new ≡ chip.old }
+    ensures turn { IfOk result (λ stop. MatchOption stop (HasStepped chip.old.recording budgets.now steps.old steps.new preimage.old preimage.new now.old now.new) (HasStopped chip.old.recording budgets.now steps.old steps.new preimage.old preimage.new now.old)) }
+    ensures chip { chip.new.recording ≡ chip.old.recording }
 {
     let stored = match &now.stored {
         None => return Ok(Some(Stop::Reset)),

@@ -2,7 +2,7 @@
 ghost use Rattle.std.specs.Prelude.{◌≡◌, ◌≤◌, ◌<◌, ◌^◌, ◌+◌, false, length, map, All, IfOk, MatchOption};
 ghost use Rattle.bs_log.specs.LineForms.{HasText};
 ghost use Rattle.bs_log.specs.Refusal.{history_of, IsAccepted};
-ghost use Rattle.bs_log.specs.Lean.{LemmasAreLean};
+ghost use Rattle.bs_log.specs.Lean.{IsLean};
 ghost use Rattle.bs_scan.specs.Crash.{crash_of, DumpFits};
 ghost use Rattle.bs_encode.specs.Assuming.{basis_of};
 ghost use Rattle.bs_good.specs.Chain.{present_of};
@@ -51,13 +51,13 @@ fn walk(
     dump: &Dump,
     budgets: &Budgets,
 ) -> Result<Way, NoMemory>
-    requires fresh { preimage.old ≡ fresh chip.old.circuit chip.old.choice }
-    requires dump { DumpFits chip.old.circuit chip.old.choice dump.now }
+    requires fresh { preimage.old ≡ fresh chip.old.recording.circuit chip.old.recording.choice }
+    requires dump { DumpFits chip.old.recording.circuit chip.old.recording.choice dump.now }
     requires budgets { IsBudget budgets.now }
-    ensures made { IfOk result (λ way. HasMade (crash_of chip.old dump.now) budgets.now way.steps preimage.new) }
+    ensures made { IfOk result (λ way. HasMade (crash_of chip.old.recording dump.now) budgets.now way.steps preimage.new) }
     ensures few { IfOk result (λ way. length way.steps ≤ budgets.now.steps) }
-    ensures stop { IfOk result (λ way. StopsFor (crash_of chip.old dump.now) budgets.now way.steps way.stop) }
-    ensures chip { chip.new ≡ chip.old }
+    ensures stop { IfOk result (λ way. StopsFor (crash_of chip.old.recording dump.now) budgets.now way.steps way.stop) }
+    ensures chip { chip.new.recording ≡ chip.old.recording }
 {
     let mut steps = List::new(alloc);
     let mut now = dump.copy()?;
@@ -74,7 +74,7 @@ fn walk(
 /// The log of the search.
 fn log_of(preimage: Preimage<'_>) -> Log
     ensures lines { history_of result ≡ preimage.entry.history }
-    ensures lean { LemmasAreLean preimage.entry.problem (history_of result) }
+    ensures lean { preimage.entry.failed ≡ false → IsLean preimage.entry.problem (history_of result) }
     ensures accepted { preimage.entry.failed ≡ false → IsAccepted preimage.entry.problem result }
     ensures texts { All HasText result }
     ensures few { length result < 2 ^ 64 }
@@ -93,17 +93,17 @@ pub fn backtrace(
     dump: &Dump,
     budgets: &Budgets,
 ) -> Result<Report, NoMemory>
-    requires fresh { preimage ≡ fresh chip.old.circuit chip.old.choice }
-    requires dump { DumpFits chip.old.circuit chip.old.choice dump.now }
+    requires fresh { preimage ≡ fresh chip.old.recording.circuit chip.old.recording.choice }
+    requires dump { DumpFits chip.old.recording.circuit chip.old.recording.choice dump.now }
     requires budgets { IsBudget budgets.now }
     ensures budgets { IfOk result (λ r. r.budgets ≡ budgets.now) }
-    ensures good { IfOk result (IsGood (crash_of chip.old dump.now)) }
-    ensures valid { IfOk result (λ r. IsValid (crash_of chip.old dump.now) (basis_of chip.old.circuit chip.old.choice.items (map present_of r.steps)) r) }
-    ensures bound { IfOk result (λ r. HasBound (basis_of chip.old.circuit chip.old.choice.items (map present_of r.steps)).problem r) }
+    ensures good { IfOk result (IsGood (crash_of chip.old.recording dump.now)) }
+    ensures valid { IfOk result (λ r. IsValid (crash_of chip.old.recording dump.now) (basis_of chip.old.recording.circuit chip.old.recording.choice.items (map present_of r.steps)) r) }
+    ensures bound { IfOk result (λ r. HasBound (basis_of chip.old.recording.circuit chip.old.recording.choice.items (map present_of r.steps)).problem r) }
     ensures readable { IfOk result HasReportText }
     ensures trace { IfOk result (λ r. length r.states ≡ length r.inputs + 1) }
-    ensures lean { IfOk result (λ r. LemmasAreLean (basis_of chip.old.circuit chip.old.choice.items (map present_of r.steps)).problem (history_of r.log)) }
-    ensures chip { chip.new ≡ chip.old }
+    ensures lean { IfOk result (λ r. IsLean (basis_of chip.old.recording.circuit chip.old.recording.choice.items (map present_of r.steps)).problem (history_of r.log)) }
+    ensures chip { chip.new.recording ≡ chip.old.recording }
 {
     let mut preimage = preimage;
     let way = walk(alloc, chip, &mut preimage, dump, budgets)?;

@@ -23,7 +23,8 @@ found_placed : (k : ℕ) (p : Flop → Bool) (fs : List Flop) (n : NetId) → Cl
 found_placed k p [] n h e = absurd cc
 found_placed k p (f ∷ fs) n h e = by (p f) e (found_placed k p fs n h.1)
   where
-    by : (b : Bool) → option_map (λ (f : Flop). f.ck) (cond b (Some f) (find p fs)) ≡ Some n → (option_map (λ (f : Flop). f.ck) (find p fs) ≡ Some n → n.0 < k) → n.0 < k
+    by : (b : Bool) → option_map (λ (f : Flop). f.ck) (cond b (Some f) (find p fs)) ≡ Some n →
+        (option_map (λ (f : Flop). f.ck) (find p fs) ≡ Some n → n.0 < k) → n.0 < k
     by true e' rest = let same : f.ck ≡ n = cc in let P : NetId → Type 0 = λ m. m.0 < k in subst P same h.0
     by false e' rest = rest e'
 

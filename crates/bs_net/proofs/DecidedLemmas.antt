@@ -1,5 +1,6 @@
 -- The tests of a netlist say what the check decides.
-use Rattle.std.proofs.Common.{◌≡◌, ◌≢◌, ℕ, suc, zero, ◌<◌, ◌≤◌, ◌+◌, Bool, true, false, not, ◌||◌, List, [], ◌∷◌, ◌++◌, map, length, refl, arith, subst, ap, sym, ◌∙◌, ◌⊎◌, inl, inr, ⊎_elim, nat_eq, nat_lt, ne_eqb, Option, Some, None, is_none}
+use Rattle.std.proofs.Common.{◌≡◌, ◌≢◌, ℕ, suc, zero, ◌<◌, ◌≤◌, ◌+◌, Bool, true, false, not, ◌||◌, List, [], ◌∷◌, ◌++◌, map, length, refl, arith}
+use Rattle.std.proofs.Common.{subst, ap, sym, ◌∙◌, ◌⊎◌, inl, inr, ⊎_elim, nat_eq, nat_lt, ne_eqb, Option, Some, None, is_none}
 use Rattle.std.specs.Bool.{Decides}
 use Rattle.std.specs.List.{AllByRecursion, All, list_all, list_any, flat_map, range_with_len}
 use Rattle.std.specs.List.Sorted.{IsPermutation}
@@ -7,7 +8,8 @@ use Rattle.std.proofs.lemmas.Bool.{true≢false, false≢true, or_cases, or_left
 use Rattle.std.proofs.lemmas.Bool.Decides.{Decides-eqb, Decides-ltb, Decides-and, Decides-not}
 use Rattle.std.proofs.lemmas.List.Elements.{All-from_recursion, recursion_from_All}
 use Rattle.std.proofs.lemmas.List.FromFn.{length-range_with_len}
-use Rattle.std.proofs.lemmas.List.Sorted.{length_permutation, list_any-IsPermutation, IsPermutation-refl, IsPermutation-sym, IsPermutation-trans, IsPermutation-cons, IsPermutation-middle}
+use Rattle.std.proofs.lemmas.List.Sorted.{length_permutation, list_any-IsPermutation, IsPermutation-refl, IsPermutation-sym, IsPermutation-trans}
+use Rattle.std.proofs.lemmas.List.Sorted.{IsPermutation-cons, IsPermutation-middle}
 use Rattle.bs_net.specs.declared.net.NetId.{NetId}
 use Rattle.bs_net.specs.declared.net.Gate.{Gate}
 use Rattle.bs_net.specs.declared.net.Flop.{Flop}
@@ -33,7 +35,8 @@ member_begun i v [] h = absurd h
 member_begun i v (x ∷ xs) (inl e) = (x, e, inl refl)
 member_begun i v (x ∷ xs) (inr k) = let r = member_begun i v xs k in (r.0, r.1, inr r.2)
 
-flat_length : (f : ℕ → List (List ℕ)) (count : ℕ) → ((i : ℕ) (v : List ℕ) → Member v (f i) → length v ≡ count) → (is : List ℕ) (v : List ℕ) → Member v (flat_map f is) → length v ≡ count
+flat_length : (f : ℕ → List (List ℕ)) (count : ℕ) → ((i : ℕ) (v : List ℕ) → Member v (f i) → length v ≡ count) → (is : List ℕ) (v : List ℕ) →
+    Member v (flat_map f is) → length v ≡ count
 flat_length f count each [] v h = absurd h
 flat_length f count each (i ∷ is) v h =
     ⊎_elim (λ a. each i v a) (λ b. flat_length f count each is v b) (member_both v (f i) (flat_map f is) h)
@@ -96,17 +99,20 @@ each_once (suc n) a xs l e =
     let count : length (s.0 ++ s.1) ≡ n = omega (arith, l, length_permutation xs (a ∷ (s.0 ++ s.1)) to_front) in
     let each : (k : ℕ) → a + 1 ≤ k → k < (a + 1) + n → is_in k (s.0 ++ s.1) ≡ true =
     λ k lo hi.
-    let there : is_in k (a ∷ (s.0 ++ s.1)) ≡ true = sym (list_any-IsPermutation (λ m. nat_eq k m) xs (a ∷ (s.0 ++ s.1)) to_front) ∙ e k (omega arith) (omega arith) in
+    let there : is_in k (a ∷ (s.0 ++ s.1)) ≡ true = sym (list_any-IsPermutation (λ m. nat_eq k m) xs (a ∷ (s.0 ++ s.1)) to_front) ∙
+    e k (omega arith) (omega arith) in
     let other : k ≡ a → ⊥ = λ same. omega (arith, same, lo) in
     ap (λ b. b || is_in k (s.0 ++ s.1)) (sym (ne_eqb k a other)) ∙ there in
     IsPermutation-trans _ _ _ (IsPermutation-cons a _ _ (each_once n (a + 1) (s.0 ++ s.1) count each)) (IsPermutation-sym _ _ to_front)
 
 apart_Decides : (gs : List Gate) (n : NetId) → Decides (list_all (λ (h : Gate). not (nat_eq h.out.0 n.0)) gs) (All (λ (h : Gate). h.out.0 ≢ n.0) gs)
 apart_Decides gs n =
-    let d = list_all_Decides (λ (h : Gate). not (nat_eq h.out.0 n.0)) (λ (h : Gate). h.out.0 ≢ n.0) (λ h. Decides-not (nat_eq h.out.0 n.0) (Decides-eqb h.out.0 n.0)) gs in
+    let d = list_all_Decides (λ (h : Gate). not (nat_eq h.out.0 n.0)) (λ (h : Gate). h.out.0 ≢ n.0)
+    (λ h. Decides-not (nat_eq h.out.0 n.0) (Decides-eqb h.out.0 n.0)) gs in
     (λ e. All-from_recursion (λ (h : Gate). h.out.0 ≢ n.0) gs (d.0 e), λ a. d.1 (recursion_from_All (λ (h : Gate). h.out.0 ≢ n.0) gs a))
 
-reads_Decides : (gs : List Gate) (ns : List NetId) → Decides (list_all (λ (n : NetId). list_all (λ (h : Gate). not (nat_eq h.out.0 n.0)) gs) ns) (All (λ (n : NetId). All (λ (h : Gate). h.out.0 ≢ n.0) gs) ns)
+reads_Decides : (gs : List Gate) (ns : List NetId) →
+    Decides (list_all (λ (n : NetId). list_all (λ (h : Gate). not (nat_eq h.out.0 n.0)) gs) ns) (All (λ (n : NetId). All (λ (h : Gate). h.out.0 ≢ n.0) gs) ns)
 reads_Decides gs ns =
     let P : NetId → Type 0 = λ n. All (λ (h : Gate). h.out.0 ≢ n.0) gs in
     let d = list_all_Decides (λ (n : NetId). list_all (λ (h : Gate). not (nat_eq h.out.0 n.0)) gs) P (λ n. apart_Decides gs n) ns in
@@ -120,7 +126,8 @@ order_true : (gates : List Gate) (order : List ℕ) → length order ≡ length 
 order_true gates order l e =
     let n = length gates in
     let P : ℕ → Type 0 = λ i. is_in i order ≡ true in
-    let both = (Decides-and (list_all (λ i. is_in i order) (range_with_len 0 n)) (is_levelled (gates_in order gates)) (list_all_Decides (λ i. is_in i order) P (λ i. (λ t. t, λ t. t)) (range_with_len 0 n)) (levelled_Decides (gates_in order gates))).0 e in
+    let both = (Decides-and (list_all (λ i. is_in i order) (range_with_len 0 n)) (is_levelled (gates_in order gates))
+    (list_all_Decides (λ i. is_in i order) P (λ i. (λ t. t, λ t. t)) (range_with_len 0 n)) (levelled_Decides (gates_in order gates))).0 e in
     record {
       each_once = each_once n 0 order l (λ k lo hi. below_from_range P n both.0 k (omega (arith, hi)));
       earlier = both.1;
@@ -133,8 +140,12 @@ order_test : (gates : List Gate) (order : List ℕ) → IsOrder gates order → 
 order_test gates order o =
     let n = length gates in
     let P : ℕ → Type 0 = λ i. is_in i order ≡ true in
-    (Decides-and (list_all (λ i. is_in i order) (range_with_len 0 n)) (is_levelled (gates_in order gates)) (list_all_Decides (λ i. is_in i order) P (λ i. (λ t. t, λ t. t)) (range_with_len 0 n)) (levelled_Decides (gates_in order gates))).1
-    (range_from_below P n (λ k lt. sym (list_any-IsPermutation (λ m. nat_eq k m) (range_with_len 0 n) order o.each_once) ∙ is_in_own (range_with_len 0 n) k (member_range n 0 k (omega arith) (omega (arith, lt)))), o.earlier)
+    (Decides-and (list_all (λ i. is_in i order) (range_with_len 0 n)) (is_levelled (gates_in order gates))
+    (list_all_Decides (λ i. is_in i order) P (λ i. (λ t. t, λ t. t)) (range_with_len 0 n)) (levelled_Decides (gates_in order gates))).1 (
+      range_from_below P n (λ k lt. sym (list_any-IsPermutation (λ m. nat_eq k m) (range_with_len 0 n) order o.each_once) ∙
+          is_in_own (range_with_len 0 n) k (member_range n 0 k (omega arith) (omega (arith, lt)))),
+      o.earlier,
+    )
 
 -- `has_order` says whether `HasOrder` holds
 pub has_order_Decides : (gates : List Gate) → Decides (has_order gates) (HasOrder gates)

@@ -29,14 +29,16 @@ steps_on = refl
 kinds_of_ones : map (λ k. gate_value k (true ∷ true ∷ true ∷ [])) (And ∷ Nand ∷ Or ∷ Nor ∷ Xor ∷ Xnor ∷ []) ≡ true ∷ false ∷ true ∷ false ∷ true ∷ false ∷ []
 kinds_of_ones = refl
 
-kinds_of_zero : map (λ k. gate_value k (false ∷ [])) (And ∷ Nand ∷ Or ∷ Nor ∷ Xor ∷ Xnor ∷ Buf ∷ Not ∷ []) ≡ false ∷ true ∷ false ∷ true ∷ false ∷ true ∷ false ∷ true ∷ []
+kinds_of_zero : map (λ k. gate_value k (false ∷ [])) (And ∷ Nand ∷ Or ∷ Nor ∷ Xor ∷ Xnor ∷ Buf ∷ Not ∷ []) ≡ false ∷ true ∷ false ∷ true ∷ false ∷
+    true ∷ false ∷ true ∷ []
 kinds_of_zero = refl
 
 -- a gate that reads itself is a loop, and so are two that read each other, from the lower number on
 reads_itself : feeds_round (record { kind = Not; out = net 1; ins = net 1 ∷ [] } ∷ []) (0 ∷ []) ≡ true
 reads_itself = refl
 
-read_each_other : feeds_round (record { kind = Nand; out = net 1; ins = net 2 ∷ net 3 ∷ [] } ∷ record { kind = Nand; out = net 2; ins = net 1 ∷ net 4 ∷ [] } ∷ []) (0 ∷ 1 ∷ []) ≡ true
+read_each_other : feeds_round (record { kind = Nand; out = net 1; ins = net 2 ∷ net 3 ∷ [] } ∷
+    record { kind = Nand; out = net 2; ins = net 1 ∷ net 4 ∷ [] } ∷ []) (0 ∷ 1 ∷ []) ≡ true
 read_each_other = refl
 
 -- a name has its first place

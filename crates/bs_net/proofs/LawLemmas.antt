@@ -1,5 +1,6 @@
 -- The writes that settle a netlist make the one valuation that fits.
-use Rattle.std.proofs.Common.{◌≡◌, ◌≢◌, ℕ, ◌<◌, ◌≤◌, Bool, true, false, not, ◌||◌, List, [], ◌∷◌, ◌++◌, map, length, get_or, replicate, refl, arith, subst, ap, sym, ◌∙◌, ⊎_elim, nat_eq}
+use Rattle.std.proofs.Common.{◌≡◌, ◌≢◌, ℕ, ◌<◌, ◌≤◌, Bool, true, false, not, ◌||◌, List, [], ◌∷◌, ◌++◌, map, length, get_or, replicate, refl, arith}
+use Rattle.std.proofs.Common.{subst, ap, sym, ◌∙◌, ⊎_elim, nat_eq}
 use Rattle.std.specs.List.{AllByRecursion, All, range_with_len, IsDistinct, list_any}
 use Rattle.std.specs.List.Sorted.{IsPermutation}
 use Rattle.std.proofs.lemmas.Bool.{cases_eq, cases_lt, true≢false, not-true, eqb-false, ne_eqb}
@@ -40,7 +41,8 @@ abbrev driven : Circuit → List ℕ → List ℕ
 driven c order =
     map number c.inputs ++ (map number (state_nets c) ++ (map (λ k. k.net.0) c.constants ++ map (λ g. g.out.0) (gates_in order c.gates)))
 
-targets-steps : (c : Circuit) (s x : List Bool) (order : List ℕ) → length s ≡ length (state_nets c) → length x ≡ length c.inputs → targets (steps c s x order) ≡ driven c order
+targets-steps : (c : Circuit) (s x : List Bool) (order : List ℕ) → length s ≡ length (state_nets c) → length x ≡ length c.inputs →
+    targets (steps c s x order) ≡ driven c order
 targets-steps c s x order ls lx =
     let f : Step → ℕ = λ t. t.target in
     let a = puts c.inputs x in
@@ -73,14 +75,16 @@ drivers_move c order o =
     (IsPermutation-map (λ g. g.out.0) _ _ (gates_move c.gates order o))))
 
 -- what holds of each driver holds of each target
-pub of_targets : (P : ℕ → Type 0) (c : Circuit) (s x : List Bool) (order : List ℕ) → IsOrder c.gates order → length s ≡ length (state_nets c) → length x ≡ length c.inputs → AllByRecursion P (drivers c) → AllByRecursion P (targets (steps c s x order))
+pub of_targets : (P : ℕ → Type 0) (c : Circuit) (s x : List Bool) (order : List ℕ) → IsOrder c.gates order → length s ≡ length (state_nets c) →
+    length x ≡ length c.inputs → AllByRecursion P (drivers c) → AllByRecursion P (targets (steps c s x order))
 of_targets P c s x order o ls lx h =
     let Q : List ℕ → Type 0 = λ ts. AllByRecursion P ts in
     subst Q (sym (targets-steps c s x order ls lx))
     (recursion_from_All P _ (All-permutation P _ _ (drivers_move c order o) (All-from_recursion P _ h)))
 
 -- and the other way round
-pub of_drivers : (P : ℕ → Type 0) (c : Circuit) (s x : List Bool) (order : List ℕ) → IsOrder c.gates order → length s ≡ length (state_nets c) → length x ≡ length c.inputs → AllByRecursion P (targets (steps c s x order)) → AllByRecursion P (drivers c)
+pub of_drivers : (P : ℕ → Type 0) (c : Circuit) (s x : List Bool) (order : List ℕ) → IsOrder c.gates order → length s ≡ length (state_nets c) →
+    length x ≡ length c.inputs → AllByRecursion P (targets (steps c s x order)) → AllByRecursion P (drivers c)
 of_drivers P c s x order o ls lx h =
     let Q : List ℕ → Type 0 = λ ts. AllByRecursion P ts in
     let moved = IsPermutation-sym _ _ (drivers_move c order o) in
@@ -134,7 +138,8 @@ misses_gates : (gs : List Gate) (n : ℕ) → AllByRecursion (λ (h : Gate). h.o
 misses_gates [] n h = tt
 misses_gates (g ∷ gs) n h = (h.0, misses_gates gs n h.1)
 
-pub reads_missed : (gs : List Gate) (ns : List NetId) → AllByRecursion (λ (n : NetId). All (λ (h : Gate). h.out.0 ≢ n.0) gs) ns → AllByRecursion (λ (n : NetId). Misses (map gate_write gs) n.0) ns
+pub reads_missed : (gs : List Gate) (ns : List NetId) → AllByRecursion (λ (n : NetId). All (λ (h : Gate). h.out.0 ≢ n.0) gs) ns →
+    AllByRecursion (λ (n : NetId). Misses (map gate_write gs) n.0) ns
 reads_missed gs [] h = tt
 reads_missed gs (n ∷ ns) h =
     (misses_gates gs n.0 (recursion_from_All (λ (k : Gate). k.out.0 ≢ n.0) gs h.0), reads_missed gs ns h.1)
@@ -204,7 +209,8 @@ fits_holds c s x w order o f =
 -- ---- nets that show 0
 
 -- a zero net has no driver, since the clock has none
-pub zero_undriven : (c : Circuit) (n : ℕ) → IsDistinct nat_eq (c.clock.0 ∷ drivers c) → is_zero_net c n ≡ true → AllByRecursion (λ y. nat_eq n y ≡ false) (drivers c)
+pub zero_undriven : (c : Circuit) (n : ℕ) → IsDistinct nat_eq (c.clock.0 ∷ drivers c) → is_zero_net c n ≡ true →
+    AllByRecursion (λ y. nat_eq n y ≡ false) (drivers c)
 zero_undriven c n d z =
     ⊎_elim
     (λ (e : n ≡ c.clock.0).
@@ -225,7 +231,8 @@ undriven_zero c n h = either (nat_eq n c.clock.0)
 
 -- ---- the law
 
-module _ (c : Circuit) (s x : List Bool) (order : List ℕ) (o : IsOrder c.gates order) (d : IsDistinct nat_eq (c.clock.0 ∷ drivers c)) (p : All (λ n. n < c.nets) (drivers c)) (ls : length s ≡ length (state_nets c)) (lx : length x ≡ length c.inputs) where
+module _ (c : Circuit) (s x : List Bool) (order : List ℕ) (o : IsOrder c.gates order) (d : IsDistinct nat_eq (c.clock.0 ∷ drivers c))
+    (p : All (λ n. n < c.nets) (drivers c)) (ls : length s ≡ length (state_nets c)) (lx : length x ≡ length c.inputs) where
   abbrev zeros : List Bool
   zeros = replicate c.nets false
 
@@ -334,4 +341,5 @@ module _ (c : Circuit) (order : List ℕ) (o : IsOrder c.gates order) where
       let lx = length-map c.inputs (λ (n : NetId). false) in
       let all : Placed c.nets (steps c some_state some_input order) =
       placed_from c.nets _ (of_targets (λ n. n < c.nets) c some_state some_input order o ls lx (recursion_from_All (λ n. n < c.nets) _ p)) in
-      placed_end c.nets (map constant_step c.constants) _ (placed_end c.nets (puts (state_nets c) some_state) _ (placed_end c.nets (puts c.inputs some_input) _ all))
+      placed_end c.nets (map constant_step c.constants) _
+      (placed_end c.nets (puts (state_nets c) some_state) _ (placed_end c.nets (puts c.inputs some_input) _ all))

@@ -1,5 +1,6 @@
 -- A set of texts as the list of their bytes.
-use Rattle.std.proofs.Common.{◌≡◌, ℕ, suc, ◌<◌, ◌≤◌, ◌+◌, Bool, true, false, not, cond, ◌||◌, List, [], ◌∷◌, ◌++◌, map, length, refl, arith, ap, sym, ◌∙◌, nat_lt, Option, Some, None, String, Global, eq-eqb, ◌⊎◌, ⊎_elim}
+use Rattle.std.proofs.Common.{◌≡◌, ℕ, suc, ◌<◌, ◌≤◌, ◌+◌, Bool, true, false, not, cond, ◌||◌, List, [], ◌∷◌, ◌++◌, map, length, refl, arith, ap, sym}
+use Rattle.std.proofs.Common.{◌∙◌, nat_lt, Option, Some, None, String, Global, eq-eqb, ◌⊎◌, ⊎_elim}
 use Rattle.std.specs.Prelude.{position, if◌then◌else◌, IsSome}
 use Rattle.std.specs.List.{list_any, position_or_len}
 use Rattle.std.specs.Option.{option_map}
@@ -102,7 +103,8 @@ with_key-one_more names key = by (list_any (bytes_eq key) names)
     by false = omega (arith, length-append names (key ∷ []))
 
 -- a name that is not there has room
-pub room_for : (names : List (List ℕ)) (key : List ℕ) → (length names < MAX_NETS) ⊎ IsSome (number_of names key) → number_of names key ≡ None → length names < MAX_NETS
+pub room_for : (names : List (List ℕ)) (key : List ℕ) → (length names < MAX_NETS) ⊎ IsSome (number_of names key) → number_of names key ≡ None →
+    length names < MAX_NETS
 room_for names key room e =
     ⊎_elim
     (λ (h : length names < MAX_NETS). h)
@@ -132,13 +134,15 @@ new_text ks t key e none =
     sym (any-texts (string_bytes t) ks)
     ∙ (ap (λ b. list_any (bytes_eq b) (map string_bytes ks)) e ∙ absent (map string_bytes ks) key none)
 
-pub keys_after : (ks : List Text) (t : Text) (key : List ℕ) → string_bytes t ≡ key → number_of (map string_bytes ks) key ≡ None → map string_bytes (if list_any (string_eq t) ks then ks else ks ++ t ∷ []) ≡ map string_bytes ks ++ key ∷ []
+pub keys_after : (ks : List Text) (t : Text) (key : List ℕ) → string_bytes t ≡ key → number_of (map string_bytes ks) key ≡ None →
+    map string_bytes (if list_any (string_eq t) ks then ks else ks ++ t ∷ []) ≡ map string_bytes ks ++ key ∷ []
 keys_after ks t key e none =
     ap (λ b. map string_bytes (if b then ks else ks ++ t ∷ [])) (new_text ks t key e none)
     ∙ (map-append string_bytes ks (t ∷ []) ∙ ap (λ b. map string_bytes ks ++ b ∷ []) e)
 
 -- its place
-pub place_after : (ks : List Text) (t : Text) (key : List ℕ) (i : ℕ) → string_bytes t ≡ key → number_of (map string_bytes ks) key ≡ None → i ≡ position_or_len (string_eq t) ks → i ≡ length (map string_bytes ks)
+pub place_after : (ks : List Text) (t : Text) (key : List ℕ) (i : ℕ) → string_bytes t ≡ key → number_of (map string_bytes ks) key ≡ None →
+    i ≡ position_or_len (string_eq t) ks → i ≡ length (map string_bytes ks)
 place_after ks t key i e none is =
     is
     ∙ (sym (first_place (string_bytes t) ks)

@@ -1,5 +1,6 @@
 -- Nets with at most one driver each are distinct.
-use Rattle.std.proofs.Common.{◌≡◌, ℕ, ◌<◌, ◌≤◌, ◌+◌, Bool, true, false, cond, List, [], ◌∷◌, ◌++◌, map, length, refl, arith, ap, sym, ◌∙◌, ⊎_elim, nat_eq, eq-eqb, ne_eqb, subst, zero-add}
+use Rattle.std.proofs.Common.{◌≡◌, ℕ, ◌<◌, ◌≤◌, ◌+◌, Bool, true, false, cond, List, [], ◌∷◌, ◌++◌, map, length, refl, arith, ap, sym, ◌∙◌, ⊎_elim}
+use Rattle.std.proofs.Common.{nat_eq, eq-eqb, ne_eqb, subst, zero-add}
 use Rattle.std.specs.List.{AllByRecursion, IsDistinct}
 use Rattle.std.proofs.lemmas.Bool.{cases_lt, ltb-false}
 use Rattle.std.proofs.lemmas.Map.Keys.{IsDistinct-tail}
@@ -16,7 +17,9 @@ apart_from_none : (n : ℕ) (ns : List NetId) → times_in ns n ≡ 0 → AllByR
 apart_from_none n [] e = tt
 apart_from_none n (m ∷ ns) e = by (nat_eq n m.0) refl (sym (times_more n m ns) ∙ e) (apart_from_none n ns)
   where
-    by : (b : Bool) → nat_eq n m.0 ≡ b → cond b 1 0 + times_in ns n ≡ 0 → (times_in ns n ≡ 0 → AllByRecursion (λ y. nat_eq n y ≡ false) (map number ns)) → (nat_eq n m.0 ≡ false) × AllByRecursion (λ y. nat_eq n y ≡ false) (map number ns)
+    by : (b : Bool) → nat_eq n m.0 ≡ b → cond b 1 0 + times_in ns n ≡ 0 →
+        (times_in ns n ≡ 0 → AllByRecursion (λ y. nat_eq n y ≡ false) (map number ns)) →
+        (nat_eq n m.0 ≡ false) × AllByRecursion (λ y. nat_eq n y ≡ false) (map number ns)
     by true k none rest = absurd (omega (arith, none))
     by false k none rest = (k, rest (sym (zero-add _) ∙ none))
 

@@ -1,5 +1,7 @@
 -- A table of tallies tells how often each net stands in a list.
-use Rattle.std.proofs.Common.{◌≡◌, ℕ, suc, zero, ◌<◌, ◌+◌, ◌^◌, Bool, true, false, not, cond, ◌&&◌, List, [], ◌∷◌, ◌++◌, length, get_or, set, replicate, refl, arith, subst, ap, sym, ◌∙◌, ⊎_elim, nat_eq, nat_lt, eq-eqb, ne_eqb, length-set, get_or-set_same, get_or-set_other, zero-add, drop}
+use Rattle.std.proofs.Common.{◌≡◌, ℕ, suc, zero, ◌<◌, ◌+◌, ◌^◌, Bool, true, false, not, cond, ◌&&◌, List, [], ◌∷◌, ◌++◌, length, get_or, set}
+use Rattle.std.proofs.Common.{replicate, refl, arith, subst, ap, sym, ◌∙◌, ⊎_elim, nat_eq, nat_lt, eq-eqb, ne_eqb, length-set, get_or-set_same}
+use Rattle.std.proofs.Common.{get_or-set_other, zero-add, drop}
 use Rattle.std.specs.List.{flat_map}
 use Rattle.std.proofs.lemmas.Bool.{cases_eq}
 use Rattle.std.proofs.lemmas.Bool.Decides.{nat_tests}
@@ -25,14 +27,16 @@ tallied-append table [] ms = refl
 tallied-append table (n ∷ ns) ms = tallied-append _ ns ms
 
 -- the inputs of one more gate
-pub inputs_more : (table : List Tally) (gs : List Gate) (i : ℕ) (d : Gate) → i < length gs → tallied (tallied table (get_or gs i d).ins) (flat_map (λ g. g.ins) (drop (i + 1) gs)) ≡ tallied table (flat_map (λ g. g.ins) (drop i gs))
+pub inputs_more : (table : List Tally) (gs : List Gate) (i : ℕ) (d : Gate) → i < length gs →
+    tallied (tallied table (get_or gs i d).ins) (flat_map (λ g. g.ins) (drop (i + 1) gs)) ≡ tallied table (flat_map (λ g. g.ins) (drop i gs))
 inputs_more table gs i d lt =
     sym
     (ap (λ u. tallied table (flat_map (λ (g : Gate). g.ins) u)) (drop_more gs i d lt)
     ∙ tallied-append table (get_or gs i d).ins (flat_map (λ g. g.ins) (drop (i + 1) gs)))
 
 -- the four parts, one after another
-pub four_tallied : (t t₁ t₂ t₃ t₄ : List Tally) (a b c d : List NetId) → t₁ ≡ tallied t a → t₂ ≡ tallied t₁ b → t₃ ≡ tallied t₂ c → t₄ ≡ tallied t₃ d → t₄ ≡ tallied t (a ++ (b ++ (c ++ d)))
+pub four_tallied : (t t₁ t₂ t₃ t₄ : List Tally) (a b c d : List NetId) → t₁ ≡ tallied t a → t₂ ≡ tallied t₁ b → t₃ ≡ tallied t₂ c → t₄ ≡ tallied t₃ d →
+    t₄ ≡ tallied t (a ++ (b ++ (c ++ d)))
 four_tallied t t₁ t₂ t₃ t₄ a b c d e₁ e₂ e₃ e₄ =
     e₄
     ∙ (ap (λ u. tallied u d) (e₃ ∙ ap (λ u. tallied u c) (e₂ ∙ ap (λ u. tallied u b) e₁))
@@ -48,7 +52,8 @@ raised_more zero = refl
 raised_more (suc zero) = refl
 raised_more (suc (suc a)) = refl
 
-tallied_from : (table : List Tally) (ns : List NetId) (n a : ℕ) → n < length table → tally_at table n ≡ tally_of a → tally_at (tallied table ns) n ≡ tally_of (times_in ns n + a)
+tallied_from : (table : List Tally) (ns : List NetId) (n a : ℕ) → n < length table → tally_at table n ≡ tally_of a →
+    tally_at (tallied table ns) n ≡ tally_of (times_in ns n + a)
 tallied_from table [] n a lt e = e ∙ ap tally_of (sym (zero-add a))
 tallied_from table (m ∷ ns) n a lt e =
     let next : List Tally = set table m.0 (raised (tally_at table m.0)) in
@@ -109,7 +114,8 @@ shared_is r drivers d n lt =
     ap (λ t. is_often (tally_at t n)) d
     ∙ (ap is_often (tallied_at (length r.names) (driver_nets r) n lt) ∙ often_is (times_in (driver_nets r) n))
 
-undriven_is : (r : Parts) (readers drivers : List Tally) → Reads r readers → Drives r drivers → (n : ℕ) → n < length r.names → (not (is_never (tally_at readers n)) && is_never (tally_at drivers n)) ≡ is_undriven r n
+undriven_is : (r : Parts) (readers drivers : List Tally) → Reads r readers → Drives r drivers → (n : ℕ) → n < length r.names →
+    (not (is_never (tally_at readers n)) && is_never (tally_at drivers n)) ≡ is_undriven r n
 undriven_is r readers drivers e d n lt =
     let read : not (is_never (tally_at readers n)) ≡ nat_lt 0 (times_in (reader_nets r) n) =
     ap (λ t. not (is_never (tally_at t n))) e
@@ -137,19 +143,23 @@ none_same p q j k e same l = record { each = λ i lt. sym (same i lt) ∙ l.each
 wide : (r : Parts) (drivers : List Tally) → Drives r drivers → length drivers ≡ length r.names
 wide r drivers d = ap (λ t. length t) d ∙ length-tallied_new (length r.names) (driver_nets r)
 
-pub lowest_shared : (r : Parts) (drivers : List Tally) (n : ℕ) → Drives r drivers → IsLowest (often_at drivers) (length drivers) n → IsLowest (is_shared r) (length r.names) n
+pub lowest_shared : (r : Parts) (drivers : List Tally) (n : ℕ) → Drives r drivers → IsLowest (often_at drivers) (length drivers) n →
+    IsLowest (is_shared r) (length r.names) n
 lowest_shared r drivers n d l =
     lowest_same (often_at drivers) (is_shared r) _ _ n (wide r drivers d) (shared_is r drivers d) l
 
-pub none_shared : (r : Parts) (drivers : List Tally) → Drives r drivers → NonePasses (often_at drivers) (length drivers) → NonePasses (is_shared r) (length r.names)
+pub none_shared : (r : Parts) (drivers : List Tally) → Drives r drivers → NonePasses (often_at drivers) (length drivers) →
+    NonePasses (is_shared r) (length r.names)
 none_shared r drivers d l =
     none_same (often_at drivers) (is_shared r) _ _ (wide r drivers d) (shared_is r drivers d) l
 
-pub lowest_undriven : (r : Parts) (readers drivers : List Tally) (n : ℕ) → Reads r readers → Drives r drivers → IsLowest (undriven_at readers drivers) (length drivers) n → IsLowest (is_undriven r) (length r.names) n
+pub lowest_undriven : (r : Parts) (readers drivers : List Tally) (n : ℕ) → Reads r readers → Drives r drivers →
+    IsLowest (undriven_at readers drivers) (length drivers) n → IsLowest (is_undriven r) (length r.names) n
 lowest_undriven r readers drivers n e d l =
     lowest_same (undriven_at readers drivers) (is_undriven r) _ _ n (wide r drivers d) (undriven_is r readers drivers e d) l
 
-pub none_undriven : (r : Parts) (readers drivers : List Tally) → Reads r readers → Drives r drivers → NonePasses (undriven_at readers drivers) (length drivers) → NonePasses (is_undriven r) (length r.names)
+pub none_undriven : (r : Parts) (readers drivers : List Tally) → Reads r readers → Drives r drivers →
+    NonePasses (undriven_at readers drivers) (length drivers) → NonePasses (is_undriven r) (length r.names)
 none_undriven r readers drivers e d l =
     none_same (undriven_at readers drivers) (is_undriven r) _ _ (wide r drivers d) (undriven_is r readers drivers e d) l
 

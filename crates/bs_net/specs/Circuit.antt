@@ -1,5 +1,6 @@
 -- A netlist as a machine: its values, what fits it, and its next state.
-use Rattle.std.specs.Prelude.{◌≡◌, ℕ, ◌<◌, ◌%◌, Bool, true, false, not, ◌&&◌, ◌||◌, ◌==◌, List, [], ◌∷◌, ◌++◌, length, map, find, count_by, slice_index_or, All, IsTrue, unwrap_or, zero, suc}
+use Rattle.std.specs.Prelude.{◌≡◌, ℕ, ◌<◌, ◌%◌, Bool, true, false, not, ◌&&◌, ◌||◌, ◌==◌, List, [], ◌∷◌, ◌++◌, length, map, find, count_by}
+use Rattle.std.specs.Prelude.{slice_index_or, All, IsTrue, unwrap_or, zero, suc}
 use Rattle.std.specs.Bool.{beq}
 use Rattle.std.specs.List.{list_all, list_any, range_with_len}
 use Rattle.bs_bits.specs.Bits.{bits_eq}

@@ -1,5 +1,6 @@
 -- A depth-first search over fan-in, which lists each gate after the gates that it reads.
-use Rattle.std.specs.Prelude.{◌≡◌, ℕ, ◌<◌, ◌≤◌, ◌+◌, ◌-◌, Bool, true, ◌&&◌, List, [], ◌∷◌, ◌++◌, length, take, slice_index_or, slice_set, All, nat_eq, Option, Some, None, if◌then◌else◌, sum, map, replicate}
+use Rattle.std.specs.Prelude.{◌≡◌, ℕ, ◌<◌, ◌≤◌, ◌+◌, ◌-◌, Bool, true, ◌&&◌, List, [], ◌∷◌, ◌++◌, length, take, slice_index_or, slice_set, All, nat_eq}
+use Rattle.std.specs.Prelude.{Option, Some, None, if◌then◌else◌, sum, map, replicate}
 use Rattle.std.specs.List.{list_all, IsDistinct}
 use Rattle.bs_net.specs.declared.net.NetId.{NetId}
 use Rattle.bs_net.specs.declared.net.Gate.{Gate}

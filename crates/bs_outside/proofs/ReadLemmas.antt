@@ -1,5 +1,6 @@
 -- A file that is read in pieces.
-use Rattle.std.proofs.Common.{◌≡◌, ◌≢◌, ℕ, ◌+◌, ◌-◌, ◌<◌, ◌≤◌, List, [], ◌++◌, length, Option, Some, None, refl, sym, ◌∙◌, ap, subst, arith, append_assoc, length-append, drop}
+use Rattle.std.proofs.Common.{◌≡◌, ◌≢◌, ℕ, ◌+◌, ◌-◌, ◌<◌, ◌≤◌, List, [], ◌++◌, length, Option, Some, None, refl, sym, ◌∙◌, ap, subst, arith}
+use Rattle.std.proofs.Common.{append_assoc, length-append, drop}
 use Rattle.std.proofs.lemmas.List.{take_at, drop_at, append-nil}
 use Rattle.std.specs.Prelude.{IfSome}
 use Rattle.std.specs.Io.{StartsWith, appended_bytes}
@@ -68,7 +69,13 @@ reading_ends {limit} {left} {most} {u} {v} {w} {old} {now} {new} so_far piece =
     let taken : Consumes u w all = consumes_then u v w so_far.bytes piece.bytes so_far.taken piece.taken in
     record {
       bytes =
-          record { bytes = all; appended = appended; within = omega (arith, so_far.counted, piece.counted, length-append so_far.bytes piece.bytes); told = told_all u w all taken (piece.end refl) };
+          record {
+            bytes = all;
+            appended = appended;
+            within =
+                omega (arith, so_far.counted, piece.counted, length-append so_far.bytes piece.bytes);
+            told = told_all u w all taken (piece.end refl);
+          };
       taken = λ _. behind old new all u w appended taken;
       within = omega (arith, ap length appended, length-append old all, length-append so_far.bytes piece.bytes, so_far.counted, piece.counted);
     }
@@ -81,7 +88,13 @@ reading_over {limit} {left} {most} {count} {u} {v} {w} {old} {now} {new} so_far 
     let taken : Consumes u w all = consumes_then u v w so_far.bytes piece.bytes so_far.taken piece.taken in
     record {
       bytes =
-          record { bytes = all; appended = appended; beyond = omega (arith, so_far.counted, piece.counted, over, length-append so_far.bytes piece.bytes); told = told_front u w all taken };
+          record {
+            bytes = all;
+            appended = appended;
+            beyond =
+                omega (arith, so_far.counted, piece.counted, over, length-append so_far.bytes piece.bytes);
+            told = told_front u w all taken;
+          };
       taken = λ _. behind old new all u w appended taken;
       within =
           omega (arith, ap length appended, length-append old all, length-append so_far.bytes piece.bytes, so_far.counted, piece.counted, piece.within, few);

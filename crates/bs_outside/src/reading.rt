@@ -13,6 +13,7 @@ use std::io::{ErrorKind, Read};
 const PIECE: usize = 8192;
 
 /// One read of at most so many bytes, which are appended.
+#[inline(never)]
 fn read_piece<R: Read>(reader: &mut R, most: usize, into: &mut Vec<u8>) -> Result<usize, Fetch>
     requires some { 0 < most }
     requires within { most ≤ 8192 }

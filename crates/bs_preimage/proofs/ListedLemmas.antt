@@ -1,5 +1,6 @@
 -- A step of the log is a right list.
-use Rattle.std.proofs.Common.{◌≡◌, ◌≢◌, ℕ, ◌+◌, ◌-◌, ◌<◌, ◌≤◌, Bool, true, false, List, [], ◌∷◌, ◌++◌, length, reverse, get_or, refl, ap, subst, sym, ◌∙◌, ◌⊎◌, inl, inr, append_assoc, arith, Option, Some, None}
+use Rattle.std.proofs.Common.{◌≡◌, ◌≢◌, ℕ, ◌+◌, ◌-◌, ◌<◌, ◌≤◌, Bool, true, false, List, [], ◌∷◌, ◌++◌, length, reverse, get_or, refl, ap, subst, sym}
+use Rattle.std.proofs.Common.{◌∙◌, ◌⊎◌, inl, inr, append_assoc, arith, Option, Some, None}
 use mathlib.Core.List.{reverse_aux}
 use Rattle.std.specs.Prelude.{◌^◌, Contains, All, ◌||◌, ◌&&◌, filter_map, slice_get, IsTrue}
 use Rattle.std.specs.List.{AllByRecursion as Each}
@@ -15,7 +16,7 @@ use Rattle.bs_clause.specs.Range.{HasVariables}
 use Rattle.bs_log.specs.declared.line.Line.{Line}
 use Rattle.bs_log.specs.declared.line.Line.TheVariants.{Retire}
 use Rattle.bs_log.specs.History.{Problem, History, step_of, guard_of}
-use Rattle.bs_log.specs.Refusal.{history_of, assumptions_of, IsAccepted}
+use Rattle.bs_log.specs.Refusal.{history_of, assumptions_of, IsAccepted, NoneRefused}
 use Rattle.bs_log.specs.Refutation.{Suits, blocks_of}
 use Rattle.bs_log.specs.Shown.{Shown}
 use Rattle.bs_log.specs.Steps.{steps_of, block_of_line, finish_of_line}
@@ -29,8 +30,8 @@ use Rattle.bs_scan.specs.Moments.{is_listed}
 use Rattle.bs_scan.specs.Signature.{agrees, some_input_leads, predecessors}
 use Rattle.bs_scan.proofs.MomentLemmas.{each_member}
 use Rattle.bs_scan.proofs.SignatureLemmas.{bits_same, bits_same_is, is_predecessor}
-use Rattle.bs_solve.specs.Book.{Book, standing}
-use Rattle.bs_solve.specs.Solver.{SolverState, finished}
+use Rattle.bs_book.specs.Book.{Book, standing, next_id}
+use Rattle.bs_book.specs.Solver.{SolverState, finished, retired, leaving}
 use Rattle.bs_encode.specs.Encoded.{Encoded, encoding_of}
 use Rattle.bs_encode.specs.Assuming.{assumptions_for, block_for}
 use Rattle.bs_encode.specs.Cycle.{bits_on}
@@ -49,11 +50,13 @@ use Rattle.bs_preimage.specs.Rest.{IsAbout, IsAtRest, AreWholeSteps}
 use Rattle.bs_preimage.specs.Turn.{IsReadable, IsShownIn, guard_in}
 use Rattle.bs_preimage.specs.Order.{IsInOrder}
 use Rattle.bs_preimage.specs.Step.{HasSought, HasMadeStep, assumptions_at, ending_of}
-use Rattle.bs_solve.proofs.Clauses.{contains_first}
-use Rattle.bs_solve.proofs.CallerLemmas.{bound_is}
+use Rattle.bs_book.proofs.Clauses.{contains_first}
+use Rattle.bs_book.proofs.CallerLemmas.{bound_is, axioms_stand_still, guards_stay_retired}
 use Rattle.std.proofs.Math.Nat.{eq-or-lt_of_le}
 use Rattle.bs_preimage.proofs.OrderLemmas.{in_order_ascend}
-use Rattle.bs_preimage.proofs.StepLinesLemmas.{is_in_step, finish_lines, in_step, step_kept, step_lines_are, whole_after, get_last, slice_get_last, blocks_are_due, right_blocks, one_finish, finish_is, end_is}
+use Rattle.bs_preimage.proofs.StepLinesLemmas.{is_in_step, finish_lines, in_step, step_kept, step_lines_are, whole_after, get_last, slice_get_last}
+use Rattle.bs_preimage.proofs.StepLinesLemmas.{blocks_are_due, right_blocks, one_finish, finish_is, end_is}
+use Rattle.bs_preimage.proofs.StepLinesLemmas.{delete_lines, without_history, without_problem, step_deleted, lines_deleted, whole_deleted}
 
 -- all that is known after a step
 pub record Sought : Type 0 where
@@ -99,12 +102,22 @@ assumed_by t = assumptions_at t.e t.old.book t.present t.stored
 abbrev lines_by : Sought → List Line
 lines_by t = finish_lines (ending_of t.end) ++ t.sought.search.logged.lines
 
+-- the book with the line of the lemma that ends the step
+abbrev finished_by : Sought → Book
+finished_by t = finished t.sought.middle.book (ending_of t.end)
+
 -- the id of the retire line
 abbrev retired_by : Sought → ℕ
-retired_by t = length (standing t.sought.middle.book) + 1
+retired_by t = next_id (finished_by t)
+
+-- the delete line, if there is one
+abbrev gone_by : Sought → List Line
+gone_by t = delete_lines (leaving (finished_by t))
 
 problem_is : (t : Sought) → t.new.book.problem ≡ t.sought.middle.book.problem
-problem_is t = ap (λ (b : Book). b.problem) t.sought.ended.book ∙ finished_problem t.sought.middle.book (ending_of t.end)
+problem_is t =
+    ap (λ (b : Book). b.problem) t.sought.ended.book ∙
+    (without_problem (retired (finished_by t)) (leaving (finished_by t)) ∙ finished_problem t.sought.middle.book (ending_of t.end))
 
 vars_are : (t : Sought) → t.new.book.problem.vars ≡ t.old.book.problem.vars
 vars_are t = ap (λ (p : Problem). p.vars) (problem_is t) ∙ t.sought.search.logged.vars
@@ -115,51 +128,38 @@ clauses_are t = ap (λ (p : Problem). p.clauses) (problem_is t) ∙ t.sought.sea
 steps_are : (t : Sought) → t.new.book.problem.steps ≡ t.old.book.problem.steps ++ assumed_by t ∷ []
 steps_are t = ap (λ (p : Problem). p.steps) (problem_is t) ∙ t.sought.search.steps
 
-history_is : (t : Sought) → t.new.book.history ≡ Retire (retired_by t) ∷ (lines_by t ++ t.old.book.history)
+history_is : (t : Sought) → t.new.book.history ≡ gone_by t ++ Retire (retired_by t) ∷ (lines_by t ++ t.old.book.history)
 history_is t =
     ap (λ (b : Book). b.history) t.sought.ended.book
-    ∙ ap (λ (h : History). Retire (retired_by t) ∷ h)
+    ∙ (without_history (retired (finished_by t)) (leaving (finished_by t))
+    ∙ ap (λ (h : History). gone_by t ++ Retire (retired_by t) ∷ h)
     (finished_history t.sought.middle.book (ending_of t.end)
     ∙ (ap (λ (h : History). finish_lines (ending_of t.end) ++ h) t.sought.search.logged.history
-    ∙ sym (append_assoc (finish_lines (ending_of t.end)) t.sought.search.logged.lines t.old.book.history)))
+    ∙ sym (append_assoc (finish_lines (ending_of t.end)) t.sought.search.logged.lines t.old.book.history))))
 
 inside : (t : Sought) → Each (λ line. is_in_step line ≡ true) (lines_by t)
 inside t = in_step (ending_of t.end) t.sought.search.logged.lines t.sought.search.logged.inner
 
+whole_before : (t : Sought) → AreWholeSteps (reverse (Retire (retired_by t) ∷ (lines_by t ++ t.old.book.history)))
+whole_before t = whole_after (lines_by t) t.old.book.history (retired_by t) t.rest.whole (inside t)
+
 step_lines : (t : Sought) → steps_of (reverse t.new.book.history) ≡ steps_of (reverse t.old.book.history) ++ reverse (lines_by t) ∷ []
 step_lines t =
-    ap (λ (h : History). steps_of (reverse h)) (history_is t) ∙ step_lines_are (lines_by t) t.old.book.history (retired_by t) t.rest.whole (inside t)
+    ap (λ (h : History). steps_of (reverse h)) (history_is t)
+    ∙ (lines_deleted (leaving (finished_by t)) (Retire (retired_by t) ∷ (lines_by t ++ t.old.book.history)) (whole_before t)
+    ∙ step_lines_are (lines_by t) t.old.book.history (retired_by t) t.rest.whole (inside t))
 
 one_longer : (t : Sought) → length t.new.book.problem.steps ≡ length t.old.book.problem.steps + 1
 one_longer t = ap length (steps_are t) ∙ length-append t.old.book.problem.steps (assumed_by t ∷ [])
 
-retires : (t : Sought) → (n : ℕ) → 1 ≤ n → n ≤ length t.new.book.problem.steps → Contains (standing t.new.book) (negation (guard_of t.new.book.problem n) ∷ [])
-retires t n from to =
-    by (eq-or-lt_of_le (subst (λ (k : ℕ). n ≤ k) (one_longer t) to))
-  where
-    guard : (n : ℕ) → negation (guard_of t.new.book.problem n) ∷ [] ≡ negation (guard_of t.old.book.problem n) ∷ []
-    guard n = ap (λ (v : ℕ). negation (record { variable = v + n; positive = true }) ∷ []) (vars_are t)
+number_now : (t : Sought) → step_of t.new.book.history ≡ length t.new.book.problem.steps + 1
+number_now t =
+    ap step_of (history_is t)
+    ∙ (step_deleted (leaving (finished_by t)) (Retire (retired_by t) ∷ (lines_by t ++ t.old.book.history))
+    ∙ (ap (λ (n : ℕ). n + 1) (step_kept (lines_by t) t.old.book.history (inside t) ∙ t.rest.number) ∙ ap (λ (n : ℕ). n + 1) (sym (one_longer t))))
 
-    last : negation (guard_of t.sought.middle.book.problem (step_of t.sought.middle.book.history))
-        ∷ [] ≡ negation (guard_of t.old.book.problem (length t.old.book.problem.steps + 1)) ∷ []
-    last = ap (λ (v : ℕ). negation (record { variable = v; positive = true }) ∷ [])
-        (λ i. t.sought.search.logged.vars i +
-        (ap step_of t.sought.search.logged.history
-        ∙ (step_kept t.sought.search.logged.lines t.old.book.history (in_step None t.sought.search.logged.lines t.sought.search.logged.inner)
-        ∙ t.rest.number)) i)
-
-    by : (n ≡ length t.old.book.problem.steps + 1) ⊎ (n < length t.old.book.problem.steps + 1) →
-        Contains (standing t.new.book) (negation (guard_of t.new.book.problem n) ∷ [])
-    by (inl same) =
-        subst (Contains (standing t.new.book)) (last ∙ (ap (λ (n : ℕ). negation (guard_of t.old.book.problem n) ∷ []) (sym same) ∙ sym (guard n)))
-        (subst (λ (cs : List Clause). Contains cs (negation (guard_of t.sought.middle.book.problem (step_of t.sought.middle.book.history)) ∷ []))
-        (sym t.sought.ended.stands)
-        (Contains-push (standing t.sought.middle.book) (negation (guard_of t.sought.middle.book.problem (step_of t.sought.middle.book.history)) ∷ [])))
-    by (inr before) =
-        subst (Contains (standing t.new.book)) (sym (guard n))
-        (subst (λ (cs : List Clause). Contains cs (negation (guard_of t.old.book.problem n) ∷ [])) (sym t.sought.ended.stands)
-        (Contains-append_left (standing t.sought.middle.book) _ (negation (guard_of t.old.book.problem n) ∷ [])
-        (t.sought.search.logged.stand (negation (guard_of t.old.book.problem n) ∷ []) (t.rest.retired n from (omega arith)))))
+right_by : (t : Sought) → NoneRefused t.new.book.problem t.new.book.history
+right_by t = subst (NoneRefused t.new.book.problem) (reverse-reverse t.new.book.history) t.accepted.lines
 
 rests : (t : Sought) → IsAtRest t.new
 rests t =
@@ -168,18 +168,14 @@ rests t =
       idle = t.sought.ended.stage;
       guards = omega (arith, t.sought.ended.vars, t.sought.search.logged.guards, t.rest.guards, vars_are t, one_longer t);
       number =
-          ap step_of (history_is t)
-          ∙ (ap (λ (n : ℕ). n + 1) (step_kept (lines_by t) t.old.book.history (inside t) ∙ t.rest.number) ∙ ap (λ (n : ℕ). n + 1) (sym (one_longer t)));
+          number_now t;
       count =
           ap length (step_lines t)
           ∙ (length-append (steps_of (reverse t.old.book.history)) (reverse (lines_by t) ∷ []) ∙ (ap (λ (n : ℕ). n + 1) t.rest.count ∙ sym (one_longer t)));
-      stand = λ c there.
-          subst (λ (cs : List Clause). Contains cs c) (sym t.sought.ended.stands)
-          (Contains-append_left (standing t.sought.middle.book) _ c
-          (t.sought.search.logged.stand c (t.rest.stand c (subst (λ (cs : List Clause). Contains cs c) (clauses_are t) there))));
-      retired = retires t;
+      stand = λ c there. axioms_stand_still t.new.book.problem t.new.book.history c (right_by t) there;
+      retired = λ n low high. guards_stay_retired t.new.book.problem t.new.book.history n (right_by t) low (omega (arith, high, number_now t));
       whole = subst (λ (h : History). AreWholeSteps (reverse h)) (sym (history_is t))
-          (whole_after (lines_by t) t.old.book.history (retired_by t) t.rest.whole (inside t));
+          (whole_deleted (leaving (finished_by t)) (Retire (retired_by t) ∷ (lines_by t ++ t.old.book.history)) (whole_before t));
     }
 
 -- ---- the candidates
@@ -345,9 +341,8 @@ made_step t listing e = subst (HasMadeStep t.c t.choice t.old t.new t.present t.
       choice = refl;
       vars = vars_are t;
       clauses = clauses_are t;
-      more = Retire (retired_by t) ∷ lines_by t;
-      history =
-          history_is t;
+      more = gone_by t ++ Retire (retired_by t) ∷ lines_by t;
+      history = history_is t ∙ sym (append_assoc (gone_by t) (Retire (retired_by t) ∷ lines_by t) t.old.book.history);
     };
     steps = steps_are t ∙ ap (λ (e : Encoded). t.old.book.problem.steps ++ assumptions_for e (next_guard t.old.book.problem) (asked t) ∷ []) t.about.encoding;
     lines = reverse (lines_by t);

@@ -4,20 +4,20 @@ use Rattle.std.specs.Prelude.{Contains}
 use Rattle.std.proofs.lemmas.Bool.{true≢false}
 use Rattle.bs_clause.specs.Literal.{Literal, Clause}
 use Rattle.bs_clause.specs.Range.{HasVariables}
-use Rattle.bs_log.specs.declared.line.Line.TheVariants.{Finish}
+use Rattle.bs_log.specs.declared.line.Line.TheVariants.{Finish, Retire, Delete}
 use Rattle.bs_log.specs.History.{guard_of}
-use Rattle.bs_solve.specs.declared.stage.Stage.TheVariants.{Begun, Blocked}
-use Rattle.bs_solve.specs.Book.{Book}
-use Rattle.bs_solve.specs.Solver.{SolverState, HasEnded, finished}
-use Rattle.bs_solve.specs.Stages.{is_begun}
-use Rattle.bs_solve.proofs.Clauses.{contains_first}
+use Rattle.bs_book.specs.declared.stage.Stage.TheVariants.{Begun, Blocked}
+use Rattle.bs_book.specs.Book.{Book, next_id, without}
+use Rattle.bs_book.specs.Solver.{SolverState, HasEnded, finished, retired, leaving}
+use Rattle.bs_book.specs.Stages.{is_begun}
+use Rattle.bs_book.proofs.Clauses.{contains_first}
 use Rattle.bs_encode.specs.Encoded.{Encoded}
 use Rattle.bs_encode.specs.Assuming.{assumptions_for}
 use Rattle.bs_preimage.specs.Preimage.{asking, next_guard}
 use Rattle.bs_preimage.specs.Rest.{IsAtRest}
 use Rattle.bs_preimage.specs.Turn.{Extends, IsReadable, MayTurn, guard_in}
 use Rattle.bs_preimage.specs.Step.{begun, assumptions_at}
-use Rattle.bs_preimage.proofs.TurnLemmas.{extends_line, extends_same, extends_from}
+use Rattle.bs_preimage.proofs.TurnLemmas.{extends_line, extends_same, extends_from, extends_then}
 
 begun_is_not_blocked : Begun ≡ Blocked → ⊥
 begun_is_not_blocked e = true≢false (ap is_begun e)
@@ -58,24 +58,33 @@ may_seek e old s present stored guard a readable vars clauses rest new g is =
 
 -- ---- extensions
 
+retired_extends : (old new : Book) (end : Option ℕ) → new ≡ retired (finished old end) → Extends false old new []
+retired_extends old new None e = extends_line false old new (Retire (next_id old)) [] e
+retired_extends old new (Some id) e = record {
+  vars = ap (λ (b : Book). b.problem.vars) e;
+  clauses = ap (λ (b : Book). b.problem.clauses) e;
+  more = Retire (next_id old) ∷ Finish id ∷ [];
+  history = ap (λ (b : Book). b.history) e;
+  steps = inl (ap (λ (b : Book). b.problem.steps) e);
+}
+
+without_extends : (old new : Book) (ids : List ℕ) → new ≡ without old ids → Extends false old new []
+without_extends old new [] e = extends_same false old new [] e
+without_extends old new (id ∷ ids) e = extends_line false old new (Delete (id ∷ ids)) [] e
+
 pub ended_extends : (old new : SolverState) (end : Option ℕ) → HasEnded old new end → Extends false old.book new.book []
-ended_extends old new None h = extends_line false old.book new.book _ [] h.book
-ended_extends old new (Some id) h =
-    record {
-      vars = ap (λ (b : Book). b.problem.vars) h.book;
-      clauses = ap (λ (b : Book). b.problem.clauses) h.book;
-      more = _ ∷ Finish id ∷ [];
-      history = ap (λ (b : Book). b.history) h.book;
-      steps = inl (ap (λ (b : Book). b.problem.steps) h.book);
-    }
+ended_extends old new end h =
+    extends_then false old.book (retired (finished old.book end)) new.book [] [] (retired_extends old.book (retired (finished old.book end)) end refl)
+    (without_extends (retired (finished old.book end)) new.book (leaving (finished old.book end)) h.book)
 
 finished_extends : (old new : Book) (end : Option ℕ) → new ≡ finished old end → Extends false old new []
 finished_extends old new None e = extends_same false old new [] e
 finished_extends old new (Some id) e = extends_line false old new (Finish id) [] e
 
-pub failed_extends : (old new : Book) (end : Option ℕ) → (new ≡ old) ⊎ (new ≡ finished old end) → Extends false old new []
+pub failed_extends : (old new : Book) (end : Option ℕ) → (new ≡ old) ⊎ (new ≡ finished old end) ⊎ (new ≡ retired (finished old end)) → Extends false old new []
 failed_extends old new end (inl e) = extends_same false old new [] e
-failed_extends old new end (inr e) = finished_extends old new end e
+failed_extends old new end (inr (inl e)) = finished_extends old new end e
+failed_extends old new end (inr (inr e)) = retired_extends old new end e
 
 -- a search in a step that has just begun
 pub sought_extends : (e : Encoded) (old s new : SolverState) (present stored : List Bool) (guard : Literal) (a : Clause) → IsAtRest old → s ≡ begun old →

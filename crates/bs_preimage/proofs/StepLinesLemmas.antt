@@ -1,5 +1,6 @@
 -- The lines of a step, the newest first, and what they say.
-use Rattle.std.proofs.Common.{◌≡◌, ℕ, Bool, true, false, List, [], ◌∷◌, ◌++◌, length, reverse, get_or, refl, ap, subst, sym, ◌∙◌, ◌⊎◌, inl, inr, append_assoc, arith, Option, Some, None, suc, zero}
+use Rattle.std.proofs.Common.{◌≡◌, ℕ, Bool, true, false, List, [], ◌∷◌, ◌++◌, length, reverse, get_or, refl, ap, subst, sym, ◌∙◌, ◌⊎◌, inl, inr}
+use Rattle.std.proofs.Common.{append_assoc, arith, Option, Some, None, suc, zero}
 use Rattle.std.specs.Prelude.{Contains, ◌||◌, ◌&&◌, ◌==◌, filter_map, slice_get, nat_eq}
 use Rattle.std.specs.Cmp.Lexicographic.{pointwise, pointwise_decides}
 use Rattle.std.specs.List.{AllByRecursion as Each, list_all, cons_option}
@@ -8,14 +9,16 @@ use Rattle.std.proofs.lemmas.Bool.{false≢true, eq-eqb}
 use Rattle.std.proofs.lemmas.Bool.Decides.{Decides-eqb}
 use Rattle.std.proofs.lemmas.List.{reverse-append, append-nil}
 use Rattle.std.proofs.lemmas.List.Elements.{filter_map-append}
-use Rattle.std.proofs.lemmas.List.Sorted.{IsPermutation-sym, IsPermutation-trans, IsPermutation-map, IsPermutation-reverse, length_permutation, Contains-permutation}
+use Rattle.std.proofs.lemmas.List.Sorted.{IsPermutation-sym, IsPermutation-trans, IsPermutation-map, IsPermutation-reverse, length_permutation}
+use Rattle.std.proofs.lemmas.List.Sorted.{Contains-permutation}
 use Rattle.bs_clause.specs.Literal.{Literal, Clause, negation, same_literal}
 use Rattle.bs_log.specs.declared.line.Line.{Line}
 use Rattle.bs_log.specs.declared.line.Line.TheVariants.{Solve, Lemma, Block, Finish, Retire, Delete}
 use Rattle.bs_log.specs.History.{History, step_of}
 use Rattle.bs_log.specs.Steps.{steps_of, onto_step, block_of_line, finish_of_line, last_solve, is_spent}
-use Rattle.bs_solve.specs.Solver.{SolverState}
-use Rattle.bs_solve.proofs.Clauses.{contains_cases, contains_first, cons_contains, nothing_in}
+use Rattle.bs_book.specs.Book.{Book, without}
+use Rattle.bs_book.specs.Solver.{SolverState}
+use Rattle.bs_book.proofs.Clauses.{contains_cases, contains_first, cons_contains, nothing_in}
 use Rattle.bs_report.specs.declared.report.Cand.{Cand}
 use Rattle.bs_report.specs.declared.report.ListEnd.{ListEnd}
 use Rattle.bs_report.specs.declared.report.ListEnd.TheVariants.{Finished, Candidates, Conflicts}
@@ -97,6 +100,39 @@ whole_after lines h id whole all more =
     ∙ (ap (λ (x : List (List Line)). steps_of (reverse h) ++ x) (one_step (reverse lines) more id (each_reverse (λ line. is_in_step line ≡ true) lines all))
     ∙ (sym (append_assoc (steps_of (reverse h)) (reverse lines ∷ []) (steps_of more))
     ∙ ap (λ (x : List (List Line)). x ++ steps_of more) (sym (step_lines_are lines h id whole all)))))))
+
+-- ---- the delete line
+
+-- the line of what goes at a step's end, if anything does
+abbrev pub delete_lines : List ℕ → List Line
+delete_lines [] = []
+delete_lines (id ∷ ids) = Delete (id ∷ ids) ∷ []
+
+pub without_history : (b : Book) (ids : List ℕ) → (without b ids).history ≡ delete_lines ids ++ b.history
+without_history b [] = refl
+without_history b (id ∷ ids) = refl
+
+pub without_problem : (b : Book) (ids : List ℕ) → (without b ids).problem ≡ b.problem
+without_problem b [] = refl
+without_problem b (id ∷ ids) = refl
+
+pub step_deleted : (ids : List ℕ) (h : History) → step_of (delete_lines ids ++ h) ≡ step_of h
+step_deleted [] h = refl
+step_deleted (id ∷ ids) h = refl
+
+-- it is no line of a step
+pub lines_deleted : (ids : List ℕ) (h : List Line) → AreWholeSteps (reverse h) → steps_of (reverse (delete_lines ids ++ h)) ≡ steps_of (reverse h)
+lines_deleted [] h whole = refl
+lines_deleted (id ∷ ids) h whole =
+    ap steps_of (reverse-append (Delete (id ∷ ids) ∷ []) h) ∙ (whole (Delete (id ∷ ids) ∷ []) ∙ append-nil (steps_of (reverse h)))
+
+pub whole_deleted : (ids : List ℕ) (h : List Line) → AreWholeSteps (reverse h) → AreWholeSteps (reverse (delete_lines ids ++ h))
+whole_deleted [] h whole more = whole more
+whole_deleted (id ∷ ids) h whole more =
+    ap (λ (x : List Line). steps_of (x ++ more)) (reverse-append (Delete (id ∷ ids) ∷ []) h)
+    ∙ (ap steps_of (append_assoc (reverse h) (Delete (id ∷ ids) ∷ []) more)
+    ∙ (whole (Delete (id ∷ ids) ∷ more)
+    ∙ ap (λ (x : List (List Line)). x ++ steps_of more) (sym (lines_deleted (id ∷ ids) h whole))))
 
 -- ---- the last of a list
 

@@ -14,10 +14,10 @@ use Rattle.bs_report.specs.declared.report.ListEnd.{ListEnd}
 use Rattle.bs_report.specs.declared.report.ListEnd.TheVariants.{Finished, Candidates, Conflicts}
 use Rattle.bs_good.specs.Step.{listed}
 use Rattle.bs_good.specs.Valid.{blocks_due}
-use Rattle.bs_solve.specs.declared.stage.Stage.TheVariants.{Blocked, Ended, Stopped}
-use Rattle.bs_solve.specs.Book.{standing}
-use Rattle.bs_solve.specs.Search.{assumed}
-use Rattle.bs_solve.specs.Solver.{SolverState}
+use Rattle.bs_book.specs.declared.stage.Stage.TheVariants.{Blocked, Ended, Stopped}
+use Rattle.bs_book.specs.Book.{standing}
+use Rattle.bs_book.specs.Search.{assumed}
+use Rattle.bs_book.specs.Solver.{SolverState}
 use Rattle.bs_preimage.specs.Turn.{IsShownIn, Keeps, guard_in, block_in}
 
 -- a line inside a step

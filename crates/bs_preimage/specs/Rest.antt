@@ -7,9 +7,9 @@ use Rattle.bs_log.specs.Steps.{steps_of}
 use Rattle.bs_net.specs.Circuit.{Circuit}
 use Rattle.bs_scan.specs.Choice.{Chosen}
 use Rattle.bs_encode.specs.Encoded.{Encoded, encoding_of}
-use Rattle.bs_solve.specs.declared.stage.Stage.TheVariants.{Idle}
-use Rattle.bs_solve.specs.Book.{Book, standing}
-use Rattle.bs_solve.specs.Solver.{SolverState}
+use Rattle.bs_book.specs.declared.stage.Stage.TheVariants.{Idle}
+use Rattle.bs_book.specs.Book.{Book, standing}
+use Rattle.bs_book.specs.Solver.{SolverState}
 
 -- each clause that the log is about stands
 abbrev pub AxiomsStand : Book → Type 0

@@ -16,13 +16,13 @@ use Rattle.bs_encode.specs.Assuming.{block_for, assumptions_for}
 use Rattle.bs_encode.specs.Cycle.{bits_on}
 use Rattle.bs_scan.specs.Present.{Present}
 use Rattle.bs_report.specs.declared.report.Cand.{Cand}
-use Rattle.bs_solve.specs.declared.stage.Stage.TheVariants.{Ended, Stopped}
-use Rattle.bs_solve.specs.Book.{Book, standing}
-use Rattle.bs_solve.specs.Search.{assumed}
-use Rattle.bs_solve.specs.Ending.{is_open_lemma}
-use Rattle.bs_solve.specs.Stages.{is_begun}
-use Rattle.bs_solve.specs.Solver.{SolverState, MaySolve, HasBlocked}
-use Rattle.bs_solve.specs.Values.{value_of}
+use Rattle.bs_book.specs.declared.stage.Stage.TheVariants.{Ended, Stopped}
+use Rattle.bs_book.specs.Book.{Book, standing}
+use Rattle.bs_book.specs.Search.{assumed}
+use Rattle.bs_book.specs.Ending.{is_open_lemma}
+use Rattle.bs_book.specs.Stages.{is_begun}
+use Rattle.bs_book.specs.Solver.{SolverState, MaySolve, HasBlocked}
+use Rattle.bs_book.specs.Values.{value_of}
 use Rattle.bs_preimage.specs.declared.turn.TurnEnd.{TurnEnd}
 use Rattle.bs_preimage.specs.declared.turn.TurnEnd.TheVariants.{Listed, Refuted, Spent}
 use Rattle.bs_preimage.specs.Rest.{AxiomsStand}

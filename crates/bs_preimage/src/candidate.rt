@@ -1,7 +1,7 @@
 //! The candidate that an assignment shows.
 ghost use Rattle.std.specs.Prelude.{◌≡◌, ◌<◌, ◌≤◌, length, IfOk};
 ghost use Rattle.bs_clause.specs.Range.{HasVariables};
-ghost use Rattle.bs_solve.specs.Values.{value_of};
+ghost use Rattle.bs_book.specs.Values.{value_of};
 ghost use Rattle.bs_encode.specs.Cycle.{bits_on};
 
 use bs_bits::Bits;

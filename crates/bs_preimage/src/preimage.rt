@@ -2,7 +2,7 @@
 ghost use Rattle.std.specs.Prelude.{◌≡◌, ◌+◌, ◌<◌, ◌≤◌, true, false, length, All, IfOk, IfErr};
 ghost use Rattle.bs_net.specs.Netlist.{circuit};
 ghost use Rattle.bs_log.specs.Refusal.{has_distinct_variables, history_of, NoneRefused, IsAccepted};
-ghost use Rattle.bs_log.specs.Lean.{LemmasAreLean};
+ghost use Rattle.bs_log.specs.Lean.{LemmasAreLean, StepsLeaveKept};
 ghost use Rattle.bs_log.specs.LineForms.{HasText};
 ghost use Rattle.bs_clause.specs.declared.literal.TheConstants.{VARIABLE_LIMIT};
 ghost use Rattle.bs_clause.specs.Range.{HasVariables};
@@ -16,10 +16,10 @@ use crate::step::{Question, list_step};
 use bs_bits::{Bits, NoMemory};
 use bs_clause::{Clauses, Lits};
 use bs_encode::{Encoding, encodings_are_tidy};
+use bs_engine::Solver;
 use bs_log::Log;
 use bs_net::Netlist;
 use bs_scan::Choice;
-use bs_solve::Solver;
 use std::alloc::Global;
 use std::marker::Model;
 
@@ -146,12 +146,13 @@ impl<'a> Preimage<'a> {
         self.calls
     }
 
-    /// The log. No line of it is refused, its lemmas are lean, each line has a text, and it is accepted while memory has
-    /// not run out.
+    /// The log. No line of it is refused, its lemmas are lean, and each line has a text. While memory has not run out it is
+    /// accepted, and each step has left what is kept.
     pub fn into_log(self) -> Log
         ensures lines { history_of result ≡ self.entry.history }
         ensures right { NoneRefused self.entry.problem (history_of result) }
         ensures lean { LemmasAreLean self.entry.problem (history_of result) }
+        ensures steps { self.entry.failed ≡ false → StepsLeaveKept self.entry.problem (history_of result) }
         ensures texts { All HasText result }
         ensures accepted { self.entry.failed ≡ false → IsAccepted self.entry.problem result }
     {

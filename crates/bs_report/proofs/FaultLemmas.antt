@@ -1,5 +1,6 @@
 -- Each fault of a report's text comes exactly where the words of texts say.
-use Rattle.std.proofs.Common.{◌≡◌, ◌≢◌, ◌↔◌, ℕ, suc, zero, ◌<◌, ◌≤◌, ◌+◌, ◌-◌, ◌^◌, Bool, true, false, cond, List, [], ◌∷◌, ◌++◌, length, take, refl, arith, ap, sym, subst, ◌∙◌, Option, Some, None, append_assoc}
+use Rattle.std.proofs.Common.{◌≡◌, ◌≢◌, ◌↔◌, ℕ, suc, zero, ◌<◌, ◌≤◌, ◌+◌, ◌-◌, ◌^◌, Bool, true, false, cond, List, [], ◌∷◌, ◌++◌, length, take, refl}
+use Rattle.std.proofs.Common.{arith, ap, sym, subst, ◌∙◌, Option, Some, None, append_assoc}
 use Rattle.std.specs.Prelude.{◌==◌, codes, Result, Ok, Err}
 use Rattle.std.specs.Option.{option_and_then}
 use Rattle.std.specs.List.{AllByRecursion as Each, flat_map}
@@ -21,9 +22,11 @@ use Rattle.bs_report.specs.declared.report.ListEnd.{ListEnd}
 use Rattle.bs_report.specs.declared.report.ListEnd.TheVariants as ends
 use Rattle.bs_report.specs.declared.report.Report.{Report}
 use Rattle.bs_report.specs.declared.report.Stop.TheVariants as stops
-use Rattle.bs_report.specs.Reading.{Reached, behind_state, log_place, taken, is_done, line_or_fault, followed, ended, report_from, nothing_read, report_in, with_step}
+use Rattle.bs_report.specs.Reading.{Reached, behind_state, log_place, taken, is_done, line_or_fault, followed, ended, report_from, nothing_read}
+use Rattle.bs_report.specs.Reading.{report_in, with_step}
 use Rattle.bs_report.specs.Text.{report_text}
-use Rattle.bs_report.specs.FaultLaw.{line_count, first_lines, Begins, IsWrongLine, IsShort, HasExtra, WrongLinesAreNamed, ShortTextsAreNamed, ExtraBytesAreNamed}
+use Rattle.bs_report.specs.FaultLaw.{line_count, first_lines, Begins, IsWrongLine, IsShort, HasExtra, WrongLinesAreNamed, ShortTextsAreNamed}
+use Rattle.bs_report.specs.FaultLaw.{ExtraBytesAreNamed}
 use Rattle.bs_report.proofs.ReadingLemmas.{some_piece}
 use Rattle.bs_report.proofs.ReadBackLemmas.{read_back}
 use Rattle.bs_report.proofs.SpelledLemmas.{Fits, line_fits, done_is, done_is_report, glued, glued_pieces}

@@ -1,5 +1,6 @@
 -- A report that has a text is read back from it.
-use Rattle.std.proofs.Common.{◌≡◌, ℕ, suc, ◌<◌, ◌+◌, ◌-◌, ◌^◌, Bool, false, cond, List, [], ◌∷◌, ◌++◌, length, get_or, refl, arith, ap, sym, subst, ◌∙◌, Option, Some, None, append_assoc}
+use Rattle.std.proofs.Common.{◌≡◌, ℕ, suc, ◌<◌, ◌+◌, ◌-◌, ◌^◌, Bool, false, cond, List, [], ◌∷◌, ◌++◌, length, get_or, refl, arith, ap, sym, subst}
+use Rattle.std.proofs.Common.{◌∙◌, Option, Some, None, append_assoc}
 use Rattle.std.specs.Prelude.{codes, decimal, option_map, Err}
 use Rattle.std.specs.List.{AllByRecursion as Each, flat_map, range_with_len}
 use Rattle.std.proofs.lemmas.Bool.{eq-eqb, ne_eqb}
@@ -25,10 +26,13 @@ use Rattle.bs_report.specs.declared.report.Stop.{Stop}
 use Rattle.bs_report.specs.declared.report.Stop.TheVariants as stops
 use Rattle.bs_report.specs.declared.report.Step.{Step}
 use Rattle.bs_report.specs.declared.report.Report.{Report}
-use Rattle.bs_report.specs.Reading.{Reached, begins, turned, more_listed, with_step, behind_state, log_place, taken, is_done, line_or_fault, ended, report_from, nothing_read, report_in}
-use Rattle.bs_report.specs.Text.{cand_text, end_word, hit_text, step_text, steps_text, stop_word, state_text, move_text, trace_text, budgets_text, head_text, tail_text, HasEndText, HasHitText, HasStepText, HasReportText}
+use Rattle.bs_report.specs.Reading.{Reached, begins, turned, more_listed, with_step, behind_state, log_place, taken, is_done, line_or_fault, ended}
+use Rattle.bs_report.specs.Reading.{report_from, nothing_read, report_in}
+use Rattle.bs_report.specs.Text.{cand_text, end_word, hit_text, step_text, steps_text, stop_word, state_text, move_text, trace_text, budgets_text}
+use Rattle.bs_report.specs.Text.{head_text, tail_text, HasEndText, HasHitText, HasStepText, HasReportText}
 use Rattle.bs_report.specs.ReadingLaw.{ReportsReadBack}
-use Rattle.bs_report.proofs.FormLemmas.{count_again, bits_line_again, budgets_again, cand_again, end_again, hit_again, stop_again, words_of_count, words_of_bits, log_line_lacks}
+use Rattle.bs_report.proofs.FormLemmas.{count_again, bits_line_again, budgets_again, cand_again, end_again, hit_again, stop_again, words_of_count}
+use Rattle.bs_report.proofs.FormLemmas.{words_of_bits, log_line_lacks}
 use Rattle.bs_report.proofs.ReadingLemmas.{line_from}
 
 -- ---- lines one after another

@@ -1,5 +1,6 @@
 -- What is read of a text has that text.
-use Rattle.std.proofs.Common.{◌≡◌, ℕ, suc, ◌<◌, ◌≤◌, ◌+◌, ◌-◌, ◌^◌, Bool, true, false, cond, List, [], ◌∷◌, ◌++◌, length, get_or, refl, arith, ap, sym, subst, ◌∙◌, Option, Some, None, append_assoc}
+use Rattle.std.proofs.Common.{◌≡◌, ℕ, suc, ◌<◌, ◌≤◌, ◌+◌, ◌-◌, ◌^◌, Bool, true, false, cond, List, [], ◌∷◌, ◌++◌, length, get_or, refl, arith, ap}
+use Rattle.std.proofs.Common.{sym, subst, ◌∙◌, Option, Some, None, append_assoc}
 use Rattle.std.specs.Prelude.{◌==◌, codes, decimal, option_map, Result, Ok, Err}
 use Rattle.std.specs.List.{AllByRecursion as Each, flat_map, range_with_len}
 use Rattle.std.specs.Str.{bytes_eq}
@@ -26,8 +27,10 @@ use Rattle.bs_report.specs.declared.report.Stop.{Stop}
 use Rattle.bs_report.specs.declared.report.Step.{Step}
 use Rattle.bs_report.specs.declared.report.Report.{Report}
 use Rattle.bs_report.specs.Forms.{count_in, bits_in, cand_in, end_in, hit_in, stop_in, budgets_in}
-use Rattle.bs_report.specs.Reading.{Reached, begins, turned, more_listed, with_step, behind_state, log_place, taken, is_done, line_or_fault, ended, report_from, nothing_read, report_in}
-use Rattle.bs_report.specs.Text.{cand_text, end_word, step_text, steps_text, stop_word, state_text, move_text, trace_text, budgets_text, head_text, tail_text, report_text, HasEndText, HasStepText, HasReportText}
+use Rattle.bs_report.specs.Reading.{Reached, begins, turned, more_listed, with_step, behind_state, log_place, taken, is_done, line_or_fault, ended}
+use Rattle.bs_report.specs.Reading.{report_from, nothing_read, report_in}
+use Rattle.bs_report.specs.Text.{cand_text, end_word, step_text, steps_text, stop_word, state_text, move_text, trace_text, budgets_text, head_text}
+use Rattle.bs_report.specs.Text.{tail_text, report_text, HasEndText, HasStepText, HasReportText}
 use Rattle.bs_report.specs.ReadingLaw.{TextsAreReports}
 use Rattle.bs_report.proofs.TextLemmas.{steps_text_append}
 use Rattle.bs_report.proofs.ReadBackLemmas.{moves_text, range_moves, first_state}

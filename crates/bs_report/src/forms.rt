@@ -2,7 +2,8 @@
 ghost use Rattle.std.specs.Prelude.{◌≡◌, ◌≤◌, ◌^◌, ◌==◌, length, IfOk, IfSome, MatchOption, Some, None};
 ghost use Rattle.std.specs.Str.{bytes_eq};
 ghost use Rattle.bs_log.specs.LineReading.{id_in};
-ghost use Rattle.bs_report.specs.Forms.{at_end as at_end_of, behind, bits_behind, bits_in, budgets_in, cand_in, count_in, end_in, end_of, finished_end, hit_in, moment_in, number_behind, number_within, run_cycle_in, stop_in, stop_of};
+ghost use Rattle.bs_report.specs.Forms.{at_end as at_end_of, behind, bits_behind, bits_in, budgets_in, cand_in, count_in, end_in, end_of};
+ghost use Rattle.bs_report.specs.Forms.{finished_end, hit_in, moment_in, number_behind, number_within, run_cycle_in, stop_in, stop_of};
 
 use crate::limits::{MAX_CANDIDATES, MAX_CONFLICTS, MAX_STEPS};
 use crate::report::{Budgets, Cand, HitLine, ListEnd, Stop};

@@ -2,7 +2,8 @@
 ghost use Rattle.std.specs.Prelude.{◌≡◌, IfOk, codes, option_map, Some, None, if◌then◌else◌};
 ghost use Rattle.bs_report.specs.Forms.{count_in};
 ghost use Rattle.bs_bits.specs.Reading.{Answers};
-ghost use Rattle.bs_report.specs.Reading.{behind_state as behind_state_of, begins as begins_number, ended, followed, is_done as is_done_place, listed_place, log_place as log_place_of, present_place, stored_place, taken};
+ghost use Rattle.bs_report.specs.Reading.{behind_state as behind_state_of, begins as begins_number, ended, followed, is_done as is_done_place};
+ghost use Rattle.bs_report.specs.Reading.{listed_place, log_place as log_place_of, present_place, stored_place, taken};
 ghost use Rattle.bs_report.specs.declared.fault.ReportFault.TheVariants.{NoMemory as Want};
 ghost use Rattle.bs_report.specs.declared.place.Place.TheVariants as places;
 

@@ -4,7 +4,8 @@ ghost use Rattle.std.specs.List.{flat_map};
 ghost use Rattle.bs_bits.specs.Lines.{line};
 ghost use Rattle.bs_bits.specs.Text.{bits_text};
 ghost use Rattle.bs_log.specs.LineText.{line_text};
-ghost use Rattle.bs_report.specs.Text.{cand_text, end_word, hit_text, step_text, steps_text, stop_word, move_text, trace_text, budgets_text, head_text, tail_text, report_text};
+ghost use Rattle.bs_report.specs.Text.{cand_text, end_word, hit_text, step_text, steps_text, stop_word, move_text, trace_text, budgets_text};
+ghost use Rattle.bs_report.specs.Text.{head_text, tail_text, report_text};
 
 use crate::report::{Budgets, Cand, HitLine, ListEnd, Report, Step, Stop};
 use bs_bits::{Bits, NoMemory, end_line, push_line, push_number, push_number_line, push_piece};

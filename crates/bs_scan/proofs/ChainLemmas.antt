@@ -1,5 +1,6 @@
 -- A chain as a list of bits that begins at some place and goes on at the first.
-use Rattle.std.proofs.Common.{◌≡◌, ℕ, suc, zero, ◌<◌, ◌+◌, Bool, false, List, [], ◌∷◌, ◌++◌, length, take, drop, set, get_or, refl, arith, ap, sym, ◌∙◌, ◌⊎◌, inl, inr, append-nil, append_assoc, length-append, add-one}
+use Rattle.std.proofs.Common.{◌≡◌, ℕ, suc, zero, ◌<◌, ◌+◌, Bool, false, List, [], ◌∷◌, ◌++◌, length, take, drop, set, get_or, refl, arith, ap, sym}
+use Rattle.std.proofs.Common.{◌∙◌, ◌⊎◌, inl, inr, append-nil, append_assoc, length-append, add-one}
 use Rattle.std.proofs.lemmas.List.{take-append-drop}
 use Rattle.bs_scan.specs.Chain.{ShiftsOut, FullShiftsUnload}
 

@@ -1,5 +1,6 @@
 -- What is read of a dump is as its text says, fits the chip, and is at reset where it has no signature.
-use Rattle.std.proofs.Common.{◌≡◌, inl, inr, ⊎_elim, ℕ, Bool, true, false, cond, List, [], ◌∷◌, ◌++◌, length, take, drop, refl, sym, ap, subst, ◌∙◌, Option, Some, None, Result, Ok, Err}
+use Rattle.std.proofs.Common.{◌≡◌, inl, inr, ⊎_elim, ℕ, Bool, true, false, cond, List, [], ◌∷◌, ◌++◌, length, take, drop, refl, sym, ap, subst, ◌∙◌}
+use Rattle.std.proofs.Common.{Option, Some, None, Result, Ok, Err}
 use Rattle.std.specs.Prelude.{◌==◌, IfOk, codes, slice_get, All}
 use Rattle.std.specs.List.{flat_map}
 use Rattle.std.specs.Option.{option_and_then, option_to_list}
@@ -144,7 +145,8 @@ three [] a b c x y z = cc
 three (k ∷ []) a b c x y z = cc
 three (k ∷ l ∷ rest) a b c x y z = cc
 
-parts_are : (reset : List Bool) (items : ℕ) (lines : List (List ℕ)) (dump : Dump) (rs : Result (List Bool) DumpFault) (rt : Result (Option (List Bool)) DumpFault) (re : Result Bool DumpFault) →
+parts_are : (reset : List Bool) (items : ℕ) (lines : List (List ℕ)) (dump : Dump) (rs : Result (List Bool) DumpFault)
+    (rt : Result (Option (List Bool)) DumpFault) (re : Result Bool DumpFault) →
     ((s : List Bool) → rs ≡ Ok s → IsBits (slice_get lines 0) (codes "state ") (length reset) s) →
     ((t : Option (List Bool)) → rt ≡ Ok t → IsStored (slice_get (drop 1 lines) 0) items t) →
     ((b : Bool) → re ≡ Ok b → drop 1 (drop 1 lines) ≡ codes "end" ∷ []) →

@@ -1,5 +1,6 @@
 -- Flip-flops by their output nets.
-use Rattle.std.proofs.Common.{◌≡◌, ℕ, suc, zero, ◌<◌, ◌≤◌, ◌+◌, Bool, true, false, not, cond, List, [], ◌∷◌, ◌++◌, length, take, set, get_or, replicate, refl, arith, ap, sym, ◌∙◌, Option, Some, None, add-one, length-append}
+use Rattle.std.proofs.Common.{◌≡◌, ℕ, suc, zero, ◌<◌, ◌≤◌, ◌+◌, Bool, true, false, not, cond, List, [], ◌∷◌, ◌++◌, length, take, set, get_or}
+use Rattle.std.proofs.Common.{replicate, refl, arith, ap, sym, ◌∙◌, Option, Some, None, add-one, length-append}
 use Rattle.std.specs.Prelude.{◌==◌, nat_lt, is_none}
 use Rattle.std.specs.List.{position, position_or_len}
 use Rattle.std.proofs.lemmas.Bool.{eqb-true, eqb-false, eq-eqb, ne_eqb, lt-ltb, le-ltb, ltb-true, ltb-false}

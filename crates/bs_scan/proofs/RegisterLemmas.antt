@@ -1,5 +1,6 @@
 -- The bits of a signature, item by item.
-use Rattle.std.proofs.Common.{◌≡◌, ℕ, suc, zero, ◌<◌, ◌≤◌, ◌+◌, Bool, false, List, [], ◌∷◌, ◌++◌, length, map, take, set, get_or, arith, ap, sym, ◌∙◌, ◌⊎◌, inl, inr, Some, add-one}
+use Rattle.std.proofs.Common.{◌≡◌, ℕ, suc, zero, ◌<◌, ◌≤◌, ◌+◌, Bool, false, List, [], ◌∷◌, ◌++◌, length, map, take, set, get_or, arith, ap, sym, ◌∙◌}
+use Rattle.std.proofs.Common.{◌⊎◌, inl, inr, Some, add-one}
 use Rattle.std.specs.Prelude.{slice_get}
 use Rattle.std.proofs.lemmas.List.{get_or-set_same, get_or-set_other, length-map, ext_get_or, take_all}
 use Rattle.std.proofs.Math.Nat.{eq-or-lt_of_le}

@@ -1,5 +1,6 @@
 -- The text of a dump (docs/FORMATS.md, "Dump"): the lines `state BITS`, `sig BITS` or `sig none`, and `end`.
-use Rattle.std.specs.Prelude.{ℕ, ◌==◌, Bool, true, false, take, drop, List, ◌++◌, length, codes, Option, Some, None, Result, Ok, Err, if◌then◌else◌, slice_get, option_and_then}
+use Rattle.std.specs.Prelude.{ℕ, ◌==◌, Bool, true, false, take, drop, List, ◌++◌, length, codes, Option, Some, None, Result, Ok, Err, if◌then◌else◌}
+use Rattle.std.specs.Prelude.{slice_get, option_and_then}
 use Rattle.std.specs.Str.{bytes_eq}
 use Rattle.bs_bits.specs.Bits.{bits_eq}
 use Rattle.bs_bits.specs.Text.{bits_text, bits_of}

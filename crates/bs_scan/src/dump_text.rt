@@ -1,6 +1,7 @@
 //! The lines of a dump, read and written one by one.
 ghost use Rattle.std.specs.Prelude.{◌≡◌, ◌==◌, length, true, drop, codes, Bool, slice_get, option_map, option_and_then, ◌++◌, IfOk, OnOk, OnErr};
-ghost use Rattle.bs_scan.specs.DumpText.{behind, of_width as bits_of_width, bits_line as bits_line_of, stored_line as stored_line_of, end_line as end_line_of, is_text as is_text_of, signature_text, lines_text};
+ghost use Rattle.bs_scan.specs.DumpText.{behind, of_width as bits_of_width, bits_line as bits_line_of, stored_line as stored_line_of};
+ghost use Rattle.bs_scan.specs.DumpText.{end_line as end_line_of, is_text as is_text_of, signature_text, lines_text};
 ghost use Rattle.bs_bits.specs.Lines.{lines_of, line as written_line};
 ghost use Rattle.bs_bits.specs.Reading.{Answers};
 ghost use Rattle.bs_bits.specs.Text.{bits_of, bits_text};

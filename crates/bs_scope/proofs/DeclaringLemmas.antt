@@ -7,7 +7,8 @@ use Rattle.bs_syntax.specs.declared.tree.Module.{Module}
 use Rattle.bs_scope.specs.declared.numbering.Known.{Known}
 use Rattle.bs_syntax.specs.declared.fault.VerilogFault.{VerilogFault}
 use Rattle.bs_syntax.specs.declared.fault.VerilogFault.TheVariants.{NoMemory, TooManyNets}
-use Rattle.bs_scope.specs.Declaring.{◌or_else◌, repeated_fault, redeclared_fault, many_fault, naming_fault, declaring_fault, nets_in, known_nets, said, is_in, first_over, fault}
+use Rattle.bs_scope.specs.Declaring.{◌or_else◌, repeated_fault, redeclared_fault, many_fault, naming_fault, declaring_fault, nets_in, known_nets}
+use Rattle.bs_scope.specs.Declaring.{said, is_in, first_over, fault}
 
 -- what is found where nothing was found before
 

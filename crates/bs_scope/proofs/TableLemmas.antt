@@ -1,5 +1,6 @@
 -- Tables by the number of a name.
-use Rattle.std.proofs.Common.{zero, suc, Ok, Result, replicate, arith, ◌≡◌, ℕ, ◌+◌, ◌<◌, ◌==◌, ◌||◌, Bool, true, false, cond, List, [], ◌∷◌, ◌++◌, length, ◌≤◌, get_or, set, take, drop, Option, Some, None, refl, sym, ap, ◌∙◌, inl, inr}
+use Rattle.std.proofs.Common.{zero, suc, Ok, Result, replicate, arith, ◌≡◌, ℕ, ◌+◌, ◌<◌, ◌==◌, ◌||◌, Bool, true, false, cond, List, [], ◌∷◌, ◌++◌}
+use Rattle.std.proofs.Common.{length, ◌≤◌, get_or, set, take, drop, Option, Some, None, refl, sym, ap, ◌∙◌, inl, inr}
 use Rattle.std.specs.List.{All, list_any}
 use Rattle.std.proofs.lemmas.List.{get_or-set_other, take_more, drop_more, drop_all, take_all, length-set, get_or_default}
 use Rattle.std.proofs.lemmas.Grind.{get_or-set_at}

@@ -6,8 +6,9 @@ ghost use Rattle.std.specs.List.{list_any};
 ghost use Rattle.bs_log.specs.Refusal.{has_distinct_variables};
 ghost use Rattle.bs_clause.specs.Range.{HasVariables};
 
+use bs_book::Answer;
 use bs_clause::{Clauses, Lit, Lits, VARIABLE_LIMIT, Var};
-use bs_solve::{Answer, Solver};
+use bs_engine::Solver;
 use std::alloc::Global;
 use std::test::Fail;
 
@@ -160,47 +161,47 @@ fn long_ending(alloc: Global, vars: u32) -> Result<(&'static str, usize), Fail> 
     ending(alloc, all, vars, &given, 1)
 }
 
-// A solve, a block of what it found, another solve and the step's end: the block's id, how the second solve ends, and the
-// length of the log.
+// A solve, a block of what it found, another solve and the step's end: the block's id, how the second solve ends, the length
+// of the log, and how many lemmas stand then.
 fn again(
     alloc: Global,
     rows: &[&[i32]],
     vars: u32,
     assumptions: &[i32],
     blocked: &[i32],
-) -> Result<(u64, &'static str, usize), Fail> {
+) -> Result<(u64, &'static str, usize, usize), Fail> {
     let all = clauses(alloc, rows)?;
     let given = clause(alloc, assumptions)?;
     let block = clause(alloc, blocked)?;
     if 10000 < vars {
-        return Ok((0, "unfit", 0));
+        return Ok((0, "unfit", 0, 0));
     }
     if !are_fit(vars, all.slice()) {
-        return Ok((0, "unfit", 0));
+        return Ok((0, "unfit", 0, 0));
     }
     let mut solver = Solver::new(alloc, vars, all)?;
     let _ = solver.begin_step()?;
     if !is_over(solver.vars(), given.slice()) {
-        return Ok((0, "unfit", 0));
+        return Ok((0, "unfit", 0, 0));
     }
     if !is_distinct(given.slice()) {
-        return Ok((0, "unfit", 0));
+        return Ok((0, "unfit", 0, 0));
     }
     if !is_over(vars, block.slice()) {
-        return Ok((0, "unfit", 0));
+        return Ok((0, "unfit", 0, 0));
     }
     if !is_distinct(block.slice()) {
-        return Ok((0, "unfit", 0));
+        return Ok((0, "unfit", 0, 0));
     }
     match solver.solve(alloc, &given, 1)? {
         Answer::Found(_) => {}
-        _ => return Ok((0, "unfit", 0)),
+        _ => return Ok((0, "unfit", 0, 0)),
     }
     let id = solver.block(alloc, &block)?;
     let second = solver.solve(alloc, &given, 1)?;
     let ending = word(&second);
     solver.end_step(alloc, None)?;
-    Ok((id, ending, solver.log().len()))
+    Ok((id, ending, solver.log().len(), solver.lemma_ids().len()))
 }
 
 #[test]
@@ -214,7 +215,14 @@ fn solves_end_as_the_rows_say(rt: HostRuntime) -> Result<(), Fail> {
     assert_eq!(rt; ending_of(alloc, four, 3, &[4, 1], 1)?, ("spent", 2));
     assert_eq!(rt; ending_of(alloc, four, 3, &[4, 1], 4)?, ("refuted", 3));
     assert_eq!(rt; ending_of(alloc, four, 3, &[4, -1], 1)?, ("found", 1));
-    assert_eq!(rt; again(alloc, four, 3, &[4, -1], &[2, 3])?, (5, "found", 4));
+    assert_eq!(rt;
+        again(alloc, four, 3, &[4, -1], &[2, 3])?,
+        (5, "found", 5, 0)
+    );
+    assert_eq!(rt;
+        again(alloc, &[&[-1, 2]], 2, &[3, 1], &[-1, -2])?,
+        (2, "refuted", 6, 0)
+    );
     assert_eq!(rt; long_ending(alloc, 1)?, ("refuted", 2));
     assert_eq!(rt; long_ending(alloc, 3000)?, ("refuted", 2));
     Ok(())

@@ -1,5 +1,6 @@
 -- Gates that are evaluated only where an input of theirs changed.
-use Rattle.std.proofs.Common.{◌≡◌, ◌≢◌, ℕ, ◌+◌, ◌<◌, Bool, true, false, not, ◌||◌, List, [], ◌∷◌, map, length, get_or, set, cond, drop, nat_eq, ◌++◌, refl, arith, subst, ap, sym, ◌∙◌, get_or-set_other}
+use Rattle.std.proofs.Common.{◌≡◌, ◌≢◌, ℕ, ◌+◌, ◌<◌, Bool, true, false, not, ◌||◌, List, [], ◌∷◌, map, length, get_or, set, cond, drop, nat_eq, ◌++◌}
+use Rattle.std.proofs.Common.{refl, arith, subst, ap, sym, ◌∙◌, get_or-set_other}
 use Rattle.std.specs.Bool.{beq}
 use Rattle.std.specs.List.{AllByRecursion, All, list_any, count_by, IsDistinct}
 use Rattle.std.proofs.lemmas.Bool.{true≢false, eqb-false}

@@ -1,5 +1,6 @@
 -- What the sources of a netlist show: gate steps leave it as it is, and writes to zeros make it.
-use Rattle.std.proofs.Common.{◌≡◌, ℕ, zero, suc, ◌<◌, Bool, true, false, not, List, [], ◌∷◌, ◌++◌, map, length, get_or, set, replicate, refl, arith, subst, ap, sym, ◌∙◌, length-set, get_or-set_other, nat_eq}
+use Rattle.std.proofs.Common.{◌≡◌, ℕ, zero, suc, ◌<◌, Bool, true, false, not, List, [], ◌∷◌, ◌++◌, map, length, get_or, set, replicate, refl, arith}
+use Rattle.std.proofs.Common.{subst, ap, sym, ◌∙◌, length-set, get_or-set_other, nat_eq}
 use Rattle.std.specs.Bool.{beq}
 use Rattle.std.specs.List.{AllByRecursion, All, IsDistinct}
 use Rattle.std.proofs.lemmas.Bool.{eqb-false, ne_eqb}

@@ -1,5 +1,6 @@
 -- A text that stands for runs is the text of those runs, or it without the last line feed.
-use Rattle.std.proofs.Common.{◌≡◌, inl, inr, ⊎_elim, ℕ, zero, suc, ◌≤◌, ◌+◌, Bool, true, false, cond, not, ◌&&◌, List, [], ◌∷◌, ◌++◌, length, refl, arith, ap, sym, ◌∙◌, Option, Some, None, append_assoc}
+use Rattle.std.proofs.Common.{◌≡◌, inl, inr, ⊎_elim, ℕ, zero, suc, ◌≤◌, ◌+◌, Bool, true, false, cond, not, ◌&&◌, List, [], ◌∷◌, ◌++◌, length, refl}
+use Rattle.std.proofs.Common.{arith, ap, sym, ◌∙◌, Option, Some, None, append_assoc}
 use Rattle.std.specs.Prelude.{◌==◌, ◌^◌, codes, decimal, nat_le, nat_lt, Result, Ok, Err}
 use Rattle.std.specs.List.{flat_map}
 use Rattle.std.specs.Str.{bytes_eq}
@@ -15,7 +16,8 @@ use Rattle.bs_stim.specs.declared.limits.TheConstants.{MAX_RUNS, MAX_CYCLES, MAX
 use Rattle.bs_stim.specs.declared.fault.StimFault.{StimFault}
 use Rattle.bs_stim.specs.declared.fault.StimFault.TheVariants.{Line, Width, Count, TooManyRuns, TooManyCycles}
 use Rattle.bs_stim.specs.Runs.{Stimulus}
-use Rattle.bs_stim.specs.StimulusText.{First, Rest, head, first, head_of, is_head, first_of, input_of, of_width, no_end, end_of, rest_of, stimulus_of, inputs_text, run_text, stimulus_text}
+use Rattle.bs_stim.specs.StimulusText.{First, Rest, head, first, head_of, is_head, first_of, input_of, of_width, no_end, end_of, rest_of, stimulus_of}
+use Rattle.bs_stim.specs.StimulusText.{inputs_text, run_text, stimulus_text}
 use Rattle.bs_stim.specs.Law.{StimulusTextsAreExact}
 use Rattle.bs_stim.proofs.RunLemmas.{onto, named}
 use Rattle.bs_stim.proofs.HeadLemmas.{some_word}

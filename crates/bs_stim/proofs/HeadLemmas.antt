@@ -1,5 +1,6 @@
 -- The first line of a run.
-use Rattle.std.proofs.Common.{◌≡◌, ℕ, suc, zero, ◌<◌, ◌+◌, ◌-◌, ◌*◌, Bool, true, false, cond, ◌&&◌, List, [], ◌∷◌, length, take, get_or, refl, arith, ap, sym, ◌∙◌, None, min}
+use Rattle.std.proofs.Common.{◌≡◌, ℕ, suc, zero, ◌<◌, ◌+◌, ◌-◌, ◌*◌, Bool, true, false, cond, ◌&&◌, List, [], ◌∷◌, length, take, get_or, refl, arith}
+use Rattle.std.proofs.Common.{ap, sym, ◌∙◌, None, min}
 use Rattle.std.specs.Prelude.{◌==◌, fold, nat_lt, nat_le}
 use Rattle.std.specs.Str.{IsUtf8}
 use Rattle.std.proofs.lemmas.Bool.{leb-true, and_parts}

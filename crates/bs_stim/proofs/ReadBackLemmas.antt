@@ -1,5 +1,6 @@
 -- The text of runs stands for them.
-use Rattle.std.proofs.Common.{◌≡◌, ℕ, ◌<◌, ◌≤◌, ◌+◌, Bool, true, false, cond, not, List, [], ◌∷◌, ◌++◌, map, length, refl, arith, ap, sym, ◌∙◌, Some, None, append_assoc, append-nil}
+use Rattle.std.proofs.Common.{◌≡◌, ℕ, ◌<◌, ◌≤◌, ◌+◌, Bool, true, false, cond, not, List, [], ◌∷◌, ◌++◌, map, length, refl, arith, ap, sym, ◌∙◌, Some}
+use Rattle.std.proofs.Common.{None, append_assoc, append-nil}
 use Rattle.std.specs.Prelude.{◌==◌, codes, decimal, nat_le, nat_lt, Result, Ok, Err, All}
 use Rattle.std.specs.List.{flat_map}
 use Rattle.std.specs.Str.{bytes_eq}
@@ -14,7 +15,8 @@ use Rattle.bs_bits.proofs.TextLemmas.{bits_again}
 use Rattle.bs_stim.specs.declared.fault.StimFault.{StimFault}
 use Rattle.bs_stim.specs.declared.fault.StimFault.TheVariants.{Line, Width, Count, TooManyRuns, TooManyCycles}
 use Rattle.bs_stim.specs.Runs.{Recorded, Stimulus, IsRecorded}
-use Rattle.bs_stim.specs.StimulusText.{First, Head, Rest, head, first, head_of, is_head, first_of, input_of, of_width, rest_of, stimulus_of, head_text, inputs_text, run_text}
+use Rattle.bs_stim.specs.StimulusText.{First, Head, Rest, head, first, head_of, is_head, first_of, input_of, of_width, rest_of, stimulus_of}
+use Rattle.bs_stim.specs.StimulusText.{head_text, inputs_text, run_text}
 use Rattle.bs_stim.specs.Law.{StimuliReadBack, UnendedStimuliReadBack}
 use Rattle.bs_stim.proofs.RunLemmas.{onto, named}
 use Rattle.bs_bits.proofs.LineTextLemmas.{Lacks, lacks_append, line_first, bits_lack_feed, word_first, word_only, visible_lacks, digits_lack, canonical_digits}

@@ -1,5 +1,6 @@
 -- The lines of a stimulus, run by run.
-use Rattle.std.proofs.Common.{◌≡◌, ◌⊎◌, inl, inr, ℕ, suc, zero, ◌<◌, ◌≤◌, ◌+◌, ◌-◌, Bool, true, false, List, [], ◌∷◌, ◌++◌, length, refl, arith, ap, sym, ◌∙◌, Some, None, append-nil, append_assoc}
+use Rattle.std.proofs.Common.{◌≡◌, ◌⊎◌, inl, inr, ℕ, suc, zero, ◌<◌, ◌≤◌, ◌+◌, ◌-◌, Bool, true, false, List, [], ◌∷◌, ◌++◌, length, refl, arith, ap}
+use Rattle.std.proofs.Common.{sym, ◌∙◌, Some, None, append-nil, append_assoc}
 use Rattle.std.specs.Prelude.{◌==◌, cond, Result, Ok, Err}
 use Rattle.bs_bits.specs.Lines.{words_of, lines_of, onto_first}
 use Rattle.bs_bits.specs.Reading.{◌>>=◌}
@@ -216,7 +217,8 @@ abbrev Listed : Type 0
 Listed = Result (List Recorded) StimFault
 
 -- one run more
-pub run_step : (whole : Listed) (w n : ℕ) (runs : List Recorded) (lines : List (List ℕ)) (text : List ℕ) (texts : List (List ℕ)) (run : Recorded) (left : List (List ℕ)) →
+pub run_step : (whole : Listed) (w n : ℕ) (runs : List Recorded) (lines : List (List ℕ)) (text : List ℕ) (texts : List (List ℕ)) (run : Recorded)
+    (left : List (List ℕ)) →
     whole ≡ with_runs runs (rest_of w n (length runs) None lines) → lines ≡ text ∷ texts → run_from w n (length runs) text texts ≡ Ok (taken run left) →
     whole ≡ with_runs (runs ++ run ∷ []) (rest_of w (n + (length run.inputs + 2)) (length runs + 1) None left)
 run_step whole w n runs lines text texts run left e l r =

@@ -6,7 +6,8 @@ use Rattle.bs_syntax.specs.declared.fault.VerilogFault.TheVariants.{Syntax}
 use Rattle.bs_syntax.specs.Reading.{Rest, Skip, at, sort, rest}
 use Rattle.bs_syntax.specs.Terms.{attribute_step, attributes_from}
 
-pub over : (inside : Bool) (ts : Rest) (s : Sort) (total : Skip) → 0 < length ts → s ≡ sort ts → Over ≡ attribute_step inside s → attributes_from inside ts ≡ total
+pub over : (inside : Bool) (ts : Rest) (s : Sort) (total : Skip) → 0 < length ts → s ≡ sort ts → Over ≡ attribute_step inside s →
+    attributes_from inside ts ≡ total
     → total ≡ Ok ts
 unfolding attributes_from
 over inside [] s total some is e so_far = absurd (omega arith)

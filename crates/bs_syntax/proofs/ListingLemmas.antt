@@ -1,5 +1,6 @@
 -- Reading a list with commas, one after the other, as a loop does.
-use Rattle.std.proofs.Common.{◌≡◌, ℕ, zero, suc, ◌<◌, ◌≤◌, true, false, cond, List, [], ◌∷◌, ◌++◌, length, Ok, Err, refl, sym, ap, ◌∙◌, append_assoc, arith, ◌⊎◌, inl, inr}
+use Rattle.std.proofs.Common.{◌≡◌, ℕ, zero, suc, ◌<◌, ◌≤◌, true, false, cond, List, [], ◌∷◌, ◌++◌, length, Ok, Err, refl, sym, ap, ◌∙◌, append_assoc}
+use Rattle.std.proofs.Common.{arith, ◌⊎◌, inl, inr}
 use Rattle.bs_syntax.specs.declared.fault.VerilogFault.{VerilogFault}
 use Rattle.bs_syntax.specs.declared.fault.VerilogFault.TheVariants.{NoMemory}
 use Rattle.bs_bits.specs.Reading.{◌>>=◌}

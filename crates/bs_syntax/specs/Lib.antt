@@ -6,5 +6,6 @@ pub mod Unsupported
 pub mod Terms
 pub mod Declarations
 pub mod Parts
+pub mod Packed
 -- The words by which a refusal names what is left out.
 pub mod Refusals

@@ -4,7 +4,7 @@ use Rattle.std.specs.Borrow.{Bor}
 use Prim.Native.String.{String}
 use Rattle.bs_bits.specs.Reading.{◌>>=◌, Answers}
 use Rattle.bs_lex.specs.Bytes.{◌∈◌}
-use Rattle.bs_lexeme.specs.declared.lexeme.Lexeme.{Lexeme}
+use Rattle.bs_lexeme.specs.Packed.{Lexeme}
 use Rattle.bs_lexeme.specs.declared.lexeme.Sort.{Sort}
 use Rattle.bs_lexeme.specs.declared.lexeme.Sort.TheVariants as sorts
 use Rattle.bs_lexeme.specs.declared.lexeme.Word as code

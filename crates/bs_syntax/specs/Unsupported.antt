@@ -6,7 +6,8 @@ use Rattle.bs_lexeme.specs.declared.lexeme.Sort.{Sort}
 use Rattle.bs_lexeme.specs.declared.lexeme.Sort.TheVariants as sorts
 use Rattle.bs_lexeme.specs.declared.lexeme.Word.TheVariants as words
 use Rattle.bs_syntax.specs.declared.reading.Due.{Due}
-use Rattle.bs_syntax.specs.declared.reading.Due.TheVariants.{Nothing, Term, AfterTerm, AfterIndex, AfterDeclared, AfterInstance, AfterModule, AfterDirection, Port, Item, Module}
+use Rattle.bs_syntax.specs.declared.reading.Due.TheVariants.{Nothing, Term, AfterTerm, AfterIndex, AfterDeclared, AfterInstance, AfterModule}
+use Rattle.bs_syntax.specs.declared.reading.Due.TheVariants.{AfterDirection, Port, Item, Module}
 use Rattle.bs_syntax.specs.declared.fault.What as code
 use Rattle.bs_syntax.specs.declared.fault.What.TheVariants as what
 

@@ -5,6 +5,7 @@ mod declarations;
 mod fault;
 mod listing;
 mod modules;
+mod packed;
 mod parts;
 mod reading;
 mod terms;
@@ -14,6 +15,7 @@ mod unsupported;
 pub use fault::{VerilogFault, What};
 pub use listing::{Reader, listed};
 pub use modules::syntax;
+pub use packed::PackedConnection;
 pub use parts::connections;
 pub use reading::{
     Due, attributes, expect, expect_name, is_at, name_of, place_of, rest_of, sort_of,

@@ -18,7 +18,7 @@ pub trait Reader<T> {
         ensures within { IfOk result (λ x. length x.1.now ≤ length ts.now) };
 }
 
-/// One or more members with commas between them.
+/// One or more members with commas between them. The list takes no more room than its members need.
 pub fn listed<'a, T: Drop, R: Reader<T>>(
     alloc: Global,
     reader: &R,
@@ -27,14 +27,17 @@ pub fn listed<'a, T: Drop, R: Reader<T>>(
     ensures reads { spec.Reads (λ xs. xs) result (spec.listed (R.reading reader.now) ts.now) }
     ensures within { IfOk result (λ x. length x.1.now ≤ length ts.now) }
 {
-    let mut items = List::new(alloc);
+    let mut items = Vec::new(alloc);
     let mut rest = ts;
     'members: loop {
         let (one, after) = reader.read(alloc, rest)?;
         items.push(one)?;
         match after_comma(after) {
             Some(next) => rest = next,
-            None => return Ok((items, after)),
+            None => {
+                items.shrink_to_fit();
+                return Ok((List::of(items), after));
+            }
         }
     }
 }

@@ -4,12 +4,14 @@ ghost use Rattle.bs_syntax.specs.Reading as spec;
 ghost use Rattle.bs_syntax.specs.Parts as parts;
 ghost use Rattle.bs_bits.specs.Reading.{Answers};
 ghost use Rattle.bs_syntax.specs.declared.fault.VerilogFault.TheVariants.{NoMemory as want};
+ghost use Rattle.bs_syntax.specs.declared.tree.Connection.TheVariants.{Place};
 
 use crate::fault::{VerilogFault, What};
 use crate::listing::{Reader, listed};
+use crate::packed::PackedConnection;
 use crate::reading::{Due, expect, expect_name, is_at, place_of, rest_of, sort_of};
 use crate::terms::{delay, term};
-use crate::tree::{Component, Connection, Shape};
+use crate::tree::{Component, Connection, Shape, Term};
 use bs_bits::List;
 use bs_lexeme::{Cell, Lexeme, Sort, Word, is_name};
 use bs_net::Kind;
@@ -17,26 +19,27 @@ use std::alloc::Global;
 
 /// A term, by its place.
 #[tactic(auto, unfolding(crate::specs::Parts::by_place))]
-fn by_place(ts: &[Lexeme]) -> Result<(Connection, &[Lexeme]), VerilogFault>
+fn by_place(ts: &[Lexeme]) -> Result<(PackedConnection, &[Lexeme]), VerilogFault>
     ensures reads { spec.Reads (λ c. c) result (parts.by_place ts.now) }
     ensures within { IfOk result (λ x. length x.1.now ≤ length ts.now) }
 {
     let (term, rest) = term(ts)?;
-    Ok((Connection::Place(term), rest))
+    let packed = PackedConnection::new(Connection::Place(term))?;
+    Ok((packed, rest))
 }
 
 /// Reads the terminals of a gate.
 #[derive(Drop)]
 struct TerminalReader;
 
-impl Reader<Connection> for TerminalReader {
+impl Reader<PackedConnection> for TerminalReader {
     ghost reading = { λ _. parts.by_place };
 
     fn read<'a>(
         &self,
         _alloc: Global,
         ts: &'a [Lexeme],
-    ) -> Result<(Connection, &'a [Lexeme]), VerilogFault> {
+    ) -> Result<(PackedConnection, &'a [Lexeme]), VerilogFault> {
         by_place(ts)
     }
 }
@@ -126,7 +129,7 @@ pub fn gates(
 #[derive(Drop)]
 struct PlaceReader;
 
-impl Reader<Connection> for PlaceReader {
+impl Reader<PackedConnection> for PlaceReader {
     ghost reading = { λ _. parts.place };
 
     #[tactic(auto, unfolding(crate::specs::Parts::place))]
@@ -134,9 +137,10 @@ impl Reader<Connection> for PlaceReader {
         &self,
         _alloc: Global,
         ts: &'a [Lexeme],
-    ) -> Result<(Connection, &'a [Lexeme]), VerilogFault> {
+    ) -> Result<(PackedConnection, &'a [Lexeme]), VerilogFault> {
         if is_at(b',', ts) || is_at(b')', ts) {
-            Ok((Connection::Empty, ts))
+            let packed = PackedConnection::new(Connection::Empty)?;
+            Ok((packed, ts))
         } else {
             by_place(ts)
         }
@@ -147,7 +151,7 @@ impl Reader<Connection> for PlaceReader {
 #[derive(Drop)]
 struct PinReader;
 
-impl Reader<Connection> for PinReader {
+impl Reader<PackedConnection> for PinReader {
     ghost reading = { λ _. parts.pin };
 
     #[tactic(auto, unfolding(crate::specs::Parts::pin))]
@@ -155,16 +159,18 @@ impl Reader<Connection> for PinReader {
         &self,
         _alloc: Global,
         ts: &'a [Lexeme],
-    ) -> Result<(Connection, &'a [Lexeme]), VerilogFault> {
+    ) -> Result<(PackedConnection, &'a [Lexeme]), VerilogFault> {
         let dot = expect(b'.', Due::Nothing, ts)?;
         let (name, after) = expect_name(dot)?;
         let inside = expect(b'(', Due::Nothing, after)?;
         if is_at(b')', inside) {
-            return Ok((Connection::Pin(name, None), rest_of(inside)));
+            let packed = PackedConnection::new(Connection::Pin(name, None))?;
+            return Ok((packed, rest_of(inside)));
         }
         let (term, rest) = term(inside)?;
         let rest = expect(b')', Due::AfterTerm, rest)?;
-        Ok((Connection::Pin(name, Some(term)), rest))
+        let packed = PackedConnection::new(Connection::Pin(name, Some(term)))?;
+        Ok((packed, rest))
     }
 }
 
@@ -173,7 +179,7 @@ impl Reader<Connection> for PinReader {
 pub fn connections(
     alloc: Global,
     ts: &[Lexeme],
-) -> Result<(List<Connection>, &[Lexeme]), VerilogFault>
+) -> Result<(List<PackedConnection>, &[Lexeme]), VerilogFault>
     ensures reads { spec.Reads (λ c. c) result (parts.connections ts.now) }
     ensures within { IfOk result (λ x. length x.1.now ≤ length ts.now) }
 {
@@ -236,16 +242,12 @@ pub fn instances(
 }
 
 /// Both sides of an assignment.
-fn sides(
-    alloc: Global,
-    left: Connection,
-    right: Connection,
-) -> Result<List<Connection>, VerilogFault>
-    ensures { Answers want (λ c. c) result (Ok (left ∷ right ∷ [])) }
+fn sides(alloc: Global, left: Term, right: Term) -> Result<List<PackedConnection>, VerilogFault>
+    ensures { Answers want (λ c. c) result (Ok (Place left ∷ Place right ∷ [])) }
 {
     let mut both = List::new(alloc);
-    both.push(left)?;
-    both.push(right)?;
+    both.push(PackedConnection::new(Connection::Place(left))?)?;
+    both.push(PackedConnection::new(Connection::Place(right))?)?;
     Ok(both)
 }
 
@@ -268,7 +270,7 @@ impl Reader<Component> for PairReader {
         let part = Component {
             shape: Shape::Assign,
             at: place_of(ts),
-            connections: sides(alloc, Connection::Place(left), Connection::Place(right))?,
+            connections: sides(alloc, left, right)?,
         };
         Ok((part, rest))
     }

@@ -40,7 +40,7 @@ pub fn sort_of(ts: &[Lexeme]) -> Sort
 {
     match ts {
         [] => Sort::End,
-        [t, ..] => t.sort,
+        [t, ..] => t.sort(),
     }
 }
 
@@ -50,7 +50,7 @@ pub fn place_of(ts: &[Lexeme]) -> u32
 {
     match ts {
         [] => 0,
-        [t, ..] => t.at,
+        [t, ..] => t.at(),
     }
 }
 
@@ -61,8 +61,8 @@ pub fn name_of(ts: &[Lexeme]) -> Name
     match ts {
         [] => Name { at: 0, id: 0 },
         [t, ..] => Name {
-            at: t.at,
-            id: t.name,
+            at: t.at(),
+            id: t.name(),
         },
     }
 }
@@ -163,7 +163,7 @@ pub fn after_comma(ts: &[Lexeme]) -> Option<&[Lexeme]>
     match ts {
         [] => None,
         [t, rest @ ..] => {
-            if symbol_of(t.sort) == b',' {
+            if symbol_of(t.sort()) == b',' {
                 Some(rest)
             } else {
                 None

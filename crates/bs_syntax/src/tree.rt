@@ -1,5 +1,6 @@
 //! What a netlist text says, before its names are looked up.
 
+use crate::packed::PackedConnection;
 use bs_bits::List;
 use bs_lexeme::{Cell, Name};
 use bs_net::Kind;
@@ -71,7 +72,7 @@ pub enum Shape {
 pub struct Component {
     pub shape: Shape,
     pub at: u32,
-    pub connections: List<Connection>,
+    pub connections: List<PackedConnection>,
 }
 
 /// The top module.

@@ -2,7 +2,9 @@ pub mod ToldLemmas
 pub mod SizeLemmas
 pub mod WorkLemmas
 pub mod AskedLemmas
+pub mod WayLemmas
 pub mod SoundLemmas
 pub mod LawLemmas
 pub mod PlanLemmas
 pub mod DemoLemmas
+pub mod WaveLemmas

@@ -21,8 +21,10 @@ use Rattle.bs_top.specs.Law.{IsAcceptedText, audit_of, ComesToAccepted, AuditEnd
 use Rattle.bs_top.proofs.LawLemmas.{audit_accepts}
 
 -- a refusal of a part is one of the whole
-next_refused : {R A B : Type 0} (w : Wanted) (t : Option (List ℕ)) (go : List ℕ → Option (Outcome R A)) (on : List ℕ → Option (Outcome R B)) (file : File) (why : Reason R) →
-    told_next w t go ≡ Some (refused_in R A file why) → ((bytes : List ℕ) → go bytes ≡ Some (refused_in R A file why) → on bytes ≡ Some (refused_in R B file why)) →
+next_refused : {R A B : Type 0} (w : Wanted) (t : Option (List ℕ)) (go : List ℕ → Option (Outcome R A)) (on : List ℕ → Option (Outcome R B))
+    (file : File) (why : Reason R) →
+    told_next w t go ≡ Some (refused_in R A file why) →
+    ((bytes : List ℕ) → go bytes ≡ Some (refused_in R A file why) → on bytes ≡ Some (refused_in R B file why)) →
     told_next w t on ≡ Some (refused_in R B file why)
 next_refused {R} {A} {B} w None go on file why h step = absurd (wrong h)
   where
@@ -30,17 +32,20 @@ next_refused {R} {A} {B} w None go on file why h step = absurd (wrong h)
     wrong e = cc
 next_refused {R} {A} {B} w (Some bytes) go on file why h step = by (nat_lt (limit_of w.file) (length bytes)) h
   where
-    same : Some (refused_in R A w.file (exactly (codes "TooLong"))) ≡ Some (refused_in R A file why) → Some (refused_in R B w.file (exactly (codes "TooLong"))) ≡ Some (refused_in R B file why)
+    same : Some (refused_in R A w.file (exactly (codes "TooLong"))) ≡ Some (refused_in R A file why) →
+        Some (refused_in R B w.file (exactly (codes "TooLong"))) ≡ Some (refused_in R B file why)
     same e =
         let f : w.file ≡ file = cc in
         let y : exactly (codes "TooLong") ≡ why = cc in
         cc
 
-    by : (long : Bool) → (if long then Some (refused w.file (exactly (codes "TooLong"))) else go bytes) ≡ Some (refused_in R A file why) → (if long then Some (refused w.file (exactly (codes "TooLong"))) else on bytes) ≡ Some (refused_in R B file why)
+    by : (long : Bool) → (if long then Some (refused w.file (exactly (codes "TooLong"))) else go bytes) ≡ Some (refused_in R A file why) →
+        (if long then Some (refused w.file (exactly (codes "TooLong"))) else on bytes) ≡ Some (refused_in R B file why)
     by true e = same e
     by false e = step bytes e
 
-told_end_refused : {R A B : Type 0} (told : Tells) (plan : Plan R A) (f : A → Plan R B) (file : File) (why : Reason R) → told_end told plan ≡ Some (refused_in R A file why) → told_end told (plan >>= f) ≡ Some (refused_in R B file why)
+told_end_refused : {R A B : Type 0} (told : Tells) (plan : Plan R A) (f : A → Plan R B) (file : File) (why : Reason R) →
+    told_end told plan ≡ Some (refused_in R A file why) → told_end told (plan >>= f) ≡ Some (refused_in R B file why)
 told_end_refused {R} {A} told (end v) f file why h = absurd (wrong h)
   where
     wrong : Some (ready_in R A v) ≡ Some (refused_in R A file why) → ⊥
@@ -53,14 +58,17 @@ told_end_refused {R} {A} {B} told (refuse file' why') f file why h = same h
         let y : why' ≡ why = cc in
         cc
 told_end_refused told (fetch w next) f file why h =
-    next_refused w (told w.name) (λ bytes. told_end told (next bytes)) (λ bytes. told_end told (next bytes >>= f)) file why h (λ bytes e. told_end_refused told (next bytes) f file why e)
+    next_refused w (told w.name) (λ bytes. told_end told (next bytes)) (λ bytes. told_end told (next bytes >>= f)) file why h
+    (λ bytes e. told_end_refused told (next bytes) f file why e)
 
 -- the file of the report, where the shelf tells it
-report_end : (told : Tells) (name text : List ℕ) → told name ≡ Some text → length text ≤ MAX_REPORT_BYTES → (report : Report) → report_read text ≡ Ok report → told_end told (report_of name) ≡ Some (ready_in Parts Report report)
+report_end : (told : Tells) (name text : List ℕ) → told name ≡ Some text → length text ≤ MAX_REPORT_BYTES → (report : Report) →
+    report_read text ≡ Ok report → told_end told (report_of name) ≡ Some (ready_in Parts Report report)
 report_end told name text tells within report read =
     rw (tells, le-ltb MAX_REPORT_BYTES (length text) within, read) refl
 
-report_long : (told : Tells) (name text : List ℕ) → told name ≡ Some text → MAX_REPORT_BYTES < length text → told_end told (report_of name) ≡ Some (refused_in Parts Report files.Report (exactly (codes "TooLong")))
+report_long : (told : Tells) (name text : List ℕ) → told name ≡ Some text → MAX_REPORT_BYTES < length text →
+    told_end told (report_of name) ≡ Some (refused_in Parts Report files.Report (exactly (codes "TooLong")))
 report_long told name text tells beyond =
     rw (tells, lt-ltb MAX_REPORT_BYTES (length text) beyond) refl
 
@@ -71,7 +79,8 @@ crashed_same b c x y e = cc
 abbrev claim : Crashed → Report → Claimed
 claim crashed report = record { crashed = crashed; report = report }
 
-follows : (told : Tells) (run : RunJob) (name : List ℕ) (crashed : Crashed) (text : List ℕ) → told_end told (crashed_of (run_names run) run.dump) ≡ Some (ready_in Parts Crashed crashed) →
+follows : (told : Tells) (run : RunJob) (name : List ℕ) (crashed : Crashed) (text : List ℕ) →
+    told_end told (crashed_of (run_names run) run.dump) ≡ Some (ready_in Parts Crashed crashed) →
     IsAcceptedText crashed text → told name ≡ Some text → AuditEnds told (audit_of run name) crashed text
 follows told run name crashed text came accepted tells = record {
   within = λ few. record {
@@ -79,13 +88,15 @@ follows told run name crashed text came accepted tells = record {
     comes =
         told_end_then told (claimed_of (run_names run) run.dump name) (λ (claimed : Claimed). end (to_audit claimed)) (claim crashed accepted.report)
         (told_end_then told (crashed_of (run_names run) run.dump) (λ (c : Crashed). report_of name >>= (λ (r : Report). end (claim c r))) crashed came
-        ∙ told_end_then told (report_of name) (λ (r : Report). end (claim crashed r)) accepted.report (report_end told name text tells few accepted.report accepted.read));
+        ∙ told_end_then told (report_of name) (λ (r : Report). end (claim crashed r)) accepted.report
+        (report_end told name text tells few accepted.report accepted.read));
     accepted = accepted.accepted;
   };
   beyond = λ many.
       told_end_refused told (claimed_of (run_names run) run.dump name) (λ (claimed : Claimed). end (to_audit claimed)) files.Report (exactly (codes "TooLong"))
       (told_end_then told (crashed_of (run_names run) run.dump) (λ (c : Crashed). report_of name >>= (λ (r : Report). end (claim c r))) crashed came
-      ∙ told_end_refused told (report_of name) (λ (r : Report). end (claim crashed r)) files.Report (exactly (codes "TooLong")) (report_long told name text tells many));
+      ∙ told_end_refused told (report_of name) (λ (r : Report). end (claim crashed r)) files.Report (exactly (codes "TooLong"))
+      (report_long told name text tells many));
 }
 
 pub audit_follows : AuditFollowsRun

@@ -14,7 +14,8 @@ use Rattle.bs_scan.specs.Crash.{Crash}
 use Rattle.bs_good.specs.Step.{asked_of, IsRightEnd}
 use Rattle.bs_good.specs.Good.{IsGood}
 
-few_cands : (asked : List (List Bool)) (k b : ℕ) (lines : List Line) (cands : List Cand) (end : ListEnd) → IsRightEnd asked k b lines cands end → length cands ≤ k
+few_cands : (asked : List (List Bool)) (k b : ℕ) (lines : List Line) (cands : List Cand) (end : ListEnd) → IsRightEnd asked k b lines cands end →
+    length cands ≤ k
 few_cands asked k b lines cands (Finished id) right = let below : length cands < k = right.1 in omega (arith, below)
 few_cands asked k b lines cands Candidates right = omega (arith, right)
 few_cands asked k b lines cands Conflicts right = let below : length cands < k = right.0 in omega (arith, below)

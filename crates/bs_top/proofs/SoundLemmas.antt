@@ -3,7 +3,7 @@ use Rattle.std.proofs.Common.{◌≡◌, map, subst, sym, ◌∙◌, None, Resul
 use Rattle.std.specs.Prelude.{IfOk}
 use Rattle.bs_scan.specs.declared.dump.Dump.{Dump}
 use Rattle.bs_scan.specs.Crash.{Recording, Crash, crash_of, IsCrash}
-use Rattle.bs_log.specs.Lean.{LemmasAreLean}
+use Rattle.bs_log.specs.Lean.{IsLean}
 use Rattle.bs_log.specs.Refusal.{history_of}
 use Rattle.bs_encode.specs.Assuming.{basis_of}
 use Rattle.bs_report.specs.declared.report.Budgets.{Budgets}
@@ -37,11 +37,12 @@ pub record IsMade (chip : Recording) (dump : Dump) (budgets : Budgets) (r : Repo
   pub asked : r.budgets ≡ budgets
   pub good : IsGood (crash_of chip dump) r
   pub valid : IsValid (crash_of chip dump) (basis_of chip.circuit chip.choice.items (map present_of r.steps)) r
-  pub lean : LemmasAreLean (basis_of chip.circuit chip.choice.items (map present_of r.steps)).problem (history_of r.log)
+  pub lean : IsLean (basis_of chip.circuit chip.choice.items (map present_of r.steps)).problem (history_of r.log)
   pub bound : HasBound (basis_of chip.circuit chip.choice.items (map present_of r.steps)).problem r
   pub readable : HasReportText r
 
-made_alike : (chip : Recording) (dump : Dump) (budgets : Budgets) (r : Report) → IsCrash (crash_of chip dump) → IsMade chip dump budgets r → IsBacktrace (crash_of chip dump) budgets r
+made_alike : (chip : Recording) (dump : Dump) (budgets : Budgets) (r : Report) → IsCrash (crash_of chip dump) → IsMade chip dump budgets r →
+    IsBacktrace (crash_of chip dump) budgets r
 made_alike chip dump budgets r crashed made = record {
   asked = made.asked;
   sound = sound_is (crash_of chip dump) r crashed made.good made.valid;
@@ -51,10 +52,11 @@ made_alike chip dump budgets r crashed made = record {
 }
 
 -- what a call answers of the chip that a recording shows
-pub backtrace_ok : {E : Type 0} (recorded chip : Recording) (dump : Dump) (budgets : Budgets) (r : Result Report E) → chip ≡ recorded → IsCrash (crash_of recorded dump) →
+pub backtrace_ok : {E : Type 0} (recorded chip : Recording) (dump : Dump) (budgets : Budgets) (r : Result Report E) → chip ≡ recorded →
+    IsCrash (crash_of recorded dump) →
     IfOk r (λ report. report.budgets ≡ budgets) → IfOk r (IsGood (crash_of chip dump)) →
     IfOk r (λ report. IsValid (crash_of chip dump) (basis_of chip.circuit chip.choice.items (map present_of report.steps)) report) →
-    IfOk r (λ report. LemmasAreLean (basis_of chip.circuit chip.choice.items (map present_of report.steps)).problem (history_of report.log)) →
+    IfOk r (λ report. IsLean (basis_of chip.circuit chip.choice.items (map present_of report.steps)).problem (history_of report.log)) →
     IfOk r (λ report. HasBound (basis_of chip.circuit chip.choice.items (map present_of report.steps)).problem report) → IfOk r HasReportText →
     IfOk r (IsBacktrace (crash_of recorded dump) budgets)
 backtrace_ok recorded chip dump budgets (Ok report) is crashed asked good valid lean bound readable =
@@ -64,7 +66,8 @@ backtrace_ok recorded chip dump budgets (Err want) is crashed asked good valid l
 
 -- what an audit finds
 pub finds_ok : {E : Type 0} (crash : Crash) (report : Report) (r : Result Finding E) → IsCrash crash →
-    IfOk r (λ finding. part_of finding ≡ first_failing crash (basis_for crash report) report) → IfOk r (λ finding. part_of finding ≡ None → IsGood crash report) →
+    IfOk r (λ finding. part_of finding ≡ first_failing crash (basis_for crash report) report) →
+    IfOk r (λ finding. part_of finding ≡ None → IsGood crash report) →
     IfOk r (λ finding. Finds crash report (part_of finding))
 finds_ok crash report (Ok finding) crashed first good =
     record { first = first; accepted = λ none. sound_is crash report crashed (good none) (sym first ∙ none) }

@@ -40,7 +40,8 @@ pick a b c p false true z ea eb ec = rw (ea, eb) refl
 pick a b c p false false true ea eb ec = rw (ea, eb, ec) refl
 pick a b c p false false false ea eb ec = rw (ea, eb, ec) refl
 
-held_three : (files : Files) (netlist signature stimulus : List ℕ) → AreTexts files netlist signature stimulus → (name : List ℕ) → held_in files name ≡ told_of netlist signature stimulus name
+held_three : (files : Files) (netlist signature stimulus : List ℕ) → AreTexts files netlist signature stimulus → (name : List ℕ) →
+    held_in files name ≡ told_of netlist signature stimulus name
 held_three files netlist signature stimulus are name =
     ap (λ (l : Files). held_in l name) are.is
     ∙ pick are.first are.second are.third (λ (file : CodeFile). bytes_eq (string_bytes file.0) name)
@@ -52,35 +53,47 @@ held_three files netlist signature stimulus are name =
 
 all_told : (netlist signature stimulus : List ℕ) → AllTold (told_of netlist signature stimulus) (placed_of demo_names DEMO_RUN DEMO_CYCLE)
 all_told netlist signature stimulus =
-    told_then told (setup_of demo_names) (λ (setup : Setup). read_as files.Dump (moment_in setup.runs DEMO_RUN DEMO_CYCLE) >>= (λ (m : Moment). end record { setup = setup; moment = m })) setup
-    (λ setup. told_then told (read_as files.Dump (moment_in setup.runs DEMO_RUN DEMO_CYCLE)) (λ (m : Moment). end record { setup = setup; moment = m }) (told_read told files.Dump (moment_in setup.runs DEMO_RUN DEMO_CYCLE)) (λ m. tt))
+    told_then told (setup_of demo_names) (λ (setup : Setup). read_as files.Dump (moment_in setup.runs DEMO_RUN DEMO_CYCLE) >>=
+    (λ (m : Moment). end record { setup = setup; moment = m })) setup
+    (λ setup. told_then told (read_as files.Dump (moment_in setup.runs DEMO_RUN DEMO_CYCLE)) (λ (m : Moment). end record { setup = setup; moment = m })
+    (told_read told files.Dump (moment_in setup.runs DEMO_RUN DEMO_CYCLE)) (λ m. tt))
   where
     told : Tells
     told = told_of netlist signature stimulus
 
     nets : AllTold told (netlist_of (codes "netlist"))
-    nets = told_then told (fetched files.Netlist (codes "netlist")) (λ bytes. read_as files.Netlist (netlist_in bytes)) (told_fetched Parts told files.Netlist (codes "netlist") refl) (λ bytes. told_read told files.Netlist (netlist_in bytes))
+    nets = told_then told (fetched files.Netlist (codes "netlist")) (λ bytes. read_as files.Netlist (netlist_in bytes))
+        (told_fetched Parts told files.Netlist (codes "netlist") refl) (λ bytes. told_read told files.Netlist (netlist_in bytes))
 
     items : (raw : Parts) → AllTold told (signature_of raw (codes "signature"))
-    items raw = told_then told (fetched files.Signature (codes "signature")) (λ bytes. read_as files.Signature (signature_in raw bytes)) (told_fetched Parts told files.Signature (codes "signature") refl) (λ bytes. told_read told files.Signature (signature_in raw bytes))
+    items raw = told_then told (fetched files.Signature (codes "signature")) (λ bytes. read_as files.Signature (signature_in raw bytes))
+        (told_fetched Parts told files.Signature (codes "signature") refl) (λ bytes. told_read told files.Signature (signature_in raw bytes))
 
     runs : (raw : Parts) → AllTold told (stimulus_of raw (codes "stimulus"))
-    runs raw = told_then told (fetched files.Stimulus (codes "stimulus")) (λ bytes. read_as files.Stimulus (stimulus_in (input_width raw) bytes)) (told_fetched Parts told files.Stimulus (codes "stimulus") refl) (λ bytes. told_read told files.Stimulus (stimulus_in (input_width raw) bytes))
+    runs raw = told_then told (fetched files.Stimulus (codes "stimulus")) (λ bytes. read_as files.Stimulus (stimulus_in (input_width raw) bytes))
+        (told_fetched Parts told files.Stimulus (codes "stimulus") refl) (λ bytes. told_read told files.Stimulus (stimulus_in (input_width raw) bytes))
 
     setup : AllTold told (setup_of demo_names)
     setup =
-        told_then told (netlist_of (codes "netlist")) (λ (raw : Parts). signature_of raw (codes "signature") >>= (λ (choice : Chosen). stimulus_of raw (codes "stimulus") >>= (λ (r : Stimulus). end record { raw = raw; choice = choice; runs = r }))) nets
-        (λ raw. told_then told (signature_of raw (codes "signature")) (λ (choice : Chosen). stimulus_of raw (codes "stimulus") >>= (λ (r : Stimulus). end record { raw = raw; choice = choice; runs = r })) (items raw)
-        (λ choice. told_then told (stimulus_of raw (codes "stimulus")) (λ (r : Stimulus). end record { raw = raw; choice = choice; runs = r }) (runs raw) (λ r. tt)))
+        told_then told (netlist_of (codes "netlist"))
+        (λ (raw : Parts). signature_of raw (codes "signature") >>=
+        (λ (choice : Chosen). stimulus_of raw (codes "stimulus") >>= (λ (r : Stimulus). end record { raw = raw; choice = choice; runs = r }))) nets
+        (λ raw. told_then told (signature_of raw (codes "signature"))
+        (λ (choice : Chosen). stimulus_of raw (codes "stimulus") >>= (λ (r : Stimulus). end record { raw = raw; choice = choice; runs = r })) (items raw)
+        (λ choice. told_then told (stimulus_of raw (codes "stimulus")) (λ (r : Stimulus). end record { raw = raw; choice = choice; runs = r })
+        (runs raw) (λ r. tt)))
 
 -- a walk over a shelf of the texts is one that asks no shelf
 pub alone_of : (number : ℕ) (before now : SureShelf) (listed : Files) (netlist signature stimulus : List ℕ) (result : Result CodePlaced JobFault) →
-    sure_files before ≡ listed → AreTexts listed netlist signature stimulus → netlist ≡ netlist_for number → signature ≡ signature_text → stimulus ≡ stimulus_for number →
+    sure_files before ≡ listed → AreTexts listed netlist signature stimulus → netlist ≡ netlist_for number → signature ≡ signature_text →
+    stimulus ≡ stimulus_for number →
     Walks CheckSays sure_held sure_faults sure_leads before now (placed_of demo_names DEMO_RUN DEMO_CYCLE) placed_in result →
     WalksAlone CheckSays (demo_of number) placed_in result
 alone_of number before now listed netlist signature stimulus result is are en es et walks =
     let tells : sure_held before ≡ demo_told number =
     λ i name. (ap (λ (l : Files). held_in l name) is ∙ held_three listed netlist signature stimulus are name ∙ (λ j. told_of (en j) (es j) (et j) name)) i in
     let all : AllTold (sure_held before) (placed_of demo_names DEMO_RUN DEMO_CYCLE) =
-    subst (λ (t : Tells). AllTold t (placed_of demo_names DEMO_RUN DEMO_CYCLE)) (sym tells) (all_told (netlist_for number) signature_text (stimulus_for number)) in
-    subst (λ (t : Tells). WalksAlone CheckSays (with_texts t (placed_of demo_names DEMO_RUN DEMO_CYCLE)) placed_in result) tells (walks_alone all (sure_shelf before now) walks)
+    subst (λ (t : Tells). AllTold t (placed_of demo_names DEMO_RUN DEMO_CYCLE)) (sym tells)
+    (all_told (netlist_for number) signature_text (stimulus_for number)) in
+    subst (λ (t : Tells). WalksAlone CheckSays (with_texts t (placed_of demo_names DEMO_RUN DEMO_CYCLE)) placed_in result) tells
+    (walks_alone all (sure_shelf before now) walks)

@@ -18,7 +18,7 @@ use Rattle.bs_job.specs.Prepared.{Prepared, IsWork}
 use Rattle.bs_job.proofs.Preparing.{prepares_work, prepares_nothing}
 use Rattle.bs_words.specs.Job.{Job}
 use Rattle.bs_entry.specs.Refusals.{CheckSays}
-use Rattle.bs_top.specs.Work.{Work, to_run, to_audit, to_dump, to_demo, plan_of}
+use Rattle.bs_top.specs.Work.{Work, to_run, to_audit, to_dump, to_demo, to_wave, plan_of}
 use Rattle.bs_top.specs.Finishes.{finishes, stop_status}
 
 stop_work : (stop : Stop) → is_work_status (stop_status stop) ≡ true
@@ -38,20 +38,28 @@ work_status (to_run budgets crashed) status text done = ap is_work_status done.a
 work_status (to_audit claimed) status text done = ap is_work_status done.answered ∙ finding_work done.part
 work_status (to_dump placed) status text done = ap is_work_status done.0 ∙ refl
 work_status (to_demo number placed) status text done = ap is_work_status done.answered ∙ refl
+work_status (to_wave claimed) status text done = ap is_work_status done.answered ∙ finding_work done.part
 
 pub is_work : IsWork finishes
 is_work = record { status = work_status }
 
 -- the work that a walk made ready for, if it is done
-pub prepares_done : {S T : Type 0} {held : S → Tells} {faults : S → Counts} {leads : S → FetchCall → S → Type 0} {before now : S} {plan : Plan Parts Work} {view : T → Work} {t : T} (r : Result Reply NoMemory) → Walks CheckSays held faults leads before now plan view (Ok t) → IfOk r (λ answer. finishes (view t) answer.status answer.text.items) → Prepared CheckSays finishes held faults leads before now (Some plan) r
+pub prepares_done : {S T : Type 0} {held : S → Tells} {faults : S → Counts} {leads : S → FetchCall → S →
+    Type 0} {before now : S} {plan : Plan Parts Work} {view : T → Work} {t : T} (r : Result Reply NoMemory) →
+    Walks CheckSays held faults leads before now plan view (Ok t) → IfOk r (λ answer. finishes (view t) answer.status answer.text.items) →
+    Prepared CheckSays finishes held faults leads before now (Some plan) r
 prepares_done r walks done = prepares_work r is_work walks done
 
 -- the answer to a job that the words ask for
-pub prepared_for : {S : Type 0} {held : S → Tells} {faults : S → Counts} {leads : S → FetchCall → S → Type 0} {before now : S} {r : Result Reply NoMemory} (job : Job) (asked : Option Job) → Some job ≡ asked → Prepared CheckSays finishes held faults leads before now (Some (plan_of job)) r → Prepared CheckSays finishes held faults leads before now (option_map plan_of asked) r
+pub prepared_for : {S : Type 0} {held : S → Tells} {faults : S → Counts} {leads : S → FetchCall → S →
+    Type 0} {before now : S} {r : Result Reply NoMemory} (job : Job) (asked : Option Job) → Some job ≡ asked →
+    Prepared CheckSays finishes held faults leads before now (Some (plan_of job)) r →
+    Prepared CheckSays finishes held faults leads before now (option_map plan_of asked) r
 prepared_for {held = held} {faults = faults} {leads = leads} {before = before} {now = now} {r = r} job asked e h =
     subst (λ (o : Option Job). Prepared CheckSays finishes held faults leads before now (option_map plan_of o) r) e h
 
 -- words that could not be read
-pub prepared_short : {S : Type 0} {held : S → Tells} {faults : S → Counts} {leads : S → FetchCall → S → Type 0} {before : S} (plan : Option (Plan Parts Work)) (r : Result Reply NoMemory) → IsErr r → Prepared CheckSays finishes held faults leads before before plan r
+pub prepared_short : {S : Type 0} {held : S → Tells} {faults : S → Counts} {leads : S → FetchCall → S → Type 0} {before : S}
+    (plan : Option (Plan Parts Work)) (r : Result Reply NoMemory) → IsErr r → Prepared CheckSays finishes held faults leads before before plan r
 prepared_short plan (Err want) e = prepares_nothing plan
 prepared_short plan (Ok answer) e = absurd (false≢true e)

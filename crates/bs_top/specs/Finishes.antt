@@ -1,7 +1,7 @@
 -- The status and the text of work that is done.
 use Rattle.std.specs.Prelude.{◌≡◌, ℕ, List, Option, None}
 use Rattle.bs_scan.specs.DumpText.{dump_text}
-use Rattle.bs_log.specs.Lean.{LemmasAreLean}
+use Rattle.bs_log.specs.Lean.{IsLean}
 use Rattle.bs_log.specs.Refusal.{history_of}
 use Rattle.bs_report.specs.declared.report.Budgets.{Budgets}
 use Rattle.bs_report.specs.declared.report.Report.{Report}
@@ -20,7 +20,9 @@ use Rattle.bs_top.specs.Summary.{summary_text}
 use Rattle.bs_top.specs.Rejected.{finding_status, finding_text}
 use Rattle.bs_audit.specs.Finding.{basis_for}
 use Rattle.bs_top.specs.Sound.{IsSoundReport}
-use Rattle.bs_top.specs.Work.{Work, to_run, to_audit, to_dump, to_demo}
+use Rattle.bs_net.specs.Parts.{Parts}
+use Rattle.bs_top.specs.Drawn.{IsDrawn}
+use Rattle.bs_top.specs.Work.{Work, to_run, to_audit, to_dump, to_demo, to_wave}
 
 -- the status of a backtrace by its stop
 abbrev pub stop_status : Stop → Status
@@ -31,12 +33,13 @@ stop_status Empty = S.Empty
 stop_status Candidates = S.Spent
 stop_status Conflicts = S.Spent
 
--- A backtrace within the budgets: what holds of its report; each lemma of its log is a new resolvent; a list ends in
--- conflicts only as the budget of lemmas allows; and the report is read back from its text.
+-- A backtrace within the budgets: what holds of its report; each step of its log leaves the lemmas that are kept and no
+-- block, and each lemma is a new resolvent; a list ends in conflicts only as the budget of lemmas allows; and the report is
+-- read back from its text.
 pub record IsBacktrace (crash : Crash) (budgets : Budgets) (report : Report) : Type 0 where
   pub asked : report.budgets ≡ budgets
   pub sound : IsSoundReport crash report
-  pub lean : LemmasAreLean (basis_for crash report).problem (history_of report.log)
+  pub lean : IsLean (basis_for crash report).problem (history_of report.log)
   pub bound : HasBound (basis_for crash report).problem report
   pub readable : HasReportText report
 
@@ -59,6 +62,13 @@ pub record Audits (crash : Crash) (report : Report) (status : Status) (text : Li
   pub answered : status ≡ finding_status part
   pub written : text ≡ finding_text part
 
+-- the report is audited, and the waveform of its trace is written where no part of it fails
+pub record Draws (raw : Parts) (crash : Crash) (report : Report) (status : Status) (text : List ℕ) : Type 0 where
+  pub part : Option Part
+  pub finds : Finds crash report part
+  pub answered : status ≡ finding_status part
+  pub written : IsDrawn raw report part text
+
 -- the budgets of a generated job's backtrace
 abbrev pub demo_budgets : Budgets
 demo_budgets = record { steps = DEMO_STEPS; candidates = DEMO_CANDIDATES; conflicts = DEMO_CONFLICTS }
@@ -74,4 +84,7 @@ abbrev pub finishes : Work → Status → List ℕ → Type 0
 finishes (to_run budgets crashed) status text = Reports (crash_of (recording_in crashed.setup) crashed.dump) budgets status text
 finishes (to_audit claimed) status text = Audits (crash_of (recording_in claimed.crashed.setup) claimed.crashed.dump) claimed.report status text
 finishes (to_dump placed) status text = (status ≡ S.Done) × (text ≡ dump_text (dump_at (recording_in placed.setup) placed.moment))
-finishes (to_demo number placed) status text = Summarises number (crash_of (recording_in placed.setup) (dump_at (recording_in placed.setup) placed.moment)) status text
+finishes (to_demo number placed) status text =
+    Summarises number (crash_of (recording_in placed.setup) (dump_at (recording_in placed.setup) placed.moment)) status text
+finishes (to_wave claimed) status text =
+    Draws claimed.crashed.setup.raw (crash_of (recording_in claimed.crashed.setup) claimed.crashed.dump) claimed.report status text

@@ -1,4 +1,4 @@
--- A report that `run` writes is read as it is, and `audit` accepts it.
+-- A report that `run` writes is read as it is, and `audit` accepts it; a waveform that `wave` writes is read as it is.
 use Rattle.std.specs.Prelude.{◌≡◌, ◌<◌, ◌≤◌, ℕ, List, length, codes, Some, Ok}
 use Rattle.bs_report.specs.declared.report.Budgets.{Budgets}
 use Rattle.bs_report.specs.declared.report.Report.{Report}
@@ -7,10 +7,14 @@ use Rattle.bs_job.specs.declared.limits.TheConstants.{MAX_REPORT_BYTES}
 use Rattle.bs_job.specs.declared.status.Status.{Status}
 use Rattle.bs_job.specs.declared.status.Status.TheVariants.{Done}
 use Rattle.bs_job.specs.Plan.{Tells, exactly, ready, refused, told_end}
-use Rattle.bs_words.specs.Job.{RunJob, AuditJob, Run, Audit}
-use Rattle.bs_entry.specs.Entry.{Crashed}
+use Rattle.bs_words.specs.Job.{RunJob, AuditJob, Run, Audit, Wave as WaveWords}
+use Rattle.bs_entry.specs.Entry.{Crashed, Claimed}
 use Rattle.bs_entry.specs.Readings.{report_read}
-use Rattle.bs_top.specs.Work.{to_run, to_audit, plan_of}
+use Rattle.bs_net.specs.Parts.{Parts}
+use Rattle.bs_wave.specs.declared.wave.Wave.{Wave}
+use Rattle.bs_wave.specs.Wave.{IsWaveOf}
+use Rattle.bs_wave.specs.WaveReading.{wave_in}
+use Rattle.bs_top.specs.Work.{to_run, to_audit, to_wave, plan_of}
 use Rattle.bs_top.specs.Finishes.{finishes}
 
 -- the text is read as a report, for which nothing but `accepted` is written
@@ -49,3 +53,18 @@ AuditFollowsRun =
     (told : Tells) (run : RunJob) (report : List ℕ) (budgets : Budgets) (crashed : Crashed) (status : Status) (text : List ℕ) →
     told_end told (plan_of (Run run)) ≡ Some (ready (to_run budgets crashed)) → finishes (to_run budgets crashed) status text →
     told report ≡ Some text → AuditEnds told (audit_of run report) crashed text
+
+-- ---- waveforms
+
+-- the text is read as the wave of the report's trace
+pub record IsReadBack (raw : Parts) (report : Report) (text : List ℕ) : Type 0 where
+  pub wave : Wave
+  pub is : IsWaveOf raw report.states report.inputs wave
+  pub read : wave_in text ≡ Ok wave
+
+-- Where `wave` over told files comes to its work, and writes a text with status 0, the text is read as the wave of the report's
+-- trace: the netlist was read, so that each net has a name that may stand in it.
+abbrev pub WaveformsReadBack : Type 0
+WaveformsReadBack =
+    (told : Tells) (job : AuditJob) (claimed : Claimed) (text : List ℕ) → told_end told (plan_of (WaveWords job)) ≡ Some (ready (to_wave claimed)) →
+    finishes (to_wave claimed) Done text → IsReadBack claimed.crashed.setup.raw claimed.report text

@@ -4,6 +4,7 @@ pub mod Texts
 pub mod Summary
 pub mod Work
 pub mod Rejected
+pub mod Drawn
 pub mod Sound
 pub mod Finishes
 pub mod Law

@@ -23,25 +23,34 @@ abbrev pub planned : List (List ℕ) → Option (Plan Parts Work)
 planned words = option_map plan_of (job_of words)
 
 -- The answer to words, over a shelf and a sink: each part is the clause of `backspace` of that name.
-pub record AnswersWords {S K : Type 0} (held : S → Tells) (faults : S → Counts) (fetch_leads : S → FetchCall → S → Type 0) (shelf_before shelf_now : S) (written : K → Option (List ℕ)) (sink_faults : K → ℕ) (put_leads : K → PutCall → K → Type 0) (sink_before sink_now : K) (words_of : List (List ℕ)) (answer : Result Status NoMemory) : Type 0 where
-  pub answered : IfOk answer (λ status. Answered CheckSays finishes (held shelf_before) (faults shelf_before) (faults shelf_now) (planned words_of) (written sink_before) (written sink_now) status)
+pub record AnswersWords {S K : Type 0} (held : S → Tells) (faults : S → Counts) (fetch_leads : S → FetchCall → S → Type 0) (shelf_before shelf_now : S)
+    (written : K → Option (List ℕ)) (sink_faults : K → ℕ) (put_leads : K → PutCall → K → Type 0) (sink_before sink_now : K) (words_of : List (List ℕ))
+    (answer : Result Status NoMemory) : Type 0 where
+  pub answered : IfOk answer (λ status. Answered CheckSays finishes (held shelf_before) (faults shelf_before) (faults shelf_now) (planned words_of)
+      (written sink_before) (written sink_now) status)
   pub words : IfOk answer (λ status. status ≢ WriteFault → IsWordsOnlyFor (job_of words_of) status)
-  pub told : IfOk answer (λ status. status ≢ ReadFault → status ≢ WriteFault → AnsweredAsTold CheckSays finishes (held shelf_before) (planned words_of) (written sink_before) (written sink_now) status)
-  pub refusals : IfOk answer (λ status. status ≢ ReadFault → status ≢ WriteFault → RefusesFirstOf (held shelf_before) (faults shelf_before) (faults shelf_now) (planned words_of) status)
-  pub read_fault : IfOk answer (λ status. status ≡ ReadFault → ReadFaultOf (held shelf_before) (faults shelf_before) (faults shelf_now) (planned words_of) (written sink_before) (written sink_now))
+  pub told : IfOk answer (λ status. status ≢ ReadFault → status ≢ WriteFault →
+      AnsweredAsTold CheckSays finishes (held shelf_before) (planned words_of) (written sink_before) (written sink_now) status)
+  pub refusals : IfOk answer (λ status. status ≢ ReadFault → status ≢ WriteFault →
+      RefusesFirstOf (held shelf_before) (faults shelf_before) (faults shelf_now) (planned words_of) status)
+  pub read_fault : IfOk answer (λ status. status ≡ ReadFault →
+      ReadFaultOf (held shelf_before) (faults shelf_before) (faults shelf_now) (planned words_of) (written sink_before) (written sink_now))
   pub read_counted : IfOk answer (λ status. status ≢ ReadFault → status ≢ WriteFault → (name : List ℕ) → faults shelf_now name ≡ faults shelf_before name)
   pub write_fault : IfOk answer (λ status. status ≡ WriteFault → Rose (sink_faults sink_before) (sink_faults sink_now))
   pub write_counted : IfOk answer (λ status. status ≢ WriteFault → sink_faults sink_now ≡ sink_faults sink_before)
   pub complete : IsCalm (held shelf_before) (faults shelf_before) (faults shelf_now) (planned words_of) (sink_faults sink_before) (sink_faults sink_now) →
       IfOk answer (λ status. AnsweredAsTold CheckSays finishes (held shelf_before) (planned words_of) (written sink_before) (written sink_now) status)
   pub whole : IsCalm (held shelf_before) (faults shelf_before) (faults shelf_now) (planned words_of) (sink_faults sink_before) (sink_faults sink_now) →
-      IfOk answer (λ status. AnsweredWhole CheckSays finishes (held shelf_before) (faults shelf_before) (faults shelf_now) (planned words_of) (written sink_before) (written sink_now) status)
+      IfOk answer (λ status. AnsweredWhole CheckSays finishes (held shelf_before) (faults shelf_before) (faults shelf_now) (planned words_of)
+      (written sink_before) (written sink_now) status)
   pub calls : IfOk answer (λ status. CallByCall CheckSays finishes fetch_leads shelf_before shelf_now put_leads sink_before sink_now (planned words_of) status)
   pub calls_wanting : OnErr answer (CallsWanting fetch_leads shelf_before shelf_now sink_before sink_now (planned words_of))
   pub no_memory : OnErr answer (Keeps (written sink_before) (written sink_now) × (sink_faults sink_now ≡ sink_faults sink_before))
 
 -- The exit code is that of an answer to the words.
-pub record EndsBy {S K : Type 0} (held : S → Tells) (faults : S → Counts) (fetch_leads : S → FetchCall → S → Type 0) (shelf_before shelf_now : S) (written : K → Option (List ℕ)) (sink_faults : K → ℕ) (put_leads : K → PutCall → K → Type 0) (sink_before sink_now : K) (words : List (List ℕ)) (code : ℕ) : Type 0 where
+pub record EndsBy {S K : Type 0} (held : S → Tells) (faults : S → Counts) (fetch_leads : S → FetchCall → S → Type 0) (shelf_before shelf_now : S)
+    (written : K → Option (List ℕ)) (sink_faults : K → ℕ) (put_leads : K → PutCall → K → Type 0) (sink_before sink_now : K) (words : List (List ℕ))
+    (code : ℕ) : Type 0 where
   pub answer : Result Status NoMemory
   pub answers : AnswersWords held faults fetch_leads shelf_before shelf_now written sink_faults put_leads sink_before sink_now words answer
   pub ended : code ≡ exit_code answer

@@ -18,7 +18,8 @@ pub record IsSoundReport (crash : Crash) (r : Report) : Type 0 where
   pub good : IsGood crash r
   pub valid : IsValid crash (basis_for crash r) r
   pub headline : r.inputs ≢ [] → EndsExecution crash r
-  pub progress : (i : ℕ) (earlier later : Step) → slice_get r.steps i ≡ Some earlier → slice_get r.steps (i + 1) ≡ Some later → IsFinished later.end → HitsEarlier earlier later
+  pub progress : (i : ℕ) (earlier later : Step) → slice_get r.steps i ≡ Some earlier → slice_get r.steps (i + 1) ≡ Some later → IsFinished later.end →
+      HitsEarlier earlier later
   pub unhit_is_first : (i : ℕ) (step : Step) → slice_get r.steps i ≡ Some step → IsFinished step.end → step.hit ≡ None → i ≡ 0
   pub reaches_reset : (first : Step) (hit : HitLine) → All (λ step. IsFinished step.end) r.steps → slice_get r.steps 0 ≡ Some first → first.hit ≡ Some hit →
       hit.cycle + 1 ≤ r.budgets.steps → (r.stop ≡ Reset) × (length r.steps ≤ hit.cycle + 1)

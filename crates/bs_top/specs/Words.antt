@@ -5,7 +5,16 @@ use Rattle.bs_words.specs.declared.job.DumpJob.{DumpJob as CodeDumpJob}
 use Rattle.bs_words.specs.Job.{RunJob, AuditJob, DumpJob}
 
 abbrev pub run_job : CodeRunJob → RunJob
-run_job r = record { netlist = r.netlist.now; signature = r.signature.now; stimulus = r.stimulus.now; dump = r.dump.now; steps = r.steps; candidates = r.candidates; conflicts = r.conflicts }
+run_job r = record {
+  netlist = r.netlist.now;
+  signature = r.signature.now;
+  stimulus = r.stimulus.now;
+  dump = r.dump.now;
+  steps = r.steps;
+  candidates =
+      r.candidates;
+  conflicts = r.conflicts;
+}
 
 abbrev pub audit_job : CodeAuditJob → AuditJob
 audit_job a = record { netlist = a.netlist.now; signature = a.signature.now; stimulus = a.stimulus.now; dump = a.dump.now; report = a.report.now }

@@ -83,7 +83,7 @@ fn push_part(text: &mut Vec<u8>, part: Part) -> Result<(), NoMemory>
 }
 
 /// The line for a part that fails.
-fn rejected(alloc: Global, part: Part) -> Result<Vec<u8>, NoMemory>
+pub fn rejected(alloc: Global, part: Part) -> Result<Vec<u8>, NoMemory>
     ensures { IfOk result (λ text. text.items ≡ rejected_text part) }
 {
     let mut text = Vec::new(alloc);
@@ -104,7 +104,7 @@ fn finding_text(alloc: Global, finding: Finding) -> Result<Vec<u8>, NoMemory>
 }
 
 /// The status for what an audit finds.
-fn finding_status(finding: Finding) -> Status
+pub fn finding_status(finding: Finding) -> Status
     ensures { result ≡ finding_status (part_of finding) }
 {
     match finding {
@@ -114,7 +114,7 @@ fn finding_status(finding: Finding) -> Status
 }
 
 /// What an audit finds of a report.
-fn find(alloc: Global, claimed: &Claimed) -> Result<Finding, NoMemory>
+pub fn find(alloc: Global, claimed: &Claimed) -> Result<Finding, NoMemory>
     ensures { IfOk result (λ finding. Finds (crash_of (recording_in (claimed_in claimed.now).crashed.setup) claimed.now.crashed.dump) claimed.now.report (part_of finding)) }
 {
     let crashed = &claimed.crashed;

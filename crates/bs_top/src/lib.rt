@@ -4,6 +4,7 @@
 mod auditing;
 mod backtracing;
 mod budgets;
+mod drawing;
 mod dumping;
 mod generated;
 mod law;
@@ -13,6 +14,6 @@ mod summing;
 mod top;
 
 pub use bs_job::Status;
-pub use law::{audit_accepts_what_run_writes, audit_follows_run};
+pub use law::{audit_accepts_what_run_writes, audit_follows_run, waveforms_read_back};
 pub use program::run_program;
 pub use top::backspace;

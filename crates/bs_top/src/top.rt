@@ -11,6 +11,7 @@ ghost use Rattle.bs_top.specs.Finishes.{finishes};
 
 use crate::auditing::audit;
 use crate::backtracing::run;
+use crate::drawing::wave;
 use crate::dumping::dump;
 use crate::summing::demo;
 use bs_job::{Reply, Status, deliver, refused_words};
@@ -28,6 +29,7 @@ fn prepare<S: Shelf>(alloc: Global, words: &[String], shelf: &mut S) -> Result<R
         Some(Job::Run(job)) => run(alloc, shelf, &job),
         Some(Job::Audit(job)) => audit(alloc, shelf, &job),
         Some(Job::Demo(number)) => demo(alloc, number),
+        Some(Job::Wave(job)) => wave(alloc, shelf, &job),
         None => refused_words(alloc),
     }
 }

@@ -1,5 +1,5 @@
 -- Worked texts.
-use Rattle.std.proofs.Common.{◌≡◌, ℕ, [], ◌∷◌, Ok, Err, false, true, refl, length, Result}
+use Rattle.std.proofs.Common.{◌≡◌, ℕ, [], ◌∷◌, ◌++◌, Ok, Err, false, true, refl, length, Result}
 use Rattle.bs_net.specs.declared.net.NetId.{NetId}
 use Rattle.bs_net.specs.declared.net.Kind.TheVariants.{Not, Buf}
 use Rattle.std.specs.Prelude.{codes, ⊤}
@@ -108,8 +108,13 @@ pins_ports_constants : netlist_text (codes
 unfolding reading_a_netlist
 pins_ports_constants = refl
 
-s27 : shown (netlist_text (codes
-    "// s27, four inputs, three flip-flops\nmodule dff(CK,Q,D);\ninput CK,D;\noutput Q;\nreg Q;\nalways @(posedge CK) Q <= D;\nendmodule\nmodule s27(GND,VDD,CK,G0,G1,G17,G2,G3);\ninput GND,VDD,CK,G0,G1,G2,G3;\noutput G17;\nwire G5,G10,G6,G11,G7,G13,G14,G8,G15,G12,G16,G9;\ndff DFF_0(CK,G5,G10);\ndff DFF_1(CK,G6,G11);\ndff DFF_2(CK,G7,G13);\nnot NOT_0(G14,G0);\nnot NOT_1(G17,G11);\nand AND2_0(G8,G14,G6);\nor OR2_0(G15,G12,G8);\nor OR2_1(G16,G3,G8);\nnand NAND2_0(G9,G16,G15);\nnor NOR2_0(G10,G14,G11);\nnor NOR2_1(G11,G5,G9);\nnor NOR2_2(G12,G1,G7);\nnor NOR2_3(G13,G2,G12); endmodule")) ≡ (20, 7, 1, 10, 3)
+s27 : shown (netlist_text (
+    codes "// s27, four inputs, three flip-flops\nmodule dff(CK,Q,D);\ninput CK,D;\noutput Q;\nreg Q;\nalways @(posedge CK) Q <= D;\n"
+    ++ codes "endmodule\nmodule s27(GND,VDD,CK,G0,G1,G17,G2,G3);\ninput GND,VDD,CK,G0,G1,G2,G3;\noutput G17;\n"
+    ++ codes "wire G5,G10,G6,G11,G7,G13,G14,G8,G15,G12,G16,G9;\ndff DFF_0(CK,G5,G10);\ndff DFF_1(CK,G6,G11);\ndff DFF_2(CK,G7,G13);\n"
+    ++ codes "not NOT_0(G14,G0);\nnot NOT_1(G17,G11);\nand AND2_0(G8,G14,G6);\nor OR2_0(G15,G12,G8);\nor OR2_1(G16,G3,G8);\n"
+    ++ codes "nand NAND2_0(G9,G16,G15);\nnor NOR2_0(G10,G14,G11);\nnor NOR2_1(G11,G5,G9);\nnor NOR2_2(G12,G1,G7);\n"
+    ++ codes "nor NOR2_3(G13,G2,G12); endmodule")) ≡ (20, 7, 1, 10, 3)
 unfolding reading_a_netlist
 s27 = refl
 

@@ -1,3 +1,6 @@
 pub mod PlaceLemmas
 pub mod PlacementLemmas
+pub mod ReaderLemmas
+pub mod SpellingLemmas
+pub mod NamedLemmas
 pub mod Examples

@@ -1,5 +1,6 @@
 -- Every net of what is built has a name.
-use Rattle.std.proofs.Common.{◌≡◌, ℕ, zero, suc, ◌+◌, ◌-◌, ◌<◌, ◌≤◌, Bool, true, false, cond, List, [], ◌∷◌, ◌++◌, map, length, get_or, take, drop, Option, Some, None, Ok, Err, Result, refl, ap, ◌∙◌, inl, inr, ◌⊎◌, arith}
+use Rattle.std.proofs.Common.{◌≡◌, ℕ, zero, suc, ◌+◌, ◌-◌, ◌<◌, ◌≤◌, Bool, true, false, cond, List, [], ◌∷◌, ◌++◌, map, length, get_or, take, drop}
+use Rattle.std.proofs.Common.{Option, Some, None, Ok, Err, Result, refl, ap, ◌∙◌, inl, inr, ◌⊎◌, arith}
 use Rattle.std.specs.Prelude.{IsTrue, not, ◌&&◌, nat_le, is_some, unwrap_or, ◌==◌}
 use Rattle.std.specs.List.{All, list_any, list_all, flat_map, filter}
 use Rattle.std.specs.Str.{bytes_eq}
@@ -34,7 +35,8 @@ use Rattle.bs_verilog.specs.declared.building.Built.{Built}
 use Rattle.bs_bits.specs.Reading.{◌>>=◌}
 use Rattle.bs_scope.specs.Keys.{text, scalar_key, constant_key, keys}
 use Rattle.bs_verilog.specs.Terminals.{term_of, has_term, is_single, is_gate, is_assignment, cell_pins, pins_of, is_constant, output_count}
-use Rattle.bs_verilog.specs.Building.{each, has_key, is_full, implicit_net, declared_key, constant_net, named_net, term_net, with_connection, connection_nets, gates_of, net_at, no_net, flop_of, with_gates, with_flop, with_part, with_parts}
+use Rattle.bs_verilog.specs.Building.{each, has_key, is_full, implicit_net, declared_key, constant_net, named_net, term_net, with_connection}
+use Rattle.bs_verilog.specs.Building.{connection_nets, gates_of, net_at, no_net, flop_of, with_gates, with_flop, with_part, with_parts}
 use Rattle.bs_scope.specs.Nets.{net_of, with_keys, numbered, nets_of}
 use Rattle.bs_verilog.specs.Placement.{AreWithin, ConstsWithin, GateWithin, FlopWithin, IsBuiltWithin, AreShort, IsFinished, WillFinish}
 use Rattle.bs_syntax.specs.declared.tree.Range.{Range}
@@ -721,7 +723,8 @@ finished_is table scope header parts start after ins outs e ei eo =
 
 -- parts that are short, one after the other
 
-pub short_more : (parts : List Component) (i n : ℕ) (item : Component) → i < length parts → item ≡ get_or parts i item → n ≡ length item.connections → n < 4294967296
+pub short_more : (parts : List Component) (i n : ℕ) (item : Component) → i < length parts → item ≡ get_or parts i item → n ≡ length item.connections →
+    n < 4294967296
     → AreShort (take i parts)
     → AreShort (take (i + 1) parts)
 short_more parts i n item h is e less so_far =

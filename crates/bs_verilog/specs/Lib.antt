@@ -2,5 +2,7 @@
 pub mod Netlist
 pub mod Terminals
 pub mod Building
+-- What its names are.
+pub mod Law
 -- What its functions promise each other.
 pub mod Placement

@@ -19,6 +19,7 @@ use Rattle.bs_scope.specs.declared.numbering.Known.{Known}
 use Rattle.bs_verilog.specs.declared.building.Built.{Built}
 use Rattle.bs_syntax.specs.declared.fault.VerilogFault.{VerilogFault}
 use Rattle.bs_syntax.specs.declared.fault.VerilogFault.TheVariants.{Syntax}
+use Rattle.bs_lexeme.specs.Packed.{Lexeme}
 use Rattle.bs_lexeme.specs.Lexemes.{lexemes_of, names_of}
 use Rattle.bs_bits.specs.Reading.{◌>>=◌}
 use Rattle.bs_syntax.specs.Modules.{syntax_of}
@@ -87,6 +88,14 @@ meaning_of table m = elim (declaring_fault table m) [ Some fault ↦ Err fault |
 -- the lexer's fault is a fault of syntax
 abbrev pub tokenised : List ℕ → Result (List Token) VerilogFault
 tokenised source = elim (tokens_of source) [ Ok tokens ↦ Ok tokens | Err at ↦ Err (Syntax at) ]
+
+-- the lexemes of a text and its names
+abbrev pub lexed_text : List ℕ → Result (List Lexeme × List (List ℕ)) VerilogFault
+lexed_text source = tokenised source >>= λ tokens. Ok (lexemes_of source tokens, names_of source tokens)
+
+-- the module of a text as written, and the text's names
+abbrev pub module_text : List ℕ → Result (Module × List (List ℕ)) VerilogFault
+module_text source = lexed_text source >>= λ x. syntax_of x.0 >>= λ m. Ok (m, x.1)
 
 -- the netlist that a text is
 unfoldable pub netlist_text : List ℕ → Result Parts VerilogFault

@@ -1,5 +1,6 @@
 -- Which connections a gate, a cell or an assignment may have.
-use Rattle.std.specs.Prelude.{ℕ, ◌-◌, Bool, true, false, not, ◌&&◌, ◌==◌, nat_le, if◌then◌else◌, List, length, take, codes, Option, Some, None, is_some, slice_index_or, position}
+use Rattle.std.specs.Prelude.{ℕ, ◌-◌, Bool, true, false, not, ◌&&◌, ◌==◌, nat_le, if◌then◌else◌, List, length, take, codes, Option, Some, None}
+use Rattle.std.specs.Prelude.{is_some, slice_index_or, position}
 use Rattle.std.specs.List.{list_any, list_all}
 use Rattle.std.specs.Str.{bytes_eq}
 use Rattle.bs_net.specs.declared.net.Kind.{Kind}

@@ -10,7 +10,7 @@ use crate::terminals::{Pins, cell_pins, is_assignment, is_gate, is_single};
 use bs_bits::List;
 use bs_lexeme::{Cell, Table};
 use bs_net::{Flop, Gate, Kind, NetId, Terms};
-use bs_syntax::{Component, Connection, Says, Shape, VerilogFault};
+use bs_syntax::{Component, PackedConnection, Says, Shape, VerilogFault};
 use std::alloc::Global;
 
 /// What the parts so far have built.
@@ -129,7 +129,7 @@ fn with_gates(
     table: &Table,
     scope: &[Option<Says>],
     kind: Kind,
-    cs: &[Connection],
+    cs: &[PackedConnection],
 ) -> Result<(), VerilogFault>
     ensures { Answers want (λ _. built.new) result (spec.with_gates table.now (looked scope.now) kind built.old cs.now) }
 {
@@ -145,7 +145,7 @@ fn with_flop(
     scope: &[Option<Says>],
     cell: Cell,
     pins: Pins,
-    cs: &[Connection],
+    cs: &[PackedConnection],
 ) -> Result<(), VerilogFault>
     ensures { Answers want (λ _. built.new) result (spec.with_flop table.now (looked scope.now) cell pins built.old cs.now) }
 {

@@ -2,6 +2,7 @@
 #![tactic(auto)]
 
 mod building;
+mod law;
 mod netlist;
 mod placing;
 mod ports;
@@ -10,5 +11,6 @@ mod terminals;
 
 pub use bs_lexeme::numbers_are_told_apart;
 pub use bs_syntax::{VerilogFault, What};
+pub use law::nets_are_named;
 pub use netlist::meaning;
 pub use reader::read;

@@ -11,7 +11,7 @@ use bs_bits::List;
 use bs_lexeme::{Name, Table};
 use bs_net::{Const, MAX_NETS, Names, NetId};
 use bs_scope::{bit_key, constant_key, entry, has_index, net_of, scalar_key};
-use bs_syntax::{Connection, Range, Says, Term, VerilogFault, What};
+use bs_syntax::{PackedConnection, Range, Says, Term, VerilogFault, What};
 use std::alloc::Global;
 
 /// What the terms so far have made: the names in net order, and the constants.
@@ -154,11 +154,11 @@ fn place(
     nets: &mut Vec<NetId>,
     table: &Table,
     scope: &[Option<Says>],
-    c: Connection,
+    c: &PackedConnection,
 ) -> Result<(), VerilogFault>
-    ensures { Answers want (λ _. (nets.new.items, made.new)) result (spec.with_connection table.now (looked scope.now) (nets.old.items, made.old) c) }
+    ensures { Answers want (λ _. (nets.new.items, made.new)) result (spec.with_connection table.now (looked scope.now) (nets.old.items, made.old) c.now) }
 {
-    match term_of(c) {
+    match term_of(c.get()) {
         Some(term) => {
             let net = term_net(alloc, made, table, scope, term)?;
             nets.push(net)?;
@@ -174,13 +174,13 @@ pub fn connection_nets(
     made: &mut Made,
     table: &Table,
     scope: &[Option<Says>],
-    cs: &[Connection],
+    cs: &[PackedConnection],
 ) -> Result<Vec<NetId>, VerilogFault>
     ensures { Answers want (λ nets. (nets.items, made.new)) result (spec.connection_nets table.now (looked scope.now) cs.now made.old) }
 {
     let mut nets = Vec::new(alloc);
     'connections: for c in cs {
-        place(alloc, made, &mut nets, table, scope, *c)?;
+        place(alloc, made, &mut nets, table, scope, c)?;
     }
     Ok(nets)
 }

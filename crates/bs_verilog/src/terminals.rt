@@ -6,7 +6,7 @@ ghost use Rattle.bs_syntax.specs.declared.tree.Connection.TheVariants.{Empty};
 
 use bs_lexeme::Table;
 use bs_net::Kind;
-use bs_syntax::{Connection, Term};
+use bs_syntax::{Connection, PackedConnection, Term};
 
 /// Where a cell's clock, output and input stand among its connections.
 #[derive(Clone, Copy, Debug, PartialEq, Eq)]
@@ -87,25 +87,25 @@ fn output_count(kind: Kind, count: usize) -> usize
     if is_single(kind) { count - 1 } else { 1 }
 }
 
-fn are_full(cs: &[Connection]) -> bool
+fn are_full(cs: &[PackedConnection]) -> bool
     ensures { result ≡ list_all spec.has_term cs.now }
 {
-    cs.iter().all(|c| term_of(*c).is_some())
+    cs.iter().all(|c| term_of(c.get()).is_some())
 }
 
-fn are_places(cs: &[Connection]) -> bool
+fn are_places(cs: &[PackedConnection]) -> bool
     ensures { result ≡ list_all spec.is_place cs.now }
 {
-    cs.iter().all(|c| is_place(*c))
+    cs.iter().all(|c| is_place(c.get()))
 }
 
-fn have_constant(cs: &[Connection]) -> bool
+fn have_constant(cs: &[PackedConnection]) -> bool
     ensures { result ≡ list_any spec.is_constant cs.now }
 {
-    cs.iter().any(|c| is_constant(*c))
+    cs.iter().any(|c| is_constant(c.get()))
 }
 
-fn have_constant_output(kind: Kind, cs: &[Connection]) -> bool
+fn have_constant_output(kind: Kind, cs: &[PackedConnection]) -> bool
     requires { 2 ≤ length cs.now }
     ensures { result ≡ list_any spec.is_constant (take (spec.output_count kind (length cs.now)) cs.now) }
 {
@@ -114,7 +114,7 @@ fn have_constant_output(kind: Kind, cs: &[Connection]) -> bool
 
 /// Whether a gate of this kind may have these connections.
 #[tactic(auto, unfolding(crate::specs::Terminals::is_gate))]
-pub fn is_gate(kind: Kind, cs: &[Connection]) -> bool
+pub fn is_gate(kind: Kind, cs: &[PackedConnection]) -> bool
     ensures { result ≡ spec.is_gate kind cs.now }
 {
     if cs.len() < 2 {
@@ -125,28 +125,31 @@ pub fn is_gate(kind: Kind, cs: &[Connection]) -> bool
     full && !constant
 }
 
-fn is_constant_at(cs: &[Connection], place: usize) -> bool
+fn is_constant_at(cs: &[PackedConnection], place: usize) -> bool
     ensures { result ≡ spec.is_constant (slice_index_or cs.now place Empty) }
 {
-    is_constant(cs.get(place).copied().unwrap_or(Connection::Empty))
+    match cs.get(place) {
+        Some(c) => is_constant(c.get()),
+        None => false,
+    }
 }
 
 /// Whether an assignment may have these connections.
 #[tactic(auto, unfolding(crate::specs::Terminals::is_assignment))]
-pub fn is_assignment(cs: &[Connection]) -> bool
+pub fn is_assignment(cs: &[PackedConnection]) -> bool
     ensures { result ≡ spec.is_assignment cs.now }
 {
     !is_constant_at(cs, 0)
 }
 
-fn pin_place(table: &Table, name: &str, cs: &[Connection]) -> Option<usize>
+fn pin_place(table: &Table, name: &str, cs: &[PackedConnection]) -> Option<usize>
     ensures { result ≡ position (spec.is_pin table.now name.now) cs.now }
 {
-    cs.iter().position(|c| is_pin(table, name, *c))
+    cs.iter().position(|c| is_pin(table, name, c.get()))
 }
 
 #[tactic(auto, unfolding(crate::specs::Terminals::named_pins))]
-fn named_pins(table: &Table, cs: &[Connection]) -> Option<Pins>
+fn named_pins(table: &Table, cs: &[PackedConnection]) -> Option<Pins>
     ensures { result ≡ spec.named_pins table.now cs.now }
 {
     let clock = pin_place(table, "CK", cs);
@@ -169,7 +172,7 @@ fn pins_at(clock: Option<usize>, output: Option<usize>, input: Option<usize>) ->
 }
 
 #[tactic(auto, unfolding(crate::specs::Terminals::pins_of))]
-fn pins_of(table: &Table, cs: &[Connection]) -> Option<Pins>
+fn pins_of(table: &Table, cs: &[PackedConnection]) -> Option<Pins>
     ensures { result ≡ spec.pins_of table.now cs.now }
 {
     if are_places(cs) {
@@ -181,7 +184,7 @@ fn pins_of(table: &Table, cs: &[Connection]) -> Option<Pins>
 
 /// The pins of a cell, where it may have these connections.
 #[tactic(auto, unfolding(crate::specs::Terminals::cell_pins))]
-pub fn cell_pins(table: &Table, cs: &[Connection]) -> Option<Pins>
+pub fn cell_pins(table: &Table, cs: &[PackedConnection]) -> Option<Pins>
     ensures { result ≡ spec.cell_pins table.now cs.now }
 {
     let full = are_full(cs);

@@ -1,11 +1,13 @@
 -- The literals that a clause is to watch come to its front.
-use Rattle.std.proofs.Common.{◌≡◌, ◌≢◌, ℕ, suc, zero, ◌+◌, ◌<◌, ◌≤◌, true, List, [], ◌∷◌, map, length, swap, refl, sym, ap, subst, ◌∙◌, inl, inr, ◌⊎◌, Some, arith}
-use Rattle.std.specs.Prelude.{slice_get, IsPermutation}
+use Rattle.std.proofs.Common.{◌≡◌, ◌≢◌, ℕ, suc, zero, ◌+◌, ◌<◌, ◌≤◌, true, List, [], ◌∷◌, map, length, swap, refl, sym, ap, subst, ◌∙◌, inl, inr, ◌⊎◌}
+use Rattle.std.proofs.Common.{Option, Some, None, arith}
+use Rattle.std.specs.Prelude.{slice_get, option_map, IsPermutation}
 use Rattle.std.proofs.lemmas.Bool.{cases_eq, cases_lt}
 use Rattle.std.proofs.lemmas.List.Edits.{length-swap}
 use Rattle.std.proofs.lemmas.List.Sorted.{IsPermutation-swap, IsPermutation-trans, All-permutation}
 use Rattle.bs_clause.specs.Literal.{Literal, Clause, negation}
 use Rattle.bs_clause.specs.Range.{IsWithin}
+use Rattle.bs_arena.specs.Arena.{Held, swapped}
 use Rattle.bs_watch.specs.Trail.{IsFalseOn}
 use Rattle.bs_watch.specs.Places.{Place, AreApart, IsPlaceOf, IsOnLevel, literals_of}
 use Rattle.bs_watch.specs.Scene.{IsWatchable}
@@ -196,3 +198,8 @@ higher_of places c a b n x y apart one at_x at_y both = record {
     | inr is_b ↦ subst (IsNoLower places l) (same_some y m (sym at_y ∙ ap (slice_get c) (sym is_b) ∙ at_m)) (both l at_l).1
   ];
 }
+
+-- an exchange of literals keeps the id
+pub id_swapped : (i j : ℕ) (o : Option Held) → option_map (λ (h : Held). h.id) (option_map (λ h. swapped h i j) o) ≡ option_map (λ (h : Held). h.id) o
+id_swapped i j None = refl
+id_swapped i j (Some h) = refl

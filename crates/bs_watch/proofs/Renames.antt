@@ -136,7 +136,13 @@ pub serves_renamed : (w : WatchState) (names : List (ℕ × ℕ)) →
 serves_renamed w names = record {
   serves = λ clauses after s renames.
       let new : WatchState =
-      record { trail = record { vars = w.trail.vars; places = map (renamed_place names) w.trail.places }; levels = w.levels; head = w.head; lists = map (λ ws. map (renamed names) ws) w.lists } in
+      record {
+        trail = record { vars = w.trail.vars; places = map (renamed_place names) w.trail.places };
+        levels = w.levels;
+        head = w.head;
+        lists =
+            map (λ ws. map (renamed names) ws) w.lists;
+      } in
       let has_name : (l : Literal) (k : ℕ) (v : Watcher) → slice_get (row w.lists l) k ≡ Some v →
       new_name names v.clause ≡ Some (unwrap_or (new_name names v.clause) v.clause) =
       λ l k v e. named (new_name names v.clause) v.clause (renames.named v.clause ∙ (s.listed.listed l k v e).live) in

@@ -1,5 +1,6 @@
 -- Watchers of killed clauses leave the lists, and the watch serves the arena again.
-use Rattle.std.proofs.Common.{◌≡◌, ◌≢◌, ◌↔◌, ℕ, suc, zero, ◌+◌, ◌*◌, ◌<◌, ◌≤◌, true, false, Bool, List, [], ◌∷◌, length, take, swap_remove, set, refl, sym, ap, subst, ◌∙◌, inl, inr, ◌⊎◌, Some, arith}
+use Rattle.std.proofs.Common.{◌≡◌, ◌≢◌, ◌↔◌, ℕ, suc, zero, ◌+◌, ◌*◌, ◌<◌, ◌≤◌, true, false, Bool, List, [], ◌∷◌, length, take, swap_remove, set, refl}
+use Rattle.std.proofs.Common.{sym, ap, subst, ◌∙◌, inl, inr, ◌⊎◌, Some, arith}
 use Rattle.std.specs.Prelude.{slice_get, is_some, Contains, option_map, unwrap_or}
 use Rattle.std.proofs.lemmas.Bool.{cases_Bool, cases_eq, cases_lt, false≢true}
 use Rattle.std.proofs.lemmas.List.{length-set}

@@ -1,9 +1,11 @@
 -- The tables of a trail.
-use Rattle.std.proofs.Common.{◌≡◌, ◌≢◌, ℕ, zero, suc, ◌+◌, ◌*◌, ◌^◌, ◌-◌, ◌<◌, ◌≤◌, arith, Bool, true, false, not, cond, List, [], ◌∷◌, ◌++◌, map, length, get_or, set, replicate, refl, sym, ap, subst, ◌∙◌, inl, inr, ◌⊎◌, Option, Some, None, eqb}
+use Rattle.std.proofs.Common.{◌≡◌, ◌≢◌, ℕ, zero, suc, ◌+◌, ◌*◌, ◌^◌, ◌-◌, ◌<◌, ◌≤◌, arith, Bool, true, false, not, cond, List, [], ◌∷◌, ◌++◌, map}
+use Rattle.std.proofs.Common.{length, get_or, set, replicate, refl, sym, ap, subst, ◌∙◌, inl, inr, ◌⊎◌, Option, Some, None, eqb}
 use Rattle.std.specs.Prelude.{Contains, slice_get, IfSome, IfNone}
 use Rattle.std.specs.List.{list_any, IsDistinct}
 use Rattle.std.proofs.lemmas.Bool.{cases_lt, ne_eqb, eqb-true, or_cases, false≢true}
-use Rattle.std.proofs.lemmas.List.{get_or-set_same, get_or-set_other, length-set, length-map, get_or-replicate, get_or_past, length-replicate, length_push, map-append}
+use Rattle.std.proofs.lemmas.List.{get_or-set_same, get_or-set_other, length-set, length-map, get_or-replicate, get_or_past, length-replicate}
+use Rattle.std.proofs.lemmas.List.{length_push, map-append}
 use Rattle.std.proofs.lemmas.Option.{get_or_from_slice_get}
 use Rattle.std.proofs.lemmas.Map.Keys.{IsDistinct-from_apart}
 use Rattle.std.proofs.lemmas.Map.Steps.{length-le_from_distinct_below}
@@ -13,7 +15,8 @@ use Rattle.bs_watch.specs.declared.cause.Cause.{Cause}
 use Rattle.bs_watch.specs.Trail.{IsOpenOn, IsAssignedOn, IsValueOn, AreAssignedBelow}
 use Rattle.bs_watch.specs.Places.{Place, AreApart, IsPlaceOf, IsOnLevel, IsForcedBy, HasNoReason, literals_of, variable_of, renamed_place}
 use Rattle.bs_watch.specs.Tables.{IsTrail, HasValues, AreDistinct, IsNextOpen, no_cause, cause_of, place_with, places_in, value_of, renamed_cause}
-use Rattle.bs_watch.proofs.Gets.{none_is_not_some, same_some, get_left, get_last, get_push_cases, get_from_Contains, Contains_from_get, get_map_cases, get_within, get_map}
+use Rattle.bs_watch.proofs.Gets.{none_is_not_some, same_some, get_left, get_last, get_push_cases, get_from_Contains, Contains_from_get, get_map_cases}
+use Rattle.bs_watch.proofs.Gets.{get_within, get_map}
 use Rattle.bs_watch.proofs.Literals.{cases_literal, same_variable, negation-negation, code_of-injective}
 use Rattle.bs_watch.proofs.Codes.{range_at, code_within}
 use Rattle.bs_watch.proofs.Looks.{all_from_gets}

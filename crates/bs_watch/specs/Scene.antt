@@ -1,5 +1,6 @@
 -- What visits do to the trail, the watch lists and the clauses.
-use Rattle.std.specs.Prelude.{◌≡◌, ◌⊎◌, ◌↔◌, ℕ, ◌+◌, ◌*◌, ◌<◌, ◌≤◌, true, List, map, take, length, Option, Some, None, is_some, Contains, IsPermutation, slice_get}
+use Rattle.std.specs.Prelude.{◌≡◌, ◌⊎◌, ◌↔◌, ℕ, ◌+◌, ◌*◌, ◌<◌, ◌≤◌, true, List, map, take, length, Option, Some, None, is_some, Contains}
+use Rattle.std.specs.Prelude.{IsPermutation, slice_get}
 use Rattle.bs_clause.specs.Literal.{Literal, Clause}
 use Rattle.bs_clause.specs.Range.{HasVariables}
 use Rattle.bs_arena.specs.Arena.{Content, Held, held_at, literals_at}

@@ -1,5 +1,5 @@
 //! Which two literals of a clause are watched: those that are not false, or became so last.
-ghost use Rattle.std.specs.Prelude.{◌≡◌, ◌<◌, ◌≤◌, length, map, IsTrue, IsSome};
+ghost use Rattle.std.specs.Prelude.{◌≡◌, ◌<◌, ◌≤◌, length, map, option_map, IsTrue, IsSome};
 ghost use Rattle.bs_clause.specs.Range.{HasVariables};
 ghost use Rattle.bs_arena.specs.Arena.{AreCodes, KeepsOthers, held_at, literal_of, literals_at};
 ghost use Rattle.bs_watch.specs.Places.{AreApart};
@@ -71,6 +71,8 @@ pub fn lift(trail: &Trail, arena: &mut Arena, r: Ref, to: usize)
     ensures lifted { IsLifted trail.now.places (literals_at arena.old.clauses r)
         (literals_at arena.new.clauses r) to }
     ensures others { KeepsOthers arena.old.clauses arena.new.clauses r }
+    ensures id { option_map (λ h. h.id) (held_at arena.new.clauses r)
+        ≡ option_map (λ h. h.id) (held_at arena.old.clauses r) }
     ensures room { KeepsRoom arena.old arena.new }
 {
     let best = highest(trail, arena.lits(r), to);

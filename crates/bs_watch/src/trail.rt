@@ -1,6 +1,8 @@
 //! The trail: the literals that are true, the oldest first, each with its reason and its level.
-ghost use Rattle.std.specs.Prelude.{◌≡◌, ◌↔◌, ◌-◌, ◌+◌, ◌*◌, ◌^◌, ◌<◌, ◌≤◌, [], ◌∷◌, ◌++◌, false, length, map, take, replicate, slice_get, slice_set, vec_len, vec_capacity, Option, Some, None, IfOk, IfSome, IfNone, IsTrue, OnOk, OnErr};
+ghost use Rattle.std.specs.Prelude.{◌≡◌, ◌↔◌, ◌-◌, ◌+◌, ◌*◌, ◌^◌, ◌<◌, ◌≤◌, [], ◌∷◌, ◌++◌, false, length, map, take, replicate, slice_get, slice_set};
+ghost use Rattle.std.specs.Prelude.{vec_len, vec_capacity, Option, Some, None, IfOk, IfSome, IfNone, IsTrue, OnOk, OnErr};
 ghost use Rattle.bs_clause.specs.Literal.{code_of};
+ghost use Rattle.bs_clause.specs.Range.{HasVariables};
 ghost use Rattle.bs_watch.specs.Trail.{IsTrueOn, IsFalseOn, IsOpenOn, IsAssignedOn, IsValueOn, IsFirstOpen, AreAssignedBelow};
 ghost use Rattle.bs_watch.specs.Places.{IsUnassigned, IsLevelOf, IsForcedBy, HasNoReason, IsLiteralAt, AreApart, literals_of, renamed_place, with_place};
 ghost use Rattle.bs_watch.specs.Tables.{no_cause};
@@ -85,6 +87,7 @@ impl Trail {
         ensures length { result ≡ length self.now.places }
         ensures room { length self.now.places ≤ self.now.vars }
         ensures apart { AreApart self.now.places }
+        ensures range { HasVariables self.now.vars (literals_of self.now.places) }
     {
         self.literals.len()
     }

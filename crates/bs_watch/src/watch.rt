@@ -1,5 +1,5 @@
 //! A trail with levels and reasons, and the watched literals of clauses.
-ghost use Rattle.std.specs.Prelude.{◌≡◌, ◌+◌, ◌^◌, ◌<◌, ◌≤◌, [], length, take, slice_get, IfOk, IfSome, IfNone, IsSome, IsPermutation, OnOk, OnErr};
+ghost use Rattle.std.specs.Prelude.{◌≡◌, ◌+◌, ◌^◌, ◌<◌, ◌≤◌, [], length, take, slice_get, option_map, IfOk, IfSome, IfNone, IsSome, IsPermutation, OnOk, OnErr};
 ghost use Rattle.bs_watch.specs.Trail.{IsAssignedOn, IsValueOn, IsFirstOpen, AreAssignedBelow};
 ghost use Rattle.bs_watch.specs.Places.{IsUnassigned, IsLevelOf, IsForcedBy, HasNoReason, AreApart, literals_of};
 ghost use Rattle.bs_watch.specs.Scene.{IsWatchable, Advances, Propagated, KeepsRoom};
@@ -8,7 +8,8 @@ ghost use Rattle.bs_watch.specs.Choice.{AreHighest};
 ghost use Rattle.bs_watch.specs.Sweep.{HasServed, HasSwept};
 ghost use Rattle.bs_watch.specs.Lists.{IsAttached};
 ghost use Rattle.bs_arena.specs.Arena.{KeepsOthers, held_at, literals_at};
-ghost use Rattle.bs_watch.specs.Watch.{Serves, ServesAll, HasNone, KeepsService, MayAttach, HasAttached, HasGoneBack, ServesRenamed, AreLevelled, scene, grown, decided, assigned, renamed_watch};
+ghost use Rattle.bs_watch.specs.Watch.{Serves, ServesAll, HasNone, KeepsService, MayAttach, HasAttached, HasGoneBack, ServesRenamed, AreLevelled};
+ghost use Rattle.bs_watch.specs.Watch.{scene, grown, decided, assigned, renamed_watch};
 
 use crate::attachment::join_two;
 use crate::choice::lift;
@@ -125,6 +126,8 @@ impl Watch {
             (literals_at arena.new.clauses r) }
         ensures highest { AreHighest self.now.trail.places (literals_at arena.new.clauses r) }
         ensures others { KeepsOthers arena.old.clauses arena.new.clauses r }
+        ensures id { option_map (λ h. h.id) (held_at arena.new.clauses r)
+            ≡ option_map (λ h. h.id) (held_at arena.old.clauses r) }
         ensures room { KeepsRoom arena.old arena.new }
     {
         self.holds_levels();
@@ -199,6 +202,7 @@ impl Watch {
         ensures levels { AreLevelled self.now.trail.places self.now.levels }
         ensures apart { AreApart self.now.trail.places }
         ensures room { length self.now.trail.places ≤ self.now.trail.vars }
+        ensures range { HasVariables self.now.trail.vars (literals_of self.now.trail.places) }
         ensures looked { self.now.head ≤ length self.now.trail.places }
     {
         let _ = self.trail.len();

@@ -13,7 +13,8 @@ use Rattle.bs_words.specs.declared.line.Mode.{Mode}
 use Rattle.bs_words.specs.declared.line.Mode.TheVariants.{Plain, Wants, Names}
 use Rattle.bs_words.specs.Options.{number_between, value_in, has_dash, is_option, kind_of, rest_of}
 use Rattle.bs_words.specs.Line.{Line, once, set_to, set_if, set_by, add_to, State, in_mode, option_step, plain_step, step, finish, read_all, start}
-use Rattle.bs_words.specs.Job.{RunJob, Job, Run, run_job, run_at, audit_at, audit_job, dump_of, dump_at, dump_job, demo_at, demo_job, command_job, job_of}
+use Rattle.bs_words.specs.Job.{RunJob, Job, Run, run_job, run_at, audit_at, audit_job, dump_of, dump_at, dump_job}
+use Rattle.bs_words.specs.Job.{demo_at, demo_job, wave_at, wave_job, command_job, job_of}
 
 -- ---- equations of options
 
@@ -129,7 +130,11 @@ plain_fits options l word s fits e = dashes (bytes_eq word (codes "--")) e
     inner true k = option_fits l word (kind_of word) s fits k
     inner false k = absurd (no_some State s k)
 
-    outer : (b : Bool) → (if b then (if options then option_step l word (kind_of word) else None) else Some record { mode = Plain; line = add_to l word }) ≡ some_in State s → Fits s.line
+    outer : (b : Bool) → (if b then (if options then option_step l word (kind_of word) else None) else Some record {
+      mode = Plain;
+      line =
+          add_to l word;
+    }) ≡ some_in State s → Fits s.line
     outer true k = inner options k
     outer false k = subst (λ (t : State). Fits t.line) (some_same State (record { mode = Plain; line = add_to l word }) s k) (added_fits l word fits)
 
@@ -208,6 +213,15 @@ audit_fits (a ∷ b ∷ c ∷ []) job e = absurd (no_some Job (Run job) e)
 audit_fits (a ∷ b ∷ c ∷ d ∷ []) job e = absurd (no_some Job (Run job) e)
 audit_fits (a ∷ b ∷ c ∷ d ∷ x ∷ y ∷ ys) job e = absurd (no_some Job (Run job) e)
 
+wave_fits : (positions : List (List ℕ)) → RunFits (wave_at positions)
+wave_fits (a ∷ b ∷ c ∷ d ∷ x ∷ []) job e = absurd (cc)
+wave_fits [] job e = absurd (no_some Job (Run job) e)
+wave_fits (a ∷ []) job e = absurd (no_some Job (Run job) e)
+wave_fits (a ∷ b ∷ []) job e = absurd (no_some Job (Run job) e)
+wave_fits (a ∷ b ∷ c ∷ []) job e = absurd (no_some Job (Run job) e)
+wave_fits (a ∷ b ∷ c ∷ d ∷ []) job e = absurd (no_some Job (Run job) e)
+wave_fits (a ∷ b ∷ c ∷ d ∷ x ∷ y ∷ ys) job e = absurd (no_some Job (Run job) e)
+
 dumped_fits : (a b c : List ℕ) (run cycle : Option ℕ) → RunFits (dump_of a b c run cycle)
 dumped_fits a b c (Some run) (Some cycle) job e = absurd (cc)
 dumped_fits a b c (Some run) None job e = absurd (no_some Job (Run job) e)
@@ -233,16 +247,19 @@ demo_fits (a ∷ b ∷ bs) job e = absurd (no_some Job (Run job) e)
 
 command_fits : (command : List ℕ) (l : Line) → Fits l → RunFits (command_job command l)
 command_fits command l fits job e =
-    by (bytes_eq command (codes "run")) (bytes_eq command (codes "audit")) (bytes_eq command (codes "dump")) (bytes_eq command (codes "demo")) e
+    by (bytes_eq command (codes "run")) (bytes_eq command (codes "audit")) (bytes_eq command (codes "dump")) (bytes_eq command (codes "demo"))
+    (bytes_eq command (codes "wave")) e
   where
-    by : (r a d m : Bool) →
-        (if r then run_job l else (if a then audit_job l else (if d then dump_job l else (if m then demo_job l else None)))) ≡ some_in Job (Run job) →
+    by : (r a d m v : Bool) →
+        (if r then run_job l else (if a then audit_job l else (if d then dump_job l else
+        (if m then demo_job l else (if v then wave_job l else None))))) ≡ some_in Job (Run job) →
         FitsJob job
-    by true a d m k = run_fits l l.positions fits job k
-    by false true d m k = audit_fits l.positions job k
-    by false false true m k = dump_fits l.positions job k
-    by false false false true k = demo_fits l.positions job k
-    by false false false false k = absurd (no_some Job (Run job) k)
+    by true a d m v k = run_fits l l.positions fits job k
+    by false true d m v k = audit_fits l.positions job k
+    by false false true m v k = dump_fits l.positions job k
+    by false false false true v k = demo_fits l.positions job k
+    by false false false false true k = wave_fits l.positions job k
+    by false false false false false k = absurd (no_some Job (Run job) k)
 
 -- the budgets of each run that words ask for
 pub job_fits : (words : List (List ℕ)) (job : RunJob) → job_of words ≡ Some (Run job) → FitsJob job

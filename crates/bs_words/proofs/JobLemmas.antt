@@ -1,5 +1,6 @@
 -- The job that words spell is the one that is read of them.
-use Rattle.std.proofs.Common.{◌≡◌, ◌⊎◌, inl, inr, ⊎_elim, ℕ, ◌^◌, ◌-◌, Bool, true, false, cond, List, [], ◌∷◌, ◌++◌, refl, arith, ap, sym, subst, ◌∙◌, Option, Some, None, append-nil}
+use Rattle.std.proofs.Common.{◌≡◌, ◌⊎◌, inl, inr, ⊎_elim, ℕ, ◌^◌, ◌-◌, Bool, true, false, cond, List, [], ◌∷◌, ◌++◌, refl, arith, ap, sym, subst, ◌∙◌}
+use Rattle.std.proofs.Common.{Option, Some, None, append-nil}
 use Rattle.std.specs.Prelude.{codes, decimal, MatchOption}
 use Rattle.std.specs.List.{flat_map}
 use Rattle.std.specs.Option.{option_map, option_and_then, unwrap_or}
@@ -12,9 +13,13 @@ use Rattle.bs_words.specs.declared.options.Kind.TheVariants.{Steps, Candidates, 
 use Rattle.bs_words.specs.declared.line.Mode.TheVariants.{Plain}
 use Rattle.bs_words.specs.Options.{number_between}
 use Rattle.bs_words.specs.Line.{Line, read_all, start}
-use Rattle.bs_words.specs.Job.{RunJob, AuditJob, DumpJob, Job, Run, Audit, Dump, Demo, run_at, run_job, audit_at, audit_job, dump_of, dump_at, dump_job, demo_at, demo_job, job_of}
-use Rattle.bs_words.specs.Spelling.{spelling, positions_of, options_of, given, values_of, listed, IsLine, plain, IsRun, IsDump, IsDemo, IsJob, IsNoJob, SpelledJobsAreRead}
-use Rattle.bs_words.proofs.SpellingLemmas.{Rest, Once, Fresh, state, after, read_sound, read_pieces, read_names, after_positions, after_given, fresh_from, listed_same, own_values, between_is, between_again}
+use Rattle.bs_words.specs.Job.{RunJob, AuditJob, DumpJob, Job, Run, Audit, Dump, Demo, Wave}
+use Rattle.bs_words.specs.Job.{wave_at, wave_job, run_at, run_job, audit_at, audit_job, dump_of, dump_at}
+use Rattle.bs_words.specs.Job.{dump_job, demo_at, demo_job, job_of}
+use Rattle.bs_words.specs.Spelling.{spelling, positions_of, options_of, given, values_of, listed, IsLine, plain, IsRun, IsDump, IsDemo, IsJob}
+use Rattle.bs_words.specs.Spelling.{IsNoJob, SpelledJobsAreRead}
+use Rattle.bs_words.proofs.SpellingLemmas.{Rest, Once, Fresh, state, after, read_sound, read_pieces, read_names, after_positions, after_given}
+use Rattle.bs_words.proofs.SpellingLemmas.{fresh_from, listed_same, own_values, between_is, between_again}
 
 -- ---- lines
 
@@ -135,6 +140,18 @@ audit_said words (a ∷ b ∷ c ∷ []) job is e = absurd cc
 audit_said words (a ∷ b ∷ c ∷ d ∷ []) job is e = absurd cc
 audit_said words (a ∷ b ∷ c ∷ d ∷ x ∷ y ∷ ys) job is e = absurd cc
 
+wave_said : (words positions : List (List ℕ)) (job : Job) → IsLine words (plain positions) → wave_at positions ≡ Some job → IsJob (codes "wave" ∷ words) job
+wave_said words (a ∷ b ∷ c ∷ d ∷ x ∷ []) job is e =
+    let audit : AuditJob = record { netlist = a; signature = b; stimulus = c; dump = d; report = x } in
+    let same : Wave audit ≡ job = cc in
+    subst (IsJob (codes "wave" ∷ words)) same (words, refl, is)
+wave_said words [] job is e = absurd cc
+wave_said words (a ∷ []) job is e = absurd cc
+wave_said words (a ∷ b ∷ []) job is e = absurd cc
+wave_said words (a ∷ b ∷ c ∷ []) job is e = absurd cc
+wave_said words (a ∷ b ∷ c ∷ d ∷ []) job is e = absurd cc
+wave_said words (a ∷ b ∷ c ∷ d ∷ x ∷ y ∷ ys) job is e = absurd cc
+
 dump_said : (words positions : List (List ℕ)) (job : Job) → IsLine words (plain positions) → dump_at positions ≡ Some job → IsJob (codes "dump" ∷ words) job
 dump_said words (a ∷ b ∷ c ∷ r ∷ k ∷ []) job is e = by (number_between 1 MAX_RUNS r) refl (number_between 0 MAX_CYCLES k) refl e
   where
@@ -173,7 +190,7 @@ job_said : (words : List (List ℕ)) (job : Job) → job_of words ≡ Some job �
 job_said [] job e = absurd cc
 job_said (command ∷ words) job e =
     by (bytes_eq command (codes "run")) refl (bytes_eq command (codes "audit")) refl (bytes_eq command (codes "dump")) refl
-    (bytes_eq command (codes "demo")) refl e
+    (bytes_eq command (codes "demo")) refl (bytes_eq command (codes "wave")) refl e
   where
     named : (name : List ℕ) → bytes_eq command name ≡ true → IsJob (name ∷ words) job → IsJob (command ∷ words) job
     named name is h = subst (λ (c : List ℕ). IsJob (c ∷ words) job) (sym ((bytes_eq-Decides command name).0 is)) h
@@ -185,12 +202,13 @@ job_said (command ∷ words) job e =
     bare line e = subst (IsLine words) (plain_is words line (read false line e)) (line_is false words line (read false line e))
 
     others : (line : Line) → read_all false words start ≡ Some line → (a : Bool) → bytes_eq command (codes "audit") ≡ a → (d : Bool) →
-        bytes_eq command (codes "dump") ≡ d → (m : Bool) → bytes_eq command (codes "demo") ≡ m →
-        cond a (audit_job line) (cond d (dump_job line) (cond m (demo_job line) None)) ≡ Some job → IsJob (command ∷ words) job
-    others line is true a d f m g e = named (codes "audit") a (audit_said words line.positions job (bare line is) e)
-    others line is false a true f m g e = named (codes "dump") f (dump_said words line.positions job (bare line is) e)
-    others line is false a false f true g e = named (codes "demo") g (demo_said words line.positions job (bare line is) e)
-    others line is false a false f false g e = absurd cc
+        bytes_eq command (codes "dump") ≡ d → (m : Bool) → bytes_eq command (codes "demo") ≡ m → (v : Bool) → bytes_eq command (codes "wave") ≡ v →
+        cond a (audit_job line) (cond d (dump_job line) (cond m (demo_job line) (cond v (wave_job line) None))) ≡ Some job → IsJob (command ∷ words) job
+    others line is true a d f m g v h e = named (codes "audit") a (audit_said words line.positions job (bare line is) e)
+    others line is false a true f m g v h e = named (codes "dump") f (dump_said words line.positions job (bare line is) e)
+    others line is false a false f true g v h e = named (codes "demo") g (demo_said words line.positions job (bare line is) e)
+    others line is false a false f false g true h e = named (codes "wave") h (wave_said words line.positions job (bare line is) e)
+    others line is false a false f false g false h e = absurd cc
 
     on_run : (o : Option Line) → read_all true words start ≡ o → option_and_then run_job o ≡ Some job → IsJob (codes "run" ∷ words) job
     on_run None is e = absurd cc
@@ -198,21 +216,26 @@ job_said (command ∷ words) job e =
 
     on_others : (o : Option Line) → read_all false words start ≡ o →
         option_and_then (λ (line : Line). cond (bytes_eq command (codes "audit")) (audit_job line)
-        (cond (bytes_eq command (codes "dump")) (dump_job line) (cond (bytes_eq command (codes "demo")) (demo_job line) None))) o ≡ Some job →
+        (cond (bytes_eq command (codes "dump")) (dump_job line)
+        (cond (bytes_eq command (codes "demo")) (demo_job line)
+        (cond (bytes_eq command (codes "wave")) (wave_job line) None)))) o ≡ Some job →
         IsJob (command ∷ words) job
     on_others None is e = absurd cc
     on_others (Some line) is e =
-        others line is (bytes_eq command (codes "audit")) refl (bytes_eq command (codes "dump")) refl (bytes_eq command (codes "demo")) refl e
+        others line is (bytes_eq command (codes "audit")) refl (bytes_eq command (codes "dump")) refl
+        (bytes_eq command (codes "demo")) refl (bytes_eq command (codes "wave")) refl e
 
     by : (r : Bool) → bytes_eq command (codes "run") ≡ r → (a : Bool) → bytes_eq command (codes "audit") ≡ a → (d : Bool) →
-        bytes_eq command (codes "dump") ≡ d → (m : Bool) → bytes_eq command (codes "demo") ≡ m →
+        bytes_eq command (codes "dump") ≡ d → (m : Bool) → bytes_eq command (codes "demo") ≡ m → (v : Bool) → bytes_eq command (codes "wave") ≡ v →
         option_and_then (λ (line : Line). cond r (run_job line)
         (cond (bytes_eq command (codes "audit")) (audit_job line)
-        (cond (bytes_eq command (codes "dump")) (dump_job line) (cond (bytes_eq command (codes "demo")) (demo_job line) None))))
+        (cond (bytes_eq command (codes "dump")) (dump_job line)
+        (cond (bytes_eq command (codes "demo")) (demo_job line)
+        (cond (bytes_eq command (codes "wave")) (wave_job line) None)))))
         (read_all r words start) ≡ Some job →
         IsJob (command ∷ words) job
-    by true r a f d g m h e = named (codes "run") r (on_run (read_all true words start) refl e)
-    by false r a f d g m h e = on_others (read_all false words start) refl e
+    by true r a f d g m h v k e = named (codes "run") r (on_run (read_all true words start) refl e)
+    by false r a f d g m h v k e = on_others (read_all false words start) refl e
 
 -- ---- from the job to what is read
 
@@ -235,6 +258,9 @@ job_again words (Run job) h =
 job_again words (Audit job) h =
     let positions : List (List ℕ) = job.netlist ∷ job.signature ∷ job.stimulus ∷ job.dump ∷ job.report ∷ [] in
     ap job_of h.1 ∙ ap (option_and_then audit_job) (line_read false h.0 (plain positions) h.2 (inr (plain_gives_none positions)))
+job_again words (Wave job) h =
+    let positions : List (List ℕ) = job.netlist ∷ job.signature ∷ job.stimulus ∷ job.dump ∷ job.report ∷ [] in
+    ap job_of h.1 ∙ ap (option_and_then wave_job) (line_read false h.0 (plain positions) h.2 (inr (plain_gives_none positions)))
 job_again words (Dump job) h =
     let d : IsDump h.0 job = h.2 in
     let positions : List (List ℕ) = job.netlist ∷ job.signature ∷ job.stimulus ∷ decimal job.run ∷ decimal job.cycle ∷ [] in

@@ -1,5 +1,6 @@
 -- The reading of words gives exactly the job that they spell.
-use Rattle.std.proofs.Common.{◌≡◌, ◌⊎◌, inl, inr, ⊎_elim, ℕ, ◌<◌, ◌≤◌, ◌^◌, Bool, true, false, cond, ◌&&◌, List, [], ◌∷◌, ◌++◌, length, drop, refl, arith, ap, sym, subst, ◌∙◌, Option, Some, None, append_assoc, append-nil, nat_eq}
+use Rattle.std.proofs.Common.{◌≡◌, ◌⊎◌, inl, inr, ⊎_elim, ℕ, ◌<◌, ◌≤◌, ◌^◌, Bool, true, false, cond, ◌&&◌, List, [], ◌∷◌, ◌++◌, length, drop, refl}
+use Rattle.std.proofs.Common.{arith, ap, sym, subst, ◌∙◌, Option, Some, None, append_assoc, append-nil, nat_eq}
 use Rattle.std.specs.Prelude.{codes, decimal, nat_le, nat_lt}
 use Rattle.std.specs.List.{AllByRecursion, flat_map, starts_with}
 use Rattle.std.specs.Option.{option_map, option_and_then}
@@ -15,7 +16,8 @@ use Rattle.bs_words.specs.declared.line.Mode.{Mode}
 use Rattle.bs_words.specs.declared.line.Mode.TheVariants.{Plain, Wants, Names}
 use Rattle.bs_words.specs.Options.{number_between, greatest, value_in, has_dash, is_option, kind_of, rest_of}
 use Rattle.bs_words.specs.Line.{Line, once, set_to, set_if, set_by, add_to, State, in_mode, option_step, plain_step, step, finish, read_all}
-use Rattle.bs_words.specs.Spelling.{name_of, Piece, Word, Apart, Joined, spelling, IsBudget, IsPiece, positions_of, options_of, given, values_if, values_of, listed}
+use Rattle.bs_words.specs.Spelling.{name_of, Piece, Word, Apart, Joined, spelling, IsBudget, IsPiece, positions_of, options_of, given, values_if}
+use Rattle.bs_words.specs.Spelling.{values_of, listed}
 
 -- ---- numbers
 

@@ -17,7 +17,7 @@ pub record RunJob : Type 0 where
   pub candidates : ℕ
   pub conflicts : ℕ
 
--- the files of `audit`
+-- the files of `audit` and `wave`
 pub record AuditJob : Type 0 where
   pub netlist : List ℕ
   pub signature : List ℕ
@@ -38,6 +38,7 @@ pub data Job : Type 0 where
   Audit : AuditJob → Job
   Dump : DumpJob → Job
   Demo : ℕ → Job
+  Wave : AuditJob → Job
 
 -- `run` has four file names, and a budget that is not given has its default
 abbrev pub run_at : Line → List (List ℕ) → Option Job
@@ -87,6 +88,15 @@ demo_at _ = None
 abbrev pub demo_job : Line → Option Job
 demo_job line = demo_at line.positions
 
+-- `wave` has the five file names of `audit`
+abbrev pub wave_at : List (List ℕ) → Option Job
+wave_at (netlist ∷ signature ∷ stimulus ∷ dump ∷ report ∷ []) =
+    Some (Wave record { netlist = netlist; signature = signature; stimulus = stimulus; dump = dump; report = report })
+wave_at _ = None
+
+abbrev pub wave_job : Line → Option Job
+wave_job line = wave_at line.positions
+
 -- the job of a command and what stands behind it
 abbrev pub command_job : List ℕ → Line → Option Job
 command_job command line =
@@ -94,7 +104,8 @@ command_job command line =
     else (if bytes_eq command (codes "audit") then audit_job line
     else (if bytes_eq command (codes "dump") then dump_job line
     else (if bytes_eq command (codes "demo") then demo_job line
-    else None)))
+    else (if bytes_eq command (codes "wave") then wave_job line
+    else None))))
 
 -- the job that words are: the first is the command, and options belong to `run` alone
 abbrev pub job_of : List (List ℕ) → Option Job

@@ -8,7 +8,7 @@ use Rattle.bs_words.specs.declared.options.Kind.{Kind}
 use Rattle.bs_words.specs.declared.options.Kind.TheVariants.{Steps, Candidates, Conflicts}
 use Rattle.bs_words.specs.Options.{greatest, is_option}
 use Rattle.bs_words.specs.Line.{Line}
-use Rattle.bs_words.specs.Job.{RunJob, AuditJob, DumpJob, Job, Run, Audit, Dump, Demo, job_of}
+use Rattle.bs_words.specs.Job.{RunJob, AuditJob, DumpJob, Job, Run, Audit, Dump, Demo, Wave, job_of}
 
 -- ---- pieces
 
@@ -103,7 +103,7 @@ pub record IsRun (words : List (List ℕ)) (job : RunJob) : Type 0 where
   pub candidates : job.candidates ≡ unwrap_or line.candidates DEFAULT_CANDIDATES
   pub conflicts : job.conflicts ≡ unwrap_or line.conflicts DEFAULT_CONFLICTS
 
--- `audit`: five file names
+-- `audit` and `wave`: five file names
 abbrev pub IsAudit : List (List ℕ) → AuditJob → Type 0
 IsAudit words job = IsLine words (plain (job.netlist ∷ job.signature ∷ job.stimulus ∷ job.dump ∷ job.report ∷ []))
 
@@ -124,6 +124,7 @@ IsJob words (Run job) = (rest : List (List ℕ)) × (words ≡ codes "run" ∷ r
 IsJob words (Audit job) = (rest : List (List ℕ)) × (words ≡ codes "audit" ∷ rest) × IsAudit rest job
 IsJob words (Dump job) = (rest : List (List ℕ)) × (words ≡ codes "dump" ∷ rest) × IsDump rest job
 IsJob words (Demo number) = (rest : List (List ℕ)) × (words ≡ codes "demo" ∷ rest) × IsDemo rest number
+IsJob words (Wave job) = (rest : List (List ℕ)) × (words ≡ codes "wave" ∷ rest) × IsAudit rest job
 
 -- the words spell no job
 pub record IsNoJob (words : List (List ℕ)) : Type 0 where

@@ -1,6 +1,6 @@
 //! The job that words are: a command, its files and its numbers.
 ghost use Rattle.std.specs.Prelude.{◌≡◌, map, string_bytes, IfOk, MatchOption};
-ghost use Rattle.bs_words.specs.Job.{audit_job, command_job, demo_job, dump_job, job_of, run_job};
+ghost use Rattle.bs_words.specs.Job.{audit_job, command_job, demo_job, dump_job, job_of, run_job, wave_job};
 ghost use Rattle.bs_words.specs.Shown.{line_in, shown_job};
 ghost use Rattle.bs_words.specs.Spelling.{IsJob, IsNoJob};
 
@@ -22,7 +22,7 @@ pub struct RunJob<'a> {
     pub conflicts: u64,
 }
 
-/// `audit`: the names of its files.
+/// `audit` and `wave`: the names of their files.
 #[derive(Clone, Copy)]
 pub struct AuditJob<'a> {
     pub netlist: &'a str,
@@ -50,6 +50,7 @@ pub enum Job<'a> {
     Dump(DumpJob<'a>),
     /// `demo`, with its number.
     Demo(u64),
+    Wave(AuditJob<'a>),
 }
 
 /// The run of four file names and the budgets that are given.
@@ -123,6 +124,22 @@ fn demo_job<'a>(line: &Line<'a>) -> Option<Job<'a>>
     }
 }
 
+/// The wave of five file names.
+fn wave_job<'a>(line: &Line<'a>) -> Option<Job<'a>>
+    ensures { shown_job result ≡ wave_job (line_in line.now) }
+{
+    match line.positions.as_slice() {
+        [netlist, signature, stimulus, dump, report] => Some(Job::Wave(AuditJob {
+            netlist,
+            signature,
+            stimulus,
+            dump,
+            report,
+        })),
+        _ => None,
+    }
+}
+
 /// The job that words are, if they are one.
 fn job_of_words(alloc: Global, words: &[String]) -> Result<Option<Job<'_>>, AllocError>
     ensures { IfOk result (λ job. shown_job job ≡ job_of (map string_bytes words.now)) }
@@ -163,6 +180,9 @@ fn job_in<'a>(command: &str, line: &Line<'a>) -> Option<Job<'a>>
     }
     if command == "demo" {
         return demo_job(line);
+    }
+    if command == "wave" {
+        return wave_job(line);
     }
     None
 }

@@ -12,3 +12,4 @@ pub use law::spelled_jobs_are_read;
 pub use limits::{
     DEFAULT_CANDIDATES, DEFAULT_CONFLICTS, DEFAULT_STEPS, MAX_CANDIDATES, MAX_CONFLICTS, MAX_STEPS,
 };
+pub use options::{has_dash, is_option, number_between, rest_of};

@@ -5,7 +5,8 @@ use Rattle.bs_arena.specs.Words.{size}
 use Rattle.bs_arena.specs.Arena.{stored_in, clauses_of, live_in}
 use Rattle.bs_arena.proofs.Spellings.{live_word, read_back}
 use Rattle.bs_arena.proofs.Lookups.{renaming_of}
-use Rattle.bs_arena.proofs.Compactions.{kept, Compacting, Next, begins, next, skips, moves, ends, Ended, refs_are, names_left, spelled_by, order, same_far, listed_number}
+use Rattle.bs_arena.proofs.Compactions.{kept, Compacting, Next, begins, next, skips, moves, ends, Ended, refs_are, names_left, spelled_by, order}
+use Rattle.bs_arena.proofs.Compactions.{same_far, listed_number}
 use Rattle.bs_arena.proofs.compaction.move_together.Goals.{then-is_live_at, else-is_live_at}
 use Rattle.bs_arena.proofs.compaction.move_together.Goals as goal
 

@@ -3,13 +3,14 @@ use Rattle.bs_scan.specs.Moments.{run_of}
 use Rattle.bs_scan.specs.Register.{Register}
 use Rattle.bs_scan.proofs.SignatureLemmas.{length_state}
 use Rattle.bs_chip.specs.Replay.{Played, in_state}
-use Rattle.bs_chip.proofs.ReplayLemmas.{state_first, register_more}
+use Rattle.bs_chip.proofs.ReplayLemmas.{state_first}
 use Rattle.bs_chip.proofs.moments.replay.Goals as goal
 
 pub cycles-init : goal.cycles-init
 cycles-init c =
     record {
-      player = c.reset.ensures ∙ ap (in_state c.args.player.now) (sym (state_first c.args.player.now.circuit (run_of c.args.player.now.runs c.args.moment.run)));
+      player = c.reset.ensures ∙ ap (in_state c.args.player.now)
+          (sym (state_first c.args.player.now.circuit (run_of c.args.player.now.runs c.args.moment.run)));
       register = c.clear.ensures;
     }
 

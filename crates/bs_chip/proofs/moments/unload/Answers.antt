@@ -5,7 +5,8 @@ use Rattle.bs_chip.proofs.moments.unload.Goals as goal
 pub shifts-preserved : goal.shifts-preserved
 shifts-preserved c =
     rw c.in_ok-push.ensures.ok
-    (unload_more c.args.state c.shifts.bits c.shifts.chain c.shift.new.self c.shifts.counter c.shift.result false c.shifts.invariant c.shift.ensures.shifted c.shift.ensures.same_length)
+    (unload_more c.args.state c.shifts.bits c.shifts.chain c.shift.new.self c.shifts.counter c.shift.result false c.shifts.invariant
+    c.shift.ensures.shifted c.shift.ensures.same_length)
 
 pub returns : goal.returns
 returns c =

@@ -2,7 +2,8 @@ use Rattle.std.proofs.Common.{◌≡◌, ◌∙◌, ℕ, List, ◌++◌, ap}
 use Rattle.std.specs.List.{flat_map, range_with_len}
 use Rattle.bs_clause.specs.Literal.{Clause}
 use Rattle.bs_net.specs.Netlist.{circuit}
-use Rattle.bs_encode.specs.Transition.{first_helper, first_next, first_item, state_vars, gates_clauses, unit_clauses, next_clauses, items_clauses, cycle_clauses}
+use Rattle.bs_encode.specs.Transition.{first_helper, first_next, first_item, state_vars, gates_clauses, unit_clauses, next_clauses, items_clauses}
+use Rattle.bs_encode.specs.Transition.{cycle_clauses}
 use Rattle.bs_encode.proofs.UnitLemmas.{part_joined}
 use Rattle.bs_encode.proofs.encoding.lay.Goals as goal
 
@@ -17,4 +18,5 @@ returns-clause-clauses c =
     (c.in_ok-end.ensures.clauses
     ∙ (ap (λ (l : List Clause). l ++ items_clauses c.args.states.now c.in_ok-laid.laid.end c.args.choice.now.items) c.in_ok-laid.ensures.clauses
     ∙ (ap (λ n. cycle_clauses (circuit c.args.net.now) ++ items_clauses c.args.states.now n c.args.choice.now.items) c.in_ok-laid.ensures.end
-    ∙ ap (λ (vs : List ℕ). cycle_clauses (circuit c.args.net.now) ++ items_clauses vs (first_item (circuit c.args.net.now)) c.args.choice.now.items) c.requires.states)))
+    ∙ ap (λ (vs : List ℕ). cycle_clauses (circuit c.args.net.now) ++
+    items_clauses vs (first_item (circuit c.args.net.now)) c.args.choice.now.items) c.requires.states)))

@@ -12,7 +12,9 @@ loop-j-init c = record {
 
 pub loop-j-preserved : goal.loop-j-preserved
 loop-j-preserved c = record {
-  draws = after_more (3 * c.loop-j.j) 3 (3 * (c.loop-j.j + 1)) c.args.draws.now c.loop-j.draws c.push_drawn_gate.new.draws c.loop-j.invariant.draws c.in_ok-push_drawn_gate.ensures.draws (omega arith);
+  draws = after_more (3 * c.loop-j.j) 3 (3 *
+      (c.loop-j.j + 1)) c.args.draws.now c.loop-j.draws c.push_drawn_gate.new.draws c.loop-j.invariant.draws c.in_ok-push_drawn_gate.ensures.draws
+      (omega arith);
   text =
       drawn_step drawn_line (λ j. 3 * j) c.loop-j.j c.args.draws.now c.loop-j.draws c.args.text.now.items c.loop-j.text.items c.push_drawn_gate.new.text.items
       c.loop-j.invariant.text c.loop-j.invariant.draws c.in_ok-push_drawn_gate.ensures.text;

@@ -15,8 +15,10 @@ bits-init c = record {
 
 pub bits-preserved : goal.bits-preserved
 bits-preserved c = record {
-  draws = after_more c.bits.counter 1 (c.bits.counter + 1) c.args.draws.now c.bits.draws c.push_bit.new.draws c.bits.invariant.draws c.in_ok-push_bit.ensures.draws (omega arith);
+  draws = after_more c.bits.counter 1
+      (c.bits.counter + 1) c.args.draws.now c.bits.draws c.push_bit.new.draws c.bits.invariant.draws c.in_ok-push_bit.ensures.draws (omega arith);
   text =
-      drawn_step (λ (d : Lcg) (i : ℕ). decimal (pick d 2)) (λ i. i) c.bits.counter c.args.draws.now c.bits.draws c.args.text.now.items c.bits.text.items c.push_bit.new.text.items
+      drawn_step (λ (d : Lcg) (i : ℕ). decimal (pick d 2))
+      (λ i. i) c.bits.counter c.args.draws.now c.bits.draws c.args.text.now.items c.bits.text.items c.push_bit.new.text.items
       c.bits.invariant.text c.bits.invariant.draws c.in_ok-push_bit.ensures.text;
 }

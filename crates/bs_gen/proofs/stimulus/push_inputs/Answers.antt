@@ -13,8 +13,11 @@ cycles-init c = record {
 
 pub cycles-preserved : goal.cycles-preserved
 cycles-preserved c = record {
-  draws = after_more (5 * c.cycles.counter) 5 (5 * (c.cycles.counter + 1)) c.args.draws.now c.cycles.draws c.push_input.new.draws c.cycles.invariant.draws c.in_ok-push_input.ensures.draws (omega arith);
+  draws = after_more (5 * c.cycles.counter) 5
+      (5 * (c.cycles.counter + 1)) c.args.draws.now c.cycles.draws c.push_input.new.draws c.cycles.invariant.draws c.in_ok-push_input.ensures.draws
+      (omega arith);
   text =
-      drawn_step (λ (d : Lcg) (i : ℕ). input_line d) (λ i. 5 * i) c.cycles.counter c.args.draws.now c.cycles.draws c.args.text.now.items c.cycles.text.items c.push_input.new.text.items
+      drawn_step (λ (d : Lcg) (i : ℕ). input_line d)
+      (λ i. 5 * i) c.cycles.counter c.args.draws.now c.cycles.draws c.args.text.now.items c.cycles.text.items c.push_input.new.text.items
       c.cycles.invariant.text c.cycles.invariant.draws c.in_ok-push_input.ensures.text;
 }

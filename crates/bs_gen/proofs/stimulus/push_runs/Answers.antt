@@ -13,8 +13,10 @@ loop-i-init c = record {
 
 pub loop-i-preserved : goal.loop-i-preserved
 loop-i-preserved c = record {
-  draws = after_more (1280 * c.loop-i.i) 1280 (1280 * (c.loop-i.i + 1)) c.args.draws.now c.loop-i.draws c.push_run.new.draws c.loop-i.invariant.draws c.in_ok-push_run.ensures.draws (omega arith);
+  draws = after_more (1280 * c.loop-i.i) 1280
+      (1280 * (c.loop-i.i + 1)) c.args.draws.now c.loop-i.draws c.push_run.new.draws c.loop-i.invariant.draws c.in_ok-push_run.ensures.draws (omega arith);
   text =
-      drawn_step (λ (d : Lcg) (i : ℕ). run_text d (i + 1)) (λ i. 1280 * i) c.loop-i.i c.args.draws.now c.loop-i.draws c.args.text.now.items c.loop-i.text.items c.push_run.new.text.items
+      drawn_step (λ (d : Lcg) (i : ℕ). run_text d (i + 1))
+      (λ i. 1280 * i) c.loop-i.i c.args.draws.now c.loop-i.draws c.args.text.now.items c.loop-i.text.items c.push_run.new.text.items
       c.loop-i.invariant.text c.loop-i.invariant.draws c.in_ok-push_run.ensures.text;
 }

@@ -1,5 +1,9 @@
-use Rattle.bs_lexeme.proofs.NamingLemmas.{AreNamed}
+use Rattle.std.proofs.Common.{◌-◌, length}
+use Rattle.bs_lexeme.proofs.NamingLemmas.{IsRead}
 use Rattle.bs_lexeme.proofs.naming.lexemes.Given as goal
 
 abbrev pub invariant-each : goal.invariant-each
-invariant-each l = AreNamed l.source l.tokens l.token-index l.table l.lexemes
+invariant-each l = IsRead l.source l.at l.table l.lexemes
+
+abbrev pub decreases-each : goal.decreases-each
+decreases-each l = length l.source - l.at

@@ -10,7 +10,7 @@ use Rattle.bs_loop.proofs.way.backtrace.Goals as goal
 
 pub returns : goal.returns
 returns c =
-    let chip = c.args.chip.now in
+    let chip = c.args.chip.now.recording in
     let dump = c.args.dump.now in
     let budgets = c.args.budgets.now in
     let state = c.walk.new.preimage in
@@ -41,7 +41,8 @@ returns c =
       valid = is_valid chip dump budgets state r (subst IsRecording way.chip c.is_recording.ensures) c.requires.dump of c.log_of-log.ensures.accepted;
       bound = has_bound (crash_of chip dump) budgets state r of;
       readable =
-          readable chip dump budgets state r (subst IsRecording way.chip c.is_recording.ensures) c.requires.budgets of c.log_of-log.ensures.texts c.log_of-log.ensures.few;
+          readable chip dump budgets state r
+          (subst IsRecording way.chip c.is_recording.ensures) c.requires.budgets of c.log_of-log.ensures.texts c.log_of-log.ensures.few;
       trace = one_state_more (crash_of chip dump) r good;
       lean = is_lean (crash_of chip dump) budgets state r of c.log_of-log.ensures.lean;
       chip = way.chip;

@@ -7,7 +7,7 @@ use Rattle.bs_loop.proofs.way.walk.Goals as goal
 pub returns-in-Some : goal.returns-in-Some
 returns-in-Some c =
     let made =
-    stopped c.args.chip.now c.args.dump.now c.args.budgets.now c.turns.steps c.turn.new.steps c.turns.preimage c.turn.new.preimage c.turns.now
+    stopped c.args.chip.now.recording c.args.dump.now c.args.budgets.now c.turns.steps c.turn.new.steps c.turns.preimage c.turn.new.preimage c.turns.now
     c.turns.counter c.in-Some.stop
     c.turns.invariant.way c.turns-test.true
     (subst (λ (k : Recording). HasStopped k c.args.budgets.now c.turns.steps c.turn.new.steps c.turns.preimage c.turn.new.preimage c.turns.now
@@ -20,7 +20,7 @@ turns-preserved c =
     record {
       chip = c.in_ok-stop.ensures.chip ∙ c.turns.invariant.chip;
       way =
-          stepped c.args.chip.now c.args.dump.now c.args.budgets.now c.turns.steps c.turn.new.steps c.turns.preimage c.turn.new.preimage c.turns.now
+          stepped c.args.chip.now.recording c.args.dump.now c.args.budgets.now c.turns.steps c.turn.new.steps c.turns.preimage c.turn.new.preimage c.turns.now
           c.turn.new.now c.turns.counter
           c.turns.invariant.way
           (subst (λ (k : Recording). HasStepped k c.args.budgets.now c.turns.steps c.turn.new.steps c.turns.preimage c.turn.new.preimage c.turns.now

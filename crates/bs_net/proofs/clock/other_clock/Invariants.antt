@@ -4,4 +4,5 @@ use Rattle.bs_net.specs.declared.net.Flop.{Flop}
 use Rattle.bs_net.proofs.clock.other_clock.Given as goal
 
 abbrev pub invariant-loop-flop : goal.invariant-loop-flop
-invariant-loop-flop l = find (λ (f : Flop). not (nat_eq f.ck.0 l.clock.0)) (drop l.flop-index l.flops) ≡ find (λ (f : Flop). not (nat_eq f.ck.0 l.clock.0)) l.flops
+invariant-loop-flop l = find (λ (f : Flop). not (nat_eq f.ck.0 l.clock.0)) (drop l.flop-index l.flops) ≡ find
+    (λ (f : Flop). not (nat_eq f.ck.0 l.clock.0)) l.flops

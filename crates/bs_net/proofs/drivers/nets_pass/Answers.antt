@@ -29,7 +29,8 @@ returns-in-Some-first_undriven-clause-err c =
     let drives : Drives (parts_of c.args.raw.now) c.as_slice-3.result.now = c.as_slice-3.ensures.value ∙ c.in_ok-drivers.ensures in (
       c.requires.few,
       none_shared (parts_of c.args.raw.now) c.as_slice.result.now before c.in_default.ensures.none,
-      lowest_undriven (parts_of c.args.raw.now) c.as_slice-2.result.now c.as_slice-3.result.now c.in-Some-first_undriven.n reads drives c.in-Some-first_undriven.ensures.found,
+      lowest_undriven (parts_of c.args.raw.now) c.as_slice-2.result.now c.as_slice-3.result.now c.in-Some-first_undriven.n reads drives
+          c.in-Some-first_undriven.ensures.found,
     )
 
 pub returns-clause-ok : goal.returns-clause-ok

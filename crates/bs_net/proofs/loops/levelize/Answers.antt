@@ -25,7 +25,8 @@ run-requires-clause-covers c =
     let same : c.as_slice.result.now ≡ filled (replicate c.args.nets None) 0 c.args.gates.now =
     c.as_slice.ensures.value ∙ (c.fill_table.ensures ∙ ap (λ (t : List (Option ℕ)). filled t 0 c.args.gates.now) c.in_ok-table.ensures) in
     let none : Option ℕ = None in
-    let size : length c.as_slice.result.now ≡ c.args.nets = ap (λ (t : List (Option ℕ)). length t) same ∙ (length-filled (replicate c.args.nets none) 0 c.args.gates.now ∙ length-replicate c.args.nets none) in
+    let size : length c.as_slice.result.now ≡ c.args.nets = ap (λ (t : List (Option ℕ)). length t) same ∙
+    (length-filled (replicate c.args.nets none) 0 c.args.gates.now ∙ length-replicate c.args.nets none) in
     let P : ℕ → Type 0 = λ m. All (λ g. All (λ n. n.0 < m) g.ins) c.args.gates.now in
     subst P (sym size) c.requires.ins
 
@@ -34,7 +35,8 @@ returns-in-None c =
     let same : c.as_slice.result.now ≡ filled (replicate c.args.nets None) 0 c.args.gates.now =
     c.as_slice.ensures.value ∙ (c.fill_table.ensures ∙ ap (λ (t : List (Option ℕ)). filled t 0 c.args.gates.now) c.in_ok-table.ensures) in
     let T : List (Option ℕ) → Type 0 = λ t. IsDriverTable c.args.gates.now t in
-    let drivers : IsDriverTable c.args.gates.now c.as_slice.result.now = subst T (sym same) (table_is c.args.gates.now c.args.nets c.requires.outs c.requires.single) in
+    let drivers : IsDriverTable c.args.gates.now c.as_slice.result.now =
+    subst T (sym same) (table_is c.args.gates.now c.args.nets c.requires.outs c.requires.single) in
     let D : Option ℕ → Type 0 = λ o. IfNone o (c.run.new.self.path ≡ []) in
     let A : Option ℕ → Type 0 = λ o. IfNone o ((g : ℕ) → g < length c.args.gates.now → is_in g c.run.new.self.listed ≡ true) in
     let none : c.run.new.self.path ≡ [] = subst D c.in-None.is c.in_ok-run.ensures.done in
@@ -50,6 +52,8 @@ returns c =
     let part : c.slice.result.now ≡ up_to c.in-Some.h c.run.new.self.path =
     c.slice.ensures ∙ (c.in_ok-part-in-Some.ensures ∙ ap (up_to c.in-Some.h) c.path.ensures) in
     let turned = c.in_ok-from_lowest-in-Some.ensures.rotated in
-    let rotated : c.in_ok-from_lowest-in-Some.field-0 ≡ drop turned.0 (up_to c.in-Some.h c.run.new.self.path) ++ take turned.0 (up_to c.in-Some.h c.run.new.self.path) =
+    let rotated : c.in_ok-from_lowest-in-Some.field-0 ≡ drop turned.0 (up_to c.in-Some.h c.run.new.self.path) ++
+    take turned.0 (up_to c.in-Some.h c.run.new.self.path) =
     turned.1 ∙ ap (λ (l : List ℕ). drop turned.0 l ++ take turned.0 l) part in
-    loop_found c.args.gates.now c.as_slice.result.now c.run.new.self c.in-Some.h turned.0 c.in_ok-from_lowest-in-Some.field-0 c.in_ok-run.ensures.search closes rotated c.in_ok-from_lowest-in-Some.ensures.least_first
+    loop_found c.args.gates.now c.as_slice.result.now c.run.new.self c.in-Some.h turned.0 c.in_ok-from_lowest-in-Some.field-0
+    c.in_ok-run.ensures.search closes rotated c.in_ok-from_lowest-in-Some.ensures.least_first

@@ -12,7 +12,8 @@ use Rattle.bs_net.proofs.tallies.driver_tallies.Goals as goal
 pub returns : goal.returns
 returns c =
     let r = (parts_of c.args.raw.now) in
-    four_tallied c.in_ok-table.table.items c.count_nets.new.table.items c.count_states.new.table.items c.count_constants.new.table.items c.count_outputs.new.table.items r.inputs (map (λ (f : Flop). f.q) r.flops) (map (λ (k : Const). k.net) r.consts) (map (λ (g : Gate). g.out) r.gates)
+    four_tallied c.in_ok-table.table.items c.count_nets.new.table.items c.count_states.new.table.items c.count_constants.new.table.items
+    c.count_outputs.new.table.items r.inputs (map (λ (f : Flop). f.q) r.flops) (map (λ (k : Const). k.net) r.consts) (map (λ (g : Gate). g.out) r.gates)
     (c.count_nets.ensures.counts ∙ ap (tallied c.in_ok-table.table.items) c.slice.ensures)
     (c.count_states.ensures.counts
     ∙ ap (λ fs. tallied c.count_nets.new.table.items (map (λ (f : Flop). f.q) fs)) c.slice-2.ensures)

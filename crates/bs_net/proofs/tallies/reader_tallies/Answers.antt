@@ -12,7 +12,8 @@ use Rattle.bs_net.proofs.tallies.reader_tallies.Goals as goal
 pub returns : goal.returns
 returns c =
     let r = (parts_of c.args.raw.now) in
-    four_tallied c.in_ok-table.table.items c.count_inputs.new.table.items c.count_loads.new.table.items c.count_clocks.new.table.items c.count_nets.new.table.items (flat_map (λ (g : Gate). g.ins) r.gates) (map (λ (f : Flop). f.d) r.flops) (map (λ (f : Flop). f.ck) r.flops) r.outputs
+    four_tallied c.in_ok-table.table.items c.count_inputs.new.table.items c.count_loads.new.table.items c.count_clocks.new.table.items
+    c.count_nets.new.table.items (flat_map (λ (g : Gate). g.ins) r.gates) (map (λ (f : Flop). f.d) r.flops) (map (λ (f : Flop). f.ck) r.flops) r.outputs
     (c.count_inputs.ensures.counts
     ∙ ap (λ gs. tallied c.in_ok-table.table.items (flat_map (λ (g : Gate). g.ins) gs)) c.slice.ensures)
     (c.count_loads.ensures.counts

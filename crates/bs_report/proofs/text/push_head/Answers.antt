@@ -8,7 +8,8 @@ use Rattle.bs_report.proofs.text.push_head.Goals as goal
 pub returns : goal.returns
 unfolding head_text
 returns c =
-    four_ok c.push_stop.result c.args.text.now.items c.push_line.new.text.items c.push_budgets.new.text.items c.push_steps.new.text.items c.push_stop.new.text.items
+    four_ok c.push_stop.result c.args.text.now.items c.push_line.new.text.items c.push_budgets.new.text.items c.push_steps.new.text.items
+    c.push_stop.new.text.items
     (line (codes "backspace 1")) (budgets_text c.args.report.now.budgets) (steps_text 1 c.args.report.now.steps)
     (line (codes "stop " ++ stop_word c.args.report.now.stop))
     c.in_ok-push_line.ensures.ok c.in_ok-push_budgets.ensures

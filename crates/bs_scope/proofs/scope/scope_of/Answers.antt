@@ -2,7 +2,8 @@ use Rattle.std.proofs.Common.{◌∙◌, sym, ap, inr, get_or, None, Some, refl}
 use Rattle.bs_syntax.specs.declared.tree.Declared.{Declared}
 use Rattle.bs_syntax.specs.declared.fault.VerilogFault.TheVariants.{Redeclared}
 use Rattle.bs_scope.specs.Declaring.{is_redeclared, fault, clashes, together}
-use Rattle.bs_scope.proofs.TableLemmas.{scope_start, scope_start_bounded, ok_of, said_more, scope_bounded, entry_read, first_here, first_later, first_none, all_said}
+use Rattle.bs_scope.proofs.TableLemmas.{scope_start, scope_start_bounded, ok_of, said_more, scope_bounded, entry_read, first_here, first_later}
+use Rattle.bs_scope.proofs.TableLemmas.{first_none, all_said}
 use Rattle.bs_scope.proofs.scope.scope_of.Goals as goal
 
 abbrev nothing : Declared

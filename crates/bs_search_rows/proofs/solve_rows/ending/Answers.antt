@@ -1,9 +1,9 @@
 use Rattle.std.proofs.Common.{◌≡◌, ap, sym, ◌∙◌, inl}
 use Rattle.std.proofs.lemmas.Bool.{true≢false}
-use Rattle.bs_solve.specs.declared.stage.Stage.{Stage}
-use Rattle.bs_solve.specs.declared.stage.Stage.TheVariants.{Begun}
-use Rattle.bs_solve.specs.Stages.{is_begun}
-use Rattle.bs_solve.specs.Solver.{SolverState}
+use Rattle.bs_book.specs.declared.stage.Stage.{Stage}
+use Rattle.bs_book.specs.declared.stage.Stage.TheVariants.{Begun}
+use Rattle.bs_book.specs.Stages.{is_begun}
+use Rattle.bs_book.specs.Solver.{SolverState}
 use Rattle.bs_search_rows.proofs.solve_rows.ending.Goals as goal
 
 pub solve-requires-clause-stage : goal.solve-requires-clause-stage

@@ -8,7 +8,8 @@ attach-requires-clause-serves c = serves_more c.args.watch.now c.args.arena.now.
 
 pub attach-requires-clause-watchable : goal.attach-requires-clause-watchable
 attach-requires-clause-watchable c =
-    watchable_found c.args.watch.now.trail.vars c.add.new.self.clauses c.in_ok-r.r (record { ref = c.in_ok-r.r; id = 1; literals = c.args.lits.now }) c.in_ok-r.ensures.found c.requires.watchable
+    watchable_found c.args.watch.now.trail.vars c.add.new.self.clauses c.in_ok-r.r
+    (record { ref = c.in_ok-r.r; id = 1; literals = c.args.lits.now }) c.in_ok-r.ensures.found c.requires.watchable
 
 pub attach-requires-clause-fresh : goal.attach-requires-clause-fresh
 attach-requires-clause-fresh c = not_attached c.args.watch.now c.args.arena.now.clauses c.in_ok-r.r c.requires.serves c.in_ok-r.ensures.fresh
@@ -21,5 +22,6 @@ returns c =
     record {
       serves =
           attached_serves c.args.watch.now c.attach.new.self c.add.new.self.clauses c.in_ok-r.r c.attach.result
-          (serves_more c.args.watch.now c.args.arena.now.clauses c.add.new.self.clauses c.requires.serves c.in_ok-r.ensures.keeps) c.attach.ensures.ok c.attach.ensures.err;
+          (serves_more c.args.watch.now c.args.arena.now.clauses c.add.new.self.clauses c.requires.serves c.in_ok-r.ensures.keeps) c.attach.ensures.ok
+          c.attach.ensures.err;
     }

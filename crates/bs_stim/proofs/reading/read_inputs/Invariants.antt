@@ -7,7 +7,8 @@ use Rattle.bs_stim.proofs.reading.read_inputs.Given as goal
 
 abbrev pub invariant-inputs : goal.invariant-inputs
 invariant-inputs l = record {
-  whole : inputs_from l.width l.number l.cycles (lines_of l.text) ≡ with_inputs l.inputs.rows (inputs_from l.width (l.number + l.done) (l.cycles - l.done) (lines_of l.rest));
+  whole : inputs_from l.width l.number l.cycles (lines_of l.text) ≡ with_inputs l.inputs.rows
+      (inputs_from l.width (l.number + l.done) (l.cycles - l.done) (lines_of l.rest));
   count : length l.inputs.rows ≡ l.done;
   widths : All (λ input. length input ≡ l.width) l.inputs.rows;
   width : l.inputs.width ≡ l.width;

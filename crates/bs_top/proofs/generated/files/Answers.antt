@@ -10,5 +10,10 @@ returns c =
       third = c.in_ok-stimulus.stimulus;
       is = grind (arith, common_steps);
       names = (c.in_ok-netlist.ensures.name, c.in_ok-signature.ensures.name, c.in_ok-stimulus.ensures.name);
-      texts = (c.in_ok-netlist.ensures.text ∙ c.slice.ensures, c.in_ok-signature.ensures.text ∙ c.slice-2.ensures, c.in_ok-stimulus.ensures.text ∙ c.slice-3.ensures);
+      texts = (
+        c.in_ok-netlist.ensures.text ∙ c.slice.ensures,
+        c.in_ok-signature.ensures.text ∙ c.slice-2.ensures,
+        c.in_ok-stimulus.ensures.text ∙
+            c.slice-3.ensures,
+      );
     }

@@ -13,7 +13,8 @@ pub report_of-requires : goal.report_of-requires
 report_of-requires c =
     let placed = placed_in c.args.placed.now in
     record {
-      dump = subst (DumpFits (circuit_of placed.setup.raw) placed.setup.choice) (sym c.in_ok-dump.ensures) (dump_at_fits (recording_in placed.setup) placed.moment);
+      dump = subst (DumpFits (circuit_of placed.setup.raw) placed.setup.choice) (sym c.in_ok-dump.ensures)
+          (dump_at_fits (recording_in placed.setup) placed.moment);
       budgets = demo_budget;
     }
 
@@ -30,7 +31,8 @@ returns c =
     let placed = placed_in c.args.placed.now in
     record {
       report = c.in_ok-report.report;
-      backtrace = subst (λ (d : Dump). IsBacktrace (crash_of (recording_in placed.setup) d) demo_budgets c.in_ok-report.report) c.in_ok-dump.ensures c.in_ok-report.ensures.backtrace;
+      backtrace = subst (λ (d : Dump). IsBacktrace
+          (crash_of (recording_in placed.setup) d) demo_budgets c.in_ok-report.report) c.in_ok-dump.ensures c.in_ok-report.ensures.backtrace;
       written = search rules;
       answered = refl;
     }

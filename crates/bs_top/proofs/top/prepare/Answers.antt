@@ -9,23 +9,34 @@ use Rattle.bs_top.proofs.top.prepare.Goals as goal
 
 pub run-requires : goal.run-requires
 run-requires g c =
-    budget_is (map string_bytes c.args.words.now) _ (sym (sym c.in_ok-job.ensures.read ∙ (ap shown_job c.in-Some-Run.is ∙ ap (λ j. Some (job_in j)) c.in-Some-Run.field-0-is)))
+    budget_is (map string_bytes c.args.words.now) _
+    (sym (sym c.in_ok-job.ensures.read ∙ (ap shown_job c.in-Some-Run.is ∙ ap (λ j. Some (job_in j)) c.in-Some-Run.field-0-is)))
 
 pub returns-in_err-job : goal.returns-in_err-job
 returns-in_err-job g c = prepared_short _ _ c.from_residual.ensures.0
 
 pub returns-in-Some-Run : goal.returns-in-Some-Run
 returns-in-Some-Run g c =
-    prepared_for _ (job_of (map string_bytes c.args.words.now)) (sym (sym c.in_ok-job.ensures.read ∙ (ap shown_job c.in-Some-Run.is ∙ ap (λ j. Some (job_in j)) c.in-Some-Run.field-0-is))) c.run.ensures
+    prepared_for _ (job_of (map string_bytes c.args.words.now))
+    (sym (sym c.in_ok-job.ensures.read ∙ (ap shown_job c.in-Some-Run.is ∙ ap (λ j. Some (job_in j)) c.in-Some-Run.field-0-is))) c.run.ensures
 
 pub returns-in-Some-Audit : goal.returns-in-Some-Audit
 returns-in-Some-Audit g c =
-    prepared_for _ (job_of (map string_bytes c.args.words.now)) (sym (sym c.in_ok-job.ensures.read ∙ (ap shown_job c.in-Some-Audit.is ∙ ap (λ j. Some (job_in j)) c.in-Some-Audit.field-0-is))) c.audit.ensures
+    prepared_for _ (job_of (map string_bytes c.args.words.now))
+    (sym (sym c.in_ok-job.ensures.read ∙ (ap shown_job c.in-Some-Audit.is ∙ ap (λ j. Some (job_in j)) c.in-Some-Audit.field-0-is))) c.audit.ensures
 
 pub returns-in-Some-Demo : goal.returns-in-Some-Demo
 returns-in-Some-Demo g c =
-    prepared_for _ (job_of (map string_bytes c.args.words.now)) (sym (sym c.in_ok-job.ensures.read ∙ (ap shown_job c.in-Some-Demo.is ∙ ap (λ j. Some (job_in j)) c.in-Some-Demo.field-0-is))) (prepares_alone _ c.demo.ensures)
+    prepared_for _ (job_of (map string_bytes c.args.words.now))
+    (sym (sym c.in_ok-job.ensures.read ∙ (ap shown_job c.in-Some-Demo.is ∙ ap (λ j. Some (job_in j)) c.in-Some-Demo.field-0-is)))
+    (prepares_alone _ c.demo.ensures)
 
 pub returns-in-Some-Dump : goal.returns-in-Some-Dump
 returns-in-Some-Dump g c =
-    prepared_for _ (job_of (map string_bytes c.args.words.now)) (sym (sym c.in_ok-job.ensures.read ∙ (ap shown_job c.in-Some-Dump.is ∙ ap (λ j. Some (job_in j)) c.in-Some-Dump.field-0-is))) c.dump.ensures
+    prepared_for _ (job_of (map string_bytes c.args.words.now))
+    (sym (sym c.in_ok-job.ensures.read ∙ (ap shown_job c.in-Some-Dump.is ∙ ap (λ j. Some (job_in j)) c.in-Some-Dump.field-0-is))) c.dump.ensures
+
+pub returns-in-Some-Wave : goal.returns-in-Some-Wave
+returns-in-Some-Wave g c =
+    prepared_for _ (job_of (map string_bytes c.args.words.now))
+    (sym (sym c.in_ok-job.ensures.read ∙ (ap shown_job c.in-Some-Wave.is ∙ ap (λ j. Some (job_in j)) c.in-Some-Wave.field-0-is))) c.wave.ensures

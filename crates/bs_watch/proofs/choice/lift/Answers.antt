@@ -2,8 +2,10 @@ use Rattle.std.proofs.Common.{◌≡◌, map, length, ap, sym, subst, ◌∙◌}
 use Rattle.std.proofs.lemmas.List.{length-map}
 use Rattle.bs_clause.specs.Literal.{code_of}
 use Rattle.bs_clause.specs.Range.{HasVariables}
-use Rattle.bs_arena.specs.Arena.{literal_of, literals_at}
+use Rattle.std.specs.Prelude.{option_map}
+use Rattle.bs_arena.specs.Arena.{Held, held_at, literal_of, literals_at}
 use Rattle.bs_watch.specs.Choice.{IsHighestOf}
+use Rattle.bs_watch.proofs.Choices.{id_swapped}
 use Rattle.bs_watch.proofs.Codes.{literals_back}
 use Rattle.bs_watch.proofs.Steps.{literals_swapped}
 use Rattle.bs_watch.proofs.choice.lift.Goals as goal
@@ -27,3 +29,8 @@ returns-clause-lifted c =
       exchanged = literals_swapped c.args.arena.now.clauses c.swap.new.self.clauses c.args.r c.args.to c.highest-best.result
           (record { clauses = c.swap.ensures.clauses; found = c.swap.ensures.found; others = c.swap.ensures.others }) c.requires.live;
     }
+
+pub returns-clause-id : goal.returns-clause-id
+returns-clause-id c =
+    ap (option_map (λ (h : Held). h.id)) c.swap.ensures.found ∙
+    id_swapped c.args.to c.highest-best.result (held_at c.args.arena.now.clauses c.args.r)

@@ -99,7 +99,11 @@ assign-requires c =
     ap (map literal_of) c.lits.ensures.literals ∙ literals_back (literals_at c.args.arena.now.clauses c.get-watcher.result.clause) in
     let forces : Forces (literals_of c.args.trail.now.places) (literals_at c.args.arena.now.clauses c.get-watcher.result.clause) c.in-Unit.literal =
     subst (λ d. Forces (literals_of c.args.trail.now.places) d c.in-Unit.literal) back c.in-Unit.ensures in
-    record { in_range = in_range c.args.trail.now.vars (literals_at c.args.arena.now.clauses c.get-watcher.result.clause) c.in-Unit.literal w.watchable.range forces.stands; unassigned = forces.unassigned }
+    record {
+      in_range = in_range c.args.trail.now.vars
+          (literals_at c.args.arena.now.clauses c.get-watcher.result.clause) c.in-Unit.literal w.watchable.range forces.stands;
+      unassigned = forces.unassigned;
+    }
 
 pub returns-in-True-clause-advances : goal.returns-in-True-clause-advances
 returns-in-True-clause-advances c =

@@ -1,13 +1,8 @@
-use Rattle.std.proofs.Common.{◌≡◌, ◌∙◌, get_or, ap, sym, [], Bool, List}
-use Rattle.bs_net.specs.Circuit.{next}
-use Rattle.bs_net.specs.Netlist.{circuit}
-use Rattle.bs_scan.specs.Moments.{moment, run_of, state_of}
-use Rattle.bs_scan.proofs.CrashLemmas.{run_inputs}
-use Rattle.bs_chip.specs.Replay.{Played}
 use Rattle.bs_chip.proofs.ReplayLemmas.{played_more}
 use Rattle.bs_chip.proofs.player.Player.step.Goals as goal
 
 pub returns : goal.returns
 returns c =
-    played_more c.args.self.now c.self.inside.net.now c.self.inside.runs.now c.self.inside.sim.state c.step.new.self.state c.fill.new.into c.args.run c.args.cycle
+    played_more c.args.self.now c.self.inside.net.now c.self.inside.runs.now c.self.inside.sim.state c.step.new.self.state c.fill.new.into c.args.run
+    c.args.cycle
     c.self.view_is c.requires.state (rw c.self.invariant.0 at c.step.ensures.state) c.fill.ensures.value

@@ -1,4 +1,4 @@
-use Rattle.std.proofs.Common.{sym, subst, arith}
+use Rattle.std.proofs.Common.{sym, subst, ◌∙◌, arith}
 use Rattle.std.proofs.lemmas.List.Sorted.{IsPermutation-trans}
 use Rattle.bs_arena.specs.Arena.{literals_at}
 use Rattle.bs_watch.specs.Scene.{IsWatchable}
@@ -45,3 +45,6 @@ returns-clause-highest c =
 
 pub returns-clause-room : goal.returns-clause-room
 returns-clause-room c = room_trans c.args.arena.now c.lift.new.arena c.lift-2.new.arena c.lift.ensures.room c.lift-2.ensures.room
+
+pub returns-clause-id : goal.returns-clause-id
+returns-clause-id c = c.lift-2.ensures.id ∙ c.lift.ensures.id

@@ -1,0 +1,16 @@
+pub mod Place
+pub mod Places
+pub mod Grown
+pub mod Walk
+pub mod Point
+pub mod Learning
+pub mod Ids
+pub mod Book
+pub mod Search
+pub mod Values
+pub mod Ending
+pub mod Turn
+pub mod Stages
+pub mod Solver
+pub mod Bound
+pub mod Laws

@@ -1,0 +1,24 @@
+use Rattle.std.proofs.Common.{◌∙◌, ◌≡◌, ap, sym, subst}
+use Rattle.bs_scan.specs.Crash.{Recording, IsRecording, recording_of}
+use Rattle.bs_scan.specs.Register.{Register}
+use Rattle.bs_scan.proofs.CrashLemmas.{recording_is}
+use Rattle.bs_chip.specs.Lockstep.{Passing}
+use Rattle.bs_chip.specs.Replay.{Played}
+use Rattle.bs_chip.proofs.TrackLemmas.{new_chip}
+use Rattle.bs_chip.proofs.replay.Chip.with_bound.Goals as goal
+
+pub invariant_of-result : goal.invariant_of-result
+invariant_of-result c =
+    let net = c.args.net.now in
+    let p = c.in_ok-player.player in
+    let made : Recording = recording_of net.raw c.args.choice.now c.args.runs.now in
+    let here : Recording = record { circuit = p.circuit; choice = c.in_ok-register.register.choice; runs = p.runs } in
+    let circuits : p.circuit ≡ made.circuit = ap (λ (p : Played). p.circuit) c.in_ok-player.ensures in
+    let choices : here.choice ≡ made.choice = ap (λ (r : Register). r.choice) c.in_ok-register.ensures in
+    let runs : p.runs ≡ made.runs = ap (λ (p : Played). p.runs) c.in_ok-player.ensures in
+    let same : here ≡ made = (λ i. record { circuit = circuits i; choice = choices i; runs = runs i }) in
+    new_chip here c.in_ok-pass.pass c.planes.result.now c.in_ok-track.track
+    (subst IsRecording (sym same)
+    (recording_is net.raw c.args.choice.now c.args.runs.now c.order-order.ensures.checked c.count-count.ensures.sound c.requires.states c.requires.inputs))
+    (ap (λ (p : Passing). p.circuit) c.in_ok-pass.ensures ∙ sym circuits) (ap (λ (p : Passing). p.runs) c.in_ok-pass.ensures ∙ sym runs)
+    (ap (λ (p : Passing). p.cycle) c.in_ok-pass.ensures) c.planes.ensures c.in_ok-track.ensures

@@ -1,0 +1,152 @@
+//! All runs in lock step: the lanes at one cycle, and at the next.
+ghost use Rattle.std.specs.Prelude.{◌≡◌, ◌<◌, ◌≤◌, ◌*◌, ◌+◌, length, min, IfOk, MatchOption};
+ghost use Rattle.bs_net.specs.Netlist.{circuit};
+ghost use Rattle.bs_scan.specs.Crash.{Recording};
+ghost use Rattle.bs_stim.specs.Runs.{inputs_of};
+ghost use Rattle.bs_chip.specs.Lockstep.{IsLongest, IsLowest, NoneAmong, ShowsCycle, ShowsPass};
+
+use crate::inputs::put_inputs;
+use crate::lanes::wide_for;
+use crate::live::{Live, longest};
+use crate::looking::lowest_run;
+use bs_bits::NoMemory;
+use bs_break::Bank;
+use bs_lanes::Lanes;
+use bs_net::Netlist;
+use bs_scan::HasState;
+use bs_stim::{MAX_CYCLES, Runs};
+use std::alloc::Global;
+use std::marker::Model;
+
+/// All runs of a netlist, which stand at one cycle. Contracts see the machine, the runs and the cycle.
+#[derive(Drop)]
+pub struct Pass<'a> {
+    runs: &'a Runs,
+    lanes: Lanes<'a>,
+    live: Live<'a>,
+    inputs: Vec<u64>,
+    at: u32,
+}
+
+impl<'a> Model for Pass<'a> {
+    ghost use Rattle.bs_net.specs.Netlist.{circuit};
+    ghost use Rattle.bs_stim.specs.Runs.{inputs_of};
+    ghost use Rattle.bs_chip.specs.Lockstep.{IsPass, Passing};
+
+    ghost Value = { Passing };
+
+    ghost view = { λ p. record { circuit = circuit p.lanes.net; runs = inputs_of p.runs.now; cycle = p.at } };
+
+    ghost invariant = { λ p. IsPass p.runs.now p.lanes p.live p.inputs.items p.at };
+}
+
+/// So many words of zeros.
+fn zero_words(alloc: Global, count: usize) -> Result<Vec<u64>, NoMemory>
+    ensures { IfOk result (λ words. length words.items ≡ count) }
+{
+    let words = vec![in alloc; 0; count]?;
+    Ok(words)
+}
+
+/// So many planes of zeros.
+fn zero_planes(alloc: Global, count: usize, wide: usize) -> Result<Vec<u64>, NoMemory>
+    ensures { IfOk result (λ words. length words.items ≡ count * wide) }
+{
+    match count.checked_mul(wide) {
+        Some(words) => zero_words(alloc, words),
+        None => Err(NoMemory),
+    }
+}
+
+impl<'a> Pass<'a> {
+    /// All runs at reset.
+    pub fn new(alloc: Global, net: &'a Netlist, runs: &'a Runs) -> Result<Pass<'a>, NoMemory>
+        requires { runs.now.width ≡ length (circuit net.now).inputs }
+        ensures { IfOk result (λ p. p ≡ record { circuit = circuit net.now; runs = inputs_of runs.now; cycle = 0 }) }
+    {
+        let _count = runs.count();
+        let wide = wide_for(runs);
+        let lanes = Lanes::new(alloc, net, wide)?;
+        let _planes = lanes.flops();
+        let live = Live::new(alloc, runs)?;
+        let inputs = zero_planes(alloc, runs.width(), wide)?;
+        Ok(Pass {
+            runs,
+            lanes,
+            live,
+            inputs,
+            at: 0,
+        })
+    }
+
+    /// The number of cycles of the longest run.
+    pub fn longest(&self) -> u32
+        ensures all { IsLongest self.now.runs result }
+        ensures few { result ≤ MAX_CYCLES }
+    {
+        longest(self.runs)
+    }
+
+    /// The planes of the flip-flops.
+    pub fn planes(&self) -> &[u64]
+        ensures { ShowsCycle self.now.circuit self.now.runs result.now self.now.cycle }
+    {
+        self.lanes.flops()
+    }
+
+    /// The lanes.
+    pub fn lanes(&self) -> &Lanes<'a>
+        ensures { ShowsPass self.now result.now }
+    {
+        let _planes = self.lanes.flops();
+        &self.lanes
+    }
+
+    /// Goes to a cycle that planes show.
+    pub fn load(&mut self, planes: &[u64], cycle: u32)
+        requires { ShowsCycle self.old.circuit self.old.runs planes.now cycle }
+        ensures { self.new ≡ record { circuit = self.old.circuit; runs = self.old.runs; cycle = cycle } }
+    {
+        self.lanes.load(planes);
+        self.at = cycle;
+    }
+
+    /// Goes to the next cycle.
+    pub fn step(&mut self)
+        requires { self.old.cycle < MAX_CYCLES }
+        ensures { self.new ≡ record { circuit = self.old.circuit; runs = self.old.runs; cycle = self.old.cycle + 1 } }
+    {
+        self.live.go_to(self.at + 1);
+        let wide = self.lanes.wide();
+        put_inputs(self.runs, &self.live, self.at, wide, &mut self.inputs);
+        self.lanes.step(self.inputs.as_slice());
+        let _planes = self.lanes.flops();
+        self.at += 1;
+    }
+
+    /// The lowest run that lasts to a cycle and is in a listed state there. The planes show the cycle.
+    pub fn lowest_in<S: HasState>(
+        &mut self,
+        bank: &Bank<'_, S>,
+        planes: &[u64],
+        cycle: u32,
+    ) -> Option<u32>
+        requires width { bank.now.width ≡ length self.old.circuit.flops }
+        requires shows { ShowsCycle self.old.circuit self.old.runs planes.now cycle }
+        ensures lowest { MatchOption result (NoneAmong self.old.circuit self.old.runs bank.now.states cycle 0 (length self.old.runs)) (IsLowest self.old.circuit self.old.runs bank.now.states cycle 0) }
+        ensures kept { self.new ≡ self.old }
+    {
+        self.live.go_to(cycle);
+        lowest_run(&self.live, bank, planes, self.lanes.wide())
+    }
+
+    /// The lowest run that lasts to the cycle and is in a listed state.
+    pub fn lowest<S: HasState>(&mut self, bank: &Bank<'_, S>) -> Option<u32>
+        requires width { bank.now.width ≡ length self.old.circuit.flops }
+        ensures lowest { MatchOption result (NoneAmong self.old.circuit self.old.runs bank.now.states self.old.cycle 0 (length self.old.runs)) (IsLowest self.old.circuit self.old.runs bank.now.states self.old.cycle 0) }
+        ensures kept { self.new ≡ self.old }
+    {
+        self.live.go_to(self.at);
+        lowest_run(&self.live, bank, self.lanes.flops(), self.lanes.wide())
+    }
+}

@@ -1,0 +1,158 @@
+//! The track: the flip-flops' planes of the first cycles, which are stepped once and looked at many times.
+ghost use Rattle.std.specs.Prelude.{◌≡◌, ◌<◌, ◌+◌, ◌∷◌, [], length, IfOk, IfSome, MatchOption};
+ghost use Rattle.bs_scan.specs.Moments.{IsMoment, first_moment as first_moment_of, run_of, state_of};
+ghost use Rattle.bs_scan.specs.Signature.{stored_at};
+ghost use Rattle.bs_chip.specs.Lockstep.{Extends, IsFirstIn, IsSamePass, NoneBefore, NoneReached, TrackShows};
+ghost use Rattle.bs_chip.specs.Replay.{in_state, IsSameChip};
+
+use crate::pass::Pass;
+use crate::player::Player;
+use bs_bits::{List, NoMemory};
+use bs_break::Bank;
+use bs_scan::{HasState, Moment, SigReg};
+use std::alloc::Global;
+
+/// A track of one cycle.
+pub fn first_track(alloc: Global, planes: &[u64]) -> Result<List<List<u64>>, NoMemory>
+    ensures { IfOk result (λ track. track ≡ planes.now ∷ []) }
+{
+    let mut track = List::new(alloc);
+    track.push(List::of(Vec::from_slice(alloc, planes)?))?;
+    Ok(track)
+}
+
+/// Puts the planes of a cycle at the end of a track that has all cycles before, unless it has as many cycles as it may.
+/// The track is as before where memory runs out.
+fn keep(
+    alloc: Global,
+    track: &mut List<List<u64>>,
+    planes: &[u64],
+    cycle: usize,
+    most: usize,
+) -> Result<(), NoMemory>
+    ensures { Extends track.old track.new planes.now cycle }
+{
+    if track.len() != cycle || most <= cycle {
+        return Ok(());
+    }
+    let copy = List::of(Vec::from_slice(alloc, planes)?);
+    track.push(copy)
+}
+
+/// The first moment of the cycles of a track that is in a listed state.
+fn first_tracked<S: HasState>(
+    pass: &mut Pass<'_>,
+    bank: &Bank<'_, S>,
+    track: &List<List<u64>>,
+) -> Option<Moment>
+    requires width { bank.now.width ≡ length pass.old.circuit.flops }
+    requires shows { TrackShows pass.old.circuit pass.old.runs track.now }
+    ensures kept { pass.new ≡ pass.old }
+    ensures first { MatchOption result (NoneBefore pass.old.circuit pass.old.runs bank.now.states (length track.now)) (IsFirstIn pass.old.circuit pass.old.runs bank.now.states) }
+    ensures tracked { IfSome result (λ moment. moment.cycle < length track.now) }
+{
+    'cycles: for at in 0..track.len() {
+        let cycle = at as u32;
+        if let Some(run) = pass.lowest_in(bank, track.get(at).slice(), cycle) {
+            return Some(Moment { run, cycle });
+        }
+    }
+    None
+}
+
+/// The first moment, behind those of a track, that is in a listed state. The track grows by the cycles that are stepped,
+/// up to so many.
+fn first_behind<S: HasState>(
+    alloc: Global,
+    pass: &mut Pass<'_>,
+    bank: &Bank<'_, S>,
+    track: &mut List<List<u64>>,
+    most: usize,
+) -> Result<Option<Moment>, NoMemory>
+    requires width { bank.now.width ≡ length pass.old.circuit.flops }
+    requires shows { TrackShows pass.old.circuit pass.old.runs track.old }
+    requires none { NoneBefore pass.old.circuit pass.old.runs bank.now.states (length track.old) }
+    ensures same { IsSamePass pass.old pass.new }
+    ensures shows { TrackShows pass.old.circuit pass.old.runs track.new }
+    ensures first { IfOk result (λ found. MatchOption found (NoneReached pass.old.circuit pass.old.runs bank.now.states) (IsFirstIn pass.old.circuit pass.old.runs bank.now.states)) }
+    ensures stands { IfOk result (λ found. IfSome found (λ moment. pass.new.cycle ≡ moment.cycle)) }
+{
+    let last = track.len() - 1;
+    pass.load(track.get(last).slice(), last as u32);
+    'cycles: for at in last..pass.longest() as usize {
+        pass.step();
+        keep(alloc, track, pass.planes(), at + 1, most)?;
+        if let Some(run) = pass.lowest(bank) {
+            return Ok(Some(Moment {
+                run,
+                cycle: at as u32 + 1,
+            }));
+        }
+    }
+    Ok(None)
+}
+
+/// The first moment that is in a listed state, at whose cycle the runs stand then. The track grows by the cycles that are
+/// stepped, up to so many.
+pub fn first_moment<S: HasState>(
+    alloc: Global,
+    pass: &mut Pass<'_>,
+    bank: &Bank<'_, S>,
+    track: &mut List<List<u64>>,
+    most: usize,
+) -> Result<Option<Moment>, NoMemory>
+    requires width { bank.now.width ≡ length pass.old.circuit.flops }
+    requires shows { TrackShows pass.old.circuit pass.old.runs track.old }
+    ensures same { IsSamePass pass.old pass.new }
+    ensures shows { TrackShows pass.old.circuit pass.old.runs track.new }
+    ensures first { IfOk result (λ found. found ≡ first_moment_of pass.old.circuit pass.old.runs bank.now.states) }
+    ensures found { IfOk result (λ found. IfSome found (IsMoment pass.old.runs)) }
+    ensures stands { IfOk result (λ found. IfSome found (λ moment. pass.new.cycle ≡ moment.cycle)) }
+{
+    match first_tracked(pass, bank, track) {
+        Some(moment) => {
+            pass.load(track.get(moment.cycle as usize).slice(), moment.cycle);
+            Ok(Some(moment))
+        }
+        None => first_behind(alloc, pass, bank, track, most),
+    }
+}
+
+/// Brings a register to what it holds at a moment of a track.
+fn recall_register(
+    player: &mut Player<'_>,
+    register: &mut SigReg<'_>,
+    track: &List<List<u64>>,
+    moment: Moment,
+)
+    requires moment { IsMoment player.old.runs moment }
+    requires tracked { moment.cycle < length track.now }
+    requires shows { TrackShows player.old.circuit player.old.runs track.now }
+    requires width { register.old.choice.width ≡ length player.old.circuit.flops }
+    ensures same { IsSameChip player.old player.new }
+    ensures stored { register.new ≡ record { choice = register.old.choice; stored = stored_at player.old.circuit register.old.choice (run_of player.old.runs moment.run) moment.cycle } }
+{
+    register.clear();
+    if moment.cycle > 0 {
+        player.enter(track.get(moment.cycle as usize - 1).slice(), moment.run);
+        register.clock(player.state());
+    }
+}
+
+/// Brings a player and a register to a moment of a track.
+pub fn recall(
+    player: &mut Player<'_>,
+    register: &mut SigReg<'_>,
+    track: &List<List<u64>>,
+    moment: Moment,
+)
+    requires moment { IsMoment player.old.runs moment }
+    requires tracked { moment.cycle < length track.now }
+    requires shows { TrackShows player.old.circuit player.old.runs track.now }
+    requires width { register.old.choice.width ≡ length player.old.circuit.flops }
+    ensures player { player.new ≡ in_state player.old (state_of player.old.circuit player.old.runs moment) }
+    ensures stored { register.new ≡ record { choice = register.old.choice; stored = stored_at player.old.circuit register.old.choice (run_of player.old.runs moment.run) moment.cycle } }
+{
+    recall_register(player, register, track, moment);
+    player.enter(track.get(moment.cycle as usize).slice(), moment.run);
+}

@@ -1,0 +1,128 @@
+-- The end of a step.
+use Rattle.std.proofs.Common.{◌≡◌, ℕ, zero, suc, ◌+◌, ◌-◌, ◌*◌, ◌<◌, ◌≤◌, arith, Bool, true, false, List, [], ◌∷◌, ◌++◌, map, length, take, refl, sym, ap, subst}
+use Rattle.std.proofs.Common.{◌∙◌, inl, inr, ◌⊎◌, Option, Some, None}
+use Rattle.std.specs.Prelude.{All, Contains, count_by}
+use Rattle.std.specs.List.{filter}
+use Rattle.std.proofs.lemmas.List.{append-nil, take_all}
+use Rattle.std.proofs.lemmas.List.Elements.{All-contains, filter-append}
+use Rattle.std.proofs.lemmas.List.Sorted.{All-permutation}
+use Rattle.bs_clause.specs.Literal.{Literal, negation}
+use Rattle.bs_clause.specs.Range.{HasVariables, IsWithin}
+use Rattle.bs_log.specs.declared.origin.Origin.TheVariants.{Retired}
+use Rattle.bs_log.specs.History.{Problem, Entry}
+use Rattle.bs_log.specs.Refusal.{is_lemma_or_block, entry_of}
+use Rattle.bs_arena.specs.Arena.{Held, literals_at}
+use Rattle.bs_watch.specs.Watch.{WatchState, Serves}
+use Rattle.bs_keep.specs.declared.row.Row.{Row}
+use Rattle.bs_keep.specs.declared.selection.Leaving.{Leaving}
+use Rattle.bs_keep.specs.Keeping.{Ascends, AreKnown, goes, is_long_row}
+use Rattle.bs_keep.specs.Notes.{IsNoted, GoBy}
+use Rattle.bs_keep.specs.Rows.{AreInOrder, AreRowsOf, AreRowsAmong, going}
+use Rattle.bs_keep.proofs.Deletions.{leaving_ids}
+use Rattle.bs_book.specs.Book.{Book, next_id}
+use Rattle.bs_book.proofs.Clauses.{all_from, map_contains}
+use Rattle.bs_book.proofs.Entries.{found_stands}
+use Rattle.bs_search.specs.declared.stock.Stock.{Stock}
+use Rattle.bs_search.specs.Stock.{entries, id_in, IsStocked, HasStocked}
+use Rattle.bs_search.specs.Teaching.{IsAtRest}
+use Rattle.bs_search.proofs.Entries.{clauses_in, id_of, id_is_live}
+use Rattle.bs_engine.specs.declared.dropping.Known.{Known}
+use Rattle.bs_engine.specs.Dropping.{without_ids, marked, is_free, is_free_long, AreKnownIn, HasDropped, HasCompacted}
+use Rattle.bs_engine.specs.Ending.{unit_of, HasPrepared, HasSettled}
+use Rattle.bs_engine.proofs.Knowns.{known_rows, rows_ascend, length_rows, counted_front, counted_rows}
+
+-- the unit is no lemma and no block
+pub marked_unit : (es : List Entry) (b : Book) (guard : Literal) → marked (es ++ unit_of b guard ∷ []) ≡ marked es
+marked_unit es b guard = filter-append is_lemma_or_block es (unit_of b guard ∷ []) ∙ append-nil (marked es)
+
+-- the stock with the unit
+pub unit_stocked : (b : Book) (w new : WatchState) (before after : List Held) (stock more : Stock) (id : ℕ) (guard neg : Literal) →
+    IsAtRest b w before stock → HasStocked w.lists new.lists before after stock more (record { id = id; origin = Retired; literals = neg ∷ [] }) →
+    id ≡ next_id b → entry_of (entries b) id ≡ None → neg ≡ negation guard → IsStocked new.lists after more (entries b ++ unit_of b guard ∷ [])
+unit_stocked b w new before after stock more id guard neg rest h is fresh is_neg =
+    subst (IsStocked new.lists after more) (λ i. entries b ++ record { id = is i; origin = Retired; literals = is_neg i ∷ [] } ∷ [])
+    (h.more (entries b) fresh rest.stocked)
+
+rows_of_unit : (b : Book) (clauses : List Held) (stock : Stock) (guard : Literal) → AreRowsAmong clauses stock.rows.items (entries b ++ unit_of b guard ∷ []) →
+    AreRowsOf clauses stock.rows.items (marked (entries b))
+rows_of_unit b clauses stock guard r = subst (AreRowsOf clauses stock.rows.items) (marked_unit (entries b) b guard) r
+
+pub prepared_ascends : (b : Book) (w : WatchState) (clauses : List Held) (stock : Stock) (guard : Literal) →
+    IsStocked w.lists clauses stock (entries b ++ unit_of b guard ∷ []) → AreInOrder (entries b) → Ascends stock.rows.items
+prepared_ascends b w clauses stock guard s order = rows_ascend clauses stock.rows.items (entries b) order (rows_of_unit b clauses stock guard s.rows)
+
+pub prepared_known : (b : Book) (w : WatchState) (clauses : List Held) (stock : Stock) (guard : Literal) (own steps n long : ℕ) →
+    IsStocked w.lists clauses stock (entries b ++ unit_of b guard ∷ []) → AreKnownIn own steps (marked (entries b)) n long →
+    AreKnown own steps clauses stock.rows.items n long
+prepared_known b w clauses stock guard own steps n long s k =
+    known_rows own steps clauses stock.rows.items (marked (entries b)) n long (rows_of_unit b clauses stock guard s.rows) k
+
+pub prepared : (b : Book) (own steps spare : ℕ) (old new : WatchState) (clauses : List Held) (stock : Stock) (guard : Literal) (leaving : Leaving) →
+    own ≡ b.problem.vars → IsStocked new.lists clauses stock (entries b ++ unit_of b guard ∷ []) → Serves new clauses → new.trail ≡ old.trail →
+    new.levels ≡ old.levels → AreInOrder (entries b) →
+    IsNoted clauses (filter (goes own steps clauses stock.rows.items) stock.rows.items) leaving.ids leaving.clauses.items leaving.watched.items →
+    leaving.start ≤ length stock.rows.items → filter (goes own steps clauses stock.rows.items) (take leaving.start stock.rows.items) ≡ [] →
+    length clauses ≤ spare → HasPrepared b steps old new clauses stock spare guard leaving
+prepared b own steps spare old new clauses stock guard leaving own_is s serves trail levels order noted low none room = record {
+  stocked = s;
+  serves = serves;
+  trail = trail;
+  levels = levels;
+  ids = noted.ids_are ∙ leaving_ids b.problem own steps clauses stock.rows.items (entries b ++ unit_of b guard ∷ []) (sym own_is) s.rows;
+  gone = record { test = goes own steps clauses stock.rows.items; noted = noted; low = low; none = none };
+  ascends = prepared_ascends b new clauses stock guard s order;
+  room = room;
+}
+
+-- ---- what is leaving goes
+
+-- the rows' clauses are over the variables
+pub settling_range : (w : WatchState) (clauses : List Held) (stock : Stock) (es : List Entry) → IsStocked w.lists clauses stock es →
+    All (HasVariables w.trail.vars) (clauses_in es) →
+    All (λ (row : Row). HasVariables w.trail.vars (literals_at clauses row.clause)) stock.rows.items
+settling_range w clauses stock es s range = all_from (λ (row : Row). HasVariables w.trail.vars (literals_at clauses row.clause)) stock.rows.items (λ row there.
+    let id = All-contains (λ (y : Row). id_of clauses y.clause ≡ Some y.id) stock.rows.items row s.rows_live there in
+    let (e, found, same) = s.spelled row.clause (id_is_live clauses row.clause row.id id) in
+    All-permutation (IsWithin w.trail.vars) e.literals (literals_at clauses row.clause) same
+    (All-contains (HasVariables w.trail.vars) (clauses_in es) e.literals range
+    (map_contains (λ (x : Entry). x.literals) es e (found_stands es (id_in clauses row.clause) e found))))
+
+-- the stock after both
+pub both_stocked : (old mid new : WatchState) (before between after : List Held) (stock less more : Stock) (start : ℕ) (ids : List ℕ) (es : List Entry) →
+    HasDropped old mid before between stock less start ids → HasCompacted mid new between after less more → IsStocked old.lists before stock es →
+    IsStocked new.lists after more (without_ids ids es)
+both_stocked old mid new before between after stock less more start ids es d m s = m.stocked (without_ids ids es) (d.stocked es s)
+
+pub settled_low : (old mid new : WatchState) (before between after : List Held) (stock less more : Stock) (start : ℕ) (ids : List ℕ) (es : List Entry) →
+    HasDropped old mid before between stock less start ids → HasCompacted mid new between after less more → IsStocked old.lists before stock es →
+    start ≤ length more.rows.items
+settled_low old mid new before between after stock less more start ids es d m s =
+    let one = length_rows between less.rows.items (marked (without_ids ids es)) (d.stocked es s).rows in
+    let two = length_rows after more.rows.items (marked (without_ids ids es)) (both_stocked old mid new before between after stock less more start ids es d m s).rows in
+    let low = d.low in omega (arith, one, two, low)
+
+pub settled_long : (own steps : ℕ) (known : Known) (old mid new : WatchState) (before between after : List Held) (stock less more : Stock) (start : ℕ)
+    (ids : List ℕ) (es : List Entry) →
+    HasDropped old mid before between stock less start ids → HasCompacted mid new between after less more → IsStocked old.lists before stock es →
+    AreKnownIn own steps (marked es) known.rows known.long → start ≡ known.rows →
+    known.long ≡ count_by (is_long_row own steps after) (take start more.rows.items)
+settled_long own steps known old mid new before between after stock less more start ids es d m s k same =
+    counted_front own steps after more.rows.items (marked (without_ids ids es)) (marked es) start known.rows known.long
+    (both_stocked old mid new before between after stock less more start ids es d m s).rows (d.front es s) k same
+
+pub settled : (own steps : ℕ) (known : Known) (old mid new : WatchState) (before between after : List Held) (stock less more : Stock) (start : ℕ)
+    (ids : List ℕ) →
+    HasDropped old mid before between stock less start ids → HasCompacted mid new between after less more →
+    known.rows ≡ length more.rows.items → known.long ≡ count_by (is_long_row own steps after) more.rows.items →
+    HasSettled own steps old new before after stock more ids known
+settled own steps known old mid new before between after stock less more start ids d m rows long = record {
+  serves = m.serves;
+  vars = m.vars ∙ d.vars;
+  places = λ none. m.places (d.places none);
+  levels = m.levels ∙ d.levels;
+  stocked = λ es s. both_stocked old mid new before between after stock less more start ids es d m s;
+  rows = λ es s. rows ∙ length_rows after more.rows.items (marked (without_ids ids es))
+      (both_stocked old mid new before between after stock less more start ids es d m s).rows;
+  long = λ es s. counted_rows own steps after more.rows.items (marked (without_ids ids es)) known.long
+      (both_stocked old mid new before between after stock less more start ids es d m s).rows long;
+}

@@ -1,0 +1,5 @@
+pub mod Droppings
+pub mod Knowns
+pub mod Endings
+pub mod Startings
+pub mod Engines

@@ -1,0 +1,22 @@
+use Rattle.bs_watch.proofs.CallerLemmas.{attached_is_live}
+use Rattle.bs_keep.proofs.Removals.{live_placed}
+use Rattle.bs_engine.proofs.Droppings.{has_dropped}
+use Rattle.bs_engine.proofs.dropping.drop_leaving.Goals as goal
+
+pub take_out-requires-clause-placed : goal.take_out-requires-clause-placed
+take_out-requires-clause-placed c = record {
+  each = λ r a. live_placed c.args.arena.now.clauses c.args.arena.now.places r c.holds_clauses.ensures.placed
+      (attached_is_live c.args.watch.now c.args.arena.now.clauses c.requires.serves r a);
+}
+
+pub returns : goal.returns
+returns c =
+    has_dropped c.args.watch.now c.take_out.new.watch c.args.arena.now.clauses c.take_out.new.arena.clauses c.args.stock.now _ c.args.leaving.now.start
+    c.args.leaving.now.ids c.args.leaving.now.clauses.items c.args.leaving.now.watched.items (record {
+      gone = c.requires.gone;
+      held = c.requires.held;
+      ascends = c.requires.ascends;
+      killed = c.take_out.ensures.killed;
+      rows = c.take_out.ensures.rows;
+      shorts = c.take_out.ensures.shorts;
+    }) c.take_out.ensures.swept

@@ -1,0 +1,5 @@
+pub mod LevelLemmas
+pub mod PairLemmas
+pub mod ProgramLemmas
+pub mod SettlingLemmas
+pub mod TableLemmas

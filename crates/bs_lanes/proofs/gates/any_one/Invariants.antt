@@ -1,0 +1,8 @@
+use Rattle.std.proofs.Common.{take}
+use Rattle.std.specs.List.{list_any}
+use Rattle.bs_plane.specs.Planes.{IsPlane}
+use Rattle.bs_lanes.specs.Settling.{net_bit}
+use Rattle.bs_lanes.proofs.gates.any_one.Given as goal
+
+abbrev pub invariant-ins : goal.invariant-ins
+invariant-ins g l = IsPlane g.row.N l.plane (λ r. list_any (net_bit g.row.N l.nets r) (take l.i l.ins))

@@ -1,0 +1,7 @@
+-- what public contracts rest on
+pub mod Lanes
+-- what inner functions promise each other
+pub mod Settling
+pub mod Levels
+pub mod Pairs
+pub mod Program

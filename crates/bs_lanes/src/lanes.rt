@@ -1,0 +1,186 @@
+//! Many runs of a netlist, simulated at once.
+ghost use Rattle.std.specs.Prelude.{◌≡◌, ◌<◌, ◌≤◌, ◌-◌, ◌*◌, length, replicate, IsTrue, IfOk};
+ghost use Rattle.bs_net.specs.Netlist.{circuit};
+ghost use Rattle.bs_stim.specs.Packing.{bit_in};
+ghost use Rattle.bs_plane.specs.Planes.{bit_place, lane, IsWidened};
+ghost use Rattle.bs_lanes.specs.Lanes.{is_wide, state_in, IsSameTable, AreReset, AreStepped};
+
+use crate::program::{Stretch, program_of};
+use crate::widths::{reset, step};
+use bs_bits::{Bits, NoMemory};
+use bs_net::{NetId, Netlist};
+use bs_plane::{Plane, lane_bit, widened};
+use std::alloc::Global;
+use std::marker::Model;
+
+/// A netlist in the states of up to 64, 128 or 256 runs at once, with planes of one, two or four words. Bit b of word w
+/// of a plane belongs to run 64 w + b + 1. The nets show the valuations that were settled last.
+#[derive(Drop)]
+pub struct Lanes<'a> {
+    net: &'a Netlist,
+    wide: usize,
+    flops: Vec<u64>,
+    nets: Vec<u64>,
+    zeros: Vec<u64>,
+    program: Vec<Stretch>,
+}
+
+impl<'a> Model for Lanes<'a> {
+    ghost use Rattle.std.specs.Prelude.{◌≡◌, ◌*◌, length, replicate};
+    ghost use Rattle.bs_net.specs.Netlist.{circuit};
+    ghost use Rattle.bs_lanes.specs.Lanes.{LaneTable, IsLaneTable};
+    ghost use Rattle.bs_lanes.specs.Program.{IsCompiled};
+
+    ghost Value = { LaneTable };
+
+    ghost view = { λ l. record { net = l.net.now; wide = l.wide; flops = l.flops.items; nets = l.nets.items } };
+
+    ghost invariant = { λ l. IsLaneTable (record { net = l.net.now; wide = l.wide; flops = l.flops.items; nets = l.nets.items }) × (l.zeros.items ≡ replicate (length (circuit l.net.now).inputs * l.wide) 0) × IsCompiled (circuit l.net.now) l.program.items };
+}
+
+/// So many words of zeros.
+fn zero_words(alloc: Global, count: usize) -> Result<Vec<u64>, NoMemory>
+    ensures { IfOk result (λ v. v.items ≡ replicate count 0) }
+{
+    let words = vec![in alloc; 0; count]?;
+    Ok(words)
+}
+
+/// The bits of a lane in the first planes.
+fn lane_bits(
+    alloc: Global,
+    words: &[u64],
+    wide: usize,
+    count: usize,
+    r: usize,
+) -> Result<Bits, NoMemory>
+    requires lane { r < 64 * wide }
+    requires room { count * wide ≤ length words.now }
+    ensures { IfOk result (λ bits. bits ≡ lane wide count words.now r) }
+{
+    let mut bits = Bits::new(alloc);
+    'planes: for plane in 0..count {
+        bits.push(lane_bit(words, wide, plane, r))?;
+    }
+    Ok(bits)
+}
+
+impl<'a> Lanes<'a> {
+    /// All runs at reset, with the input of zeros settled. Planes have one, two or four words.
+    pub fn new(alloc: Global, net: &'a Netlist, wide: usize) -> Result<Lanes<'a>, NoMemory>
+        requires { IsTrue (is_wide wide) }
+        ensures net { IfOk result (λ l. l.net ≡ net.now) }
+        ensures wide { IfOk result (λ l. l.wide ≡ wide) }
+        ensures reset { IfOk result AreReset }
+    {
+        let raw = net.raw();
+        let mut flops = zero_words(alloc, raw.flops.len() * wide)?;
+        let mut nets = zero_words(alloc, raw.names.len() as usize * wide)?;
+        let zeros = zero_words(alloc, net.data_inputs().len() * wide)?;
+        let program = program_of(alloc, net)?;
+        reset(
+            wide,
+            nets.as_mut_slice(),
+            flops.as_mut_slice(),
+            net,
+            program.as_slice(),
+            zeros.as_slice(),
+        );
+        Ok(Lanes {
+            net,
+            wide,
+            flops,
+            nets,
+            zeros,
+            program,
+        })
+    }
+
+    /// Brings all runs back to reset, with the input of zeros settled.
+    pub fn reset(&mut self)
+        ensures same { IsSameTable self.old self.new }
+        ensures reset { AreReset self.new }
+    {
+        reset(
+            self.wide,
+            self.nets.as_mut_slice(),
+            self.flops.as_mut_slice(),
+            self.net,
+            self.program.as_slice(),
+            self.zeros.as_slice(),
+        );
+    }
+
+    /// Settles, and loads the next states: one clock edge in all runs, each under its own input. The inputs are planes,
+    /// one for each data input, one behind another.
+    pub fn step(&mut self, inputs: &[u64])
+        requires { length inputs.now ≡ length (circuit self.old.net).inputs * self.old.wide }
+        ensures same { IsSameTable self.old self.new }
+        ensures stepped { AreStepped self.old self.new inputs.now }
+    {
+        step(
+            self.wide,
+            self.nets.as_mut_slice(),
+            self.flops.as_mut_slice(),
+            self.net,
+            self.program.as_slice(),
+            inputs,
+        );
+    }
+
+    /// Makes other states the present ones, given as planes of the flip-flops. The nets show what they showed.
+    pub fn load(&mut self, flops: &[u64])
+        requires { length flops.now ≡ length (circuit self.old.net).flops * self.old.wide }
+        ensures same { IsSameTable self.old self.new }
+        ensures flops { self.new.flops ≡ flops.now }
+        ensures nets { self.new.nets ≡ self.old.nets }
+    {
+        self.flops.as_mut_slice().copy_from_slice(flops);
+    }
+
+    /// The number of words of a plane.
+    pub fn wide(&self) -> usize
+        ensures { result ≡ self.now.wide }
+    {
+        self.wide
+    }
+
+    /// The planes of the flip-flops, one behind another.
+    pub fn flops(&self) -> &[u64]
+        ensures planes { result.now ≡ self.now.flops }
+        ensures size { length self.now.flops ≡ length (circuit self.now.net).flops * self.now.wide }
+    {
+        self.flops.as_slice()
+    }
+
+    /// The bit that a net shows in each of 256 runs, and zeros for runs beyond the planes.
+    pub fn plane(&self, net: NetId) -> Plane
+        requires { net.0 < (circuit self.now.net).nets }
+        ensures { IsWidened self.now.wide result (λ r. bit_in self.now.nets (bit_place self.now.wide net.0 r)) }
+    {
+        widened(self.nets.as_slice(), net.0 as usize, self.wide)
+    }
+
+    /// The present bit of a flip-flop in each of 256 runs, and zeros for runs beyond the planes.
+    pub fn flop(&self, i: usize) -> Plane
+        requires { i < length (circuit self.now.net).flops }
+        ensures { IsWidened self.now.wide result (λ r. bit_in self.now.flops (bit_place self.now.wide i r)) }
+    {
+        widened(self.flops.as_slice(), i, self.wide)
+    }
+
+    /// The present state of a run. Runs are numbered from 1.
+    pub fn state_of(&self, alloc: Global, run: u32) -> Result<Bits, NoMemory>
+        requires from_one { 1 ≤ run }
+        requires lane { run ≤ 64 * self.now.wide }
+        ensures { IfOk result (λ state. state ≡ state_in self.now (run - 1)) }
+    {
+        lane_bits(
+            alloc,
+            self.flops.as_slice(),
+            self.wide,
+            self.net.width(),
+            run as usize - 1,
+        )
+    }
+}

@@ -1,0 +1,16 @@
+pub mod Literals
+pub mod Clauses
+pub mod Counts
+pub mod Others
+pub mod Derivations
+pub mod Chains
+pub mod Shuffles
+pub mod Sound
+pub mod Walks
+pub mod Moving
+pub mod Points
+pub mod MarkWalks
+pub mod Ways
+pub mod Pointing
+pub mod Steps
+pub mod CallerLemmas

@@ -1,0 +1,13 @@
+use Rattle.std.proofs.Common.{◌≡◌, ◌-◌, ◌≤◌, length}
+use Rattle.bs_lex.specs.Placing.{tokens_after}
+use Rattle.bs_lex.proofs.scan.next_token.Given as goal
+
+abbrev pub invariant-loop-at : goal.invariant-loop-at
+invariant-loop-at l = record {
+  before : l.from ≤ l.at;
+  within : l.at ≤ length l.bytes;
+  same : tokens_after l.bytes l.from ≡ tokens_after l.bytes l.at;
+}
+
+abbrev pub decreases-loop-at : goal.decreases-loop-at
+decreases-loop-at l = length l.bytes - l.at

@@ -1,0 +1,4 @@
+pub mod Splits
+pub mod Keys
+pub mod Signals
+pub mod Values

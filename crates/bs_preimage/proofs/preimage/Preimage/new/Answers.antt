@@ -1,0 +1,34 @@
+use Rattle.std.proofs.Common.{◌≡◌, ℕ, ◌+◌, ◌≤◌, false, [], length, refl, sym, subst, arith}
+use Rattle.std.specs.Prelude.{Contains}
+use Rattle.bs_clause.specs.Literal.{Clause}
+use Rattle.bs_net.specs.Circuit.{Circuit}
+use Rattle.bs_net.specs.Netlist.{circuit}
+use Rattle.bs_scan.specs.Choice.{Chosen}
+use Rattle.bs_encode.specs.Encoded.{Encoded, encoding_of}
+use Rattle.bs_book.specs.Solver.{SolverState}
+use Rattle.bs_book.proofs.CallerLemmas.{axioms_stand}
+use Rattle.bs_preimage.specs.Rest.{IsPrepared, made}
+use Rattle.bs_preimage.proofs.preimage.Preimage.new.Goals as goal
+
+-- a solver that was just made is prepared
+made_prepared : (c : Circuit) (choice : Chosen) (e : Encoded) (s : SolverState) → choice.width ≡ length c.flops → e ≡ encoding_of c choice.items → s ≡ made e →
+    IsPrepared c choice e s 0 false
+made_prepared c choice e s width encoded is = subst (λ x. IsPrepared c choice e x 0 false) (sym is) (record {
+  about = record { width = width; encoding = encoded; vars = refl; clauses = refl };
+  rest = λ _. record {
+    well = refl;
+    idle = refl;
+    guards = omega arith;
+    number = refl;
+    count = refl;
+    stand = λ x there. subst (λ cs. Contains cs x) (sym (axioms_stand (made e).book.problem)) there;
+    retired = λ n low high. absurd (omega (arith, low, high));
+    whole = λ more. refl;
+  };
+  steps = λ _. refl;
+})
+
+pub invariant_of-result : goal.invariant_of-result
+invariant_of-result c =
+    made_prepared (circuit c.args.net.now) c.args.choice.now c.in_ok-encoding.encoding c.in_ok-solver.solver c.requires c.in_ok-encoding.ensures
+    c.in_ok-solver.ensures

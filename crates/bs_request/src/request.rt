@@ -1,0 +1,336 @@
+//! The request that words are: a command, its files and its options.
+ghost use Rattle.std.specs.Prelude.{◌≡◌, ◌||◌, map, string_bytes, option_map, IfOk};
+ghost use Rattle.std.specs.List.{list_all, list_any};
+ghost use Rattle.bs_request.specs.declared.flags.Flag.TheVariants.{All as TheAll, Clock as TheClock, Only as TheOnly, Scope as TheScope};
+ghost use Rattle.bs_request.specs.Flags.{is_flag};
+ghost use Rattle.bs_request.specs.Request.{alone, are_for_stimulus, are_for_trace, bare_request, command_request, head_of, is_alone, named, only_name, request_of, stimulus_of, stimulus_request, stimulus_words, times, trace_of, trace_request, trace_words, values_of};
+ghost use Rattle.bs_request.specs.Request.{Flops as FlopsOf, Help as HelpOf, Inputs as InputsOf, Steps as StepsOf, Version as VersionOf};
+ghost use Rattle.bs_request.specs.Shown.{given_in, setting_of, shown_request};
+
+use crate::flags::{Flag, is_flag};
+use crate::given::{Given, Setting, read_given};
+use std::alloc::{AllocError, Global};
+
+/// `trace`: the names of its files, whether it tells every flip-flop in each cycle, and the names that it tells alone,
+/// where there are any.
+#[derive(Drop)]
+pub struct TraceRequest<'a> {
+    pub netlist: &'a str,
+    pub report: &'a str,
+    pub all: bool,
+    pub only: Vec<&'a str>,
+}
+
+/// `stimulus`: the names of its files, the name of the clock, and the path of the scope that has the variables.
+#[derive(Clone, Copy)]
+pub struct StimulusRequest<'a> {
+    pub netlist: &'a str,
+    pub vcd: &'a str,
+    pub clock: &'a str,
+    pub scope: Option<&'a str>,
+}
+
+/// What a command line asks to be told.
+#[derive(Drop)]
+pub enum Request<'a> {
+    /// How the words stand.
+    Help,
+    /// The version.
+    Version,
+    /// The flip-flops of a netlist, in the order of the scan chain.
+    Flops(&'a str),
+    /// The data inputs of a netlist, in order.
+    Inputs(&'a str),
+    /// The steps of a report.
+    Steps(&'a str),
+    /// The trace of a report with the names of a netlist.
+    Trace(TraceRequest<'a>),
+    /// A run of a stimulus out of a simulator's dump.
+    Stimulus(StimulusRequest<'a>),
+}
+
+/// How often an option is given.
+fn times(flag: Flag, settings: &[Setting<'_>]) -> usize
+    ensures { result ≡ times flag (map setting_of settings.now) }
+{
+    settings.iter().filter(|s| is_flag(flag, s.flag)).count()
+}
+
+/// Whether an option is given.
+fn is_given(flag: Flag, settings: &[Setting<'_>]) -> bool
+    ensures { result ≡ list_any (λ s. is_flag flag s.flag) settings.now }
+{
+    settings.iter().any(|s| is_flag(flag, s.flag))
+}
+
+/// The values that an option is given.
+fn values_of<'a>(
+    alloc: Global,
+    flag: Flag,
+    settings: &[Setting<'a>],
+) -> Result<Vec<&'a str>, AllocError>
+    ensures { IfOk result (λ values. map (λ s. s.now) values.items ≡ values_of flag (map setting_of settings.now)) }
+{
+    let mut values = Vec::new(alloc);
+    'settings: for setting in settings {
+        if is_flag(flag, setting.flag) {
+            values.push(setting.value)?;
+        }
+    }
+    Ok(values)
+}
+
+/// Whether each option is one of `trace`.
+fn all_for_trace(settings: &[Setting<'_>]) -> bool
+    ensures { result ≡ list_all (λ s. is_flag TheAll s.flag || is_flag TheOnly s.flag) settings.now }
+{
+    settings.iter().all(|s| is_flag(Flag::All, s.flag) || is_flag(Flag::Only, s.flag))
+}
+
+/// Whether the options may stand behind `trace`.
+#[tactic(auto, using(crate::proofs::SettingLemmas::all_for_trace))]
+fn are_for_trace(settings: &[Setting<'_>]) -> bool
+    ensures { result ≡ are_for_trace (map setting_of settings.now) }
+{
+    let each = all_for_trace(settings);
+    let once = times(Flag::All, settings) <= 1;
+    each && once
+}
+
+/// The request of `trace` by its words by position and its options.
+#[tactic(auto, using(crate::proofs::SettingLemmas::trace_told))]
+fn trace_words<'a>(
+    alloc: Global,
+    positions: &[&'a str],
+    settings: &[Setting<'a>],
+) -> Result<Option<Request<'a>>, AllocError>
+    ensures { IfOk result (λ request. shown_request request ≡ trace_words (map (λ s. s.now) positions.now) (map setting_of settings.now)) }
+{
+    if !are_for_trace(settings) {
+        return Ok(None);
+    }
+    let all = is_given(Flag::All, settings);
+    let only = values_of(alloc, Flag::Only, settings)?;
+    let request = trace_at(positions, all, only);
+    Ok(request)
+}
+
+/// The request of `trace`.
+fn trace_request<'a>(alloc: Global, given: &Given<'a>) -> Result<Option<Request<'a>>, AllocError>
+    ensures { IfOk result (λ request. shown_request request ≡ trace_request (given_in given.now)) }
+{
+    let request = trace_words(alloc, &given.positions, &given.settings)?;
+    Ok(request)
+}
+
+/// The request of `trace` by what its words say.
+fn trace_at<'a>(positions: &[&'a str], all: bool, only: Vec<&'a str>) -> Option<Request<'a>>
+    ensures { shown_request result ≡ trace_of (map (λ s. s.now) positions.now) all (map (λ s. s.now) only.entry.items) }
+{
+    match positions {
+        [netlist, report] => Some(Request::Trace(TraceRequest {
+            netlist,
+            report,
+            all,
+            only,
+        })),
+        _ => None,
+    }
+}
+
+/// Whether each option is one of `stimulus`.
+fn all_for_stimulus(settings: &[Setting<'_>]) -> bool
+    ensures { result ≡ list_all (λ s. is_flag TheClock s.flag || is_flag TheScope s.flag) settings.now }
+{
+    settings.iter().all(|s| is_flag(Flag::Clock, s.flag) || is_flag(Flag::Scope, s.flag))
+}
+
+/// Whether the options may stand behind `stimulus`.
+#[tactic(auto, using(crate::proofs::SettingLemmas::all_for_stimulus))]
+fn are_for_stimulus(settings: &[Setting<'_>]) -> bool
+    ensures { result ≡ are_for_stimulus (map setting_of settings.now) }
+{
+    let each = all_for_stimulus(settings);
+    let clocks = times(Flag::Clock, settings) <= 1;
+    let scopes = times(Flag::Scope, settings) <= 1;
+    each && clocks && scopes
+}
+
+/// The first value that an option is given.
+fn value_of<'a>(flag: Flag, settings: &[Setting<'a>]) -> Option<&'a str>
+    ensures { option_map (λ s. s.now) result ≡ head_of (values_of flag (map setting_of settings.now)) }
+{
+    'settings: for setting in settings {
+        if is_flag(flag, setting.flag) {
+            return Some(setting.value);
+        }
+    }
+    None
+}
+
+/// The request of `stimulus` by what its words say.
+fn stimulus_at<'a>(
+    positions: &[&'a str],
+    clock: Option<&'a str>,
+    scope: Option<&'a str>,
+) -> Option<Request<'a>>
+    ensures { shown_request result ≡ stimulus_of (map (λ s. s.now) positions.now) (option_map (λ s. s.now) clock.entry) (option_map (λ s. s.now) scope.entry) }
+{
+    match (positions, clock) {
+        ([netlist, vcd], Some(clock)) => Some(Request::Stimulus(StimulusRequest {
+            netlist,
+            vcd,
+            clock,
+            scope,
+        })),
+        _ => None,
+    }
+}
+
+/// The request of `stimulus` by its words by position and its options.
+fn stimulus_words<'a>(positions: &[&'a str], settings: &[Setting<'a>]) -> Option<Request<'a>>
+    ensures { shown_request result ≡ stimulus_words (map (λ s. s.now) positions.now) (map setting_of settings.now) }
+{
+    if !are_for_stimulus(settings) {
+        return None;
+    }
+    let clock = value_of(Flag::Clock, settings);
+    let scope = value_of(Flag::Scope, settings);
+    stimulus_at(positions, clock, scope)
+}
+
+/// The request of `stimulus`.
+fn stimulus_request<'a>(given: &Given<'a>) -> Option<Request<'a>>
+    ensures { shown_request result ≡ stimulus_request (given_in given.now) }
+{
+    stimulus_words(&given.positions, &given.settings)
+}
+
+/// The one word by position of a command without options.
+fn one_name<'a>(given: &Given<'a>) -> Option<&'a str>
+    ensures { option_map (λ s. s.now) result ≡ only_name (given_in given.now) }
+{
+    if !given.settings.is_empty() {
+        return None;
+    }
+    match given.positions.as_slice() {
+        [name] => Some(name),
+        _ => None,
+    }
+}
+
+/// Whether a command has neither words by position nor options.
+fn is_alone(given: &Given<'_>) -> bool
+    ensures { result ≡ is_alone (given_in given.now) }
+{
+    given.settings.is_empty() && given.positions.is_empty()
+}
+
+/// `help`.
+fn help_request<'a>(given: &Given<'a>) -> Option<Request<'a>>
+    ensures { shown_request result ≡ alone HelpOf (given_in given.now) }
+{
+    if is_alone(given) {
+        Some(Request::Help)
+    } else {
+        None
+    }
+}
+
+/// `version`.
+fn version_request<'a>(given: &Given<'a>) -> Option<Request<'a>>
+    ensures { shown_request result ≡ alone VersionOf (given_in given.now) }
+{
+    if is_alone(given) {
+        Some(Request::Version)
+    } else {
+        None
+    }
+}
+
+/// `flops`.
+fn flops_request<'a>(given: &Given<'a>) -> Option<Request<'a>>
+    ensures { shown_request result ≡ named (λ n. FlopsOf n) (given_in given.now) }
+{
+    match one_name(given) {
+        Some(netlist) => Some(Request::Flops(netlist)),
+        None => None,
+    }
+}
+
+/// `inputs`.
+fn inputs_request<'a>(given: &Given<'a>) -> Option<Request<'a>>
+    ensures { shown_request result ≡ named (λ n. InputsOf n) (given_in given.now) }
+{
+    match one_name(given) {
+        Some(netlist) => Some(Request::Inputs(netlist)),
+        None => None,
+    }
+}
+
+/// `steps`.
+fn steps_request<'a>(given: &Given<'a>) -> Option<Request<'a>>
+    ensures { shown_request result ≡ named (λ n. StepsOf n) (given_in given.now) }
+{
+    match one_name(given) {
+        Some(report) => Some(Request::Steps(report)),
+        None => None,
+    }
+}
+
+/// The request of a command without options.
+fn bare_request<'a>(command: &str, given: &Given<'a>) -> Option<Request<'a>>
+    ensures { shown_request result ≡ bare_request command.now (given_in given.now) }
+{
+    if command == "help" {
+        return help_request(given);
+    }
+    if command == "--help" {
+        return help_request(given);
+    }
+    if command == "version" {
+        return version_request(given);
+    }
+    if command == "flops" {
+        return flops_request(given);
+    }
+    if command == "inputs" {
+        return inputs_request(given);
+    }
+    if command == "steps" {
+        return steps_request(given);
+    }
+    None
+}
+
+/// The request of a command and what stands behind it.
+fn command_request<'a>(
+    alloc: Global,
+    command: &str,
+    given: &Given<'a>,
+) -> Result<Option<Request<'a>>, AllocError>
+    ensures { IfOk result (λ request. shown_request request ≡ command_request command.now (given_in given.now)) }
+{
+    if command == "trace" {
+        return trace_request(alloc, given);
+    }
+    if command == "stimulus" {
+        return Ok(stimulus_request(given));
+    }
+    Ok(bare_request(command, given))
+}
+
+/// The request that the words of a command line are, without the program's name, if they are one. The first word is the
+/// command.
+pub fn read_request(alloc: Global, words: &[String]) -> Result<Option<Request<'_>>, AllocError>
+    ensures { IfOk result (λ request. shown_request request ≡ request_of (map string_bytes words.now)) }
+{
+    let [command, rest @ ..] = words else {
+        return Ok(None);
+    };
+    let Some(given) = read_given(alloc, rest)? else {
+        return Ok(None);
+    };
+    let request = command_request(alloc, command.as_str(), &given)?;
+    Ok(request)
+}

@@ -1,0 +1,12 @@
+pub mod Entries
+pub mod Stocks
+pub mod Seens
+pub mod Begins
+pub mod Layings
+pub mod Backs
+pub mod Takings
+pub mod Teachings
+pub mod Turns
+pub mod Refutings
+pub mod Pausings
+pub mod Blockings

@@ -1,0 +1,10 @@
+pub mod Stock
+pub mod Seen
+pub mod Begun
+pub mod Running
+pub mod Laying
+pub mod Lesson
+pub mod Teaching
+pub mod Pausing
+pub mod Blocking
+pub mod Searching

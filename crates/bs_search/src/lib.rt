@@ -1,0 +1,21 @@
+//! The search of a solve, over a clause arena and watched literals.
+#![tactic(auto)]
+
+mod blocking;
+mod laying;
+mod lesson;
+mod pausing;
+mod reading;
+mod stock;
+mod teaching;
+mod turning;
+mod value;
+
+pub use blocking::{Spot, add_between};
+pub use laying::begin_level;
+pub use lesson::take_lesson;
+pub use pausing::rest;
+pub use stock::{Stock, add_clause, join, note};
+pub use teaching::learn;
+pub use turning::search;
+pub use value::values;

@@ -1,0 +1,126 @@
+//! Worked reports and their texts.
+use bs_bits::{NoMemory, push_piece};
+use bs_report::{Report, ReportFault};
+use std::alloc::Global;
+use std::test::Fail;
+
+/// Whether a report has this text.
+fn has_text(alloc: Global, report: &Report, want: &[u8]) -> Result<bool, NoMemory> {
+    if report.states.len() == 0 {
+        return Ok(false);
+    }
+    if report.states.len() - 1 != report.inputs.len() {
+        return Ok(false);
+    }
+    let mut text = Vec::new(alloc);
+    report.text(&mut text)?;
+    Ok(text.as_slice() == want)
+}
+
+/// Whether a text is read as a report that has it.
+fn read_again(alloc: Global, text: &[u8]) -> Result<bool, ReportFault> {
+    if text.len() > 1 << 29 {
+        return Ok(false);
+    }
+    let report = Report::read(alloc, text)?;
+    Ok(has_text(alloc, &report, text)?)
+}
+
+/// How a text of four parts with a step and a trace between them is read.
+fn read_parts(
+    alloc: Global,
+    asked: &str,
+    count: &str,
+    log: &str,
+    last: &str,
+) -> Result<Result<bool, ReportFault>, NoMemory> {
+    let mut text = Vec::new(alloc);
+    push_piece(&mut text, b"backspace 1\nasked ")?;
+    push_piece(&mut text, asked.as_bytes())?;
+    push_piece(
+        &mut text,
+        b" candidates 256 conflicts 100000\nstep 1\npresent 1\nstored .\ncand 0 input .\nlist finished 7\nhit 1 0 0\nstop reset\ntrace 1\nstate 0\ninput .\nstate 1\nlog ",
+    )?;
+    push_piece(&mut text, count.as_bytes())?;
+    push_piece(&mut text, b"\n")?;
+    push_piece(&mut text, log.as_bytes())?;
+    push_piece(
+        &mut text,
+        b"s\nb 6 -5 3 0\ns\n7 -5 -4 0 4 1 6 0\ne 7\nr 8\nd 6 7 0\n",
+    )?;
+    push_piece(&mut text, last.as_bytes())?;
+    Ok(read_again(alloc, text.as_slice()))
+}
+
+/// The text of a report of one step with so many bits in each state and so many candidates.
+fn long_text(alloc: Global, bits: u64, cands: u64) -> Result<Vec<u8>, NoMemory> {
+    let mut state = Vec::new(alloc);
+    for _ in 0..bits {
+        push_piece(&mut state, b"1")?;
+    }
+    let mut text = Vec::new(alloc);
+    push_piece(
+        &mut text,
+        b"backspace 1\nasked 1 candidates 65536 conflicts 1\nstep 1\npresent ",
+    )?;
+    push_piece(&mut text, state.as_slice())?;
+    push_piece(&mut text, b"\nstored 1\n")?;
+    for _ in 0..cands {
+        push_piece(&mut text, b"cand ")?;
+        push_piece(&mut text, state.as_slice())?;
+        push_piece(&mut text, b" input .\n")?;
+    }
+    push_piece(
+        &mut text,
+        b"list conflicts\nnohit\nstop conflicts\ntrace 0\nstate ",
+    )?;
+    push_piece(&mut text, state.as_slice())?;
+    push_piece(&mut text, b"\nlog 0\nend\n")?;
+    Ok(text)
+}
+
+#[test]
+fn long_reports_are_read_and_written(rt: HostRuntime) -> Result<(), Fail> {
+    let alloc = rt.alloc();
+    for (bits, cands) in [(1, 1), (65, 257), (4_096, 300)] {
+        let text = long_text(alloc, bits, cands)?;
+        let answer = read_again(alloc, text.as_slice());
+        assert_eq!(rt; answer, Ok(true), "{bits} {cands}");
+    }
+    Ok(())
+}
+
+#[test]
+fn copies_of_a_report_with_one_change(rt: HostRuntime) -> Result<(), Fail> {
+    let alloc = rt.alloc();
+    for (asked, count, log, last, want) in [
+        ("64", "7", "", "end\n", Ok(true)),
+        ("64", "7", "", "end\n\n", Err(ReportFault::Extra)),
+        ("64", "7", "", "end\nx", Err(ReportFault::Extra)),
+        ("64", "7", "", "", Err(ReportFault::Short)),
+        ("64", "7", "", "end", Err(ReportFault::Short)),
+        ("64", "7", "", "x", Err(ReportFault::Short)),
+        ("0", "7", "", "end\n", Err(ReportFault::Line(2))),
+        ("064", "7", "", "end\n", Err(ReportFault::Line(2))),
+        ("65537", "7", "", "end\n", Err(ReportFault::Line(2))),
+        ("64", "07", "", "end\n", Err(ReportFault::Line(14))),
+        ("64", "7", "s\n", "end\n", Err(ReportFault::Line(22))),
+        ("64", "6", "", "end\n", Err(ReportFault::Line(21))),
+        ("64", "8", "", "end\n", Err(ReportFault::Line(22))),
+        (
+            "64",
+            "18446744073709551615",
+            "",
+            "",
+            Err(ReportFault::Short),
+        ),
+    ] {
+        let answer = read_parts(alloc, asked, count, log, last)?;
+        assert_eq!(rt; answer, want, "{asked} {count} {log} {last}");
+    }
+    assert_eq!(rt; read_again(alloc, b""), Err(ReportFault::Short));
+    let shift =
+        b"backspace 1\nasked 64 candidates 256 conflicts 100000\nstep 1\npresent 11\nstored 1\ncand 11 input 1\nlist finished 9\nhit 1 2 11\nstep 2\npresent 11\nstored 0\ncand 10 input 1\nlist candidates\nhit 1 1 10\nstep 3\npresent 10\nstored 0\ncand 00 input 1\nlist conflicts\nnohit\nstop conflicts\ntrace 2\nstate 10\ninput 1\nstate 11\ninput 1\nstate 11\nlog 0\nend\n";
+    assert_eq!(rt; read_again(alloc, shift), Ok(true));
+    Ok(())
+}

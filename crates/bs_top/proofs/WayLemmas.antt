@@ -1,0 +1,108 @@
+-- The trace of a good report is a way of the chip: its states and inputs have their widths.
+use Rattle.std.proofs.Common.{◌≡◌, ℕ, suc, ◌+◌, Bool, true, false, cond, ◌||◌, List, [], ◌∷◌, ◌++◌, length, reverse, refl}
+use Rattle.std.proofs.Common.{arith, ap, sym, subst, ◌∙◌, Option, Some, None}
+use Rattle.std.specs.Prelude.{find, filter_map, option_map, option_and_then, All}
+use Rattle.std.specs.List.{AllByRecursion as Each, cons_option}
+use Rattle.std.proofs.lemmas.Bool.{true≢false, false≢true}
+use Rattle.std.proofs.lemmas.List.{length-append, length-reverse, reverse-append}
+use Rattle.std.proofs.lemmas.List.Elements.{All-append, All-from_recursion, recursion_from_All}
+use Rattle.bs_scan.specs.Crash.{Crash, DumpFits}
+use Rattle.bs_scan.specs.Moments.{is_listed}
+use Rattle.bs_scan.proofs.SignatureLemmas.{bits_same, bits_same_is}
+use Rattle.bs_bits.specs.Bits.{bits_eq}
+use Rattle.bs_net.specs.Circuit.{Circuit}
+use Rattle.bs_report.specs.declared.report.Cand.{Cand}
+use Rattle.bs_report.specs.declared.report.HitLine.{HitLine}
+use Rattle.bs_report.specs.declared.report.Step.{Step}
+use Rattle.bs_report.specs.declared.report.Report.{Report}
+use Rattle.bs_good.specs.Step.{stored_of, listed, IsRightStep, IsCandidate}
+use Rattle.bs_good.specs.Trace.{hit_state, input_for}
+use Rattle.bs_good.specs.Good.{IsGood}
+use Rattle.bs_good.proofs.ProgressLemmas.{hit_at}
+use Rattle.bs_good.proofs.ExecutionLemmas.{led_widths}
+use Rattle.bs_wave.specs.Wave.{IsWayOf}
+
+-- a listed state has a candidate, and what holds of each holds of it
+record CandFor (P : Cand → Type 0) (cands : List Cand) (s : List Bool) : Type 0 where
+  cand : Cand
+  first : find (λ (c : Cand). bits_eq c.state s) cands ≡ Some cand
+  state : cand.state ≡ s
+  right : P cand
+
+cand_for : (P : Cand → Type 0) (cands : List Cand) (s : List Bool) → Each P cands → is_listed (listed cands) s ≡ true → CandFor P cands s
+cand_for P [] s h e = absurd (false≢true e)
+cand_for P (c ∷ cs) s h e = by (bits_eq c.state s) refl (bits_eq s c.state) refl e (cand_for P cs s h.1)
+  where
+    by : (a : Bool) → bits_eq c.state s ≡ a → (b : Bool) → bits_eq s c.state ≡ b → (b || is_listed (listed cs) s) ≡ true →
+        (is_listed (listed cs) s ≡ true → CandFor P cs s) → CandFor P (c ∷ cs) s
+    by true a b eb e rest = record {
+      cand = c;
+      first = ap (λ t. cond t (Some c) (find (λ (c : Cand). bits_eq c.state s) cs)) a;
+      state =
+          bits_same_is c.state s a;
+      right = h.0;
+    }
+    by false a true eb e rest =
+        let same : s ≡ c.state = bits_same_is s c.state eb in
+        absurd (true≢false (sym (bits_same s) ∙ (ap (λ (t : List Bool). bits_eq t s) same ∙ a)))
+    by false a false eb e rest =
+        let f = rest e in
+        record { cand = f.cand; first = ap (λ t. cond t (Some c) (find (λ (c : Cand). bits_eq c.state s) cs)) a ∙ f.first; state = f.state; right = f.right }
+
+-- as many states as inputs, each of its width
+record Ways (c : Circuit) (ss xs : List (List Bool)) : Type 0 where
+  same : length ss ≡ length xs
+  wide : Each (λ (s : List Bool). length s ≡ length c.flops) ss
+  fed : Each (λ (x : List Bool). length x ≡ length c.inputs) xs
+
+hit_way : (crash : Crash) (step : Step) (hit : HitLine) (ss xs : List (List Bool)) → IsRightStep crash step → step.hit ≡ Some hit →
+    Ways crash.circuit ss xs → Ways crash.circuit (hit.state ∷ ss) (cons_option (input_for step hit.state) xs)
+hit_way crash step hit ss xs right e rest =
+    let reached : is_listed (listed step.cands) hit.state ≡ true = (hit_at crash step hit (sym e ∙ right.hit)).reached in
+    let f = cand_for (IsCandidate crash.circuit crash.choice step.present (stored_of step)) step.cands hit.state
+    (recursion_from_All (IsCandidate crash.circuit crash.choice step.present (stored_of step)) step.cands right.candidates) reached in
+    let widths = led_widths crash.circuit f.cand.state f.cand.input step.present f.right.leads in
+    let input : input_for step hit.state ≡ Some f.cand.input = ap (option_map (λ (c : Cand). c.input)) f.first in
+    let more : Ways crash.circuit (hit.state ∷ ss) (f.cand.input ∷ xs) =
+    record { same = ap suc rest.same; wide = (ap length (sym f.state) ∙ widths.0, rest.wide); fed = (widths.1, rest.fed) } in
+    subst (λ (o : Option (List Bool)). Ways crash.circuit (hit.state ∷ ss) (cons_option o xs)) (sym input) more
+
+steps_way : (crash : Crash) (steps : List Step) → Each (IsRightStep crash) steps →
+    Ways crash.circuit (filter_map hit_state steps) (filter_map (λ step. option_and_then (input_for step) (hit_state step)) steps)
+steps_way crash [] right = record { same = refl; wide = tt; fed = tt }
+steps_way crash (step ∷ steps) right = by step.hit refl (steps_way crash steps right.1)
+  where
+    by : (o : Option HitLine) → step.hit ≡ o →
+        Ways crash.circuit (filter_map hit_state steps) (filter_map (λ step. option_and_then (input_for step) (hit_state step)) steps) →
+        Ways crash.circuit (cons_option (option_map (λ (h : HitLine). h.state) o) (filter_map hit_state steps))
+        (cons_option (option_and_then (input_for step) (option_map (λ (h : HitLine). h.state) o))
+        (filter_map (λ step. option_and_then (input_for step) (hit_state step)) steps))
+    by None e rest = rest
+    by (Some hit) e rest = hit_way crash step hit _ _ right.0 e rest
+
+all_reverse : (P : List Bool → Type 0) (xs : List (List Bool)) → Each P xs → All P (reverse xs)
+all_reverse P [] h = All-from_recursion P [] tt
+all_reverse P (x ∷ xs) h =
+    subst (λ (l : List (List Bool)). All P l) (sym (reverse-append (x ∷ []) xs))
+    (All-append P (reverse xs) (x ∷ []) (all_reverse P xs h.1) (All-from_recursion P (x ∷ []) (h.0, tt)))
+
+pub way_is : (crash : Crash) (r : Report) → DumpFits crash.circuit crash.choice crash.dump → IsGood crash r → IsWayOf crash.circuit r.states r.inputs
+way_is crash r fits good =
+    let c = crash.circuit in
+    let ss : List (List Bool) = filter_map hit_state r.steps in
+    let xs : List (List Bool) = filter_map (λ (step : Step). option_and_then (input_for step) (hit_state step)) r.steps in
+    let way : Ways c ss xs = steps_way crash r.steps (recursion_from_All (IsRightStep crash) r.steps good.steps) in
+    let W : List Bool → Type 0 = λ s. length s ≡ length c.flops in
+    let X : List Bool → Type 0 = λ x. length x ≡ length c.inputs in
+    let dumped : List (List Bool) = crash.dump.state ∷ [] in
+    let states : All W (reverse ss ++ dumped) =
+    All-append W (reverse ss) dumped (all_reverse W ss way.wide) (All-from_recursion W dumped (fits.state, tt)) in
+    let inputs : All X (reverse xs) = all_reverse X xs way.fed in
+    record {
+      one_more =
+          ap length good.trace.states
+          ∙ (length-append (reverse ss) dumped
+          ∙ (ap (λ n. n + 1) (length-reverse ss ∙ (way.same ∙ sym (length-reverse xs))) ∙ ap (λ (l : List (List Bool)). length l + 1) (sym good.trace.inputs)));
+      state_widths = subst (λ (l : List (List Bool)). All W l) (sym good.trace.states) states;
+      input_widths = subst (λ (l : List (List Bool)). All X l) (sym good.trace.inputs) inputs;
+    }

@@ -1,0 +1,13 @@
+pub mod ListLemmas
+pub mod LastLemmas
+pub mod WritingLemmas
+pub mod IdLemmas
+pub mod FormLemmas
+pub mod ReadingLemmas
+pub mod ChangeLemmas
+pub mod SpelledLemmas
+pub mod ReadBackLemmas
+pub mod FaultLemmas
+pub mod TraceLemmas
+pub mod AllLemmas
+pub mod Examples

@@ -1,0 +1,10 @@
+//! The value that a net has at a moment.
+
+/// A value of four-state logic without high impedance.
+#[derive(Clone, Copy, Debug, PartialEq, Eq)]
+pub enum Value {
+    Zero,
+    One,
+    /// No input has come that decides it.
+    Unknown,
+}
