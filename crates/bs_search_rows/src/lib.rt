@@ -1,7 +1,5 @@
-//! Worked rows on calls of the solver and of the encoding, each with ample memory: tests alone.
+//! Worked rows on calls of the solver, each with ample memory: tests alone.
 #![tactic(auto)]
 
-#[cfg(test)]
-mod encode_rows;
 #[cfg(test)]
 mod solve_rows;
