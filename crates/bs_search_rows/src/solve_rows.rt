@@ -1,18 +1,21 @@
 //! Solves, blocks and ends of steps: rows from outside, and each call that takes memory with ample memory, at small and at
 //! great sizes.
-ghost use Rattle.std.specs.Prelude.{◌≡◌, ◌==◌, true, All};
+ghost use Rattle.std.specs.Prelude.{◌≡◌, ◌==◌, true, All, IfOk, IfSome};
 ghost use Rattle.std.specs.Bool.{OnTrue};
 ghost use Rattle.std.specs.List.{list_any};
 ghost use Rattle.bs_log.specs.Refusal.{has_distinct_variables};
 ghost use Rattle.bs_clause.specs.Range.{HasVariables};
+ghost use Rattle.bs_book.specs.declared.stage.Stage.TheVariants.{Begun, Solved};
+ghost use Rattle.bs_book.specs.Search.{assumed};
 
 use bs_book::Answer;
-use bs_clause::{Clauses, Lit, Lits, VARIABLE_LIMIT, Var};
+use bs_clause::{Clauses, Lit, Lits, NoMemory, VARIABLE_LIMIT, Var};
 use bs_engine::Solver;
+use bs_log::Log;
 use std::alloc::Global;
 use std::test::Fail;
 
-// A literal as a whole number, negative for a negation.
+/// A literal as a whole number, negative for a negation.
 fn lit(number: i32) -> Lit {
     let variable = number.unsigned_abs();
     if 1 <= variable && variable < VARIABLE_LIMIT {
@@ -22,7 +25,7 @@ fn lit(number: i32) -> Lit {
     }
 }
 
-// The literal of the variable after a number, or of the first one where there is none.
+/// The literal of the variable after a number, or of the first one where there is none.
 fn literal_after(number: u32) -> Lit {
     if number < VARIABLE_LIMIT - 1 {
         Lit::new(Var(number + 1), true)
@@ -31,7 +34,7 @@ fn literal_after(number: u32) -> Lit {
     }
 }
 
-fn clause(alloc: Global, numbers: &[i32]) -> Result<Lits, Fail> {
+fn clause(alloc: Global, numbers: &[i32]) -> Result<Lits, NoMemory> {
     let mut literals = Lits::new(alloc);
     for number in numbers {
         literals.push(lit(*number))?;
@@ -39,7 +42,7 @@ fn clause(alloc: Global, numbers: &[i32]) -> Result<Lits, Fail> {
     Ok(literals)
 }
 
-fn clauses(alloc: Global, rows: &[&[i32]]) -> Result<Clauses, Fail> {
+fn clauses(alloc: Global, rows: &[&[i32]]) -> Result<Clauses, NoMemory> {
     let mut all = Clauses::new(alloc);
     for row in rows {
         all.push(clause(alloc, row)?)?;
@@ -47,7 +50,7 @@ fn clauses(alloc: Global, rows: &[&[i32]]) -> Result<Clauses, Fail> {
     Ok(all)
 }
 
-// Whether the clause is over the variables 1 to a number.
+/// Whether the clause is over the variables 1 to a number.
 fn is_over(vars: u32, clause: &[Lit]) -> bool
     ensures { OnTrue result (HasVariables vars clause.now) }
 {
@@ -59,7 +62,7 @@ fn is_over(vars: u32, clause: &[Lit]) -> bool
     true
 }
 
-// Whether a literal of the variable stands in the clause.
+/// Whether a literal of the variable stands in the clause.
 fn has_variable(clause: &[Lit], variable: u32) -> bool
     ensures { result ≡ list_any (λ m. m.variable == variable) clause.now }
 {
@@ -71,7 +74,7 @@ fn has_variable(clause: &[Lit], variable: u32) -> bool
     false
 }
 
-// Whether no variable stands in the clause twice.
+/// Whether no variable stands in the clause twice.
 fn is_distinct(clause: &[Lit]) -> bool
     ensures { OnTrue result (has_distinct_variables clause.now ≡ true) }
 {
@@ -83,23 +86,40 @@ fn is_distinct(clause: &[Lit]) -> bool
     true
 }
 
-// Whether a solver may begin with these clauses.
+/// Whether a clause of distinct variables is over the variables 1 to a number.
+fn is_fit(vars: u32, clause: &[Lit]) -> bool
+    ensures range { OnTrue result (HasVariables vars clause.now) }
+    ensures distinct { OnTrue result (has_distinct_variables clause.now ≡ true) }
+{
+    is_over(vars, clause) && is_distinct(clause)
+}
+
+/// Whether a solver may begin with these clauses.
 fn are_fit(vars: u32, clauses: &[Lits]) -> bool
     ensures range { OnTrue result (All (HasVariables vars) clauses.now) }
     ensures distinct { OnTrue result (All (λ c. has_distinct_variables c ≡ true) clauses.now) }
 {
     for c in clauses {
-        if !is_over(vars, c.slice()) {
-            return false;
-        }
-        if !is_distinct(c.slice()) {
+        if !is_fit(vars, c.slice()) {
             return false;
         }
     }
     true
 }
 
-// The answer as a word.
+/// A solver over these clauses in its first step, where they are fit.
+fn begun(alloc: Global, all: Clauses, vars: u32) -> Result<Option<Solver>, NoMemory>
+    ensures { IfOk result (λ begun. IfSome begun (λ s. (s.stage ≡ Begun) × (s.book.problem.vars ≡ vars))) }
+{
+    if 10000 < vars || !are_fit(vars, all.slice()) {
+        return Ok(None);
+    }
+    let mut solver = Solver::new(alloc, vars, all)?;
+    let _ = solver.begin_step()?;
+    Ok(Some(solver))
+}
+
+/// The answer as a word.
 fn word(answer: &Answer) -> &'static str {
     match answer {
         Answer::Found(_) => "found",
@@ -108,47 +128,61 @@ fn word(answer: &Answer) -> &'static str {
     }
 }
 
-// How the first solve of these clauses ends, and the length of the log.
-fn ending(
+/// Appends the text of a log.
+fn push_log(text: &mut Vec<u8>, log: &Log) -> Result<(), NoMemory> {
+    for line in log.slice() {
+        line.text(text)?;
+        text.push(b'\n')?;
+    }
+    Ok(())
+}
+
+/// How the first solve in a step ends, and the length of the log.
+#[tactic(auto, using(crate::proofs::SolverLemmas::may_begin))]
+fn solved(
     alloc: Global,
-    all: Clauses,
-    vars: u32,
+    solver: &mut Solver,
     given: &Lits,
     limit: u64,
-) -> Result<(&'static str, usize), Fail> {
-    if 10000 < vars || limit < 1 {
-        return Ok(("unfit", 0));
-    }
-    if !are_fit(vars, all.slice()) {
-        return Ok(("unfit", 0));
-    }
-    let mut solver = Solver::new(alloc, vars, all)?;
-    let _ = solver.begin_step()?;
-    if !is_over(solver.vars(), given.slice()) {
-        return Ok(("unfit", 0));
-    }
-    if !is_distinct(given.slice()) {
+) -> Result<(&'static str, usize), NoMemory>
+    requires { solver.old.stage ≡ Begun }
+{
+    if limit < 1 || !is_fit(solver.vars(), given.slice()) {
         return Ok(("unfit", 0));
     }
     let answer = solver.solve(alloc, given, limit)?;
     Ok((word(&answer), solver.log().len()))
 }
 
-// The same of clauses and assumptions as numbers.
+/// The same of a solver over these clauses.
+fn ending(
+    alloc: Global,
+    all: Clauses,
+    vars: u32,
+    given: &Lits,
+    limit: u64,
+) -> Result<(&'static str, usize), NoMemory> {
+    match begun(alloc, all, vars)? {
+        Some(mut solver) => solved(alloc, &mut solver, given, limit),
+        None => Ok(("unfit", 0)),
+    }
+}
+
+/// The same of clauses and assumptions as numbers.
 fn ending_of(
     alloc: Global,
     rows: &[&[i32]],
     vars: u32,
     assumptions: &[i32],
     limit: u64,
-) -> Result<(&'static str, usize), Fail> {
+) -> Result<(&'static str, usize), NoMemory> {
     let all = clauses(alloc, rows)?;
     let given = clause(alloc, assumptions)?;
     ending(alloc, all, vars, &given, limit)
 }
 
-// The same of one clause of so many negative literals, where all of their variables are assumed.
-fn long_ending(alloc: Global, vars: u32) -> Result<(&'static str, usize), Fail> {
+/// The same of one clause of so many negative literals, where all of their variables are assumed.
+fn long_ending(alloc: Global, vars: u32) -> Result<(&'static str, usize), NoMemory> {
     let mut long = Lits::new(alloc);
     let mut given = Lits::new(alloc);
     for number in 0..vars {
@@ -161,47 +195,101 @@ fn long_ending(alloc: Global, vars: u32) -> Result<(&'static str, usize), Fail> 
     ending(alloc, all, vars, &given, 1)
 }
 
-// A solve, a block of what it found, another solve and the step's end: the block's id, how the second solve ends, the length
-// of the log, and how many lemmas stand then.
+/// Whether the solve found values.
+#[tactic(auto, using(crate::proofs::SolverLemmas::may_begin))]
+fn finds(alloc: Global, solver: &mut Solver, given: &Lits) -> Result<bool, NoMemory>
+    requires stage { solver.old.stage ≡ Begun }
+    requires range { HasVariables solver.old.vars given.now }
+    requires distinct { has_distinct_variables given.now ≡ true }
+    ensures stage { IfOk result (λ is. OnTrue is (solver.new.stage ≡ Solved)) }
+    ensures step { IfOk result (λ _. assumed solver.new.book ≡ given.now) }
+    ensures used { IfOk result (λ _. solver.new.vars ≡ solver.old.vars) }
+    ensures vars { solver.new.book.problem.vars ≡ solver.old.book.problem.vars }
+{
+    match solver.solve(alloc, given, 1)? {
+        Answer::Found(_) => Ok(true),
+        _ => Ok(false),
+    }
+}
+
+/// A solve, a block of what it found, another solve and the step's end: the block's id, how the second solve ends, the length
+/// of the log, and how many lemmas stand then.
+#[tactic(auto, using(crate::proofs::SolverLemmas::may_go_on))]
+fn blocked(
+    alloc: Global,
+    solver: &mut Solver,
+    vars: u32,
+    given: &Lits,
+    block: &Lits,
+) -> Result<(u64, &'static str, usize, usize), NoMemory>
+    requires stage { solver.old.stage ≡ Begun }
+    requires vars { solver.old.book.problem.vars ≡ vars }
+{
+    if !is_fit(solver.vars(), given.slice()) || !is_fit(vars, block.slice()) {
+        return Ok((0, "unfit", 0, 0));
+    }
+    if !finds(alloc, solver, given)? {
+        return Ok((0, "unfit", 0, 0));
+    }
+    let id = solver.block(alloc, block)?;
+    let second = solver.solve(alloc, given, 1)?;
+    solver.end_step(alloc, None)?;
+    let ending = word(&second);
+    Ok((id, ending, solver.log().len(), solver.lemma_ids().len()))
+}
+
+/// The same of a solver over these clauses.
 fn again(
     alloc: Global,
     rows: &[&[i32]],
     vars: u32,
     assumptions: &[i32],
-    blocked: &[i32],
-) -> Result<(u64, &'static str, usize, usize), Fail> {
+    block: &[i32],
+) -> Result<(u64, &'static str, usize, usize), NoMemory> {
     let all = clauses(alloc, rows)?;
     let given = clause(alloc, assumptions)?;
-    let block = clause(alloc, blocked)?;
-    if 10000 < vars {
-        return Ok((0, "unfit", 0, 0));
+    let block = clause(alloc, block)?;
+    match begun(alloc, all, vars)? {
+        Some(mut solver) => blocked(alloc, &mut solver, vars, &given, &block),
+        None => Ok((0, "unfit", 0, 0)),
     }
-    if !are_fit(vars, all.slice()) {
-        return Ok((0, "unfit", 0, 0));
+}
+
+/// A solve that is refuted, and the step's end by its lemma: the log, how many lemmas stand then, and how many clauses and
+/// words the arena has.
+#[tactic(auto, using(crate::proofs::SolverLemmas::may_begin))]
+fn finished(
+    alloc: Global,
+    solver: &mut Solver,
+    given: &Lits,
+) -> Result<(Vec<u8>, usize, usize, usize), NoMemory>
+    requires { solver.old.stage ≡ Begun }
+{
+    let mut text = Vec::new(alloc);
+    if !is_fit(solver.vars(), given.slice()) {
+        return Ok((text, 0, 0, 0));
     }
-    let mut solver = Solver::new(alloc, vars, all)?;
-    let _ = solver.begin_step()?;
-    if !is_over(solver.vars(), given.slice()) {
-        return Ok((0, "unfit", 0, 0));
+    if let Answer::Refuted(id) = solver.solve(alloc, given, 1)? {
+        solver.end_step(alloc, Some(id))?;
+        push_log(&mut text, solver.log())?;
     }
-    if !is_distinct(given.slice()) {
-        return Ok((0, "unfit", 0, 0));
+    let arena = solver.arena();
+    Ok((text, solver.lemma_ids().len(), arena.count(), arena.words()))
+}
+
+/// The same of a solver over these clauses.
+fn finish_of(
+    alloc: Global,
+    rows: &[&[i32]],
+    vars: u32,
+    assumptions: &[i32],
+) -> Result<(Vec<u8>, usize, usize, usize), NoMemory> {
+    let all = clauses(alloc, rows)?;
+    let given = clause(alloc, assumptions)?;
+    match begun(alloc, all, vars)? {
+        Some(mut solver) => finished(alloc, &mut solver, &given),
+        None => Ok((Vec::new(alloc), 0, 0, 0)),
     }
-    if !is_over(vars, block.slice()) {
-        return Ok((0, "unfit", 0, 0));
-    }
-    if !is_distinct(block.slice()) {
-        return Ok((0, "unfit", 0, 0));
-    }
-    match solver.solve(alloc, &given, 1)? {
-        Answer::Found(_) => {}
-        _ => return Ok((0, "unfit", 0, 0)),
-    }
-    let id = solver.block(alloc, &block)?;
-    let second = solver.solve(alloc, &given, 1)?;
-    let ending = word(&second);
-    solver.end_step(alloc, None)?;
-    Ok((id, ending, solver.log().len(), solver.lemma_ids().len()))
 }
 
 #[test]
@@ -225,5 +313,15 @@ fn solves_end_as_the_rows_say(rt: HostRuntime) -> Result<(), Fail> {
     );
     assert_eq!(rt; long_ending(alloc, 1)?, ("refuted", 2));
     assert_eq!(rt; long_ending(alloc, 3000)?, ("refuted", 2));
+    Ok(())
+}
+
+#[test]
+fn a_step_ends_by_its_lemma(rt: HostRuntime) -> Result<(), Fail> {
+    let alloc = rt.alloc();
+    // The clause, the lemma, which has no literal of the guard 3, and the unit of the guard's negation stand: no block.
+    let (text, lemmas, clauses, words) = finish_of(alloc, &[&[-1, 2]], 2, &[3, 1, -2])?;
+    assert_eq!(rt; str::from_utf8(&text), Ok("s\n2 -1 2 0 1 0\ne 2\nr 3\n"));
+    assert_eq!(rt; (lemmas, clauses, words), (1, 3, 17));
     Ok(())
 }

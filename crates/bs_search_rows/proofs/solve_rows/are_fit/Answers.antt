@@ -10,11 +10,11 @@ use Rattle.bs_search_rows.proofs.solve_rows.are_fit.Goals as goal
 pub loop-c-preserved : goal.loop-c-preserved
 loop-c-preserved c = record {
   range = All-more (HasVariables c.args.vars) c.args.clauses.now c.loop-c.c-index c.c-item.result c.loop-c-test.true c.loop-c.invariant.range
-      (subst (HasVariables c.args.vars) c.c-item.is (subst (HasVariables c.args.vars) c.slice.ensures c.if-not-is_over.ensures));
+      (subst (HasVariables c.args.vars) c.c-item.is (subst (HasVariables c.args.vars) c.slice.ensures c.if-not-is_fit.ensures.range));
   distinct = All-more (λ (x : Clause). has_distinct_variables x ≡
       true) c.args.clauses.now c.loop-c.c-index c.c-item.result c.loop-c-test.true c.loop-c.invariant.distinct
       (subst (λ (x : Clause). has_distinct_variables x ≡ true) c.c-item.is
-      (subst (λ (x : Clause). has_distinct_variables x ≡ true) c.slice-in-loop-c.ensures c.if-not-is_distinct.ensures));
+      (subst (λ (x : Clause). has_distinct_variables x ≡ true) c.slice.ensures c.if-not-is_fit.ensures.distinct));
 }
 
 pub returns-clause-range : goal.returns-clause-range
