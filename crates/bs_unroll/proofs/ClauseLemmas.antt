@@ -20,11 +20,13 @@ pub raised_value : (a : ℕ → Bool) (by : ℕ) (c : Clause) → list_any (lite
 raised_value a by [] = refl
 raised_value a by (l ∷ c) = ap (λ x. literal_value (lowered a by) l || x) (raised_value a by c)
 
-pub lowered_met : (a : ℕ → Bool) (by : ℕ) (cs : List Clause) → AllByRecursion (Satisfies a) (map (raised_all by) cs) → AllByRecursion (Satisfies (lowered a by)) cs
+pub lowered_met : (a : ℕ → Bool) (by : ℕ) (cs : List Clause) → AllByRecursion (Satisfies a) (map (raised_all by) cs) →
+    AllByRecursion (Satisfies (lowered a by)) cs
 lowered_met a by [] h = tt
 lowered_met a by (c ∷ cs) h = (sym (raised_value a by c) ∙ h.0, lowered_met a by cs h.1)
 
-pub raised_met : (a : ℕ → Bool) (by : ℕ) (cs : List Clause) → AllByRecursion (Satisfies (lowered a by)) cs → AllByRecursion (Satisfies a) (map (raised_all by) cs)
+pub raised_met : (a : ℕ → Bool) (by : ℕ) (cs : List Clause) → AllByRecursion (Satisfies (lowered a by)) cs →
+    AllByRecursion (Satisfies a) (map (raised_all by) cs)
 raised_met a by [] h = tt
 raised_met a by (c ∷ cs) h = (raised_value a by c ∙ h.0, raised_met a by cs h.1)
 
@@ -42,18 +44,22 @@ length-raised_all by (l ∷ ls) = omega (arith, length-raised_all by ls)
 
 -- ---- lists of parts
 
-parts_of_flat : {X : Type 0} (P : X → Type 0) (f : ℕ → List X) (ks : List ℕ) → AllByRecursion P (flat_map f ks) → AllByRecursion (λ k. AllByRecursion P (f k)) ks
+parts_of_flat : {X : Type 0} (P : X → Type 0) (f : ℕ → List X) (ks : List ℕ) → AllByRecursion P (flat_map f ks) →
+    AllByRecursion (λ k. AllByRecursion P (f k)) ks
 parts_of_flat P f [] h = tt
 parts_of_flat P f (k ∷ ks) h = (left_all P (f k) (flat_map f ks) h, parts_of_flat P f ks (right_all P (f k) (flat_map f ks) h))
 
-flat_of_parts : {X : Type 0} (P : X → Type 0) (f : ℕ → List X) (ks : List ℕ) → AllByRecursion (λ k. AllByRecursion P (f k)) ks → AllByRecursion P (flat_map f ks)
+flat_of_parts : {X : Type 0} (P : X → Type 0) (f : ℕ → List X) (ks : List ℕ) → AllByRecursion (λ k. AllByRecursion P (f k)) ks →
+    AllByRecursion P (flat_map f ks)
 flat_of_parts P f [] h = tt
 flat_of_parts P f (k ∷ ks) h = join P (f k) (flat_map f ks) h.0 (flat_of_parts P f ks h.1)
 
-pub part_of_flat : {X : Type 0} (P : X → Type 0) (f : ℕ → List X) (n : ℕ) → AllByRecursion P (flat_map f (range_with_len 0 n)) → (k : ℕ) → k < n → AllByRecursion P (f k)
+pub part_of_flat : {X : Type 0} (P : X → Type 0) (f : ℕ → List X) (n : ℕ) → AllByRecursion P (flat_map f (range_with_len 0 n)) → (k : ℕ) → k < n →
+    AllByRecursion P (f k)
 part_of_flat P f n h = below_from_range (λ k. AllByRecursion P (f k)) n (parts_of_flat P f (range_with_len 0 n) h)
 
-pub flat_of : {X : Type 0} (P : X → Type 0) (f : ℕ → List X) (n : ℕ) → ((k : ℕ) → k < n → AllByRecursion P (f k)) → AllByRecursion P (flat_map f (range_with_len 0 n))
+pub flat_of : {X : Type 0} (P : X → Type 0) (f : ℕ → List X) (n : ℕ) → ((k : ℕ) → k < n → AllByRecursion P (f k)) →
+    AllByRecursion P (flat_map f (range_with_len 0 n))
 flat_of P f n h = flat_of_parts P f (range_with_len 0 n) (range_from_below (λ k. AllByRecursion P (f k)) n h)
 
 -- ---- links
@@ -69,7 +75,8 @@ links_say a [] [] wide h = refl
 links_say a [] (s ∷ ss) wide h = absurd (omega (arith, wide))
 links_say a (n ∷ ns) [] wide h = absurd (omega (arith, wide))
 links_say a (n ∷ ns) (s ∷ ss) wide h =
-    ap (λ b. b ∷ bits_on a ns) (link_says (a n.variable) (a s.variable) h.0 h.1.0) ∙ ap (λ bs. a s.variable ∷ bs) (links_say a ns ss (omega (arith, wide)) h.1.1)
+    ap (λ b. b ∷ bits_on a ns) (link_says (a n.variable) (a s.variable) h.0 h.1.0)
+        ∙ ap (λ bs. a s.variable ∷ bs) (links_say a ns ss (omega (arith, wide)) h.1.1)
 
 link_met : (x y : Bool) → x ≡ y → ((beq x false || (beq y true || false)) ≡ true) × ((beq x true || (beq y false || false)) ≡ true)
 link_met true true e = (refl, refl)

@@ -1,5 +1,6 @@
 -- Raised clauses: their variables, and that none stands twice.
-use Rattle.std.proofs.Common.{◌≡◌, ◌≢◌, ℕ, zero, suc, ◌+◌, ◌-◌, ◌*◌, ◌<◌, ◌≤◌, Bool, true, false, not, ◌&&◌, ◌||◌, eqb, List, [], ◌∷◌, ◌++◌, map, length, refl, ap, sym, subst, ◌∙◌, ◌⊎◌, inl, inr, arith}
+use Rattle.std.proofs.Common.{◌≡◌, ◌≢◌, ℕ, zero, suc, ◌+◌, ◌-◌, ◌*◌, ◌<◌, ◌≤◌, Bool, true, false, not, ◌&&◌, ◌||◌, eqb, List, [], ◌∷◌, ◌++◌, map, length}
+use Rattle.std.proofs.Common.{refl, ap, sym, subst, ◌∙◌, ◌⊎◌, inl, inr, arith}
 use Rattle.std.specs.List.{AllByRecursion, All, list_any, range_with_len, flat_map}
 use Rattle.std.proofs.lemmas.Bool.{cases_eq, eq-eqb, ne_eqb}
 use Rattle.std.proofs.lemmas.List.Elements.{recursion_from_All, All-from_recursion}
@@ -56,7 +57,8 @@ assumed_below e k c p u lt =
     signed_all (InRange (k * e.variables)) (next_at e c) p
     (raised_within (base_of e c) e.variables (k * e.variables) e.next (recursion_from_All (IsWithin e.variables) e.next u.next) (copies_fit e.variables k c lt))
 
-pub assumed_range : (e : Encoded) (k c vars : ℕ) (p : List Bool) (guard : Literal) (a : Clause) → IsUnrollable e k → c < k → guard ≡ lit (k * e.variables + (c + 1)) true →
+pub assumed_range : (e : Encoded) (k c vars : ℕ) (p : List Bool) (guard : Literal) (a : Clause) → IsUnrollable e k → c < k →
+    guard ≡ lit (k * e.variables + (c + 1)) true →
     vars ≡ k * e.variables + (c + 1) → a ≡ guard ∷ signed (next_at e c) p → HasVariables vars a
 assumed_range e k c vars p guard a u lt is many are =
     let n : ℕ = k * e.variables in
@@ -67,7 +69,8 @@ assumed_range e k c vars p guard a u lt is many are =
       weaken (IsWithin n) (IsWithin vars) (λ l w. (w.0, omega (arith, w.1, many))) (signed (next_at e c) p) (assumed_below e k c p u lt),
     ))
 
-pub assumed_distinct : (e : Encoded) (k c : ℕ) (p : List Bool) (guard : Literal) (a : Clause) → IsUnrollable e k → c < k → guard ≡ lit (k * e.variables + (c + 1)) true →
+pub assumed_distinct : (e : Encoded) (k c : ℕ) (p : List Bool) (guard : Literal) (a : Clause) → IsUnrollable e k → c < k →
+    guard ≡ lit (k * e.variables + (c + 1)) true →
     a ≡ guard ∷ signed (next_at e c) p → has_distinct_variables a ≡ true
 assumed_distinct e k c p guard a u lt is are =
     let n : ℕ = k * e.variables in
@@ -81,7 +84,8 @@ assumed_distinct e k c p guard a u lt is are =
 
 -- ---- what is read of a copy
 
-pub read_range : (n k c m by : ℕ) (ls from xs ys : List Literal) → HasVariables n ls → c < k → k * n ≤ m → by ≡ c * n → from ≡ ls → xs ≡ raised_all by from → ys ≡ xs → HasVariables m ys
+pub read_range : (n k c m by : ℕ) (ls from xs ys : List Literal) → HasVariables n ls → c < k → k * n ≤ m → by ≡ c * n → from ≡ ls → xs ≡ raised_all by from →
+    ys ≡ xs → HasVariables m ys
 read_range n k c m by ls from xs ys h lt wide is same raises reads =
     subst (λ (zs : List Literal). HasVariables m zs) (sym (reads ∙ (raises ∙ ap (raised_all by) same)))
     (All-from_recursion (IsWithin m) (raised_all by ls) (raised_within by n m ls (recursion_from_All (IsWithin n) ls h) (omega (arith, is, copies_fit n k c lt, wide))))

@@ -1,5 +1,6 @@
 -- What is reached in some cycles is shown by an assignment that meets the unrolled clauses.
-use Rattle.std.proofs.Common.{◌≡◌, ℕ, zero, suc, ◌+◌, ◌-◌, ◌*◌, ◌<◌, ◌≤◌, Bool, true, false, ◌||◌, ◌&&◌, cond, ltb, leb, List, [], ◌∷◌, ◌++◌, map, length, get_or, replicate, refl, sym, ap, ◌∙◌, ◌⊎◌, inl, inr, ⊎_elim, arith, subst}
+use Rattle.std.proofs.Common.{◌≡◌, ℕ, zero, suc, ◌+◌, ◌-◌, ◌*◌, ◌<◌, ◌≤◌, Bool, true, false, ◌||◌, ◌&&◌, cond, ltb, leb, List, [], ◌∷◌, ◌++◌, map, length}
+use Rattle.std.proofs.Common.{get_or, replicate, refl, sym, ap, ◌∙◌, ◌⊎◌, inl, inr, ⊎_elim, arith, subst}
 use Rattle.std.specs.Prelude.{IsTrue}
 use Rattle.std.specs.Bool.{beq}
 use Rattle.std.specs.List.{AllByRecursion, All, list_any, range_with_len, flat_map}
@@ -78,7 +79,8 @@ same_value n a b same (l ∷ c) h =
     ap (λ x. beq x l.positive || list_any (literal_value a) c) (same l.variable h.0.0 h.0.1)
     ∙ ap (λ x. literal_value b l || x) (same_value n a b same c h.1)
 
-still_met : (n : ℕ) (a b : ℕ → Bool) → Agree n a b → (cs : List Clause) → AllByRecursion (HasVariables n) cs → AllByRecursion (Satisfies b) cs → AllByRecursion (Satisfies a) cs
+still_met : (n : ℕ) (a b : ℕ → Bool) → Agree n a b → (cs : List Clause) → AllByRecursion (HasVariables n) cs → AllByRecursion (Satisfies b) cs →
+    AllByRecursion (Satisfies a) cs
 still_met n a b same [] r h = tt
 still_met n a b same (c ∷ cs) r h = (same_value n a b same c (recursion_from_All (IsWithin n) c r.0) ∙ h.0, still_met n a b same cs r.1 h.1)
 
@@ -103,7 +105,8 @@ zeros_of c = replicate (length c.inputs) false
 abbrev input_at : Circuit → List (List Bool) → ℕ → List Bool
 input_at c inputs i = get_or inputs i (zeros_of c)
 
-input_width : (c : Circuit) (inputs : List (List Bool)) → All (λ (x : List Bool). length x ≡ length c.inputs) inputs → (i : ℕ) → length (input_at c inputs i) ≡ length c.inputs
+input_width : (c : Circuit) (inputs : List (List Bool)) → All (λ (x : List Bool). length x ≡ length c.inputs) inputs → (i : ℕ) →
+    length (input_at c inputs i) ≡ length c.inputs
 input_width c inputs widths i = by (cases_lt i (length inputs))
   where
     by : (i < length inputs) ⊎ (length inputs ≤ i) → length (input_at c inputs i) ≡ length c.inputs
@@ -125,7 +128,8 @@ as_run c inputs (suc i) le =
 
 -- ---- the assignment
 
-module _ (c : Circuit) (e : Encoded) (t : IsTransition c [] e) (x : ℕ → List Bool) (wide : (i : ℕ) → length (x i) ≡ length c.inputs) (others : ℕ → Bool) (k : ℕ) where
+module _ (c : Circuit) (e : Encoded) (t : IsTransition c [] e) (x : ℕ → List Bool) (wide : (i : ℕ) → length (x i) ≡ length c.inputs) (others : ℕ →
+    Bool) (k : ℕ) where
   abbrev n : ℕ
   n = e.variables
 
@@ -152,7 +156,16 @@ module _ (c : Circuit) (e : Encoded) (t : IsTransition c [] e) (x : ℕ → List
   state_is : (i : ℕ) → i < k → bits_on value (states_at e i) ≡ run c x i
   state_is i lt =
       raised_bits value (base_of e i) e.states
-      ∙ (same_bits n (lowered value (base_of e i)) (cycle i).value (agrees i lt) e.states (recursion_from_All (IsWithin n) e.states t.states_range) ∙ (cycle i).state)
+
+
+
+
+
+
+
+
+
+                                          ∙ (same_bits n (lowered value (base_of e i)) (cycle i).value (agrees i lt) e.states (recursion_from_All (IsWithin n) e.states t.states_range) ∙ (cycle i).state)
 
   next_is : (i : ℕ) → i < k → bits_on value (next_at e i) ≡ run c x (suc i)
   next_is i lt =
@@ -168,7 +181,8 @@ module _ (c : Circuit) (e : Encoded) (t : IsTransition c [] e) (x : ℕ → List
   reset_is_met zero le = tt
   reset_is_met (suc m) le =
       units_met value (signed e.states (reset_state c))
-      (signs_true value e.states (reset_state c) (sym (zero_base value n e.states) ∙ (sym (raised_bits value (base_of e 0) e.states) ∙ state_is 0 (omega (arith, le)))))
+      (signs_true value e.states (reset_state c) (sym (zero_base value n e.states)
+          ∙ (sym (raised_bits value (base_of e 0) e.states) ∙ state_is 0 (omega (arith, le)))))
 
   all_met : AllByRecursion (Satisfies value) (unrolled e (reset_state c) k)
   all_met =
@@ -179,7 +193,8 @@ module _ (c : Circuit) (e : Encoded) (t : IsTransition c [] e) (x : ℕ → List
       (flat_of (Satisfies value) (links_of e) (k - 1) (λ i lt. links_are_met i (omega (arith, lt)))))
 
   pub shows_run : (j : ℕ) (p : List Bool) → j < k → run c x (suc j) ≡ p →
-      (a : ℕ → Bool) × All (Satisfies a) (unrolled e (reset_state c) k) × All (λ l. literal_value a l ≡ true) (signed (next_at e j) p) × ((v : ℕ) → k * n < v → a v ≡ others v)
+      (a : ℕ → Bool) × All (Satisfies a) (unrolled e (reset_state c) k) × All (λ l. literal_value a l ≡ true) (signed (next_at e j) p) × ((v : ℕ) → k * n < v →
+          a v ≡ others v)
   shows_run j p lt is = (
     value,
     All-from_recursion (Satisfies value) (unrolled e (reset_state c) k) all_met,

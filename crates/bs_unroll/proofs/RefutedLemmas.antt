@@ -1,5 +1,6 @@
 -- An accepted log that finishes the step of a length refutes that the state is reached in this length.
-use Rattle.std.proofs.Common.{◌≡◌, ◌≢◌, ℕ, zero, suc, ◌+◌, ◌-◌, ◌*◌, ◌<◌, ◌≤◌, Bool, true, false, cond, eqb, List, [], ◌∷◌, ◌++◌, map, length, get_or, reverse, refl, sym, ap, ◌∙◌, inl, inr, arith, subst, Option, Some, None}
+use Rattle.std.proofs.Common.{◌≡◌, ◌≢◌, ℕ, zero, suc, ◌+◌, ◌-◌, ◌*◌, ◌<◌, ◌≤◌, Bool, true, false, cond, eqb, List, [], ◌∷◌, ◌++◌, map, length, get_or}
+use Rattle.std.proofs.Common.{reverse, refl, sym, ap, ◌∙◌, inl, inr, arith, subst, Option, Some, None}
 use Rattle.std.specs.Prelude.{IsTrue, filter_map, slice_get, unwrap_or}
 use Rattle.std.specs.Bool.{beq}
 use Rattle.std.specs.List.{AllByRecursion, All, cons_option, range_with_len}
@@ -34,7 +35,8 @@ got [] i d = refl
 got (x ∷ xs) zero d = refl
 got (x ∷ xs) (suc i) d = got xs i d
 
-assumed_at : (e : Encoded) (reset : List Bool) (k : ℕ) (p : List Bool) (count j : ℕ) → 1 ≤ j → j ≤ count → assumptions_of (reach_problem e reset k p count) j ≡ length_assumes e k p j
+assumed_at : (e : Encoded) (reset : List Bool) (k : ℕ) (p : List Bool) (count j : ℕ) → 1 ≤ j → j ≤ count →
+    assumptions_of (reach_problem e reset k p count) j ≡ length_assumes e k p j
 assumed_at e reset k p count j one few =
     got (map (length_assumes e k p) (range_with_len 1 count)) (j - 1) []
     ∙ get_or-map-range_with_len (length_assumes e k p) 1 count (j - 1) j [] (omega (arith, one, few)) (omega (arith, one))

@@ -1,8 +1,9 @@
 -- Unrolling, one more at a time, and the room for it.
-use Rattle.std.proofs.Common.{◌≡◌, ℕ, zero, suc, ◌+◌, ◌-◌, ◌*◌, ◌^◌, ◌<◌, ◌≤◌, Bool, List, [], ◌∷◌, ◌++◌, map, length, take, get_or, refl, ap, sym, ◌∙◌, arith, add-one, Some}
+use Rattle.std.proofs.Common.{◌≡◌, ℕ, zero, suc, ◌+◌, ◌-◌, ◌*◌, ◌^◌, ◌<◌, ◌≤◌, Bool, List, [], ◌∷◌, ◌++◌, map, length, take, get_or, refl, ap, sym, ◌∙◌}
+use Rattle.std.proofs.Common.{arith, add-one, Some}
 use Rattle.std.specs.Prelude.{slice_get}
 use Rattle.std.specs.List.{All, range_with_len, flat_map}
-use Rattle.std.proofs.lemmas.List.{append_assoc}
+use Rattle.std.proofs.lemmas.List.{append_assoc, append-nil}
 use Rattle.std.proofs.lemmas.List.Elements.{All-weaker}
 use Rattle.std.proofs.lemmas.Nat.{mul-le}
 use Rattle.std.proofs.Math.Nat.{suc-mul}
@@ -10,18 +11,21 @@ use Rattle.bs_clause.specs.declared.literal.TheConstants.{VARIABLE_LIMIT}
 use Rattle.bs_clause.specs.Literal.{Literal, Clause}
 use Rattle.bs_clause.specs.Range.{IsWithin, HasVariables}
 use Rattle.bs_encode.specs.Encoded.{Encoded}
-use Rattle.bs_encode.proofs.UnitLemmas.{flat_map_more}
+use Rattle.std.proofs.lemmas.List.Concat.{flat_map-append}
+use Rattle.bs_net.proofs.CallerLemmas.{range_push}
 use Rattle.bs_unroll.specs.declared.limits.TheConstants.{MAX_COPY_VARIABLES}
 use Rattle.bs_unroll.specs.Unrolled.{link, links, raised, raised_all, copy_of}
 use Rattle.bs_unroll.specs.Room.{HasRoom, HasRooms, IsUnrollable}
 
-more : (ns ss : List Literal) (i : ℕ) (d : Literal) → i < length ns → i < length ss → links (take (suc i) ns) (take (suc i) ss) ≡ links (take i ns) (take i ss) ++ link (get_or ns i d).variable (get_or ss i d).variable
+more : (ns ss : List Literal) (i : ℕ) (d : Literal) → i < length ns → i < length ss →
+    links (take (suc i) ns) (take (suc i) ss) ≡ links (take i ns) (take i ss) ++ link (get_or ns i d).variable (get_or ss i d).variable
 more [] ss i d ln ls = absurd (omega arith)
 more (n ∷ ns) [] i d ln ls = absurd (omega arith)
 more (n ∷ ns) (s ∷ ss) zero d ln ls = refl
 more (n ∷ ns) (s ∷ ss) (suc i) d ln ls = ap (λ r. link n.variable s.variable ++ r) (more ns ss i d (omega arith) (omega arith))
 
-pub links_step : (base into next : List Clause) (ns ss : List Literal) (i : ℕ) (n s : Literal) → length ns ≡ length ss → i < length ns → n ≡ get_or ns i n → s ≡ get_or ss i s →
+pub links_step : (base into next : List Clause) (ns ss : List Literal) (i : ℕ) (n s : Literal) → length ns ≡ length ss → i < length ns → n ≡ get_or ns i n →
+    s ≡ get_or ss i s →
     next ≡ into ++ link n.variable s.variable → into ≡ base ++ links (take i ns) (take i ss) → next ≡ base ++ links (take (i + 1) ns) (take (i + 1) ss)
 links_step base into next ns ss i n s same lt is_n is_s grown so_far =
     let L : List Clause = links (take i ns) (take i ss) in
@@ -38,9 +42,18 @@ links_step base into next ns ss i n s same lt is_n is_s grown so_far =
     any (x ∷ xs) zero a b h = refl
     any (x ∷ xs) (suc k) a b h = any xs k a b (omega arith)
 
-pub flat_step : (f : ℕ → List Clause) (base into next : List Clause) (k : ℕ) → next ≡ into ++ f k → into ≡ base ++ flat_map f (range_with_len 0 k) → next ≡ base ++ flat_map f (range_with_len 0 (k + 1))
-flat_step f base into next k grown so_far =
-    grown ∙ (ap (λ (l : List Clause). l ++ f k) so_far ∙ (append_assoc base (flat_map f (range_with_len 0 k)) (f k) ∙ ap (λ (l : List Clause). base ++ l) (sym (flat_map_more f k))))
+-- one place more
+flat_more : {X : Type 0} (f : ℕ → List X) (k : ℕ) → flat_map f (range_with_len 0 (k + 1)) ≡ flat_map f (range_with_len 0 k) ++ f k
+flat_more {X} f k =
+    ap (flat_map f) (range_push k)
+    ∙ (flat_map-append f (range_with_len 0 k) (k ∷ []) ∙ ap (λ (ys : List X). flat_map f (range_with_len 0 k) ++ ys) (append-nil (f k)))
+
+pub flat_step : {X : Type 0} (f : ℕ → List X) (base into next : List X) (k : ℕ) → next ≡ into ++ f k → into ≡ base ++ flat_map f (range_with_len 0 k) →
+    next ≡ base ++ flat_map f (range_with_len 0 (k + 1))
+flat_step {X} f base into next k grown so_far =
+    grown
+    ∙ (ap (λ (l : List X). l ++ f k) so_far
+    ∙ (append_assoc base (flat_map f (range_with_len 0 k)) (f k) ∙ ap (λ (l : List X). base ++ l) (sym (flat_more f k))))
 
 -- ---- room
 

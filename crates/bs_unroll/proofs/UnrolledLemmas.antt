@@ -1,5 +1,6 @@
 -- The unrolled clauses are over the variables of the copies, and no variable stands twice in one of them.
-use Rattle.std.proofs.Common.{◌≡◌, ◌≢◌, ℕ, zero, suc, ◌+◌, ◌-◌, ◌*◌, ◌<◌, ◌≤◌, Bool, true, false, not, ◌&&◌, ◌||◌, eqb, List, [], ◌∷◌, ◌++◌, map, length, refl, ap, sym, subst, ◌∙◌, arith}
+use Rattle.std.proofs.Common.{◌≡◌, ◌≢◌, ℕ, zero, suc, ◌+◌, ◌-◌, ◌*◌, ◌<◌, ◌≤◌, Bool, true, false, not, ◌&&◌, ◌||◌, eqb, List, [], ◌∷◌, ◌++◌, map, length}
+use Rattle.std.proofs.Common.{refl, ap, sym, subst, ◌∙◌, arith}
 use Rattle.std.specs.List.{AllByRecursion, All, list_any, range_with_len, flat_map}
 use Rattle.std.proofs.lemmas.Bool.{ne_eqb}
 use Rattle.std.proofs.lemmas.List.Elements.{recursion_from_All, All-from_recursion, All-nil}
@@ -63,7 +64,8 @@ links_range m (n ∷ ns) (s ∷ ss) h g = (
   (All-from_recursion (IsWithin m) (lit n.variable true ∷ lit s.variable false ∷ []) (h.0, (g.0, tt)), links_range m ns ss h.1 g.1),
 )
 
-reset_range : (e : Encoded) (reset : List Bool) (k : ℕ) → HasVariables e.variables e.states → AllByRecursion (HasVariables (k * e.variables)) (reset_units e reset k)
+reset_range : (e : Encoded) (reset : List Bool) (k : ℕ) → HasVariables e.variables e.states →
+    AllByRecursion (HasVariables (k * e.variables)) (reset_units e reset k)
 reset_range e reset zero h = tt
 reset_range e reset (suc k) h =
     let m : ℕ = suc k * e.variables in
@@ -113,7 +115,8 @@ reset_distinct e reset zero = tt
 reset_distinct e reset (suc k) = units_distinct (signed e.states reset)
 
 next_base : (n c : ℕ) → c * n + n ≤ (c + 1) * n
-next_base n c = let one : suc c ≡ c + 1 = omega arith in let more : (c + 1) * n ≡ c * n + n = ap (λ (m : ℕ). m * n) (sym one) ∙ suc-mul c n in omega (arith, more)
+next_base n c = let one : suc c ≡ c + 1 = omega arith in let more : (c + 1) * n ≡ c * n + n = ap (λ (m : ℕ). m * n) (sym one)
+    ∙ suc-mul c n in omega (arith, more)
 
 pub unrolled_distinct : (e : Encoded) (reset : List Bool) (k : ℕ) → IsUnrollable e k → All Distinct (unrolled e reset k)
 unrolled_distinct e reset k u =
@@ -128,3 +131,15 @@ unrolled_distinct e reset k u =
     links_distinct (base_of e c) (base_of e (c + 1)) (base_of e (c + 1) + n) (next_at e c) (states_at e (c + 1))
     (raised_in (base_of e c) n (base_of e (c + 1)) e.next (recursion_from_All (IsWithin n) e.next u.next) (next_base n c))
     (raised_in (base_of e (c + 1)) n (base_of e (c + 1) + n) e.states (recursion_from_All (IsWithin n) e.states u.states) (omega arith))))))
+
+-- ---- the same of a list that is the unrolled clauses, for a caller
+
+pub solver_range : (e : Encoded) (reset : List Bool) (k n : ℕ) (cs : List Clause) → IsUnrollable e k → cs ≡ unrolled e reset k → n ≡ e.variables →
+    All (HasVariables (k * n)) cs
+solver_range e reset k n cs u is same =
+    subst (λ (ds : List Clause). All (HasVariables (k * n)) ds) (sym is)
+    (subst (λ (m : ℕ). All (HasVariables (k * m)) (unrolled e reset k)) (sym same) (unrolled_range e reset k u))
+
+pub solver_distinct : (e : Encoded) (reset : List Bool) (k : ℕ) (cs : List Clause) → IsUnrollable e k → cs ≡ unrolled e reset k →
+    All (λ d. has_distinct_variables d ≡ true) cs
+solver_distinct e reset k cs u is = subst (λ (ds : List Clause). All (λ d. has_distinct_variables d ≡ true) ds) (sym is) (unrolled_distinct e reset k u)
