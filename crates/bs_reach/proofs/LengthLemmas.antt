@@ -50,7 +50,7 @@ lemmas_same (Retire id ∷ lines) h all = absurd (false≢true all.0)
 lemmas_same (Delete ids ∷ lines) h all = absurd (false≢true all.0)
 
 -- the line of what goes, if anything does
-delete_lines : List ℕ → List Line
+abbrev delete_lines : List ℕ → List Line
 delete_lines [] = []
 delete_lines (id ∷ ids) = Delete (id ∷ ids) ∷ []
 

@@ -88,6 +88,7 @@ fn push_lines(text: &mut Vec<u8>, lines: &[Line]) -> Result<(), NoMemory>
 }
 
 /// Appends the lines up to the outcome.
+#[tactic(auto, unfolding(crate::specs::Text::head_text))]
 fn push_head(text: &mut Vec<u8>, reach: &Reach) -> Result<(), NoMemory>
     ensures { OnOk result (text.new.items ≡ text.old.items ++ head_text reach.now) }
 {
@@ -97,6 +98,7 @@ fn push_head(text: &mut Vec<u8>, reach: &Reach) -> Result<(), NoMemory>
 }
 
 /// Appends the lines from the log on.
+#[tactic(auto, unfolding(crate::specs::Text::log_text))]
 fn push_log(text: &mut Vec<u8>, reach: &Reach) -> Result<(), NoMemory>
     ensures { OnOk result (text.new.items ≡ text.old.items ++ log_text reach.now) }
 {
