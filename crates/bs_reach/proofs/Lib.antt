@@ -1,0 +1,4 @@
+pub mod LengthLemmas
+pub mod ReachLemmas
+pub mod ReadLemmas
+pub mod TextLemmas
