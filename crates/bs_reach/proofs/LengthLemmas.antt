@@ -164,7 +164,7 @@ module _ (cs : List Clause) (e : Encoded) (k : ℕ) (p : List Bool) (c : ℕ) (o
 
   shown : (s new : SolverState) (a : Clause) (guard : Literal) (limit : ℕ) (values : List (Option Bool)) → NoneRefused old.book.problem old.book.history →
       a ≡ due → a ≡ guard ∷ signed (next_at e c) p → HasSolved (begun old) s a limit (answers.Found values) → HasEnded s new None →
-          HasShown cs e k p c values new
+      HasShown cs e k p c values new
   shown s new a guard limit values right is are solved ended =
       let found = solved.ends in
       let lines : List Line = found.lemmas.lines in
