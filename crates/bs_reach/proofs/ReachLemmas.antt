@@ -1,18 +1,18 @@
 -- Answers are right.
-use Rattle.std.proofs.Common.{◌≡◌, ◌≢◌, ℕ, zero, suc, ◌+◌, ◌-◌, ◌*◌, ◌^◌, ◌<◌, ◌≤◌, Bool, true, false, List, [], ◌∷◌, ◌++◌, map, length, get_or, reverse}
-use Rattle.std.proofs.Common.{refl, ap, subst, sym, ◌∙◌, ◌⊎◌, inl, inr, arith}
-use Rattle.std.specs.Prelude.{Contains, All, filter_map}
-use Rattle.std.specs.List.{AllByRecursion as Each, range_with_len, filter}
+use Rattle.std.proofs.Common.{◌≡◌, ◌≢◌, ℕ, ◌+◌, ◌-◌, ◌<◌, ◌≤◌, Bool, true, false, List, [], ◌∷◌, ◌++◌, length, reverse}
+use Rattle.std.proofs.Common.{refl, ap, subst, sym, ◌∙◌, inl, inr, arith}
+use Rattle.std.specs.Prelude.{Contains, All}
+use Rattle.std.specs.List.{range_with_len}
 use Rattle.std.proofs.lemmas.Bool.{cases_eq}
-use Rattle.std.proofs.lemmas.List.{reverse-append, append_assoc, length-map}
-use Rattle.std.proofs.lemmas.List.Elements.{All-nil, All-from_recursion, Contains-push_cases, recursion_from_All}
+use Rattle.std.proofs.lemmas.List.{reverse-append, append_assoc}
+use Rattle.std.proofs.lemmas.List.Elements.{All-nil, Contains-push_cases}
 use Rattle.std.proofs.lemmas.List.FromFn.{length-range_with_len, get_or-range_with_len}
-use Rattle.bs_clause.specs.Literal.{Literal, Clause, literal_value, Satisfies}
+use Rattle.bs_clause.specs.Literal.{Literal, Clause, literal_value}
 use Rattle.bs_log.specs.declared.line.Line.{Line}
 use Rattle.bs_log.specs.declared.line.Line.TheVariants.{Solve, Lemma, Block, Finish, Retire, Delete}
-use Rattle.bs_log.specs.History.{Problem, History, Entry, axioms_from, step_of}
+use Rattle.bs_log.specs.History.{Problem, History, step_of}
 use Rattle.bs_log.specs.Refusal.{history_of, IsAccepted}
-use Rattle.bs_log.specs.Lean.{LemmasAreLean, StepsLeaveKept, IsLean}
+use Rattle.bs_log.specs.Lean.{IsLean}
 use Rattle.bs_log.specs.LineForms.{HasText}
 use Rattle.bs_log.specs.Steps.{HasNoBlock, finished_in}
 use Rattle.bs_net.specs.Circuit.{Circuit, reset_state}
@@ -27,14 +27,14 @@ use Rattle.bs_reach.specs.declared.reach.Outcome.TheVariants as outcomes
 use Rattle.bs_reach.specs.declared.search.End.{End}
 use Rattle.bs_reach.specs.declared.search.End.TheVariants.{Reached, Unreached, Unknown}
 use Rattle.bs_reach.specs.declared.telling.Told.{Told}
-use Rattle.bs_scan.specs.Moments.{Run, state_at}
+use Rattle.bs_scan.specs.Moments.{state_at}
 use Rattle.bs_unroll.specs.Execution.{ReachedIn, NotBefore, IsExecution}
 use Rattle.bs_unroll.specs.Unrolled.{next_at, unrolled, reach_problem}
 use Rattle.bs_unroll.specs.Laws.{inputs_shown, SolutionsAreExecutions, FinishedIsNotReached}
-use Rattle.bs_reach.specs.Search.{problem_over, IsTried, HasShown, HasSpent, IsBetween, fresh_over}
+use Rattle.bs_reach.specs.Search.{problem_over, IsTried, IsBetween, fresh_over}
 use Rattle.bs_reach.specs.Ends.{EndsAs}
 use Rattle.bs_reach.specs.Told.{Tells, EndFits}
-use Rattle.bs_reach.specs.Reach.{SpendsAll, IsOutcome, IsReach}
+use Rattle.bs_reach.specs.Reach.{IsReach}
 use Rattle.bs_log.proofs.Finishes.{no_block_reversed}
 
 -- ---- no cycle

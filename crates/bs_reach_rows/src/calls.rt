@@ -1,12 +1,10 @@
 //! Answers for netlists and states that are given as texts.
-ghost use Rattle.std.specs.Prelude.{◌≡◌, ◌+◌, ◌*◌, ◌<◌, ◌≤◌, [], true, length, IfOk, IfSome};
+ghost use Rattle.std.specs.Prelude.{◌≡◌, ◌*◌, ◌<◌, ◌≤◌, [], length, IfOk};
 ghost use Rattle.std.specs.Bool.{OnTrue};
-ghost use Rattle.bs_clause.specs.declared.literal.TheConstants.{VARIABLE_LIMIT};
 ghost use Rattle.bs_net.specs.Netlist.{circuit};
 ghost use Rattle.bs_encode.specs.Transition.{variables};
 ghost use Rattle.bs_unroll.specs.declared.limits.TheConstants.{MAX_COPIES, MAX_COPY_VARIABLES};
 ghost use Rattle.bs_unroll.specs.Room.{IsUnrollable};
-ghost use Rattle.bs_reach.specs.Reach.{tried_of};
 ghost use Rattle.bs_reach.specs.Text.{HasStates};
 
 use bs_bits::{Bits, List, NoMemory};
@@ -38,10 +36,10 @@ fn fits(k: u64, size: u64) -> bool
     if k > u64::from(MAX_COPIES) {
         return false;
     }
-    if size > u64::from(MAX_COPY_VARIABLES) {
-        return false;
+    match k.checked_mul(size) {
+        Some(all) => all <= u64::from(MAX_COPY_VARIABLES),
+        None => false,
     }
-    k * size <= u64::from(MAX_COPY_VARIABLES)
 }
 
 /// The answer for a state, where it has the netlist's width and the bound is small enough.
