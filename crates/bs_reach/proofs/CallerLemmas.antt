@@ -14,7 +14,7 @@ pub reach_has_states : (c : Circuit) (p : List Bool) (k b : ℕ) (r : Reach) →
 reach_has_states c p k b r is = by r.outcome is.outcome_is
   where
     by : (o : Outcome) → IsOutcome c p k b r o → HasStates o r
-    by (Reached j) (run, first) =
+    by (Reached j) (within, run, first) =
         let states : length r.states ≡ j + 1 = ap length run.states_are ∙ length-map-range_with_len (state_at c r.inputs) 0 (j + 1) in
         omega (arith, states, run.count)
     by Unreached h = tt

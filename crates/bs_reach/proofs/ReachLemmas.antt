@@ -165,7 +165,7 @@ module _ (c : Circuit) (k : ℕ) (p : List Bool) (law : FinishedIsNotReached c (
       (record {
         asked_is = refl;
         conflicts_is = refl;
-        outcome_is = (first, not_before (i + 1) i (i + 1) h.tried (omega (arith, lt)) l.accepted other refl);
+        outcome_is = (omega (arith, lt), first, not_before (i + 1) i (i + 1) h.tried (omega (arith, lt)) l.accepted other refl);
         accepted = l.accepted;
         lean = l.lean;
         texts = texts;
@@ -197,6 +197,7 @@ module _ (c : Circuit) (k : ℕ) (p : List Bool) (law : FinishedIsNotReached c (
         asked_is = refl;
         conflicts_is = refl;
         outcome_is = (
+          omega (arith, lt),
           not_before (i + 1) i (i + 1) h.tried (omega (arith, lt)) l.accepted other refl,
           record {
             earlier = h.earlier;
@@ -240,7 +241,7 @@ at_reset_is c p k b states inputs log e s x l =
     (record {
       asked_is = refl;
       conflicts_is = refl;
-      outcome_is = (reset_is_reached c p e, nothing_before c p);
+      outcome_is = (omega arith, reset_is_reached c p e, nothing_before c p);
       accepted = record { lines = tt; complete = refl };
       lean = record { steps = tt; lemmas = tt };
       texts = All-nil HasText;
