@@ -2,7 +2,7 @@
 use Rattle.std.proofs.Common.{◌≡◌, ℕ, zero, suc, ◌+◌, ◌-◌, ◌*◌, ◌^◌, ◌<◌, ◌≤◌, Bool, true, false, List, [], ◌∷◌, ◌++◌, map, length, refl, ap, subst, sym}
 use Rattle.std.proofs.Common.{◌∙◌, arith}
 use Rattle.std.proofs.Common.{Option, Some, None}
-use Rattle.std.specs.Prelude.{Contains, All, filter_map}
+use Rattle.std.specs.Prelude.{Contains, All}
 use Rattle.std.specs.List.{AllByRecursion as Each, range_with_len}
 use Rattle.std.proofs.lemmas.Bool.{false≢true}
 use Rattle.std.proofs.lemmas.List.Elements.{All-contains, All-tail}
@@ -15,7 +15,6 @@ use Rattle.bs_log.specs.declared.line.Line.TheVariants.{Solve, Lemma, Block, Fin
 use Rattle.bs_log.specs.History.{Problem, History, step_of, guard_of}
 use Rattle.bs_log.specs.Refusal.{NoneRefused}
 use Rattle.bs_log.specs.Steps.{is_lemma_line, HasNoBlock, finished_in}
-use Rattle.bs_book.specs.declared.answer.Answer.{Answer}
 use Rattle.bs_book.specs.declared.answer.Answer.TheVariants as answers
 use Rattle.bs_book.specs.declared.stage.Stage.TheVariants.{Begun}
 use Rattle.bs_book.specs.Book.{Book, standing, next_id, without}
@@ -164,7 +163,7 @@ module _ (cs : List Clause) (e : Encoded) (k : ℕ) (p : List Bool) (c : ℕ) (o
 
   shown : (s new : SolverState) (a : Clause) (guard : Literal) (limit : ℕ) (values : List (Option Bool)) → NoneRefused old.book.problem old.book.history →
       a ≡ due → a ≡ guard ∷ signed (next_at e c) p → HasSolved (begun old) s a limit (answers.Found values) → HasEnded s new None →
-          HasShown cs e k p c values new
+      HasShown cs e k p c values new
   shown s new a guard limit values right is are solved ended =
       let found = solved.ends in
       let lines : List Line = found.lemmas.lines in

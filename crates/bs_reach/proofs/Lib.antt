@@ -2,3 +2,4 @@ pub mod LengthLemmas
 pub mod ReachLemmas
 pub mod ReadLemmas
 pub mod TextLemmas
+pub mod CallerLemmas

@@ -1,18 +1,18 @@
 -- Answers are right.
-use Rattle.std.proofs.Common.{◌≡◌, ◌≢◌, ℕ, zero, suc, ◌+◌, ◌-◌, ◌*◌, ◌^◌, ◌<◌, ◌≤◌, Bool, true, false, List, [], ◌∷◌, ◌++◌, map, length, get_or, reverse}
-use Rattle.std.proofs.Common.{refl, ap, subst, sym, ◌∙◌, ◌⊎◌, inl, inr, arith}
-use Rattle.std.specs.Prelude.{Contains, All, filter_map}
-use Rattle.std.specs.List.{AllByRecursion as Each, range_with_len, filter}
+use Rattle.std.proofs.Common.{◌≡◌, ◌≢◌, ℕ, ◌+◌, ◌-◌, ◌<◌, ◌≤◌, Bool, true, false, List, [], ◌∷◌, ◌++◌, length, reverse}
+use Rattle.std.proofs.Common.{refl, ap, subst, sym, ◌∙◌, inl, inr, arith}
+use Rattle.std.specs.Prelude.{Contains, All}
+use Rattle.std.specs.List.{range_with_len}
 use Rattle.std.proofs.lemmas.Bool.{cases_eq}
-use Rattle.std.proofs.lemmas.List.{reverse-append, append_assoc, length-map}
-use Rattle.std.proofs.lemmas.List.Elements.{All-nil, All-from_recursion, Contains-push_cases, recursion_from_All}
+use Rattle.std.proofs.lemmas.List.{reverse-append, append_assoc}
+use Rattle.std.proofs.lemmas.List.Elements.{All-nil, Contains-push_cases}
 use Rattle.std.proofs.lemmas.List.FromFn.{length-range_with_len, get_or-range_with_len}
-use Rattle.bs_clause.specs.Literal.{Literal, Clause, literal_value, Satisfies}
+use Rattle.bs_clause.specs.Literal.{Literal, Clause, literal_value}
 use Rattle.bs_log.specs.declared.line.Line.{Line}
 use Rattle.bs_log.specs.declared.line.Line.TheVariants.{Solve, Lemma, Block, Finish, Retire, Delete}
-use Rattle.bs_log.specs.History.{Problem, History, Entry, axioms_from, step_of}
+use Rattle.bs_log.specs.History.{Problem, History, step_of}
 use Rattle.bs_log.specs.Refusal.{history_of, IsAccepted}
-use Rattle.bs_log.specs.Lean.{LemmasAreLean, StepsLeaveKept, IsLean}
+use Rattle.bs_log.specs.Lean.{IsLean}
 use Rattle.bs_log.specs.LineForms.{HasText}
 use Rattle.bs_log.specs.Steps.{HasNoBlock, finished_in}
 use Rattle.bs_net.specs.Circuit.{Circuit, reset_state}
@@ -27,14 +27,14 @@ use Rattle.bs_reach.specs.declared.reach.Outcome.TheVariants as outcomes
 use Rattle.bs_reach.specs.declared.search.End.{End}
 use Rattle.bs_reach.specs.declared.search.End.TheVariants.{Reached, Unreached, Unknown}
 use Rattle.bs_reach.specs.declared.telling.Told.{Told}
-use Rattle.bs_scan.specs.Moments.{Run, state_at}
+use Rattle.bs_scan.specs.Moments.{state_at}
 use Rattle.bs_unroll.specs.Execution.{ReachedIn, NotBefore, IsExecution}
 use Rattle.bs_unroll.specs.Unrolled.{next_at, unrolled, reach_problem}
 use Rattle.bs_unroll.specs.Laws.{inputs_shown, SolutionsAreExecutions, FinishedIsNotReached}
-use Rattle.bs_reach.specs.Search.{problem_over, IsTried, HasShown, HasSpent, IsBetween, fresh_over}
+use Rattle.bs_reach.specs.Search.{problem_over, IsTried, IsBetween, fresh_over}
 use Rattle.bs_reach.specs.Ends.{EndsAs}
 use Rattle.bs_reach.specs.Told.{Tells, EndFits}
-use Rattle.bs_reach.specs.Reach.{SpendsAll, IsOutcome, IsReach}
+use Rattle.bs_reach.specs.Reach.{IsReach}
 use Rattle.bs_log.proofs.Finishes.{no_block_reversed}
 
 -- ---- no cycle
@@ -92,7 +92,8 @@ in_range a n j low high =
     let back : a + (j - a) ≡ j = omega (arith, low) in
     (j - a, rw (length-range_with_len a n) (omega (arith, low, high)), get_or-range_with_len a n (j - a) j (omega (arith, low, high)) ∙ back)
 
-module _ (c : Circuit) (k : ℕ) (p : List Bool) (law : FinishedIsNotReached c (encoding_of c [])) (s : SolverState) (log : List Line) (lines : history_of log ≡ s.book.history) where
+module _ (c : Circuit) (k : ℕ) (p : List Bool) (law : FinishedIsNotReached c (encoding_of c [])) (s : SolverState) (log : List Line)
+    (lines : history_of log ≡ s.book.history) where
   abbrev e : Encoded
   e = encoding_of c []
 
@@ -114,16 +115,8 @@ module _ (c : Circuit) (k : ℕ) (p : List Bool) (law : FinishedIsNotReached c (
       let before : List Line = reverse spot.earlier in
       let parts : log ≡ before ++ Finish spot.id ∷ reverse spot.newer =
       log_is ∙ (ap reverse spot.is ∙ (reverse-append spot.newer (Finish spot.id ∷ spot.earlier)
-
-
-
-
-
-
-
-
-
-                                          ∙ (ap (λ (t : List Line). t ++ reverse spot.newer) (reverse-append (Finish spot.id ∷ []) spot.earlier) ∙ append_assoc before (Finish spot.id ∷ []) (reverse spot.newer)))) in
+      ∙ (ap (λ (t : List Line). t ++ reverse spot.newer) (reverse-append (Finish spot.id ∷ []) spot.earlier)
+      ∙ append_assoc before (Finish spot.id ∷ []) (reverse spot.newer)))) in
       law k tried p log before (reverse spot.newer) spot.id few ok (none_in tried refuted t) parts
       (subst (λ (n : ℕ). ReachedIn c n p) (sym (ap step_of (twice spot.earlier) ∙ spot.step)) reached)
 
@@ -161,18 +154,18 @@ module _ (c : Circuit) (k : ℕ) (p : List Bool) (law : FinishedIsNotReached c (
       let v : ℕ → Bool = value_of values in
       let back : i ≡ (i + 1) - 1 = omega arith in
       let ends : All (λ (q : Literal). literal_value v q ≡ true) (signed (next_at e ((i + 1) - 1)) p) =
-          subst (λ (m : ℕ). All (λ (q : Literal). literal_value v q ≡ true) (signed (next_at e m) p)) back h.ends in
+      subst (λ (m : ℕ). All (λ (q : Literal). literal_value v q ≡ true) (signed (next_at e m) p)) back h.ends in
       let run = sound k (i + 1) v p (omega arith) (omega (arith, lt)) h.met ends wide in
       let first : IsExecution c (i + 1) p told.states told.inputs =
       subst (λ (xs : List (List Bool)). IsExecution c (i + 1) p told.states xs) (sym tells.inputs_are)
       (subst (λ (ss : List (List Bool)). IsExecution c (i + 1) p ss (inputs_shown e v (i + 1))) (sym tells.states_are) run) in
       let R : Outcome → Type 0 =
-          λ o. IsReach c p k b (record { asked = k; conflicts = b; outcome = o; states = told.states; inputs = told.inputs; log = log }) in
+      λ o. IsReach c p k b (record { asked = k; conflicts = b; outcome = o; states = told.states; inputs = told.inputs; log = log }) in
       subst R (sym tells.outcome_is)
       (record {
         asked_is = refl;
         conflicts_is = refl;
-        outcome_is = (first, not_before (i + 1) i (i + 1) h.tried (omega (arith, lt)) l.accepted other refl);
+        outcome_is = (omega (arith, lt), first, not_before (i + 1) i (i + 1) h.tried (omega (arith, lt)) l.accepted other refl);
         accepted = l.accepted;
         lean = l.lean;
         texts = texts;
@@ -182,7 +175,7 @@ module _ (c : Circuit) (k : ℕ) (p : List Bool) (law : FinishedIsNotReached c (
   reach_is b Unreached told sound wide other h tells lean texts ok =
       let l : Logged k k = logged k k h.tried lean ok in
       let R : Outcome → Type 0 =
-          λ o. IsReach c p k b (record { asked = k; conflicts = b; outcome = o; states = told.states; inputs = told.inputs; log = log }) in
+      λ o. IsReach c p k b (record { asked = k; conflicts = b; outcome = o; states = told.states; inputs = told.inputs; log = log }) in
       subst R (sym tells)
       (record {
         asked_is = refl;
@@ -198,12 +191,13 @@ module _ (c : Circuit) (k : ℕ) (p : List Bool) (law : FinishedIsNotReached c (
       let l : Logged (i + 1) i = logged (i + 1) i h.tried lean ok in
       let back : i ≡ (i + 1) - 1 = omega arith in
       let R : Outcome → Type 0 =
-          λ o. IsReach c p k b (record { asked = k; conflicts = b; outcome = o; states = told.states; inputs = told.inputs; log = log }) in
+      λ o. IsReach c p k b (record { asked = k; conflicts = b; outcome = o; states = told.states; inputs = told.inputs; log = log }) in
       subst R (sym tells)
       (record {
         asked_is = refl;
         conflicts_is = refl;
         outcome_is = (
+          omega (arith, lt),
           not_before (i + 1) i (i + 1) h.tried (omega (arith, lt)) l.accepted other refl,
           record {
             earlier = h.earlier;
@@ -226,17 +220,28 @@ module _ (c : Circuit) (k : ℕ) (p : List Bool) (law : FinishedIsNotReached c (
 
 -- ---- answers without a search
 
-pub at_reset_is : (c : Circuit) (p : List Bool) (k b : ℕ) (states inputs : List (List Bool)) (log : List Line) → reset_state c ≡ p → states ≡ p ∷ [] →
-    inputs ≡ [] → log ≡ [] →
-    IsReach c p k b (record { asked = k; conflicts = b; outcome = outcomes.Reached 0; states = states; inputs = inputs; log = log })
+-- an answer that tells this
+abbrev pub told_as : ℕ → ℕ → Outcome → List (List Bool) → List (List Bool) → List Line → Reach
+told_as k b outcome states inputs log =
+    record {
+      asked = k;
+      conflicts = b;
+      outcome = outcome;
+      states = states;
+      inputs = inputs;
+      log = log;
+    }
+
+pub at_reset_is : (c : Circuit) (p : List Bool) (k b : ℕ) (states inputs : List (List Bool)) (log : List Line) → reset_state c ≡ p →
+    states ≡ p ∷ [] → inputs ≡ [] → log ≡ [] → IsReach c p k b (told_as k b (outcomes.Reached 0) states inputs log)
 at_reset_is c p k b states inputs log e s x l =
-    subst (λ (log : List Line). IsReach c p k b (record { asked = k; conflicts = b; outcome = outcomes.Reached 0; states = states; inputs = inputs; log = log })) (sym l)
-    (subst (λ (inputs : List (List Bool)). IsReach c p k b (record { asked = k; conflicts = b; outcome = outcomes.Reached 0; states = states; inputs = inputs; log = [] })) (sym x)
-    (subst (λ (states : List (List Bool)). IsReach c p k b (record { asked = k; conflicts = b; outcome = outcomes.Reached 0; states = states; inputs = []; log = [] })) (sym s)
+    subst (λ (log : List Line). IsReach c p k b (told_as k b (outcomes.Reached 0) states inputs log)) (sym l)
+    (subst (λ (inputs : List (List Bool)). IsReach c p k b (told_as k b (outcomes.Reached 0) states inputs [])) (sym x)
+    (subst (λ (states : List (List Bool)). IsReach c p k b (told_as k b (outcomes.Reached 0) states [] [])) (sym s)
     (record {
       asked_is = refl;
       conflicts_is = refl;
-      outcome_is = (reset_is_reached c p e, nothing_before c p);
+      outcome_is = (omega arith, reset_is_reached c p e, nothing_before c p);
       accepted = record { lines = tt; complete = refl };
       lean = record { steps = tt; lemmas = tt };
       texts = All-nil HasText;
@@ -245,9 +250,9 @@ at_reset_is c p k b states inputs log e s x l =
     })))
 
 pub never_is : (c : Circuit) (p : List Bool) (b : ℕ) (states inputs : List (List Bool)) (log : List Line) → reset_state c ≢ p → log ≡ [] →
-    IsReach c p 0 b (record { asked = 0; conflicts = b; outcome = outcomes.Unreached; states = states; inputs = inputs; log = log })
+    IsReach c p 0 b (told_as 0 b outcomes.Unreached states inputs log)
 never_is c p b states inputs log other l =
-    subst (λ (log : List Line). IsReach c p 0 b (record { asked = 0; conflicts = b; outcome = outcomes.Unreached; states = states; inputs = inputs; log = log })) (sym l)
+    subst (λ (log : List Line). IsReach c p 0 b (told_as 0 b outcomes.Unreached states inputs log)) (sym l)
     (record {
       asked_is = refl;
       conflicts_is = refl;
@@ -283,9 +288,9 @@ end_fits ds e k p b s (Unknown c) h = h.0
 pub look_is : (c : Circuit) (k b : ℕ) (p reset : List Bool) (enc : Encoded) (s1 s : SolverState) (log : List Line) (end : End) (told : Told) →
     enc ≡ encoding_of c [] → reset ≡ reset_state c →
     FinishedIsNotReached c (encoding_of c []) → SolutionsAreExecutions c (encoding_of c []) → length p ≡ length c.flops → reset_state c ≢ p →
-        s1 ≡ fresh_over (unrolled enc reset k) enc k →
+    s1 ≡ fresh_over (unrolled enc reset k) enc k →
     EndsAs s1.book.problem.clauses enc k p b s end → Tells enc end told → history_of log ≡ s.book.history →
-        (s.failed ≡ false → IsLean s.book.problem (history_of log)) → All HasText log →
+    (s.failed ≡ false → IsLean s.book.problem (history_of log)) → All HasText log →
     (s.failed ≡ false → s.stage ≡ Idle → IsAccepted s.book.problem log) →
     IsReach c p k b (record { asked = k; conflicts = b; outcome = told.outcome; states = told.states; inputs = told.inputs; log = log })
 look_is c k b p reset enc s1 s log end told is starts law sound wide other fresh ends tells lines lean texts ok =

@@ -1,5 +1,5 @@
 -- When an answer is right (docs/DEFINITIONS.md, "Bounded reach").
-use Rattle.std.specs.Prelude.{◌≡◌, ℕ, ◌+◌, ◌-◌, ◌*◌, ◌^◌, ◌<◌, Bool, true, List, [], ◌∷◌, ◌++◌, length, All}
+use Rattle.std.specs.Prelude.{◌≡◌, ℕ, ◌+◌, ◌-◌, ◌*◌, ◌^◌, ◌<◌, ◌≤◌, Bool, true, List, [], ◌∷◌, ◌++◌, length, All}
 use Rattle.std.specs.List.{AllByRecursion, range_with_len}
 use Rattle.bs_clause.specs.Literal.{Literal}
 use Rattle.bs_clause.specs.UnitRun.{IsUnitRun}
@@ -36,10 +36,11 @@ pub record SpendsAll (c : Circuit) (k : ℕ) (p : List Bool) (b j : ℕ) (log : 
       IsUnitRun (unrolled (encoding_of c []) (reset_state c) k) (length_assumes (encoding_of c []) k p j) run →
       b < 2 ^ (k * variables c [] - length run)
 
+-- within the bound, what the outcome says of executions holds, and of the last solve
 abbrev pub IsOutcome : Circuit → List Bool → ℕ → ℕ → Reach → Outcome → Type 0
-IsOutcome c p k b r (Reached j) = IsExecution c j p r.states r.inputs × NotBefore c j p
+IsOutcome c p k b r (Reached j) = (j ≤ k) × IsExecution c j p r.states r.inputs × NotBefore c j p
 IsOutcome c p k b r Unreached = NotBefore c (k + 1) p
-IsOutcome c p k b r (Unknown j) = NotBefore c j p × SpendsAll c k p b j r.log
+IsOutcome c p k b r (Unknown j) = (j ≤ k) × NotBefore c j p × SpendsAll c k p b j r.log
 
 -- how many lengths from 1 on were tried, and how many of them are refuted
 abbrev pub tried_of : ℕ → Outcome → ℕ

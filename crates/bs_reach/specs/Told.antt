@@ -1,5 +1,5 @@
 -- What the end of a search tells.
-use Rattle.std.specs.Prelude.{◌≡◌, ℕ, ◌+◌, ◌*◌, ◌<◌, ◌≤◌, Bool, List, [], length}
+use Rattle.std.specs.Prelude.{◌≡◌, ℕ, ◌+◌, ◌*◌, ◌<◌, ◌≤◌, Bool, length}
 use Rattle.bs_encode.specs.Encoded.{Encoded}
 use Rattle.bs_book.specs.Values.{value_of}
 use Rattle.bs_reach.specs.declared.search.End.{End}

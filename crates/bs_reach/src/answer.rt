@@ -22,12 +22,7 @@ use bs_unroll::{netlists_unroll, unroll, unrolled_clauses_are_executions};
 use std::alloc::Global;
 
 /// A solver over the unrolled clauses.
-fn solver_of(
-    alloc: Global,
-    encoding: &Encoding,
-    reset: &Bits,
-    k: u32,
-) -> Result<Solver, NoMemory>
+fn solver_of(alloc: Global, encoding: &Encoding, reset: &Bits, k: u32) -> Result<Solver, NoMemory>
     requires some { 1 ≤ k }
     requires unrollable { IsUnrollable encoding.now k }
     requires width { length encoding.now.states ≡ length reset.now }

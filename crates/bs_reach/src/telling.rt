@@ -152,12 +152,7 @@ fn without_states(alloc: Global, outcome: Outcome) -> Told
 }
 
 /// What the end of a search tells.
-pub(crate) fn tell(
-    alloc: Global,
-    encoding: &Encoding,
-    end: &End,
-    k: u32,
-) -> Result<Told, NoMemory>
+pub(crate) fn tell(alloc: Global, encoding: &Encoding, end: &End, k: u32) -> Result<Told, NoMemory>
     requires unrollable { IsUnrollable encoding.now k }
     requires fits { EndFits encoding.now k end.now }
     ensures { IfOk result (Tells encoding.now end.now) }

@@ -1,14 +1,13 @@
 -- What raised clauses, links and units say of an assignment.
-use Rattle.std.proofs.Common.{◌≡◌, ℕ, ◌+◌, ◌-◌, ◌*◌, ◌<◌, ◌≤◌, Bool, true, false, ◌||◌, List, [], ◌∷◌, ◌++◌, map, length, refl, sym, ap, ◌∙◌, arith, subst}
+use Rattle.std.proofs.Common.{◌≡◌, ℕ, ◌+◌, ◌<◌, Bool, true, false, ◌||◌, List, [], ◌∷◌, map, length, refl, sym, ap, ◌∙◌, arith}
 use Rattle.std.specs.Bool.{beq}
 use Rattle.std.specs.List.{AllByRecursion, list_any, range_with_len, flat_map}
 use Rattle.std.proofs.lemmas.Bool.{false≢true}
 use Rattle.bs_clause.specs.Literal.{Literal, Clause, literal_value, Satisfies}
 use Rattle.bs_net.proofs.NextLemmas.{below_from_range, range_from_below}
-use Rattle.bs_encode.specs.Tables.{lit}
 use Rattle.bs_encode.proofs.RangeLemmas.{join}
 use Rattle.bs_encode.proofs.DistinctLemmas.{left_all, right_all}
-use Rattle.bs_unroll.specs.Unrolled.{raised, raised_all, link, links}
+use Rattle.bs_unroll.specs.Unrolled.{raised_all, links}
 use Rattle.bs_encode.specs.Cycle.{bits_on}
 use Rattle.bs_encode.proofs.LiteralLemmas.{AllTrue}
 
@@ -76,7 +75,7 @@ links_say a [] (s ∷ ss) wide h = absurd (omega (arith, wide))
 links_say a (n ∷ ns) [] wide h = absurd (omega (arith, wide))
 links_say a (n ∷ ns) (s ∷ ss) wide h =
     ap (λ b. b ∷ bits_on a ns) (link_says (a n.variable) (a s.variable) h.0 h.1.0)
-        ∙ ap (λ bs. a s.variable ∷ bs) (links_say a ns ss (omega (arith, wide)) h.1.1)
+    ∙ ap (λ bs. a s.variable ∷ bs) (links_say a ns ss (omega (arith, wide)) h.1.1)
 
 link_met : (x y : Bool) → x ≡ y → ((beq x false || (beq y true || false)) ≡ true) × ((beq x true || (beq y false || false)) ≡ true)
 link_met true true e = (refl, refl)

@@ -1,7 +1,7 @@
 -- Raised clauses: their variables, and that none stands twice.
-use Rattle.std.proofs.Common.{◌≡◌, ◌≢◌, ℕ, zero, suc, ◌+◌, ◌-◌, ◌*◌, ◌<◌, ◌≤◌, Bool, true, false, not, ◌&&◌, ◌||◌, eqb, List, [], ◌∷◌, ◌++◌, map, length}
-use Rattle.std.proofs.Common.{refl, ap, sym, subst, ◌∙◌, ◌⊎◌, inl, inr, arith}
-use Rattle.std.specs.List.{AllByRecursion, All, list_any, range_with_len, flat_map}
+use Rattle.std.proofs.Common.{◌≡◌, ℕ, ◌+◌, ◌*◌, ◌<◌, ◌≤◌, Bool, true, not, ◌&&◌, ◌||◌, eqb, List, [], ◌∷◌}
+use Rattle.std.proofs.Common.{refl, ap, sym, subst, ◌∙◌, inl, inr, arith}
+use Rattle.std.specs.List.{AllByRecursion, list_any}
 use Rattle.std.proofs.lemmas.Bool.{cases_eq, eq-eqb, ne_eqb}
 use Rattle.std.proofs.lemmas.List.Elements.{recursion_from_All, All-from_recursion}
 use Rattle.bs_clause.specs.Literal.{Literal, Clause}
@@ -12,7 +12,7 @@ use Rattle.bs_encode.specs.Encoded.{Encoded}
 use Rattle.bs_encode.specs.Assuming.{signed}
 use Rattle.bs_encode.proofs.RangeLemmas.{InRange}
 use Rattle.bs_encode.proofs.DistinctLemmas.{apart_from_each, weaken, distinct_cons, signed_all}
-use Rattle.bs_unroll.specs.Unrolled.{raised, raised_all, base_of, next_at, length_assumes}
+use Rattle.bs_unroll.specs.Unrolled.{raised_all, base_of, next_at}
 use Rattle.bs_unroll.specs.Room.{IsUnrollable}
 use Rattle.bs_unroll.proofs.UnrollLemmas.{copies_fit}
 
@@ -88,4 +88,5 @@ pub read_range : (n k c m by : ℕ) (ls from xs ys : List Literal) → HasVariab
     ys ≡ xs → HasVariables m ys
 read_range n k c m by ls from xs ys h lt wide is same raises reads =
     subst (λ (zs : List Literal). HasVariables m zs) (sym (reads ∙ (raises ∙ ap (raised_all by) same)))
-    (All-from_recursion (IsWithin m) (raised_all by ls) (raised_within by n m ls (recursion_from_All (IsWithin n) ls h) (omega (arith, is, copies_fit n k c lt, wide))))
+    (All-from_recursion (IsWithin m) (raised_all by ls)
+    (raised_within by n m ls (recursion_from_All (IsWithin n) ls h) (omega (arith, is, copies_fit n k c lt, wide))))

@@ -1,6 +1,6 @@
 -- What is reached in some cycles is shown by an assignment that meets the unrolled clauses.
-use Rattle.std.proofs.Common.{◌≡◌, ℕ, zero, suc, ◌+◌, ◌-◌, ◌*◌, ◌<◌, ◌≤◌, Bool, true, false, ◌||◌, ◌&&◌, cond, ltb, leb, List, [], ◌∷◌, ◌++◌, map, length}
-use Rattle.std.proofs.Common.{get_or, replicate, refl, sym, ap, ◌∙◌, ◌⊎◌, inl, inr, ⊎_elim, arith, subst}
+use Rattle.std.proofs.Common.{◌≡◌, ℕ, zero, suc, ◌+◌, ◌-◌, ◌*◌, ◌<◌, ◌≤◌, Bool, true, false, ◌||◌, ◌&&◌, cond, ltb, leb, List, [], ◌∷◌, ◌++◌, length}
+use Rattle.std.proofs.Common.{get_or, replicate, refl, sym, ap, ◌∙◌, ◌⊎◌, inl, inr, arith, subst}
 use Rattle.std.specs.Prelude.{IsTrue}
 use Rattle.std.specs.Bool.{beq}
 use Rattle.std.specs.List.{AllByRecursion, All, list_any, range_with_len, flat_map}
@@ -19,9 +19,8 @@ use Rattle.bs_encode.specs.Assuming.{signed}
 use Rattle.bs_encode.specs.Cycle.{bits_on, ShowsCycle, IsTransition}
 use Rattle.bs_encode.proofs.LiteralLemmas.{signs_true}
 use Rattle.bs_encode.proofs.RangeLemmas.{join}
-use Rattle.bs_unroll.specs.Execution.{ReachedIn}
 use Rattle.bs_unroll.specs.Unrolled.{base_of, copy_of, states_at, next_at, links_of, reset_units, unrolled}
-use Rattle.bs_unroll.specs.Laws.{ShowsReached, ReachedIsShown}
+use Rattle.bs_unroll.specs.Laws.{ReachedIsShown}
 use Rattle.bs_unroll.proofs.ClauseLemmas.{lowered, raised_met, raised_bits, flat_of, links_met, units_met}
 use Rattle.bs_unroll.proofs.SolutionLemmas.{zero_base}
 
@@ -33,7 +32,8 @@ overlay by n f g v = cond (ltb by v && leb v (by + n)) (f (v - by)) (g v)
 
 inside : (by n : ℕ) (f g : ℕ → Bool) (v w : ℕ) → v ≡ by + w → 1 ≤ w → w ≤ n → overlay by n f g v ≡ f w
 inside by n f g v w is low high =
-    cond-true (ltb by v && leb v (by + n)) (f (v - by)) (g v) (and_from (ltb by v) (leb v (by + n)) (lt-ltb by v (omega (arith, is, low))) (le-leb v (by + n) (omega (arith, is, high))))
+    cond-true (ltb by v && leb v (by + n)) (f (v - by)) (g v)
+    (and_from (ltb by v) (leb v (by + n)) (lt-ltb by v (omega (arith, is, low))) (le-leb v (by + n) (omega (arith, is, high))))
     ∙ ap f (omega (arith, is))
 
 below : (by n : ℕ) (f g : ℕ → Bool) (v : ℕ) → v ≤ by → overlay by n f g v ≡ g v
@@ -156,16 +156,8 @@ module _ (c : Circuit) (e : Encoded) (t : IsTransition c [] e) (x : ℕ → List
   state_is : (i : ℕ) → i < k → bits_on value (states_at e i) ≡ run c x i
   state_is i lt =
       raised_bits value (base_of e i) e.states
-
-
-
-
-
-
-
-
-
-                                          ∙ (same_bits n (lowered value (base_of e i)) (cycle i).value (agrees i lt) e.states (recursion_from_All (IsWithin n) e.states t.states_range) ∙ (cycle i).state)
+      ∙ (same_bits n (lowered value (base_of e i)) (cycle i).value (agrees i lt) e.states
+      (recursion_from_All (IsWithin n) e.states t.states_range) ∙ (cycle i).state)
 
   next_is : (i : ℕ) → i < k → bits_on value (next_at e i) ≡ run c x (suc i)
   next_is i lt =
@@ -182,7 +174,7 @@ module _ (c : Circuit) (e : Encoded) (t : IsTransition c [] e) (x : ℕ → List
   reset_is_met (suc m) le =
       units_met value (signed e.states (reset_state c))
       (signs_true value e.states (reset_state c) (sym (zero_base value n e.states)
-          ∙ (sym (raised_bits value (base_of e 0) e.states) ∙ state_is 0 (omega (arith, le)))))
+      ∙ (sym (raised_bits value (base_of e 0) e.states) ∙ state_is 0 (omega (arith, le)))))
 
   all_met : AllByRecursion (Satisfies value) (unrolled e (reset_state c) k)
   all_met =
@@ -194,7 +186,7 @@ module _ (c : Circuit) (e : Encoded) (t : IsTransition c [] e) (x : ℕ → List
 
   pub shows_run : (j : ℕ) (p : List Bool) → j < k → run c x (suc j) ≡ p →
       (a : ℕ → Bool) × All (Satisfies a) (unrolled e (reset_state c) k) × All (λ l. literal_value a l ≡ true) (signed (next_at e j) p) × ((v : ℕ) → k * n < v →
-          a v ≡ others v)
+      a v ≡ others v)
   shows_run j p lt is = (
     value,
     All-from_recursion (Satisfies value) (unrolled e (reset_state c) k) all_met,

@@ -1,29 +1,25 @@
 -- An accepted log that finishes the step of a length refutes that the state is reached in this length.
-use Rattle.std.proofs.Common.{◌≡◌, ◌≢◌, ℕ, zero, suc, ◌+◌, ◌-◌, ◌*◌, ◌<◌, ◌≤◌, Bool, true, false, cond, eqb, List, [], ◌∷◌, ◌++◌, map, length, get_or}
-use Rattle.std.proofs.Common.{reverse, refl, sym, ap, ◌∙◌, inl, inr, arith, subst, Option, Some, None}
-use Rattle.std.specs.Prelude.{IsTrue, filter_map, slice_get, unwrap_or}
+use Rattle.std.proofs.Common.{◌≡◌, ℕ, zero, suc, ◌+◌, ◌-◌, ◌*◌, ◌≤◌, Bool, true, eqb, List, [], ◌∷◌, map, length, get_or}
+use Rattle.std.proofs.Common.{refl, sym, ap, ◌∙◌, arith, subst}
+use Rattle.std.specs.Prelude.{IsTrue, slice_get, unwrap_or}
 use Rattle.std.specs.Bool.{beq}
-use Rattle.std.specs.List.{AllByRecursion, All, cons_option, range_with_len}
-use Rattle.std.proofs.lemmas.Bool.{eq-eqb, ne_eqb, false≢true}
-use Rattle.std.proofs.lemmas.List.{reverse-append, append_assoc}
-use Rattle.std.proofs.lemmas.List.Elements.{recursion_from_All, All-from_recursion, All-cons, All-nil, filter_map-append}
+use Rattle.std.specs.List.{All, range_with_len}
+use Rattle.std.proofs.lemmas.Bool.{eq-eqb, ne_eqb}
+use Rattle.std.proofs.lemmas.List.Elements.{All-cons, All-nil}
 use Rattle.std.proofs.lemmas.List.FromFn.{length-map-range_with_len, get_or-map-range_with_len}
-use Rattle.bs_clause.specs.Literal.{Literal, Clause, literal_value, Satisfies}
-use Rattle.bs_log.specs.declared.line.Line.{Line}
-use Rattle.bs_log.specs.declared.line.Line.TheVariants.{Solve, Lemma, Block, Finish, Retire, Delete}
-use Rattle.bs_log.specs.History.{Problem, History, step_of, phase_of}
-use Rattle.bs_log.specs.Refusal.{history_of, assumptions_of, is_between_steps, NoneRefused, IsAccepted}
+use Rattle.bs_clause.specs.Literal.{Clause, literal_value, Satisfies}
+use Rattle.bs_log.specs.declared.line.Line.TheVariants.{Finish}
+use Rattle.bs_log.specs.History.{Problem, History, step_of}
+use Rattle.bs_log.specs.Refusal.{history_of, assumptions_of}
 use Rattle.bs_log.specs.Refutation.{Suits, blocks_of}
 use Rattle.bs_log.specs.Steps.{HasNoBlock}
 use Rattle.bs_log.proofs.Finishes.{no_blocks, no_block_before, no_block_reversed, finish_is_inside}
 use Rattle.bs_log.proofs.Laws.{finished_steps_are_refuted, step_of-positive}
-
 use Rattle.bs_net.specs.Circuit.{Circuit, reset_state}
 use Rattle.bs_encode.specs.Tables.{lit}
 use Rattle.bs_encode.specs.Encoded.{Encoded}
 use Rattle.bs_encode.specs.Assuming.{signed}
-use Rattle.bs_unroll.specs.Execution.{ReachedIn}
-use Rattle.bs_unroll.specs.Unrolled.{next_at, unrolled, length_assumes, reach_problem}
+use Rattle.bs_unroll.specs.Unrolled.{next_at, length_assumes, reach_problem}
 use Rattle.bs_encode.specs.Cycle.{IsTransition}
 use Rattle.bs_unroll.specs.Laws.{ShowsReached, FinishedIsNotReached}
 use Rattle.bs_unroll.proofs.ReachedLemmas.{reached_is_shown}

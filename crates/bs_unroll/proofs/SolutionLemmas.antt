@@ -1,7 +1,7 @@
 -- Every assignment that meets the unrolled clauses shows executions.
 use Rattle.std.proofs.Common.{◌≡◌, ℕ, zero, suc, ◌+◌, ◌-◌, ◌*◌, ◌<◌, ◌≤◌, Bool, true, List, [], ◌∷◌, ◌++◌, map, length, get_or, refl, sym, ap, ◌∙◌, arith}
 use Rattle.std.proofs.Common.{subst, zero-add}
-use Rattle.std.specs.List.{AllByRecursion, All, range_with_len, flat_map}
+use Rattle.std.specs.List.{AllByRecursion, range_with_len, flat_map}
 use Rattle.std.proofs.lemmas.List.Elements.{recursion_from_All, All-from_recursion}
 use Rattle.std.proofs.lemmas.List.FromFn.{length-map-range_with_len, get_or-map-range_with_len, map-range_with_len_more}
 use Rattle.bs_clause.specs.Literal.{Literal, Clause, literal_value, Satisfies}
@@ -14,7 +14,7 @@ use Rattle.bs_encode.proofs.DistinctLemmas.{left_all, right_all}
 use Rattle.bs_encode.proofs.LiteralLemmas.{AllTrue, bits_shown}
 use Rattle.bs_unroll.specs.Execution.{IsExecution}
 use Rattle.bs_unroll.specs.Unrolled.{base_of, copy_of, states_at, inputs_at, next_at, links_of, reset_units, unrolled}
-use Rattle.bs_unroll.specs.Laws.{states_shown, inputs_shown, SolutionsAreExecutions}
+use Rattle.bs_unroll.specs.Laws.{inputs_shown, SolutionsAreExecutions}
 use Rattle.bs_unroll.proofs.ClauseLemmas.{lowered, lowered_met, raised_bits, length-bits_on, length-raised_all, part_of_flat, links_say, units_say}
 
 -- ---- states that follow each other

@@ -1,7 +1,6 @@
 -- Unrolling, one more at a time, and the room for it.
-use Rattle.std.proofs.Common.{◌≡◌, ℕ, zero, suc, ◌+◌, ◌-◌, ◌*◌, ◌^◌, ◌<◌, ◌≤◌, Bool, List, [], ◌∷◌, ◌++◌, map, length, take, get_or, refl, ap, sym, ◌∙◌}
-use Rattle.std.proofs.Common.{arith, add-one, Some}
-use Rattle.std.specs.Prelude.{slice_get}
+use Rattle.std.proofs.Common.{◌≡◌, ℕ, zero, suc, ◌+◌, ◌*◌, ◌<◌, ◌≤◌, List, [], ◌∷◌, ◌++◌, length, take, get_or, refl, ap, sym, ◌∙◌}
+use Rattle.std.proofs.Common.{arith, add-one}
 use Rattle.std.specs.List.{All, range_with_len, flat_map}
 use Rattle.std.proofs.lemmas.List.{append_assoc, append-nil}
 use Rattle.std.proofs.lemmas.List.Elements.{All-weaker}
@@ -14,7 +13,7 @@ use Rattle.bs_encode.specs.Encoded.{Encoded}
 use Rattle.std.proofs.lemmas.List.Concat.{flat_map-append}
 use Rattle.bs_net.proofs.CallerLemmas.{range_push}
 use Rattle.bs_unroll.specs.declared.limits.TheConstants.{MAX_COPY_VARIABLES}
-use Rattle.bs_unroll.specs.Unrolled.{link, links, raised, raised_all, copy_of}
+use Rattle.bs_unroll.specs.Unrolled.{link, links}
 use Rattle.bs_unroll.specs.Room.{HasRoom, HasRooms, IsUnrollable}
 
 more : (ns ss : List Literal) (i : ℕ) (d : Literal) → i < length ns → i < length ss →

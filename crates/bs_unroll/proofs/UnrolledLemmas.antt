@@ -1,7 +1,7 @@
 -- The unrolled clauses are over the variables of the copies, and no variable stands twice in one of them.
-use Rattle.std.proofs.Common.{◌≡◌, ◌≢◌, ℕ, zero, suc, ◌+◌, ◌-◌, ◌*◌, ◌<◌, ◌≤◌, Bool, true, false, not, ◌&&◌, ◌||◌, eqb, List, [], ◌∷◌, ◌++◌, map, length}
+use Rattle.std.proofs.Common.{◌≡◌, ℕ, zero, suc, ◌+◌, ◌-◌, ◌*◌, ◌<◌, ◌≤◌, Bool, true, false, not, ◌&&◌, ◌||◌, List, [], ◌∷◌, ◌++◌, map, length}
 use Rattle.std.proofs.Common.{refl, ap, sym, subst, ◌∙◌, arith}
-use Rattle.std.specs.List.{AllByRecursion, All, list_any, range_with_len, flat_map}
+use Rattle.std.specs.List.{AllByRecursion, All, range_with_len, flat_map}
 use Rattle.std.proofs.lemmas.Bool.{ne_eqb}
 use Rattle.std.proofs.lemmas.List.Elements.{recursion_from_All, All-from_recursion, All-nil}
 use Rattle.std.proofs.Math.Nat.{suc-mul}
@@ -16,7 +16,7 @@ use Rattle.bs_encode.specs.Assuming.{signed}
 use Rattle.bs_encode.proofs.RangeLemmas.{InRange, join}
 use Rattle.bs_encode.proofs.DistinctLemmas.{weaken, signed_all}
 use Rattle.bs_unroll.specs.declared.limits.TheConstants.{MAX_COPIES, MAX_COPY_VARIABLES}
-use Rattle.bs_unroll.specs.Unrolled.{raised_all, base_of, copy_of, states_at, next_at, link, links, links_of, reset_units, unrolled}
+use Rattle.bs_unroll.specs.Unrolled.{raised_all, base_of, copy_of, states_at, next_at, links, links_of, reset_units, unrolled}
 use Rattle.bs_unroll.specs.Room.{IsUnrollable}
 use Rattle.bs_unroll.proofs.ClauseLemmas.{flat_of}
 use Rattle.bs_unroll.proofs.UnrollLemmas.{copies_fit}
@@ -71,7 +71,8 @@ reset_range e reset (suc k) h =
     let m : ℕ = suc k * e.variables in
     units_range m (signed e.states reset)
     (signed_all (InRange m) e.states reset
-    (weaken (IsWithin e.variables) (IsWithin m) (λ l w. (w.0, omega (arith, w.1, suc-mul k e.variables))) e.states (recursion_from_All (IsWithin e.variables) e.states h)))
+    (weaken (IsWithin e.variables) (IsWithin m) (λ l w. (w.0, omega (arith, w.1, suc-mul k e.variables))) e.states
+    (recursion_from_All (IsWithin e.variables) e.states h)))
 
 pub unrolled_range : (e : Encoded) (reset : List Bool) (k : ℕ) → IsUnrollable e k → All (HasVariables (k * e.variables)) (unrolled e reset k)
 unrolled_range e reset k u =
@@ -79,7 +80,8 @@ unrolled_range e reset k u =
     let m : ℕ = k * n in
     All-from_recursion (HasVariables m) (unrolled e reset k)
     (join (HasVariables m) (flat_map (copy_of e) (range_with_len 0 k)) (reset_units e reset k ++ flat_map (links_of e) (range_with_len 0 (k - 1)))
-    (flat_of (HasVariables m) (copy_of e) k (λ c lt. raised_range (base_of e c) n m e.clauses (recursion_from_All (HasVariables n) e.clauses u.clauses) (copies_fit n k c lt)))
+    (flat_of (HasVariables m) (copy_of e) k
+    (λ c lt. raised_range (base_of e c) n m e.clauses (recursion_from_All (HasVariables n) e.clauses u.clauses) (copies_fit n k c lt)))
     (join (HasVariables m) (reset_units e reset k) (flat_map (links_of e) (range_with_len 0 (k - 1)))
     (reset_range e reset k u.states)
     (flat_of (HasVariables m) (links_of e) (k - 1)

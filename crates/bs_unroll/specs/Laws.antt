@@ -1,5 +1,5 @@
 -- What the unrolled clauses and their logs say of executions.
-use Rattle.std.specs.Prelude.{◌≡◌, ℕ, ◌+◌, ◌-◌, ◌*◌, ◌<◌, ◌≤◌, Bool, List, [], ◌∷◌, ◌++◌, length, map, All, IsTrue}
+use Rattle.std.specs.Prelude.{◌≡◌, ℕ, ◌-◌, ◌*◌, ◌<◌, ◌≤◌, Bool, List, [], ◌∷◌, ◌++◌, length, map, All, IsTrue}
 use Rattle.std.specs.List.{range_with_len}
 use Rattle.bs_clause.specs.Literal.{literal_value, Satisfies}
 use Rattle.bs_log.specs.declared.line.Line.{Line}

@@ -22,12 +22,7 @@ fn add_units(alloc: Global, into: &mut Clauses, literals: &[Lit]) -> Result<(), 
 }
 
 /// The clauses of one cycle or more from this state on (docs/FORMATS.md, "Unrolled clauses").
-pub fn unroll(
-    alloc: Global,
-    encoding: &Encoding,
-    reset: &Bits,
-    k: u32,
-) -> Result<Clauses, NoMemory>
+pub fn unroll(alloc: Global, encoding: &Encoding, reset: &Bits, k: u32) -> Result<Clauses, NoMemory>
     requires some { 1 ≤ k }
     requires unrollable { IsUnrollable encoding.now k }
     requires width { length encoding.now.states ≡ length reset.now }

@@ -1,5 +1,5 @@
 use Rattle.std.proofs.Common.{◌≡◌, ◌+◌, ◌*◌, subst}
-use Rattle.bs_log.specs.Refusal.{history_of, NoneRefused}
+use Rattle.bs_log.specs.Refusal.{history_of}
 use Rattle.bs_book.specs.Solver.{HasSolved}
 use Rattle.bs_unroll.proofs.RaisedLemmas.{assumed_range, assumed_distinct}
 use Rattle.bs_reach.proofs.LengthLemmas.{begun_vars, guard_is, shown_by, spent_by, refuted_by, right_in}

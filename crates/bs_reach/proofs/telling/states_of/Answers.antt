@@ -1,5 +1,4 @@
-use Rattle.std.proofs.Common.{◌≡◌, ◌++◌, ◌∷◌, ◌∙◌, [], List, Bool, ap, sym, map, ℕ, zero-add, rules, ◌+◌}
-use Rattle.std.specs.List.{range_with_len}
+use Rattle.std.proofs.Common.{◌≡◌, ◌++◌, ◌∷◌, ◌∙◌, [], List, Bool, ap, sym, ℕ, zero-add, rules}
 use Rattle.std.proofs.lemmas.List.FromFn.{map-range_with_len_more}
 use Rattle.bs_book.specs.Values.{value_of}
 use Rattle.bs_encode.specs.Cycle.{bits_on}
