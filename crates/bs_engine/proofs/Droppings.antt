@@ -3,7 +3,7 @@ use Rattle.std.proofs.Common.{◌≡◌, ◌≢◌, ℕ, zero, suc, ◌+◌, ◌
 use Rattle.std.proofs.Common.{refl, sym, ap, subst, ◌∙◌, inl, inr, ◌⊎◌, Option, Some, None, eqb, get_or}
 use Rattle.std.specs.Prelude.{All, AllPairs, Contains, slice_get, is_some, option_map, unwrap_or, count_by, IsPermutation}
 use Rattle.std.specs.List.{filter, list_any}
-use Rattle.std.proofs.lemmas.Bool.{cases_Bool, cases_lt, cases_eq, false≢true, eqb-true, eq-eqb, ne_eqb}
+use Rattle.std.proofs.lemmas.Bool.{cases_Bool, cases_lt, cases_eq, false≢true, true≢false, eqb-true, eq-eqb, ne_eqb}
 use Rattle.std.proofs.lemmas.List.{take-map, length-map}
 use Rattle.std.proofs.lemmas.List.Elements.{All-contains}
 use Rattle.std.proofs.lemmas.List.Sorted.{IsPermutation-refl}
@@ -14,23 +14,24 @@ use Rattle.bs_log.specs.Refusal.{entry_of, is_lemma_or_block}
 use Rattle.bs_arena.specs.Arena.{Held, held_at, literals_at, meaning}
 use Rattle.bs_arena.specs.Renaming.{new_name, IsRenaming}
 use Rattle.bs_watch.specs.declared.lists.Watcher.{Watcher}
-use Rattle.bs_watch.specs.Places.{TrailState, renamed_place}
+use Rattle.bs_watch.specs.Places.{Place, TrailState, renamed_place}
 use Rattle.bs_watch.specs.Lists.{row, IsIn, IsAttached, renamed, renamed_lists}
 use Rattle.bs_watch.specs.Watch.{WatchState, Serves, renamed_watch}
 use Rattle.bs_watch.specs.Sweep.{HasSwept}
 use Rattle.bs_keep.specs.declared.row.Row.{Row}
 use Rattle.bs_keep.specs.Keeping.{AreHeld, Ascends, renamed_ref, renamed_row}
-use Rattle.bs_keep.specs.Notes.{IsNoted, GoBy, HasKilled}
+use Rattle.bs_keep.specs.Notes.{IsNoted, GoBy, HasKilled, AreOut}
 use Rattle.bs_keep.specs.Rows.{IsRowOf, AreRowsOf, AreRowsAmong}
 use Rattle.bs_keep.proofs.Removals.{killed_still, first_stay}
-use Rattle.bs_book.proofs.Lists.{none_is_not_some, same_some, get_from_Contains, Contains_from_get, get_map, get_map_cases, get_within}
+use Rattle.bs_book.proofs.Lists.{none_is_not_some, same_some, get_from_Contains, Contains_from_get, get_map, get_map_cases, get_take, get_within}
 use Rattle.bs_book.proofs.Clauses.{nothing_in, contains_first, cons_contains, contains_cases, filter_cases, filter_from, map_cases, map_contains, all_from}
 use Rattle.bs_book.proofs.Entries.{found_stands, found_id}
 use Rattle.bs_search.specs.declared.stock.Stock.{Stock}
 use Rattle.bs_search.specs.Stock.{is_live, id_in, IsClauseOf, IsStocked}
 use Rattle.bs_search.proofs.Entries.{id_of, live_id, id_is_live, rows_permuted}
 use Rattle.bs_search.proofs.Teachings.{held_self}
-use Rattle.bs_engine.specs.Dropping.{without_ids, marked, HasDropped, HasCompacted}
+use Rattle.bs_search.specs.Ground.{IsGround}
+use Rattle.bs_engine.specs.Dropping.{AreStaying, without_ids, marked, HasDropped, HasCompacted}
 
 -- ---- lists
 
@@ -49,7 +50,7 @@ any_has (x ∷ ids) id c = elim (contains_cases x ids id c) [
     or_on true = refl
     or_on false = refl
 
-any_cases : (ids : List ℕ) (id : ℕ) → list_any (λ d. eqb id d) ids ≡ true → Contains ids id
+pub any_cases : (ids : List ℕ) (id : ℕ) → list_any (λ d. eqb id d) ids ≡ true → Contains ids id
 any_cases [] id on = absurd (false≢true on)
 any_cases (x ∷ ids) id on = by (eqb id x) refl on (any_cases ids id)
   where
@@ -537,12 +538,93 @@ fewer xs ys up_x up_y sub = by xs ys (chain xs up_x) (chain ys up_y) (λ h there
           ]) in omega (arith, rest)
     ]
 
+-- elements in front that pass stay in their places
+filter_front : (f : ℕ → Bool) (xs : List ℕ) (k r : ℕ) → ((i q : ℕ) → i ≤ k → slice_get xs i ≡ Some q → f q ≡ true) → slice_get xs k ≡ Some r →
+    slice_get (filter f xs) k ≡ Some r
+filter_front f [] k r pass at = absurd (none_is_not_some r at)
+filter_front f (x ∷ xs) zero r pass at =
+    ap (λ b. slice_get (cond b (x ∷ filter f xs) (filter f xs)) 0) (pass 0 x (omega arith) refl) ∙ at
+filter_front f (x ∷ xs) (suc k) r pass at =
+    ap (λ b. slice_get (cond b (x ∷ filter f xs) (filter f xs)) (suc k)) (pass 0 x (omega arith) refl) ∙
+    filter_front f xs k r (λ i q low e. pass (suc i) q (omega (arith, low)) e) at
+
+staying_live : (before after : List Held) (stock less : Stock) (start : ℕ) (ids refs : List ℕ) (watched : List Literal) (places : List Place) →
+    IsLess before after stock less start ids refs watched → AreStaying before stock.shorts.items places ids → (k r : ℕ) → k < length places →
+    slice_get stock.shorts.items k ≡ Some r → held_at after r ≡ held_at before r
+staying_live before after stock less start ids refs watched places l a k r within at =
+    let s = a.each k r within at in
+    stays_live before after stock less start ids refs watched l r s.0 (ap not s.1)
+
+-- what stands for good is not among what goes
+pub staying_out : (clauses : List Held) (stock : Stock) (places : List Place) (start : ℕ) (ids refs : List ℕ) (watched : List Literal) →
+    AreHeld clauses stock.rows.items → GoBy clauses stock.rows.items start ids refs watched → AreStaying clauses stock.shorts.items places ids →
+    AreOut stock.shorts.items (length places) refs
+staying_out clauses stock places start ids refs watched held gone a = record {
+  low = a.low;
+  out = all_from (λ r. ¬ Contains refs r) (take (length places) stock.shorts.items) (λ r there in_refs.
+      let (k, at) = get_from_Contains (take (length places) stock.shorts.items) r there in
+      let (within, in_all) = get_take (length places) stock.shorts.items k r at in
+      let s = a.each k r within in_all in
+      let (x, in_gone, is) = map_cases (λ (y : Row). y.clause) (filter gone.test stock.rows.items) r
+      (subst (λ rs. Contains rs r) gone.noted.clauses_are in_refs) in
+      let in_rows = (filter_cases gone.test stock.rows.items x in_gone).0 in
+      let in_ids = subst (λ xs. Contains xs x.id) (sym gone.noted.ids_are) (map_contains (λ (y : Row). y.id) (filter gone.test stock.rows.items) x in_gone) in
+      let id : id_in clauses r ≡ x.id = ap (λ o. unwrap_or o 0) (ap (id_of clauses) (sym is) ∙ id_from_row clauses stock x held in_rows) in
+      true≢false (sym (any_has ids (id_in clauses r) (subst (Contains ids) (sym id) in_ids)) ∙ s.1));
+}
+
+ground_less : (old new : WatchState) (before after : List Held) (stock less : Stock) (start : ℕ) (ids refs : List ℕ) (watched : List Literal)
+    (es : List Entry) → IsLess before after stock less start ids refs watched → AreStaying before stock.shorts.items old.trail.places ids →
+    new.trail ≡ old.trail → IsGround es stock.shorts.items before old.trail.places → IsGround (without_ids ids es) less.shorts.items after new.trail.places
+ground_less old new before after stock less start ids refs watched es l a trail g =
+    subst (IsGround (without_ids ids es) less.shorts.items after) (sym (ap (λ (t : TrailState). t.places) trail)) (record {
+      each = λ k p at.
+          let u = g.each k p at in
+          let within = get_within old.trail.places k p at in
+          let kept = staying_live before after stock less start ids refs watched old.trail.places l a k u.ref within u.at in
+          let s = a.each k u.ref within u.at in
+          let id : u.entry.id ≡ id_in before u.ref = found_id es (id_in before u.ref) u.entry u.found in
+          record {
+            ref = u.ref;
+            entry = u.entry;
+            at = ap (λ xs. slice_get xs k) l.shorts ∙ filter_front (λ r. is_some (held_at after r)) stock.shorts.items k u.ref (λ i q low e.
+                let below : i < length old.trail.places = omega (arith, low, within) in
+                ap is_some (staying_live before after stock less start ids refs watched old.trail.places l a i q below e) ∙ (a.each i q below e).0) u.at;
+            reason = u.reason;
+            sole = ap (λ o. unwrap_or (option_map (λ (x : Held). x.literals) o) []) kept ∙ u.sole;
+            found = ap (entry_of (without_ids ids es)) (ap (λ o. unwrap_or (option_map (λ (x : Held). x.id) o) 0) kept) ∙
+                found_left ids es (id_in before u.ref) u.entry u.found (ap (stays_by ids) id ∙ ap not s.1);
+            retired = u.retired;
+          };
+    })
+
+ground_moved : (lists : List (List Watcher)) (before after : List Held) (names : List (ℕ × ℕ)) (stock more : Stock) (es : List Entry) (places : List Place) →
+    IsStocked lists before stock es → IsMoved before after names → more.shorts.items ≡ map (renamed_ref names) stock.shorts.items →
+    IsGround es stock.shorts.items before places → IsGround es more.shorts.items after (map (renamed_place names) places)
+ground_moved lists before after names stock more es places s m shorts g = record {
+  each = λ k q e.
+      let (p, at, is) = get_map_cases (renamed_place names) places k q e in
+      let u = g.each k p at in
+      let live = All-contains (λ r. is_live before r ≡ true) stock.shorts.items u.ref s.listed (Contains_from_get stock.shorts.items k u.ref u.at) in
+      let n = m.named u.ref live in
+      record {
+        ref = renamed_ref names u.ref;
+        entry = u.entry;
+        at = subst (λ xs. slice_get xs k ≡ Some (renamed_ref names u.ref)) (sym shorts) (get_map (renamed_ref names) stock.shorts.items k u.ref u.at);
+        reason = ap (λ (x : Place). x.reason) (sym is) ∙ ap (option_map (λ r. unwrap_or (new_name names r) r)) u.reason;
+        sole = n.2 ∙ u.sole ∙ ap (λ (x : Place). x.literal ∷ []) is;
+        found = ap (entry_of es) (ap (λ o. unwrap_or o 0) n.1) ∙ u.found;
+        retired = u.retired;
+      };
+}
+
 pub has_dropped : (old new : WatchState) (before after : List Held) (stock less : Stock) (start : ℕ) (ids refs : List ℕ) (watched : List Literal) →
-    IsLess before after stock less start ids refs watched → HasSwept old new after → HasDropped old new before after stock less start ids
-has_dropped old new before after stock less start ids refs watched l swept = record {
+    IsLess before after stock less start ids refs watched → AreStaying before stock.shorts.items old.trail.places ids → HasSwept old new after →
+    HasDropped old new before after stock less start ids
+has_dropped old new before after stock less start ids refs watched l a swept = record {
   serves = swept.serves;
   vars = ap (λ (t : TrailState). t.vars) swept.trail;
-  places = λ none. ap (λ (t : TrailState). t.places) swept.trail ∙ none;
+  ground = λ es s g. ground_less old new before after stock less start ids refs watched es l a swept.trail g;
   levels = swept.levels;
   stocked = λ es s. stocked_less old new before after stock less start ids refs watched es l swept s;
   front = λ es s. (front_stays old before after stock less start ids refs watched es l s).0;
@@ -558,7 +640,9 @@ pub has_compacted : (old new : WatchState) (before after : List Held) (names : L
 has_compacted old new before after names stock more up_before up_after serves same ren is rows shorts = record {
   serves = serves;
   vars = ap (λ (w : WatchState). w.trail.vars) is;
-  places = λ none. ap (λ (w : WatchState). w.trail.places) is ∙ ap (map (renamed_place names)) none;
+  ground = λ es s g. subst (IsGround es more.shorts.items after) (sym (ap (λ (w : WatchState). w.trail.places) is))
+      (ground_moved old.lists before after names stock more es old.trail.places s (moved old.lists stock es before after names s up_before up_after same ren)
+      shorts g);
   levels = ap (λ (w : WatchState). w.levels) is;
   stocked = λ es s. subst (λ ls. IsStocked ls after more es) (sym (ap (λ (w : WatchState). w.lists) is))
       (stocked_moved old.lists before after names stock more es s (moved old.lists stock es before after names s up_before up_after same ren)
@@ -569,7 +653,7 @@ pub not_compacted : (w : WatchState) (clauses : List Held) (stock : Stock) → S
 not_compacted w clauses stock serves = record {
   serves = serves;
   vars = refl;
-  places = λ none. none;
+  ground = λ es s g. g;
   levels = refl;
   stocked = λ es s. s;
 }

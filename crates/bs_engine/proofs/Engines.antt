@@ -1,7 +1,7 @@
 -- A solver with what it knows of its lemmas, from one call to the next.
 use Rattle.std.proofs.Common.{◌≡◌, ℕ, zero, suc, ◌+◌, ◌-◌, ◌*◌, ◌<◌, ◌≤◌, ◌^◌, arith, Bool, true, false, not, ◌&&◌, ◌||◌, List, [], ◌∷◌, ◌++◌, map, length, take}
 use Rattle.std.proofs.Common.{refl, sym, ap, subst, ◌∙◌, inl, inr, ◌⊎◌, Option, Some, None}
-use Rattle.std.specs.Prelude.{All, Contains, count_by}
+use Rattle.std.specs.Prelude.{All, Contains, slice_get, count_by}
 use Rattle.std.specs.List.{filter, list_any, AllByRecursion}
 use Rattle.std.proofs.lemmas.Bool.{true≢false, false≢true, and_parts}
 use Rattle.std.proofs.lemmas.List.{append-nil, append_assoc, take_all, map-append}
@@ -21,7 +21,10 @@ use Rattle.bs_log.proofs.Laws.{step_of-positive}
 use Rattle.bs_arena.specs.Arena.{Content, Held, live_words}
 use Rattle.bs_watch.specs.Watch.{WatchState, Serves}
 use Rattle.bs_learn.specs.Marks.{MarkState, IsClear}
-use Rattle.bs_watch.specs.Places.{TrailState}
+use Rattle.bs_watch.specs.declared.watch.Level.{Level}
+use Rattle.bs_watch.specs.declared.lists.Watcher.{Watcher}
+use Rattle.bs_watch.specs.Trail.{IsOpenOn}
+use Rattle.bs_watch.specs.Places.{Place, IsUnassigned, literals_of}
 use Rattle.bs_keep.specs.Keeping.{over}
 use Rattle.bs_keep.specs.Rows.{going}
 use Rattle.bs_book.specs.declared.stage.Stage.{Stage}
@@ -32,10 +35,14 @@ use Rattle.bs_book.specs.Book.{Book, standing, with_line, without}
 use Rattle.bs_book.specs.Ending.{SomeLemmas}
 use Rattle.bs_book.specs.Stages.{is_begun, is_solved, stage_of, begun_book, IsIdle, IsInside, Fits}
 use Rattle.bs_book.specs.Solver.{SolverState, IsReady, finished, retired, leaving}
-use Rattle.bs_book.proofs.Clauses.{nothing_in, contains_cases, all_from, filter_cases, filter_from, map_contains}
+use Rattle.bs_book.proofs.Lists.{get_from_Contains, get_map_cases, get_within}
+use Rattle.bs_book.proofs.Clauses.{nothing_in, contains_cases, contains_first, all_from, filter_cases, filter_from, map_contains}
 use Rattle.bs_search.specs.declared.stock.Stock.{Stock}
 use Rattle.bs_search.specs.Stock.{entries, IsStocked}
+use Rattle.bs_search.specs.Ground.{IsGround, IsOff, IsOwn}
 use Rattle.bs_search.specs.Teaching.{IsAtRest}
+use Rattle.bs_search.specs.Pausing.{IsKept, IsGrounded}
+use Rattle.bs_search.proofs.Grounds.{ground_literal}
 use Rattle.bs_search.proofs.Entries.{clauses_in}
 use Rattle.bs_engine.specs.declared.dropping.Known.{Known}
 use Rattle.bs_engine.specs.Dropping.{marked, without_ids, is_free, is_free_long, AreKnownIn}
@@ -76,17 +83,19 @@ pub engine_failed : (book : Book) (vars : ℕ) (stage : Stage) (w : WatchState) 
 engine_failed book vars stage w a stock marks own known bound = record {
   whole = failed_whole book vars stage w a.clauses stock marks bound;
   own_is = λ e. absurd (true≢false e);
+  own_clauses = λ e. absurd (true≢false e);
   knows = λ e. absurd (true≢false e);
   words = λ e s. absurd (true≢false e);
 }
 
 pub engine_new : (book : Book) (vars : ℕ) (w : WatchState) (a : Content) (stock : Stock) (marks : MarkState) (known : Known) →
-    IsWhole (record { book = book; vars = vars; stage = Idle; failed = false }) w a.clauses stock marks → vars ≡ book.problem.vars →
+    IsWhole (record { book = book; vars = vars; stage = Idle; failed = false }) w a.clauses stock marks → vars ≡ book.problem.vars → IsOwn book.problem →
     a.words ≡ live_words a.clauses → known ≡ record { rows = 0; long = 0 } →
     IsEngine (record { book = book; vars = vars; stage = Idle; failed = false }) w a stock marks vars known
-engine_new book vars w a stock marks known whole own words none = record {
+engine_new book vars w a stock marks known whole own clauses words none = record {
   whole = whole;
   own_is = λ _. own;
+  own_clauses = λ _. clauses;
   knows = λ _. subst (λ (k : Known). AreKnownIn vars (vars - vars) (marked (entries book)) k.rows k.long) (sym none)
       (record { low = omega arith; free = λ k d less. absurd (omega (arith, less)); counted = refl });
   words = λ _ _. omega (arith, words);
@@ -128,6 +137,7 @@ engine_begun old w a stock marks own known e well idle ready =
     record {
       whole = whole_begun old w a.clauses stock marks e.whole well idle ready;
       own_is = λ _. own_is;
+      own_clauses = λ _. e.own_clauses well;
       knows = λ _. subst (λ n. AreKnownIn own n (marked (entries old.book)) known.rows known.long) more
           (known_with_guard own (old.vars - own) (marked (entries old.book)) known.rows known.long (λ x there.
           subst (λ n. HasVariables n x.literals) (sym all)
@@ -142,16 +152,20 @@ solved_after (Found values) = refl
 solved_after (Refuted id) = refl
 solved_after Spent = refl
 
+pub own_as : (p q : Problem) → q.vars ≡ p.vars → q.clauses ≡ p.clauses → IsOwn p → IsOwn q
+own_as p q vars clauses own = subst (λ cs. All (HasVariables q.vars) cs) (sym clauses) (subst (λ n. All (HasVariables n) p.clauses) (sym vars) own)
+
 -- more entries, in a step that has had a solve
 pub engine_more : (old : SolverState) (new : Book) (stage : Stage) (w now : WatchState) (a after : Content) (stock more : Stock) (marks new_marks : MarkState)
     (own : ℕ) (known : Known) (es : List Entry) →
     IsEngine old w a stock marks own known → old.failed ≡ false → is_solved stage ≡ true → new.problem.vars ≡ old.book.problem.vars →
-    entries new ≡ entries old.book ++ es →
+    new.problem.clauses ≡ old.book.problem.clauses → entries new ≡ entries old.book ++ es →
     IsWhole (record { book = new; vars = old.vars; stage = stage; failed = false }) now after.clauses more new_marks →
     IsEngine (record { book = new; vars = old.vars; stage = stage; failed = false }) now after more new_marks own known
-engine_more old new stage w now a after stock more marks new_marks own known es e well solved vars grown whole = record {
+engine_more old new stage w now a after stock more marks new_marks own known es e well solved vars clauses grown whole = record {
   whole = whole;
   own_is = λ _. e.own_is well ∙ sym vars;
+  own_clauses = λ _. own_as old.book.problem new.problem vars clauses (e.own_clauses well);
   knows = λ _. subst (λ xs. AreKnownIn own (old.vars - own) (marked xs) known.rows known.long) (sym grown)
       (known_grows own (old.vars - own) (entries old.book) es known.rows known.long (e.knows well));
   words = λ _ begun. absurd (true≢false (sym solved ∙ begun));
@@ -166,11 +180,16 @@ engine_solved old begun new first assumptions stage answer w now a after stock m
     let (es, grown) = lemmas_grow begun new lemmas in
     engine_more old new stage w now a after stock more marks new_marks own known es e well (ap is_solved is_stage ∙ solved_after answer)
     (ap (λ (p : Problem). p.vars) lemmas.problem ∙ ap (λ (b : Book). b.problem.vars) is ∙ begun_vars first old.book assumptions)
+    (ap (λ (p : Problem). p.clauses) lemmas.problem ∙ ap (λ (b : Book). b.problem.clauses) is ∙ begun_clauses first old.book assumptions)
     (grown ∙ ap (λ xs. xs ++ es) (ap entries is ∙ begun_entries old.book first assumptions)) whole
   where
     begun_vars : (first : Bool) (b : Book) (c : Clause) → (begun_book first b c).problem.vars ≡ b.problem.vars
     begun_vars true b c = refl
     begun_vars false b c = refl
+
+    begun_clauses : (first : Bool) (b : Book) (c : Clause) → (begun_book first b c).problem.clauses ≡ b.problem.clauses
+    begun_clauses true b c = refl
+    begun_clauses false b c = refl
 
 -- ---- the end of a step
 
@@ -252,18 +271,19 @@ pub engine_ended : (old : SolverState) (fin ret new : Book) (end : Option ℕ) (
     IsEngine old w a stock marks own known → old.failed ≡ false → IsInside old.book old.vars → is_solved old.stage ≡ true →
     empty.trail.vars ≡ w.trail.vars → IsAtRest old.book empty a.clauses stock → fin ≡ finished old.book end → ret ≡ retired fin → new ≡ without ret ids →
     entries ret ≡ entries fin ++ unit_of fin guard ∷ [] → entries new ≡ without_ids ids (entries ret) → steps ≡ old.vars - own →
-    IsStocked mid.lists between held (entries old.book ++ unit_of old.book guard ∷ []) → mid.trail ≡ empty.trail → mid.levels ≡ empty.levels →
+    IsStocked mid.lists between held (entries old.book ++ unit_of old.book guard ∷ []) → mid.trail.vars ≡ empty.trail.vars →
+    IsGround (entries old.book ++ unit_of old.book guard ∷ []) held.shorts.items between mid.trail.places → mid.levels ≡ empty.levels →
     HasSettled own steps mid now between after.clauses held less ids later → after.words ≤ 2 * live_words after.clauses →
     IsReady (record { book = new; vars = old.vars; stage = Idle; failed = false }) →
     IsEngine (record { book = new; vars = old.vars; stage = Idle; failed = false }) now after less marks own later
 engine_ended old fin ret new end guard ids steps w empty mid now a between after stock held less marks own known later e well inside solved
-    empty_vars rest is_fin is_ret is_new grown gone steps_is stocked trail levels settled words ready =
+    empty_vars rest is_fin is_ret is_new grown gone steps_is stocked trail_vars ground levels settled words ready =
     let es : List Entry = entries old.book ++ unit_of old.book guard ∷ [] in
     let same : es ≡ entries ret =
     (λ i. sym (finished_entries old.book fin end is_fin) i ++ sym (ap (λ x. unit_of x guard) is_fin ∙ finished_next old.book end guard) i ∷ []) ∙ sym grown in
     let left : without_ids ids es ≡ entries new = ap (without_ids ids) same ∙ sym gone in
     let v = watch_vars old w a.clauses stock marks e.whole well solved in
-    let vars : now.trail.vars ≡ w.trail.vars = settled.vars ∙ ap (λ (t : TrailState). t.vars) trail ∙ empty_vars in
+    let vars : now.trail.vars ≡ w.trail.vars = settled.vars ∙ trail_vars ∙ empty_vars in
     let new_is : new ≡ without (retired fin) ids = is_new ∙ ap (λ x. without x ids) is_ret in
     let own_fin : own ≡ fin.problem.vars = e.own_is well ∙ sym (ap (λ (x : Book). x.problem.vars) is_fin ∙ finished_vars old.book end) in
     let same_step : steps ≡ step_of fin.history = steps_is ∙ guards_are old.book old.vars own inside (e.own_is well) ∙
@@ -278,13 +298,14 @@ engine_ended old fin ret new end guard ids steps w empty mid now a between after
         left = λ _. record {
           stocked = subst (IsStocked now.lists after.clauses less) left (settled.stocked es stocked);
           serves = settled.serves;
-          places = settled.places (ap (λ (t : TrailState). t.places) trail ∙ rest.places);
+          ground = subst (λ xs. IsGround xs less.shorts.items after.clauses now.trail.places) left (settled.ground es stocked ground);
           levels = settled.levels ∙ levels ∙ rest.levels;
         };
         vars = λ _. omega (arith, v, vars);
         clear = λ _. subst (λ n. IsClear (n + 1) marks) (sym vars) (e.whole.clear well);
       };
       own_is = λ _. own_fin ∙ sym (ap (λ (p : Problem). p.vars) problem);
+      own_clauses = λ _. subst IsOwn (sym (problem ∙ ap (λ (x : Book). x.problem) is_fin ∙ finished_problem old.book end)) (e.own_clauses well);
       knows = λ _.
           let rows : later.rows ≡ length (marked (entries new)) = settled.rows es stocked ∙ ap (λ xs. length (marked xs)) left in
           let all : take later.rows (marked (entries new)) ≡ marked (entries new) = take_all later.rows (marked (entries new)) (omega (arith, rows)) in
@@ -299,3 +320,65 @@ engine_ended old fin ret new end guard ids steps w empty mid now a between after
           });
       words = λ _ _. words;
     }
+
+-- ---- what stands for good is of other variables than a block, and than the guard
+
+-- a clause of the steps' own variables and of the guard
+pub record IsOfStep (b : Book) (vars : ℕ) (c : Clause) : Type 0 where
+  pub each : (l : Literal) → Contains c l → (l.variable ≤ b.problem.vars) ⊎ (l.variable ≡ vars)
+
+off_ground : (b : Book) (vars : ℕ) (lists : List (List Watcher)) (clauses : List Held) (stock : Stock) (places : List Place) (c : Clause) →
+    IsStocked lists clauses stock (entries b) → IsGround (entries b) stock.shorts.items clauses places → vars ≡ b.problem.vars + step_of b.history →
+    IsOfStep b vars c → IsOff places c
+off_ground b vars lists clauses stock places c s g vars_is of_step = all_from (IsOpenOn (literals_of places)) c (λ l there.
+    let gone : (x : Literal) → x.variable ≡ l.variable → ¬ Contains (literals_of places) x = λ x same holds.
+    let (k, found) = get_from_Contains (literals_of places) x holds in
+    let (p, at, is) = get_map_cases (λ (y : Place). y.literal) places k x found in
+    let (j, low, high, guard) = ground_literal b lists clauses stock places k p s g at in
+    let v = ap (λ (y : Literal). y.variable) (sym is ∙ guard) in
+    elim (of_step.each l there) [
+      | inl own ↦ omega (arith, own, v, same, low)
+      | inr mine ↦ omega (arith, mine, v, same, high, vars_is)
+    ] in
+    (gone l refl, gone (negation l) refl))
+
+pub kept_grounded : (b : Book) (vars : ℕ) (w : WatchState) (clauses : List Held) (stock : Stock) (c : Clause) → IsKept b w clauses stock →
+    vars ≡ b.problem.vars + step_of b.history → IsOfStep b vars c → IsGrounded w c
+kept_grounded b vars w clauses stock c (inl r) vars_is of_step = record {
+  none = λ none. off_ground b vars w.lists clauses stock w.trail.places c r.stocked r.ground vars_is of_step;
+  first = λ v e. absurd (let h = get_within w.levels 0 v e in let n = ap length r.levels in omega (arith, h, n));
+}
+kept_grounded b vars w clauses stock c (inr p) vars_is of_step = record {
+  none = λ none. absurd (let some = p.1.running.begun.some in let n = ap length none in omega (arith, some, n));
+  first = λ v e. off_ground b vars w.lists clauses stock (take v.start w.trail.places) c p.1.running.stocked (p.1.running.ground v e) vars_is of_step;
+}
+
+pub block_of_step : (b : Book) (vars : ℕ) (lits : Clause) → HasVariables b.problem.vars lits →
+    IsOfStep b vars (record { variable = vars; positive = false } ∷ lits)
+block_of_step b vars lits range = record {
+  each = λ l there. elim (contains_cases (record { variable = vars; positive = false }) lits l there) [
+    | inl first ↦ inr (sym (ap (λ (x : Literal). x.variable) first))
+    | inr later ↦ inl (All-contains (IsWithin b.problem.vars) lits l range later).1
+  ];
+}
+
+-- the guard has no value once the trail has gone back
+pub guard_is_free : (b : Book) (vars : ℕ) (w : WatchState) (clauses : List Held) (stock : Stock) (l : Literal) → IsAtRest b w clauses stock →
+    vars ≡ b.problem.vars + step_of b.history → w.trail.vars ≡ vars → l ≡ record { variable = vars; positive = false } → IsUnassigned w.trail l
+guard_is_free b vars w clauses stock l r vars_is all is = record {
+  in_range = (let v = ap (λ (x : Literal). x.variable) is in omega (arith, v, all));
+  unassigned = All-contains (IsOpenOn (literals_of w.trail.places)) (l ∷ []) l
+      (off_ground b vars w.lists clauses stock w.trail.places (l ∷ []) r.stocked r.ground vars_is (record {
+        each = λ m there. elim (contains_cases l [] m there) [
+          | inl same ↦ inr (ap (λ (x : Literal). x.variable) (sym same ∙ is))
+          | inr none ↦ absurd (nothing_in m none)
+        ];
+      })) (contains_first l []);
+}
+
+pub begun_own : (b begun : Book) (first : Bool) (a : Clause) → begun ≡ begun_book first b a → IsOwn b.problem → IsOwn begun.problem
+begun_own b begun first a is own = subst (λ (x : Book). IsOwn x.problem) (sym is) (by first)
+  where
+    by : (f : Bool) → IsOwn (begun_book f b a).problem
+    by true = own
+    by false = own

@@ -6,10 +6,10 @@ use Rattle.std.specs.List.{filter}
 use Rattle.std.proofs.lemmas.Bool.{false≢true, ne_eqb}
 use Rattle.std.proofs.lemmas.List.{length-take-le}
 use Rattle.std.proofs.lemmas.List.Elements.{All-nil, All-cons}
-use Rattle.bs_clause.specs.Literal.{Literal, Clause}
+use Rattle.bs_clause.specs.Literal.{Literal, Clause, negation}
 use Rattle.bs_arena.specs.Arena.{Held, held_at, literals_at, live_words}
 use Rattle.bs_watch.specs.declared.lists.Watcher.{Watcher}
-use Rattle.bs_watch.specs.Places.{TrailState}
+use Rattle.bs_watch.specs.Places.{Place, TrailState}
 use Rattle.bs_watch.specs.Lists.{row, IsIn, IsAttached}
 use Rattle.bs_watch.specs.Watch.{WatchState, Serves, KeepsService, grown}
 use Rattle.bs_watch.proofs.Advancing.{shuffled_refl}
@@ -32,18 +32,19 @@ use Rattle.bs_book.specs.Stages.{is_begun, is_solved, begun_book, IsIdle}
 use Rattle.bs_book.specs.Solver.{SolverState, IsReady, MaySolve, HasSolved, finished}
 use Rattle.bs_book.proofs.Lines.{live_with_member}
 use Rattle.bs_book.proofs.Lists.{none_is_not_some, same_some, get_within}
-use Rattle.bs_book.proofs.Clauses.{nothing_in}
+use Rattle.bs_book.proofs.Clauses.{nothing_in, all_from}
 use Rattle.bs_book.proofs.Solving.{ready_after_solve, has_solved, begun_stands, begun_assumptions, begun_phase}
 use Rattle.bs_search.specs.Searching.{IsOver}
 use Rattle.bs_search.specs.declared.stock.Stock.{Stock}
-use Rattle.bs_search.specs.Stock.{entries, is_live, IsStocked, HasStocked}
+use Rattle.bs_search.specs.Stock.{entries, is_live, IsStocked}
 use Rattle.bs_search.proofs.Entries.{clauses_in}
 use Rattle.bs_keep.specs.Keeping.{AreHeld}
 use Rattle.bs_keep.specs.Rows.{AreRowsAmong}
-use Rattle.bs_watch.specs.Trail.{IsTrueOn}
+use Rattle.bs_watch.specs.Trail.{IsTrueOn, IsOpenOn}
 use Rattle.bs_learn.specs.Marks.{MarkState, IsClear, StaysClear}
 use Rattle.bs_book.specs.Places.{IsSound, literals_of as logged_literals}
 use Rattle.bs_search.specs.Seen.{seen}
+use Rattle.bs_search.specs.Ground.{HasStocked, IsGround, IsOff}
 use Rattle.bs_search.specs.Teaching.{IsAtRest}
 use Rattle.bs_search.specs.Pausing.{IsKept, IsLeft, GoesToRest}
 use Rattle.bs_search.specs.Blocking.{HasHeld}
@@ -66,6 +67,10 @@ stocked_none lists clauses stock none no_shorts no_rows = record {
   where
     dead : (r : ℕ) → is_live clauses r ≡ true → ⊥
     dead r is = false≢true (sym (ap (λ cs. is_some (held_at cs r)) none) ∙ is)
+
+-- no variable stands on an empty trail
+pub off_empty : (places : List Place) (c : Clause) → places ≡ [] → IsOff places c
+off_empty places c none = subst (λ ps. IsOff ps c) (sym none) (all_from (IsOpenOn []) c (λ l there. (nothing_in l, nothing_in (negation l))))
 
 -- ---- the first entries
 
@@ -127,7 +132,7 @@ rest_grown old new vars missing is serves = record {
         (stocked_shuffled old.lists (old.lists ++ [] ∷ [] ∷ []) clauses clauses stock (entries book) r.stocked (shuffled_refl clauses)
         (λ q a. attached_grown old.lists q a));
     serves = serves.keeps clauses r.serves;
-    places = ap (λ (w : WatchState). w.trail.places) is ∙ r.places;
+    ground = subst (IsGround (entries book) stock.shorts.items clauses) (sym (ap (λ (w : WatchState). w.trail.places) is)) r.ground;
     levels = ap (λ (w : WatchState). w.levels) is ∙ r.levels;
   };
 }
@@ -149,7 +154,7 @@ pub rest_in : (book other : Book) (w : WatchState) (clauses : List Held) (stock 
 rest_in book other w clauses stock same r = record {
   stocked = subst (IsStocked w.lists clauses stock) (sym same) r.stocked;
   serves = r.serves;
-  places = r.places;
+  ground = subst (λ es. IsGround es stock.shorts.items clauses w.trail.places) (sym same) r.ground;
   levels = r.levels;
 }
 
@@ -165,6 +170,7 @@ kept_in book other w clauses stock same step (inr p) = inr (
       begun = p.1.running.begun;
       laid = p.1.running.laid;
       reasoned = p.1.running.reasoned;
+      ground = λ v e. subst (λ es. IsGround es stock.shorts.items clauses (take v.start w.trail.places)) (sym same) (p.1.running.ground v e);
     };
     sound = subst (λ cs. IsSound cs p.0 (assumed other) (seen w.trail.places)) (sym (ap clauses_in same))
         (subst (λ a. IsSound (standing book) p.0 a (seen w.trail.places)) (sym step) p.1.sound);
@@ -325,7 +331,7 @@ whole_blocked old new w now clauses after stock more marks next id c whole well 
   clear = λ _. subst (λ n. IsClear (n + 1) marks) (sym h.vars) (whole.clear well);
 }
 
--- nothing is assigned then
+-- nothing is assigned then but what stands for good
 pub rested : (old : SolverState) (w empty : WatchState) (clauses : List Held) (stock : Stock) (marks : MarkState) → IsWhole old w clauses stock marks →
     old.failed ≡ false → GoesToRest w empty → IsAtRest old.book empty clauses stock
 rested old w empty clauses stock marks whole well g = g.keeps old.book clauses stock (left_kept old.stage old.book w clauses stock (whole.left well))
@@ -379,7 +385,9 @@ whole_new vars axioms given first w clauses stock marks book bound range distinc
       left = λ _. record {
         stocked = subst (IsStocked w.lists clauses stock) (ap (axioms_from 1) same ∙ sym (ap entries is ∙ first_entries p)) stocked;
         serves = serves;
-        places = ap (λ (t : TrailState). t.places) (w_trail ∙ trail);
+        ground = record {
+          each = λ k p e. absurd (none_is_not_some p (subst (λ ps. slice_get ps k ≡ Some p) (ap (λ (t : TrailState). t.places) (w_trail ∙ trail)) e));
+        };
         levels = w_levels ∙ levels;
       };
       vars = λ _. let v = ap (λ (t : TrailState). t.vars) (w_trail ∙ trail) in omega (arith, v);

@@ -1,15 +1,17 @@
 -- What a step's end takes out, and what is known of the lemmas that stay.
-use Rattle.std.specs.Prelude.{◌≡◌, ℕ, ◌≤◌, ◌==◌, not, ◌&&◌, Bool, true, List, [], take, length, is_some, count_by, All}
+use Rattle.std.specs.Prelude.{◌≡◌, ℕ, ◌<◌, ◌≤◌, ◌==◌, not, ◌&&◌, Bool, true, false, List, take, length, Some, is_some, count_by, All, slice_get}
 use Rattle.std.specs.List.{filter, list_any}
 use Rattle.bs_log.specs.History.{Entry}
 use Rattle.bs_log.specs.Refusal.{is_lemma_or_block}
 use Rattle.bs_log.specs.Kept.{is_free_lemma, is_long}
 use Rattle.bs_arena.specs.Arena.{Held, held_at}
+use Rattle.bs_watch.specs.Places.{Place}
 use Rattle.bs_watch.specs.Watch.{WatchState, Serves}
 use Rattle.bs_keep.specs.Keeping.{over}
 use Rattle.bs_book.specs.Book.{Book}
 use Rattle.bs_search.specs.declared.stock.Stock.{Stock}
-use Rattle.bs_search.specs.Stock.{entries, IsStocked}
+use Rattle.bs_search.specs.Stock.{entries, id_in, IsStocked}
+use Rattle.bs_search.specs.Ground.{IsGround}
 
 -- the entries without those of some ids
 abbrev pub without_ids : List ℕ → List Entry → List Entry
@@ -19,11 +21,18 @@ without_ids ids es = filter (λ e. not (list_any (λ d. e.id == d) ids)) es
 abbrev pub marked : List Entry → List Entry
 marked es = filter is_lemma_or_block es
 
+-- what stands on the trail for good is of clauses that stay
+pub record AreStaying (clauses : List Held) (shorts : List ℕ) (places : List Place) (ids : List ℕ) : Type 0 where
+  pub low : length places ≤ length shorts
+  pub each : (k r : ℕ) → k < length places → slice_get shorts k ≡ Some r →
+      (is_some (held_at clauses r) ≡ true) × (list_any (λ d. id_in clauses r == d) ids ≡ false)
+
 -- the clauses of these ids are gone, and none of the first so many lemmas and blocks
 pub record HasDropped (old new : WatchState) (before after : List Held) (stock less : Stock) (start : ℕ) (ids : List ℕ) : Type 0 where
   pub serves : Serves new after
   pub vars : new.trail.vars ≡ old.trail.vars
-  pub places : old.trail.places ≡ [] → new.trail.places ≡ []
+  pub ground : (es : List Entry) → IsStocked old.lists before stock es → IsGround es stock.shorts.items before old.trail.places →
+      IsGround (without_ids ids es) less.shorts.items after new.trail.places
   pub levels : new.levels ≡ old.levels
   pub stocked : (es : List Entry) → IsStocked old.lists before stock es → IsStocked new.lists after less (without_ids ids es)
   pub front : (es : List Entry) → IsStocked old.lists before stock es → take start (marked (without_ids ids es)) ≡ take start (marked es)
@@ -34,7 +43,8 @@ pub record HasDropped (old new : WatchState) (before after : List Held) (stock l
 pub record HasCompacted (old new : WatchState) (before after : List Held) (stock moved : Stock) : Type 0 where
   pub serves : Serves new after
   pub vars : new.trail.vars ≡ old.trail.vars
-  pub places : old.trail.places ≡ [] → new.trail.places ≡ []
+  pub ground : (es : List Entry) → IsStocked old.lists before stock es → IsGround es stock.shorts.items before old.trail.places →
+      IsGround es moved.shorts.items after new.trail.places
   pub levels : new.levels ≡ old.levels
   pub stocked : (es : List Entry) → IsStocked old.lists before stock es → IsStocked new.lists after moved es
 

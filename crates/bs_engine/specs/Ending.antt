@@ -13,8 +13,9 @@ use Rattle.bs_keep.specs.Rows.{going}
 use Rattle.bs_book.specs.Book.{Book, next_id}
 use Rattle.bs_search.specs.declared.stock.Stock.{Stock}
 use Rattle.bs_search.specs.Stock.{entries, IsStocked}
+use Rattle.bs_search.specs.Ground.{IsGround}
 use Rattle.bs_engine.specs.declared.dropping.Known.{Known}
-use Rattle.bs_engine.specs.Dropping.{without_ids, marked, is_free_long, AreKnownIn}
+use Rattle.bs_engine.specs.Dropping.{without_ids, marked, is_free_long, AreKnownIn, AreStaying}
 
 -- the unit of a negated guard
 abbrev pub unit_of : Book → Literal → Entry
@@ -25,7 +26,9 @@ pub record HasPrepared (b : Book) (steps : ℕ) (old new : WatchState) (clauses 
     (leaving : Leaving) : Type 0 where
   pub stocked : IsStocked new.lists clauses stock (entries b ++ unit_of b guard ∷ [])
   pub serves : Serves new clauses
-  pub trail : new.trail ≡ old.trail
+  pub vars : new.trail.vars ≡ old.trail.vars
+  pub ground : IsGround (entries b ++ unit_of b guard ∷ []) stock.shorts.items clauses new.trail.places
+  pub staying : AreStaying clauses stock.shorts.items new.trail.places leaving.ids
   pub levels : new.levels ≡ old.levels
   pub ids : leaving.ids ≡ map (λ e. e.id) (going b.problem steps (entries b ++ unit_of b guard ∷ []))
   pub gone : GoBy clauses stock.rows.items leaving.start leaving.ids leaving.clauses.items leaving.watched.items
@@ -42,7 +45,8 @@ IsSomeSettling own steps known w clauses stock =
 pub record HasSettled (own steps : ℕ) (old new : WatchState) (before after : List Held) (stock less : Stock) (ids : List ℕ) (known : Known) : Type 0 where
   pub serves : Serves new after
   pub vars : new.trail.vars ≡ old.trail.vars
-  pub places : old.trail.places ≡ [] → new.trail.places ≡ []
+  pub ground : (es : List Entry) → IsStocked old.lists before stock es → IsGround es stock.shorts.items before old.trail.places →
+      IsGround (without_ids ids es) less.shorts.items after new.trail.places
   pub levels : new.levels ≡ old.levels
   pub stocked : (es : List Entry) → IsStocked old.lists before stock es → IsStocked new.lists after less (without_ids ids es)
   pub rows : (es : List Entry) → IsStocked old.lists before stock es → known.rows ≡ length (marked (without_ids ids es))

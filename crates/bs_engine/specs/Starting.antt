@@ -13,6 +13,7 @@ use Rattle.bs_engine.specs.declared.dropping.Known.{Known}
 use Rattle.bs_engine.specs.Dropping.{marked, AreKnownIn}
 use Rattle.bs_search.specs.declared.stock.Stock.{Stock}
 use Rattle.bs_search.specs.Stock.{entries, is_live, id_in, IsSpelled, IsClauseOf}
+use Rattle.bs_search.specs.Ground.{IsOwn}
 use Rattle.bs_search.specs.Teaching.{IsAtRest}
 use Rattle.bs_search.specs.Pausing.{IsKept}
 
@@ -21,7 +22,7 @@ abbrev pub new_variables : Stage → ℕ
 new_variables Begun = 1
 new_variables _ = 0
 
--- between the solves of a step the trail may stay, and else nothing is assigned
+-- between the solves of a step the trail may stay, and else nothing is assigned but what stands for good
 abbrev pub IsLeftAt : Stage → Book → WatchState → List Held → Stock → Type 0
 IsLeftAt Idle book w clauses stock = IsAtRest book w clauses stock
 IsLeftAt Begun book w clauses stock = IsAtRest book w clauses stock
@@ -47,6 +48,7 @@ pub record KeepsRest (old new : WatchState) (vars : ℕ) : Type 0 where
 pub record IsEngine (s : SolverState) (w : WatchState) (a : Content) (stock : Stock) (marks : MarkState) (own : ℕ) (known : Known) : Type 0 where
   pub whole : IsWhole s w a.clauses stock marks
   pub own_is : s.failed ≡ false → own ≡ s.book.problem.vars
+  pub own_clauses : s.failed ≡ false → IsOwn s.book.problem
   pub knows : s.failed ≡ false → AreKnownIn own (s.vars - own) (marked (entries s.book)) known.rows known.long
   pub words : s.failed ≡ false → is_solved s.stage ≡ false → a.words ≤ 2 * live_words a.clauses
 

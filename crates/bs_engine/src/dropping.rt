@@ -5,7 +5,7 @@ ghost use Rattle.bs_arena.specs.Arena.{held_at, literals_at, live_words};
 ghost use Rattle.bs_watch.specs.Watch.{Serves};
 ghost use Rattle.bs_keep.specs.Keeping.{AreHeld, Ascends, is_long_row};
 ghost use Rattle.bs_keep.specs.Notes.{GoBy};
-ghost use Rattle.bs_engine.specs.Dropping.{HasDropped, HasCompacted};
+ghost use Rattle.bs_engine.specs.Dropping.{AreStaying, HasDropped, HasCompacted};
 
 use bs_arena::{Arena, Renaming};
 use bs_keep::{Guards, Leaving, Row, compact_all, count_long, take_out};
@@ -19,8 +19,10 @@ pub struct Known {
     pub long: usize,
 }
 
-/// Takes what is leaving out of the arena, the watch lists and the stock. It takes no memory.
+/// Takes what is leaving out of the arena, the watch lists and the stock, of which what stands on the trail for good is not
+/// looked at. It takes no memory.
 pub fn drop_leaving(watch: &mut Watch, arena: &mut Arena, stock: &mut Stock, leaving: &Leaving)
+    requires staying { AreStaying arena.old.clauses stock.old.shorts.items watch.old.trail.places leaving.now.ids }
     requires serves { Serves watch.old arena.old.clauses }
     requires held { AreHeld arena.old.clauses stock.old.rows.items }
     requires ascends { Ascends stock.old.rows.items }
@@ -30,7 +32,15 @@ pub fn drop_leaving(watch: &mut Watch, arena: &mut Arena, stock: &mut Stock, lea
     ensures { HasDropped watch.old watch.new arena.old.clauses arena.new.clauses stock.old stock.new leaving.now.start leaving.now.ids }
 {
     arena.holds_clauses();
-    take_out(watch, arena, &mut stock.rows, &mut stock.shorts, leaving, 0);
+    let stand = watch.trail().len();
+    take_out(
+        watch,
+        arena,
+        &mut stock.rows,
+        &mut stock.shorts,
+        leaving,
+        stand,
+    );
 }
 
 /// Moves the live clauses together where more words are dead than live. It takes no memory.

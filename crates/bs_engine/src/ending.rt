@@ -1,13 +1,14 @@
 //! The end of a step: the unit of its guard comes, and what is not kept goes.
-ghost use Rattle.std.specs.Prelude.{◌≡◌, ◌≤◌, ◌*◌, ◌∷◌, [], length, IfOk};
-ghost use Rattle.bs_clause.specs.Range.{HasVariables};
+ghost use Rattle.std.specs.Prelude.{◌≡◌, ◌≤◌, ◌*◌, length, IfOk};
+ghost use Rattle.bs_clause.specs.Literal.{negation};
+ghost use Rattle.bs_watch.specs.Places.{IsUnassigned};
 ghost use Rattle.bs_arena.specs.Arena.{live_words};
 ghost use Rattle.bs_watch.specs.Watch.{Serves};
 ghost use Rattle.bs_keep.specs.Keeping.{Ascends};
 ghost use Rattle.bs_keep.specs.Notes.{GoBy};
 ghost use Rattle.bs_search.specs.Stock.{entries};
 ghost use Rattle.bs_search.specs.Teaching.{IsAtRest};
-ghost use Rattle.bs_engine.specs.Dropping.{marked, AreKnownIn};
+ghost use Rattle.bs_engine.specs.Dropping.{marked, AreKnownIn, AreStaying};
 ghost use Rattle.bs_engine.specs.Ending.{HasPrepared, IsSomeSettling, HasSettled};
 
 use crate::dropping::{Known, compact_where_due, drop_leaving, known_after};
@@ -15,12 +16,11 @@ use bs_arena::{Arena, Renaming};
 use bs_book::Recording;
 use bs_clause::{Lit, NoMemory};
 use bs_keep::{Guards, Leaving, find_leaving};
-use bs_log::Origin;
-use bs_search::{Stock, add_clause};
+use bs_search::{Stock, retire};
 use bs_watch::Watch;
 use std::alloc::Global;
 
-/// Adds the unit of the step's negated guard, and finds what is not kept then. There is room then for a compaction.
+/// Adds the unit of the step's negated guard, whose literal stands on the trail from then on, and finds what is not kept then. There is room then for a compaction.
 pub fn prepare(
     alloc: Global,
     book: &Recording,
@@ -34,20 +34,13 @@ pub fn prepare(
 ) -> Result<Leaving, NoMemory>
     requires rest { IsAtRest book.now watch.old arena.old.clauses stock.old }
     requires own { guards.own ≡ book.now.problem.vars }
-    requires range { HasVariables watch.old.trail.vars (guard ∷ []) }
+    requires free { IsUnassigned watch.old.trail (negation guard) }
     requires known { AreKnownIn guards.own guards.steps (marked (entries book.now)) known.rows known.long }
     ensures { IfOk result (HasPrepared book.now guards.steps watch.old watch.new arena.new.clauses stock.new renaming.new.spare guard) }
 {
     book.holds_ids();
     let next = book.next_id()?;
-    add_clause(
-        watch,
-        arena,
-        stock,
-        next,
-        &[guard.negate()],
-        Origin::Retired,
-    )?;
+    retire(watch, arena, stock, next, guard.negate())?;
     let leaving = find_leaving(
         alloc,
         arena,
@@ -75,6 +68,7 @@ pub fn settle(
     requires room { length arena.old.clauses ≤ renaming.old.spare }
     requires ascends { Ascends stock.old.rows.items }
     requires gone { GoBy arena.old.clauses stock.old.rows.items leaving.now.start leaving.now.ids leaving.now.clauses.items leaving.now.watched.items }
+    requires staying { AreStaying arena.old.clauses stock.old.shorts.items watch.old.trail.places leaving.now.ids }
     requires some { IsSomeSettling guards.own guards.steps known watch.old arena.old.clauses stock.old }
     ensures settled { HasSettled guards.own guards.steps watch.old watch.new arena.old.clauses arena.new.clauses stock.old stock.new leaving.now.ids result }
     ensures words { arena.new.words ≤ 2 * live_words arena.new.clauses }

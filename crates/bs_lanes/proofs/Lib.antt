@@ -1,5 +1,5 @@
+pub mod LayoutLemmas
 pub mod LevelLemmas
 pub mod PairLemmas
 pub mod ProgramLemmas
 pub mod SettlingLemmas
-pub mod TableLemmas

@@ -1,21 +1,27 @@
 -- Gates of two inputs as one formula.
-use Rattle.std.proofs.Common.{◌≡◌, ℕ, ◌<◌, ◌+◌, ◌*◌, Bool, true, false, ◌&&◌, List, [], ◌∷◌, map, length, get_or, drop, refl, arith, ap, sym, ◌∙◌}
+use Rattle.std.proofs.Common.{◌≡◌, ℕ, suc, zero, ◌<◌, ◌+◌, ◌*◌, Bool, true, false, ◌&&◌, List, [], ◌∷◌, map, length, get_or, drop, refl, arith, subst, ap, sym, ◌∙◌, ◌⊎◌, ⊎_elim, ◌≤◌}
+use Rattle.std.specs.Prelude.{IsTrue}
+use Rattle.std.specs.List.{All, AllByRecursion}
 use Rattle.std.specs.Int.Bits.{bit_and, bit_xor}
 use Rattle.std.specs.Simd.Lanes.{zip2, put_chunk}
+use Rattle.std.proofs.lemmas.Bool.{false≢true}
 use Rattle.std.proofs.lemmas.List.{drop_more, nil_from_length}
+use Rattle.std.proofs.lemmas.List.Elements.{recursion_from_All}
+use Rattle.bs_net.specs.declared.net.Gate.{Gate}
 use Rattle.bs_net.specs.declared.net.Kind.{Kind}
-use Rattle.bs_net.specs.declared.net.Kind.TheVariants.{And, Nand, Or, Nor, Xor, Xnor}
+use Rattle.bs_net.specs.declared.net.Kind.TheVariants.{And, Nand, Or, Nor, Xor, Xnor, Buf, Not}
 use Rattle.bs_net.specs.Circuit.{gate_value}
+use Rattle.bs_net.specs.Parts.{takes}
 use Rattle.bs_net.specs.Steps.{Step, gate_write, run}
 use Rattle.bs_stim.specs.Packing.{bit_in}
 use Rattle.bs_plane.specs.Planes.{IsPlane, bit_place, lane}
 use Rattle.bs_plane.proofs.PlaneLemmas.{and_is_plane, xor_is_plane, lane_at}
 use Rattle.bs_lanes.specs.declared.pairs.Pair.{Pair}
 use Rattle.bs_lanes.specs.declared.pairs.Table.{Table}
-use Rattle.bs_lanes.specs.Settling.{RunsTo, RunsAll}
-use Rattle.bs_lanes.specs.Program.{pair_gate}
-use Rattle.bs_lanes.specs.Pairs.{differ, mixed, IsTable, IsMixed, HasPair}
-use Rattle.bs_lanes.proofs.SettlingLemmas.{one_write, left_as, within}
+use Rattle.bs_lanes.specs.Settling.{HasPlane, RunsTo, RunsAll}
+use Rattle.bs_lanes.specs.Program.{pair_gate, pair_gates, HasGate}
+use Rattle.bs_lanes.specs.Pairs.{differ, mixed, IsTable, IsMixed}
+use Rattle.bs_lanes.proofs.SettlingLemmas.{one_write, left_as, within, keeps_plane, keeps_planes}
 
 abbrev table : Bool → Bool → Bool → Table
 table both one inverted = record { both = both; one = one; inverted = inverted }
@@ -89,22 +95,30 @@ mixed_is wide a b both one inverted la lb lc ld le =
     (and_is_plane wide _ one _ _ (xor_is_plane wide a b _ _ pa pb) (own_plane wide one ld))) (own_plane wide inverted le)
 
 -- a gate of two inputs is evaluated
-pub one_pair : (wide : ℕ) (kind : Kind) (pairs : List Pair) (i : ℕ) (d : Pair) (t : Table) (old now a b both one inverted plane : List ℕ)
+pub one_pair : (wide : ℕ) (kind : Kind) (start : ℕ) (pairs : List Pair) (i : ℕ) (d : Pair) (t : Table) (old now a b both one inverted plane : List ℕ)
     (whole : ℕ → List Step) → i < length pairs → IsTable kind t →
-    RunsTo wide (λ r. map gate_write (map (pair_gate kind) (drop i pairs))) whole old now → HasPair wide now (get_or pairs i d) →
+    RunsTo wide (λ r. map gate_write (pair_gates kind (start + i) (drop i pairs))) whole old now →
+    HasGate wide now (pair_gate kind (start + i) (get_or pairs i d)) →
     IsPlane wide a (λ r. bit_in now (bit_place wide (get_or pairs i d).a r)) → IsPlane wide b (λ r. bit_in now (bit_place wide (get_or pairs i d).b r)) →
     IsPlane wide both (λ r. t.both) → IsPlane wide one (λ r. t.one) → IsPlane wide inverted (λ r. t.inverted) → IsMixed wide a b both one inverted plane →
-    RunsTo wide (λ r. map gate_write (map (pair_gate kind) (drop (i + 1) pairs))) whole old (put_chunk ((get_or pairs i d).out * wide) now plane)
-one_pair wide kind pairs i d t old now a b both one inverted plane whole lt is h has pa pb pboth pone pinv mix =
+    RunsTo wide (λ r. map gate_write (pair_gates kind (start + (i + 1)) (drop (i + 1) pairs))) whole old (put_chunk ((start + i) * wide) now plane)
+one_pair wide kind start pairs i d t old now a b both one inverted plane whole lt is h has pa pb pboth pone pinv mix =
     let p = get_or pairs i d in
-    let rest : List Step = map gate_write (map (pair_gate kind) (drop (i + 1) pairs)) in
+    let rest : List Step = map gate_write (pair_gates kind (start + (i + 1)) (drop (i + 1) pairs)) in
+    let behind : (start + i) + 1 ≡ start + (i + 1) = omega arith in
     let f : Bool → Bool → Bool → Bool → Bool → Bool = λ x y u v w. differ (differ ((x && y) && u) (differ x y && v)) w in
-    one_write wide p.out (λ r. gate_write (pair_gate kind p)) (λ r. rest) whole old now plane
-    (left_as wide _ _ whole old now (λ r. ap (λ u. map gate_write (map (pair_gate kind) u)) (drop_more pairs i d lt)) h) has.out mix.long (λ r. refl)
+    one_write wide (start + i) (λ r. gate_write (pair_gate kind (start + i) p)) (λ r. rest) whole old now plane
+    (left_as wide _ _ whole old now
+    (λ r.
+    ap (λ u. map gate_write (pair_gates kind (start + i) u)) (drop_more pairs i d lt)
+    ∙ ap (λ n. gate_write (pair_gate kind (start + i) p) ∷ map gate_write (pair_gates kind n (drop (i + 1) pairs))) behind) h) has.out mix.long
+    (λ r. refl)
     (λ count r size small.
     let v : List Bool = lane wide count now r in
-    let xa : get_or v p.a false ≡ bit_in a r = lane_at wide count now r p.a (within wide count p.a r now has.a size small) ∙ sym (pa.each r small) in
-    let xb : get_or v p.b false ≡ bit_in b r = lane_at wide count now r p.b (within wide count p.b r now has.b size small) ∙ sym (pb.each r small) in
+    let has_a : HasPlane wide now p.a = has.ins 0 (record { 0 = 0 }) (omega arith) in
+    let has_b : HasPlane wide now p.b = has.ins 1 (record { 0 = 0 }) (omega arith) in
+    let xa : get_or v p.a false ≡ bit_in a r = lane_at wide count now r p.a (within wide count p.a r now has_a size small) ∙ sym (pa.each r small) in
+    let xb : get_or v p.b false ≡ bit_in b r = lane_at wide count now r p.b (within wide count p.b r now has_b size small) ∙ sym (pb.each r small) in
     mix.each r small
     ∙ (ap (λ u. f (bit_in a r) (bit_in b r) u (bit_in one r) (bit_in inverted r)) (pboth.each r small)
     ∙ (ap (λ u. f (bit_in a r) (bit_in b r) t.both u (bit_in inverted r)) (pone.each r small)
@@ -112,14 +126,61 @@ one_pair wide kind pairs i d t old now a b both one inverted plane whole lt is h
     ∙ (is.value (bit_in a r) (bit_in b r)
     ∙ (ap (λ x. gate_value kind (x ∷ bit_in b r ∷ [])) (sym xa) ∙ ap (λ y. gate_value kind (get_or v p.a false ∷ y ∷ [])) (sym xb)))))))
 
-pub pair_stays : (wide : ℕ) (old now : List ℕ) (p : Pair) → length now ≡ length old → HasPair wide old p → HasPair wide now p
-pair_stays wide old now p size h = record { out = omega (arith, h.out, size); a = omega (arith, h.a, size); b = omega (arith, h.b, size) }
+-- what holds of all gates of some pairs holds of one
+pub pair_has : (P : Gate → Type 0) (kind : Kind) (start : ℕ) (pairs : List Pair) (i : ℕ) (d : Pair) → i < length pairs → All P (pair_gates kind start pairs) →
+    P (pair_gate kind (start + i) (get_or pairs i d))
+pair_has P kind start pairs i d lt h = go start pairs i lt (recursion_from_All P (pair_gates kind start pairs) h)
+  where
+    go : (s : ℕ) (ps : List Pair) (k : ℕ) → k < length ps → AllByRecursion P (pair_gates kind s ps) → P (pair_gate kind (s + k) (get_or ps k d))
+    go s [] k small a = absurd (omega (arith, small))
+    go s (p ∷ ps) zero small a =
+        let e : s ≡ s + 0 = omega arith in
+        let Q : ℕ → Type 0 = λ n. P (pair_gate kind n p) in
+        subst Q e a.0
+    go s (p ∷ ps) (suc k) small a =
+        let e : (s + 1) + k ≡ s + suc k = omega arith in
+        let Q : ℕ → Type 0 = λ n. P (pair_gate kind n (get_or ps k d)) in
+        subst Q e (go (s + 1) ps k (omega (arith, small)) a.1)
 
-pub no_pairs : (wide : ℕ) (kind : Kind) (pairs : List Pair) (nets : List ℕ) → length pairs ≡ 0 →
-    RunsAll wide (λ r. map gate_write (map (pair_gate kind) pairs)) nets nets
-no_pairs wide kind pairs nets none =
+-- a kind of gates of two inputs takes two
+pub some_taken : (wide : ℕ) (words : List ℕ) (kind : Kind) (start : ℕ) (pairs : List Pair) → 0 < length pairs →
+    All (HasGate wide words) (pair_gates kind start pairs) → IsTrue (takes kind 2)
+some_taken wide words kind start pairs some h = (pair_has (HasGate wide words) kind start pairs 0 (record { a = 0; b = 0 }) some h).taken
+
+-- the first output has a plane
+pub first_has : (wide : ℕ) (words : List ℕ) (kind : Kind) (start : ℕ) (pairs : List Pair) → 0 < length pairs →
+    All (HasGate wide words) (pair_gates kind start pairs) → (start + 0) * wide + wide ≤ length words
+first_has wide words kind start pairs some h = (pair_has (HasGate wide words) kind start pairs 0 (record { a = 0; b = 0 }) some h).out
+
+-- and so have the inputs of a pair
+pub pair_a : (wide : ℕ) (words : List ℕ) (kind : Kind) (out : ℕ) (p : Pair) → HasGate wide words (pair_gate kind out p) → HasPlane wide words p.a
+pair_a wide words kind out p h = h.ins 0 (record { 0 = 0 }) (omega arith)
+
+pub pair_b : (wide : ℕ) (words : List ℕ) (kind : Kind) (out : ℕ) (p : Pair) → HasGate wide words (pair_gate kind out p) → HasPlane wide words p.b
+pair_b wide words kind out p h = h.ins 1 (record { 0 = 0 }) (omega arith)
+
+-- a buffer or an inverter has no two inputs
+pub no_pair_of_one : (wide : ℕ) (words : List ℕ) (kind : Kind) (start : ℕ) (pairs : List Pair) → 0 < length pairs →
+    All (HasGate wide words) (pair_gates kind start pairs) → (kind ≡ Buf) ⊎ (kind ≡ Not) → ⊥
+no_pair_of_one wide words kind start pairs some h one =
+    let P : Kind → Type 0 = λ k. IsTrue (takes k 2) in
+    let two : IsTrue (takes kind 2) = some_taken wide words kind start pairs some h in
+    ⊎_elim (λ (e : kind ≡ Buf). false≢true (subst P e two)) (λ (e : kind ≡ Not). false≢true (subst P e two)) one
+
+pub gate_stays : (wide : ℕ) (old now : List ℕ) (g : Gate) → length now ≡ length old → HasGate wide old g → HasGate wide now g
+gate_stays wide old now g size h =
+    record {
+      out = keeps_plane wide g.out.0 old now size h.out;
+      small = h.small;
+      ins = keeps_planes wide old now g.ins size h.ins;
+      taken = h.taken;
+    }
+
+pub no_pairs : (wide : ℕ) (kind : Kind) (start : ℕ) (pairs : List Pair) (nets : List ℕ) → length pairs ≡ 0 →
+    RunsAll wide (λ r. map gate_write (pair_gates kind start pairs)) nets nets
+no_pairs wide kind start pairs nets none =
     record {
       size = refl;
-      each = λ count r size lt. ap (λ ps. run (map gate_write (map (pair_gate kind) ps)) (lane wide count nets r))
+      each = λ count r size lt. ap (λ ps. run (map gate_write (pair_gates kind start ps)) (lane wide count nets r))
           (sym (nil_from_length pairs none));
     }

@@ -20,16 +20,13 @@ use Rattle.bs_net.specs.declared.net.Const.{Const}
 use Rattle.bs_net.specs.declared.net.Gate.{Gate}
 use Rattle.bs_net.specs.declared.net.Kind.{Kind}
 use Rattle.bs_net.specs.declared.net.Kind.TheVariants.{And, Nand, Or, Nor, Xor, Xnor, Buf, Not}
-use Rattle.bs_net.specs.Parts.{takes, ArePlaced}
-use Rattle.bs_net.specs.Circuit.{Circuit, shown, is_odd, is_one, gate_value, loaded}
-use Rattle.bs_net.specs.Order.{gates_in, no_gate, IsChecked, IsOrder}
-use Rattle.bs_net.proofs.NextLemmas.{next_from_fits}
-use Rattle.bs_net.proofs.ResettleLemmas.{parts_from, zeroed_by_fit}
+use Rattle.bs_net.specs.Parts.{takes}
+use Rattle.bs_net.specs.Circuit.{shown, is_odd, is_one, gate_value}
 use Rattle.bs_net.specs.Steps.{Step, run, put, puts, gate_write, constant_step}
 use Rattle.bs_stim.specs.Packing.{bit_in}
 use Rattle.bs_plane.specs.Planes.{bit_place, lane, IsPlane}
 use Rattle.bs_plane.proofs.PlaneLemmas.{lane_put, lane_at, length_lane, and_is_plane, or_is_plane, xor_is_plane, inverse_is_plane, same_plane}
-use Rattle.bs_lanes.specs.Settling.{net_bit, HasPlane, RunsTo, RunsAll, LoadsAll, AreZeroed, AreSettled, AreMoved}
+use Rattle.bs_lanes.specs.Settling.{net_bit, HasPlane, RunsTo}
 
 -- ---- where planes lie
 
@@ -123,28 +120,6 @@ pub no_puts : (wide count : ℕ) (ns : List NetId) (i : ℕ) (planes : List ℕ)
 no_puts wide count ns i planes whole old now ge h =
     left_as wide _ _ whole old now (λ r. ap (λ u. puts u (drop i (lane wide count planes r))) (drop_all i ns ge)) h
 
--- the planes of a state, flip-flop by flip-flop
-abbrev outputs_from : ℕ → List Flop → List NetId
-outputs_from i flops = map (λ (f : Flop). f.q) (drop i flops)
-
-pub state_next : (fs : List Flop) (bs : List Bool) (i : ℕ) (d : Flop) → i < length fs → i < length bs →
-    puts (map (λ (f : Flop). f.q) (drop i fs)) (drop i bs) ≡ put (get_or fs i d).q.0 (get_or bs i false) ∷ puts (map (λ (f : Flop). f.q) (drop (i + 1) fs))
-    (drop (i + 1) bs)
-state_next fs bs i d lf lb =
-    ap (λ u. puts (map (λ (f : Flop). f.q) u) (drop i bs)) (drop_more fs i d lf)
-    ∙ ap (puts (map (λ (f : Flop). f.q) (get_or fs i d ∷ drop (i + 1) fs))) (drop_more bs i false lb)
-
-pub one_state : (wide count : ℕ) (fs : List Flop) (i : ℕ) (d : Flop) (planes old now p : List ℕ) (whole : ℕ → List Step) → length fs ≡ count → i < count →
-    RunsTo wide (λ r. puts (outputs_from i fs) (drop i (lane wide count planes r))) whole old now → HasPlane wide now (get_or fs i d).q.0 →
-    IsPlane wide p (λ r. bit_in planes (bit_place wide i r)) →
-    RunsTo wide (λ r. puts (outputs_from (i + 1) fs) (drop (i + 1) (lane wide count planes r))) whole old (put_chunk ((get_or fs i d).q.0 * wide) now p)
-one_state wide count fs i d planes old now p whole same lt h room q =
-    let n = (get_or fs i d).q in
-    let bits : ℕ → List Bool = λ r. lane wide count planes r in
-    one_write wide n.0 (λ r. put n.0 (get_or (bits r) i false)) (λ r. puts (outputs_from (i + 1) fs) (drop (i + 1) (bits r))) whole old now p
-    (left_as wide _ _ whole old now (λ r. state_next fs (bits r) i d (omega (arith, lt, same)) (omega (arith, lt, length_lane wide count planes r))) h)
-    room q.long (λ r. refl) (λ c r size small. q.each r small ∙ sym (lane_at wide count planes r i lt))
-
 -- the constants
 pub one_constant : (wide : ℕ) (ks : List Const) (i : ℕ) (d : Const) (old now p : List ℕ) (whole : ℕ → List Step) → i < length ks →
     RunsTo wide (λ r. map constant_step (drop i ks)) whole old now → HasPlane wide now (get_or ks i d).net.0 → IsPlane wide p (λ r. (get_or ks i d).value) →
@@ -156,35 +131,34 @@ one_constant wide ks i d old now p whole lt h room q =
     room q.long (λ r. refl) (λ c r size small. q.each r small)
 
 -- the gates
-pub one_gate : (wide : ℕ) (gates : List Gate) (order : List ℕ) (i : ℕ) (g : Gate) (old now p : List ℕ) (whole : ℕ → List Step) → i < length order →
-    g ≡ get_or gates (get_or order i 0) no_gate →
-    RunsTo wide (λ r. map gate_write (gates_in (drop i order) gates)) whole old now → HasPlane wide now g.out.0 →
+pub one_gate : (wide : ℕ) (gates : List Gate) (i : ℕ) (d g : Gate) (old now p : List ℕ) (whole : ℕ → List Step) → i < length gates →
+    g ≡ get_or gates i d → RunsTo wide (λ r. map gate_write (drop i gates)) whole old now → HasPlane wide now g.out.0 →
     All (λ (n : NetId). HasPlane wide now n.0) g.ins →
     IsPlane wide p (λ r. gate_value g.kind (map (net_bit wide now r) g.ins)) →
-    RunsTo wide (λ r. map gate_write (gates_in (drop (i + 1) order) gates)) whole old (put_chunk (g.out.0 * wide) now p)
-one_gate wide gates order i g old now p whole lt is h room ins q =
-    let rest : List Step = map gate_write (gates_in (drop (i + 1) order) gates) in
+    RunsTo wide (λ r. map gate_write (drop (i + 1) gates)) whole old (put_chunk (g.out.0 * wide) now p)
+one_gate wide gates i d g old now p whole lt is h room ins q =
+    let rest : List Step = map gate_write (drop (i + 1) gates) in
     one_write wide g.out.0 (λ r. gate_write g) (λ r. rest) whole old now p
-    (left_as wide _ _ whole old now (λ r. ap (λ u. map gate_write (gates_in u gates)) (drop_more order i 0 lt) ∙ ap (λ h. gate_write h ∷ rest) (sym is)) h)
+    (left_as wide _ _ whole old now (λ r. ap (map gate_write) (drop_more gates i d lt) ∙ ap (λ h. gate_write h ∷ rest) (sym is)) h)
     room q.long (λ r. refl)
     (λ c r size small. q.each r small ∙ ap (gate_value g.kind) (sym (shown_bits wide c r now g.ins size small ins)))
 
 -- ---- what flip-flops load
 
 -- one flip-flop more
-pub one_load : (wide : ℕ) (nets flops p : List ℕ) (fs : List Flop) (i : ℕ) (d : Flop) → i < length fs → length flops ≡ length fs * wide →
-    ((r : ℕ) → r < 64 * wide → take i (lane wide (length fs) flops r) ≡ map (λ (f : Flop). net_bit wide nets r f.d) (take i fs)) →
-    IsPlane wide p (λ r. net_bit wide nets r (get_or fs i d).d) → (r : ℕ) → r < 64 * wide →
-    take (i + 1) (lane wide (length fs) (put_chunk (i * wide) flops p) r) ≡ map (λ (f : Flop). net_bit wide nets r f.d) (take (i + 1) fs)
-one_load wide nets flops p fs i d lt size so_far q r small =
-    let v : List Bool = lane wide (length fs) flops r in
-    let load : Flop → Bool = λ f. net_bit wide nets r f.d in
-    let here : i < length v = omega (arith, lt, length_lane wide (length fs) flops r) in
-    ap (take (i + 1)) (lane_put wide (length fs) i r flops p q.long small lt (omega (arith, size)))
+pub one_load : (wide : ℕ) (nets flops p : List ℕ) (ns : List NetId) (i : ℕ) (d : NetId) → i < length ns → length flops ≡ length ns * wide →
+    ((r : ℕ) → r < 64 * wide → take i (lane wide (length ns) flops r) ≡ map (net_bit wide nets r) (take i ns)) →
+    IsPlane wide p (λ r. net_bit wide nets r (get_or ns i d)) → (r : ℕ) → r < 64 * wide →
+    take (i + 1) (lane wide (length ns) (put_chunk (i * wide) flops p) r) ≡ map (net_bit wide nets r) (take (i + 1) ns)
+one_load wide nets flops p ns i d lt size so_far q r small =
+    let v : List Bool = lane wide (length ns) flops r in
+    let load : NetId → Bool = net_bit wide nets r in
+    let here : i < length v = omega (arith, lt, length_lane wide (length ns) flops r) in
+    ap (take (i + 1)) (lane_put wide (length ns) i r flops p q.long small lt (omega (arith, size)))
     ∙ (take-set_at v i (i + 1) (bit_in p r) refl here
     ∙ (ap (λ bs. bs ++ bit_in p r ∷ []) (so_far r small)
-    ∙ (ap (λ b. map load (take i fs) ++ b ∷ []) (q.each r small)
-    ∙ (sym (map-append load (take i fs) (get_or fs i d ∷ [])) ∙ ap (map load) (sym (take_more fs i d lt))))))
+    ∙ (ap (λ b. map load (take i ns) ++ b ∷ []) (q.each r small)
+    ∙ (sym (map-append load (take i ns) (get_or ns i d ∷ [])) ∙ ap (map load) (sym (take_more ns i d lt))))))
 
 -- one flip-flop more at reset
 pub one_reset : (wide : ℕ) (flops p : List ℕ) (fs : List Flop) (i : ℕ) (d : Flop) → i < length fs → length flops ≡ length fs * wide →
@@ -201,109 +175,10 @@ one_reset wide flops p fs i d lt size so_far q r small =
     ∙ (sym (map-append reset (take i fs) (get_or fs i d ∷ [])) ∙ ap (map reset) (sym (take_more fs i d lt))))))
 
 -- all flip-flops
-pub all_taken : (wide : ℕ) (flops : List ℕ) (fs : List Flop) (i : ℕ) (f : Flop → Bool) (r : ℕ) → length fs ≤ i →
+pub all_taken : {X : Type 0} (wide : ℕ) (flops : List ℕ) (fs : List X) (i : ℕ) (f : X → Bool) (r : ℕ) → length fs ≤ i →
     take i (lane wide (length fs) flops r) ≡ map f (take i fs) → lane wide (length fs) flops r ≡ map f fs
 all_taken wide flops fs i f r ge h =
     sym (take_all i (lane wide (length fs) flops r) (omega (arith, ge, length_lane wide (length fs) flops r))) ∙ (h ∙ ap (map f) (take_all i fs ge))
-
--- what the flip-flops load of planes is what they load of a lane's bits
-pub loads_lane : (wide count r : ℕ) (words : List ℕ) (fs : List Flop) → length words ≡ count * wide → r < 64 * wide →
-    All (λ (f : Flop). HasPlane wide words f.d.0) fs →
-    map (λ (f : Flop). net_bit wide words r f.d) fs ≡ map (loaded (lane wide count words r)) fs
-loads_lane wide count r words fs size lt h = go fs (recursion_from_All (λ (f : Flop). HasPlane wide words f.d.0) fs h)
-  where
-    go : (gs : List Flop) → AllByRecursion (λ (f : Flop). HasPlane wide words f.d.0) gs →
-        map (λ (f : Flop). net_bit wide words r f.d) gs ≡ map (loaded (lane wide count words r)) gs
-    go [] a = refl
-    go (f ∷ gs) a =
-        ap (λ b. b ∷ map (λ (f : Flop). net_bit wide words r f.d) gs) (sym (lane_at wide count words r f.d.0 (within wide count f.d.0 r words a.0 size lt)))
-        ∙ ap (λ bs. loaded (lane wide count words r) f ∷ bs) (go gs a.1)
-
--- ---- a whole settling
-
-pub settled_planes : (c : Circuit) (wide : ℕ) (order flops inputs w₀ w₁ w₂ w₃ w₄ : List ℕ) → IsChecked c → IsOrder c.gates order → AreZeroed c wide w₀ →
-    RunsAll wide (λ r. puts c.inputs (lane wide (length c.inputs) inputs r)) w₀ w₁ →
-    RunsAll wide (λ r. puts (map (λ (f : Flop). f.q) c.flops) (lane wide (length c.flops) flops r)) w₁ w₂ →
-    RunsAll wide (λ r. map constant_step c.constants) w₂ w₃ → RunsAll wide (λ r. map gate_write (gates_in order c.gates)) w₃ w₄ →
-    AreSettled c wide flops inputs w₄
-settled_planes c wide order flops inputs w₀ w₁ w₂ w₃ w₄ checked o z a b k g =
-    let s₁ : length w₁ ≡ c.nets * wide = a.size ∙ z.size in
-    let s₂ : length w₂ ≡ c.nets * wide = b.size ∙ s₁ in
-    let s₃ : length w₃ ≡ c.nets * wide = k.size ∙ s₂ in
-    record {
-      size = g.size ∙ s₃;
-      each =
-          λ r lt.
-          parts_from c (lane wide (length c.flops) flops r) (lane wide (length c.inputs) inputs r) (lane wide c.nets w₀ r) (lane wide c.nets w₁ r)
-          (lane wide c.nets w₂ r)
-          (lane wide c.nets w₃ r) (lane wide c.nets w₄ r) order checked o (length_lane wide (length c.flops) flops r)
-          (length_lane wide (length c.inputs) inputs r) (z.each r lt)
-          (a.each c.nets r z.size lt) (b.each c.nets r s₁ lt) (k.each c.nets r s₂ lt) (g.each c.nets r s₃ lt);
-    }
-
-pub moved_planes : (c : Circuit) (wide : ℕ) (flops inputs nets new : List ℕ) → IsChecked c → All (λ (f : Flop). HasPlane wide nets f.d.0) c.flops →
-    AreSettled c wide flops inputs nets →
-    LoadsAll wide nets c.flops flops new → AreMoved c wide flops inputs new
-moved_planes c wide flops inputs nets new checked placed settled loads =
-    record {
-      size = loads.size;
-      each =
-          λ r lt.
-          loads.each r lt
-          ∙ (loads_lane wide c.nets r nets c.flops settled.size lt placed
-          ∙ next_from_fits c (lane wide (length c.flops) flops r) (lane wide (length c.inputs) inputs r) (lane wide c.nets nets r) checked
-          (length_lane wide (length c.flops) flops r) (length_lane wide (length c.inputs) inputs r) (settled.each r lt));
-    }
-
--- what is settled is zeroed
-pub settled_zeroed : (c : Circuit) (wide : ℕ) (flops inputs nets : List ℕ) → AreSettled c wide flops inputs nets → AreZeroed c wide nets
-settled_zeroed c wide flops inputs nets h = record { size = h.size; each = λ r lt. zeroed_by_fit c _ _ _ (h.each r lt) }
-
--- nets that have a number have a plane
-pub nets_have : (wide count : ℕ) (words : List ℕ) (ns : List NetId) → length words ≡ count * wide → All (λ (n : NetId). n.0 < count) ns →
-    All (λ (n : NetId). HasPlane wide words n.0) ns
-nets_have wide count words ns size h = All-weaker _ (λ (n : NetId). HasPlane wide words n.0) (λ n lt. has_plane wide count n.0 words lt size) ns h
-
-pub flops_have : (wide count : ℕ) (words : List ℕ) (fs : List Flop) → length words ≡ count * wide →
-    All (λ (f : Flop). (f.q.0 < count) × (f.d.0 < count) × (f.ck.0 < count)) fs →
-    All (λ (f : Flop). HasPlane wide words f.q.0 × HasPlane wide words f.d.0) fs
-flops_have wide count words fs size h =
-    All-weaker (λ (f : Flop). (f.q.0 < count) × (f.d.0 < count) × (f.ck.0 < count)) (λ (f : Flop). HasPlane wide words f.q.0 × HasPlane wide words f.d.0)
-    (λ f k. (has_plane wide count f.q.0 words k.0 size, has_plane wide count f.d.0 words k.1 size)) fs h
-
-pub outputs_have : (wide count : ℕ) (words : List ℕ) (fs : List Flop) → length words ≡ count * wide →
-    All (λ (f : Flop). (f.q.0 < count) × (f.d.0 < count) × (f.ck.0 < count)) fs →
-    All (λ (f : Flop). HasPlane wide words f.q.0) fs
-outputs_have wide count words fs size h =
-    All-weaker (λ (f : Flop). HasPlane wide words f.q.0 × HasPlane wide words f.d.0) (λ (f : Flop). HasPlane wide words f.q.0) (λ f k. k.0) fs
-    (flops_have wide count words fs size h)
-
-pub inputs_have : (wide count : ℕ) (words : List ℕ) (fs : List Flop) → length words ≡ count * wide →
-    All (λ (f : Flop). (f.q.0 < count) × (f.d.0 < count) × (f.ck.0 < count)) fs →
-    All (λ (f : Flop). HasPlane wide words f.d.0) fs
-inputs_have wide count words fs size h =
-    All-weaker (λ (f : Flop). HasPlane wide words f.q.0 × HasPlane wide words f.d.0) (λ (f : Flop). HasPlane wide words f.d.0) (λ f k. k.1) fs
-    (flops_have wide count words fs size h)
-
-pub constants_have : (wide count : ℕ) (words : List ℕ) (ks : List Const) → length words ≡ count * wide → All (λ (k : Const). k.net.0 < count) ks →
-    All (λ (k : Const). HasPlane wide words k.net.0) ks
-constants_have wide count words ks size h = All-weaker _ (λ (k : Const). HasPlane wide words k.net.0) (λ k lt. has_plane wide count k.net.0 words lt size) ks h
-
-abbrev pub IsGateOf : ℕ → Gate → Type 0
-IsGateOf count g = (g.out.0 < count) × ArePlaced count g.ins × IsTrue (takes g.kind (length g.ins))
-
-pub gate_outs_have : (wide count : ℕ) (words : List ℕ) (gs : List Gate) → length words ≡ count * wide → All (IsGateOf count) gs →
-    All (λ (g : Gate). HasPlane wide words g.out.0) gs
-gate_outs_have wide count words gs size h = All-weaker (IsGateOf count) (λ (g : Gate). HasPlane wide words g.out.0)
-    (λ g k. has_plane wide count g.out.0 words k.0 size) gs h
-
-pub gate_ins_have : (wide count : ℕ) (words : List ℕ) (gs : List Gate) → length words ≡ count * wide → All (IsGateOf count) gs →
-    All (λ (g : Gate). All (λ (n : NetId). HasPlane wide words n.0) g.ins) gs
-gate_ins_have wide count words gs size h =
-    All-weaker (IsGateOf count) (λ (g : Gate). All (λ (n : NetId). HasPlane wide words n.0) g.ins) (λ g k. nets_have wide count words g.ins size k.1.1) gs h
-
-pub gates_taken : (count : ℕ) (gs : List Gate) → All (IsGateOf count) gs → All (λ (g : Gate). IsTrue (takes g.kind (length g.ins))) gs
-gates_taken count gs h = All-weaker (IsGateOf count) (λ (g : Gate). IsTrue (takes g.kind (length g.ins))) (λ g k. k.2) gs h
 
 -- ---- the inputs of a gate, one after another
 

@@ -5,3 +5,4 @@ pub mod Settling
 pub mod Levels
 pub mod Pairs
 pub mod Program
+pub mod Layout

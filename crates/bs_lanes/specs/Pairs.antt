@@ -3,11 +3,9 @@ use Rattle.std.specs.Prelude.{◌≡◌, ℕ, Bool, not, ◌&&◌, List, ◌∷�
 use Rattle.std.specs.Bool.{beq}
 use Rattle.bs_net.specs.declared.net.Kind.{Kind}
 use Rattle.bs_net.specs.Circuit.{gate_value}
-use Rattle.bs_lanes.specs.declared.pairs.Pair.{Pair}
 use Rattle.bs_lanes.specs.declared.pairs.Table.{Table}
 use Rattle.bs_stim.specs.Packing.{bit_in}
 use Rattle.bs_plane.specs.Planes.{IsPlane}
-use Rattle.bs_lanes.specs.Settling.{HasPlane}
 
 -- one bit or the other, and not both
 abbrev pub differ : Bool → Bool → Bool
@@ -20,12 +18,6 @@ mixed t x y = differ (differ ((x && y) && t.both) (differ x y && t.one)) t.inver
 -- the table is that of a kind
 pub record IsTable (kind : Kind) (t : Table) : Type 0 where
   pub value : (x y : Bool) → mixed t x y ≡ gate_value kind (x ∷ y ∷ [])
-
--- the words have the planes of a pair
-pub record HasPair (wide : ℕ) (words : List ℕ) (p : Pair) : Type 0 where
-  pub out : HasPlane wide words p.out
-  pub a : HasPlane wide words p.a
-  pub b : HasPlane wide words p.b
 
 -- a plane has in each lane what a table gives for the bits of two planes, where the table's parts are planes
 abbrev pub IsMixed : ℕ → List ℕ → List ℕ → List ℕ → List ℕ → List ℕ → List ℕ → Type 0

@@ -1,10 +1,8 @@
--- Gates in stretches: those of one kind that have two inputs each, and others by their numbers.
-use Rattle.std.specs.Prelude.{◌≡◌, ℕ, ◌<◌, ◌≤◌, List, [], ◌∷◌, length, take, map, All, IsTrue}
+-- Gates in stretches: those of one kind that have two inputs each and write one plane after another, and others. Their nets are places.
+use Rattle.std.specs.Prelude.{◌≡◌, ℕ, ◌<◌, ◌≤◌, ◌+◌, ◌^◌, List, [], ◌∷◌, length, take, All, IsTrue}
 use Rattle.std.specs.List.{flat_map}
 use Rattle.bs_net.specs.declared.net.Gate.{Gate}
 use Rattle.bs_net.specs.declared.net.Kind.{Kind}
-use Rattle.bs_net.specs.Circuit.{Circuit}
-use Rattle.bs_net.specs.Order.{gates_in, IsOrder}
 use Rattle.bs_net.specs.Parts.{takes}
 use Rattle.bs_lanes.specs.Settling.{HasPlane}
 use Rattle.bs_lanes.specs.declared.pairs.Pair.{Pair}
@@ -12,53 +10,43 @@ use Rattle.bs_lanes.specs.declared.program.Stretch.{Stretch}
 use Rattle.bs_lanes.specs.declared.program.Stretch.TheVariants.{Pairs, Others}
 
 -- a gate of two inputs
-abbrev pub pair_gate : Kind → Pair → Gate
-pair_gate kind p = record { kind = kind; out = record { 0 = p.out }; ins = record { 0 = p.a } ∷ record { 0 = p.b } ∷ [] }
+abbrev pub pair_gate : Kind → ℕ → Pair → Gate
+pair_gate kind out p = record { kind = kind; out = record { 0 = out }; ins = record { 0 = p.a } ∷ record { 0 = p.b } ∷ [] }
+
+-- gates of two inputs whose outputs stand one behind another
+abbrev pub pair_gates : Kind → ℕ → List Pair → List Gate
+pair_gates kind start [] = []
+pair_gates kind start (p ∷ ps) = pair_gate kind start p ∷ pair_gates kind (start + 1) ps
 
 -- the gates of a stretch
-abbrev pub stretch_gates : List Gate → Stretch → List Gate
-stretch_gates gates (Pairs kind ps) = map (pair_gate kind) ps
-stretch_gates gates (Others order) = gates_in order gates
+abbrev pub stretch_gates : Stretch → List Gate
+stretch_gates (Pairs kind start ps) = pair_gates kind start ps
+stretch_gates (Others gates) = gates
 
 -- the gates of some stretches
-abbrev pub program_gates : List Gate → List Stretch → List Gate
-program_gates gates stretches = flat_map (stretch_gates gates) stretches
+abbrev pub program_gates : List Stretch → List Gate
+program_gates stretches = flat_map stretch_gates stretches
 
--- a stretch names gates of the list
-abbrev pub IsStretch : List Gate → Stretch → Type 0
-IsStretch gates (Pairs kind ps) = IsTrue (takes kind 2)
-IsStretch gates (Others order) = All (λ i. i < length gates) order
+-- the pairs are the first of these gates
+pub record ArePairs (gates : List Gate) (kind : Kind) (start : ℕ) (pairs : List Pair) : Type 0 where
+  pub few : length pairs ≤ length gates
+  pub first : pair_gates kind start pairs ≡ take (length pairs) gates
 
--- the stretches are the gates in this order
-pub record IsProgram (gates : List Gate) (order : List ℕ) (stretches : List Stretch) : Type 0 where
-  pub gates_are : program_gates gates stretches ≡ gates_in order gates
-  pub named : All (IsStretch gates) stretches
+-- some gates are the first of these, at least one
+pub record AreFirst (gates firsts : List Gate) : Type 0 where
+  pub some : 0 < length firsts
+  pub few : length firsts ≤ length gates
+  pub first : firsts ≡ take (length firsts) gates
 
--- the pairs are the first gates of this order
-pub record ArePairs (gates : List Gate) (order : List ℕ) (kind : Kind) (pairs : List Pair) : Type 0 where
-  pub few : length pairs ≤ length order
-  pub first : map (pair_gate kind) pairs ≡ gates_in (take (length pairs) order) gates
-
--- the numbers are the first of this order, at least one
-pub record AreFirst (order numbers : List ℕ) : Type 0 where
-  pub some : 0 < length numbers
-  pub few : length numbers ≤ length order
-  pub first : numbers ≡ take (length numbers) order
-
--- the stretch has the first gates of this order, so many, at least one
-pub record IsFirst (gates : List Gate) (order : List ℕ) (stretch : Stretch) (count : ℕ) : Type 0 where
+-- the stretch has the first of these gates, so many, at least one
+pub record IsFirst (gates : List Gate) (stretch : Stretch) (count : ℕ) : Type 0 where
   pub some : 0 < count
-  pub few : count ≤ length order
-  pub first : stretch_gates gates stretch ≡ gates_in (take count order) gates
-  pub named : IsStretch gates stretch
+  pub few : count ≤ length gates
+  pub first : stretch_gates stretch ≡ take count gates
 
--- the stretches are a circuit's gates in some order
-pub record IsCompiled (c : Circuit) (stretches : List Stretch) : Type 0 where
-  pub order : List ℕ
-  pub ordered : IsOrder c.gates order
-  pub program : IsProgram c.gates order stretches
-
--- the words have the planes of a gate
+-- the words have the planes of a gate, which has as many inputs as its kind takes
 pub record HasGate (wide : ℕ) (words : List ℕ) (g : Gate) : Type 0 where
   pub out : HasPlane wide words g.out.0
+  pub small : g.out.0 < 2 ^ 32
   pub ins : All (λ n. HasPlane wide words n.0) g.ins
+  pub taken : IsTrue (takes g.kind (length g.ins))

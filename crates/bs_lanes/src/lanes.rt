@@ -4,11 +4,13 @@ ghost use Rattle.bs_net.specs.Netlist.{circuit};
 ghost use Rattle.bs_stim.specs.Packing.{bit_in};
 ghost use Rattle.bs_plane.specs.Planes.{bit_place, lane, IsWidened};
 ghost use Rattle.bs_lanes.specs.Lanes.{is_wide, state_in, IsSameTable, AreReset, AreStepped};
+ghost use Rattle.bs_lanes.specs.Layout.{HasLayout, SettlesAll};
+ghost use Rattle.bs_lanes.specs.Settling.{LoadsAll, ResetsAll};
 
-use crate::program::{Stretch, program_of};
+use crate::layout::{Layout, layout_of};
 use crate::widths::{reset, step};
 use bs_bits::{Bits, NoMemory};
-use bs_net::{NetId, Netlist};
+use bs_net::{Flop, NetId, Netlist};
 use bs_plane::{Plane, lane_bit, widened};
 use std::alloc::Global;
 use std::marker::Model;
@@ -22,20 +24,20 @@ pub struct Lanes<'a> {
     flops: Vec<u64>,
     nets: Vec<u64>,
     zeros: Vec<u64>,
-    program: Vec<Stretch>,
+    layout: Layout,
 }
 
 impl<'a> Model for Lanes<'a> {
     ghost use Rattle.std.specs.Prelude.{◌≡◌, ◌*◌, length, replicate};
     ghost use Rattle.bs_net.specs.Netlist.{circuit};
     ghost use Rattle.bs_lanes.specs.Lanes.{LaneTable, IsLaneTable};
-    ghost use Rattle.bs_lanes.specs.Program.{IsCompiled};
+    ghost use Rattle.bs_lanes.specs.Layout.{words_by_net, IsLayout};
 
     ghost Value = { LaneTable };
 
-    ghost view = { λ l. record { net = l.net.now; wide = l.wide; flops = l.flops.items; nets = l.nets.items } };
+    ghost view = { λ l. record { net = l.net.now; wide = l.wide; flops = l.flops.items; nets = words_by_net l.wide l.layout.places l.nets.items } };
 
-    ghost invariant = { λ l. IsLaneTable (record { net = l.net.now; wide = l.wide; flops = l.flops.items; nets = l.nets.items }) × (l.zeros.items ≡ replicate (length (circuit l.net.now).inputs * l.wide) 0) × IsCompiled (circuit l.net.now) l.program.items };
+    ghost invariant = { λ l. IsLaneTable (record { net = l.net.now; wide = l.wide; flops = l.flops.items; nets = words_by_net l.wide l.layout.places l.nets.items }) × (l.zeros.items ≡ replicate (length (circuit l.net.now).inputs * l.wide) 0) × IsLayout (circuit l.net.now) l.layout × (length l.nets.items ≡ l.layout.planes * l.wide) };
 }
 
 /// So many words of zeros.
@@ -44,6 +46,52 @@ fn zero_words(alloc: Global, count: usize) -> Result<Vec<u64>, NoMemory>
 {
     let words = vec![in alloc; 0; count]?;
     Ok(words)
+}
+
+/// Brings all lanes to reset, with the input of zeros settled.
+fn reset_all(
+    wide: usize,
+    nets: &mut Vec<u64>,
+    flops: &mut Vec<u64>,
+    layout: &Layout,
+    states: &[Flop],
+    zeros: &[u64],
+)
+    requires wide { IsTrue (is_wide wide) }
+    requires placed { HasLayout wide nets.old.items layout.now }
+    requires outputs { length flops.old.items ≡ length layout.now.outputs * wide }
+    requires states { length flops.old.items ≡ length states.now * wide }
+    requires zeros { length zeros.now ≡ length layout.now.inputs * wide }
+    ensures settled { SettlesAll wide layout.now flops.new.items zeros.now nets.old.items nets.new.items }
+    ensures reset { ResetsAll wide states.now flops.old.items flops.new.items }
+{
+    reset(
+        wide,
+        nets.as_mut_slice(),
+        flops.as_mut_slice(),
+        layout,
+        states,
+        zeros,
+    );
+}
+
+/// Settles, and loads the next states: one clock edge in all lanes.
+fn step_all(wide: usize, nets: &mut Vec<u64>, flops: &mut Vec<u64>, layout: &Layout, inputs: &[u64])
+    requires wide { IsTrue (is_wide wide) }
+    requires placed { HasLayout wide nets.old.items layout.now }
+    requires outputs { length flops.old.items ≡ length layout.now.outputs * wide }
+    requires loads { length flops.old.items ≡ length layout.now.loads * wide }
+    requires inputs { length inputs.now ≡ length layout.now.inputs * wide }
+    ensures settled { SettlesAll wide layout.now flops.old.items inputs.now nets.old.items nets.new.items }
+    ensures loaded { LoadsAll wide nets.new.items layout.now.loads flops.old.items flops.new.items }
+{
+    step(
+        wide,
+        nets.as_mut_slice(),
+        flops.as_mut_slice(),
+        layout,
+        inputs,
+    );
 }
 
 /// The bits of a lane in the first planes.
@@ -75,15 +123,15 @@ impl<'a> Lanes<'a> {
     {
         let raw = net.raw();
         let mut flops = zero_words(alloc, raw.flops.len() * wide)?;
-        let mut nets = zero_words(alloc, raw.names.len() as usize * wide)?;
         let zeros = zero_words(alloc, net.data_inputs().len() * wide)?;
-        let program = program_of(alloc, net)?;
-        reset(
+        let layout = layout_of(alloc, net)?;
+        let mut nets = zero_words(alloc, layout.planes * wide)?;
+        reset_all(
             wide,
-            nets.as_mut_slice(),
-            flops.as_mut_slice(),
-            net,
-            program.as_slice(),
+            &mut nets,
+            &mut flops,
+            &layout,
+            raw.flops.slice(),
             zeros.as_slice(),
         );
         Ok(Lanes {
@@ -92,7 +140,7 @@ impl<'a> Lanes<'a> {
             flops,
             nets,
             zeros,
-            program,
+            layout,
         })
     }
 
@@ -101,12 +149,12 @@ impl<'a> Lanes<'a> {
         ensures same { IsSameTable self.old self.new }
         ensures reset { AreReset self.new }
     {
-        reset(
+        reset_all(
             self.wide,
-            self.nets.as_mut_slice(),
-            self.flops.as_mut_slice(),
-            self.net,
-            self.program.as_slice(),
+            &mut self.nets,
+            &mut self.flops,
+            &self.layout,
+            self.net.raw().flops.slice(),
             self.zeros.as_slice(),
         );
     }
@@ -118,12 +166,11 @@ impl<'a> Lanes<'a> {
         ensures same { IsSameTable self.old self.new }
         ensures stepped { AreStepped self.old self.new inputs.now }
     {
-        step(
+        step_all(
             self.wide,
-            self.nets.as_mut_slice(),
-            self.flops.as_mut_slice(),
-            self.net,
-            self.program.as_slice(),
+            &mut self.nets,
+            &mut self.flops,
+            &self.layout,
             inputs,
         );
     }
@@ -158,7 +205,8 @@ impl<'a> Lanes<'a> {
         requires { net.0 < (circuit self.now.net).nets }
         ensures { IsWidened self.now.wide result (λ r. bit_in self.now.nets (bit_place self.now.wide net.0 r)) }
     {
-        widened(self.nets.as_slice(), net.0 as usize, self.wide)
+        let place = *self.layout.places.get(net.0 as usize);
+        widened(self.nets.as_slice(), place as usize, self.wide)
     }
 
     /// The present bit of a flip-flop in each of 256 runs, and zeros for runs beyond the planes.

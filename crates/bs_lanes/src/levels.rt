@@ -139,12 +139,12 @@ fn sorted_keys(alloc: Global, gates: &[Gate], levels: &[u32]) -> Result<Vec<u64>
     Ok(keys)
 }
 
-/// So many levels of 0.
-fn zero_levels(alloc: Global, count: usize) -> Result<Vec<u32>, NoMemory>
-    ensures { IfOk result (λ levels. levels.items ≡ replicate count 0) }
+/// So many zeros.
+pub(crate) fn zeros(alloc: Global, count: usize) -> Result<Vec<u32>, NoMemory>
+    ensures { IfOk result (λ zeros. zeros.items ≡ replicate count 0) }
 {
-    let levels = vec![in alloc; 0; count]?;
-    Ok(levels)
+    let zeros = vec![in alloc; 0; count]?;
+    Ok(zeros)
 }
 
 /// The levels of a netlist's nets.
@@ -155,7 +155,7 @@ fn levels_of(alloc: Global, net: &Netlist) -> Result<Vec<u32>, NoMemory>
 {
     let raw = net.raw();
     let order = net.order();
-    let mut levels = zero_levels(alloc, raw.names.len() as usize)?;
+    let mut levels = zeros(alloc, raw.names.len() as usize)?;
     raise(levels.as_mut_slice(), raw.gates.slice(), order.slice());
     Ok(levels)
 }

@@ -3,9 +3,11 @@
 
 mod gates;
 mod lanes;
+mod layout;
 mod levels;
 mod nets;
 mod pairs;
+mod places;
 mod program;
 mod widths;
 

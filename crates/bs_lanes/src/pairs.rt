@@ -1,41 +1,23 @@
 //! Gates of two inputs of one kind, evaluated one after another without a choice.
-ghost use Rattle.std.specs.Prelude.{◌≡◌, ◌<◌, ◌≤◌, ◌+◌, ◌*◌, ◌∷◌, [], length, map, All, IsTrue, IfOk, IfSome};
-ghost use Rattle.std.specs.Bool.{MatchBool};
+ghost use Rattle.std.specs.Prelude.{◌≡◌, ◌<◌, ◌≤◌, ◌+◌, ◌*◌, ◌∷◌, [], length, map, All, IsTrue};
 ghost use Rattle.bs_net.specs.Circuit.{gate_value};
-ghost use Rattle.bs_net.specs.Parts.{takes};
 ghost use Rattle.bs_net.specs.Steps.{gate_write};
 ghost use Rattle.bs_stim.specs.Packing.{bit_in};
 ghost use Rattle.bs_plane.specs.Planes.{bit_place, IsPlane};
-ghost use Rattle.bs_lanes.specs.Settling.{HasPlane, RunsAll};
-ghost use Rattle.bs_lanes.specs.Program.{pair_gate};
-ghost use Rattle.bs_lanes.specs.Pairs.{HasPair, IsMixed, IsTable};
+ghost use Rattle.bs_lanes.specs.Settling.{RunsAll};
+ghost use Rattle.bs_lanes.specs.Program.{pair_gates, HasGate};
+ghost use Rattle.bs_lanes.specs.Pairs.{IsMixed, IsTable};
 
 use crate::gates::splat_of;
-use bs_net::{Gate, Kind};
+use bs_net::Kind;
 use bs_plane::{plane_at, put_plane};
 use std::simd::Simd;
 
-/// A gate of two inputs, by the numbers of its nets.
+/// The inputs of a gate of two inputs, by the places of their planes.
 #[derive(Clone, Copy)]
 pub(crate) struct Pair {
-    pub out: u32,
     pub a: u32,
     pub b: u32,
-}
-
-/// The gate as a pair, where it has two inputs.
-pub(crate) fn pair_of(gate: &Gate) -> Option<Pair>
-    ensures { IfSome result (λ p. pair_gate gate.now.kind p ≡ gate.now) }
-{
-    let ins = gate.ins.slice();
-    match ins {
-        [a, b] => Some(Pair {
-            out: gate.out.0,
-            a: a.0,
-            b: b.0,
-        }),
-        _ => None,
-    }
 }
 
 /// What a gate of two inputs computes: whether their conjunction counts, whether their difference counts, and whether the
@@ -65,17 +47,18 @@ fn mixed_plane<const N: usize>(
     (a & b & both) ^ ((a ^ b) & one) ^ inverted
 }
 
-/// Makes the outputs of some gates of two inputs and one kind show their values, in order. The table of the kind is known
-/// when the program is built, so that the formula is one or two operations.
+/// Makes the outputs of some gates of two inputs and one kind show their values, one plane after another. The table of the
+/// kind is known when the program is built, so that the formula is one or two operations.
 fn settle_some<const N: usize, const BOTH: bool, const ONE: bool, const INVERTED: bool>(
     nets: &mut [u64],
     kind: Kind,
+    start: u32,
     pairs: &[Pair],
 )
     requires table { IsTable kind (record { both = BOTH; one = ONE; inverted = INVERTED }) }
     requires some { 0 < length pairs.now }
-    requires placed { All (HasPair N nets.old) pairs.now }
-    ensures { RunsAll N (λ r. map gate_write (map (pair_gate kind) pairs.now)) nets.old nets.new }
+    requires placed { All (HasGate N nets.old) (pair_gates kind start pairs.now) }
+    ensures { RunsAll N (λ r. map gate_write (pair_gates kind start pairs.now)) nets.old nets.new }
 {
     let both = splat_of::<N>(BOTH);
     let one = splat_of::<N>(ONE);
@@ -85,27 +68,26 @@ fn settle_some<const N: usize, const BOTH: bool, const ONE: bool, const INVERTED
         let a = plane_at::<N>(nets, pair.a as usize);
         let b = plane_at::<N>(nets, pair.b as usize);
         let plane = mixed_plane::<N>(a, b, both, one, inverted);
-        put_plane::<N>(nets, pair.out as usize, plane);
+        put_plane::<N>(nets, start as usize + i, plane);
     }
 }
 
-/// Makes the outputs of gates of two inputs and one kind show their values, in order.
-#[tactic(auto, using(crate::proofs::PairLemmas::no_pairs, crate::proofs::PairLemmas::and_table, crate::proofs::PairLemmas::nand_table, crate::proofs::PairLemmas::or_table, crate::proofs::PairLemmas::nor_table, crate::proofs::PairLemmas::xor_table, crate::proofs::PairLemmas::xnor_table))]
-pub(crate) fn settle_pairs<const N: usize>(nets: &mut [u64], kind: Kind, pairs: &[Pair])
-    requires taken { IsTrue (takes kind 2) }
-    requires placed { All (HasPair N nets.old) pairs.now }
-    ensures { RunsAll N (λ r. map gate_write (map (pair_gate kind) pairs.now)) nets.old nets.new }
+/// Makes the outputs of gates of two inputs and one kind show their values, one plane after another.
+#[tactic(auto, using(crate::proofs::PairLemmas::no_pairs, crate::proofs::PairLemmas::some_taken, crate::proofs::PairLemmas::and_table, crate::proofs::PairLemmas::nand_table, crate::proofs::PairLemmas::or_table, crate::proofs::PairLemmas::nor_table, crate::proofs::PairLemmas::xor_table, crate::proofs::PairLemmas::xnor_table))]
+pub(crate) fn settle_pairs<const N: usize>(nets: &mut [u64], kind: Kind, start: u32, pairs: &[Pair])
+    requires placed { All (HasGate N nets.old) (pair_gates kind start pairs.now) }
+    ensures { RunsAll N (λ r. map gate_write (pair_gates kind start pairs.now)) nets.old nets.new }
 {
     if pairs.len() == 0 {
         return;
     }
     match kind {
-        Kind::And => settle_some::<N, true, false, false>(nets, kind, pairs),
-        Kind::Nand => settle_some::<N, true, false, true>(nets, kind, pairs),
-        Kind::Or => settle_some::<N, true, true, false>(nets, kind, pairs),
-        Kind::Nor => settle_some::<N, true, true, true>(nets, kind, pairs),
-        Kind::Xor => settle_some::<N, false, true, false>(nets, kind, pairs),
-        Kind::Xnor => settle_some::<N, false, true, true>(nets, kind, pairs),
+        Kind::And => settle_some::<N, true, false, false>(nets, kind, start, pairs),
+        Kind::Nand => settle_some::<N, true, false, true>(nets, kind, start, pairs),
+        Kind::Or => settle_some::<N, true, true, false>(nets, kind, start, pairs),
+        Kind::Nor => settle_some::<N, true, true, true>(nets, kind, start, pairs),
+        Kind::Xor => settle_some::<N, false, true, false>(nets, kind, start, pairs),
+        Kind::Xnor => settle_some::<N, false, true, true>(nets, kind, start, pairs),
         Kind::Buf | Kind::Not => {}
     }
 }

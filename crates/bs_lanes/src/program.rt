@@ -1,24 +1,22 @@
-//! A netlist's gates in stretches: by level, and within a level by kind.
-ghost use Rattle.std.specs.Prelude.{◌≡◌, ◌<◌, ◌≤◌, ◌+◌, ◌-◌, length, map, take, drop, min, max, All, IsTrue, IfOk, IfSome};
+//! A netlist's gates in stretches: by level, and within a level by kind, with the places of planes for nets.
+ghost use Rattle.std.specs.Prelude.{◌≡◌, ◌<◌, ◌≤◌, ◌+◌, ◌-◌, [], ◌∷◌, length, map, take, drop, min, max, All, IsTrue, IfOk, IfSome};
 ghost use Rattle.std.specs.Bool.{MatchBool};
-ghost use Rattle.bs_net.specs.Netlist.{circuit};
-ghost use Rattle.bs_net.specs.Order.{gates_in, IsOrder};
-ghost use Rattle.bs_net.specs.Parts.{takes};
-ghost use Rattle.bs_lanes.specs.Program.{pair_gate, stretch_gates, program_gates, IsStretch, ArePairs, AreFirst, IsFirst, IsProgram, IsCompiled};
+ghost use Rattle.bs_lanes.specs.Program.{pair_gate, pair_gates, stretch_gates, program_gates, ArePairs, AreFirst, IsFirst};
+ghost use Rattle.bs_lanes.specs.Layout.{place_of, placed_net, placed_gate, placed_gates, IsGateOf};
 
-use crate::levels::by_level;
-use crate::pairs::{Pair, pair_of};
+use crate::pairs::Pair;
 use bs_bits::{List, NoMemory};
-use bs_net::{Gate, Kind, Netlist};
+use bs_net::{Gate, Kind, NetId, Terms};
 use std::alloc::Global;
 
-/// Gates that stand one behind another: those of one kind with two inputs each, or others by their numbers.
+/// Gates that stand one behind another, with the places of planes for nets: those of one kind with two inputs each, which
+/// write one plane after another, or others.
 #[derive(Drop)]
 pub(crate) enum Stretch {
-    /// Gates of two inputs and one kind.
-    Pairs(Kind, List<Pair>),
-    /// The numbers of other gates.
-    Others(List<u32>),
+    /// Gates of two inputs and one kind: the place of the first output, and the inputs.
+    Pairs(Kind, u32, List<Pair>),
+    /// Other gates.
+    Others(List<Gate>),
 }
 
 /// Whether two kinds are the same.
@@ -36,30 +34,56 @@ fn same_kind(one: Kind, other: Kind) -> bool
     }
 }
 
-/// The gate as a pair, where it has two inputs and this kind.
-fn pair_of_kind(gate: &Gate, kind: Kind) -> Option<Pair>
-    ensures { IfSome result (λ p. pair_gate kind p ≡ gate.now) }
+/// The place of a net's plane.
+pub(crate) fn place(places: &[u32], net: NetId) -> NetId
+    requires { net.0 < length places.now }
+    ensures { result ≡ placed_net places.now net }
 {
-    if same_kind(kind, gate.kind) {
-        pair_of(gate)
+    NetId(places[net.0 as usize])
+}
+
+/// A gate's inputs by their places, where there are two.
+fn two_inputs(ins: &[NetId], places: &[u32]) -> Option<Pair>
+    requires { All (λ n. n.0 < length places.now) ins.now }
+    ensures { IfSome result (λ p. record { 0 = p.a } ∷ record { 0 = p.b } ∷ [] ≡ map (placed_net places.now) ins.now) }
+{
+    match ins {
+        [a, b] => Some(Pair {
+            a: place(places, *a).0,
+            b: place(places, *b).0,
+        }),
+        _ => None,
+    }
+}
+
+/// The gate as a pair, where it has two inputs and this kind, and its output this place.
+fn pair_of(gate: &Gate, places: &[u32], kind: Kind, out: usize) -> Option<Pair>
+    requires { IsGateOf (length places.now) gate.now }
+    ensures { IfSome result (λ p. pair_gate kind out p ≡ placed_gate places.now gate.now) }
+{
+    if same_kind(kind, gate.kind) && place(places, gate.out).0 as usize == out {
+        two_inputs(gate.ins.slice(), places)
     } else {
         None
     }
 }
 
-/// The first gates of an order that have two inputs and this kind.
+/// The first gates of an order that have two inputs and this kind, and outputs one behind another from a place on.
 fn pairs_of(
     alloc: Global,
     gates: &[Gate],
     order: &[u32],
+    places: &[u32],
     kind: Kind,
+    start: u32,
 ) -> Result<List<Pair>, NoMemory>
-    requires { All (λ i. i < length gates.now) order.now }
-    ensures { IfOk result (λ pairs. ArePairs gates.now order.now kind pairs) }
+    requires numbered { All (λ i. i < length gates.now) order.now }
+    requires placed { All (IsGateOf (length places.now)) gates.now }
+    ensures { IfOk result (ArePairs (placed_gates places.now order.now gates.now) kind start) }
 {
     let mut pairs = List::new(alloc);
     'gates: for i in 0..order.len() {
-        match pair_of_kind(&gates[order[i] as usize], kind) {
+        match pair_of(&gates[order[i] as usize], places, kind, start as usize + i) {
             Some(pair) => pairs.push(pair)?,
             None => return Ok(pairs),
         }
@@ -67,63 +91,96 @@ fn pairs_of(
     Ok(pairs)
 }
 
-/// The first number of an order, and those behind it up to the next gate of two inputs.
-fn others_of(alloc: Global, gates: &[Gate], order: &[u32]) -> Result<List<u32>, NoMemory>
+/// The places of some nets.
+fn terms_of(alloc: Global, ins: &[NetId], places: &[u32]) -> Result<Terms, NoMemory>
+    requires { All (λ n. n.0 < length places.now) ins.now }
+    ensures { IfOk result (λ terms. terms ≡ map (placed_net places.now) ins.now) }
+{
+    let mut terms = Terms::new(alloc);
+    'ins: for i in 0..ins.len() {
+        terms.push(place(places, ins[i]))?;
+    }
+    Ok(terms)
+}
+
+/// A gate with places for nets.
+fn gate_of(alloc: Global, gate: &Gate, places: &[u32]) -> Result<Gate, NoMemory>
+    requires { IsGateOf (length places.now) gate.now }
+    ensures { IfOk result (λ g. g ≡ placed_gate places.now gate.now) }
+{
+    let ins = terms_of(alloc, gate.ins.slice(), places)?;
+    Ok(Gate {
+        kind: gate.kind,
+        out: place(places, gate.out),
+        ins,
+    })
+}
+
+/// The first gate of an order, and those behind it up to the next gate of two inputs.
+fn others_of(
+    alloc: Global,
+    gates: &[Gate],
+    order: &[u32],
+    places: &[u32],
+) -> Result<List<Gate>, NoMemory>
     requires some { 0 < length order.now }
     requires numbered { All (λ i. i < length gates.now) order.now }
-    ensures { IfOk result (AreFirst order.now) }
+    requires placed { All (IsGateOf (length places.now)) gates.now }
+    ensures { IfOk result (AreFirst (placed_gates places.now order.now gates.now)) }
 {
-    let mut numbers = List::new(alloc);
-    numbers.push(order[0])?;
-    'gates: for i in 1..order.len() {
-        if gates[order[i] as usize].ins.slice().len() == 2 {
-            return Ok(numbers);
+    let mut others = List::new(alloc);
+    'gates: for i in 0..order.len() {
+        let gate = &gates[order[i] as usize];
+        if 0 < i && gate.ins.slice().len() == 2 {
+            return Ok(others);
         }
-        numbers.push(order[i])?;
+        let placed = gate_of(alloc, gate, places)?;
+        others.push(placed)?;
     }
-    Ok(numbers)
+    Ok(others)
 }
 
 /// The first stretch of an order, and how many gates it has.
-fn first_stretch(alloc: Global, gates: &[Gate], order: &[u32]) -> Result<(Stretch, usize), NoMemory>
+fn first_stretch(
+    alloc: Global,
+    gates: &[Gate],
+    order: &[u32],
+    places: &[u32],
+) -> Result<(Stretch, usize), NoMemory>
     requires some { 0 < length order.now }
     requires numbered { All (λ i. i < length gates.now) order.now }
-    requires taken { All (λ g. IsTrue (takes g.kind (length g.ins))) gates.now }
-    ensures { IfOk result (λ first. IsFirst gates.now order.now first.0 first.1) }
+    requires placed { All (IsGateOf (length places.now)) gates.now }
+    ensures { IfOk result (λ first. IsFirst (placed_gates places.now order.now gates.now) first.0 first.1) }
 {
-    let kind = gates[order[0] as usize].kind;
-    let pairs = pairs_of(alloc, gates, order, kind)?;
+    let gate = &gates[order[0] as usize];
+    let start = place(places, gate.out).0;
+    let pairs = pairs_of(alloc, gates, order, places, gate.kind, start)?;
     let count = pairs.len();
     if count != 0 {
-        return Ok((Stretch::Pairs(kind, pairs), count));
+        return Ok((Stretch::Pairs(gate.kind, start, pairs), count));
     }
-    let numbers = others_of(alloc, gates, order)?;
-    let count = numbers.len();
-    Ok((Stretch::Others(numbers), count))
+    let others = others_of(alloc, gates, order, places)?;
+    let count = others.len();
+    Ok((Stretch::Others(others), count))
 }
 
 /// An order in stretches.
-fn stretches_of(alloc: Global, gates: &[Gate], order: &[u32]) -> Result<Vec<Stretch>, NoMemory>
+pub(crate) fn stretches_of(
+    alloc: Global,
+    gates: &[Gate],
+    order: &[u32],
+    places: &[u32],
+) -> Result<List<Stretch>, NoMemory>
     requires numbered { All (λ i. i < length gates.now) order.now }
-    requires taken { All (λ g. IsTrue (takes g.kind (length g.ins))) gates.now }
-    ensures { IfOk result (λ stretches. IsProgram gates.now order.now stretches.items) }
+    requires placed { All (IsGateOf (length places.now)) gates.now }
+    ensures { IfOk result (λ stretches. program_gates stretches ≡ placed_gates places.now order.now gates.now) }
 {
-    let mut stretches = Vec::new(alloc);
+    let mut stretches = List::new(alloc);
     let mut at = 0;
     'stretches: while at < order.len() {
-        let (stretch, count) = first_stretch(alloc, gates, &order[at..])?;
+        let (stretch, count) = first_stretch(alloc, gates, &order[at..], places)?;
         stretches.push(stretch)?;
         at += count;
     }
-    Ok(stretches)
-}
-
-/// A netlist's gates in stretches, by level and within a level by kind.
-pub(crate) fn program_of(alloc: Global, net: &Netlist) -> Result<Vec<Stretch>, NoMemory>
-    ensures { IfOk result (λ stretches. IsCompiled (circuit net.now) stretches.items) }
-{
-    let order = by_level(alloc, net)?;
-    let raw = net.raw();
-    let stretches = stretches_of(alloc, raw.gates.slice(), order.as_slice())?;
     Ok(stretches)
 }

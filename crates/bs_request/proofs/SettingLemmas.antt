@@ -3,7 +3,7 @@ use Rattle.std.proofs.Common.{◌≡◌, Bool, ℕ, true, ◌||◌, List, [], �
 use Rattle.std.specs.List.{list_all, list_any}
 use Rattle.std.proofs.lemmas.List.Folds.{list_all-map}
 use Rattle.bs_request.specs.declared.flags.Flag.{Flag}
-use Rattle.bs_request.specs.declared.flags.Flag.TheVariants.{All, Only, Clock, Scope}
+use Rattle.bs_request.specs.declared.flags.Flag.TheVariants.{All, Only}
 use Rattle.bs_request.specs.declared.given.Setting.{Setting as CodeSetting}
 use Rattle.bs_request.specs.Flags.{is_flag}
 use Rattle.bs_request.specs.Request.{Request, has_flag, are_for_trace, trace_of, trace_words, values_of}
@@ -17,10 +17,6 @@ any_setting flag (s ∷ settings) = ap (λ (b : Bool). is_flag flag s.flag || b)
 pub all_for_trace : (settings : List CodeSetting) →
     list_all (λ s. is_flag All s.flag || is_flag Only s.flag) settings ≡ list_all (λ s. has_flag All s || has_flag Only s) (map setting_of settings)
 all_for_trace settings = sym (list_all-map (λ s. has_flag All s || has_flag Only s) setting_of settings)
-
-pub all_for_stimulus : (settings : List CodeSetting) →
-    list_all (λ s. is_flag Clock s.flag || is_flag Scope s.flag) settings ≡ list_all (λ s. has_flag Clock s || has_flag Scope s) (map setting_of settings)
-all_for_stimulus settings = sym (list_all-map (λ s. has_flag Clock s || has_flag Scope s) setting_of settings)
 
 -- what `trace` asks, from what was read of its options
 pub trace_told : (positions : List (List ℕ)) (settings : List CodeSetting) (all : Bool) (only : List (List ℕ)) (r : Option Request) →

@@ -5,7 +5,7 @@ use Rattle.std.specs.List.{list_all, list_any}
 use Rattle.std.specs.Str.{bytes_eq}
 use Rattle.bs_request.specs.Flags.{is_flag}
 use Rattle.bs_request.specs.declared.flags.Flag.{Flag}
-use Rattle.bs_request.specs.declared.flags.Flag.TheVariants.{All, Only, Clock, Scope}
+use Rattle.bs_request.specs.declared.flags.Flag.TheVariants.{All, Only}
 use Rattle.bs_request.specs.Given.{Setting, Given, read_all, start}
 
 -- the files of `trace`, and what it shows: every flip-flop in each cycle, and these names alone, where there are any
@@ -15,21 +15,14 @@ pub record TraceRequest : Type 0 where
   pub all : Bool
   pub only : List (List ℕ)
 
--- the files of `stimulus`, the name of the clock, and the path of a scope, where one is given
-pub record StimulusRequest : Type 0 where
-  pub netlist : List ℕ
-  pub vcd : List ℕ
-  pub clock : List ℕ
-  pub scope : Option (List ℕ)
-
 pub data Request : Type 0 where
   Help : Request
   Version : Request
   Flops : List ℕ → Request
   Inputs : List ℕ → Request
+  Stats : List ℕ → Request
   Steps : List ℕ → Request
   Trace : TraceRequest → Request
-  Stimulus : StimulusRequest → Request
 
 abbrev pub has_flag : Flag → Setting → Bool
 has_flag flag s = is_flag flag s.flag
@@ -75,27 +68,6 @@ trace_words positions settings =
 abbrev pub trace_request : Given → Option Request
 trace_request given = trace_words given.positions given.settings
 
--- the first of these, if there is one
-abbrev pub head_of : List (List ℕ) → Option (List ℕ)
-head_of [] = None
-head_of (value ∷ values) = Some value
-
--- `stimulus` has two file names, `--clock` once, `--scope` at most once, and no other option
-abbrev pub are_for_stimulus : List Setting → Bool
-are_for_stimulus settings =
-    list_all (λ s. has_flag Clock s || has_flag Scope s) settings && nat_le (times Clock settings) 1 && nat_le (times Scope settings) 1
-
-abbrev pub stimulus_of : List (List ℕ) → Option (List ℕ) → Option (List ℕ) → Option Request
-stimulus_of (netlist ∷ vcd ∷ []) (Some clock) scope = Some (Stimulus record { netlist = netlist; vcd = vcd; clock = clock; scope = scope })
-stimulus_of _ clock scope = None
-
-abbrev pub stimulus_words : List (List ℕ) → List Setting → Option Request
-stimulus_words positions settings =
-    if are_for_stimulus settings then stimulus_of positions (head_of (values_of Clock settings)) (head_of (values_of Scope settings)) else None
-
-abbrev pub stimulus_request : Given → Option Request
-stimulus_request given = stimulus_words given.positions given.settings
-
 -- the request of a command and what stands behind it
 abbrev pub bare_request : List ℕ → Given → Option Request
 bare_request command given =
@@ -104,13 +76,13 @@ bare_request command given =
     else (if bytes_eq command (codes "version") then alone Version given
     else (if bytes_eq command (codes "flops") then named (λ (n : List ℕ). Flops n) given
     else (if bytes_eq command (codes "inputs") then named (λ (n : List ℕ). Inputs n) given
+    else (if bytes_eq command (codes "stats") then named (λ (n : List ℕ). Stats n) given
     else (if bytes_eq command (codes "steps") then named (λ (n : List ℕ). Steps n) given
-    else None)))))
+    else None))))))
 
 abbrev pub command_request : List ℕ → Given → Option Request
 command_request command given =
-    if bytes_eq command (codes "trace") then trace_request given
-    else (if bytes_eq command (codes "stimulus") then stimulus_request given else bare_request command given)
+    if bytes_eq command (codes "trace") then trace_request given else bare_request command given
 
 -- the request that words are: the first is the command
 abbrev pub request_of : List (List ℕ) → Option Request

@@ -5,4 +5,4 @@ mod flags;
 mod given;
 mod request;
 
-pub use request::{Request, StimulusRequest, TraceRequest, read_request};
+pub use request::{Request, TraceRequest, read_request};

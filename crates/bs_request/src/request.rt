@@ -1,10 +1,10 @@
 //! The request that words are: a command, its files and its options.
 ghost use Rattle.std.specs.Prelude.{◌≡◌, ◌||◌, map, string_bytes, option_map, IfOk};
 ghost use Rattle.std.specs.List.{list_all, list_any};
-ghost use Rattle.bs_request.specs.declared.flags.Flag.TheVariants.{All as TheAll, Clock as TheClock, Only as TheOnly, Scope as TheScope};
+ghost use Rattle.bs_request.specs.declared.flags.Flag.TheVariants.{All as TheAll, Only as TheOnly};
 ghost use Rattle.bs_request.specs.Flags.{is_flag};
-ghost use Rattle.bs_request.specs.Request.{alone, are_for_stimulus, are_for_trace, bare_request, command_request, head_of, is_alone, named, only_name, request_of, stimulus_of, stimulus_request, stimulus_words, times, trace_of, trace_request, trace_words, values_of};
-ghost use Rattle.bs_request.specs.Request.{Flops as FlopsOf, Help as HelpOf, Inputs as InputsOf, Steps as StepsOf, Version as VersionOf};
+ghost use Rattle.bs_request.specs.Request.{alone, are_for_trace, bare_request, command_request, is_alone, named, only_name, request_of, times, trace_of, trace_request, trace_words, values_of};
+ghost use Rattle.bs_request.specs.Request.{Flops as FlopsOf, Help as HelpOf, Inputs as InputsOf, Stats as StatsOf, Steps as StepsOf, Version as VersionOf};
 ghost use Rattle.bs_request.specs.Shown.{given_in, setting_of, shown_request};
 
 use crate::flags::{Flag, is_flag};
@@ -21,15 +21,6 @@ pub struct TraceRequest<'a> {
     pub only: Vec<&'a str>,
 }
 
-/// `stimulus`: the names of its files, the name of the clock, and the path of the scope that has the variables.
-#[derive(Clone, Copy)]
-pub struct StimulusRequest<'a> {
-    pub netlist: &'a str,
-    pub vcd: &'a str,
-    pub clock: &'a str,
-    pub scope: Option<&'a str>,
-}
-
 /// What a command line asks to be told.
 #[derive(Drop)]
 pub enum Request<'a> {
@@ -41,12 +32,12 @@ pub enum Request<'a> {
     Flops(&'a str),
     /// The data inputs of a netlist, in order.
     Inputs(&'a str),
+    /// The sizes of a netlist.
+    Stats(&'a str),
     /// The steps of a report.
     Steps(&'a str),
     /// The trace of a report with the names of a netlist.
     Trace(TraceRequest<'a>),
-    /// A run of a stimulus out of a simulator's dump.
-    Stimulus(StimulusRequest<'a>),
 }
 
 /// How often an option is given.
@@ -138,74 +129,6 @@ fn trace_at<'a>(positions: &[&'a str], all: bool, only: Vec<&'a str>) -> Option<
     }
 }
 
-/// Whether each option is one of `stimulus`.
-fn all_for_stimulus(settings: &[Setting<'_>]) -> bool
-    ensures { result ≡ list_all (λ s. is_flag TheClock s.flag || is_flag TheScope s.flag) settings.now }
-{
-    settings.iter().all(|s| is_flag(Flag::Clock, s.flag) || is_flag(Flag::Scope, s.flag))
-}
-
-/// Whether the options may stand behind `stimulus`.
-#[tactic(auto, using(crate::proofs::SettingLemmas::all_for_stimulus))]
-fn are_for_stimulus(settings: &[Setting<'_>]) -> bool
-    ensures { result ≡ are_for_stimulus (map setting_of settings.now) }
-{
-    let each = all_for_stimulus(settings);
-    let clocks = times(Flag::Clock, settings) <= 1;
-    let scopes = times(Flag::Scope, settings) <= 1;
-    each && clocks && scopes
-}
-
-/// The first value that an option is given.
-fn value_of<'a>(flag: Flag, settings: &[Setting<'a>]) -> Option<&'a str>
-    ensures { option_map (λ s. s.now) result ≡ head_of (values_of flag (map setting_of settings.now)) }
-{
-    'settings: for setting in settings {
-        if is_flag(flag, setting.flag) {
-            return Some(setting.value);
-        }
-    }
-    None
-}
-
-/// The request of `stimulus` by what its words say.
-fn stimulus_at<'a>(
-    positions: &[&'a str],
-    clock: Option<&'a str>,
-    scope: Option<&'a str>,
-) -> Option<Request<'a>>
-    ensures { shown_request result ≡ stimulus_of (map (λ s. s.now) positions.now) (option_map (λ s. s.now) clock.entry) (option_map (λ s. s.now) scope.entry) }
-{
-    match (positions, clock) {
-        ([netlist, vcd], Some(clock)) => Some(Request::Stimulus(StimulusRequest {
-            netlist,
-            vcd,
-            clock,
-            scope,
-        })),
-        _ => None,
-    }
-}
-
-/// The request of `stimulus` by its words by position and its options.
-fn stimulus_words<'a>(positions: &[&'a str], settings: &[Setting<'a>]) -> Option<Request<'a>>
-    ensures { shown_request result ≡ stimulus_words (map (λ s. s.now) positions.now) (map setting_of settings.now) }
-{
-    if !are_for_stimulus(settings) {
-        return None;
-    }
-    let clock = value_of(Flag::Clock, settings);
-    let scope = value_of(Flag::Scope, settings);
-    stimulus_at(positions, clock, scope)
-}
-
-/// The request of `stimulus`.
-fn stimulus_request<'a>(given: &Given<'a>) -> Option<Request<'a>>
-    ensures { shown_request result ≡ stimulus_request (given_in given.now) }
-{
-    stimulus_words(&given.positions, &given.settings)
-}
-
 /// The one word by position of a command without options.
 fn one_name<'a>(given: &Given<'a>) -> Option<&'a str>
     ensures { option_map (λ s. s.now) result ≡ only_name (given_in given.now) }
@@ -268,6 +191,16 @@ fn inputs_request<'a>(given: &Given<'a>) -> Option<Request<'a>>
     }
 }
 
+/// `stats`.
+fn stats_request<'a>(given: &Given<'a>) -> Option<Request<'a>>
+    ensures { shown_request result ≡ named (λ n. StatsOf n) (given_in given.now) }
+{
+    match one_name(given) {
+        Some(netlist) => Some(Request::Stats(netlist)),
+        None => None,
+    }
+}
+
 /// `steps`.
 fn steps_request<'a>(given: &Given<'a>) -> Option<Request<'a>>
     ensures { shown_request result ≡ named (λ n. StepsOf n) (given_in given.now) }
@@ -297,6 +230,9 @@ fn bare_request<'a>(command: &str, given: &Given<'a>) -> Option<Request<'a>>
     if command == "inputs" {
         return inputs_request(given);
     }
+    if command == "stats" {
+        return stats_request(given);
+    }
     if command == "steps" {
         return steps_request(given);
     }
@@ -313,9 +249,6 @@ fn command_request<'a>(
 {
     if command == "trace" {
         return trace_request(alloc, given);
-    }
-    if command == "stimulus" {
-        return Ok(stimulus_request(given));
     }
     Ok(bare_request(command, given))
 }

@@ -40,13 +40,25 @@ false_below places levels j v m a at lost =
     (p.level, (p, record { at = k; there = in_all; same = ap (λ (x : Literal). x.variable) is }, refl), a.below j k v p at in_all before)
 
 pub level_positive : (base : ℕ) (places : List Place) (levels : List Level) (m : Literal) (i : ℕ) → AreBegun base levels places → AreLevelled places levels →
+    AreApart places → IsFalseOn (literals_of places) m → ((v : Level) → slice_get levels 0 ≡ Some v → ¬ IsFalseOn (literals_of (take v.start places)) m) →
     IsOnLevel places m i → 1 ≤ i
-level_positive base places levels m i b a on =
+level_positive base places levels m i b a apart lost spared on =
     let (v, at) = some_at levels 0 (let some = b.some in omega (arith, some)) in
-    let start = b.first v at in
-    let high = a.above 0 on.1.at v on.0 at on.1.there (omega (arith, start)) in
+    let start = behind v at in
+    let high = a.above 0 on.1.at v on.0 at on.1.there start in
     let is = on.2 in
     omega (arith, high, is)
+  where
+    behind : (v : Level) → slice_get levels 0 ≡ Some v → v.start ≤ on.1.at
+    behind v at = elim (cases_lt on.1.at v.start) [
+      | inl before ↦
+          let (k, found) = get_from_Contains (literals_of places) (negation m) lost in
+          let (p, there, is) = get_map_cases (λ (x : Place). x.literal) places k (negation m) found in
+          let one : k ≡ on.1.at = apart.apart k on.1.at p on.0 there on.1.there (ap (λ (x : Literal). x.variable) is ∙ sym on.1.same) in
+          absurd (spared v at (Contains_from_get (literals_of (take v.start places)) k (negation m)
+          (get_map (λ (x : Place). x.literal) (take v.start places) k p (take_get v.start places k p (omega (arith, one, before)) there) ∙ ap Some is)))
+      | inr later ↦ later
+    ]
 
 -- ---- the first literal
 
@@ -60,14 +72,21 @@ point_level base w lits s a =
     (s.point.place, record { at = s.point.at; there = s.point.there; same = refl }, omega (arith, high, few, deep))
 
 -- another literal is on a lower level
-pub other_level : (base : ℕ) (w : WatchState) (lits : Clause) (s : IsLesson base w lits) → AreLevelled w.trail.places w.levels → (m : Literal) →
+pub other_level : (base : ℕ) (w : WatchState) (lits : Clause) (s : IsLesson base w lits) → AreLevelled w.trail.places w.levels →
+    AreApart w.trail.places → (m : Literal) → Contains lits m →
     IsFalseOn (literals_of (take (last_start w.levels) w.trail.places)) m → (i : ℕ) × IsOnLevel w.trail.places m i × (1 ≤ i) × (i < length w.levels)
-other_level base w lits s a m lost =
+other_level base w lits s a apart m in_lits lost =
     let (v, at, start, low, last) = last_level base w.levels w.trail.places s.begun s.deep in
     let (i, on, high) = false_below w.trail.places w.levels (length w.levels - 1) v m a at
     (subst (λ n. IsFalseOn (literals_of (take n w.trail.places)) m) start lost) in
     let deep = s.deep in
-    (i, on, level_positive base w.trail.places w.levels m i s.begun a on, omega (arith, high, deep))
+    let lost_now : IsFalseOn (literals_of w.trail.places) m = true_in_front (last_start w.levels) w.trail.places (negation m) lost in (
+      i,
+      on,
+      level_positive base w.trail.places w.levels m i s.begun a apart lost_now
+          (λ x at_x. All-contains (λ l. ¬ IsFalseOn (literals_of (take x.start w.trail.places)) l) lits m (s.spared x at_x) in_lits) on,
+      omega (arith, high, deep),
+    )
 
 pub all_lost : (base : ℕ) (w : WatchState) (lits : Clause) → IsLesson base w lits → IsConflict (literals_of w.trail.places) lits
 all_lost base w lits s = all_from (IsFalseOn (literals_of w.trail.places)) lits (λ m there.
@@ -90,7 +109,7 @@ first_is base w lits c s a apart same h x at =
     elim (All-contains (λ y. (y ≡ u) ⊎ IsFalseOn (literals_of (take (last_start w.levels) w.trail.places)) y) lits x s.point.others in_lits) [
       | inl is ↦ is
       | inr lost ↦
-          let (i, on, low, high) = other_level base w lits s a x lost in
+          let (i, on, low, high) = other_level base w lits s a apart x in_lits lost in
           let u_in : Contains c u = Contains-permutation lits c u same (Contains_from_get lits 0 u s.point.first) in
           let (k, at_u) = get_from_Contains c u u_in in
           let (u_lost, lower) = h.first k x u at at_u (true_in_front (last_start w.levels) w.trail.places (negation x) lost) in
@@ -156,7 +175,7 @@ back_long base w lits c n s a apart same b can =
       | inl is ↦ absurd (m_other is)
       | inr lost ↦ lost
     ] in
-    let (i, on_i, low, high) = other_level base w lits s a m m_lost in
+    let (i, on_i, low, high) = other_level base w lits s a apart m m_in m_lost in
     let on_m : IsOnLevel w.trail.places m n = b.on m at_m in
     let n_is : n ≡ i = one_level w.trail.places m n i apart on_m on_i in
     let (v, at) = some_at w.levels n (omega (arith, n_is, high)) in

@@ -31,12 +31,13 @@ decision_left places more at d = record { place = d.place; there = get_left plac
 
 -- ---- levels
 
-pub begun_first : (v : Level) (places : List Place) → v.start ≡ 0 → AreBegun (length places) (v ∷ []) places
-begun_first v places at = record {
+pub begun_first : (base : ℕ) (v : Level) (places : List Place) → v.start ≤ base → v.start ≤ length places →
+    ((k : ℕ) (p : Place) → base ≤ k → slice_get places k ≡ Some p → is_some p.reason ≡ true) → AreBegun base (v ∷ []) places
+begun_first base v places low within forced = record {
   some = omega arith;
-  first = λ u e. ap (λ (x : Level). x.start) (sym (same_some v u e)) ∙ at;
-  on = λ j u low e. absurd (let h = get_within (v ∷ []) j u e in omega (arith, h, low));
-  only = λ k p low e. absurd (let h = get_within places k p e in omega (arith, h, low));
+  first = λ u e. let is = ap (λ (x : Level). x.start) (same_some v u e) in (omega (arith, is, low), omega (arith, is, within));
+  on = λ j u one e. absurd (let h = get_within (v ∷ []) j u e in omega (arith, h, one));
+  only = λ k p past e none. absurd (false≢true (sym (ap is_some none) ∙ forced k p past e));
   ascends = λ i j u w low h e d. absurd (let h2 = get_within (v ∷ []) j w d in omega (arith, h2, low, h));
   deep = λ j u e. let h = get_within (v ∷ []) j u e in omega (arith, h);
   few = omega arith;
@@ -47,7 +48,7 @@ pub begun_decided : (base : ℕ) (levels : List Level) (places : List Place) (v 
 begun_decided base levels places v p b low at free = record {
   some = let h = length_push levels v in omega (arith, h);
   first = λ u e. elim (get_push_cases levels v u 0 e) [
-    | inl there ↦ b.first u there
+    | inl there ↦ let f = b.first u there in let h = length_push places p in (f.0, (let g = f.1 in omega (arith, g, h)))
     | inr last ↦ absurd (let h = last.0 in let some = b.some in omega (arith, h, some))
   ];
   on = λ j u above e. elim (get_push_cases levels v u j e) [
@@ -92,7 +93,7 @@ pub begun_more : (base : ℕ) (levels : List Level) (old new : List Place) → A
     take (length old) new ≡ old → ((k : ℕ) (p : Place) → length old ≤ k → slice_get new k ≡ Some p → is_some p.reason ≡ true) → AreBegun base levels new
 begun_more base levels old new b longer front forced = record {
   some = b.some;
-  first = b.first;
+  first = λ u e. let f = b.first u e in (f.0, (let g = f.1 in omega (arith, g, longer)));
   on = λ j u above e.
       let was = b.on j u above e in
       let d = was.1 in (
@@ -140,7 +141,7 @@ begun_cut base n levels places v b one at =
     let taken : length (take v.start places) ≡ v.start = length-take-le v.start places (omega (arith, within)) in
     record {
       some = omega (arith, count, one);
-      first = λ u e. b.first u (get_take n levels 0 u e).1;
+      first = λ u e. let f = b.first u (get_take n levels 0 u e).1 in (f.0, (let g = f.0 in let low = (b.on n v one at).0 in omega (arith, g, low, taken)));
       on = λ j u above e.
           let (before, found) = get_take n levels j u e in
           let was = b.on j u above found in

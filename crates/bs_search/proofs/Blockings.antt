@@ -5,7 +5,7 @@ use Rattle.std.specs.Prelude.{All, Contains, slice_get, is_some, option_map, unw
 use Rattle.std.proofs.lemmas.Bool.{cases_lt, false≢true}
 use Rattle.std.proofs.lemmas.List.{length-take-le, length_push, take-append-le, take-take, take_all}
 use Rattle.std.proofs.lemmas.List.Elements.{All-contains}
-use Rattle.std.proofs.lemmas.List.Sorted.{IsPermutation-sym, Contains-permutation}
+use Rattle.std.proofs.lemmas.List.Sorted.{IsPermutation-sym, Contains-permutation, All-permutation}
 use Rattle.bs_clause.specs.Literal.{Literal, Clause, negation}
 use Rattle.bs_clause.specs.Range.{HasVariables, IsWithin}
 use Rattle.bs_arena.specs.Arena.{Held, held_at, literals_at, Keeps, KeepsOthers}
@@ -44,6 +44,8 @@ use Rattle.bs_search.specs.Running.{IsRunning}
 use Rattle.bs_search.specs.Lesson.{HasTaken, IsOpenYet}
 use Rattle.bs_search.specs.Teaching.{IsAtRest}
 use Rattle.bs_search.specs.Pausing.{IsPaused, IsKept, IsGrounded}
+use Rattle.bs_search.specs.Ground.{IsGround, IsOff}
+use Rattle.bs_search.proofs.Grounds.{ground_added}
 use Rattle.bs_search.specs.Blocking.{AreLast, IsBetween, IsSpot, HasForced, HasOpened, HasEmptied, HasGoneFor, HasHeld}
 use Rattle.bs_search.proofs.Entries.{stands_grown}
 use Rattle.bs_search.proofs.Stocks.{others_added, others_trans, stocked_joined}
@@ -264,29 +266,46 @@ has_opened old mid new clauses shorts more n r v can b back levels lists joined 
       joined = joined;
     }
 
--- ---- nothing is assigned
+-- ---- what stands for good
 
-pub emptied : (old mid : WatchState) → IsGrounded old → mid.levels ≡ take 0 old.levels → IfSome (slice_get old.levels 0) (HasGoneBack old mid) →
-    (length old.levels ≤ 0 → mid ≡ old) → (mid.trail.places ≡ []) × (mid.trail.vars ≡ old.trail.vars)
-emptied old mid g levels back same = elim (cases_lt 0 (length old.levels)) [
+pub emptied : (old mid : WatchState) (c : Clause) → IsGrounded old c → IfSome (slice_get old.levels 0) (HasGoneBack old mid) →
+    (length old.levels ≤ 0 → mid ≡ old) → IsOff mid.trail.places c × (mid.trail.vars ≡ old.trail.vars)
+emptied old mid c g back same = elim (cases_lt 0 (length old.levels)) [
   | inl some ↦
       let (v, at) = some_at old.levels 0 some in
       let h = subst (λ o. IfSome o (HasGoneBack old mid)) at back in
-      (ap (λ (t : TrailState). t.places) h.trail ∙ ap (λ n. take n old.trail.places) (g.first v at), ap (λ (t : TrailState). t.vars) h.trail)
-  | inr none ↦
-      (ap (λ (x : WatchState). x.trail.places) (same none) ∙ g.none (no_levels old.levels none), ap (λ (x : WatchState). x.trail.vars) (same none))
+      (subst (λ ps. IsOff ps c) (sym (ap (λ (t : TrailState). t.places) h.trail)) (g.first v at), ap (λ (t : TrailState). t.vars) h.trail)
+  | inr none ↦ (
+    subst (λ ps. IsOff ps c) (sym (ap (λ (x : WatchState). x.trail.places) (same none))) (g.none (no_levels old.levels none)),
+    ap (λ (x : WatchState). x.trail.vars) (same none),
+  )
 ]
   where
     no_levels : (ls : List Level) → length ls ≤ 0 → ls ≡ []
     no_levels [] h = refl
     no_levels (l ∷ ls) h = absurd (omega (arith, h))
 
-pub has_emptied : (old mid new : WatchState) (clauses : List Held) (shorts more : List ℕ) (r : ℕ) → IsGrounded old → mid.levels ≡ take 0 old.levels →
-    mid.lists ≡ old.lists → IfSome (slice_get old.levels 0) (HasGoneBack old mid) → (length old.levels ≤ 0 → mid ≡ old) →
+-- the literals in another order
+pub grounded_permuted : (w : WatchState) (c d : Clause) → IsPermutation c d → IsGrounded w c → IsGrounded w d
+grounded_permuted w c d same g = record {
+  none = λ e. All-permutation (IsOpenOn (literals_of w.trail.places)) c d same (g.none e);
+  first = λ v e. All-permutation (IsOpenOn (literals_of (take v.start w.trail.places))) c d same (g.first v e);
+}
+
+pub has_emptied : (old mid new : WatchState) (clauses : List Held) (shorts more : List ℕ) (r : ℕ) → IsGrounded old (literals_at clauses r) →
+    mid.levels ≡ take 0 old.levels → mid.lists ≡ old.lists → IfSome (slice_get old.levels 0) (HasGoneBack old mid) → (length old.levels ≤ 0 → mid ≡ old) →
     HasJoined mid new shorts more clauses r → HasEmptied old new clauses shorts more r
 has_emptied old mid new clauses shorts more r g levels lists back same joined =
-    let e = emptied old mid g levels back same in
-    record { middle = mid; levels = levels; places = e.0; vars = e.1; lists = lists; joined = joined }
+    let e = emptied old mid (literals_at clauses r) g back same in
+    record {
+      middle = mid;
+      levels = levels;
+      first = λ v at. ap (λ (t : TrailState). t.places) (subst (λ o. IfSome o (HasGoneBack old mid)) at back).trail;
+      none = λ empty. ap (λ (x : WatchState). x.trail.places) (same (let n = ap length empty in omega (arith, n)));
+      vars = e.1;
+      lists = lists;
+      joined = joined;
+    }
 
 -- ---- the clause has come
 
@@ -381,7 +400,7 @@ paused_taken base book other old new before after stock more id lits u p h u_in 
     let count : length (take cut places) ≡ cut = length-take-le cut places (omega (arith, within_cut)) in
     record {
       running = running_after base old new before after stock more id Blocked lits u other (entries book) p.running.stocked p.running.reasoned b
-          p.running.laid u_in free grown h;
+          p.running.laid p.running.ground u_in free grown h;
       sound = subst (IsSound (standing other) base (assumed other)) (sym after_is)
           (subst (λ cs. IsSound cs base (assumed other) (take cut places ++ x ∷ [])) (sym stands)
           (subst (λ a. IsSound (standing book ++ lits ∷ []) base a (take cut places ++ x ∷ [])) (sym same) sound_u));
@@ -457,6 +476,15 @@ paused_opened base book other old new before after stock more id r lits p o h ro
             let found = get_take cut old.trail.places k q e in
             h.others.kept x (place_apart before after r x h.others h.fresh (p.running.reasoned.reasoned k q x found.1 is).0))
             (reasoned_take before old.trail.places cut p.running.reasoned));
+        ground = λ v e.
+            let at : slice_get old.levels 0 ≡ Some v = (get_take o.level old.levels 0 v (subst (λ ls. slice_get ls 0 ≡ Some v) levels e)).1 in
+            let f = b.first v at in
+            let below : v.start ≤ cut = let x = f.0 in omega (arith, x, low) in
+            let same : take v.start new.trail.places ≡ take v.start old.trail.places = ap (take v.start) places ∙ take-take v.start cut old.trail.places below in
+            subst (IsGround (entries other) more.shorts.items after) (sym same)
+            (subst (λ es. IsGround es more.shorts.items after (take v.start old.trail.places)) (sym grown)
+            (ground_added old.lists before after stock more.shorts.items (entries book) (record { id = id; origin = Blocked; literals = lits }) r
+            (take v.start old.trail.places) p.running.stocked h.others h.fresh (λ n q less found. o.joined.front n q found) (p.running.ground v at)));
       };
       sound = subst (IsSound (standing other) base (assumed other)) (sym after_is)
           (subst (λ cs. IsSound cs base (assumed other) (take cut (seen old.trail.places))) (sym stands)
@@ -502,10 +530,19 @@ held_emptied old new before after stock more id r lits e h rows = record {
         (subst (λ ls. IsStocked ls before stock (entries book)) (sym e.lists) (kept_stocked book old before stock k)) free h.others h.fresh h.live
         h.id_is h.same e.joined rows);
     serves = e.joined.serves;
-    places = ap (λ (t : TrailState). t.places) e.joined.trail ∙ e.places;
+    ground = subst (IsGround (entries other) more.shorts.items after) (sym (ap (λ (t : TrailState). t.places) e.joined.trail))
+        (subst (λ es. IsGround es more.shorts.items after e.middle.trail.places) (sym grown)
+        (ground_added old.lists before after stock more.shorts.items (entries book) (record { id = id; origin = Blocked; literals = lits }) r
+        e.middle.trail.places (kept_stocked book old before stock k) h.others h.fresh (λ n q less at. e.joined.front n q at) (stands book k)));
     levels = e.joined.levels ∙ e.levels;
   });
 }
+  where
+    stands : (book : Book) → IsKept book old before stock → IsGround (entries book) stock.shorts.items before e.middle.trail.places
+    stands book (inl rest) = subst (IsGround (entries book) stock.shorts.items before) (sym (e.none rest.levels)) rest.ground
+    stands book (inr p) =
+        let (v, at) = some_at old.levels 0 (let some = p.1.running.begun.some in omega (arith, some)) in
+        subst (IsGround (entries book) stock.shorts.items before) (sym (e.first v at)) (p.1.running.ground v at)
 
 pub held_forced : (old new : WatchState) (before after : List Held) (stock more : Stock) (id r : ℕ) (lits : Clause) →
     HasForced old new after stock.shorts.items more.shorts.items r → HasCome before after r id lits →

@@ -3,8 +3,8 @@ use Rattle.std.proofs.Common.{◌≡◌, ◌≢◌, ℕ, zero, suc, ◌+◌, ◌
 use Rattle.std.proofs.Common.{sym, ap, subst, ◌∙◌, inl, inr, ◌⊎◌, Option, Some, None}
 use Rattle.std.specs.Prelude.{All, Contains, slice_get, is_some}
 use Rattle.std.proofs.lemmas.Bool.{cases_lt, cases_Bool}
-use Rattle.std.proofs.lemmas.List.{length_push, take_at}
-use Rattle.std.proofs.lemmas.List.Elements.{All-contains}
+use Rattle.std.proofs.lemmas.List.{length_push, take_at, append-nil, append_assoc}
+use Rattle.std.proofs.lemmas.List.Elements.{All-contains, All-cons, All-nil}
 use Rattle.bs_clause.specs.Literal.{Literal, Clause, negation, has_literal}
 use Rattle.bs_clause.proofs.Literals.{Contains-from_has, has-from_Contains}
 use Rattle.bs_watch.proofs.Guards.{consistent}
@@ -20,25 +20,89 @@ use Rattle.bs_watch.specs.declared.watch.Level.{Level}
 use Rattle.bs_watch.specs.Lists.{IsAttached}
 use Rattle.bs_watch.specs.Scene.{Grows, IsForced, Advances, Propagated}
 use Rattle.bs_watch.specs.Watch.{WatchState, Serves, KeepsService, assigned, scene}
-use Rattle.bs_watch.proofs.Advancing.{grows_refl, grows_trans, shuffled_refl, stays_true, true_carries}
+use Rattle.bs_watch.proofs.Advancing.{grows_refl, grows_trans, shuffled_refl, stays_true, true_in_front}
 use Rattle.bs_book.proofs.Lists.{none_is_not_some, same_some, get_push_cases, get_within, get_take, take_get, get_from_Contains, Contains_from_get}
 use Rattle.bs_book.proofs.Clauses.{all_from, contains_first, contains_cases, nothing_in}
 use Rattle.bs_book.proofs.Endings.{open_ahead}
 use Rattle.bs_learn.specs.Reasons.{IsConflictAt}
-use Rattle.bs_search.specs.Laying.{assumed_places, assumed_watch, HasGrown, IsLaid, AllLaid, Begins, HasBegun}
+use Rattle.bs_search.specs.Laying.{HasAssumed, IsAssumed, HasGrown, IsLaid, AllLaid}
+use Rattle.bs_search.proofs.Entries.{append_cases}
 
 -- ---- assumptions
 
-pub literals_assumed : (level : ℕ) (a : Clause) → literals_of (assumed_places level a) ≡ a
-literals_assumed level [] = refl
-literals_assumed level (l ∷ a) = ap (λ r. l ∷ r) (literals_assumed level a)
+last_literal : (ps : List Place) (p : Place) → slice_get (literals_of (ps ++ p ∷ [])) (length ps) ≡ Some p.literal
+last_literal [] p = refl
+last_literal (q ∷ ps) p = last_literal ps p
 
-pub assumed_next : (vars level : ℕ) (a : Clause) (i : ℕ) (l : Literal) → has_distinct_variables a ≡ true → HasVariables vars a → slice_get a i ≡ Some l →
-    IsUnassigned (record { vars = vars; places = assumed_places level (take i a) }) l
-assumed_next vars level a i l d range at = record {
-  in_range = (All-contains (IsWithin vars) a l range (Contains_from_get a i l at)).1;
-  unassigned = subst (λ xs. IsOpenOn xs l) (sym (literals_assumed level (take i a))) (open_ahead a i l d at);
+pub assumed_none : (w : WatchState) (a : Clause) → HasAssumed w w a
+assumed_none w a = record {
+  more = [];
+  places = sym (append-nil w.trail.places);
+  vars = refl;
+  levels = refl;
+  lists = refl;
+  free = All-nil (λ (p : Place). (p.reason ≡ None) × Contains a p.literal);
+  serves = record { keeps = λ clauses s. s };
 }
+
+pub assumed_one : (w new : WatchState) (l : Literal) → new ≡ assigned w l None → KeepsService w new → HasAssumed w new (l ∷ [])
+assumed_one w new l is serves =
+    let p : Place = record { literal = l; reason = None; level = length w.levels } in
+    record {
+      more = p ∷ [];
+      places = ap (λ (x : WatchState). x.trail.places) is;
+      vars = ap (λ (x : WatchState). x.trail.vars) is;
+      levels = ap (λ (x : WatchState). x.levels) is;
+      lists = ap (λ (x : WatchState). x.lists) is;
+      free = All-cons (λ (q : Place). (q.reason ≡ None) × Contains (l ∷ []) q.literal) p [] (refl, contains_first l [])
+          (All-nil (λ (q : Place). (q.reason ≡ None) × Contains (l ∷ []) q.literal));
+      serves = serves;
+    }
+
+pub one_is_true : (w new : WatchState) (l : Literal) → new ≡ assigned w l None → IsTrueOn (literals_of new.trail.places) l
+one_is_true w new l is =
+    subst (λ ps. IsTrueOn (literals_of ps) l) (sym (ap (λ (x : WatchState). x.trail.places) is))
+    (Contains_from_get (literals_of (w.trail.places ++ record { literal = l; reason = None; level = length w.levels } ∷ [])) (length w.trail.places) l
+    (last_literal w.trail.places (record { literal = l; reason = None; level = length w.levels })))
+
+pub assumed_trans : (a b c : WatchState) (xs : Clause) (l : Literal) → HasAssumed a b xs → Contains xs l → HasAssumed b c (l ∷ []) → HasAssumed a c xs
+assumed_trans a b c xs l x there y = record {
+  more = x.more ++ y.more;
+  places = y.places ∙ ap (λ ps. ps ++ y.more) x.places ∙ append_assoc a.trail.places x.more y.more;
+  vars = y.vars ∙ x.vars;
+  levels = y.levels ∙ x.levels;
+  lists = y.lists ∙ x.lists;
+  free = all_from (λ (p : Place). (p.reason ≡ None) × Contains xs p.literal) (x.more ++ y.more) (λ p in_both. elim (append_cases x.more y.more p in_both) [
+    | inl old ↦ All-contains (λ (q : Place). (q.reason ≡ None) × Contains xs q.literal) x.more p x.free old
+    | inr new ↦
+        let f = All-contains (λ (q : Place). (q.reason ≡ None) × Contains (l ∷ []) q.literal) y.more p y.free new in
+        (f.0, (elim (contains_cases l [] p.literal f.1) [ inl is ↦ subst (Contains xs) is there | inr none ↦ absurd (nothing_in p.literal none) ]))
+  ]);
+  serves = record { keeps = λ clauses s. y.serves.keeps clauses (x.serves.keeps clauses s) };
+}
+
+pub assumed_still : (a b : WatchState) (xs : Clause) (l : Literal) → HasAssumed a b xs → IsTrueOn (literals_of a.trail.places) l →
+    IsTrueOn (literals_of b.trail.places) l
+assumed_still a b xs l h t =
+    subst (λ ps. IsTrueOn (literals_of ps) l) (sym h.places) (true_in_front (length a.trail.places) (a.trail.places ++ h.more) l
+    (subst (λ ps. IsTrueOn (literals_of ps) l) (sym (take_at a.trail.places h.more (length a.trail.places) refl)) t))
+
+pub assumed_next : (a b : WatchState) (xs : Clause) (i : ℕ) (l : Literal) → HasAssumed a b (l ∷ []) → All (IsTrueOn (literals_of a.trail.places)) (take i xs) →
+    slice_get xs i ≡ Some l → IsTrueOn (literals_of b.trail.places) l → All (IsTrueOn (literals_of b.trail.places)) (take (i + 1) xs)
+assumed_next a b xs i l h all at here = all_from (IsTrueOn (literals_of b.trail.places)) (take (i + 1) xs) (λ m there.
+    let (k, found) = get_from_Contains (take (i + 1) xs) m there in
+    let (before, in_all) = get_take (i + 1) xs k m found in
+    elim (cases_lt k i) [
+      | inl early ↦ assumed_still a b (l ∷ []) m h (All-contains (IsTrueOn (literals_of a.trail.places)) (take i xs) m all
+          (Contains_from_get (take i xs) k m (take_get i xs k m early in_all)))
+      | inr late ↦
+          let same : k ≡ i = omega (arith, before, late) in
+          subst (IsTrueOn (literals_of b.trail.places)) (same_some l m (sym at ∙ ap (slice_get xs) (sym same) ∙ in_all)) here
+    ])
+
+pub assumed_value : (w : WatchState) (l : Literal) (is_true : Bool) → IsValueOn (literals_of w.trail.places) l (Some is_true) → IsAssumed w l (not is_true)
+assumed_value w l true v = v
+assumed_value w l false v = v
 
 -- ---- growing
 
@@ -117,10 +181,6 @@ laid_open clauses w new r l is serves live sole_l open_l =
             (Contains_from_get (literals_of (w.trail.places ++ p ∷ [])) (length w.trail.places) l (last_literal w.trail.places p));
       },
     )
-  where
-    last_literal : (ps : List Place) (p : Place) → slice_get (literals_of (ps ++ p ∷ [])) (length ps) ≡ Some p.literal
-    last_literal [] p = refl
-    last_literal (q ∷ ps) p = last_literal ps p
 
 pub laid_value : (clauses : List Held) (w : WatchState) (r : ℕ) (l : Literal) (is_true : Bool) → literals_at clauses r ≡ l ∷ [] →
     IsValueOn (literals_of w.trail.places) l (Some is_true) → IsLaid clauses w r (not is_true)
@@ -152,67 +212,6 @@ laid_next clauses a b shorts i r g all at here = record {
             (same_some r q (sym at ∙ ap (slice_get shorts) (sym same) ∙ in_all)) here
       ];
 }
-
--- ---- the first level
-
-pub has_begun : (w decided laid new : WatchState) (before after : List Held) (shorts : List ℕ) (a : Clause) (v : Level) → w.trail.places ≡ [] → w.levels ≡ [] →
-    decided ≡ assumed_watch (record w { levels = w.levels ++ v ∷ [] }) a → v ≡ record { start = length w.trail.places; looked = w.head } →
-    HasGrown before decided laid → Advances (length laid.levels) (scene laid before) (scene new after) → new.levels ≡ laid.levels → Serves new after →
-    (o : Outcome) →
-    Propagated (scene new after) o → AllLaid before laid shorts → HasBegun w new before after shorts a o
-has_begun w decided laid new before after shorts a v empty none is_decided is_v g advances levels serves o p all =
-    let first : laid.levels ≡ record { start = 0; looked = w.head } ∷ [] =
-    g.levels ∙ ap (λ (y : WatchState). y.levels) is_decided ∙ ap (λ ls. ls ++ v ∷ []) none ∙
-    ap (λ y. y ∷ []) (is_v ∙ ap (λ ps. record { start = length ps; looked = w.head }) empty) in
-    let one : length decided.levels ≡ 1 = ap length (sym g.levels ∙ first) in
-    let x : Advances 1 (scene laid before) (scene new after) = subst (λ n. Advances n (scene laid before) (scene new after)) (ap length first) advances in
-    let grown : Grows before 1 (assumed_places 1 a) laid.trail.places =
-    subst (λ n. Grows before n (assumed_places n a) laid.trail.places) one
-    (subst (λ ps. Grows before (length decided.levels) ps laid.trail.places)
-    (ap (λ (y : WatchState). y.trail.places) is_decided ∙
-    ap (λ n. assumed_places n a) (ap length (sym (ap (λ (y : WatchState). y.levels) is_decided)))) g.grows) in
-    record {
-      vars = x.vars ∙ g.vars ∙ ap (λ (y : WatchState). y.trail.vars) is_decided;
-      levels = levels ∙ first;
-      shuffled = x.shuffled;
-      attached = λ r h. (x.attached r).1 (subst (λ ls. IsAttached ls r) (sym (g.lists ∙ ap (λ (y : WatchState). y.lists) is_decided)) h);
-      serves = serves;
-      grows = grows_trans before after 1 (assumed_places 1 a) laid.trail.places new.trail.places x.shuffled grown x.grows;
-      ends = ends x o p;
-    }
-  where
-    carried : Advances 1 (scene laid before) (scene new after) → AllLaid after new shorts
-    carried x = record {
-      each = λ r there.
-          true_carries (literals_of laid.trail.places) (literals_of new.trail.places) (literals_at before r) (literals_at after r)
-          (λ l. stays_true after 1 laid.trail.places new.trail.places l x.grows) (x.shuffled.same r) (all.each r there);
-    }
-
-    ends : Advances 1 (scene laid before) (scene new after) → (o : Outcome) → Propagated (scene new after) o → Begins after new shorts o
-    ends x Quiet p = (p, carried x)
-    ends x (Conflict r) p = record { live = p.live; lost = p.lost }
-
-pub has_clashed : (w decided laid : WatchState) (before : List Held) (shorts : List ℕ) (a : Clause) (v : Level) (r : ℕ) → w.trail.places ≡ [] → w.levels ≡ [] →
-    decided ≡ assumed_watch (record w { levels = w.levels ++ v ∷ [] }) a → v ≡ record { start = length w.trail.places; looked = w.head } →
-    HasGrown before decided laid → Serves laid before → IsConflictAt before (literals_of laid.trail.places) r →
-    HasBegun w laid before before shorts a (Conflict r)
-has_clashed w decided laid before shorts a v r empty none is_decided is_v g serves lost =
-    let first : laid.levels ≡ record { start = 0; looked = w.head } ∷ [] =
-    g.levels ∙ ap (λ (y : WatchState). y.levels) is_decided ∙ ap (λ ls. ls ++ v ∷ []) none ∙
-    ap (λ y. y ∷ []) (is_v ∙ ap (λ ps. record { start = length ps; looked = w.head }) empty) in
-    let one : length decided.levels ≡ 1 = ap length (sym g.levels ∙ first) in
-    record {
-      vars = g.vars ∙ ap (λ (y : WatchState). y.trail.vars) is_decided;
-      levels = first;
-      shuffled = shuffled_refl before;
-      attached = λ q h. subst (λ ls. IsAttached ls q) (sym (g.lists ∙ ap (λ (y : WatchState). y.lists) is_decided)) h;
-      serves = serves;
-      grows = subst (λ n. Grows before n (assumed_places n a) laid.trail.places) one
-          (subst (λ ps. Grows before (length decided.levels) ps laid.trail.places)
-          (ap (λ (y : WatchState). y.trail.places) is_decided ∙
-          ap (λ n. assumed_places n a) (ap length (sym (ap (λ (y : WatchState). y.levels) is_decided)))) g.grows);
-      ends = lost;
-    }
 
 -- ---- values
 

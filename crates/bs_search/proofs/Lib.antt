@@ -1,12 +1,16 @@
 pub mod Entries
-pub mod Stocks
 pub mod Seens
+pub mod Plains
+pub mod Grounds
+pub mod Stocks
 pub mod Begins
 pub mod Layings
 pub mod Backs
 pub mod Takings
 pub mod Teachings
 pub mod Turns
+pub mod Beginnings
 pub mod Refutings
 pub mod Pausings
 pub mod Blockings
+pub mod Retirings

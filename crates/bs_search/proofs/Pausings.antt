@@ -35,7 +35,7 @@ use Rattle.bs_search.specs.Begun.{AreBegun}
 use Rattle.bs_search.specs.Running.{IsRunning, InTurn}
 use Rattle.bs_search.specs.Teaching.{IsAtRest}
 use Rattle.bs_search.specs.Searching.{IsFirstConflict, IsSomeFirstConflict, IsSomeTurn, HasPropagated}
-use Rattle.bs_search.specs.Pausing.{IsPaused, IsSomePause, IsKept, IsGrounded, GoesToRest}
+use Rattle.bs_search.specs.Pausing.{IsPaused, IsSomePause, IsKept, GoesToRest}
 use Rattle.bs_search.proofs.Seens.{length_seen, literals_seen_take}
 use Rattle.bs_search.proofs.Begins.{some_at}
 use Rattle.bs_search.proofs.Turns.{running_propagated, logged_grows, logged_outcome, clashes_from}
@@ -79,7 +79,7 @@ begun_from : (base past : ℕ) (levels : List Level) (places : List Place) → A
     ((j : ℕ) (v : Level) → 1 ≤ j → slice_get levels j ≡ Some v → past ≤ v.start) → AreBegun past levels places
 begun_from base past levels places b low later = record {
   some = b.some;
-  first = b.first;
+  first = λ v e. let f = b.first v e in ((let g = f.0 in omega (arith, g, low)), f.1);
   on = λ j v one e. (later j v one e, (b.on j v one e).1);
   only = λ k p above e none. b.only k p (omega (arith, low, above)) e none;
   ascends = b.ascends;
@@ -137,6 +137,7 @@ turn_from base past book vars limit w clauses stock o p a vars_is apart ends low
         begun = begun_from base past w.levels w.trail.places p.running.begun low later;
         laid = p.running.laid;
         reasoned = p.running.reasoned;
+        ground = p.running.ground;
       };
       search = record {
         logged = no_lemmas book;
@@ -209,20 +210,10 @@ conflict_paused base book w clauses stock r p range distinct ends few = record {
   distinct = distinct;
   clash = clashes_from w clauses (Conflict r) ends;
   some = p.running.begun.some;
-  first = p.running.begun.first;
+  ground = p.running.ground;
 }
 
 -- ---- the trail goes back to nothing
-
-pub kept_grounded : (book : Book) (w : WatchState) (clauses : List Held) (stock : Stock) → IsKept book w clauses stock → IsGrounded w
-kept_grounded book w clauses stock (inl r) = record {
-  none = λ _. r.places;
-  first = λ v e. absurd (let h = get_within w.levels 0 v e in let n = ap length r.levels in omega (arith, h, n));
-}
-kept_grounded book w clauses stock (inr p) = record {
-  none = λ none. absurd (let some = p.1.running.begun.some in let n = ap length none in omega (arith, some, n));
-  first = p.1.running.begun.first;
-}
 
 pub goes_to_rest : (old new : WatchState) → new.levels ≡ take 0 old.levels → new.lists ≡ old.lists →
     IfSome (slice_get old.levels 0) (HasGoneBack old new) → (length old.levels ≤ 0 → new ≡ old) → KeepsService old new → GoesToRest old new

@@ -2,6 +2,7 @@
 use Rattle.std.proofs.Common.{◌≡◌, ◌≢◌, ℕ, zero, suc, ◌+◌, ◌-◌, ◌<◌, ◌≤◌, ◌^◌, arith, Bool, true, false, List, [], ◌∷◌, ◌++◌, map, reverse, length}
 use Rattle.std.proofs.Common.{take, refl, sym, ap, subst, ◌∙◌, inl, inr, ◌⊎◌, Option, Some, None}
 use Rattle.std.specs.Prelude.{All, Contains, slice_get, is_some, option_map, IfSome}
+use Rattle.std.proofs.lemmas.Bool.{true≢false}
 use Rattle.std.proofs.lemmas.List.{length_push, length-map}
 use Rattle.bs_clause.specs.Literal.{Literal, Clause, negation, has_literal}
 use Rattle.bs_clause.proofs.Literals.{Contains-from_has, has-from_Contains}
@@ -33,16 +34,17 @@ use Rattle.bs_book.specs.Search.{assumed, HasRefuted}
 use Rattle.bs_book.specs.Values.{positive, AreAssigned, HasValues}
 use Rattle.bs_book.specs.Ending.{SomeLemmas}
 use Rattle.bs_book.specs.declared.answer.Answer.TheVariants.{Found, Refuted, Spent}
-use Rattle.bs_book.proofs.Lists.{none_is_not_some, same_some, get_map_cases, get_map, get_within, get_push_cases, Contains_from_get}
+use Rattle.bs_book.proofs.Lists.{none_is_not_some, same_some, get_map_cases, get_map, get_within, get_take, get_push_cases, get_from_Contains, Contains_from_get}
 use Rattle.bs_book.proofs.Clauses.{all_from, map_contains}
 use Rattle.bs_book.proofs.Searching.{learnt_range, have_variables, ending_lemma}
 use Rattle.bs_book.proofs.Endings.{search_finds, refuted_ranges, refuted_distinct, search_is_spent, learnt_ranges, learnt_distinct, some_lemmas}
 use Rattle.bs_book.proofs.Endings.{one_more, no_lemmas}
 use Rattle.bs_search.specs.declared.stock.Stock.{Stock}
-use Rattle.bs_search.specs.Stock.{entries, id_in, IsStocked, HasStocked}
+use Rattle.bs_search.specs.Stock.{entries, id_in, IsStocked}
 use Rattle.bs_search.proofs.Entries.{stands_grown}
 use Rattle.bs_book.proofs.Entries.{found_stands}
 use Rattle.bs_search.specs.Seen.{seen_place, seen}
+use Rattle.bs_search.specs.Ground.{HasStocked, IsGround, IsOff}
 use Rattle.bs_search.specs.Running.{seen_trail, IsRunning, InTurn}
 use Rattle.bs_search.specs.Teaching.{IsAtRest, Teaches}
 use Rattle.bs_search.specs.Searching.{IsFirstConflict, IsOver, HasEndedBy}
@@ -52,14 +54,16 @@ use Rattle.bs_search.proofs.Begins.{some_at}
 use Rattle.bs_search.proofs.Teachings.{logged_learnt}
 use Rattle.bs_search.proofs.Turns.{conflict_in, learnt_in}
 
--- ---- the trail goes back to nothing
+-- ---- the trail goes back to what stands for good
 
-pub gone_empty : (w mid : WatchState) → 1 ≤ length w.levels → ((v : Level) → slice_get w.levels 0 ≡ Some v → v.start ≡ 0) →
-    IfSome (slice_get w.levels 0) (HasGoneBack w mid) → (mid.trail.places ≡ []) × (mid.trail.vars ≡ w.trail.vars)
-gone_empty w mid some first back =
-    let (v, at) = some_at w.levels 0 (omega (arith, some)) in
+pub gone_back_to : (w mid : WatchState) (v : Level) → slice_get w.levels 0 ≡ Some v → IfSome (slice_get w.levels 0) (HasGoneBack w mid) →
+    (mid.trail.places ≡ take v.start w.trail.places) × (mid.trail.vars ≡ w.trail.vars)
+gone_back_to w mid v at back =
     let h = subst (λ o. IfSome o (HasGoneBack w mid)) at back in
-    (ap (λ (t : TrailState). t.places) h.trail ∙ ap (λ n. take n w.trail.places) (first v at), ap (λ (t : TrailState). t.vars) h.trail)
+    (ap (λ (t : TrailState). t.places) h.trail, ap (λ (t : TrailState). t.vars) h.trail)
+
+pub gone_vars : (w mid : WatchState) → 1 ≤ length w.levels → IfSome (slice_get w.levels 0) (HasGoneBack w mid) → mid.trail.vars ≡ w.trail.vars
+gone_vars w mid some back = let (v, at) = some_at w.levels 0 (omega (arith, some)) in (gone_back_to w mid v at back).1
 
 pub at_rest : (base : ℕ) (book : Book) (w mid : WatchState) (clauses : List Held) (stock : Stock) → IsRunning base book w clauses stock →
     mid.levels ≡ take 0 w.levels → mid.lists ≡ w.lists → IfSome (slice_get w.levels 0) (HasGoneBack w mid) → Serves mid clauses →
@@ -67,11 +71,32 @@ pub at_rest : (base : ℕ) (book : Book) (w mid : WatchState) (clauses : List He
 at_rest base book w mid clauses stock r levels lists back serves = record {
   stocked = subst (λ ls. IsStocked ls clauses stock (entries book)) (sym lists) r.stocked;
   serves = serves;
-  places = (gone_empty w mid r.begun.some r.begun.first back).0;
+  ground =
+      let (v, at) = some_at w.levels 0 (let some = r.begun.some in omega (arith, some)) in
+      subst (IsGround (entries book) stock.shorts.items clauses) (sym (gone_back_to w mid v at back).0) (r.ground v at);
   levels = levels;
 }
 
 -- ---- the last lemma
+
+-- what no clause forced stands behind what stands for good
+pub lemma_off : (base : ℕ) (book : Book) (w mid : WatchState) (clauses : List Held) (stock : Stock) (conflict : ℕ) (lits : Clause) →
+    IsFirstConflict base book w clauses stock conflict → AreApart w.trail.places → IfSome (slice_get w.levels 0) (HasGoneBack w mid) →
+    All (λ l. IsUnforced w.trail.places (negation l)) lits → IsOff mid.trail.places lits
+lemma_off base book w mid clauses stock conflict lits c apart back free =
+    let (v, at) = some_at w.levels 0 (let some = c.some in omega (arith, some)) in
+    subst (λ ps. IsOff ps lits) (sym (gone_back_to w mid v at back).0) (all_from (IsOpenOn (literals_of (take v.start w.trail.places))) lits (λ l there.
+    let u = All-contains (λ x. IsUnforced w.trail.places (negation x)) lits l free there in
+    let gone : (x : Literal) → x.variable ≡ l.variable → ¬ IsTrueOn (literals_of (take v.start w.trail.places)) x = λ x same holds.
+    let (k, found) = get_from_Contains (literals_of (take v.start w.trail.places)) x holds in
+    let (p, here, is) = get_map_cases (λ (y : Place). y.literal) (take v.start w.trail.places) k x found in
+    let (before, in_all) = get_take v.start w.trail.places k p here in
+    let unit = (c.ground v at).each k p here in
+    let one : k ≡ u.at = apart.apart k u.at p u.place in_all u.there
+    (ap (λ (y : Literal). y.variable) is ∙ same ∙ sym (ap (λ (y : Literal). y.variable) u.same)) in
+    let place : p ≡ u.place = same_some p u.place (sym in_all ∙ ap (slice_get w.trail.places) one ∙ u.there) in
+    none_is_not_some unit.ref (sym u.free ∙ ap (λ (y : Place). y.reason) (sym place) ∙ unit.reason) in
+    (gone l refl, gone (negation l) refl)))
 
 pub unforced_seen : (places : List Place) (lits : Clause) → All (λ l. IsUnforced places (negation l)) lits →
     All (λ l. IsLoggedUnforced (seen places) (negation l)) lits
@@ -109,7 +134,8 @@ pub ended_by : (base : ℕ) (book new_book : Book) (w mid new : WatchState) (cla
     HasEndedBy book new_book w.trail.vars new after more id
 ended_by base book new_book w mid new clauses after stock more conflict id other lits hints c l free levels lists back serves trail new_levels stocked
     is_other unused is line grown entry =
-    let (empty, vars) = gone_empty w mid c.some c.first back in
+    let (v, at) = some_at w.levels 0 (let some = c.some in omega (arith, some)) in
+    let (places, vars) = gone_back_to w mid v at back in
     record {
       refuted = record {
         lemma = lits;
@@ -131,7 +157,11 @@ ended_by base book new_book w mid new clauses after stock more conflict id other
             (ap (λ n. entries book ++ record { id = n; origin = FromConflict; literals = lits } ∷ []) is_other ∙ sym grown)
             (stocked.more (entries book) unused (subst (λ ls. IsStocked ls clauses stock (entries book)) (sym lists) c.stocked));
         serves = serves;
-        places = ap (λ (t : TrailState). t.places) trail ∙ empty;
+        ground = subst (IsGround (entries new_book) more.shorts.items after) (sym (ap (λ (t : TrailState). t.places) trail ∙ places))
+            (subst (λ es. IsGround es more.shorts.items after (take v.start w.trail.places))
+            (ap (λ n. entries book ++ record { id = n; origin = FromConflict; literals = lits } ∷ []) is_other ∙ sym grown)
+            (stocked.ground (entries book) unused (subst (λ ls. IsStocked ls clauses stock (entries book)) (sym lists) c.stocked) (take v.start w.trail.places)
+            (c.ground v at)));
         levels = new_levels ∙ levels;
       };
       vars_is = ap (λ (t : TrailState). t.vars) trail ∙ vars;
@@ -186,7 +216,7 @@ over_spent old vars base conflicts limit r book new_book w mid rest clauses late
       ends = search_is_spent old vars base conflicts limit book new_book (seen w.trail.places) (seen_trail mid)
           false t.search learnt all;
       left = at_rest base new_book mid rest later more running levels lists back serves;
-      vars_is = (gone_empty mid rest running.begun.some running.begun.first back).1 ∙ h.vars ∙ t.vars_is;
+      vars_is = gone_vars mid rest running.begun.some back ∙ h.vars ∙ t.vars_is;
       range = subst (λ n. All (HasVariables n) (standing new_book)) (h.vars ∙ t.vars_is)
           (learnt_ranges old vars base conflicts limit book new_book (seen w.trail.places)
           (record { vars = vars; places = seen w.trail.places }) (seen_trail mid) false t.search learnt refl);
@@ -208,16 +238,15 @@ over_refuted old vars base conflicts limit r id book new_book w new clauses afte
 
 -- ---- there is room for a level
 
-pub level_room : (w : WatchState) (l : Literal) → AreApart w.trail.places → HasVariables w.trail.vars (literals_of w.trail.places) →
-    IsOpenOn (literals_of w.trail.places) l → 1 ≤ l.variable → l.variable ≤ w.trail.vars → length w.levels ≤ length w.trail.places + 1 →
-    length w.levels ≤ w.trail.vars
-level_room w l apart range open_l low high few =
+pub open_room : (w : WatchState) (l : Literal) → AreApart w.trail.places → HasVariables w.trail.vars (literals_of w.trail.places) →
+    IsOpenOn (literals_of w.trail.places) l → 1 ≤ l.variable → l.variable ≤ w.trail.vars → length w.trail.places + 1 ≤ w.trail.vars
+open_room w l apart range open_l low high =
     let ls : List Literal = literals_of w.trail.places in
     let all : HasVariables w.trail.vars (ls ++ l ∷ []) = All-push (IsWithin w.trail.vars) ls l range (low, high) in
     let most = at_most w.trail.vars (ls ++ l ∷ []) (distinct_push ls l (distinct_of w.trail.places apart) open_l) all in
     let n = length_push ls l in
     let m = length-map w.trail.places (λ (p : Place). p.literal) in
-    omega (arith, most, n, m, few)
+    omega (arith, most, n, m)
   where
     distinct_of : (ps : List Place) → AreApart ps → AreDistinct (literals_of ps)
     distinct_of ps apart = record {
@@ -240,6 +269,29 @@ level_room w l apart range open_l low high few =
         ]
       ];
     }
+
+pub level_room : (w : WatchState) (l : Literal) → AreApart w.trail.places → HasVariables w.trail.vars (literals_of w.trail.places) →
+    IsOpenOn (literals_of w.trail.places) l → 1 ≤ l.variable → l.variable ≤ w.trail.vars → length w.levels ≤ length w.trail.places + 1 →
+    length w.levels ≤ w.trail.vars
+level_room w l apart range open_l low high few = let room = open_room w l apart range open_l low high in omega (arith, room, few)
+
+-- a full trail
+pub full_assigned : (w : WatchState) → AreApart w.trail.places → HasVariables w.trail.vars (literals_of w.trail.places) →
+    length w.trail.places ≡ w.trail.vars → AreAssigned (literals_of w.trail.places) w.trail.vars
+full_assigned w apart range full = λ v low high.
+    by v low high (has_literal (literals_of w.trail.places) (positive v)) refl (has_literal (literals_of w.trail.places) (negation (positive v))) refl
+  where
+    out : (x : Literal) → has_literal (literals_of w.trail.places) x ≡ false → ¬ Contains (literals_of w.trail.places) x
+    out x off there = true≢false (sym (has-from_Contains (literals_of w.trail.places) x there) ∙ off)
+
+    by : (v : ℕ) → 1 ≤ v → v ≤ w.trail.vars → (a : Bool) → has_literal (literals_of w.trail.places) (positive v) ≡ a → (b : Bool) →
+        has_literal (literals_of w.trail.places) (negation (positive v)) ≡ b →
+        (has_literal (literals_of w.trail.places) (positive v) ≡ true) ⊎ (has_literal (literals_of w.trail.places) (negation (positive v)) ≡ true)
+    by v low high true is_a b is_b = inl is_a
+    by v low high false is_a true is_b = inr is_b
+    by v low high false is_a false is_b =
+        absurd (let room = open_room w (positive v) apart range (out (positive v) is_a, out (negation (positive v)) is_b) low high in
+        omega (arith, room, full))
 
 -- ---- what was logged
 

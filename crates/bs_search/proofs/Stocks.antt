@@ -17,7 +17,12 @@ use Rattle.bs_arena.specs.Arena.{Held, held_at, literals_at, live_words, KeepsOt
 use Rattle.bs_watch.specs.declared.lists.Watcher.{Watcher}
 use Rattle.bs_watch.specs.Lists.{IsAttached}
 use Rattle.bs_watch.specs.Scene.{IsWatchable}
-use Rattle.bs_watch.specs.Watch.{WatchState, Serves, HasAttached}
+use Rattle.bs_watch.specs.Look.{IsFirstTwo}
+use Rattle.bs_watch.specs.Trail.{IsOpenOn}
+use Rattle.bs_watch.specs.Places.{literals_of}
+use Rattle.bs_watch.specs.Watch.{WatchState, Serves, MayAttach, HasAttached}
+use Rattle.bs_watch.proofs.CallerLemmas.{may_attach_open}
+use Rattle.bs_search.specs.Ground.{IsOff}
 use Rattle.bs_book.proofs.Lists.{none_is_not_some, same_some, get_left, get_last, get_push_cases, get_from_Contains, Contains_from_get}
 use Rattle.bs_book.proofs.Clauses.{nothing_in, contains_cases, all_from, distinct_parts}
 use Rattle.bs_keep.specs.declared.row.Row.{Row}
@@ -25,7 +30,9 @@ use Rattle.bs_keep.specs.Keeping.{AreHeld}
 use Rattle.bs_keep.specs.Rows.{AreRowsAmong}
 use Rattle.bs_book.proofs.Entries.{found_still}
 use Rattle.bs_search.specs.declared.stock.Stock.{Stock}
-use Rattle.bs_search.specs.Stock.{is_live, id_in, IsClauseOf, IsStocked, rows_for, HasStocked, HasJoined}
+use Rattle.bs_search.specs.Stock.{is_live, id_in, IsClauseOf, IsStocked, rows_for, HasJoined}
+use Rattle.bs_search.specs.Ground.{HasStocked}
+use Rattle.bs_search.proofs.Grounds.{ground_added}
 use Rattle.bs_search.proofs.Entries.{id_of, id_is_live, live_id, entry_last, push_cases, append_cases, rows_permuted, rows_among}
 
 -- ---- references
@@ -185,6 +192,15 @@ distinct_gets (x ∷ c) d (suc i) (suc j) l m a b same = ap (λ n. suc n) (disti
 pub watchable : (vars : ℕ) (c : Clause) → has_distinct_variables c ≡ true → HasVariables vars c → 2 ≤ length c → IsWatchable vars c
 watchable vars c distinct range long = record { long = long; apart = distinct_gets c distinct; range = range }
 
+-- a clause of which no variable has a value
+pub may_attach_off : (w : WatchState) (c : Clause) → IsOff w.trail.places c → MayAttach w c
+may_attach_off w c off = may_attach_open w c (λ m first lost.
+    (All-contains (IsOpenOn (literals_of w.trail.places)) c m off (first_stands c m first)).1 lost)
+  where
+    first_stands : (x : Clause) (m : Literal) → IsFirstTwo x m → Contains x m
+    first_stands x m (inl zeroth) = Contains_from_get x 0 m zeroth
+    first_stands x m (inr one) = Contains_from_get x 1 m one
+
 -- ---- a clause that was added to the arena
 
 pub joined_short : (w : WatchState) (clauses : List Held) (shorts more : List ℕ) (r : ℕ) → Serves w clauses → more ≡ shorts ++ r ∷ [] →
@@ -200,6 +216,7 @@ joined_short w clauses shorts more r s is few = record {
       let (k, at) = get_from_Contains shorts q there in
       subst (λ xs. Contains xs q) (sym is) (Contains_from_get (shorts ++ r ∷ []) k q (get_left shorts (r ∷ []) k q at));
   short = λ _. subst (λ xs. Contains xs r) (sym is) (Contains_from_get (shorts ++ r ∷ []) (length shorts) r (get_last shorts r));
+  front = λ k q at. subst (λ xs. slice_get xs k ≡ Some q) (sym is) (get_left shorts (r ∷ []) k q at);
   listed = λ q there.
       let (k, at) = get_from_Contains more q there in
       elim (get_push_cases shorts r q k (subst (λ xs. slice_get xs k ≡ Some q) is at)) [
@@ -219,6 +236,7 @@ joined_long w new clauses shorts r h two = record {
   long = λ _. (h.attached r).1 (inr refl);
   shorts = λ q there. there;
   short = λ few. absurd (omega (arith, two, few));
+  front = λ k q at. at;
   listed = λ q there. inl there;
 }
 
@@ -242,6 +260,9 @@ added_stocked old new before after stock more r e is fresh found j rows = record
       (id_from after r (record { ref = r; id = e.id; literals = e.literals }) found)
       (subst (IsPermutation e.literals) (sym (literals_from after r (record { ref = r; id = e.id; literals = e.literals }) found))
       (IsPermutation-refl e.literals)) j rows;
+  ground = λ es free s places g.
+      ground_added old.lists before after stock more.shorts.items es e r places s
+      (others_added before after (record { ref = r; id = e.id; literals = e.literals }) is) fresh (λ k q less at. j.front k q at) g;
 }
 
 -- the words of one more clause

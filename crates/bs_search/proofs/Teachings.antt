@@ -4,7 +4,7 @@ use Rattle.std.proofs.Common.{length, take, get_or, swap, refl, sym, ap, subst, 
 use Rattle.std.specs.Prelude.{All, AllPairs, Contains, slice_get, is_some, option_map, unwrap_or, IsPermutation, IsTrue}
 use Rattle.std.specs.List.{cons_option}
 use Rattle.std.proofs.lemmas.Bool.{cases_Bool, cases_lt, cases_eq, eq-eqb, ne_eqb, true≢false, false≢true}
-use Rattle.std.proofs.lemmas.List.{length-take-le, map-append, reverse-append, take-append-le}
+use Rattle.std.proofs.lemmas.List.{length-take-le, map-append, reverse-append, take-append-le, take-take}
 use Rattle.std.proofs.lemmas.List.Elements.{All-contains, All-from_recursion, recursion_from_All}
 use Rattle.std.proofs.lemmas.List.Sorted.{IsPermutation-sym, IsPermutation-keeps, Contains-permutation, All-permutation, length_permutation}
 use Rattle.std.proofs.lemmas.Option.{get_or_from_slice_get}
@@ -13,9 +13,9 @@ use Rattle.bs_clause.specs.Range.{HasVariables, IsWithin}
 use Rattle.bs_log.specs.declared.origin.Origin.{Origin}
 use Rattle.bs_log.specs.declared.origin.Origin.TheVariants.{Learnt as FromConflict}
 use Rattle.bs_log.specs.History.{Entry, live}
-use Rattle.bs_log.specs.Refusal.{has_distinct_variables, entry_of, clauses_of}
+use Rattle.bs_log.specs.Refusal.{has_distinct_variables, entry_of, clauses_of, NoneRefused}
 use Rattle.bs_log.specs.LineForms.{HasVariable}
-use Rattle.bs_log.specs.Lean.{IsNew, IsResolventOf}
+use Rattle.bs_log.specs.Lean.{IsNew, IsResolventOf, LemmasAreLean}
 use Rattle.bs_log.specs.Propagation.{hints_are_unit, last_is_false}
 use Rattle.bs_arena.specs.Arena.{Content, IsContent, Held, held_at, literals_at, KeepsOthers}
 use Rattle.bs_watch.specs.declared.watch.Level.{Level}
@@ -51,6 +51,9 @@ use Rattle.bs_search.specs.Teaching.{IsInConflict, Teaches}
 use Rattle.bs_watch.proofs.Choices.{Stood, from_swap}
 use Rattle.bs_search.proofs.Stocks.{stocked_joined, distinct_gets}
 use Rattle.bs_search.proofs.Seens.{literals_seen, take_seen, length_seen, literals_seen_take, conflict_spelled, unit_spelled}
+use Rattle.bs_search.specs.Ground.{IsGround, IsOwn}
+use Rattle.bs_search.proofs.Plains.{plain_resolvent, plain_live}
+use Rattle.bs_search.proofs.Grounds.{ground_added, plain_spared}
 use Rattle.bs_search.proofs.Begins.{begun_cut, begun_forced, laid_cut, last_level, true_left}
 
 -- ---- live clauses
@@ -239,8 +242,11 @@ last_decided base book w clauses stock conflict c deep =
 
 pub lesson_from : (base : ℕ) (book : Book) (w : WatchState) (clauses : List Held) (stock : Stock) (conflict : ℕ) (lits : Clause) (hints : List ℕ) →
     IsInConflict base book w clauses stock conflict → 2 ≤ length w.levels → IsLearnt clauses lits hints → IsPoint w.trail.places (last_start w.levels) lits →
-    IsLesson base w lits
-lesson_from base book w clauses stock conflict lits hints c deep l p = record {
+    IsOwn book.problem → NoneRefused book.problem book.history → LemmasAreLean book.problem book.history → IsLesson base w lits
+lesson_from base book w clauses stock conflict lits hints c deep l p own right lean = record {
+  spared = λ v at. plain_spared book w.lists clauses stock (take v.start w.trail.places) lits c.running.stocked (c.running.ground v at)
+      (plain_resolvent book.problem.vars (entries book) lits (map (id_in clauses) (reverse hints))
+      (logged_learnt w.lists clauses stock (entries book) lits hints c.running.stocked l).resolvent (plain_live book.problem book.history own right lean));
   deep = deep;
   begun = c.running.begun;
   point = p;
@@ -350,10 +356,11 @@ pub running_after : (base : ℕ) (old new : WatchState) (before after : List Hel
     (book : Book) (es : List Entry) →
     IsStocked old.lists before stock es → IsReasoned before old.trail.places → AreBegun base old.levels old.trail.places →
     AreLaid stock.shorts.items before old.levels old.trail.places →
+    ((v : Level) → slice_get old.levels 0 ≡ Some v → IsGround es stock.shorts.items before (take v.start old.trail.places)) →
     Contains lits u → entry_of es id ≡ None → entries book ≡ es ++ record { id = id; origin = origin; literals = lits } ∷ [] →
     (h : HasTaken old new before after stock more id origin lits u) →
     IsRunning base book new after more
-running_after base old new before after stock more id origin lits u book es s reasoned begun laid u_in free stands h =
+running_after base old new before after stock more id origin lits u book es s reasoned begun laid ground u_in free stands h =
     let p : Place = record { literal = u; reason = Some h.ref; level = length (take h.level old.levels) } in
     let front : List Place = take h.end.start old.trail.places in
     let places : new.trail.places ≡ front ++ p ∷ [] = ap (λ (t : TrailState). t.places) h.joined.trail ∙ h.places in
@@ -389,6 +396,18 @@ running_after base old new before after stock more id origin lits u book es s re
           (reasoned_take before old.trail.places h.end.start reasoned))
           (λ r is. subst (λ x. (is_some (held_at after x) ≡ true) × Forces (literals_of front) (literals_at after x) u) (same_some h.ref r is)
           (h.live, forces)));
+      ground = λ v e.
+          let was : slice_get old.levels 0 ≡ Some v = (get_take h.level old.levels 0 v (subst (λ ls. slice_get ls 0 ≡ Some v) levels e)).1 in
+          let f = begun.first v was in
+          let on = begun.on h.level h.end h.one h.at in
+          let within = get_within old.trail.places h.end.start on.1.place on.1.there in
+          let count : length front ≡ h.end.start = length-take-le h.end.start old.trail.places (omega (arith, within)) in
+          let below : v.start ≤ h.end.start = let low = f.0 in let high = on.0 in omega (arith, low, high) in
+          let same : take v.start new.trail.places ≡ take v.start old.trail.places =
+          ap (take v.start) places ∙ take-append-le v.start front (p ∷ []) (omega (arith, below, count)) ∙ take-take v.start h.end.start old.trail.places below in
+          subst (λ ps. IsGround (entries book) more.shorts.items after ps) (sym same) (subst (λ xs. IsGround xs more.shorts.items after (take v.start old.trail.places))
+          (sym stands) (ground_added old.lists before after stock more.shorts.items es (record { id = id; origin = origin; literals = lits }) h.ref
+          (take v.start old.trail.places) s h.others h.fresh (λ k q less at. h.joined.front k q at) (ground v was)));
     }
   where
     forces : Forces (literals_of (take h.end.start old.trail.places)) (literals_at after h.ref) u
@@ -463,7 +482,7 @@ teaches old_book new_book old new before after stock more conflict id lits hints
           }));
       running = λ base c.
           running_after base old new before after stock more id FromConflict lits u new_book
-          (entries old_book) c.running.stocked c.running.reasoned c.running.begun c.running.laid
+          (entries old_book) c.running.stocked c.running.reasoned c.running.begun c.running.laid c.running.ground
           (Contains_from_get lits 0 u p.first) free grown h;
     }
 

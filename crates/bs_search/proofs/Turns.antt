@@ -3,7 +3,7 @@ use Rattle.std.proofs.Common.{◌≡◌, ◌≢◌, ℕ, zero, suc, ◌+◌, ◌
 use Rattle.std.proofs.Common.{sym, ap, subst, ◌∙◌, inl, inr, ◌⊎◌, Option, Some, None}
 use Rattle.std.proofs.lemmas.Bool.{false≢true}
 use Rattle.std.specs.Prelude.{All, Contains, slice_get, is_some, option_map}
-use Rattle.std.proofs.lemmas.List.{map-append, length_push}
+use Rattle.std.proofs.lemmas.List.{map-append, length_push, take-append-le}
 use Rattle.bs_clause.specs.Literal.{Literal, Clause}
 use Rattle.bs_clause.specs.Range.{HasVariables}
 use Rattle.bs_log.specs.History.{Entry, phase_of}
@@ -16,7 +16,7 @@ use Rattle.bs_watch.specs.declared.lists.Watcher.{Watcher}
 use Rattle.bs_watch.specs.Trail.{IsQuiet, IsOpenOn, IsConflict}
 use Rattle.bs_watch.specs.Places.{Place, TrailState, AreApart, literals_of}
 use Rattle.bs_watch.specs.Scene.{Advances, Propagated, Grows}
-use Rattle.bs_watch.specs.Watch.{WatchState, Serves, HasGoneBack, scene, decided, assigned}
+use Rattle.bs_watch.specs.Watch.{WatchState, Serves, scene, decided, assigned}
 use Rattle.bs_learn.specs.Reasons.{IsReasoned, IsConflictAt}
 use Rattle.bs_learn.proofs.CallerLemmas.{reasoned_grows, reasoned_free}
 use Rattle.bs_book.specs.Place.{Place as LoggedPlace}
@@ -24,22 +24,23 @@ use Rattle.bs_book.specs.Places.{TrailState as LoggedTrail, IsSound, literals_of
 use Rattle.bs_book.specs.Grown.{Grows as LoggedGrows}
 use Rattle.bs_book.specs.Point.{AreForced}
 use Rattle.bs_book.specs.Book.{Book, standing}
-use Rattle.bs_book.specs.Search.{assumed, assumption_places, HasLearnt}
+use Rattle.bs_book.specs.Search.{assumed, HasLearnt}
 use Rattle.bs_book.specs.Ending.{IsSpent}
-use Rattle.bs_watch.proofs.Advancing.{shuffled_refl}
+use Rattle.bs_watch.proofs.Advancing.{take_front}
 use Rattle.bs_book.proofs.Lists.{none_is_not_some, same_some, get_push_cases, get_map_cases, get_within}
-use Rattle.bs_book.proofs.Endings.{search_begins, search_decides, search_learns, search_is_spent, first_is_sound}
+use Rattle.bs_book.proofs.Endings.{search_decides, search_learns, search_is_spent}
 use Rattle.bs_search.specs.declared.stock.Stock.{Stock}
 use Rattle.bs_search.specs.Stock.{entries, IsStocked}
 use Rattle.bs_search.proofs.Entries.{clauses_in}
 use Rattle.bs_search.specs.Seen.{seen_place, seen, is_quiet}
 use Rattle.bs_search.specs.Begun.{AreBegun, AreLaid}
 use Rattle.bs_search.specs.Running.{seen_trail, IsRunning, Clashes, InTurn}
-use Rattle.bs_search.specs.Laying.{assumed_places, AllLaid, HasBegun}
-use Rattle.bs_search.specs.Teaching.{IsInConflict, Teaches, IsAtRest}
+use Rattle.bs_search.specs.Ground.{IsGround}
+use Rattle.bs_search.specs.Teaching.{IsInConflict, Teaches}
+use Rattle.bs_search.proofs.Grounds.{ground_shuffled}
 use Rattle.bs_search.specs.Searching.{IsFirstConflict, HasDecided}
 use Rattle.bs_search.proofs.Seens.{literals_seen, length_seen, stocked_shuffled, grows_seen, quiet_stock}
-use Rattle.bs_search.proofs.Begins.{begun_first, begun_decided, begun_grows, laid_grows, laid_push, laid_level}
+use Rattle.bs_search.proofs.Begins.{begun_decided, begun_grows, laid_grows, laid_push, laid_level}
 
 -- ---- propagation
 
@@ -55,6 +56,13 @@ running_propagated base level book w new clauses after stock r x levels serves =
       let d = (r.begun.on 1 v (omega arith) e).1 in
       let within = get_within w.trail.places v.start d.place d.there in omega (arith, within)));
   reasoned = reasoned_grows clauses after level w.trail.places new.trail.places x.shuffled x.grows r.reasoned;
+  ground = λ v e.
+      let was : slice_get w.levels 0 ≡ Some v = subst (λ ls. slice_get ls 0 ≡ Some v) levels e in
+      let f = r.begun.first v was in
+      let same : take v.start new.trail.places ≡ take v.start w.trail.places =
+      sym (take_front (length w.trail.places) v.start new.trail.places f.1) ∙ ap (take v.start) x.grows.front in
+      subst (IsGround (entries book) stock.shorts.items after) (sym same)
+      (ground_shuffled (entries book) stock.shorts.items clauses after (take v.start w.trail.places) x.shuffled (r.ground v was));
 }
 
 pub logged_grows : (level : ℕ) (w new : WatchState) (clauses after : List Held) (stock : Stock) (es : List Entry) → IsStocked new.lists after stock es →
@@ -92,6 +100,13 @@ running_decided base book w new clauses stock r low d =
           (laid_level stock.shorts.items clauses w.levels w.trail.places v r.laid refl)
           (λ u e. within w r v refl u e)));
       reasoned = subst (IsReasoned clauses) (sym places) (reasoned_free clauses w.trail.places p refl r.reasoned);
+      ground = λ u e. elim (get_push_cases w.levels v u 0 (subst (λ ls. slice_get ls 0 ≡ Some u) levels e)) [
+        | inl there ↦
+            let f = r.begun.first u there in
+            subst (IsGround (entries book) stock.shorts.items clauses)
+            (sym (ap (take u.start) places ∙ take-append-le u.start w.trail.places (p ∷ []) f.1)) (r.ground u there)
+        | inr last ↦ absurd (let h = last.0 in let some = r.begun.some in omega (arith, h, some))
+      ];
     }
   where
     within : (x : WatchState) → IsRunning base book x clauses stock → (v : Level) → v.start ≡ length x.trail.places → (u : Level) →
@@ -158,7 +173,7 @@ first_conflict_in old vars base conflicts limit book w clauses stock r t few = r
   distinct = t.search.distinct;
   clash = t.clashes;
   some = t.running.begun.some;
-  first = t.running.begun.first;
+  ground = t.running.ground;
 }
   where
     forced : (p : Place) (k : ℕ) → base ≤ k → slice_get w.trail.places k ≡ Some p → (o : Option ℕ) → p.reason ≡ o →
@@ -191,73 +206,4 @@ turn_learns old vars base conflicts limit level r book new_book w mid new clause
           (is_quiet (Conflict r)) (is_quiet o) t.search learnt not_all
           (logged_grows level mid new later after more (entries new_book) running.stocked x) (logged_outcome base new_book new after more o running apart p);
       clashes = clashes_from new after o p;
-    }
-
--- ---- the first level
-
-seen_assumed : (level : ℕ) (a : Clause) → seen (assumed_places level a) ≡ assumption_places a
-seen_assumed level [] = refl
-seen_assumed level (l ∷ a) = ap (λ ps. record { literal = l; forced = false } ∷ ps) (seen_assumed level a)
-
-reasoned_assumed : (clauses : List Held) (level : ℕ) (a : Clause) → IsReasoned clauses (assumed_places level a)
-reasoned_assumed clauses level a = record {
-  reasoned = λ k p r e is.
-      let (l, at, same) = get_map_cases (λ (x : Literal). record { literal = x; reason = None; level = level }) a k p e in
-      absurd (none_is_not_some r (ap (λ (q : Place). q.reason) same ∙ is));
-}
-
-pub begun_grows_logged : (w new : WatchState) (clauses after : List Held) (stock : Stock) (a : Clause) (es : List Entry) (o : Outcome) →
-    IsStocked w.lists clauses stock es → HasBegun w new clauses after stock.shorts.items a o →
-    IsStocked new.lists after stock es × LoggedGrows (clauses_in es) (assumption_places a) (seen new.trail.places)
-begun_grows_logged w new clauses after stock a es o s h =
-    let stocked = stocked_shuffled w.lists new.lists clauses after stock es s h.shuffled h.attached in (
-      stocked,
-      subst (λ ps. LoggedGrows (clauses_in es) ps (seen new.trail.places)) (seen_assumed 1 a)
-          (grows_seen new.lists after stock es 1 (assumed_places 1 a) new.trail.places stocked h.grows),
-    )
-
-pub first_turn : (book : Book) (vars limit : ℕ) (a : Clause) (w new : WatchState) (clauses after : List Held) (stock : Stock) →
-    IsAtRest book w clauses stock →
-    w.trail.vars ≡ vars → has_distinct_variables a ≡ true → HasVariables vars a → assumed book ≡ a → 1 ≤ limit → All (HasVariables vars) (standing book) →
-    All (λ c. has_distinct_variables c ≡ true) (standing book) → in_solve (phase_of book.history) ≡ true → AreApart new.trail.places →
-    HasBegun w new clauses after stock.shorts.items a Quiet → InTurn book vars (length (seen new.trail.places)) 0 limit book new after stock Quiet
-first_turn book vars limit a w new clauses after stock rest vars_is distinct range_a is one range distinct_b phase apart h =
-    let (stocked, grows) = begun_grows_logged w new clauses after stock a (entries book) Quiet rest.stocked h in
-    let running : IsRunning (length (seen new.trail.places)) book new after stock = record {
-      stocked = stocked;
-      serves = h.serves;
-      begun = subst (λ n. AreBegun n new.levels new.trail.places) (sym (length_seen new.trail.places))
-          (subst (λ ls. AreBegun (length new.trail.places) ls new.trail.places) (sym h.levels)
-          (begun_first (record { start = 0; looked = w.head }) new.trail.places refl));
-      laid = record {
-        now = h.ends.1.each;
-        below = λ r v there e. absurd (let inside = get_within new.levels 1 v e in let n = ap length h.levels in omega (arith, inside, n));
-      };
-      reasoned = reasoned_grows after after 1 (assumed_places 1 a) new.trail.places (shuffled_refl after) h.grows (reasoned_assumed after 1 a);
-    } in
-    record {
-      vars_is = h.vars ∙ vars_is;
-      running = running;
-      search = search_begins book vars limit a (seen new.trail.places) distinct range_a is one range distinct_b phase grows
-          (logged_outcome (length (seen new.trail.places)) book new after stock Quiet running apart h.ends.0 refl);
-      clashes = tt;
-    }
-
-pub first_conflict : (book : Book) (a : Clause) (w new : WatchState) (clauses after : List Held) (stock : Stock) (r : ℕ) → IsAtRest book w clauses stock →
-    has_distinct_variables a ≡ true → assumed book ≡ a → All (HasVariables w.trail.vars) (standing book) →
-    All (λ c. has_distinct_variables c ≡ true) (standing book) → HasBegun w new clauses after stock.shorts.items a (Conflict r) →
-    IsFirstConflict (length (seen new.trail.places)) book new after stock r
-first_conflict book a w new clauses after stock r rest distinct is range distinct_b h =
-    let (stocked, grows) = begun_grows_logged w new clauses after stock a (entries book) (Conflict r) rest.stocked h in
-    record {
-      stocked = stocked;
-      serves = h.serves;
-      reasoned = reasoned_grows after after 1 (assumed_places 1 a) new.trail.places (shuffled_refl after) h.grows (reasoned_assumed after 1 a);
-      sound = first_is_sound book a (seen new.trail.places) distinct is grows;
-      forced = λ k p above e. absurd (let within = get_within (seen new.trail.places) k p e in omega (arith, above, within));
-      range = subst (λ n. All (HasVariables n) (standing book)) (sym h.vars) range;
-      distinct = distinct_b;
-      clash = h.ends;
-      some = let n = ap length h.levels in omega (arith, n);
-      first = λ v e. ap (λ (x : Level). x.start) (sym (same_some (record { start = 0; looked = w.head }) v (subst (λ ls. slice_get ls 0 ≡ Some v) h.levels e)));
     }

@@ -6,11 +6,11 @@ use Rattle.bs_watch.specs.Places.{Place, literals_of}
 use Rattle.bs_watch.specs.Look.{HasTrue}
 use Rattle.bs_learn.specs.Point.{IsDecisionAt}
 
--- The first level is that of the assumptions, and each further one begins with a decision. No other place from `base` on is
+-- The first level is that of the assumptions, behind what stands for good, and each further one begins with a decision. No other place from `base` on is
 -- without a reason.
 pub record AreBegun (base : ℕ) (levels : List Level) (places : List Place) : Type 0 where
   pub some : 1 ≤ length levels
-  pub first : (v : Level) → slice_get levels 0 ≡ Some v → v.start ≡ 0
+  pub first : (v : Level) → slice_get levels 0 ≡ Some v → (v.start ≤ base) × (v.start ≤ length places)
   pub on : (j : ℕ) (v : Level) → 1 ≤ j → slice_get levels j ≡ Some v → (base ≤ v.start) × IsDecisionAt places v.start
   pub only : (k : ℕ) (p : Place) → base ≤ k → slice_get places k ≡ Some p → p.reason ≡ None →
       (j : ℕ) × (v : Level) × (1 ≤ j) × (slice_get levels j ≡ Some v) × (v.start ≡ k)

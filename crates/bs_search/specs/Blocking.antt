@@ -87,11 +87,12 @@ pub record HasOpened (old new : WatchState) (clauses : List Held) (shorts more :
   pub lists : middle.lists ≡ old.lists
   pub joined : HasJoined middle new shorts more clauses r
 
--- nothing is assigned
+-- nothing is assigned but what stands for good
 pub record HasEmptied (old new : WatchState) (clauses : List Held) (shorts more : List ℕ) (r : ℕ) : Type 0 where
   pub middle : WatchState
   pub levels : middle.levels ≡ []
-  pub places : middle.trail.places ≡ []
+  pub first : (v : Level) → slice_get old.levels 0 ≡ Some v → middle.trail.places ≡ take v.start old.trail.places
+  pub none : old.levels ≡ [] → middle.trail.places ≡ old.trail.places
   pub vars : middle.trail.vars ≡ old.trail.vars
   pub lists : middle.lists ≡ old.lists
   pub joined : HasJoined middle new shorts more clauses r

@@ -1,30 +1,38 @@
 -- The first level of a search: the assumptions, the literals of short clauses, and what follows.
-use Rattle.std.specs.Prelude.{◌≡◌, ℕ, ◌<◌, Bool, true, false, List, [], ◌∷◌, map, length, Some, None, is_some, All, Contains}
+use Rattle.std.specs.Prelude.{◌≡◌, ℕ, ◌<◌, Bool, true, false, List, ◌++◌, length, Option, Some, None, is_some, All, Contains}
 use Rattle.bs_clause.specs.Literal.{Literal, Clause}
 use Rattle.bs_clause.specs.Range.{HasVariables}
 use Rattle.bs_arena.specs.Arena.{Held, held_at, literals_at}
 use Rattle.bs_watch.specs.declared.visit.Outcome.{Outcome}
 use Rattle.bs_watch.specs.declared.visit.Outcome.TheVariants.{Quiet, Conflict}
-use Rattle.bs_watch.specs.declared.watch.Level.{Level}
-use Rattle.bs_watch.specs.Trail.{IsConflict}
-use Rattle.bs_watch.specs.Places.{Place, literals_of}
-use Rattle.bs_watch.specs.Lists.{IsAttached}
+use Rattle.bs_watch.specs.Trail.{IsTrueOn, IsFalseOn, IsConflict}
+use Rattle.bs_watch.specs.Places.{Place, AreApart, literals_of}
 use Rattle.bs_watch.specs.Look.{HasTrue}
-use Rattle.bs_watch.specs.Scene.{AreShuffled, AreSettled, Grows}
-use Rattle.bs_watch.specs.Watch.{WatchState, Serves, KeepsService, scene}
+use Rattle.bs_watch.specs.Scene.{Grows}
+use Rattle.bs_watch.specs.Watch.{WatchState, KeepsService}
 use Rattle.bs_learn.specs.Reasons.{IsConflictAt}
+use Rattle.bs_search.specs.declared.laying.Start.{Start}
+use Rattle.bs_search.specs.declared.laying.Start.TheVariants.{Denied, Clash, Laid}
 
--- the assumptions on a level
-abbrev pub assumed_places : ℕ → Clause → List Place
-assumed_places level assumptions = map (λ l. record { literal = l; reason = None; level = level }) assumptions
+-- some of the assumptions took places
+pub record HasAssumed (old new : WatchState) (assumptions : Clause) : Type 0 where
+  pub more : List Place
+  pub places : new.trail.places ≡ old.trail.places ++ more
+  pub vars : new.trail.vars ≡ old.trail.vars
+  pub levels : new.levels ≡ old.levels
+  pub lists : new.lists ≡ old.lists
+  pub free : All (λ p. (p.reason ≡ None) × Contains assumptions p.literal) more
+  pub serves : KeepsService old new
 
-abbrev pub assumed_watch : WatchState → Clause → WatchState
-assumed_watch w assumptions = record {
-  trail = record { vars = w.trail.vars; places = assumed_places (length w.levels) assumptions };
-  levels = w.levels;
-  head = w.head;
-  lists = w.lists;
-}
+-- the assumption is false, or true
+abbrev pub IsAssumed : WatchState → Literal → Bool → Type 0
+IsAssumed w l true = IsFalseOn (literals_of w.trail.places) l
+IsAssumed w l false = IsTrueOn (literals_of w.trail.places) l
+
+-- one of the assumptions is false, or all are true
+abbrev pub AreAssumed : WatchState → Clause → Option Literal → Type 0
+AreAssumed w assumptions (Some l) = Contains assumptions l × IsFalseOn (literals_of w.trail.places) l
+AreAssumed w assumptions None = All (IsTrueOn (literals_of w.trail.places)) assumptions
 
 -- further literals were assigned, each forced by a live clause, and nothing else has changed
 pub record HasGrown (clauses : List Held) (old new : WatchState) : Type 0 where
@@ -54,17 +62,16 @@ abbrev pub Lays : List Held → WatchState → List ℕ → Outcome → Type 0
 Lays clauses w shorts Quiet = AllLaid clauses w shorts
 Lays clauses w shorts (Conflict r) = IsConflictAt clauses (literals_of w.trail.places) r
 
--- no clause is false or unit, or this one is false
-abbrev pub Begins : List Held → WatchState → List ℕ → Outcome → Type 0
-Begins clauses w shorts Quiet = AreSettled (scene w clauses) × AllLaid clauses w shorts
-Begins clauses w shorts (Conflict r) = IsConflictAt clauses (literals_of w.trail.places) r
+-- an assumption is false, or a short clause, or all of both are true
+abbrev pub Starts : List Held → WatchState → WatchState → List ℕ → Clause → Start → Type 0
+Starts clauses mid new shorts assumptions (Denied l) = Contains assumptions l × IsFalseOn (literals_of mid.trail.places) l
+Starts clauses mid new shorts assumptions (Clash r) = All (IsTrueOn (literals_of mid.trail.places)) assumptions × IsConflictAt clauses (literals_of new.trail.places) r
+Starts clauses mid new shorts assumptions Laid = All (IsTrueOn (literals_of mid.trail.places)) assumptions × AllLaid clauses new shorts
 
--- the first level has begun, and all that follows from the assumptions has been assigned
-pub record HasBegun (old new : WatchState) (before after : List Held) (shorts : List ℕ) (assumptions : Clause) (outcome : Outcome) : Type 0 where
-  pub vars : new.trail.vars ≡ old.trail.vars
-  pub levels : new.levels ≡ record { start = 0; looked = old.head } ∷ []
-  pub shuffled : AreShuffled before after
-  pub attached : (r : ℕ) → IsAttached old.lists r → IsAttached new.lists r
-  pub serves : Serves new after
-  pub grows : Grows after 1 (assumed_places 1 assumptions) new.trail.places
-  pub ends : Begins after new shorts outcome
+-- the assumptions came, and then the literals of the short clauses
+pub record HasLaid (old new : WatchState) (clauses : List Held) (shorts : List ℕ) (assumptions : Clause) (start : Start) : Type 0 where
+  pub middle : WatchState
+  pub assumes : HasAssumed old middle assumptions
+  pub apart : AreApart middle.trail.places
+  pub grown : HasGrown clauses middle new
+  pub starts : Starts clauses middle new shorts assumptions start

@@ -16,6 +16,7 @@ use Rattle.bs_log.specs.declared.origin.Origin.TheVariants.{Learnt}
 use Rattle.bs_search.specs.declared.stock.Stock.{Stock}
 use Rattle.bs_search.specs.Stock.{is_live, id_in, HasJoined, rows_for}
 use Rattle.bs_search.specs.Begun.{AreBegun}
+use Rattle.bs_search.specs.Ground.{IsSpared}
 
 -- the level on which the second literal became false, the first two being those that became so last, or the first level for a
 -- clause of one literal
@@ -29,6 +30,7 @@ pub record IsLesson (base : ℕ) (w : WatchState) (lits : Clause) : Type 0 where
   pub deep : 2 ≤ length w.levels
   pub begun : AreBegun base w.levels w.trail.places
   pub point : IsPoint w.trail.places (last_start w.levels) lits
+  pub spared : (v : Level) → slice_get w.levels 0 ≡ Some v → IsSpared (take v.start w.trail.places) lits
   pub range : HasVariables w.trail.vars lits
   pub distinct : has_distinct_variables lits ≡ true
 

@@ -1,4 +1,5 @@
 pub mod Stock
+pub mod Ground
 pub mod Seen
 pub mod Begun
 pub mod Running
@@ -8,3 +9,4 @@ pub mod Teaching
 pub mod Pausing
 pub mod Blocking
 pub mod Searching
+pub mod Retiring

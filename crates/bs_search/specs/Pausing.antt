@@ -1,5 +1,6 @@
 -- A search that waits between two solves of a step, its literals assigned.
 use Rattle.std.specs.Prelude.{◌≡◌, ◌⊎◌, ℕ, ◌≤◌, List, [], take, length, All, slice_get, Some}
+use Rattle.bs_clause.specs.Literal.{Clause}
 use Rattle.bs_arena.specs.Arena.{Held}
 use Rattle.bs_watch.specs.declared.watch.Level.{Level}
 use Rattle.bs_watch.specs.Trail.{IsTrueOn}
@@ -11,6 +12,7 @@ use Rattle.bs_book.specs.declared.answer.Answer.{Answer}
 use Rattle.bs_book.specs.declared.answer.Answer.TheVariants.{Found, Refuted, Spent}
 use Rattle.bs_search.specs.declared.stock.Stock.{Stock}
 use Rattle.bs_search.specs.Seen.{seen}
+use Rattle.bs_search.specs.Ground.{IsOff}
 use Rattle.bs_search.specs.Running.{IsRunning}
 use Rattle.bs_search.specs.Teaching.{IsAtRest}
 
@@ -35,10 +37,10 @@ IsLeft (Found values) book w clauses stock = IsKept book w clauses stock
 IsLeft (Refuted id) book w clauses stock = IsAtRest book w clauses stock
 IsLeft Spent book w clauses stock = IsAtRest book w clauses stock
 
--- its first level begins with its first place
-pub record IsGrounded (w : WatchState) : Type 0 where
-  pub none : w.levels ≡ [] → w.trail.places ≡ []
-  pub first : (v : Level) → slice_get w.levels 0 ≡ Some v → v.start ≡ 0
+-- no variable of the clause stands for good
+pub record IsGrounded (w : WatchState) (c : Clause) : Type 0 where
+  pub none : w.levels ≡ [] → IsOff w.trail.places c
+  pub first : (v : Level) → slice_get w.levels 0 ≡ Some v → IsOff (take v.start w.trail.places) c
 
 -- what was kept is at rest, and the variables are the same
 pub record GoesToRest (old new : WatchState) : Type 0 where

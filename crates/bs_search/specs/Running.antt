@@ -1,8 +1,9 @@
 -- A search between two turns, over its watch and its arena.
-use Rattle.std.specs.Prelude.{◌≡◌, ℕ, List}
+use Rattle.std.specs.Prelude.{◌≡◌, ℕ, List, Some, take, slice_get}
 use Rattle.bs_arena.specs.Arena.{Held, literals_at}
 use Rattle.bs_watch.specs.declared.visit.Outcome.{Outcome}
 use Rattle.bs_watch.specs.declared.visit.Outcome.TheVariants.{Quiet, Conflict}
+use Rattle.bs_watch.specs.declared.watch.Level.{Level}
 use Rattle.bs_watch.specs.Places.{literals_of}
 use Rattle.bs_watch.specs.Watch.{WatchState, Serves}
 use Rattle.bs_learn.specs.Reasons.{IsReasoned, IsConflictAt}
@@ -10,6 +11,7 @@ use Rattle.bs_book.specs.Places.{TrailState}
 use Rattle.bs_book.specs.Book.{Book}
 use Rattle.bs_book.specs.Turn.{InSearch}
 use Rattle.bs_search.specs.Stock.{IsStocked, entries}
+use Rattle.bs_search.specs.Ground.{IsGround}
 use Rattle.bs_search.specs.declared.stock.Stock.{Stock}
 use Rattle.bs_search.specs.Seen.{seen, is_quiet}
 use Rattle.bs_search.specs.Begun.{AreBegun, AreLaid}
@@ -25,6 +27,7 @@ pub record IsRunning (base : ℕ) (book : Book) (w : WatchState) (clauses : List
   pub begun : AreBegun base w.levels w.trail.places
   pub laid : AreLaid stock.shorts.items clauses w.levels w.trail.places
   pub reasoned : IsReasoned clauses w.trail.places
+  pub ground : (v : Level) → slice_get w.levels 0 ≡ Some v → IsGround (entries book) stock.shorts.items clauses (take v.start w.trail.places)
 
 -- a conflict is that of a live clause
 abbrev pub Clashes : List Held → WatchState → Outcome → Type 0

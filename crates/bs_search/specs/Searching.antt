@@ -1,12 +1,12 @@
 -- A search from its first level to its end.
-use Rattle.std.specs.Prelude.{◌≡◌, ℕ, ◌≤◌, Bool, true, false, List, length, Some, None, All, slice_get}
-use Rattle.bs_clause.specs.Literal.{Literal}
+use Rattle.std.specs.Prelude.{◌≡◌, ℕ, ◌≤◌, Bool, true, false, List, [], ◌∷◌, length, Some, None, All, slice_get, take, Contains}
+use Rattle.bs_clause.specs.Literal.{Literal, negation}
 use Rattle.bs_clause.specs.Range.{HasVariables}
 use Rattle.bs_log.specs.Refusal.{has_distinct_variables}
 use Rattle.bs_arena.specs.Arena.{Held}
 use Rattle.bs_watch.specs.declared.visit.Outcome.{Outcome}
 use Rattle.bs_watch.specs.declared.watch.Level.{Level}
-use Rattle.bs_watch.specs.Places.{IsUnassigned, AreApart, literals_of}
+use Rattle.bs_watch.specs.Places.{Place, IsUnassigned, AreApart, literals_of}
 use Rattle.bs_watch.specs.Scene.{Advances, Propagated}
 use Rattle.bs_watch.specs.Watch.{WatchState, Serves, KeepsService, decided, assigned, scene}
 use Rattle.bs_learn.specs.Reasons.{IsReasoned, IsConflictAt}
@@ -18,6 +18,7 @@ use Rattle.bs_book.specs.Search.{assumed, HasRefuted}
 use Rattle.bs_book.specs.Ending.{Ends}
 use Rattle.bs_book.specs.Values.{AreAssigned}
 use Rattle.bs_search.specs.Stock.{IsStocked, entries}
+use Rattle.bs_search.specs.Ground.{IsGround}
 use Rattle.bs_search.specs.declared.stock.Stock.{Stock}
 use Rattle.bs_search.specs.Seen.{seen}
 use Rattle.bs_search.specs.Running.{InTurn}
@@ -35,7 +36,21 @@ pub record IsFirstConflict (base : ℕ) (book : Book) (w : WatchState) (clauses 
   pub distinct : All (λ c. has_distinct_variables c ≡ true) (standing book)
   pub clash : IsConflictAt clauses (literals_of w.trail.places) conflict
   pub some : 1 ≤ length w.levels
-  pub first : (v : Level) → slice_get w.levels 0 ≡ Some v → v.start ≡ 0
+  pub ground : (v : Level) → slice_get w.levels 0 ≡ Some v → IsGround (entries book) stock.shorts.items clauses (take v.start w.trail.places)
+
+-- an assumption whose negation stands for good
+pub record IsDenial (book : Book) (w : WatchState) (clauses : List Held) (stock : Stock) (denied : Literal) : Type 0 where
+  pub stocked : IsStocked w.lists clauses stock (entries book)
+  pub serves : Serves w clauses
+  pub level : Level
+  pub levels : w.levels ≡ level ∷ []
+  pub ground : IsGround (entries book) stock.shorts.items clauses (take level.start w.trail.places)
+  pub at : ℕ
+  pub place : Place
+  pub there : slice_get (take level.start w.trail.places) at ≡ Some place
+  pub is : place.literal ≡ negation denied
+  pub assumes : Contains (assumed book) denied
+  pub range : All (HasVariables w.trail.vars) (standing book)
 
 -- whatever the length of the first level
 abbrev pub IsSomeFirstConflict : Book → WatchState → List Held → Stock → ℕ → Type 0

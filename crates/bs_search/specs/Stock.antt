@@ -1,6 +1,6 @@
 -- How the clauses of a log stand in an arena and in watch lists.
 use Rattle.std.specs.Prelude.{◌≡◌, ◌⊎◌, ℕ, ◌<◌, ◌≤◌, Bool, true, false, List, [], ◌∷◌, ◌++◌, length, Some, None, is_some, option_map, unwrap_or}
-use Rattle.std.specs.Prelude.{All, Contains, IsPermutation}
+use Rattle.std.specs.Prelude.{All, Contains, IsPermutation, slice_get}
 use Rattle.bs_clause.specs.Literal.{Clause}
 use Rattle.bs_log.specs.declared.origin.Origin.{Origin}
 use Rattle.bs_log.specs.declared.origin.Origin.TheVariants.{Axiom, Learnt, Blocked, Retired}
@@ -57,10 +57,6 @@ rows_for id r Learnt = record { id = id; clause = r; is_lemma = true } ∷ []
 rows_for id r Blocked = record { id = id; clause = r; is_lemma = false } ∷ []
 rows_for id r Retired = []
 
--- one more clause has come, wherever the old ones stood
-pub record HasStocked (old_lists new_lists : List (List Watcher)) (old new : List Held) (old_stock new_stock : Stock) (e : Entry) : Type 0 where
-  pub more : (es : List Entry) → entry_of es e.id ≡ None → IsStocked old_lists old old_stock es → IsStocked new_lists new new_stock (es ++ e ∷ [])
-
 -- the clause is attached, or listed where it has fewer than two literals, and the trail is as it was
 pub record HasJoined (old new : WatchState) (old_shorts new_shorts : List ℕ) (clauses : List Held) (r : ℕ) : Type 0 where
   pub serves : Serves new clauses
@@ -71,4 +67,5 @@ pub record HasJoined (old new : WatchState) (old_shorts new_shorts : List ℕ) (
   pub long : 2 ≤ length (literals_at clauses r) → IsAttached new.lists r
   pub shorts : (q : ℕ) → Contains old_shorts q → Contains new_shorts q
   pub short : length (literals_at clauses r) < 2 → Contains new_shorts r
+  pub front : (k q : ℕ) → slice_get old_shorts k ≡ Some q → slice_get new_shorts k ≡ Some q
   pub listed : (q : ℕ) → Contains new_shorts q → Contains old_shorts q ⊎ ((q ≡ r) × (length (literals_at clauses r) < 2))

@@ -11,6 +11,7 @@ use Rattle.bs_book.specs.Places.{IsSound, literals_of as logged_literals}
 use Rattle.bs_book.specs.Book.{Book, standing}
 use Rattle.bs_book.specs.Search.{assumed, HasLearnt}
 use Rattle.bs_search.specs.Stock.{IsStocked, entries}
+use Rattle.bs_search.specs.Ground.{IsGround}
 use Rattle.bs_search.specs.declared.stock.Stock.{Stock}
 use Rattle.bs_search.specs.Seen.{seen}
 use Rattle.bs_search.specs.Running.{seen_trail, IsRunning}
@@ -35,9 +36,9 @@ pub record Teaches (old new : Book) (before after : WatchState) (clauses later :
       HasLearnt base old new (seen_trail before) (seen_trail after)
   pub running : (base : ℕ) → IsInConflict base old before clauses stock conflict → IsRunning base new after later more
 
--- nothing is assigned, and the clauses that stand are in the arena and are watched
+-- nothing is assigned but what stands for good, and the clauses that stand are in the arena and are watched
 pub record IsAtRest (book : Book) (w : WatchState) (clauses : List Held) (stock : Stock) : Type 0 where
   pub stocked : IsStocked w.lists clauses stock (entries book)
   pub serves : Serves w clauses
-  pub places : w.trail.places ≡ []
+  pub ground : IsGround (entries book) stock.shorts.items clauses w.trail.places
   pub levels : w.levels ≡ []

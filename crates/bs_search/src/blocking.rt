@@ -18,7 +18,7 @@ use bs_clause::{Lit, NoMemory};
 use bs_log::Origin;
 use bs_watch::Watch;
 
-/// Where the trail goes back for a clause: to nothing, to the end of a level at which the clause has one open literal and
+/// Where the trail goes back for a clause: to what stands for good, to the end of a level at which the clause has one open literal and
 /// else false ones, or of one at which it has two open literals.
 pub enum Spot {
     Bottom,
@@ -43,7 +43,7 @@ fn spot_between(high: u32, low: u32) -> Spot
 }
 
 // Moves the two literals to the front of a clause that became false last, and finds where the trail goes back for it. A
-// clause that is not false, or has fewer than two literals, asks for an empty trail.
+// clause that is not false, or has fewer than two literals, asks for the trail that stands for good.
 fn spot_of(watch: &Watch, arena: &mut Arena, r: Ref) -> Spot
     requires live { IsSome (held_at arena.old.clauses r) }
     requires watchable { 2 ≤ length (literals_at arena.old.clauses r) → IsWatchable watch.now.trail.vars (literals_at arena.old.clauses r) }
@@ -110,7 +110,7 @@ fn open_at(
     Ok(())
 }
 
-// Goes back to nothing, and the clause joins.
+// Goes back to what stands for good, and the clause joins.
 fn join_at_bottom(
     watch: &mut Watch,
     arena: &Arena,
@@ -121,7 +121,7 @@ fn join_at_bottom(
     requires live { IsSome (held_at arena.now.clauses r) }
     requires watchable { 2 ≤ length (literals_at arena.now.clauses r) → IsWatchable watch.old.trail.vars (literals_at arena.now.clauses r) }
     requires fresh { ¬ IsAttached watch.old.lists r }
-    requires ground { IsGrounded watch.old }
+    requires ground { IsGrounded watch.old (literals_at arena.now.clauses r) }
     ensures { OnOk result (HasEmptied watch.old watch.new arena.now.clauses shorts.old.items shorts.new.items r) }
 {
     watch.cancel_to(0);
@@ -141,7 +141,7 @@ fn join_back(
     requires live { IsSome (held_at arena.now.clauses r) }
     requires watchable { 2 ≤ length (literals_at arena.now.clauses r) → IsWatchable watch.old.trail.vars (literals_at arena.now.clauses r) }
     requires fresh { ¬ IsAttached watch.old.lists r }
-    requires ground { IsGrounded watch.old }
+    requires ground { IsGrounded watch.old (literals_at arena.now.clauses r) }
     requires spot { IsSpot watch.old.trail.places (literals_at arena.now.clauses r) spot }
     ensures { OnOk result (HasGoneFor spot watch.old watch.new arena.now.clauses shorts.old.items shorts.new.items r) }
 {
@@ -171,6 +171,7 @@ pub fn add_between(
     lits: &[Lit],
 ) -> Result<(), NoMemory>
     requires kept { IsSomeKept watch.old arena.old.clauses stock.old }
+    requires ground { IsGrounded watch.old lits.now }
     requires range { HasVariables watch.old.trail.vars lits.now }
     requires distinct { has_distinct_variables lits.now ≡ true }
     ensures { OnOk result (HasHeld watch.old watch.new arena.old.clauses arena.new.clauses stock.old stock.new id lits.now) }

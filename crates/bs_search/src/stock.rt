@@ -6,7 +6,8 @@ ghost use Rattle.bs_arena.specs.Arena.{held_at, literals_at, live_words};
 ghost use Rattle.bs_watch.specs.Scene.{IsWatchable};
 ghost use Rattle.bs_watch.specs.Lists.{IsAttached};
 ghost use Rattle.bs_watch.specs.Watch.{Serves, MayAttach};
-ghost use Rattle.bs_search.specs.Stock.{HasStocked, HasJoined, rows_for};
+ghost use Rattle.bs_search.specs.Stock.{HasJoined, rows_for};
+ghost use Rattle.bs_search.specs.Ground.{HasStocked, IsOff};
 
 use crate::reading::clause_len;
 use bs_arena::{Arena, Ref};
@@ -65,7 +66,7 @@ pub fn note(rows: &mut Vec<Row>, id: u64, r: Ref, origin: Origin) -> Result<(), 
     }
 }
 
-/// Adds a clause while nothing is assigned.
+/// Adds a clause of fewer than two literals, or of variables that have no value.
 pub fn add_clause(
     watch: &mut Watch,
     arena: &mut Arena,
@@ -75,7 +76,7 @@ pub fn add_clause(
     origin: Origin,
 ) -> Result<(), NoMemory>
     requires serves { Serves watch.old arena.old.clauses }
-    requires empty { length watch.old.trail.places ≡ 0 }
+    requires off { 2 ≤ length lits.now → IsOff watch.old.trail.places lits.now }
     requires range { HasVariables watch.old.trail.vars lits.now }
     requires distinct { has_distinct_variables lits.now ≡ true }
     ensures serves { OnOk result (Serves watch.new arena.new.clauses) }

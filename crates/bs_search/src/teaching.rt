@@ -5,6 +5,7 @@ ghost use Rattle.bs_log.specs.Refusal.{in_solve};
 ghost use Rattle.bs_arena.specs.Arena.{held_at};
 ghost use Rattle.bs_learn.specs.Marks.{IsClear};
 ghost use Rattle.bs_search.specs.Stock.{id_in};
+ghost use Rattle.bs_search.specs.Ground.{IsOwn};
 ghost use Rattle.bs_search.specs.Teaching.{IsSomeConflict, Teaches};
 
 use crate::lesson::take_lesson;
@@ -54,6 +55,7 @@ pub fn learn(
 ) -> Result<(), NoMemory>
     requires some { IsSomeConflict book.old watch.old arena.old.clauses stock.old conflict }
     requires deep { 2 ≤ length watch.old.levels }
+    requires own { IsOwn book.old.problem }
     requires bound { watch.old.trail.vars < 2 ^ 30 }
     requires phase { in_solve (phase_of book.old.history) ≡ true }
     requires clear { IsClear (watch.old.trail.vars + 1) marks.old }
@@ -63,6 +65,7 @@ pub fn learn(
 {
     watch.holds_levels();
     arena.holds_clauses();
+    let _ = book.log();
     let learnt = first_point(alloc, watch, arena, marks, conflict)?;
     let hints = ids_of(alloc, arena, learnt.hints.as_slice())?;
     let id = book.next_id()?;

@@ -9,6 +9,7 @@ mod dumping;
 mod generated;
 mod law;
 mod program;
+mod room;
 mod summary;
 mod summing;
 mod top;

@@ -1,6 +1,10 @@
+use Rattle.std.proofs.Common.{◌≡◌, ◌∙◌, length, ap, sym, subst}
+use Rattle.std.proofs.lemmas.List.{length-map}
+use Rattle.bs_watch.specs.Places.{Place}
 use Rattle.bs_watch.proofs.CallerLemmas.{attached_is_live}
+use Rattle.bs_keep.specs.Notes.{AreOut}
 use Rattle.bs_keep.proofs.Removals.{live_placed}
-use Rattle.bs_engine.proofs.Droppings.{has_dropped}
+use Rattle.bs_engine.proofs.Droppings.{staying_out, has_dropped}
 use Rattle.bs_engine.proofs.dropping.drop_leaving.Goals as goal
 
 pub take_out-requires-clause-placed : goal.take_out-requires-clause-placed
@@ -19,4 +23,11 @@ returns c =
       killed = c.take_out.ensures.killed;
       rows = c.take_out.ensures.rows;
       shorts = c.take_out.ensures.shorts;
-    }) c.take_out.ensures.swept
+    }) c.requires.staying c.take_out.ensures.swept
+
+pub take_out-requires-clause-out : goal.take_out-requires-clause-out
+take_out-requires-clause-out c =
+    let count = ap length c.trail-stand.ensures ∙ length-map c.args.watch.now.trail.places (λ (p : Place). p.literal) in
+    subst (λ n. AreOut c.args.stock.now.shorts.items n c.args.leaving.now.clauses.items) (sym count)
+    (staying_out c.args.arena.now.clauses c.args.stock.now c.args.watch.now.trail.places c.args.leaving.now.start c.args.leaving.now.ids
+    c.args.leaving.now.clauses.items c.args.leaving.now.watched.items c.requires.held c.requires.gone c.requires.staying)

@@ -2,8 +2,9 @@ use Rattle.std.proofs.Common.{◌≡◌, ◌+◌, Some, length, refl, sym, ap, s
 use Rattle.std.specs.Prelude.{slice_get}
 use Rattle.std.proofs.lemmas.Option.{slice_get_read}
 use Rattle.bs_log.specs.declared.origin.Origin.TheVariants.{Axiom}
-use Rattle.bs_search.specs.Stock.{HasStocked}
-use Rattle.bs_engine.proofs.Startings.{axiom_added, words_of_first}
+use Rattle.bs_search.specs.Ground.{HasStocked}
+use Rattle.bs_watch.specs.Places.{TrailState}
+use Rattle.bs_engine.proofs.Startings.{axiom_added, words_of_first, off_empty}
 use Rattle.bs_engine.proofs.starting.add_all.Goals as goal
 
 pub clauses-preserved : goal.clauses-preserved
@@ -23,3 +24,7 @@ clauses-preserved c =
       words = words_of_first c.clauses.arena.words c.add_clause.new.arena.words c.clauses.arena.clauses c.add_clause.new.arena.clauses
           c.in_ok-add_clause.ensures.words c.clauses.invariant.words;
     }
+
+pub add_clause-requires-clause-off : goal.add_clause-requires-clause-off
+add_clause-requires-clause-off c = λ two.
+    off_empty c.clauses.watch.trail.places c.slice.result.now (ap (λ (t : TrailState). t.places) c.clauses.invariant.trail ∙ c.requires.empty)

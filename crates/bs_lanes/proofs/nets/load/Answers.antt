@@ -1,23 +1,22 @@
-use Rattle.bs_net.specs.declared.net.Flop.{Flop}
 use Rattle.bs_lanes.specs.Settling.{net_bit}
 use Rattle.bs_lanes.proofs.SettlingLemmas.{one_load, all_taken}
 use Rattle.std.proofs.Common.{◌∙◌}
 use Rattle.std.proofs.lemmas.Simd.{length-put_chunk}
 use Rattle.bs_lanes.proofs.nets.load.Goals as goal
 
-pub flops-preserved : goal.flops-preserved
-flops-preserved g c =
+pub loads-preserved : goal.loads-preserved
+loads-preserved g c =
     rw c.put_plane.ensures
     (record {
-      size = length-put_chunk _ c.flops.planes _ ∙ c.flops.invariant.size;
-      so_far = one_load g.row.N c.args.nets.now c.flops.planes _ c.args.flops.now c.flops.i _ c.flops-test.true
-          (c.flops.invariant.size ∙ c.requires.same) c.flops.invariant.so_far c.net_plane-plane.ensures;
+      size = length-put_chunk _ c.loads.planes _ ∙ c.loads.invariant.size;
+      so_far = one_load g.row.N c.args.nets.now c.loads.planes _ c.args.loads.now c.loads.i _ c.loads-test.true
+          (c.loads.invariant.size ∙ c.requires.same) c.loads.invariant.so_far c.net_plane-plane.ensures;
     })
 
 pub returns : goal.returns
 returns g c =
     record {
-      size = c.flops.invariant.size;
-      each = λ r lt. all_taken g.row.N c.flops.planes c.args.flops.now c.flops.i (λ (f : Flop). net_bit g.row.N c.args.nets.now r f.d) r c.flops-test.false
-          (c.flops.invariant.so_far r lt);
+      size = c.loads.invariant.size;
+      each = λ r lt. all_taken g.row.N c.loads.planes c.args.loads.now c.loads.i (net_bit g.row.N c.args.nets.now r) r c.loads-test.false
+          (c.loads.invariant.so_far r lt);
     }

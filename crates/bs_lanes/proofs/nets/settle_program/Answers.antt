@@ -9,17 +9,14 @@ use Rattle.bs_lanes.proofs.nets.settle_program.Goals as goal
 
 pub stretches-preserved : goal.stretches-preserved
 stretches-preserved g c =
-    let P : Stretch → Type 0 = λ s. RunsAll g.row.N (λ r. map gate_write (stretch_gates c.args.gates.now s)) c.stretches.nets c.settle_stretch.new.nets in
-    one_stretch g.row.N c.args.gates.now c.args.program.now c.stretches.i c.index-program-i.result c.args.nets.now c.stretches.nets c.settle_stretch.new.nets _
+    let P : Stretch → Type 0 = λ s. RunsAll g.row.N (λ r. map gate_write (stretch_gates s)) c.stretches.nets c.settle_stretch.new.nets in
+    one_stretch g.row.N c.args.program.now c.stretches.i c.index-program-i.result c.args.nets.now c.stretches.nets c.settle_stretch.new.nets _
     c.stretches-test.true c.stretches.invariant (subst P c.index-program-i.is c.settle_stretch.ensures)
 
-pub settle_stretch-requires-clause-placed : goal.settle_stretch-requires-clause-placed
-settle_stretch-requires-clause-placed g c =
-    let Q : Stretch → Type 0 = λ s. All (HasGate g.row.N c.args.nets.now) (stretch_gates c.args.gates.now s) in
-    let there = of_stretch (HasGate g.row.N c.args.nets.now) c.args.gates.now c.args.program.now c.stretches.i c.index-program-i.result c.stretches-test.true
-    c.requires.placed in
-    keeps_gates g.row.N c.args.nets.now c.stretches.nets (stretch_gates c.args.gates.now c.index-program-i.result) c.stretches.invariant.size
+pub settle_stretch-requires : goal.settle_stretch-requires
+settle_stretch-requires g c =
+    let Q : Stretch → Type 0 = λ s. All (HasGate g.row.N c.args.nets.now) (stretch_gates s) in
+    let there = of_stretch (HasGate g.row.N c.args.nets.now) c.args.program.now c.stretches.i c.index-program-i.result c.stretches-test.true
+    c.requires in
+    keeps_gates g.row.N c.args.nets.now c.stretches.nets (stretch_gates c.index-program-i.result) c.stretches.invariant.size
     (subst Q (sym c.index-program-i.is) there)
-
-pub settle_stretch-requires-clause-gates : goal.settle_stretch-requires-clause-gates
-settle_stretch-requires-clause-gates g c = keeps_gates g.row.N c.args.nets.now c.stretches.nets c.args.gates.now c.stretches.invariant.size c.requires.gates

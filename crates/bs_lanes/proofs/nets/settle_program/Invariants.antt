@@ -6,5 +6,5 @@ use Rattle.bs_lanes.proofs.nets.settle_program.Given as goal
 
 abbrev pub invariant-stretches : goal.invariant-stretches
 invariant-stretches g l =
-    RunsTo g.row.N (λ r. map gate_write (program_gates l.gates (drop l.i l.program))) (λ r. map gate_write (program_gates l.gates l.program)) l.initial.nets
+    RunsTo g.row.N (λ r. map gate_write (program_gates (drop l.i l.program))) (λ r. map gate_write (program_gates l.program)) l.initial.nets
     l.nets

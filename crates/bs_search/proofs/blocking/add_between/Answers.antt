@@ -1,9 +1,10 @@
 use Rattle.std.proofs.Common.{◌≡◌, ◌≤◌, length, ap, sym, subst}
+use Rattle.std.specs.Prelude.{IsPermutation}
+use Rattle.bs_arena.specs.Arena.{literals_at}
 use Rattle.bs_watch.specs.Scene.{IsWatchable}
 use Rattle.bs_search.proofs.Stocks.{watchable, literals_from}
 use Rattle.bs_search.proofs.Takings.{serves_with_one}
-use Rattle.bs_search.proofs.Pausings.{kept_grounded}
-use Rattle.bs_search.proofs.Blockings.{kept_serves, has_come, held_back}
+use Rattle.bs_search.proofs.Blockings.{kept_serves, grounded_permuted, has_come, held_back}
 use Rattle.bs_search.proofs.blocking.add_between.Goals as goal
 
 pub spot_of-spot-requires-clause-watchable : goal.spot_of-spot-requires-clause-watchable
@@ -20,7 +21,9 @@ join_back-requires-clause-serves c =
 
 pub join_back-requires-clause-ground : goal.join_back-requires-clause-ground
 join_back-requires-clause-ground c =
-    kept_grounded c.requires.kept.0 c.args.watch.now c.args.arena.now.clauses c.args.stock.now c.requires.kept.1
+    grounded_permuted c.args.watch.now c.args.lits.now (literals_at c.spot_of-spot.new.arena.clauses c.in_ok-r.r)
+    (subst (λ x. IsPermutation x (literals_at c.spot_of-spot.new.arena.clauses c.in_ok-r.r))
+    (literals_from c.add.new.self.clauses c.in_ok-r.r _ c.in_ok-r.ensures.found) c.spot_of-spot.ensures.same) c.requires.ground
 
 pub returns : goal.returns
 returns c =

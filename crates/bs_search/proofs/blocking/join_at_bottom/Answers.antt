@@ -1,6 +1,6 @@
-use Rattle.std.proofs.Common.{◌≡◌, ◌≤◌, ◌<◌, length, ap, sym, subst, arith}
+use Rattle.std.proofs.Common.{◌≡◌, ◌≤◌, ◌<◌, length, arith}
 use Rattle.bs_arena.specs.Arena.{literals_at}
-use Rattle.bs_watch.proofs.CallerLemmas.{may_attach_empty}
+use Rattle.bs_search.proofs.Stocks.{may_attach_off}
 use Rattle.bs_search.proofs.Blockings.{emptied, has_emptied}
 use Rattle.bs_search.proofs.blocking.join_at_bottom.Goals as goal
 
@@ -9,8 +9,9 @@ join-requires-clause-serves c = c.cancel_to.ensures.serves.keeps c.args.arena.no
 
 pub join-requires-clause-guarded : goal.join-requires-clause-guarded
 join-requires-clause-guarded c = λ two.
-    let e = emptied c.args.watch.now c.cancel_to.new.self c.requires.ground c.cancel_to.ensures.levels c.cancel_to.ensures.back c.cancel_to.ensures.same in
-    may_attach_empty c.cancel_to.new.self (literals_at c.args.arena.now.clauses c.args.r) (ap length e.0)
+    let e = emptied c.args.watch.now c.cancel_to.new.self (literals_at c.args.arena.now.clauses c.args.r) c.requires.ground c.cancel_to.ensures.back
+    c.cancel_to.ensures.same in
+    may_attach_off c.cancel_to.new.self (literals_at c.args.arena.now.clauses c.args.r) e.0
 
 pub returns : goal.returns
 returns c =

@@ -1,10 +1,11 @@
-use Rattle.std.proofs.Common.{◌≡◌, take}
-use Rattle.bs_watch.specs.Watch.{KeepsService}
-use Rattle.bs_search.specs.Laying.{assumed_watch}
+use Rattle.std.specs.Prelude.{take, All}
+use Rattle.bs_watch.specs.Trail.{IsTrueOn}
+use Rattle.bs_watch.specs.Places.{literals_of}
+use Rattle.bs_search.specs.Laying.{HasAssumed}
 use Rattle.bs_search.proofs.laying.assume.Given as goal
 
-abbrev pub invariant-loop-literal : goal.invariant-loop-literal
-invariant-loop-literal l = record {
-  new : l.watch ≡ assumed_watch l.initial.watch (take l.literal-index l.assumptions);
-  serves : KeepsService l.initial.watch l.watch;
+abbrev pub invariant-assumptions : goal.invariant-assumptions
+invariant-assumptions l = record {
+  took : HasAssumed l.initial.watch l.watch l.assumptions;
+  stand : All (IsTrueOn (literals_of l.watch.trail.places)) (take l.literal-index l.assumptions);
 }

@@ -1,7 +1,8 @@
 use Rattle.std.proofs.Common.{◌≤◌, length, sym, subst}
 use Rattle.bs_watch.specs.Scene.{IsWatchable}
+use Rattle.bs_watch.specs.Watch.{MayAttach}
 use Rattle.bs_watch.proofs.CallerLemmas.{serves_more}
-use Rattle.bs_search.proofs.Stocks.{watchable, literals_from, added_stocked, words_added}
+use Rattle.bs_search.proofs.Stocks.{watchable, literals_from, added_stocked, words_added, may_attach_off}
 use Rattle.bs_search.proofs.stock.add_clause.Goals as goal
 
 pub join-requires-clause-serves : goal.join-requires-clause-serves
@@ -24,3 +25,8 @@ pub returns-clause-words : goal.returns-clause-words
 returns-clause-words c =
     words_added c.args.arena.now.words c.add.new.self.words c.args.arena.now.clauses c.add.new.self.clauses c.in_ok-r.r c.args.id c.args.lits.now
     c.in_ok-r.ensures.clauses c.in_ok-r.ensures.words
+
+pub join-requires-clause-guarded : goal.join-requires-clause-guarded
+join-requires-clause-guarded c = λ two.
+    let is = literals_from c.add.new.self.clauses c.in_ok-r.r _ c.in_ok-r.ensures.found in
+    subst (MayAttach c.args.watch.now) (sym is) (may_attach_off c.args.watch.now c.args.lits.now (c.requires.off (subst (λ x. 2 ≤ length x) is two)))

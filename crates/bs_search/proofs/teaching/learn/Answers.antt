@@ -1,4 +1,6 @@
 use Rattle.std.proofs.Common.{◌≡◌, ◌∙◌, reverse, map, ap, sym, subst}
+use Rattle.bs_log.specs.Refusal.{NoneRefused}
+use Rattle.bs_log.specs.Lean.{LemmasAreLean}
 use Rattle.bs_book.specs.Walk.{IsLearnt as IsLoggedLearnt}
 use Rattle.bs_book.specs.Book.{with_lemma}
 use Rattle.bs_search.specs.Stock.{entries, id_in}
@@ -35,7 +37,9 @@ take_lesson-requires-clause-lesson c =
       c.requires.some.0,
       lesson_from c.requires.some.0 c.args.book.now c.args.watch.now c.args.arena.now.clauses c.args.stock.now c.args.conflict
           c.in_ok-learnt.learnt.lits c.in_ok-learnt.learnt.hints.items c.requires.some.1 c.requires.deep c.in_ok-learnt.ensures.learnt
-          c.in_ok-learnt.ensures.first.point,
+          c.in_ok-learnt.ensures.first.point c.requires.own
+          (subst (NoneRefused c.args.book.now.problem) c.log.ensures.lines c.log.ensures.right)
+          (subst (LemmasAreLean c.args.book.now.problem) c.log.ensures.lines c.log.ensures.lean),
     )
 
 pub log_lemma-requires-clause-learnt : goal.log_lemma-requires-clause-learnt

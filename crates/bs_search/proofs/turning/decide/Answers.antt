@@ -35,3 +35,6 @@ returns-in-Some c =
             (subst (λ w. Serves w clauses) (sym c.in-Some.ensures.same) s));
       };
     }
+
+pub returns-then-is_full : goal.returns-then-is_full
+returns-then-is_full c = (refl, c.is_full.ensures c.if-is_full.true)

@@ -5,9 +5,10 @@ use Rattle.bs_book.specs.Walk.{IsLearnt as IsLoggedLearnt}
 use Rattle.bs_book.specs.Book.{with_lemma}
 use Rattle.bs_book.proofs.Searching.{have_variables}
 use Rattle.bs_log.specs.declared.origin.Origin.TheVariants.{Learnt as FromConflict}
-use Rattle.bs_search.specs.Stock.{entries, id_in, HasStocked}
+use Rattle.bs_search.specs.Stock.{entries, id_in}
+use Rattle.bs_search.specs.Ground.{HasStocked, IsOff}
 use Rattle.bs_search.proofs.Teachings.{live_range, live_distinct, logged_learnt}
-use Rattle.bs_search.proofs.Refutings.{gone_empty, last_learnt, last_is_new, ended_by}
+use Rattle.bs_search.proofs.Refutings.{gone_vars, lemma_off, last_learnt, last_is_new, ended_by}
 use Rattle.bs_search.proofs.turning.refute.Goals as goal
 
 pub to_unforced-requires-clause-range : goal.to_unforced-requires-clause-range
@@ -21,16 +22,18 @@ to_unforced-requires-clause-distinct c =
     let s = c.requires.some.1 in
     live_distinct c.args.arena.now c.args.watch.now.lists c.args.stock.now (entries c.args.book.now) c.holds_clauses.ensures s.stocked s.distinct
 
-pub add_clause-requires-clause-empty : goal.add_clause-requires-clause-empty
-add_clause-requires-clause-empty c =
+pub add_clause-requires-clause-off : goal.add_clause-requires-clause-off
+add_clause-requires-clause-off c = λ two.
     let s = c.requires.some.1 in
-    ap length (gone_empty c.args.watch.now c.cancel_to.new.self s.some s.first c.cancel_to.ensures.back).0
+    subst (IsOff c.cancel_to.new.self.trail.places) (sym c.slice.ensures)
+    (lemma_off c.requires.some.0 c.args.book.now c.args.watch.now c.cancel_to.new.self c.args.arena.now.clauses c.args.stock.now c.args.conflict
+    c.in_ok-learnt.learnt.lits s c.holds_levels.ensures.apart c.cancel_to.ensures.back c.in_ok-learnt.ensures.unforced)
 
 pub add_clause-requires-clause-range : goal.add_clause-requires-clause-range
 add_clause-requires-clause-range c =
     let s = c.requires.some.1 in
     subst (HasVariables c.cancel_to.new.self.trail.vars) (sym c.slice.ensures)
-    (subst (λ n. HasVariables n c.in_ok-learnt.learnt.lits) (sym (gone_empty c.args.watch.now c.cancel_to.new.self s.some s.first c.cancel_to.ensures.back).1)
+    (subst (λ n. HasVariables n c.in_ok-learnt.learnt.lits) (sym (gone_vars c.args.watch.now c.cancel_to.new.self s.some c.cancel_to.ensures.back))
     (last_learnt c.requires.some.0 c.args.book.now c.args.watch.now c.args.arena.now.clauses c.args.stock.now c.args.conflict
     c.in_ok-learnt.learnt.lits c.in_ok-learnt.learnt.hints.items s c.in_ok-learnt.ensures.learnt))
 

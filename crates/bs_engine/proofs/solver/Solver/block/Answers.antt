@@ -14,7 +14,8 @@ use Rattle.bs_search.specs.Blocking.{HasHeld}
 use Rattle.bs_log.specs.declared.origin.Origin.TheVariants.{Blocked as FromBlock}
 use Rattle.bs_book.specs.Book.{Book}
 use Rattle.bs_search.proofs.Entries.{stands_grown}
-use Rattle.bs_engine.proofs.Engines.{engine_more}
+use Rattle.bs_search.specs.Pausing.{IsGrounded}
+use Rattle.bs_engine.proofs.Engines.{engine_more, kept_grounded, block_of_step}
 use Rattle.bs_engine.proofs.Startings.{watch_vars, left_kept, whole_blocked, solved_now}
 use Rattle.bs_engine.proofs.solver.Solver.block.Goals as goal
 
@@ -47,6 +48,22 @@ add_between-requires-clause-range c =
     subst (HasVariables c.self.inside.watch.trail.vars) (sym (c.slice-2.ensures ∙ clause_is))
     (subst (λ n. HasVariables n (record { variable = c.self.inside.vars; positive = false } ∷ c.args.lits.now)) (sym vars)
     (block_range c.self.inside.book.problem.vars c.self.inside.vars c.args.lits.now above range))
+
+pub add_between-requires-clause-ground : goal.add_between-requires-clause-ground
+add_between-requires-clause-ground c =
+    let inside : SolverState = record { book = c.self.inside.book; vars = c.self.inside.vars; stage = c.self.inside.stage; failed = c.self.inside.failed } in
+    let searched = solved_inside inside _ c.self.view_is c.self.invariant.whole.ready c.if-self.false c.requires.stage in
+    let range : HasVariables c.self.inside.book.problem.vars c.args.lits.now =
+    subst (λ (s : SolverState). HasVariables s.book.problem.vars c.args.lits.now) (sym c.self.view_is) c.requires.range in
+    let clause_is : c.in_ok-clause.clause ≡ record { variable = c.self.inside.vars; positive = false } ∷ c.args.lits.now =
+    c.in_ok-clause.ensures ∙ ap (λ l. l ∷ c.slice.result.now) c.new.ensures ∙
+    ap (λ xs. record { variable = c.self.inside.vars; positive = false } ∷ xs) c.slice.ensures in
+    subst (IsGrounded c.self.inside.watch) (sym (c.slice-2.ensures ∙ clause_is))
+    (kept_grounded c.self.inside.book c.self.inside.vars c.self.inside.watch c.self.inside.arena.clauses c.self.inside.stock
+    (record { variable = c.self.inside.vars; positive = false } ∷ c.args.lits.now)
+    (left_kept c.self.inside.stage c.self.inside.book c.self.inside.watch c.self.inside.arena.clauses c.self.inside.stock
+    (c.self.invariant.whole.left c.if-self.false)) searched.inside.vars_is
+    (block_of_step c.self.inside.book c.self.inside.vars c.args.lits.now range))
 
 pub add_between-requires-clause-distinct : goal.add_between-requires-clause-distinct
 add_between-requires-clause-distinct c =
@@ -122,7 +139,7 @@ invariant_of-self-2 c =
     engine_more inside c.log_block.new.self Blocked c.self.inside.watch c.add_between.new.watch c.self.inside.arena c.add_between.new.arena
     c.self.inside.stock c.add_between.new.stock c.self.inside.marks c.self.inside.marks c.self.inside.own c.self.inside.known
     (record { id = c.in_ok-id.id; origin = FromBlock; literals = c.in_ok-clause.clause } ∷ []) c.self.invariant c.if-self.false refl
-    (ap (λ (b : Book). b.problem.vars) c.in_ok-id.ensures.line) c.in_ok-id.ensures.stands
+    (ap (λ (b : Book). b.problem.vars) c.in_ok-id.ensures.line) (ap (λ (b : Book). b.problem.clauses) c.in_ok-id.ensures.line) c.in_ok-id.ensures.stands
     (whole_blocked inside c.log_block.new.self c.self.inside.watch c.add_between.new.watch c.self.inside.arena.clauses
     c.add_between.new.arena.clauses c.self.inside.stock c.add_between.new.stock c.self.inside.marks c.in_ok-next.next c.in_ok-id.id c.in_ok-clause.clause
     c.self.invariant.whole c.if-self.false (solved_now inside _ c.self.view_is c.if-self.false c.requires.stage)

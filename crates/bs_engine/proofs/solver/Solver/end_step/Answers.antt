@@ -5,7 +5,6 @@ use Rattle.bs_clause.specs.Range.{HasVariables}
 use Rattle.bs_log.specs.declared.line.Line.TheVariants.{Delete}
 use Rattle.bs_log.specs.History.{state_of}
 use Rattle.bs_log.specs.Refusal.{refusal}
-use Rattle.bs_watch.specs.Places.{TrailState}
 use Rattle.bs_book.specs.Book.{standing, without}
 use Rattle.bs_book.specs.Solver.{SolverState, leaving}
 use Rattle.bs_book.proofs.Solving.{step_facts, ends_step, guard_is_new}
@@ -16,7 +15,7 @@ use Rattle.bs_engine.specs.Dropping.{marked, without_ids, AreKnownIn}
 use Rattle.bs_engine.specs.Ending.{unit_of}
 use Rattle.bs_engine.proofs.Startings.{watch_vars, rested, step_solved, guard_range}
 use Rattle.bs_engine.proofs.Endings.{marked_unit}
-use Rattle.bs_engine.proofs.Engines.{noted_leave, unit_range, engine_ended}
+use Rattle.bs_engine.proofs.Engines.{noted_leave, unit_range, engine_ended, guard_is_free}
 use Rattle.bs_engine.proofs.solver.Solver.end_step.Goals as goal
 
 pub new-guard-requires : goal.new-guard-requires
@@ -43,6 +42,16 @@ log_delete-requires c =
     (sym (c.slice.ensures ∙ ids))
     (leaving_is_right c.finish.new.book c.log_retire.new.self c.in_ok-log_retire.ensures.line c.holds_ids.ensures)
 
+pub prepare-requires-clause-free : goal.prepare-requires-clause-free
+prepare-requires-clause-free c =
+    let inside : SolverState = record { book = c.self.inside.book; vars = c.self.inside.vars; stage = c.self.inside.stage; failed = c.self.inside.failed } in
+    let facts = step_facts inside _ c.self.view_is c.self.invariant.whole.ready c.if-self.false c.requires.stage in
+    let all = watch_vars inside c.self.inside.watch c.self.inside.arena.clauses c.self.inside.stock c.self.inside.marks c.self.invariant.whole
+    c.if-self.false (step_solved inside _ c.self.view_is c.if-self.false c.requires.stage) in
+    guard_is_free c.self.inside.book c.self.inside.vars c.rest.new.watch c.self.inside.arena.clauses c.self.inside.stock (negation c.new-guard.result)
+    (rested inside c.self.inside.watch c.rest.new.watch c.self.inside.arena.clauses c.self.inside.stock c.self.inside.marks c.self.invariant.whole
+    c.if-self.false c.rest.ensures) facts.0.vars_is (c.rest.ensures.vars ∙ all) (ap negation c.new-guard.ensures)
+
 pub settle-self-inside-requires-clause-some : goal.settle-self-inside-requires-clause-some
 settle-self-inside-requires-clause-some c =
     let inside : SolverState = record { book = c.self.inside.book; vars = c.self.inside.vars; stage = c.self.inside.stage; failed = c.self.inside.failed } in
@@ -51,7 +60,7 @@ settle-self-inside-requires-clause-some c =
     let all = watch_vars inside c.self.inside.watch c.self.inside.arena.clauses c.self.inside.stock c.self.inside.marks c.self.invariant.whole
     c.if-self.false (step_solved inside _ c.self.view_is c.if-self.false c.requires.stage) in
     let vars : c.self.inside.vars ≡ c.prepare.new.watch.trail.vars =
-    sym (ap (λ (t : TrailState). t.vars) c.in_ok-leaving.ensures.trail ∙ c.rest.ensures.vars ∙ all) in (
+    sym (c.in_ok-leaving.ensures.vars ∙ c.rest.ensures.vars ∙ all) in (
       entries c.self.inside.book ++ unit_of c.self.inside.book c.new-guard.result ∷ [],
       c.in_ok-leaving.ensures.stocked,
       subst (λ xs. AreKnownIn c.self.inside.own (c.self.inside.vars - c.self.inside.own) xs c.self.inside.known.rows c.self.inside.known.long)
@@ -80,7 +89,8 @@ invariant_of-self-2 c =
     (rested inside c.self.inside.watch c.rest.new.watch c.self.inside.arena.clauses c.self.inside.stock c.self.inside.marks c.self.invariant.whole
     c.if-self.false c.rest.ensures) c.in_ok-finish.ensures.ok c.in_ok-log_retire.ensures.line is_new c.in_ok-log_retire.ensures.stands
     (c.in_ok-log_delete.ensures.stands ∙ ap (λ xs. without_ids xs (entries c.log_retire.new.self)) c.slice.ensures) refl
-    c.in_ok-leaving.ensures.stocked c.in_ok-leaving.ensures.trail c.in_ok-leaving.ensures.levels c.settle-self-inside.ensures.settled
+    c.in_ok-leaving.ensures.stocked c.in_ok-leaving.ensures.vars c.in_ok-leaving.ensures.ground c.in_ok-leaving.ensures.levels
+    c.settle-self-inside.ensures.settled
     c.settle-self-inside.ensures.words
     (ready_after_end inside c.finish.new.book c.log_retire.new.self c.log_delete.new.self c.args.end c.new-guard.result c.in_ok-leaving.leaving.ids
     c.self.invariant.whole.ready c.if-self.false facts.0 facts.1 c.in_ok-finish.ensures.ok c.new-guard.ensures c.in_ok-log_retire.ensures.line

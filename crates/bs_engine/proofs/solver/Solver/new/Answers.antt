@@ -1,4 +1,5 @@
-use Rattle.std.proofs.Common.{refl, sym, ap}
+use Rattle.std.proofs.Common.{refl, sym, ap, subst}
+use Rattle.bs_search.specs.Ground.{IsOwn}
 use Rattle.bs_book.specs.Book.{Book}
 use Rattle.bs_engine.proofs.Startings.{whole_new}
 use Rattle.bs_engine.proofs.Engines.{engine_new}
@@ -13,4 +14,5 @@ invariant_of-result c =
     (whole_new c.args.vars c.args.axioms c.slice.result.now c.in_ok-watch.watch c.add_all.new.watch c.add_all.new.arena.clauses c.add_all.new.stock
     c.in_ok-marks.marks c.new-book.result c.requires.vars c.requires.range c.requires.distinct c.slice.ensures c.new-book.ensures c.in_ok-watch.ensures.vars
     c.in_ok-watch.ensures.levels c.in_ok-add_all.ensures.stocked c.in_ok-add_all.ensures.serves c.in_ok-add_all.ensures.trail c.in_ok-add_all.ensures.levels
-    c.in_ok-marks.ensures) (ap (λ (b : Book). b.problem.vars) (sym c.new-book.ensures)) c.in_ok-add_all.ensures.words refl
+    c.in_ok-marks.ensures) (ap (λ (b : Book). b.problem.vars) (sym c.new-book.ensures))
+    (subst (λ (b : Book). IsOwn b.problem) (sym c.new-book.ensures) c.requires.range) c.in_ok-add_all.ensures.words refl

@@ -7,7 +7,7 @@ use Rattle.bs_book.specs.Stages.{is_begun}
 use Rattle.bs_book.specs.Solver.{SolverState, MaySolve, Follows}
 use Rattle.bs_book.proofs.Solving.{follows_lemmas}
 use Rattle.bs_learn.specs.Marks.{IsClear}
-use Rattle.bs_engine.proofs.Engines.{engine_solved}
+use Rattle.bs_engine.proofs.Engines.{engine_solved, begun_own}
 use Rattle.bs_engine.proofs.Startings.{few_new, may_search, ranges_as, kept_for_search, whole_after_solve, solved_over}
 use Rattle.bs_engine.proofs.solver.Solver.solve.Goals as goal
 
@@ -106,3 +106,8 @@ returns-clause-lines c =
     (subst (λ (s : SolverState). Follows (is_begun s.stage) s.book c.begin_solve.new.book c.args.assumptions.now) c.self.view_is
     (subst (λ b. Follows b c.self.inside.book c.begin_solve.new.book c.args.assumptions.now) c.is_begun.ensures c.in_ok-begin_solve.ensures.lines))
     c.in_ok-answer.ensures.lemmas
+
+pub search-requires-clause-own : goal.search-requires-clause-own
+search-requires-clause-own c =
+    begun_own c.self.inside.book c.begin_solve.new.book c.is_begun.result c.args.assumptions.now c.in_ok-begin_solve.ensures.ok
+    (c.self.invariant.own_clauses c.if-self.false)

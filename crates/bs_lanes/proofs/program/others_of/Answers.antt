@@ -1,0 +1,16 @@
+use Rattle.std.proofs.Common.{◌≡◌, ◌∙◌, ap, get_or}
+use Rattle.std.proofs.lemmas.List.{get_or_read}
+use Rattle.bs_net.specs.Order.{no_gate}
+use Rattle.bs_lanes.specs.Layout.{placed_gate}
+use Rattle.bs_lanes.proofs.ProgramLemmas.{one_more_other}
+use Rattle.bs_lanes.proofs.program.others_of.Goals as goal
+
+pub gates-preserved : goal.gates-preserved
+gates-preserved c =
+    let number = get_or c.args.order.now c.gates.i 0 in
+    let lt = c.requires.numbered c.gates.i 0 c.gates-test.true in
+    let gate = c.index-gates-order.result in
+    let is : gate ≡ get_or c.args.gates.now number no_gate = get_or_read c.args.gates.now number gate lt c.index-gates-order.is no_gate in
+    c.in_ok-push.ensures.ok
+    ∙ one_more_other c.args.places.now c.args.order.now c.args.gates.now c.gates.others c.in_ok-placed.placed c.gates.i c.gates-test.true
+    (c.in_ok-placed.ensures ∙ ap (placed_gate c.args.places.now) is) c.gates.invariant

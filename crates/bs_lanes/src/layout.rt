@@ -1,0 +1,105 @@
+//! A netlist's parts with the places of planes for nets.
+ghost use Rattle.std.specs.Prelude.{◌≡◌, ◌<◌, ◌≤◌, length, map, All, IfOk};
+ghost use Rattle.bs_net.specs.Netlist.{circuit};
+ghost use Rattle.bs_lanes.specs.Layout.{placed_net, placed_const, IsLayout};
+
+use crate::levels::by_level;
+use crate::places::places_of;
+use crate::program::{Stretch, place, stretches_of};
+use bs_bits::{List, NoMemory};
+use bs_net::{Const, Flop, NetId, Netlist};
+use std::alloc::Global;
+
+/// Where the planes of a netlist's nets lie, and the netlist's parts with these places for nets.
+#[derive(Drop)]
+pub(crate) struct Layout {
+    /// The number of planes.
+    pub planes: usize,
+    /// The place of each net's plane.
+    pub places: List<u32>,
+    /// The data inputs.
+    pub inputs: List<NetId>,
+    /// The outputs of the flip-flops.
+    pub outputs: List<NetId>,
+    /// What the flip-flops load.
+    pub loads: List<NetId>,
+    pub consts: List<Const>,
+    /// The gates, each behind those whose outputs it reads.
+    pub program: List<Stretch>,
+}
+
+/// The places of some nets.
+fn nets_at(alloc: Global, nets: &[NetId], places: &[u32]) -> Result<List<NetId>, NoMemory>
+    requires { All (λ n. n.0 < length places.now) nets.now }
+    ensures { IfOk result (λ placed. placed ≡ map (placed_net places.now) nets.now) }
+{
+    let mut placed = List::new(alloc);
+    'nets: for i in 0..nets.len() {
+        placed.push(place(places, nets[i]))?;
+    }
+    Ok(placed)
+}
+
+/// The places of the flip-flops' outputs.
+fn outputs_at(alloc: Global, flops: &[Flop], places: &[u32]) -> Result<List<NetId>, NoMemory>
+    requires { All (λ f. (f.q.0 < length places.now) × (f.d.0 < length places.now) × (f.ck.0 < length places.now)) flops.now }
+    ensures { IfOk result (λ placed. placed ≡ map (λ f. placed_net places.now f.q) flops.now) }
+{
+    let mut placed = List::new(alloc);
+    'flops: for i in 0..flops.len() {
+        placed.push(place(places, flops[i].q))?;
+    }
+    Ok(placed)
+}
+
+/// The places of what the flip-flops load.
+fn loads_at(alloc: Global, flops: &[Flop], places: &[u32]) -> Result<List<NetId>, NoMemory>
+    requires { All (λ f. (f.q.0 < length places.now) × (f.d.0 < length places.now) × (f.ck.0 < length places.now)) flops.now }
+    ensures { IfOk result (λ placed. placed ≡ map (λ f. placed_net places.now f.d) flops.now) }
+{
+    let mut placed = List::new(alloc);
+    'flops: for i in 0..flops.len() {
+        placed.push(place(places, flops[i].d))?;
+    }
+    Ok(placed)
+}
+
+/// The constants by their places.
+fn consts_at(alloc: Global, consts: &[Const], places: &[u32]) -> Result<List<Const>, NoMemory>
+    requires { All (λ k. k.net.0 < length places.now) consts.now }
+    ensures { IfOk result (λ placed. placed ≡ map (placed_const places.now) consts.now) }
+{
+    let mut placed = List::new(alloc);
+    'constants: for i in 0..consts.len() {
+        let constant = consts[i];
+        placed.push(Const {
+            net: place(places, constant.net),
+            value: constant.value,
+        })?;
+    }
+    Ok(placed)
+}
+
+/// The layout of a netlist: the gates' outputs lie in the order of their evaluation.
+pub(crate) fn layout_of(alloc: Global, net: &Netlist) -> Result<Layout, NoMemory>
+    ensures { IfOk result (IsLayout (circuit net.now)) }
+{
+    let raw = net.raw();
+    let gates = raw.gates.slice();
+    let order = by_level(alloc, net)?;
+    let (places, planes) = places_of(alloc, raw.names.len() as usize, gates, order.as_slice())?;
+    let inputs = nets_at(alloc, net.data_inputs().slice(), places.slice())?;
+    let outputs = outputs_at(alloc, raw.flops.slice(), places.slice())?;
+    let loads = loads_at(alloc, raw.flops.slice(), places.slice())?;
+    let consts = consts_at(alloc, raw.consts.slice(), places.slice())?;
+    let program = stretches_of(alloc, gates, order.as_slice(), places.slice())?;
+    Ok(Layout {
+        planes,
+        places,
+        inputs,
+        outputs,
+        loads,
+        consts,
+        program,
+    })
+}

@@ -1,0 +1,4 @@
+pub mod Marks
+pub mod Told
+pub mod Sizes
+pub mod Tallies

@@ -1,0 +1,5 @@
+pub mod LengthLemmas
+pub mod ReachLemmas
+pub mod ReadLemmas
+pub mod TextLemmas
+pub mod CallerLemmas

@@ -1,0 +1,7 @@
+-- what public contracts rest on
+pub mod Reach
+pub mod Text
+-- what inner functions promise each other
+pub mod Search
+pub mod Ends
+pub mod Told

@@ -1,0 +1,126 @@
+//! The answer whether a state is reached from reset in a bounded number of cycles.
+ghost use Rattle.std.specs.Prelude.{◌≡◌, ◌≢◌, ◌*◌, ◌≤◌, [], length, IfOk};
+ghost use Rattle.bs_net.specs.Circuit.{reset_state};
+ghost use Rattle.bs_net.specs.Netlist.{circuit};
+ghost use Rattle.bs_encode.specs.Transition.{variables};
+ghost use Rattle.bs_unroll.specs.declared.limits.TheConstants.{MAX_COPIES, MAX_COPY_VARIABLES};
+ghost use Rattle.bs_unroll.specs.Room.{IsUnrollable};
+ghost use Rattle.bs_unroll.specs.Unrolled.{unrolled};
+ghost use Rattle.bs_reach.specs.Search.{fresh_over};
+ghost use Rattle.bs_reach.specs.Reach.{IsReach};
+
+use crate::reach::{Outcome, Reach};
+use crate::search::search;
+use crate::telling::tell;
+use bs_bits::{Bits, List};
+use bs_clause::NoMemory;
+use bs_encode::Encoding;
+use bs_engine::Solver;
+use bs_log::Log;
+use bs_net::Netlist;
+use bs_unroll::{netlists_unroll, unroll, unrolled_clauses_are_executions};
+use std::alloc::Global;
+
+/// A solver over the unrolled clauses.
+fn solver_of(alloc: Global, encoding: &Encoding, reset: &Bits, k: u32) -> Result<Solver, NoMemory>
+    requires some { 1 ≤ k }
+    requires unrollable { IsUnrollable encoding.now k }
+    requires width { length encoding.now.states ≡ length reset.now }
+    ensures { IfOk result (λ s. s ≡ fresh_over (unrolled encoding.now reset.now k) encoding.now k) }
+{
+    let clauses = unroll(alloc, encoding, reset, k)?;
+    let solver = Solver::new(alloc, k * encoding.vars(), clauses)?;
+    Ok(solver)
+}
+
+/// The answer where the state is the one at reset.
+fn at_reset(alloc: Global, net: &Netlist, state: &Bits, k: u64, b: u64) -> Result<Reach, NoMemory>
+    requires { reset_state (circuit net.now) ≡ state.now }
+    ensures { IfOk result (IsReach (circuit net.now) state.now k b) }
+{
+    let mut states = List::new(alloc);
+    states.push(state.copy()?)?;
+    Ok(Reach {
+        asked: k,
+        conflicts: b,
+        outcome: Outcome::Reached(0),
+        states,
+        inputs: List::new(alloc),
+        log: Log::new(alloc),
+    })
+}
+
+/// The answer where no cycle is asked for and the state is another one than at reset.
+fn never(alloc: Global, net: &Netlist, state: &Bits, b: u64) -> Reach
+    requires { reset_state (circuit net.now) ≢ state.now }
+    ensures { IsReach (circuit net.now) state.now 0 b result }
+{
+    Reach {
+        asked: 0,
+        conflicts: b,
+        outcome: Outcome::Unreached,
+        states: List::new(alloc),
+        inputs: List::new(alloc),
+        log: Log::new(alloc),
+    }
+}
+
+/// The answer for a bound of one cycle or more, where the state is another one than at reset.
+fn look(alloc: Global, net: &Netlist, state: &Bits, k: u32, b: u64) -> Result<Reach, NoMemory>
+    requires width { length state.now ≡ length (circuit net.now).flops }
+    requires some { 1 ≤ k }
+    requires cycles { k ≤ MAX_COPIES }
+    requires room { k * variables (circuit net.now) [] ≤ MAX_COPY_VARIABLES }
+    requires limit { 1 ≤ b }
+    requires other { reset_state (circuit net.now) ≢ state.now }
+    ensures { IfOk result (IsReach (circuit net.now) state.now k b) }
+{
+    unrolled_clauses_are_executions(net);
+    netlists_unroll(net, k);
+    let encoding = Encoding::plain(alloc, net)?;
+    let mut solver = solver_of(alloc, &encoding, net.reset(), k)?;
+    let end = search(alloc, &encoding, &mut solver, state, k, b)?;
+    let told = tell(alloc, &encoding, &end, k)?;
+    let log = solver.into_log();
+    Ok(Reach {
+        asked: u64::from(k),
+        conflicts: b,
+        outcome: told.outcome,
+        states: told.states,
+        inputs: told.inputs,
+        log,
+    })
+}
+
+/// Whether the state is reached from reset in at most `k` cycles, under any inputs: an execution of as few cycles as there
+/// are, a log that refutes each length up to `k`, or the length whose solve logged `b` lemmas without an end. The state has a
+/// bit for each flip-flop, and `k` times `size` is at most `MAX_COPY_VARIABLES`.
+pub fn bounded(
+    alloc: Global,
+    net: &Netlist,
+    state: &Bits,
+    k: u64,
+    b: u64,
+) -> Result<Reach, NoMemory>
+    requires width { length state.now ≡ length (circuit net.now).flops }
+    requires cycles { k ≤ MAX_COPIES }
+    requires room { k * variables (circuit net.now) [] ≤ MAX_COPY_VARIABLES }
+    requires limit { 1 ≤ b }
+    ensures { IfOk result (IsReach (circuit net.now) state.now k b) }
+{
+    if net.reset().equals(state) {
+        return at_reset(alloc, net, state, k, b);
+    }
+    if k == 0 {
+        return Ok(never(alloc, net, state, b));
+    }
+    look(alloc, net, state, k as u32, b)
+}
+
+/// The number of variables that the clauses of one cycle have.
+pub fn size(alloc: Global, net: &Netlist) -> Result<u64, NoMemory>
+    ensures { IfOk result (λ n. n ≡ variables (circuit net.now) []) }
+{
+    let encoding = Encoding::plain(alloc, net)?;
+    Ok(u64::from(encoding.vars()))
+}

@@ -1,0 +1,48 @@
+//! The search over the lengths, one after another.
+ghost use Rattle.std.specs.Prelude.{◌≡◌, ◌+◌, ◌<◌, ◌≤◌, length, IfOk};
+ghost use Rattle.bs_unroll.specs.Room.{IsUnrollable};
+ghost use Rattle.bs_reach.specs.Search.{IsBetween};
+ghost use Rattle.bs_reach.specs.Ends.{EndsAs};
+
+use crate::length::{Trial, try_length};
+use bs_bits::Bits;
+use bs_clause::{Assignment, NoMemory};
+use bs_encode::Encoding;
+use bs_engine::Solver;
+use std::alloc::Global;
+
+/// How the search ends, with the copy that was to lead to the state.
+#[derive(Drop)]
+pub(crate) enum End {
+    /// These values show an execution.
+    Reached(u32, Assignment),
+    /// Each length is refuted.
+    Unreached,
+    /// The limit of lemmas was reached.
+    Unknown(u32),
+}
+
+/// Tries the lengths from 1 to `k` until one is not refuted.
+pub(crate) fn search(
+    alloc: Global,
+    encoding: &Encoding,
+    solver: &mut Solver,
+    state: &Bits,
+    k: u32,
+    b: u64,
+) -> Result<End, NoMemory>
+    requires unrollable { IsUnrollable encoding.now k }
+    requires width { length encoding.now.next ≡ length state.now }
+    requires limit { 1 ≤ b }
+    requires start { IsBetween solver.old.book.problem.clauses encoding.now k state.now 0 solver.old }
+    ensures { IfOk result (EndsAs solver.old.book.problem.clauses encoding.now k state.now b solver.new) }
+{
+    'lengths: for c in 0..k {
+        match try_length(alloc, encoding, solver, state, c, k, b)? {
+            Trial::Shown(values) => return Ok(End::Reached(c, values)),
+            Trial::Refuted => {}
+            Trial::Spent => return Ok(End::Unknown(c)),
+        }
+    }
+    Ok(End::Unreached)
+}

@@ -1,0 +1,9 @@
+pub mod Notes
+pub mod Sayings
+pub mod Parts
+pub mod Flaws
+pub mod Kinds
+pub mod Netlists
+pub mod Checks
+pub mod Signatures
+pub mod Texts

@@ -1,0 +1,23 @@
+//! Notes on a text that a reader refuses: what is said, and the place of the text that it is said of.
+#![tactic(auto)]
+
+mod check;
+mod dump;
+mod flaw;
+mod form;
+mod kind;
+mod netlist;
+mod part;
+mod report;
+mod signature;
+mod stimulus;
+mod width;
+
+pub use check::check_note;
+pub use dump::{Widths, dump_note};
+pub use form::{Message, Placed, file_note, pair_note, placed_note, plain_note};
+pub use kind::{mistaken, mistaken_note};
+pub use netlist::netlist_note;
+pub use report::report_note;
+pub use signature::signature_note;
+pub use stimulus::stimulus_note;

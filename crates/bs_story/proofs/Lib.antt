@@ -1,0 +1,4 @@
+pub mod KeyLemmas
+pub mod SignalLemmas
+pub mod PieceLemmas
+pub mod LemmaLemmas

@@ -1,0 +1,6 @@
+pub mod Keys
+pub mod Lemmas
+pub mod Signal
+pub mod Steps
+pub mod Trace
+pub mod Told

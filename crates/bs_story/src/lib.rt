@@ -1,0 +1,13 @@
+//! What a report tells: its trace with the names of a netlist, and its steps.
+#![tactic(auto)]
+
+mod keys;
+mod lemmas;
+mod moment;
+mod named;
+mod signal;
+mod steps;
+mod trace;
+
+pub use steps::steps_text;
+pub use trace::trace_text;

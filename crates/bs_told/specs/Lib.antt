@@ -1,0 +1,5 @@
+pub mod Told
+pub mod Topics
+pub mod Words
+pub mod Stops
+pub mod Faults

@@ -1,0 +1,42 @@
+-- What a note is about, by the outcome of a call of the program.
+use Rattle.std.specs.Prelude.{ℕ, ◌==◌, nat_le, ◌&&◌, Bool, true, false, Option, Some, None, if◌then◌else◌}
+use Rattle.bs_report.specs.declared.report.Stop.{Stop}
+use Rattle.bs_report.specs.declared.report.Stop.TheVariants as S
+use Rattle.bs_job.specs.declared.status.Status.TheVariants as status
+use Rattle.bs_job.specs.declared.status.TheConstants.{NO_MEMORY_CODE}
+use Rattle.bs_job.specs.Statuses.{code_of}
+use Rattle.bs_told.specs.declared.topic.Outcome.{Outcome}
+use Rattle.bs_told.specs.declared.topic.Topic.{Topic}
+use Rattle.bs_told.specs.declared.topic.Topic.TheVariants as T
+
+abbrev pub topic_of : ℕ → Topic
+topic_of code =
+    if code == code_of status.Words then T.Words
+    else (if code == code_of status.WriteFault then T.Output
+    else (if code == NO_MEMORY_CODE then T.Memory
+    else (if code == code_of status.Rejected then T.Rejected
+    else (if code == code_of status.ReadFault then T.Files
+    else (if nat_le (code_of status.Netlist) code && nat_le code (code_of status.Report) then T.Files
+    else T.Stop)))))
+
+-- a stop of a run has a note, unless it is at reset
+abbrev pub has_note : Option Stop → Bool
+has_note None = false
+has_note (Some S.Reset) = false
+has_note (Some S.Length) = true
+has_note (Some S.Nohit) = true
+has_note (Some S.Empty) = true
+has_note (Some S.Candidates) = true
+has_note (Some S.Conflicts) = true
+
+abbrev pub is_due_on : Topic → Option Stop → Bool
+is_due_on T.Stop stop = has_note stop
+is_due_on T.Words stop = true
+is_due_on T.Output stop = true
+is_due_on T.Memory stop = true
+is_due_on T.Rejected stop = true
+is_due_on T.Files stop = true
+
+-- a note is due on each outcome but work that is done, or a run that came to reset
+abbrev pub is_due : Outcome → Bool
+is_due o = is_due_on (topic_of o.code) o.told.stop

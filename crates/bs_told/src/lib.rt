@@ -1,0 +1,23 @@
+//! What is told of a call of the program: the words that it was given, what went out, how it stopped, and why a file or an output failed.
+#![tactic(auto)]
+
+mod cause;
+mod ear;
+mod fault;
+mod output;
+mod stop;
+mod told;
+mod topic;
+mod word;
+
+pub use cause::{Causes, FileCauses, NoCauses};
+pub use ear::Ear;
+pub use fault::{
+    large_note, long_note, memory_note, order_note, output_note, range_note, rejected_note,
+    unread_note,
+};
+pub use output::{Reasons, TellingSink};
+pub use stop::stop_note;
+pub use told::Told;
+pub use topic::{Outcome, Topic, is_due, topic_of};
+pub use word::{unread_words_note, words_note};

@@ -1,0 +1,83 @@
+-- Unrolling, one more at a time, and the room for it.
+use Rattle.std.proofs.Common.{◌≡◌, ℕ, zero, suc, ◌+◌, ◌*◌, ◌<◌, ◌≤◌, List, [], ◌∷◌, ◌++◌, length, take, get_or, refl, ap, sym, ◌∙◌}
+use Rattle.std.proofs.Common.{arith, add-one}
+use Rattle.std.specs.List.{All, range_with_len, flat_map}
+use Rattle.std.proofs.lemmas.List.{append_assoc, append-nil}
+use Rattle.std.proofs.lemmas.List.Elements.{All-weaker}
+use Rattle.std.proofs.lemmas.Nat.{mul-le}
+use Rattle.std.proofs.Math.Nat.{suc-mul}
+use Rattle.bs_clause.specs.declared.literal.TheConstants.{VARIABLE_LIMIT}
+use Rattle.bs_clause.specs.Literal.{Literal, Clause}
+use Rattle.bs_clause.specs.Range.{IsWithin, HasVariables}
+use Rattle.bs_encode.specs.Encoded.{Encoded}
+use Rattle.std.proofs.lemmas.List.Concat.{flat_map-append}
+use Rattle.bs_net.proofs.CallerLemmas.{range_push}
+use Rattle.bs_unroll.specs.declared.limits.TheConstants.{MAX_COPY_VARIABLES}
+use Rattle.bs_unroll.specs.Unrolled.{link, links}
+use Rattle.bs_unroll.specs.Room.{HasRoom, HasRooms, IsUnrollable}
+
+more : (ns ss : List Literal) (i : ℕ) (d : Literal) → i < length ns → i < length ss →
+    links (take (suc i) ns) (take (suc i) ss) ≡ links (take i ns) (take i ss) ++ link (get_or ns i d).variable (get_or ss i d).variable
+more [] ss i d ln ls = absurd (omega arith)
+more (n ∷ ns) [] i d ln ls = absurd (omega arith)
+more (n ∷ ns) (s ∷ ss) zero d ln ls = refl
+more (n ∷ ns) (s ∷ ss) (suc i) d ln ls = ap (λ r. link n.variable s.variable ++ r) (more ns ss i d (omega arith) (omega arith))
+
+pub links_step : (base into next : List Clause) (ns ss : List Literal) (i : ℕ) (n s : Literal) → length ns ≡ length ss → i < length ns → n ≡ get_or ns i n →
+    s ≡ get_or ss i s →
+    next ≡ into ++ link n.variable s.variable → into ≡ base ++ links (take i ns) (take i ss) → next ≡ base ++ links (take (i + 1) ns) (take (i + 1) ss)
+links_step base into next ns ss i n s same lt is_n is_s grown so_far =
+    let L : List Clause = links (take i ns) (take i ss) in
+    let other : get_or ss i s ≡ get_or ss i n = any ss i s n (omega (arith, same, lt)) in
+    rw add-one
+    (grown ∙ (ap (λ u. u ++ link n.variable s.variable) so_far
+    ∙ (append_assoc base L (link n.variable s.variable)
+    ∙ ap (λ u. base ++ u)
+    (ap (λ (m : Literal). L ++ link m.variable s.variable) is_n
+    ∙ (ap (λ (m : Literal). L ++ link (get_or ns i n).variable m.variable) (is_s ∙ other) ∙ sym (more ns ss i n lt (omega (arith, same, lt))))))))
+  where
+    any : (xs : List Literal) (k : ℕ) (a b : Literal) → k < length xs → get_or xs k a ≡ get_or xs k b
+    any [] k a b h = absurd (omega arith)
+    any (x ∷ xs) zero a b h = refl
+    any (x ∷ xs) (suc k) a b h = any xs k a b (omega arith)
+
+-- one place more
+flat_more : {X : Type 0} (f : ℕ → List X) (k : ℕ) → flat_map f (range_with_len 0 (k + 1)) ≡ flat_map f (range_with_len 0 k) ++ f k
+flat_more {X} f k =
+    ap (flat_map f) (range_push k)
+    ∙ (flat_map-append f (range_with_len 0 k) (k ∷ []) ∙ ap (λ (ys : List X). flat_map f (range_with_len 0 k) ++ ys) (append-nil (f k)))
+
+pub flat_step : {X : Type 0} (f : ℕ → List X) (base into next : List X) (k : ℕ) → next ≡ into ++ f k → into ≡ base ++ flat_map f (range_with_len 0 k) →
+    next ≡ base ++ flat_map f (range_with_len 0 (k + 1))
+flat_step {X} f base into next k grown so_far =
+    grown
+    ∙ (ap (λ (l : List X). l ++ f k) so_far
+    ∙ (append_assoc base (flat_map f (range_with_len 0 k)) (f k) ∙ ap (λ (l : List X). base ++ l) (sym (flat_more f k))))
+
+-- ---- room
+
+pub base_fits : (n k c : ℕ) → c < k → k * n ≤ MAX_COPY_VARIABLES → c * n + n ≤ MAX_COPY_VARIABLES
+base_fits n k c lt room =
+    let more : suc c * n ≤ k * n = mul-le (suc c) n k n lt (omega arith) in
+    omega (arith, more, suc-mul c n, room)
+
+pub room_above : (n by : ℕ) (c : Clause) → HasVariables n c → by + n ≤ MAX_COPY_VARIABLES → HasRoom by c
+room_above n by c h room = All-weaker (IsWithin n) (λ (l : Literal). by + l.variable < VARIABLE_LIMIT) (λ l w. omega (arith, w.1, room)) c h
+
+pub rooms_above : (n by : ℕ) (cs : List Clause) → All (HasVariables n) cs → by + n ≤ MAX_COPY_VARIABLES → HasRooms by cs
+rooms_above n by cs h room = All-weaker (HasVariables n) (HasRoom by) (λ c w. room_above n by c w room) cs h
+
+pub copy_room : (e : Encoded) (k c by : ℕ) → IsUnrollable e k → c < k → by ≡ c * e.variables → HasRooms by e.clauses
+copy_room e k c by u lt is = rooms_above e.variables by e.clauses u.clauses (omega (arith, is, base_fits e.variables k c lt u.room))
+
+pub states_room : (e : Encoded) (k c by : ℕ) → IsUnrollable e k → c < k → by ≡ c * e.variables → HasRoom by e.states
+states_room e k c by u lt is = room_above e.variables by e.states u.states (omega (arith, is, base_fits e.variables k c lt u.room))
+
+pub next_room : (e : Encoded) (k c by : ℕ) → IsUnrollable e k → c < k → by ≡ c * e.variables → HasRoom by e.next
+next_room e k c by u lt is = room_above e.variables by e.next u.next (omega (arith, is, base_fits e.variables k c lt u.room))
+
+pub inputs_room : (e : Encoded) (k c by : ℕ) → IsUnrollable e k → c < k → by ≡ c * e.variables → HasRoom by e.inputs
+inputs_room e k c by u lt is = room_above e.variables by e.inputs u.inputs (omega (arith, is, base_fits e.variables k c lt u.room))
+
+pub copies_fit : (n k c : ℕ) → c < k → c * n + n ≤ k * n
+copies_fit n k c lt = let more : suc c * n ≤ k * n = mul-le (suc c) n k n lt (omega arith) in omega (arith, more, suc-mul c n)

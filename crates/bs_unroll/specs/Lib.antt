@@ -1,0 +1,5 @@
+-- what public contracts rest on
+pub mod Execution
+pub mod Unrolled
+pub mod Room
+pub mod Laws

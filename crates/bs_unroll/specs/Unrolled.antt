@@ -1,0 +1,72 @@
+-- The unrolled clauses: a copy of the transition clauses for each cycle, the units of the reset state, and the links between
+-- copies (docs/FORMATS.md, "Unrolled clauses").
+use Rattle.std.specs.Prelude.{ℕ, zero, suc, ◌+◌, ◌-◌, ◌*◌, Bool, true, false, List, [], ◌∷◌, ◌++◌, map}
+use Rattle.std.specs.List.{range_with_len, flat_map}
+use Rattle.bs_clause.specs.Literal.{Literal, Clause}
+use Rattle.bs_log.specs.History.{Problem}
+use Rattle.bs_encode.specs.Tables.{lit}
+use Rattle.bs_encode.specs.Encoded.{Encoded}
+use Rattle.bs_encode.specs.Assuming.{signed}
+
+-- the literal of the variable that is so much higher
+abbrev pub raised : ℕ → Literal → Literal
+raised by l = record { variable = by + l.variable; positive = l.positive }
+
+abbrev pub raised_all : ℕ → List Literal → List Literal
+raised_all by ls = map (raised by) ls
+
+-- how much higher the variables of copy number c are, from 0
+abbrev pub base_of : Encoded → ℕ → ℕ
+base_of e c = c * e.variables
+
+-- the clauses of a copy
+abbrev pub copy_of : Encoded → ℕ → List Clause
+copy_of e c = map (raised_all (base_of e c)) e.clauses
+
+-- the literals of a copy
+abbrev pub states_at : Encoded → ℕ → List Literal
+states_at e c = raised_all (base_of e c) e.states
+
+abbrev pub inputs_at : Encoded → ℕ → List Literal
+inputs_at e c = raised_all (base_of e c) e.inputs
+
+abbrev pub next_at : Encoded → ℕ → List Literal
+next_at e c = raised_all (base_of e c) e.next
+
+-- both variables have the same value
+abbrev pub link : ℕ → ℕ → List Clause
+link n s = (lit n false ∷ lit s true ∷ []) ∷ (lit n true ∷ lit s false ∷ []) ∷ []
+
+abbrev pub links : List Literal → List Literal → List Clause
+links [] ss = []
+links (n ∷ ns) [] = []
+links (n ∷ ns) (s ∷ ss) = link n.variable s.variable ++ links ns ss
+
+-- the next state of a copy is the state of the copy behind it
+abbrev pub links_of : Encoded → ℕ → List Clause
+links_of e c = links (next_at e c) (states_at e (c + 1))
+
+-- the units of the state at reset, where there is a copy
+abbrev pub reset_units : Encoded → List Bool → ℕ → List Clause
+reset_units e reset zero = []
+reset_units e reset (suc k) = map (λ l. l ∷ []) (signed e.states reset)
+
+-- the clauses of k cycles
+abbrev pub unrolled : Encoded → List Bool → ℕ → List Clause
+unrolled e reset k =
+    flat_map (copy_of e) (range_with_len 0 k)
+    ++ (reset_units e reset k
+    ++ flat_map (links_of e) (range_with_len 0 (k - 1)))
+
+-- what step number j, from 1, assumes: its guard, and that copy j - 1 leads to p
+abbrev pub length_assumes : Encoded → ℕ → List Bool → ℕ → Clause
+length_assumes e k p j = lit (k * e.variables + j) true ∷ signed (next_at e (j - 1)) p
+
+-- what a log with a step for each length from 1 to `count` is about
+abbrev pub reach_problem : Encoded → List Bool → ℕ → List Bool → ℕ → Problem
+reach_problem e reset k p count =
+    record {
+      vars = k * e.variables;
+      clauses = unrolled e reset k;
+      steps = map (length_assumes e k p) (range_with_len 1 count);
+    }
