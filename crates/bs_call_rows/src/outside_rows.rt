@@ -167,12 +167,16 @@ fn writers_take_little_at_a_time_or_fail(rt: HostRuntime) -> Result<(), Fail> {
     Ok(())
 }
 
+/// Files that are not what they seem are among them: an empty one, a folder, a name below a file, no name, a name that no file
+/// can have, and a device without an end.
 #[test]
 fn real_files(rt: HostRuntime) -> Result<(), Fail> {
     let alloc = rt.alloc();
     let long = mixed(alloc, 20_000)?;
     fs::write(&rt, "real.txt", "hello")?;
     fs::write(&rt, "long.txt", long.as_slice())?;
+    fs::write(&rt, "empty.txt", "")?;
+    fs::create_dir(&rt, "folder")?;
     let mut shelf = FileShelf::new(&rt);
     for (name, limit, want, count) in [
         ("real.txt", 5, Fetch::Done, 5),
@@ -180,6 +184,12 @@ fn real_files(rt: HostRuntime) -> Result<(), Fail> {
         ("real.txt", 0, Fetch::TooLong, 1),
         ("none.txt", 4, Fetch::Failed, 0),
         (".", 4, Fetch::Failed, 0),
+        ("empty.txt", 0, Fetch::Done, 0),
+        ("folder", 4, Fetch::Failed, 0),
+        ("real.txt/a", 4, Fetch::Failed, 0),
+        ("", 4, Fetch::Failed, 0),
+        ("real\0.txt", 4, Fetch::Failed, 0),
+        ("/dev/zero", 20_000, Fetch::TooLong, 20_001),
         ("long.txt", 19_999, Fetch::TooLong, 20_000),
         ("long.txt", 8_192, Fetch::TooLong, 8_193),
         ("long.txt", u64::MAX, Fetch::Done, 20_000),
@@ -193,6 +203,8 @@ fn real_files(rt: HostRuntime) -> Result<(), Fail> {
     assert_eq!(rt; into.as_slice(), long.as_slice());
     fs::remove_file(&rt, "real.txt")?;
     fs::remove_file(&rt, "long.txt")?;
+    fs::remove_file(&rt, "empty.txt")?;
+    fs::remove_dir(&rt, "folder")?;
     let mut sink = StdSink::new(&rt);
     assert_eq!(rt; sink.put(b"one line\n"), Put::Done);
     assert_eq!(rt; sink.put(b""), Put::Done);

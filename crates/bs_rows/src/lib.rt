@@ -1,4 +1,4 @@
-//! Worked rows: what the top call answers and writes on files in memory, and calls of the crates below it.
+//! Worked rows: what the top call answers and writes on files in memory.
 #![tactic(auto)]
 
 #[cfg(test)]
@@ -6,15 +6,11 @@ mod audit_rows;
 #[cfg(test)]
 mod calls;
 #[cfg(test)]
-mod crate_rows;
-#[cfg(test)]
 mod demo_rows;
 #[cfg(test)]
 mod fault_rows;
 #[cfg(test)]
 mod limit_rows;
-#[cfg(test)]
-mod list_rows;
 #[cfg(test)]
 mod refusal_rows;
 #[cfg(test)]
