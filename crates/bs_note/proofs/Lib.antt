@@ -1,0 +1,4 @@
+pub mod SayingLemmas
+pub mod ReadingLemmas
+pub mod WalkLemmas
+pub mod SearchLemmas

@@ -1,0 +1,74 @@
+-- What a reading of a file answers, in the words of a note.
+use Rattle.std.proofs.Common.{◌≡◌, ◌≢◌, ℕ, List, Bool, true, false, Option, Some, None, Result, Ok, Err, Vec, refl, sym, subst}
+use Rattle.std.specs.Prelude.{IfOk, if◌then◌else◌}
+use Rattle.std.specs.declared.alloc.Global.{Global}
+use Rattle.bs_bits.specs.declared.memory.NoMemory.{NoMemory}
+use Rattle.bs_net.specs.Parts.{Parts}
+use Rattle.bs_net.specs.Check.{IsFault, Passes}
+use Rattle.bs_net.specs.declared.fault.NetFault.{NetFault}
+use Rattle.bs_net.specs.declared.fault.NetFault.TheVariants as net
+use Rattle.bs_net.proofs.CallerLemmas.{passes_is, refused_fails}
+use Rattle.bs_job.specs.declared.file.File.{File}
+use Rattle.bs_job.specs.declared.walk.Refusal.{Refusal}
+use Rattle.bs_job.specs.declared.walk.Refusal.TheVariants as Q
+use Rattle.bs_job.specs.Plan.{Reason, exactly, any_of, Says}
+use Rattle.bs_job.specs.Walks.{Reads}
+use Rattle.bs_refusal.specs.Checks.{IsCheckNote}
+use Rattle.bs_refusal.specs.Kinds.{mistaken_text}
+use Rattle.bs_note.specs.Cases.{Case, in_check, NoteSays, told_as, noted_as, HasNote}
+use Rattle.bs_note.specs.Readings.{checked_noted}
+
+-- a note that was made is the refusal's
+pub noted_is : (reason : Reason Case) (note : Result (Vec ℕ Global) NoMemory) → IfOk note (λ n. Says NoteSays reason n.items) → HasNote reason (noted_as note)
+noted_is reason (Ok n) says = says
+noted_is reason (Err want) says = tt
+
+-- the text seems to be another file of a job
+pub noted_mistaken : (file kind : File) (path : List ℕ) (seems : Option File) (other : Case) (note : Result (Vec ℕ Global) NoMemory) (refusal : Refusal) →
+    seems ≡ Some kind → refusal ≡ noted_as note → IfOk note (λ n. n.items ≡ mistaken_text file kind path) → HasNote (told_as file path seems other) refusal
+noted_mistaken file kind path seems other note refusal e is says =
+    subst (HasNote (told_as file path seems other)) (sym is)
+    (subst (λ (s : Option File). HasNote (told_as file path s other) (noted_as note)) (sym e) (noted_is (exactly (mistaken_text file kind path)) note says))
+
+-- it does not
+pub noted_case : (file : File) (path : List ℕ) (seems : Option File) (other : Case) (note : Result (Vec ℕ Global) NoMemory) (refusal : Refusal) →
+    seems ≡ None → refusal ≡ noted_as note → IfOk note (λ n. NoteSays other n.items) → HasNote (told_as file path seems other) refusal
+noted_case file path seems other note refusal e is says =
+    subst (HasNote (told_as file path seems other)) (sym is)
+    (subst (λ (s : Option File). HasNote (told_as file path s other) (noted_as note)) (sym e) (noted_is (any_of other) note says))
+
+-- the note tells a fault of the check
+pub check_told : (r : Parts) (path text : List ℕ) (fault : NetFault) (note : Result (Vec ℕ Global) NoMemory) (refusal : Refusal) → IsFault r fault →
+    fault ≢ net.NoMemory → refusal ≡ noted_as note → IfOk note (λ n. IsCheckNote r path text fault n.items) →
+    HasNote (any_of (in_check path text r)) refusal
+check_told r path text fault note refusal is told same says = subst (HasNote (any_of (in_check path text r))) (sym same) (by note says)
+  where
+    by : (n : Result (Vec ℕ Global) NoMemory) → IfOk n (λ n. IsCheckNote r path text fault n.items) → HasNote (any_of (in_check path text r)) (noted_as n)
+    by (Ok n) says = record { fault = fault; told = told; is = is; written = says }
+    by (Err want) says = tt
+
+-- parts that pass are the value
+pub reads_passing : {T : Type 0} (view : T → Parts) (path text : List ℕ) (r : Parts) (net : T) → view net ≡ r → Passes r →
+    Reads NoteSays view (checked_noted path text r) (Ok net)
+reads_passing view path text r net is passing = rw ((passes_is r).1 passing, sym is) refl
+
+-- the note on a fault of the check is the reason's
+pub reads_refused : {T : Type 0} (view : T → Parts) (path text : List ℕ) (r given : Parts) (refusal : Refusal) → given ≡ r →
+    HasNote (any_of (in_check path text given)) refusal → Reads NoteSays view (checked_noted path text r) (Err refusal)
+reads_refused view path text r given refusal same has = by refusal (subst (λ x. HasNote (any_of (in_check path text x)) refusal) same has)
+  where
+    by : (refusal : Refusal) → HasNote (any_of (in_check path text r)) refusal → Reads NoteSays view (checked_noted path text r) (Err refusal)
+    by Q.NoMemory told = tt
+    by (Q.Why why) told = rw (refused_fails r told.fault told.told told.is) told
+
+-- what does not hold is refused by these very words
+pub reads_else : (holds : Bool) (text : List ℕ) (note : Result (Vec ℕ Global) NoMemory) (refusal : Refusal) → holds ≡ false → refusal ≡ noted_as note →
+    IfOk note (λ n. n.items ≡ text) → Reads NoteSays (λ (_ : Unit {0}). true) (if holds then Ok true else Err (exactly text)) (Err refusal)
+reads_else holds text note refusal e same says =
+    subst (λ (b : Bool). Reads NoteSays (λ (_ : Unit {0}). true) (if b then Ok true else Err (exactly text)) (Err refusal)) (sym e)
+    (subst (λ (q : Refusal). Reads NoteSays (λ (_ : Unit {0}). true) (Err (exactly text)) (Err q)) (sym same) (by note says))
+  where
+    by : (n : Result (Vec ℕ Global) NoMemory) → IfOk n (λ n. n.items ≡ text) →
+        Reads NoteSays (λ (_ : Unit {0}). true) (Err (exactly text)) (Err (noted_as n))
+    by (Ok n) says = says
+    by (Err want) says = tt

@@ -1,0 +1,16 @@
+use Rattle.std.proofs.lemmas.Result.{err_from_is_err_and}
+use Rattle.bs_job.proofs.Walking.{walks_stop, walks_then, walks_end}
+use Rattle.bs_note.proofs.walk.take_crashed.Goals as goal
+
+pub returns-in_err-setup : goal.returns-in_err-setup
+returns-in_err-setup g c =
+    let p = err_from_is_err_and c.from_residual.result c.from_residual.ensures.1 in
+    rw (p.1, p.2) (walks_stop _ c.in_err-setup.ensures)
+
+pub returns-in_err-_dump : goal.returns-in_err-_dump
+returns-in_err-_dump g c =
+    let p = err_from_is_err_and c.from_residual-in_err-_dump.result c.from_residual-in_err-_dump.ensures.1 in
+    rw (p.1, p.2) (walks_then _ c.in_ok-setup.ensures (walks_stop _ c.in_err-_dump.ensures))
+
+pub returns : goal.returns
+returns g c = walks_then _ c.in_ok-setup.ensures (walks_then _ c.in_ok-_dump.ensures walks_end)

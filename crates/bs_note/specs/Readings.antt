@@ -1,0 +1,81 @@
+-- What the text of a file is to a note: a value, or the reason of its refusal, whose words are the note.
+use Rattle.std.specs.Prelude.{ℕ, Bool, true, List, length, Result, Ok, Err, if◌then◌else◌}
+use Rattle.bs_bits.specs.Lines.{lines_of}
+use Rattle.bs_net.specs.Circuit.{reset_state}
+use Rattle.bs_net.specs.Decided.{passes}
+use Rattle.bs_net.specs.Netlist.{circuit_of}
+use Rattle.bs_net.specs.Parts.{Parts}
+use Rattle.bs_syntax.specs.declared.fault.VerilogFault.{VerilogFault}
+use Rattle.bs_verilog.specs.Netlist.{netlist_text}
+use Rattle.bs_scan.specs.Choice.{Chosen}
+use Rattle.bs_scan.specs.ChoiceText.{choice_of}
+use Rattle.bs_scan.specs.DumpText.{dump_of}
+use Rattle.bs_scan.specs.declared.dump.Dump.{Dump}
+use Rattle.bs_scan.specs.declared.fault.DumpFault.{DumpFault}
+use Rattle.bs_stim.specs.Runs.{Stimulus}
+use Rattle.bs_stim.specs.StimulusText.{stimulus_of}
+use Rattle.bs_report.specs.Reading.{report_in}
+use Rattle.bs_report.specs.declared.report.Report.{Report}
+use Rattle.bs_job.specs.declared.file.File.TheVariants as files
+use Rattle.bs_job.specs.Plan.{Reason, exactly, any_of}
+use Rattle.bs_entry.specs.Readings.{has_moment, is_drawable}
+use Rattle.bs_refusal.specs.declared.dump.Widths.{Widths}
+use Rattle.bs_refusal.specs.Kinds.{mistaken}
+use Rattle.bs_told.specs.Faults.{large_text, range_text}
+use Rattle.bs_note.specs.Cases.{Case, in_netlist, in_check, in_signature, in_stimulus, in_dump, in_report, told_as}
+
+-- what a reader's definition wants, with a reason for its fault
+abbrev pub noted : {V F : Type 0} → (F → Reason Case) → Result V F → Result V (Reason Case)
+noted reason (Ok v) = Ok v
+noted reason (Err fault) = Err (reason fault)
+
+-- ---- the netlist
+
+abbrev pub netlist_reason : List ℕ → List ℕ → VerilogFault → Reason Case
+netlist_reason path text fault = told_as files.Netlist path (mistaken files.Netlist text) (in_netlist path text fault)
+
+-- parts that pass the check
+abbrev pub checked_noted : List ℕ → List ℕ → Parts → Result Parts (Reason Case)
+checked_noted path text r = if passes r then Ok r else Err (any_of (in_check path text r))
+
+abbrev pub parsed_noted : List ℕ → List ℕ → Result Parts VerilogFault → Result Parts (Reason Case)
+parsed_noted path text (Ok r) = checked_noted path text r
+parsed_noted path text (Err fault) = Err (netlist_reason path text fault)
+
+-- the parts of a netlist, which pass the check
+abbrev pub netlist_noted : List ℕ → List ℕ → Result Parts (Reason Case)
+netlist_noted path text = parsed_noted path text (netlist_text text)
+
+-- ---- the other files
+
+-- the items of a signature
+abbrev pub signature_noted : Parts → List ℕ → List ℕ → Result Chosen (Reason Case)
+signature_noted r path text =
+    noted (λ fault. told_as files.Signature path (mistaken files.Signature text) (in_signature path text r fault)) (choice_of r (lines_of text))
+
+-- the runs of a stimulus, with so many bits in an input line
+abbrev pub stimulus_noted : ℕ → List ℕ → List ℕ → Result Stimulus (Reason Case)
+stimulus_noted width path text =
+    noted (λ fault. told_as files.Stimulus path (mistaken files.Stimulus text) (in_stimulus path text width fault)) (stimulus_of width (lines_of text))
+
+-- what a dump is due to have
+abbrev pub widths_of : Parts → Chosen → Widths
+widths_of r choice = record { flops = length (circuit_of r).flops; items = length choice.items }
+
+-- a dump of a netlist and of what its signatures are taken of
+abbrev pub dump_noted : Parts → Chosen → List ℕ → List ℕ → Result Dump (Reason Case)
+dump_noted r choice path text =
+    noted (λ (fault : DumpFault). told_as files.Dump path (mistaken files.Dump text) (in_dump path text (widths_of r choice) fault))
+    (dump_of (reset_state (circuit_of r)) (length choice.items) (lines_of text))
+
+-- whether the runs have the moment
+abbrev pub moment_noted : Stimulus → ℕ → ℕ → Result Bool (Reason Case)
+moment_noted runs run cycle = if has_moment runs run cycle then Ok true else Err (exactly (range_text runs run))
+
+-- a report
+abbrev pub report_noted : List ℕ → List ℕ → Result Report (Reason Case)
+report_noted path text = noted (λ fault. told_as files.Report path (mistaken files.Report text) (in_report path text fault)) (report_in text)
+
+-- whether a waveform of the report's trace has few enough values
+abbrev pub size_noted : List ℕ → Parts → Report → Result Bool (Reason Case)
+size_noted path r report = if is_drawable r report then Ok true else Err (exactly (large_text path))

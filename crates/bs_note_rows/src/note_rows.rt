@@ -1,0 +1,138 @@
+//! A mistake, and the note on it.
+use bs_bits::NoMemory;
+use bs_note::note;
+use bs_outside::{MemShelf, MemSink};
+use bs_report::Stop;
+use bs_told::{NoCauses, Outcome, Told};
+use std::alloc::Global;
+use std::io::ErrorKind;
+use std::test::Fail;
+
+/// The words of a line.
+fn words_of(alloc: Global, line: &str) -> Result<Vec<String>, NoMemory> {
+    let mut words = Vec::new(alloc);
+    for word in line.split(' ') {
+        words.push(String::from_str(alloc, word)?)?;
+    }
+    Ok(words)
+}
+
+/// A shelf with the files of a job, and one of them with a mistake, `x`.
+fn shelf_with(alloc: Global, mistake: &str) -> Result<MemShelf, NoMemory> {
+    let mut files = Vec::new(alloc);
+    for (name, text) in [
+        (
+            "n.v",
+            "module sh(ck,a); input ck,a; dff f0(ck,q0,a); dff f1(ck,q1,q0); endmodule\n",
+        ),
+        ("s.txt", "bit q1\n"),
+        ("t.txt", "run a 1\n0\nend\n"),
+        ("d.txt", "state 11\nsig 1\nend\n"),
+        ("x", mistake),
+    ] {
+        files.push((
+            String::from_str(alloc, name)?,
+            text.as_bytes().to_vec(alloc)?,
+        ))?;
+    }
+    MemShelf::new(alloc, files, Vec::new(alloc))
+}
+
+/// The note on a call with these words that ended so.
+fn noted(
+    alloc: Global,
+    line: &str,
+    code: u8,
+    stop: Option<Stop>,
+    mistake: &str,
+) -> Result<MemSink, NoMemory> {
+    let words: Result<Vec<String>, ErrorKind> = Ok(words_of(alloc, line)?);
+    let mut shelf = shelf_with(alloc, mistake)?;
+    let mut notes = MemSink::new(alloc, 1000, Vec::new(alloc))?;
+    let outcome = Outcome {
+        code,
+        told: Told {
+            lines: 4,
+            steps: 2,
+            stop,
+        },
+        cause: None,
+    };
+    note(alloc, &words, &mut shelf, &NoCauses, &outcome, &mut notes);
+    Ok(notes)
+}
+
+#[test]
+fn each_mistake_has_its_note(rt: HostRuntime) -> Result<(), Fail> {
+    let alloc = rt.alloc();
+    for (line, code, stop, mistake, want) in [
+        ("run n.v s.txt t.txt d.txt", 0, Some(Stop::Reset), "", ""),
+        (
+            "demo -1",
+            2,
+            None,
+            "",
+            "note: word 2, `-1`, is no option of this command\nnote: usage: backspace demo NUMBER\n",
+        ),
+        (
+            "run gone s.txt t.txt d.txt",
+            12,
+            None,
+            "",
+            "note: gone: this file could not be read\n",
+        ),
+        (
+            "run x s.txt t.txt d.txt",
+            6,
+            None,
+            "module m(a);\n input a;\n always @(a) ;\nendmodule\n",
+            "note: x:3:2: behavioural Verilog is left out\n always @(a) ;\n ^ synthesize to gates and flip-flops first\n",
+        ),
+        (
+            "run n.v x t.txt d.txt",
+            7,
+            None,
+            "bit q1\nxor q0 q2\n",
+            "note: x:2:8: no flip-flop has the key `q2`, the name of its output net\nxor q0 q2\n       ^ the nearest keys of flip-flops: q0 q1\n",
+        ),
+        (
+            "run n.v s.txt x d.txt",
+            8,
+            None,
+            "run a 1\r\n0\r\nend\r\n",
+            "note: x:1:8: a carriage return: lines end with a line feed alone\nrun a 1\\x0d\n       ^ take the carriage returns out, as by `tr -d '\\r'`\n",
+        ),
+        (
+            "run n.v s.txt t.txt x",
+            9,
+            None,
+            "state 111\nsig 1\nend\n",
+            "note: x:1:1: 3 bits stand here, and 2 are due: one for each flip-flop of the netlist\nstate 111\n^ is the dump of this netlist, with this signature?\n",
+        ),
+        (
+            "run n.v s.txt t.txt d.txt",
+            5,
+            Some(Stop::Candidates),
+            "",
+            "note: the budget of candidates is spent, and no run comes to a listed state, in step 2\nnote: ask for more with --candidates K, up to 65536, or choose a signature that tells more states apart\n",
+        ),
+        (
+            "run n.v s.txt t.txt d.txt",
+            3,
+            Some(Stop::Nohit),
+            "",
+            "note: no recorded run comes to a state that is listed in step 2\nnote: record more or longer runs of what the chip did, or choose a signature that tells more states apart\nnote: so many moments of recorded runs were searched, each cycle of each run from 0: 2\n",
+        ),
+        (
+            "run n.v s.txt t.txt d.txt",
+            13,
+            None,
+            "",
+            "note: standard output failed after 4 whole lines: no reason is known\nnote: what went out is the front of the answer; send it to a file with room, or let the reader read on\n",
+        ),
+    ] {
+        let notes = noted(alloc, line, code, stop, mistake)?;
+        assert_eq!(rt; notes.bytes(), want.as_bytes(), "{line}");
+    }
+    Ok(())
+}
