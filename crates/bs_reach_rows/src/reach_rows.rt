@@ -24,7 +24,7 @@ struct Seen {
 }
 
 /// The answer for a state of a netlist, where both are texts that are read and the state has the netlist's width.
-fn seen(alloc: Global, text: &[u8], state: &[u8], k: u64, b: u64) -> Result<Option<Seen>, Fail> {
+fn asked(alloc: Global, text: &[u8], state: &[u8], k: u64, b: u64) -> Result<Option<Seen>, Fail> {
     let net = match netlist(alloc, text) {
         Some(net) => net,
         None => return Ok(None),
@@ -71,14 +71,14 @@ fn states_are_reached_or_not(rt: HostRuntime) -> Result<(), Fail> {
     let not_at_once = &b"reach 1\nasked 0 conflicts 100000\nresult unreached\nlog 0\nend\n"[..];
     let spent = &b"reach 1\nasked 3 conflicts 1\nresult unknown 1\nlog "[..];
     for (text, state, k, b, begins, finishes, replayed) in [
-        (SHIFT, b"11", 5, 100_000, two, 1, true),
+        (SHIFT, &b"11"[..], 5, 100_000, two, 1, true),
         (ZERO, b"1", 3, 100_000, never, 3, false),
         (TOGGLE, b"0", 0, 100_000, at_once, 0, true),
         (TOGGLE, b"1", 0, 100_000, not_at_once, 0, false),
         (THREE, b"1", 3, 100_000, never, 3, false),
         (THREE, b"1", 3, 1, spent, 0, false),
     ] {
-        let seen = seen(alloc, text, state, k, b)?;
+        let seen = asked(alloc, text, state, k, b)?;
         assert!(rt; is_so(&seen, begins, finishes, replayed));
     }
     Ok(())
@@ -86,6 +86,6 @@ fn states_are_reached_or_not(rt: HostRuntime) -> Result<(), Fail> {
 
 #[test]
 fn a_state_of_another_width_is_no_question(rt: HostRuntime) -> Result<(), Fail> {
-    assert!(rt; seen(rt.alloc(), SHIFT, b"1", 5, 100_000)?.is_none());
+    assert!(rt; asked(rt.alloc(), SHIFT, b"1", 5, 100_000)?.is_none());
     Ok(())
 }
