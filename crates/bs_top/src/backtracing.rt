@@ -12,7 +12,6 @@ ghost use Rattle.bs_scan.specs.Crash.{crash_of, DumpFits};
 ghost use Rattle.bs_entry.specs.Entry.{recording_in};
 ghost use Rattle.bs_top.specs.Finishes.{finishes, IsBacktrace, stop_status};
 
-use crate::room::text_room;
 use bs_chip::Chip;
 use bs_entry::{Crashed, FileNames, Setup, take_crashed};
 use bs_job::{Reply, Status, stopped};
@@ -62,7 +61,6 @@ fn reported(alloc: Global, crashed: &Crashed, budgets: &Budgets) -> Result<Reply
 {
     let report = report_of(alloc, &crashed.setup, &crashed.dump, budgets)?;
     let mut text = Vec::new(alloc);
-    let _ = text.reserve(text_room(&report));
     report.text(&mut text)?;
     Ok(Reply {
         status: stop_status(report.stop),

@@ -9,7 +9,6 @@ mod dumping;
 mod generated;
 mod law;
 mod program;
-mod room;
 mod summary;
 mod summing;
 mod top;
