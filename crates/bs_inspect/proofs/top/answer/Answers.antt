@@ -1,0 +1,25 @@
+use Rattle.bs_job.proofs.Clauses.{answered, answered_as_told, call_by_call, calls_wanting, complete, complete_whole, read_counted, read_fault_of}
+use Rattle.bs_job.proofs.Clauses.{refuses_first_of, words_only}
+use Rattle.bs_inspect.proofs.WorkLemmas.{is_work}
+use Rattle.bs_inspect.proofs.top.answer.Goals as goal
+
+pub returns-clause-answered : goal.returns-clause-answered
+returns-clause-answered g c = answered c.in_ok-answer.ensures.answer c.deliver.ensures.sent
+
+pub returns-clause-told : goal.returns-clause-told
+returns-clause-told g c = λ read write. answered_as_told c.in_ok-answer.ensures.answer c.deliver.ensures.sent read write
+
+pub returns-clause-refusals : goal.returns-clause-refusals
+returns-clause-refusals g c = λ read write. refuses_first_of is_work c.in_ok-answer.ensures.answer c.deliver.ensures.sent read write
+
+pub returns-clause-read_fault : goal.returns-clause-read_fault
+returns-clause-read_fault g c = λ is. read_fault_of is_work c.in_ok-answer.ensures.answer c.deliver.ensures.sent is
+
+pub returns-clause-read_counted : goal.returns-clause-read_counted
+returns-clause-read_counted g c = λ read write. read_counted c.in_ok-answer.ensures.answer c.deliver.ensures.sent read write
+
+pub returns-clause-whole : goal.returns-clause-whole
+returns-clause-whole g c = λ calm. complete_whole is_work c.in_ok-answer.ensures.answer c.deliver.ensures.sent calm
+
+pub returns-clause-calls : goal.returns-clause-calls
+returns-clause-calls g c = call_by_call c.in_ok-answer.ensures c.deliver.ensures.sent c.deliver.ensures.lines

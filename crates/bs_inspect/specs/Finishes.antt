@@ -1,0 +1,19 @@
+-- The status and the text of work that is done.
+use Rattle.std.specs.Prelude.{◌≡◌, ℕ, List}
+use Rattle.bs_job.specs.declared.status.Status.{Status}
+use Rattle.bs_job.specs.declared.status.Status.TheVariants.{Done}
+use Rattle.bs_listing.specs.Told.{TellsFlops, TellsInputs}
+use Rattle.bs_listing.specs.Sizes.{TellsSizes}
+use Rattle.bs_story.specs.Steps.{steps_text}
+use Rattle.bs_story.specs.Trace.{TellsTrace}
+use Rattle.bs_inspect.specs.Usage.{usage_text, version_text}
+use Rattle.bs_inspect.specs.Work.{Work, to_help, to_version, to_flops, to_inputs, to_stats, to_steps, to_trace}
+
+abbrev pub finishes : Work → Status → List ℕ → Type 0
+finishes to_help status text = (status ≡ Done) × (text ≡ usage_text)
+finishes to_version status text = (status ≡ Done) × (text ≡ version_text)
+finishes (to_flops raw) status text = (status ≡ Done) × TellsFlops raw text
+finishes (to_inputs raw) status text = (status ≡ Done) × TellsInputs raw text
+finishes (to_stats raw) status text = (status ≡ Done) × TellsSizes raw text
+finishes (to_steps report) status text = (status ≡ Done) × (text ≡ steps_text report)
+finishes (to_trace all only traced) status text = (status ≡ Done) × TellsTrace traced.raw traced.report all only text

@@ -1,0 +1,24 @@
+-- What `help` and `version` show (docs/FORMATS.md, "Words of `backspace_inspect`").
+use Rattle.std.specs.Prelude.{ℕ, List, ◌++◌, codes}
+use Rattle.bs_bits.specs.Lines.{line}
+
+unfoldable pub netlist_usage : List ℕ
+netlist_usage =
+    line (codes "usage: backspace_inspect flops NETLIST")
+    ++ (line (codes "usage: backspace_inspect inputs NETLIST")
+    ++ line (codes "usage: backspace_inspect stats NETLIST"))
+
+unfoldable pub report_usage : List ℕ
+report_usage =
+    line (codes "usage: backspace_inspect trace NETLIST REPORT [--all] [--only NAME ..]")
+    ++ line (codes "usage: backspace_inspect steps REPORT")
+
+unfoldable pub other_usage : List ℕ
+other_usage = line (codes "usage: backspace_inspect help") ++ line (codes "usage: backspace_inspect version")
+
+-- a line for each command
+abbrev pub usage_text : List ℕ
+usage_text = netlist_usage ++ (report_usage ++ other_usage)
+
+unfoldable pub version_text : List ℕ
+version_text = line (codes "backspace_inspect 1")

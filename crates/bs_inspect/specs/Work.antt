@@ -1,0 +1,39 @@
+-- What a request is ready for, and the files through which it comes to that.
+use Rattle.std.specs.Prelude.{ℕ, Bool, List}
+use Rattle.bs_net.specs.Parts.{Parts}
+use Rattle.bs_report.specs.declared.report.Report.{Report}
+use Rattle.bs_request.specs.Request.{Request, Help, Version, Flops, Inputs, Stats, Steps, Trace}
+use Rattle.bs_job.specs.Plan.{Plan, end, ◌>>=◌}
+use Rattle.bs_entry.specs.Entry.{netlist_of, report_of}
+use Rattle.bs_intake.specs.Taken.{Traced, traced_of}
+
+-- how words stand, the version, the flip-flops, data inputs or sizes of a netlist, the steps of a report, or its trace with the
+-- names of a netlist is to be written
+pub data Work : Type 0 where
+  to_help : Work
+  to_version : Work
+  to_flops : Parts → Work
+  to_inputs : Parts → Work
+  to_stats : Parts → Work
+  to_steps : Report → Work
+  to_trace : Bool → List (List ℕ) → Traced → Work
+
+-- the plan of a request
+abbrev pub plan_of : Request → Plan Parts Work
+plan_of Help = end to_help
+plan_of Version = end to_version
+plan_of (Flops netlist) = do
+  raw ← netlist_of netlist
+  end (to_flops raw)
+plan_of (Inputs netlist) = do
+  raw ← netlist_of netlist
+  end (to_inputs raw)
+plan_of (Stats netlist) = do
+  raw ← netlist_of netlist
+  end (to_stats raw)
+plan_of (Steps report) = do
+  told ← report_of report
+  end (to_steps told)
+plan_of (Trace t) = do
+  traced ← traced_of t.netlist t.report
+  end (to_trace t.all t.only traced)

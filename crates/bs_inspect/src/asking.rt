@@ -1,0 +1,90 @@
+//! The answer to each request: its files are taken, and what they tell is told.
+ghost use Rattle.std.specs.Prelude.{◌≡◌, Some};
+ghost use Rattle.bs_job.specs.Prepared.{Prepared};
+ghost use Rattle.bs_entry.specs.Refusals.{CheckSays};
+ghost use Rattle.bs_request.specs.Request.{Flops as FlopsOf, Help as HelpOf, Inputs as InputsOf, Stats as StatsOf, Steps as StepsOf, Trace as TraceOf, Version as VersionOf};
+ghost use Rattle.bs_request.specs.Shown.{request_in, trace_in};
+ghost use Rattle.bs_inspect.specs.Finishes.{finishes};
+ghost use Rattle.bs_inspect.specs.Work.{plan_of};
+
+use crate::telling::{
+    tell_flops, tell_inputs, tell_stats, tell_steps, tell_trace, tell_usage, tell_version,
+};
+use bs_intake::{take_netlist, take_report, take_traced};
+use bs_job::{Reply, stopped};
+use bs_outside::{NoMemory, Shelf};
+use bs_request::{Request, TraceRequest};
+use std::alloc::Global;
+
+/// The answer to `flops`.
+fn flops<S: Shelf>(alloc: Global, shelf: &mut S, netlist: &str) -> Result<Reply, NoMemory>
+    ensures { Prepared CheckSays finishes S.held S.faults S.leads shelf.old shelf.new (Some (plan_of (FlopsOf netlist.now))) result }
+{
+    match take_netlist(alloc, shelf, netlist) {
+        Ok(net) => tell_flops(alloc, &net),
+        Err(stop) => stopped(alloc, stop),
+    }
+}
+
+/// The answer to `inputs`.
+fn inputs<S: Shelf>(alloc: Global, shelf: &mut S, netlist: &str) -> Result<Reply, NoMemory>
+    ensures { Prepared CheckSays finishes S.held S.faults S.leads shelf.old shelf.new (Some (plan_of (InputsOf netlist.now))) result }
+{
+    match take_netlist(alloc, shelf, netlist) {
+        Ok(net) => tell_inputs(alloc, &net),
+        Err(stop) => stopped(alloc, stop),
+    }
+}
+
+/// The answer to `stats`.
+fn stats<S: Shelf>(alloc: Global, shelf: &mut S, netlist: &str) -> Result<Reply, NoMemory>
+    ensures { Prepared CheckSays finishes S.held S.faults S.leads shelf.old shelf.new (Some (plan_of (StatsOf netlist.now))) result }
+{
+    match take_netlist(alloc, shelf, netlist) {
+        Ok(net) => tell_stats(alloc, &net),
+        Err(stop) => stopped(alloc, stop),
+    }
+}
+
+/// The answer to `steps`.
+fn steps<S: Shelf>(alloc: Global, shelf: &mut S, report: &str) -> Result<Reply, NoMemory>
+    ensures { Prepared CheckSays finishes S.held S.faults S.leads shelf.old shelf.new (Some (plan_of (StepsOf report.now))) result }
+{
+    match take_report(alloc, shelf, report) {
+        Ok(told) => tell_steps(alloc, &told),
+        Err(stop) => stopped(alloc, stop),
+    }
+}
+
+/// The answer to `trace`.
+fn trace<S: Shelf>(
+    alloc: Global,
+    shelf: &mut S,
+    asked: &TraceRequest<'_>,
+) -> Result<Reply, NoMemory>
+    ensures { Prepared CheckSays finishes S.held S.faults S.leads shelf.old shelf.new (Some (plan_of (TraceOf (trace_in asked.now)))) result }
+{
+    match take_traced(alloc, shelf, asked.netlist, asked.report) {
+        Ok(traced) => tell_trace(alloc, &traced, asked.all, asked.only.as_slice()),
+        Err(stop) => stopped(alloc, stop),
+    }
+}
+
+/// What is to be answered and written for a request.
+pub(crate) fn prepare<S: Shelf>(
+    alloc: Global,
+    request: &Request<'_>,
+    shelf: &mut S,
+) -> Result<Reply, NoMemory>
+    ensures { Prepared CheckSays finishes S.held S.faults S.leads shelf.old shelf.new (Some (plan_of (request_in request.now))) result }
+{
+    match request {
+        Request::Help => tell_usage(alloc),
+        Request::Version => tell_version(alloc),
+        Request::Flops(netlist) => flops(alloc, shelf, netlist),
+        Request::Inputs(netlist) => inputs(alloc, shelf, netlist),
+        Request::Stats(netlist) => stats(alloc, shelf, netlist),
+        Request::Steps(report) => steps(alloc, shelf, report),
+        Request::Trace(asked) => trace(alloc, shelf, asked),
+    }
+}

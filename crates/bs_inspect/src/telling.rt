@@ -1,0 +1,97 @@
+//! What is told, as an answer.
+ghost use Rattle.std.specs.Prelude.{◌≡◌, map, IfOk};
+ghost use Rattle.bs_intake.specs.Taken.{traced_in};
+ghost use Rattle.bs_inspect.specs.Finishes.{finishes};
+ghost use Rattle.bs_inspect.specs.Work.{to_flops, to_help, to_inputs, to_stats, to_steps, to_trace, to_version};
+
+use crate::usage::{usage_text, version_text};
+use bs_intake::Traced;
+use bs_job::{Reply, Status};
+use bs_listing::{flops_text, inputs_text, stats_text};
+use bs_net::Netlist;
+use bs_outside::NoMemory;
+use bs_report::Report;
+use bs_story::{steps_text, trace_text};
+use std::alloc::Global;
+
+/// How words stand.
+pub(crate) fn tell_usage(alloc: Global) -> Result<Reply, NoMemory>
+    ensures { IfOk result (λ answer. finishes to_help answer.status answer.text.items) }
+{
+    let text = usage_text(alloc)?;
+    Ok(Reply {
+        status: Status::Done,
+        text,
+    })
+}
+
+/// The version.
+pub(crate) fn tell_version(alloc: Global) -> Result<Reply, NoMemory>
+    ensures { IfOk result (λ answer. finishes to_version answer.status answer.text.items) }
+{
+    let text = version_text(alloc)?;
+    Ok(Reply {
+        status: Status::Done,
+        text,
+    })
+}
+
+/// The flip-flops of a netlist.
+pub(crate) fn tell_flops(alloc: Global, net: &Netlist) -> Result<Reply, NoMemory>
+    ensures { IfOk result (λ answer. finishes (to_flops net.now.raw) answer.status answer.text.items) }
+{
+    let text = flops_text(alloc, net)?;
+    Ok(Reply {
+        status: Status::Done,
+        text,
+    })
+}
+
+/// The data inputs of a netlist.
+pub(crate) fn tell_inputs(alloc: Global, net: &Netlist) -> Result<Reply, NoMemory>
+    ensures { IfOk result (λ answer. finishes (to_inputs net.now.raw) answer.status answer.text.items) }
+{
+    let text = inputs_text(alloc, net)?;
+    Ok(Reply {
+        status: Status::Done,
+        text,
+    })
+}
+
+/// The sizes of a netlist.
+pub(crate) fn tell_stats(alloc: Global, net: &Netlist) -> Result<Reply, NoMemory>
+    ensures { IfOk result (λ answer. finishes (to_stats net.now.raw) answer.status answer.text.items) }
+{
+    let text = stats_text(alloc, net)?;
+    Ok(Reply {
+        status: Status::Done,
+        text,
+    })
+}
+
+/// The steps of a report.
+pub(crate) fn tell_steps(alloc: Global, report: &Report) -> Result<Reply, NoMemory>
+    ensures { IfOk result (λ answer. finishes (to_steps report.now) answer.status answer.text.items) }
+{
+    let text = steps_text(alloc, report)?;
+    Ok(Reply {
+        status: Status::Done,
+        text,
+    })
+}
+
+/// The trace of a report with the names of a netlist.
+pub(crate) fn tell_trace(
+    alloc: Global,
+    traced: &Traced,
+    all: bool,
+    only: &[&str],
+) -> Result<Reply, NoMemory>
+    ensures { IfOk result (λ answer. finishes (to_trace all (map (λ s. s.now) only.now) (traced_in traced.now)) answer.status answer.text.items) }
+{
+    let text = trace_text(alloc, &traced.net, &traced.report, all, only)?;
+    Ok(Reply {
+        status: Status::Done,
+        text,
+    })
+}
