@@ -15,3 +15,5 @@ mod limit_rows;
 mod refusal_rows;
 #[cfg(test)]
 mod run_rows;
+#[cfg(test)]
+mod wave_rows;

@@ -141,3 +141,71 @@ fn signatures_and_stimuli_are_refused(rt: HostRuntime) -> Result<(), Fail> {
     }
     Ok(())
 }
+
+/// Whether a run on these four files is refused so.
+fn is_run_refused(alloc: Global, files: [&str; 4], status: Status, want: &str) -> bool {
+    let texts = [files[0], files[1], files[2], files[3], ""];
+    answers(alloc, "run n s t d", texts, SOUND, status, want)
+}
+
+#[test]
+fn files_are_not_what_they_seem(rt: HostRuntime) -> Result<(), Fail> {
+    let alloc = rt.alloc();
+    let (ends, dump) = ("run a 1\n1\nend\n", "state 11\nsig 1\nend\n");
+    // Empty, cut in the middle of a line, with line ends of two bytes, and with a byte order mark in front.
+    for (files, status, want) in [
+        (
+            ["\u{feff}module m(ck); endmodule", "", ends, dump],
+            Status::Netlist,
+            "refused netlist Syntax 0\n",
+        ),
+        (
+            [SHIFT, "bit q1\r\n", ends, dump],
+            Status::Signature,
+            "refused signature Line 1\n",
+        ),
+        (
+            [SHIFT, "\u{feff}bit q1\n", ends, dump],
+            Status::Signature,
+            "refused signature Line 1\n",
+        ),
+        (
+            [SHIFT, "bit q1\nbi", ends, dump],
+            Status::Signature,
+            "refused signature Line 2\n",
+        ),
+        (
+            [SHIFT, "", "run a 1\r\n1\r\nend\r\n", dump],
+            Status::Stimulus,
+            "refused stimulus Line 1\n",
+        ),
+        (
+            [SHIFT, "", "run a 3\n1\n1", dump],
+            Status::Stimulus,
+            "refused stimulus Count 4\n",
+        ),
+        (
+            [SHIFT, "bit q1\n", ends, ""],
+            Status::Dump,
+            "refused dump Line 1\n",
+        ),
+        (
+            [SHIFT, "bit q1\n", ends, "state 11\nsi"],
+            Status::Dump,
+            "refused dump Line 2\n",
+        ),
+        (
+            [SHIFT, "bit q1\n", ends, "state 11\r\nsig 1\r\nend\r\n"],
+            Status::Dump,
+            "refused dump Line 1\n",
+        ),
+        (
+            [SHIFT, "bit q1\n", ends, "\u{feff}state 11\nsig 1\nend\n"],
+            Status::Dump,
+            "refused dump Line 1\n",
+        ),
+    ] {
+        assert!(rt; is_run_refused(alloc, files, status, want), "{want}");
+    }
+    Ok(())
+}
