@@ -1,0 +1,29 @@
+//! The command line tool `backspace_inspect`, which tells about the files of `backspace`.
+#![tactic(auto)]
+
+use bs_inspect::run_program;
+use bs_outside::{FileShelf, StdSink};
+use std::alloc::Global;
+use std::env;
+use std::io::ErrorKind;
+use std::process::ExitCode;
+
+/// The words without the program's name, or the kind of the fault that hides them.
+fn given_words(rt: &HostRuntime, alloc: Global) -> Result<Vec<String>, ErrorKind> {
+    let args = match env::args(rt) {
+        Ok(args) => args,
+        Err(error) => return Err(error.kind()),
+    };
+    match args.skip(1).collect(alloc) {
+        Ok(words) => Ok(words),
+        Err(_) => Err(ErrorKind::OutOfMemory),
+    }
+}
+
+fn main(rt: HostRuntime) -> ExitCode {
+    let alloc = rt.alloc();
+    let words = given_words(&rt, alloc);
+    let mut shelf = FileShelf::new(&rt);
+    let mut out = StdSink::new(&rt);
+    ExitCode::from(run_program(alloc, words, &mut shelf, &mut out))
+}
