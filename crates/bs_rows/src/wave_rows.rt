@@ -15,19 +15,29 @@ const SHIFT_WAVE: &str =
 const WIDE: &str =
     "module w(ck); input ck; supply0 [65532:0] z; not g(d,q); dff f(ck,q,d); endmodule";
 
-/// Whether the waveform of the report that is written of a dump without a hit is this.
-fn is_unhit(alloc: Global, want: &str) -> Option<bool> {
-    let files = [
+/// The files of the shift register with a run that has no hit, and this report.
+fn unhit(report: &str) -> [&str; 5] {
+    [
         SHIFT,
         "bit q1\n",
         "run a 3\n0\n0\n0\nend\n",
         "state 11\nsig 1\nend\n",
-    ];
-    let first = [files[0], files[1], files[2], files[3], ""];
-    let (_, text) = call(alloc, "run n s t d", first, SOUND)?;
+        report,
+    ]
+}
+
+/// Whether the waveform of the report that is written of a dump without a hit is this.
+fn is_unhit(alloc: Global, want: &str) -> Option<bool> {
+    let (_, text) = call(alloc, "run n s t d", unhit(""), SOUND)?;
     let report = str::from_utf8(&text).ok()?;
-    let texts = [files[0], files[1], files[2], files[3], report];
-    Some(answers(alloc, "wave n s t d r", texts, SOUND, Status::Done, want))
+    Some(answers(
+        alloc,
+        "wave n s t d r",
+        unhit(report),
+        SOUND,
+        Status::Done,
+        want,
+    ))
 }
 
 /// A report without a step, and with a trace of so many states.
