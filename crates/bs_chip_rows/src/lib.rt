@@ -1,13 +1,5 @@
-//! Worked rows of the breakpoint bank, of the chip, and of signatures, dumps and chains.
+//! Worked rows of the breakpoint bank and of the chip.
 #![tactic(auto)]
 
 #[cfg(test)]
 mod bank_rows;
-#[cfg(test)]
-mod chip_rows;
-#[cfg(test)]
-mod circuits;
-#[cfg(test)]
-mod scan_rows;
-#[cfg(test)]
-mod size_rows;
