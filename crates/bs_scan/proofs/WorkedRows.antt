@@ -5,6 +5,7 @@ use Rattle.bs_bits.specs.Lines.{lines_of}
 use Rattle.bs_net.specs.declared.net.NetId.{NetId}
 use Rattle.bs_net.specs.declared.net.Flop.{Flop}
 use Rattle.bs_net.specs.declared.net.Kind.TheVariants.{Not}
+use Rattle.bs_net.specs.declared.net.Mode.TheVariants.{Plain}
 use Rattle.bs_net.specs.Circuit.{Circuit, next, settled, all_bits}
 use Rattle.bs_scan.specs.declared.dump.Dump.{Dump}
 use Rattle.bs_scan.specs.declared.fault.DumpFault.{DumpFault}
@@ -19,7 +20,7 @@ abbrev net : ℕ → NetId
 net n = record { 0 = n }
 
 abbrev flop_at : ℕ → ℕ → Flop
-flop_at q d = record { q = net q; d = net d; ck = net 0; reset = false }
+flop_at q d = record { q = net q; d = net d; ck = net 0; reset = false; mode = Plain }
 
 -- a shift register: net 0 is the clock, net 1 the input, net 2 the first flip-flop and net 3 the second
 abbrev register : Circuit
