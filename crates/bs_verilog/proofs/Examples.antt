@@ -13,7 +13,7 @@ use Rattle.bs_syntax.specs.Parts.{by_place, gate, place, pin, connections, insta
 use Rattle.bs_syntax.specs.Modules.{item, items, top, skipped, begun, further, cells, leading, syntax_of}
 use Rattle.bs_scope.specs.Keys.{scalar_key, bit_key, keys}
 use Rattle.bs_scope.specs.Declaring.{said, first_after, known_nets, first_over, naming_fault, declaring_fault}
-use Rattle.bs_verilog.specs.Terminals.{is_gate, is_assignment, named_pins, pins_of, cell_pins}
+use Rattle.bs_verilog.specs.Terminals.{is_gate, is_assignment, pins_of, cell_pins}
 use Rattle.bs_verilog.specs.Building.{each, implicit_net, declared_key, constant_net, named_net, term_net, with_connection, gates_of, with_part}
 use Rattle.bs_net.specs.Parts.{Parts}
 use Rattle.bs_scope.specs.Nets.{with_keys}
@@ -28,7 +28,7 @@ unfolding piece_at tokens_from comment_size quoted_size word_of decimal_from nam
     index term num time delay attributes_from range port_says net_says names declared_name plain_port header_port carried ports header timed by_place
     gate place pin connections instance assignment gates instances assignments item items top skipped begun further cells leading syntax_of scalar_key
     bit_key keys known_nets first_over declaring_fault naming_fault term_net with_part supply_consts built_of said first_after is_gate is_assignment
-    named_pins pins_of cell_pins each implicit_net declared_key constant_net named_net with_connection gates_of port_bits with_keys meaning_of
+    pins_of cell_pins each implicit_net declared_key constant_net named_net with_connection gates_of port_bits with_keys meaning_of
     netlist_text
 reading_a_netlist = tt
 
@@ -88,7 +88,7 @@ toggle : netlist_text (codes "module t(ck); input ck; not g(d,q); dff f(ck,q,d);
       consts = [];
       gates = record
           { kind = Not; out = net 1; ins = net 2 ∷ [] } ∷ [];
-      flops = record { q = net 2; d = net 1; ck = net 0; reset = false } ∷ [];
+      flops = record { q = net 2; d = net 1; ck = net 0; reset = false; mode = Plain } ∷ [];
     })
 unfolding reading_a_netlist
 toggle = refl
@@ -103,7 +103,7 @@ pins_ports_constants : netlist_text (codes
           record { net = net 2; value = true } ∷ record { net = net 3; value = false } ∷ [];
       gates = record { kind = Buf; out = net 4; ins = net 1 ∷ [] } ∷ record
           { kind = Buf; out = net 5; ins = net 1 ∷ [] } ∷ [];
-      flops = record { q = net 1; d = net 3; ck = net 0; reset = true } ∷ [];
+      flops = record { q = net 1; d = net 3; ck = net 0; reset = true; mode = Plain } ∷ [];
     })
 unfolding reading_a_netlist
 pins_ports_constants = refl
