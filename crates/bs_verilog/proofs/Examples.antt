@@ -2,6 +2,7 @@
 use Rattle.std.proofs.Common.{◌≡◌, ℕ, [], ◌∷◌, ◌++◌, Ok, Err, false, true, refl, length, Result}
 use Rattle.bs_net.specs.declared.net.NetId.{NetId}
 use Rattle.bs_net.specs.declared.net.Kind.TheVariants.{Not, Buf}
+use Rattle.bs_net.specs.declared.net.Mode.TheVariants.{Plain, Enable, Clear}
 use Rattle.std.specs.Prelude.{codes, ⊤}
 use Rattle.std.specs.Fmt.{digits}
 use Rattle.bs_lex.specs.Tokens.{piece_at, tokens_from, comment_size, quoted_size}
@@ -263,6 +264,11 @@ cells_around_the_top : shown (netlist_text (codes
 unfolding reading_a_netlist
 cells_around_the_top = refl
 
+cells_with_four_pins_around_the_top : shown (netlist_text (codes
+    "module dffe (E); wire endmodule module m(ck); input ck; endmodule module dffr 1 endmodule")) ≡ (1, 1, 0, 0, 0)
+unfolding reading_a_netlist
+cells_with_four_pins_around_the_top = refl
+
 escaped_names : shown (netlist_text (codes "module m(ck); input ck; not (\\ck ,a); not (\\a+ ,a); endmodule")) ≡ (3, 1, 0, 2, 0)
 unfolding reading_a_netlist
 escaped_names = refl
@@ -290,6 +296,47 @@ pin_twice = refl
 empty_connection : netlist_text (codes "module m(ck); input ck; dff f(ck, , d); endmodule") ≡ Err (Terminals 29)
 unfolding reading_a_netlist
 empty_connection = refl
+
+enable_and_clear_by_place : netlist_text (codes "module m(ck); input ck; dffe f(ck, q, d, e); dffr g(ck, p, d, r); endmodule") ≡ Ok
+    (record {
+      names = codes "ck" ∷ codes "q" ∷ codes "d" ∷ codes "e" ∷ codes "p" ∷ codes "r" ∷ [];
+      inputs = net 0 ∷ [];
+      outputs = [];
+      consts = [];
+      gates = [];
+      flops = record
+          { q = net 1; d = net 2; ck = net 0; reset = false; mode = Enable (net 3) } ∷ record
+          { q = net 4; d = net 2; ck = net 0; reset = false; mode = Clear (net 5) } ∷ [];
+    })
+unfolding reading_a_netlist
+enable_and_clear_by_place = refl
+
+enable_and_clear_by_name : netlist_text
+    (codes "module m(ck); input ck; dffe f(.E(e), .D(d), .CK(ck), .Q(q)); dffr g(.Q(p), .R(r), .D(q), .CK(ck)); endmodule") ≡ Ok
+    (record {
+      names = codes "ck" ∷ codes "e" ∷ codes "d" ∷ codes "q" ∷ codes "p" ∷ codes "r" ∷ [];
+      inputs = net 0 ∷ [];
+      outputs = [];
+      consts = [];
+      gates = [];
+      flops = record
+          { q = net 3; d = net 2; ck = net 0; reset = false; mode = Enable (net 1) } ∷ record
+          { q = net 4; d = net 3; ck = net 0; reset = false; mode = Clear (net 5) } ∷ [];
+    })
+unfolding reading_a_netlist
+enable_and_clear_by_name = refl
+
+three_connections_of_four : netlist_text (codes "module m(ck); input ck; dffe f(ck,q,d); endmodule") ≡ Err (Terminals 30)
+unfolding reading_a_netlist
+three_connections_of_four = refl
+
+four_connections_of_three : netlist_text (codes "module m(ck); input ck; dff f(ck,q,d,e); endmodule") ≡ Err (Terminals 29)
+unfolding reading_a_netlist
+four_connections_of_three = refl
+
+pin_of_another_cell : netlist_text (codes "module m(ck); input ck; dffe f(.CK(ck), .Q(q), .D(d), .R(r)); endmodule") ≡ Err (Terminals 30)
+unfolding reading_a_netlist
+pin_of_another_cell = refl
 
 no_name_after_module : netlist_text (codes "module module endmodule") ≡ Err (Syntax 7)
 unfolding reading_a_netlist
