@@ -29,12 +29,12 @@ steps_on = refl
 
 -- net 0 is the clock, net 1 the flip-flop, net 2 its input, and net 3 another input
 abbrev in_mode : Mode → Circuit
-in_mode mode =
+in_mode m =
     record {
       nets = 4;
       clock = net 0;
       inputs = net 2 ∷ net 3 ∷ [];
-      flops = record { q = net 1; d = net 2; ck = net 0; reset = false; mode } ∷ [];
+      flops = record { q = net 1; d = net 2; ck = net 0; reset = false; mode = m } ∷ [];
       gates = [];
       constants = [];
     }
