@@ -13,7 +13,7 @@ use Rattle.bs_place.specs.Nearest.{net_key}
 use Rattle.bs_place.specs.Quotes.{shown_line}
 use Rattle.bs_refusal.specs.declared.check.TheConstants.{RING}
 use Rattle.bs_refusal.specs.Notes.{saying, file_text, IsNoteOn}
-use Rattle.bs_refusal.specs.Parts.{before, behind, IsFirst, NoneOf}
+use Rattle.bs_refusal.specs.Parts.{before, behind, IsFirstPlace, NoneOf}
 
 -- ---- where a name stands in a text
 
@@ -43,7 +43,7 @@ stands_at text name at =
 -- the first place of a text at which a name stands, or its front where it stands nowhere
 abbrev pub IsNamePlace : List ℕ → List ℕ → ℕ → Type 0
 IsNamePlace text name at =
-    IsFirst (stands_at text name) (length text) at ⊎ (NoneOf (stands_at text name) (length text) × (at ≡ 0))
+    IsFirstPlace (stands_at text name) (length text) at ⊎ (NoneOf (stands_at text name) (length text) × (at ≡ 0))
 
 -- ---- a net
 
@@ -97,8 +97,8 @@ IsCheckNote r path text (net.Undriven n) note =
     IsNetNote path text (net_key r n) (codes " is read and has no driver") (codes "is the name misspelt, or a gate missing?") note
 IsCheckNote r path text (net.Loop gates) note = IsRingNote r path text gates note
 IsCheckNote r path text net.NoFlop note =
-    note ≡ file_text path (codes "there is no flip-flop: cells are dff and dffs (docs/FORMATS.md, Netlists)")
+    note ≡ file_text path (codes "there is no flip-flop: cells are dff, dffs, dffe and dffr (docs/FORMATS.md, Netlists)")
 IsCheckNote r path text (net.ClockMixed n) note =
     IsNetNote path text (net_key r n) (codes " is no single clock")
-    (codes "all flip-flops take one input port bit as their clock, and no gate and no d reads it") note
+    (codes "all flip-flops take one input port bit as their clock, and no gate and no d, e or r reads it") note
 IsCheckNote r path text net.NoMemory note = note ≡ file_text path (codes "memory ran out")

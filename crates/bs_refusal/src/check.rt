@@ -6,7 +6,7 @@ ghost use Rattle.bs_place.specs.Quotes.{shown_line};
 ghost use Rattle.bs_refusal.specs.Checks.{base_of, count_sentence, first_key, is_joined, is_of_name, IsCheckNote, IsKeyNote, IsNamePlace, IsNetNote, IsRingNote};
 ghost use Rattle.bs_refusal.specs.Checks.{joins_before, keyed_text, output_of, ring_piece, ring_text, stands_at};
 ghost use Rattle.bs_refusal.specs.Notes.{file_text};
-ghost use Rattle.bs_refusal.specs.Parts.{IsFirst, NoneOf};
+ghost use Rattle.bs_refusal.specs.Parts.{IsFirstPlace, NoneOf};
 
 use crate::form::{Message, file_note, note_on};
 use crate::part::{before, behind};
@@ -86,7 +86,7 @@ fn stands_at(text: &[u8], at: usize, name: &[u8]) -> bool
 
 /// The first place of a text at which a name stands, if it stands anywhere.
 fn first_place(text: &[u8], name: &[u8]) -> Option<usize>
-    ensures some { IfSome result (IsFirst (stands_at text.now name.now) (length text.now)) }
+    ensures some { IfSome result (IsFirstPlace (stands_at text.now name.now) (length text.now)) }
     ensures none { IfNone result (NoneOf (stands_at text.now name.now) (length text.now)) }
 {
     'places: for at in 0..text.len() {
@@ -290,7 +290,7 @@ pub fn check_note(
         NetFault::NoFlop => file_note(
             alloc,
             path,
-            b"there is no flip-flop: cells are dff and dffs (docs/FORMATS.md, Netlists)",
+            b"there is no flip-flop: cells are dff, dffs, dffe and dffr (docs/FORMATS.md, Netlists)",
         ),
         NetFault::ClockMixed(net) => net_note(
             alloc,
@@ -298,7 +298,7 @@ pub fn check_note(
             text,
             key_of(raw, *net),
             " is no single clock",
-            b"all flip-flops take one input port bit as their clock, and no gate and no d reads it",
+            b"all flip-flops take one input port bit as their clock, and no gate and no d, e or r reads it",
         ),
         NetFault::NoMemory => file_note(alloc, path, b"memory ran out"),
     }

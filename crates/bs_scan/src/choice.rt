@@ -1,12 +1,13 @@
 //! What a signature is taken of.
 ghost use Rattle.std.specs.Prelude.{◌≡◌, ◌<◌, ◌≤◌, length, Some, slice_get, All, IfOk};
 ghost use Rattle.bs_bits.specs.Lines.{lines_of};
-ghost use Rattle.bs_scan.specs.Choice.{IsChoice};
+ghost use Rattle.bs_scan.specs.Choice.{depth_of, with_depth, IsChoice, IsDepth};
 ghost use Rattle.bs_bits.specs.Reading.{Answers};
-ghost use Rattle.bs_scan.specs.ChoiceText.{choice_of};
+ghost use Rattle.bs_scan.specs.ChoiceText.{choice_from, choice_of};
+ghost use Rattle.bs_scan.specs.Reading.{bytes_in};
 ghost use Rattle.bs_scan.specs.Signature.{parity_of, signature};
 
-use crate::choice_text::read_items;
+use crate::choice_text::{read_items, rest_behind_two};
 use crate::fault::ChoiceFault;
 use crate::flops::FlopNames;
 use bs_bits::{Bits, List, NoMemory};
@@ -23,10 +24,12 @@ pub const MAX_ITEM_FLOPS: u32 = 1_048_576;
 /// The greatest number of bytes of a signature file.
 pub const MAX_SIGNATURE_BYTES: u32 = 1_048_576;
 
-/// The items of a signature, each a list of flip-flop numbers.
+/// What a signature is taken of: items, each a list of flip-flop numbers. The depth is the number of states whose
+/// signatures the register keeps.
 #[derive(Drop)]
 pub struct Choice {
     width: usize,
+    depth: u8,
     items: List<List<u32>>,
 }
 
@@ -35,9 +38,9 @@ impl Model for Choice {
 
     ghost Value = { Chosen };
 
-    ghost view = { λ choice. record { width = choice.width; items = choice.items } };
+    ghost view = { λ choice. record { width = choice.width; depth = choice.depth; items = choice.items } };
 
-    ghost invariant = { λ choice. IsChoice (record { width = choice.width; items = choice.items }) };
+    ghost invariant = { λ choice. IsChoice (record { width = choice.width; depth = choice.depth; items = choice.items }) };
 }
 
 /// The parity of an item's flip-flops in a state. A flip-flop that is named twice counts twice.
@@ -49,6 +52,28 @@ pub(crate) fn parity(item: &[u32], state: &Bits) -> bool
     ones.count() % 2 == 1
 }
 
+/// The items of a text, whose first line has this number, in a file of this depth.
+fn read_from(
+    alloc: Global,
+    bytes: &[u8],
+    first: u32,
+    depth: u8,
+    net: &Netlist,
+) -> Result<Choice, ChoiceFault>
+    requires bytes { bytes_in (lines_of bytes.now) ≤ MAX_SIGNATURE_BYTES }
+    requires first { first ≤ 2 }
+    requires depth { IsDepth depth }
+    ensures { Answers ChoiceFault.NoMemory (λ choice. choice) result (choice_from net.now.raw first depth (lines_of bytes.now)) }
+{
+    let flops = FlopNames::new(alloc, net)?;
+    let items = read_items(alloc, bytes, first, &flops)?;
+    Ok(Choice {
+        width: net.width(),
+        depth,
+        items,
+    })
+}
+
 impl Choice {
     /// The items that a signature file names, by the keys of the flip-flops' output nets
     /// (docs/FORMATS.md, "Signature").
@@ -56,12 +81,30 @@ impl Choice {
         requires { length bytes.now ≤ MAX_SIGNATURE_BYTES }
         ensures { Answers ChoiceFault.NoMemory (λ choice. choice) result (choice_of net.now.raw (lines_of bytes.now)) }
     {
-        let flops = FlopNames::new(alloc, net)?;
-        let items = read_items(alloc, bytes, &flops)?;
-        Ok(Choice {
-            width: net.width(),
-            items,
-        })
+        match rest_behind_two(bytes) {
+            Some(rest) => read_from(alloc, rest, 2, 2, net),
+            None => read_from(alloc, bytes, 1, 1, net),
+        }
+    }
+
+    /// The same items with another depth.
+    pub fn with_depth(self, depth: u8) -> Choice
+        requires { IsDepth depth }
+        ensures { result ≡ with_depth self depth }
+    {
+        Choice {
+            width: self.width,
+            depth,
+            items: self.items,
+        }
+    }
+
+    /// The number of states whose signatures the register keeps: the last one, or the last two.
+    pub fn depth(&self) -> u8
+        ensures depth { result ≡ depth_of self.now }
+        ensures sound { IsChoice self.now }
+    {
+        self.depth
     }
 
     /// The number of flip-flops of the netlist.
