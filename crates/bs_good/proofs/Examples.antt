@@ -76,6 +76,10 @@ other_trace : first_failing crash basis (record report { inputs = [] }) ≡ Some
 unfolding computed
 other_trace = refl
 
+other_depth : first_failing crash basis (record report { depth = 2 }) ≡ Some parts.Format
+unfolding computed
+other_depth = refl
+
 no_retire : first_failing crash basis (record report { log = lines.Solve ∷ [] }) ≡ Some (parts.Log 2 order)
 unfolding computed
 no_retire = refl
@@ -110,7 +114,8 @@ step_to present stored state cycle =
     record {
       present = present;
       stored = stored ∷ [];
-      cands = record { state = state; input = one } ∷ [];
+      older = None;
+      cands = record { state = state; input = one; before = None } ∷ [];
       end = ends.Finished 0;
       hit = Some (record { run = 1; cycle = cycle; state = state });
     }
