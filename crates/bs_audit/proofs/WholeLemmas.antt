@@ -1,7 +1,7 @@
 -- The whole report.
 use Rattle.std.proofs.Common.{◌≡◌, ℕ, suc, zero, ◌<◌, ◌≤◌, ◌+◌, Bool, true, false, List, [], ◌∷◌, ◌++◌, map, length, get_or, refl, ap, subst, sym}
 use Rattle.std.proofs.Common.{◌∙◌, Option, Some, None, arith}
-use Rattle.std.specs.Prelude.{Result, Ok, Err, IfOk, slice_get, option_map, ◌&&◌, All, nat_le}
+use Rattle.std.specs.Prelude.{Result, Ok, Err, IfOk, slice_get, option_map, ◌==◌, ◌&&◌, All, nat_le}
 use Rattle.std.specs.Option.{option_or, IfSome}
 use Rattle.std.specs.List.{AllByRecursion as Each}
 use Rattle.std.proofs.lemmas.Bool.{false≢true, leb-true}
@@ -11,7 +11,7 @@ use Rattle.bs_clause.specs.Literal.{Clause}
 use Rattle.bs_log.specs.FirstRefused.{first_refused}
 use Rattle.bs_log.specs.Shown.{Basis}
 use Rattle.bs_net.specs.Circuit.{Circuit}
-use Rattle.bs_scan.specs.Choice.{Chosen}
+use Rattle.bs_scan.specs.Choice.{Chosen, depth_of}
 use Rattle.bs_scan.specs.Moments.{Moment, Run, run_of, state_of, state_at, first_moment}
 use Rattle.bs_scan.specs.Dump.{signatures_of}
 use Rattle.bs_scan.specs.declared.dump.Dump.{Dump}
@@ -70,27 +70,41 @@ steps_follow crash r =
     ap first_of_all
     (due_from crash r 0 r.steps (Some (present_in crash.dump)) (λ k lt. let place : 0 + k ≡ k = omega arith in ap (due_at crash r.steps) place))
 
--- the first part that fails: of the steps, or behind them
-whole : (crash : Crash) (basis : Basis) (r : Report) → first_failing crash basis r
+-- a report of another depth
+pub format_fails : (crash : Crash) (basis : Basis) (r : Report) → (r.depth == depth_of crash.choice) ≡ false → Some parts.Format ≡ first_failing crash basis r
+unfolding first_failing
+format_fails crash basis r e =
+    let rest : List (Option Part) =
+    each_step (step_parts crash r) 0 r.steps ++ behind_parts (last_present crash (Some (present_in crash.dump)) r.steps) crash.dump.state basis r in
+    sym (ap (λ (b : Bool). first_of_all (unless b parts.Format ∷ rest)) e)
+
+-- the first part that fails of a report of the signature's depth: of the steps, or behind them
+whole : (crash : Crash) (basis : Basis) (r : Report) → (r.depth == depth_of crash.choice) ≡ true → first_failing crash basis r
     ≡ option_or (first_from crash r.budgets 0 (Some (present_in crash.dump)) r.steps)
     (first_of_all (behind_parts (last_present crash (Some (present_in crash.dump)) r.steps) crash.dump.state basis r))
 unfolding first_failing
-whole crash basis r =
-    first_append (each_step (step_parts crash r) 0 r.steps) (behind_parts (last_present crash (Some (present_in crash.dump)) r.steps) crash.dump.state basis r)
+whole crash basis r of =
+    let rest : List (Option Part) =
+    each_step (step_parts crash r) 0 r.steps ++ behind_parts (last_present crash (Some (present_in crash.dump)) r.steps) crash.dump.state basis r in
+    ap (λ (b : Bool). first_of_all (unless b parts.Format ∷ rest)) of
+    ∙ (first_append (each_step (step_parts crash r) 0 r.steps)
+    (behind_parts (last_present crash (Some (present_in crash.dump)) r.steps) crash.dump.state basis r)
     ∙ ap (λ o. option_or o (first_of_all (behind_parts (last_present crash (Some (present_in crash.dump)) r.steps) crash.dump.state basis r)))
-    (steps_follow crash r)
+    (steps_follow crash r))
 
-pub fails_in_steps : (crash : Crash) (basis : Basis) (r : Report) (part : Part) → IsWalked crash r (Fails part) → Some part ≡ first_failing crash basis r
-fails_in_steps crash basis r part walked =
-    sym (whole crash basis r
+pub fails_in_steps : (crash : Crash) (basis : Basis) (r : Report) (part : Part) → (r.depth == depth_of crash.choice) ≡ true →
+    IsWalked crash r (Fails part) → Some part ≡ first_failing crash basis r
+fails_in_steps crash basis r part of walked =
+    sym (whole crash basis r of
     ∙ ap (λ o. option_or o (first_of_all (behind_parts (last_present crash (Some (present_in crash.dump)) r.steps) crash.dump.state basis r))) walked)
 
-pub fails_behind : (crash : Crash) (basis : Basis) (r : Report) (due : Option Dump) (part : Option Part) → IsWalked crash r (Holds due) →
+pub fails_behind : (crash : Crash) (basis : Basis) (r : Report) (due : Option Dump) (part : Option Part) → (r.depth == depth_of crash.choice) ≡ true →
+    IsWalked crash r (Holds due) →
     part ≡ first_of_all (behind_parts (option_map present_in due) crash.dump.state basis r) → part ≡ first_failing crash basis r
-fails_behind crash basis r due part walked e =
+fails_behind crash basis r due part of walked e =
     e
     ∙ sym
-    (whole crash basis r
+    (whole crash basis r of
     ∙ (ap (λ o. option_or o (first_of_all (behind_parts (last_present crash (Some (present_in crash.dump)) r.steps) crash.dump.state basis r))) walked.0
     ∙ ap (λ o. first_of_all (behind_parts o crash.dump.state basis r)) walked.1))
 
@@ -282,13 +296,14 @@ pub leaves_fit : (crash : Crash) (r : Report) (walk : Walk) → DumpFits crash.c
 leaves_fit crash r (Fails part) fits walked = tt
 leaves_fit crash r (Holds due) fits walked = steps_are_fit crash r due fits walked
 
-pub part_is : (crash : Crash) (basis : Basis) (r : Report) (walk : Walk) → IsWalked crash r walk →
+pub part_is : (crash : Crash) (basis : Basis) (r : Report) (walk : Walk) → (r.depth == depth_of crash.choice) ≡ true → IsWalked crash r walk →
     first_after walk crash.dump.state basis r ≡ first_failing crash basis r
-part_is crash basis r (Fails part) walked = fails_in_steps crash basis r part walked
-part_is crash basis r (Holds due) walked =
-    fails_behind crash basis r due (first_of_all (behind_parts (option_map present_in due) crash.dump.state basis r)) walked refl
+part_is crash basis r (Fails part) of walked = fails_in_steps crash basis r part of walked
+part_is crash basis r (Holds due) of walked =
+    fails_behind crash basis r due (first_of_all (behind_parts (option_map present_in due) crash.dump.state basis r)) of walked refl
 
-pub parts_are : {E : Type 0} (crash : Crash) (basis : Basis) (r : Report) (walk : Walk) (result : Result (Option Part) E) → IsWalked crash r walk →
+pub parts_are : {E : Type 0} (crash : Crash) (basis : Basis) (r : Report) (walk : Walk) (result : Result (Option Part) E) →
+    (r.depth == depth_of crash.choice) ≡ true → IsWalked crash r walk →
     IfOk result (λ part. part ≡ first_after walk crash.dump.state basis r) → IfOk result (λ part. part ≡ first_failing crash basis r)
-parts_are crash basis r walk (Ok part) walked h = h ∙ part_is crash basis r walk walked
-parts_are crash basis r walk (Err error) walked h = tt
+parts_are crash basis r walk (Ok part) of walked h = h ∙ part_is crash basis r walk of walked
+parts_are crash basis r walk (Err error) of walked h = tt

@@ -4,6 +4,7 @@ ghost use Rattle.bs_net.specs.Netlist.{circuit};
 ghost use Rattle.bs_encode.specs.Assuming.{basis_of};
 ghost use Rattle.bs_encode.specs.Encoded.{encoding_of};
 ghost use Rattle.bs_encode.specs.Listing.{IsTidy};
+ghost use Rattle.bs_scan.specs.Choice.{depth_of};
 ghost use Rattle.bs_scan.specs.Crash.{crash_of, recording_of, DumpFits};
 ghost use Rattle.bs_scan.specs.Present.{present_in};
 ghost use Rattle.bs_good.specs.Chain.{present_of};
@@ -13,6 +14,7 @@ ghost use Rattle.bs_audit.specs.Finding.{basis_for, part_of};
 ghost use Rattle.bs_audit.specs.Following.{IsWalked};
 ghost use Rattle.bs_audit.specs.Logged.{basis_with, behind_parts, first_after, logged_parts, AreFit, IsFit, LeavesFit};
 
+use crate::candidates::depth;
 use crate::law::valid_reports_are_good;
 use crate::logged::{assumptions, refused_line, wrong_log};
 use crate::replay::Replay;
@@ -155,6 +157,26 @@ fn part_after(
     }
 }
 
+/// The first part that fails of a report of the signature's depth.
+fn part_within(
+    alloc: Global,
+    net: &Netlist,
+    choice: &Choice,
+    runs: &Runs,
+    dump: &Dump,
+    report: &Report,
+) -> Result<Option<Part>, NoMemory>
+    requires choice { choice.now.width ≡ length (circuit net.now).flops }
+    requires runs { runs.now.width ≡ length (circuit net.now).inputs }
+    requires dump { DumpFits (circuit net.now) choice.now dump.now }
+    requires budget { report.now.budgets.steps ≤ MAX_STEPS }
+    requires depth { report.now.depth ≡ depth_of choice.now }
+    ensures { IfOk result (λ part. part ≡ first_failing (crash_of (recording_of net.now.raw choice.now runs.now) dump.now) (basis_for (crash_of (recording_of net.now.raw choice.now runs.now) dump.now) report.now) report.now) }
+{
+    let walk = walked(alloc, net, choice, runs, dump, report)?;
+    part_after(alloc, net, choice, dump, report, &walk)
+}
+
 /// The first part that fails.
 fn failing_part(
     alloc: Global,
@@ -170,8 +192,10 @@ fn failing_part(
     requires budget { report.now.budgets.steps ≤ MAX_STEPS }
     ensures { IfOk result (λ part. part ≡ first_failing (crash_of (recording_of net.now.raw choice.now runs.now) dump.now) (basis_for (crash_of (recording_of net.now.raw choice.now runs.now) dump.now) report.now) report.now) }
 {
-    let walk = walked(alloc, net, choice, runs, dump, report)?;
-    part_after(alloc, net, choice, dump, report, &walk)
+    if report.depth != depth(choice) {
+        return Ok(Some(Part::Format));
+    }
+    part_within(alloc, net, choice, runs, dump, report)
 }
 
 /// The finding on a report: it is accepted exactly where it is valid, and otherwise its first part that fails is named

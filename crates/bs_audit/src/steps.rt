@@ -31,7 +31,7 @@ fn has_due_state(due: &Option<Dump>, state: &Bits) -> bool
     }
 }
 
-/// Whether a step's signature is that of the dump, if there is one.
+/// Whether a step's signatures are those of the dump, if there is one.
 fn has_due_stored(due: &Option<Dump>, step: &Step) -> bool
     ensures { result ≡ has_stored (option_map present_in due.now) (stored_of step.now) }
 {
@@ -39,7 +39,7 @@ fn has_due_stored(due: &Option<Dump>, step: &Step) -> bool
         None => false,
         Some(dump) => match &dump.stored {
             None => false,
-            Some(stored) => step.stored.equals(stored),
+            Some(stored) => step.older.is_none() && step.stored.equals(stored),
         },
     }
 }

@@ -1,7 +1,7 @@
 -- A good report whose log is right is valid.
 use Rattle.std.proofs.Common.{◌≡◌, ◌≢◌, ℕ, suc, zero, ◌<◌, ◌≤◌, ◌+◌, ◌-◌, Bool, true, false, List, [], ◌∷◌, ◌++◌, map, length, get_or, refl, ap}
 use Rattle.std.proofs.Common.{subst, sym, ◌∙◌, Option, Some, None, arith}
-use Rattle.std.specs.Prelude.{slice_get, option_map, not, ◌&&◌, ◌||◌, ◌==◌, nat_le, if◌then◌else◌, All, IsTrue}
+use Rattle.std.specs.Prelude.{slice_get, option_map, not, ◌&&◌, ◌||◌, ◌==◌, nat_le, if◌then◌else◌}
 use Rattle.std.specs.Option.{IsSomeAnd}
 use Rattle.std.specs.List.{AllByRecursion as Each, range_with_len, last_or}
 use Rattle.std.specs.Ordering.{is_lt, bool_cmp}
@@ -41,7 +41,7 @@ use Rattle.bs_good.specs.Trace.{trace_states, trace_inputs}
 use Rattle.bs_good.specs.Good.{IsGood}
 use Rattle.bs_good.specs.Valid.{unless, all_bits_eq, due_at, has_state, has_stored, is_right_cand, is_right_count, same_hit, step_parts, log_parts}
 use Rattle.bs_good.specs.Valid.{each_step, parts_of, first_of_all, first_failing, is_cause, cause_of, cause_at, cause_after, cause_of_end}
-use Rattle.bs_good.specs.Valid.{stop_number, cand_at, no_cand, lines_at, is_right_before, NamesBefores, IsLogged, IsValid}
+use Rattle.bs_good.specs.Valid.{stop_number, cand_at, no_cand, lines_at, HaveBefores, NamesBefores, IsLogged, IsValid}
 use Rattle.bs_good.specs.ValidLaw.{GoodIsValid}
 use Rattle.bs_good.proofs.ProgressLemmas.{all_at, hit_at}
 use Rattle.bs_good.proofs.ExecutionLemmas.{leads_next, led_widths}
@@ -179,7 +179,7 @@ greater_at step asc (suc k) lt =
     ∙ ap is_lt (asc k (suc k) [] (omega arith) (omega (arith, lt, long))))))
 
 cand_right : (crash : Crash) → IsCrash crash → (budgets : Budgets) (step : Step) → IsRightStep crash step →
-    All (λ (cand : Cand). IsTrue (is_right_before crash.circuit crash.choice step.older cand.state cand.before)) step.cands →
+    HaveBefores crash.circuit crash.choice step.older step.cands →
     length step.cands ≤ budgets.candidates → (j : ℕ) → j < length step.cands → is_right_cand crash budgets step j ≡ true
 cand_right crash is budgets step h befores few j lt =
     let cand = h.candidates j no_cand lt in
@@ -228,7 +228,7 @@ step_right crash r is good names k step e =
     record {
       state = ap (λ (o : Option Present). has_state o step.present) due ∙ bits_same step.present;
       stored = ap (λ (o : Option Present). has_stored o (stored_of step)) due ∙ all_same (stored_of step);
-      cands = cand_right crash is r.budgets step h (names.befores k step e) few;
+      cands = cand_right crash is r.budgets step h (all_at (λ (step : Step). HaveBefores crash.circuit crash.choice step.older step.cands) r.steps k step names.befores e) few;
       count = count_right (asked_of crash step) r.budgets (lines_at r k) step.cands step.end (good.ends k step e);
       hit = ap (λ (o : Option HitLine). same_hit o (hit_of crash step.cands)) h.hit ∙ same_self (hit_of crash step.cands);
     }

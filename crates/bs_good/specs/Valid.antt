@@ -198,11 +198,14 @@ first_failing crash basis r = first_of_all (parts_of crash basis r)
 abbrev pub IsValid : Crash → Basis → Report → Type 0
 IsValid crash basis r = first_failing crash basis r ≡ None
 
+-- the state before each candidate is right, where this is the step's older signature
+abbrev pub HaveBefores : Circuit → Chosen → Option (List Bool) → List Cand → Type 0
+HaveBefores c choice older cands = All (λ cand. IsTrue (is_right_before c choice older cand.state cand.before)) cands
+
 -- The report is of the depth of the signature, and names the right state before each candidate.
 pub record NamesBefores (crash : Crash) (r : Report) : Type 0 where
   pub depth : r.depth ≡ depth_of crash.choice
-  pub befores : (i : ℕ) (step : Step) → slice_get r.steps i ≡ Some step →
-      All (λ cand. IsTrue (is_right_before crash.circuit crash.choice step.older cand.state cand.before)) step.cands
+  pub befores : All (λ step. HaveBefores crash.circuit crash.choice step.older step.cands) r.steps
 
 -- The log is accepted, and to each step it has the blocks and the finish lines that the step's list owes.
 pub record IsLogged (basis : Basis) (r : Report) : Type 0 where

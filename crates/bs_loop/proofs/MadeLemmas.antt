@@ -1,5 +1,5 @@
 -- One more step of a backtrace.
-use Rattle.std.proofs.Common.{◌≡◌, ℕ, suc, zero, ◌+◌, ◌-◌, ◌<◌, ◌^◌, Bool, true, Option, List, [], ◌∷◌, ◌++◌, map, length, reverse, ap, subst, sym}
+use Rattle.std.proofs.Common.{◌≡◌, ℕ, suc, zero, ◌+◌, ◌-◌, ◌<◌, ◌^◌, Bool, true, Option, List, [], ◌∷◌, ◌++◌, map, length, reverse, refl, ap, subst, sym}
 use Rattle.std.proofs.Common.{◌∙◌, Some, arith}
 use Rattle.std.specs.Prelude.{slice_get, slice_index_or}
 use Rattle.std.proofs.lemmas.List.{length-append, length-map, map-append}
@@ -10,6 +10,7 @@ use Rattle.bs_clause.specs.Range.{HasVariables}
 use Rattle.bs_log.specs.declared.line.Line.{Line}
 use Rattle.bs_log.specs.Steps.{steps_of}
 use Rattle.bs_scan.specs.declared.dump.Dump.{Dump}
+use Rattle.bs_scan.specs.Choice.{depth_of}
 use Rattle.bs_scan.specs.Dump.{signatures_of}
 use Rattle.bs_scan.specs.Present.{Present, present_in}
 use Rattle.bs_scan.specs.Crash.{Recording, Crash, crash_of}
@@ -20,9 +21,10 @@ use Rattle.bs_encode.proofs.AssumingLemmas.{length_steps_from, steps_from_more}
 use Rattle.bs_report.specs.declared.report.ListEnd.TheVariants.{Conflicts}
 use Rattle.bs_report.specs.declared.report.Step.{Step}
 use Rattle.bs_report.specs.declared.report.Budgets.{Budgets}
+use Rattle.bs_report.specs.Text.{IsOfDepth}
 use Rattle.bs_good.specs.Step.{IsRightStep}
 use Rattle.bs_good.specs.Chain.{present_of}
-use Rattle.bs_good.specs.Valid.{blocks_due, are_right_blocks, blocks_in, is_right_finish, finishes_in}
+use Rattle.bs_good.specs.Valid.{HaveBefores, blocks_due, are_right_blocks, blocks_in, is_right_finish, finishes_in}
 use Rattle.bs_good.proofs.LoopLemmas.{follow_more}
 use Rattle.bs_preimage.specs.declared.listing.Listing.{Listing}
 use Rattle.bs_preimage.specs.Preimage.{PreimageState, next_guard}
@@ -105,6 +107,10 @@ step_made r dump budgets steps old new now stored listing hit made stands held b
       };
       right = All-append (IsRightStep crash) steps (step ∷ []) made.right
           (All-from_recursion (IsRightStep crash) (step ∷ []) (record { ascend = l.ascend; candidates = l.candidates; hit = back.line }, tt));
+      older = All-append (λ (step : Step). IsOfDepth (depth_of crash.choice) step.older) steps (step ∷ []) made.older
+          (All-from_recursion (λ (step : Step). IsOfDepth (depth_of crash.choice) step.older) (step ∷ []) (λ _. refl, tt));
+      befores = All-append (λ (step : Step). HaveBefores crash.circuit crash.choice step.older step.cands) steps (step ∷ []) made.befores
+          (All-from_recursion (λ (step : Step). HaveBefores crash.circuit crash.choice step.older step.cands) (step ∷ []) (l.befores, tt));
       follow = follow_more crash (Some (present_in crash.dump)) steps step made.follow (stands ∙ ap Some present);
       count =
           ap length l.step_lines

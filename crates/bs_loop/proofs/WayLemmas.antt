@@ -4,6 +4,7 @@ use Rattle.std.specs.Prelude.{MatchOption, option_map}
 use Rattle.std.proofs.lemmas.List.{length-append}
 use Rattle.std.proofs.lemmas.List.Elements.{All-from_recursion}
 use Rattle.bs_scan.specs.declared.dump.Dump.{Dump}
+use Rattle.bs_scan.specs.Choice.{depth_of}
 use Rattle.bs_scan.specs.Present.{present_in}
 use Rattle.bs_chip.specs.declared.replay.Hit.{Hit}
 use Rattle.bs_scan.specs.Crash.{Recording, crash_of, DumpFits}
@@ -12,7 +13,9 @@ use Rattle.bs_report.specs.declared.report.Step.{Step}
 use Rattle.bs_report.specs.declared.report.Stop.{Stop}
 use Rattle.bs_report.specs.declared.report.Stop.TheVariants.{Reset, Length}
 use Rattle.bs_report.specs.declared.report.Budgets.{Budgets}
+use Rattle.bs_report.specs.Text.{IsOfDepth}
 use Rattle.bs_good.specs.Step.{IsRightStep}
+use Rattle.bs_good.specs.Valid.{HaveBefores}
 use Rattle.bs_good.specs.Chain.{present_of_hit, present_after}
 use Rattle.bs_good.specs.Stop.{StopsFor}
 use Rattle.bs_good.proofs.LoopLemmas.{last_present_more}
@@ -30,6 +33,8 @@ none_made r dump budgets =
     record {
       state = refl;
       right = All-from_recursion (IsRightStep (crash_of r dump)) [] tt;
+      older = All-from_recursion (λ (step : Step). IsOfDepth (depth_of r.choice) step.older) [] tt;
+      befores = All-from_recursion (λ (step : Step). HaveBefores r.circuit r.choice step.older step.cands) [] tt;
       follow = tt;
       count = refl;
       logged = λ i step is. cc;

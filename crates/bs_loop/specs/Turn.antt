@@ -35,7 +35,7 @@ pub record HasLookedBack (r : Recording) (budgets : Budgets) (old new : Preimage
 -- the step of a list and of the moment that it hit
 abbrev pub step_of : Dump → List Bool → Listing → Option Hit → Step
 step_of now stored listing hit =
-    record { present = now.state; stored = stored; cands = listing.cands; end = listing.end; hit = option_map line_of hit }
+    record { present = now.state; stored = stored; older = None; cands = listing.cands; end = listing.end; hit = option_map line_of hit }
 
 -- a step back from a present, and the moment that it hit
 pub record IsStepBack (r : Recording) (budgets : Budgets) (old new : PreimageState) (now : Dump) (step : Step) (hit : Option Hit) : Type 0 where

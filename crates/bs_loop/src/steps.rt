@@ -73,6 +73,7 @@ fn step_of(now: &Dump, stored: Bits, listing: Listing, hit: &Option<Hit>) -> Res
     Ok(Step {
         present,
         stored,
+        older: None,
         cands: listing.cands,
         end: listing.end,
         hit,

@@ -112,6 +112,7 @@ pub fn backtrace(
     let log = log_of(preimage);
     chip.is_recording();
     Ok(Report {
+        depth: 1,
         budgets: *budgets,
         steps: way.steps,
         stop: way.stop,

@@ -40,7 +40,7 @@ use Rattle.bs_report.specs.declared.report.Cand.{Cand}
 use Rattle.bs_report.specs.declared.report.ListEnd.{ListEnd}
 use Rattle.bs_report.specs.declared.report.ListEnd.TheVariants.{Finished, Conflicts}
 use Rattle.bs_good.specs.Step.{listed, IsCandidate}
-use Rattle.bs_good.specs.Valid.{blocks_due, are_right_blocks, is_right_finish, blocks_in, finishes_in}
+use Rattle.bs_good.specs.Valid.{is_right_before, HaveBefores, blocks_due, are_right_blocks, is_right_finish, blocks_in, finishes_in}
 use Rattle.bs_good.proofs.SortedLemmas.{asc_of_pairs, asc_filter, asc_all_bits, same_lists}
 use Rattle.bs_good.proofs.ValidLemmas.{both}
 use Rattle.bs_good.proofs.GoodLemmas.{listed_member, filter_member, passing, all_bits_length}
@@ -202,6 +202,13 @@ candidate_of t cand p =
       leads = p.leads;
     }
 
+-- no state before a candidate is named, and none need be
+befores : (t : Sought) → HaveBefores t.c t.choice None t.cands
+befores t =
+    All-permutation (λ (cand : Cand). IsTrue (is_right_before t.c t.choice None cand.state cand.before)) t.found t.cands t.order.same
+    (All-weaker (IsShownIn t.e (assumed_by t)) (λ (cand : Cand). IsTrue (is_right_before t.c t.choice None cand.state cand.before))
+    (λ cand h. ap (is_right_before t.c t.choice None cand.state) h.before) t.found t.sought.search.cands.shown)
+
 -- ---- the blocks
 
 guard_same : (t : Sought) → guard_in t.old.book ≡ next_guard t.old.book.problem
@@ -349,6 +356,7 @@ made_step t listing e = subst (HasMadeStep t.c t.choice t.old t.new t.present t.
     step_lines = step_lines t;
     ascend = in_order_ascend t.found t.cands t.order t.sought.search.cands.apart;
     candidates = candidates t;
+    befores = befores t;
     ends = end_is (predecessors t.c t.choice t.present (t.stored ∷ [])) t.k t.b (assumed_by t) t.sought.middle t.sought.search.logged.lines
         (length t.found) t.cands t.end
         (length_permutation t.found t.cands t.order.same) t.sought.search.ended (whole t);

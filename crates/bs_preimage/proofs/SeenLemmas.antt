@@ -41,6 +41,7 @@ listed_seen c choice before after failed n m present stored k b listing well h =
       step_lines = h.step_lines;
       ascend = h.ascend;
       candidates = h.candidates;
+      befores = h.befores;
       ends = h.ends;
       blocks = h.blocks;
       finish = h.finish;

@@ -1,5 +1,5 @@
 -- What a list of candidates is, and what it adds to the log.
-use Rattle.std.specs.Prelude.{◌≡◌, ℕ, ◌-◌, ◌^◌, ◌<◌, Bool, true, false, List, [], ◌∷◌, ◌++◌, reverse, length, All}
+use Rattle.std.specs.Prelude.{◌≡◌, ℕ, ◌-◌, ◌^◌, ◌<◌, Bool, true, false, List, [], ◌∷◌, ◌++◌, reverse, length, None, All}
 use Rattle.bs_clause.specs.Literal.{Literal}
 use Rattle.bs_clause.specs.UnitRun.{IsUnitRun}
 use Rattle.bs_clause.specs.Range.{HasVariables}
@@ -9,7 +9,7 @@ use Rattle.bs_scan.specs.Signature.{predecessors}
 use Rattle.bs_encode.specs.Assuming.{block_for}
 use Rattle.bs_report.specs.declared.report.ListEnd.TheVariants.{Conflicts}
 use Rattle.bs_good.specs.Step.{listed, Ascend, IsCandidate, IsRightEnd}
-use Rattle.bs_good.specs.Valid.{blocks_due, are_right_blocks, blocks_in, is_right_finish, finishes_in}
+use Rattle.bs_good.specs.Valid.{HaveBefores, blocks_due, are_right_blocks, blocks_in, is_right_finish, finishes_in}
 use Rattle.bs_preimage.specs.declared.listing.Listing.{Listing}
 use Rattle.bs_preimage.specs.Preimage.{PreimageState, encoding_in, next_guard, assumptions_in, GoesOn}
 
@@ -25,6 +25,7 @@ pub record HasListed (old new : PreimageState) (present stored : List Bool) (k b
   pub step_lines : steps_of (reverse new.history) ≡ steps_of (reverse old.history) ++ lines ∷ []
   pub ascend : Ascend (listed listing.cands)
   pub candidates : All (IsCandidate old.circuit old.choice present (stored ∷ [])) listing.cands
+  pub befores : HaveBefores old.circuit old.choice None listing.cands
   pub ends : IsRightEnd (predecessors old.circuit old.choice present (stored ∷ [])) k b lines listing.cands listing.end
   pub blocks : are_right_blocks (blocks_due (next_guard old.problem) (block_for (encoding_in old)) listing.cands) (blocks_in lines) ≡ true
   pub finish : is_right_finish b (assumptions_in old present stored) lines listing.end (finishes_in lines) ≡ true

@@ -1,5 +1,5 @@
 -- A turn of a search for candidates: one solve, and what comes of it.
-use Rattle.std.specs.Prelude.{◌≡◌, ◌≢◌, ◌⊎◌, ℕ, ◌+◌, ◌-◌, ◌^◌, ◌<◌, ◌≤◌, Bool, true, false, cond, List, [], ◌∷◌, ◌++◌, length, Option, All, Contains}
+use Rattle.std.specs.Prelude.{◌≡◌, ◌≢◌, ◌⊎◌, ℕ, ◌+◌, ◌-◌, ◌^◌, ◌<◌, ◌≤◌, Bool, true, false, cond, List, [], ◌∷◌, ◌++◌, length, Option, None, All, Contains}
 use Rattle.std.specs.List.{AllByRecursion}
 use Rattle.bs_clause.specs.declared.literal.TheConstants.{VARIABLE_LIMIT}
 use Rattle.bs_clause.specs.Literal.{Literal, Clause, negation, literal_value, Satisfies}
@@ -36,6 +36,7 @@ pub record IsShownIn (e : Encoded) (assumptions : Clause) (cand : Cand) : Type 0
   pub holds : All (λ l. literal_value value l ≡ true) assumptions
   pub state : cand.state ≡ bits_on value e.states
   pub input : cand.input ≡ bits_on value e.inputs
+  pub before : cand.before ≡ None
 
 -- ---- the book
 
@@ -104,6 +105,7 @@ pub record MayTurn (e : Encoded) (s : SolverState) (assumptions : Clause) : Type
 pub record HasShownCand (e : Encoded) (values : List (Option Bool)) (old new : SolverState) (cand : Cand) : Type 0 where
   pub state : cand.state ≡ bits_on (value_of values) e.states
   pub input : cand.input ≡ bits_on (value_of values) e.inputs
+  pub before : cand.before ≡ None
   pub id : ℕ
   pub blocked : HasBlocked old new (block_for e cand.state) id
 

@@ -1,5 +1,5 @@
 //! The candidate that an assignment shows.
-ghost use Rattle.std.specs.Prelude.{◌≡◌, ◌<◌, ◌≤◌, length, IfOk};
+ghost use Rattle.std.specs.Prelude.{◌≡◌, ◌<◌, ◌≤◌, length, IfOk, None};
 ghost use Rattle.bs_clause.specs.Range.{HasVariables};
 ghost use Rattle.bs_book.specs.Values.{value_of};
 ghost use Rattle.bs_encode.specs.Cycle.{bits_on};
@@ -40,8 +40,13 @@ pub(crate) fn candidate(
     requires inputs { HasVariables (length values.now) encoding.now.inputs }
     ensures state { IfOk result (λ cand. cand.state ≡ bits_on (value_of values.now) encoding.now.states) }
     ensures input { IfOk result (λ cand. cand.input ≡ bits_on (value_of values.now) encoding.now.inputs) }
+    ensures before { IfOk result (λ cand. cand.before ≡ None) }
 {
     let state = bits(alloc, encoding.states(), values)?;
     let input = bits(alloc, encoding.inputs(), values)?;
-    Ok(Cand { state, input })
+    Ok(Cand {
+        state,
+        input,
+        before: None,
+    })
 }
