@@ -2,7 +2,7 @@
 use Rattle.std.proofs.Common.{◌≡◌, ℕ, suc, zero, ◌<◌, ◌≤◌, ◌+◌, Bool, true, false, List, [], ◌∷◌, ◌++◌, map, length, get_or, refl, ap, subst, sym}
 use Rattle.std.proofs.Common.{◌∙◌, Option, Some, None, arith}
 use Rattle.std.specs.Prelude.{Result, Ok, Err, IfOk, slice_get, option_map, ◌==◌, ◌&&◌, All, nat_le}
-use Rattle.std.specs.Option.{option_or, IfSome}
+use Rattle.std.specs.Option.{option_or, option_to_list, IfSome}
 use Rattle.std.specs.List.{AllByRecursion as Each}
 use Rattle.std.proofs.lemmas.Bool.{false≢true, leb-true}
 use Rattle.std.proofs.lemmas.List.{length-map}
@@ -16,7 +16,7 @@ use Rattle.bs_scan.specs.Moments.{Moment, Run, run_of, state_of, state_at, first
 use Rattle.bs_scan.specs.Dump.{signatures_of}
 use Rattle.bs_scan.specs.declared.dump.Dump.{Dump}
 use Rattle.bs_scan.specs.Present.{Present, present_in}
-use Rattle.bs_scan.specs.Signature.{stored_at, parity_of}
+use Rattle.bs_scan.specs.Signature.{signatures_before, parity_of}
 use Rattle.bs_scan.proofs.SignatureLemmas.{length_state, bits_same_is}
 use Rattle.bs_encode.specs.Tables.{lit}
 use Rattle.bs_encode.specs.Encoded.{Encoded, encoding_of}
@@ -125,9 +125,11 @@ none_first : (b : Bool) (part : Part) (rest : List (Option Part)) → first_of_a
 none_first true part rest e = (refl, e)
 none_first false part rest e = cc
 
-stored_wide : (c : Circuit) (choice : Chosen) (run : Run) (k : ℕ) → Each (λ t. length t ≡ length choice.items) (stored_at c choice run k)
-stored_wide c choice run zero = tt
-stored_wide c choice run (suc k) = (length-map choice.items (parity_of (state_at c run k)), tt)
+stored_wide : (c : Circuit) (choice : Chosen) (run : Run) (count k : ℕ) →
+    Each (λ t. length t ≡ length choice.items) (signatures_before c choice run count k)
+stored_wide c choice run zero k = tt
+stored_wide c choice run (suc count) zero = tt
+stored_wide c choice run (suc count) (suc k) = (length-map choice.items (parity_of (state_at c run k)), stored_wide c choice run count k)
 
 hit_wide : (crash : Crash) (o : Option Moment) →
     IfSome (option_map (present_of_hit crash)
@@ -136,12 +138,17 @@ hit_wide crash None = tt
 hit_wide crash (Some m) =
     record {
       state = length_state crash.circuit (run_of crash.runs m.run) m.cycle;
-      stored = stored_wide crash.circuit crash.choice (run_of crash.runs m.run) m.cycle;
+      stored = stored_wide crash.circuit crash.choice (run_of crash.runs m.run) (depth_of crash.choice) m.cycle;
     }
 
 record Begins (crash : Crash) (step : Step) : Type 0 where
   present : length step.present ≡ length crash.circuit.flops
   stored : length step.stored ≡ length crash.choice.items
+  older : IfSome step.older (λ t. length t ≡ length crash.choice.items)
+
+older_wide : (n : ℕ) (older : Option (List Bool)) → Each (λ t. length t ≡ n) (option_to_list older) → IfSome older (λ t. length t ≡ n)
+older_wide n None each = tt
+older_wide n (Some t) each = each.0
 
 begins : (crash : Crash) (due : Option Present) (step : Step) → IfSome due (IsWide crash) → has_state due step.present ≡ true →
     has_stored due (stored_of step) ≡ true → Begins crash step
@@ -150,7 +157,7 @@ begins crash (Some due) step wide e f =
     let same : stored_of step ≡ due.stored = all_same_is (stored_of step) due.stored f in
     let each : Each (λ (t : List Bool). length t ≡ length crash.choice.items) (stored_of step) =
     subst (Each (λ (t : List Bool). length t ≡ length crash.choice.items)) (sym same) wide.stored in
-    record { present = ap length (bits_same_is step.present due.state e) ∙ wide.state; stored = each.0 }
+    record { present = ap length (bits_same_is step.present due.state e) ∙ wide.state; stored = each.0; older = older_wide (length crash.choice.items) step.older each.1 }
 
 fit_from : (crash : Crash) (budgets : Budgets) (i : ℕ) (due : Option Present) (steps : List Step) → IfSome due (IsWide crash) →
     first_from crash budgets i due steps ≡ None →
@@ -172,6 +179,7 @@ fit_from crash budgets i due (step ∷ steps) wide e =
       record {
         present = begin.present;
         stored = begin.stored;
+        older = begin.older;
         ascend = ascend_is crash budgets step (λ j lt. cand_holds crash budgets i step 0 (length step.cands) lists.0 j (omega arith) (omega (arith, lt)));
         widths = right_widths crash budgets i step lists.0;
       },

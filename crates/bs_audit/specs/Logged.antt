@@ -1,5 +1,6 @@
 -- What the log owes to the steps.
 use Rattle.std.specs.Prelude.{◌≡◌, ℕ, ◌+◌, Bool, true, false, nat_le, ◌&&◌, List, [], ◌∷◌, length, option_map, All, Option, Some, None}
+use Rattle.std.specs.Option.{IfSome}
 use Rattle.bs_clause.specs.Literal.{Clause}
 use Rattle.bs_log.specs.declared.line.Line.{Line}
 use Rattle.bs_log.specs.Refusal.{denies}
@@ -48,6 +49,7 @@ lines_parts e assumptions b i step lines =
 pub record IsFit (flops items : ℕ) (step : Step) : Type 0 where
   pub present : length step.present ≡ flops
   pub stored : length step.stored ≡ items
+  pub older : IfSome step.older (λ t. length t ≡ items)
   pub ascend : Ascend (listed step.cands)
   pub widths : All (λ s. length s ≡ flops) (listed step.cands)
 

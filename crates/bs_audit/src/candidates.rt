@@ -62,13 +62,6 @@ fn leads(sim: &mut Sim<'_>, state: &Bits, input: &Bits, target: &Bits) -> bool
     sim.state().equals(target)
 }
 
-/// How many signatures the register keeps.
-pub(crate) fn depth(choice: &Choice) -> u8
-    ensures { result ≡ depth_of choice.now }
-{
-    1
-}
-
 /// The number of a place, counted from 1.
 pub(crate) fn number(i: usize) -> u64
     requires { i + 1 < 2 ^ 64 }
@@ -82,7 +75,7 @@ impl<'a> Replay<'a> {
     fn may_begin(&self, state: &Bits) -> bool
         ensures { result ≡ ((depth_of self.now.choice == 1) || bits_eq state.now (reset_state self.now.circuit)) }
     {
-        if depth(self.choice) == 1 {
+        if self.choice.depth() == 1 {
             return true;
         }
         state.equals(self.net.reset())

@@ -14,7 +14,6 @@ ghost use Rattle.bs_audit.specs.Finding.{basis_for, part_of};
 ghost use Rattle.bs_audit.specs.Following.{IsWalked};
 ghost use Rattle.bs_audit.specs.Logged.{basis_with, behind_parts, first_after, logged_parts, AreFit, IsFit, LeavesFit};
 
-use crate::candidates::depth;
 use crate::law::valid_reports_are_good;
 use crate::logged::{assumptions, refused_line, wrong_log};
 use crate::replay::Replay;
@@ -192,7 +191,7 @@ fn failing_part(
     requires budget { report.now.budgets.steps ≤ MAX_STEPS }
     ensures { IfOk result (λ part. part ≡ first_failing (crash_of (recording_of net.now.raw choice.now runs.now) dump.now) (basis_for (crash_of (recording_of net.now.raw choice.now runs.now) dump.now) report.now) report.now) }
 {
-    if report.depth != depth(choice) {
+    if report.depth != choice.depth() {
         return Ok(Some(Part::Format));
     }
     part_within(alloc, net, choice, runs, dump, report)

@@ -38,9 +38,9 @@ abbrev crash : Crash
 crash =
     record {
       circuit = toggle;
-      choice = record { width = 1; items = [] };
+      choice = record { width = 1; depth = 1; items = [] };
       runs = ([] ∷ []) ∷ [];
-      dump = record { state = true ∷ []; stored = Some [] };
+      dump = record { state = true ∷ []; stored = Some []; older = None; depth = 1 };
     }
 
 abbrev basis : Basis
@@ -104,9 +104,9 @@ abbrev shift_crash : Crash
 shift_crash =
     record {
       circuit = shift;
-      choice = record { width = 2; items = (1 ∷ []) ∷ [] };
+      choice = record { width = 2; depth = 1; items = (1 ∷ []) ∷ [] };
       runs = (one ∷ one ∷ one ∷ []) ∷ [];
-      dump = record { state = true ∷ true ∷ []; stored = Some one };
+      dump = record { state = true ∷ true ∷ []; stored = Some one; older = None; depth = 1 };
     }
 
 abbrev step_to : List Bool → Bool → List Bool → ℕ → Step
@@ -143,6 +143,6 @@ goes_through = refl
 goes_under : trace_inputs shift_steps ≡ one ∷ one ∷ one ∷ []
 goes_under = refl
 
-lists_one : predecessors shift (record { width = 2; items = (1 ∷ []) ∷ [] }) (true ∷ true ∷ []) (one ∷ []) ≡ (true ∷ true ∷ []) ∷ []
+lists_one : predecessors shift (record { width = 2; depth = 1; items = (1 ∷ []) ∷ [] }) (true ∷ true ∷ []) (one ∷ []) ≡ (true ∷ true ∷ []) ∷ []
 unfolding computed
 lists_one = refl

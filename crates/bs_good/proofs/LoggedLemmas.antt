@@ -2,7 +2,7 @@
 use Rattle.std.proofs.Common.{◌≡◌, ◌≢◌, ℕ, suc, zero, ◌<◌, ◌≤◌, ◌+◌, ◌-◌, Bool, true, false, List, [], ◌∷◌, ◌++◌, map, length, get_or, refl, ap}
 use Rattle.std.proofs.Common.{subst, sym, ◌∙◌, Option, Some, None, arith}
 use Rattle.std.specs.Prelude.{slice_get, option_map, not, ◌&&◌, ◌||◌, ◌==◌, nat_le, if◌then◌else◌}
-use Rattle.std.specs.Option.{IsSomeAnd}
+use Rattle.std.specs.Option.{IsSomeAnd, option_to_list}
 use Rattle.std.specs.List.{AllByRecursion as Each, range_with_len, last_or}
 use Rattle.std.specs.Ordering.{is_lt, bool_cmp}
 use Rattle.std.specs.Cmp.Lexicographic.{slice_cmp, pointwise_decides}
@@ -15,7 +15,7 @@ use Rattle.bs_net.specs.Circuit.{all_bits}
 use Rattle.bs_scan.specs.Moments.{is_listed}
 use Rattle.bs_scan.specs.Choice.{depth_of}
 use Rattle.bs_scan.specs.Present.{Present, present_in}
-use Rattle.bs_scan.specs.Signature.{agrees, some_input_leads, predecessors}
+use Rattle.bs_scan.specs.Signature.{signature, may_hold, agrees, some_input_leads, predecessors}
 use Rattle.bs_scan.proofs.SignatureLemmas.{bits_same}
 use Rattle.bs_log.specs.declared.line.Line.{Line}
 use Rattle.bs_log.specs.declared.why.Why.{Why}
@@ -153,13 +153,14 @@ all_same xs = (pointwise_decides bits_eq_Decides xs xs).1 refl
 
 -- ---- a candidate
 
-agrees_where_listed : (crash : Crash) (step : Step) (s : List Bool) → is_listed (asked_of crash step) s ≡ true →
-    agrees crash.circuit crash.choice (stored_of step) s ≡ true
+signature_where_listed : (crash : Crash) (step : Step) (s : List Bool) → is_listed (asked_of crash step) s ≡ true →
+    bits_eq (signature crash.choice s) step.stored ≡ true
 unfolding predecessors
-agrees_where_listed crash step s e =
+signature_where_listed crash step s e =
     let q : List Bool → Bool = λ s. agrees crash.circuit crash.choice (stored_of step) s && some_input_leads crash.circuit s step.present in
-    left (agrees crash.circuit crash.choice (stored_of step) s) (some_input_leads crash.circuit s step.present)
-    (filter_member q s (all_bits (length crash.circuit.flops)) (listed_member s (asked_of crash step) e)).0
+    left (bits_eq (signature crash.choice s) step.stored) (may_hold crash.circuit crash.choice (depth_of crash.choice - 1) (option_to_list step.older) s)
+    (left (agrees crash.circuit crash.choice (stored_of step) s) (some_input_leads crash.circuit s step.present)
+    (filter_member q s (all_bits (length crash.circuit.flops)) (listed_member s (asked_of crash step) e)).0)
   where
     left : (a b : Bool) → (a && b) ≡ true → a ≡ true
     left true b e = refl
@@ -193,7 +194,7 @@ cand_right crash is budgets step h befores few j lt =
     (and_from _ _
     (and_from _ _ (greater_at step h.ascend j lt) (eq-eqb _ _ widths.0))
     (eq-eqb _ _ widths.1))
-    (agrees_where_listed crash step s cand.predecessor))
+    (signature_where_listed crash step s cand.predecessor))
     (ap (λ (t : List Bool). bits_eq t step.present) (leads_next crash.circuit s x step.present is.checked cand.leads) ∙ bits_same step.present))
     (lt-ltb j budgets.candidates (omega (arith, lt, few))))
     (befores j no_cand lt)

@@ -28,7 +28,7 @@ use Rattle.std.specs.Cmp.Lexicographic.{slice_cmp}
 use Rattle.std.proofs.lemmas.List.{get_or_default}
 use Rattle.bs_net.specs.Circuit.{next}
 use Rattle.bs_net.proofs.NextLemmas.{next_is_led}
-use Rattle.bs_scan.specs.Choice.{depth_of}
+use Rattle.bs_scan.specs.Choice.{depth_of, IsDepth}
 use Rattle.bs_scan.specs.Signature.{signature, agrees}
 use Rattle.bs_scan.proofs.SignatureLemmas.{bits_same_is, is_predecessor}
 use Rattle.bs_log.specs.declared.why.Why.{Why}
@@ -54,6 +54,7 @@ use Rattle.bs_log.specs.Shown.{Basis}
 use Rattle.bs_good.specs.Valid.{unless, all_bits_eq, due_at, has_state, has_stored, is_right_cand, is_right_count, same_hit, step_parts, log_parts}
 use Rattle.bs_good.specs.Valid.{each_step, parts_of, first_of_all, first_failing, is_cause, cause_of, cause_at, cause_after, cause_of_end}
 use Rattle.bs_good.specs.Valid.{stop_number, IsValid, cand_at, no_cand, is_right_before, is_right_finish, lines_at}
+use Rattle.bs_good.proofs.BeforeLemmas.{agrees_where_right}
 
 abbrev pub IsRight : Option Part → Type 0
 IsRight part = part ≡ None
@@ -334,7 +335,7 @@ pub record CandIsRight (crash : Crash) (budgets : Budgets) (step : Step) (j : �
   pub greater : ((j == 0) || is_lt (slice_cmp bool_cmp (cand_at step (j - 1)).state (cand_at step j).state)) ≡ true
   pub state : length (cand_at step j).state ≡ length crash.circuit.flops
   pub input : length (cand_at step j).input ≡ length crash.circuit.inputs
-  pub agree : agrees crash.circuit crash.choice (stored_of step) (cand_at step j).state ≡ true
+  pub signature : bits_eq (signature crash.choice (cand_at step j).state) step.stored ≡ true
   pub leads : next crash.circuit (cand_at step j).state (cand_at step j).input ≡ step.present
   pub within : j < budgets.candidates
   pub before : is_right_before crash.circuit crash.choice step.older (cand_at step j).state (cand_at step j).before ≡ true
@@ -351,7 +352,7 @@ cand_is crash budgets step j e =
       greater = f.0;
       state = eqb-true _ _ f.1;
       input = eqb-true _ _ d.1;
-      agree = c.1;
+      signature = c.1;
       leads = bits_same_is _ _ b.1;
       within = ltb-true _ _ a.1;
       before = g.1;
@@ -364,9 +365,12 @@ cands_are crash is budgets step h k d lt =
     let right = cand_is crash budgets step k (h k lt) in
     let s : List Bool = (cand_at step k).state in
     let x : List Bool = (cand_at step k).input in
+    let agree : agrees crash.circuit crash.choice (stored_of step) s ≡ true =
+    agrees_where_right crash.circuit crash.choice step.stored step.older s (cand_at step k).before
+    (subst IsDepth is.fits.depth is.fits.sound.kept) right.signature right.before in
     subst (IsCandidate crash.circuit crash.choice step.present (stored_of step)) (get_or_default step.cands k no_cand d lt)
     (record {
-      predecessor = is_predecessor crash.circuit crash.choice step.present (stored_of step) s x right.state right.input right.agree right.leads;
+      predecessor = is_predecessor crash.circuit crash.choice step.present (stored_of step) s x right.state right.input agree right.leads;
       leads = (next_is_led crash.circuit s x step.present is.checked right.state right.input).1 (sym right.leads);
     })
 
