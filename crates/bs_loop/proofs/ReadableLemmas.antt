@@ -1,6 +1,6 @@
 -- The ranges that a report's text asks for.
 use Rattle.std.proofs.Common.{◌≡◌, ℕ, suc, zero, ◌-◌, ◌<◌, ◌≤◌, ◌^◌, Bool, true, List, [], ◌∷◌, length, get_or, refl, ap, subst, sym, ◌∙◌, Option}
-use Rattle.std.proofs.Common.{Some, None, ◌⊎◌, inl, arith}
+use Rattle.std.proofs.Common.{Some, None, arith}
 use Rattle.std.specs.Prelude.{slice_get, slice_index_or, filter_map, nat_eq, All, IsTrue}
 use Rattle.std.specs.List.{AllByRecursion as Each, cons_option}
 use Rattle.std.specs.Cmp.Lexicographic.{pointwise, same_text}
@@ -12,7 +12,7 @@ use Rattle.bs_log.specs.declared.line.Line.TheVariants.{Solve, Lemma, Block, Fin
 use Rattle.bs_log.specs.LineForms.{IsId, HasText}
 use Rattle.bs_log.specs.Steps.{onto_step, steps_of, finish_of_line}
 use Rattle.bs_net.specs.Circuit.{Circuit}
-use Rattle.bs_scan.specs.Choice.{Chosen, depth_of}
+use Rattle.bs_scan.specs.Choice.{Chosen, depth_of, IsDepth}
 use Rattle.bs_scan.specs.Crash.{Recording, IsRecording, Crash, crash_of}
 use Rattle.bs_scan.specs.declared.dump.Dump.{Dump}
 use Rattle.bs_scan.proofs.MomentLemmas.{each_from}
@@ -149,7 +149,7 @@ readable chip dump budgets s r sound range of texts lines =
     let inputs : length r.inputs ≡ length (filter_map input_behind r.steps) = ap length of.trace.inputs ∙ length-reverse (filter_map input_behind r.steps) in
     let fewer : length (filter_map input_behind r.steps) ≤ length r.steps = no_longer input_behind r.steps in
     record {
-      depth = inl of.depth;
+      depth = subst IsDepth (sym of.depth) sound.kept;
       some_steps = asked.steps.0;
       max_steps = asked.steps.1;
       some_candidates = asked.candidates.0;

@@ -59,7 +59,7 @@ stepped r dump budgets steps more old new now next n way s =
     let is : HasItsDump r s.hit = s.back.back.dump s.hit refl in
     subst (λ (l : List Step). IsUnderWay r dump budgets l new next (n + 1)) (sym s.made)
     (record {
-      made = made_more r dump budgets steps old new now s.step (Some s.hit) way.made way.stands s.back;
+      made = made_more r dump budgets steps old new now s.step (Some s.hit) way.made way.stands way.fits s.back;
       stands =
           last_present_more (crash_of r dump) (Some (present_in dump)) steps s.step
           ∙ step_stands r dump next s.step s.hit (ap (λ (step : Step). step.hit) s.back.step_is) is s.there;
@@ -72,7 +72,7 @@ at_reset : (r : Recording) (dump : Dump) (budgets : Budgets) (steps more : List 
 at_reset r dump budgets steps more old new now n stop way below s =
     let count : length steps ≡ n = way.count in
     let cause : StopsFor (crash_of r dump) budgets steps stop =
-    subst (StopsFor (crash_of r dump) budgets steps) (sym s.cause) (stops_at_reset (crash_of r dump) budgets steps now way.stands s.none) in
+    subst (StopsFor (crash_of r dump) budgets steps) (sym s.cause) (stops_at_reset (crash_of r dump) budgets steps now way.stands way.fits.sound s.none) in
     let old_ended : HasEnded (crash_of r dump) budgets steps old stop = record { made = way.made; few = omega (arith, below, count); cause = cause } in
     subst (λ (l : List Step). HasEnded (crash_of r dump) budgets l new stop) (sym s.same)
     (subst (λ (p : PreimageState). HasEnded (crash_of r dump) budgets steps p stop) (sym s.rest) old_ended)
@@ -85,7 +85,7 @@ unhit r dump budgets steps more old new now n stop way below s =
     let longer : length (steps ++ s.step ∷ []) ≡ length steps + 1 = length-append steps (s.step ∷ []) in
     subst (λ (l : List Step). HasEnded (crash_of r dump) budgets l new stop) (sym s.made)
     (record {
-      made = made_more r dump budgets steps old new now s.step None way.made way.stands s.back;
+      made = made_more r dump budgets steps old new now s.step None way.made way.stands way.fits s.back;
       few = omega (arith, below, count, longer);
       cause =
           subst (StopsFor (crash_of r dump) budgets (steps ++ s.step ∷ [])) (sym s.cause)
@@ -104,7 +104,7 @@ pub all_made : (r : Recording) (dump : Dump) (budgets : Budgets) (steps : List S
     HasEnded (crash_of r dump) budgets steps s stop
 all_made r dump budgets steps s now stop way cause =
     let count : length steps ≡ budgets.steps = way.count in
-    record { made = way.made; few = omega (arith, count); cause = stops_here (crash_of r dump) budgets steps now stop way.stands way.count cause }
+    record { made = way.made; few = omega (arith, count); cause = stops_here (crash_of r dump) budgets steps now stop way.stands way.fits.sound way.count cause }
 
 -- what the next turn asks for
 pub record IsReady (r : Recording) (budgets : Budgets) (s : PreimageState) : Type 0 where

@@ -112,7 +112,7 @@ pub fn backtrace(
     let log = log_of(preimage);
     chip.is_recording();
     Ok(Report {
-        depth: 1,
+        depth: dump.depth,
         budgets: *budgets,
         steps: way.steps,
         stop: way.stop,

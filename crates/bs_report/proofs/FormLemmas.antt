@@ -20,6 +20,7 @@ use Rattle.bs_log.proofs.WordLemmas.{id_of_decimal, IsWord, words_joined}
 use Rattle.bs_stim.specs.declared.limits.TheConstants.{MAX_RUNS, MAX_CYCLES}
 use Rattle.bs_report.specs.declared.limits.TheConstants.{MAX_STEPS, MAX_CANDIDATES, MAX_CONFLICTS}
 use Rattle.bs_report.specs.declared.report.Budgets.{Budgets}
+use Rattle.bs_scan.specs.Choice.{IsDepth}
 use Rattle.bs_scan.specs.DumpText.{signature_text}
 use Rattle.bs_report.specs.declared.report.Before.{Before}
 use Rattle.bs_report.specs.declared.report.Cand.{Cand}
@@ -30,7 +31,7 @@ use Rattle.bs_report.specs.declared.report.Stop.{Stop}
 use Rattle.bs_report.specs.declared.report.Stop.TheVariants.{Reset, Length, Nohit, Empty, Candidates, Conflicts}
 use Rattle.bs_report.specs.Forms.{◌>>=◌, next_in, behind, at_end, within, number_within, number_behind, bits_behind, bits_next, count_in, bits_in}
 use Rattle.bs_report.specs.Forms.{budgets_in, depth_in, older_in, source_in, before_in, cand_in, end_of, end_in, moment_in, hit_in, stop_in}
-use Rattle.bs_report.specs.Text.{title, before_text, cand_words, end_word, stop_word, IsDepth, IsOfDepth, HasEndText}
+use Rattle.bs_report.specs.Text.{title, before_text, cand_words, end_word, stop_word, IsOfDepth, HasEndText}
 
 -- ---- words
 

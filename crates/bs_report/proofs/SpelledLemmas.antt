@@ -17,6 +17,7 @@ use Rattle.bs_log.specs.LineReading.{line_in}
 use Rattle.bs_log.specs.LineText.{line_text}
 use Rattle.bs_report.specs.declared.fault.ReportFault.{ReportFault}
 use Rattle.bs_report.specs.declared.fault.ReportFault.TheVariants.{Extra as extra, Short as short}
+use Rattle.bs_scan.specs.Choice.{IsDepth}
 use Rattle.bs_scan.specs.DumpText.{signature_text}
 use Rattle.bs_report.specs.declared.place.Begun.{Begun}
 use Rattle.bs_report.specs.declared.place.Place.{Place}
@@ -32,7 +33,7 @@ use Rattle.bs_report.specs.Forms.{depth_in, count_in, bits_in, older_in, cand_in
 use Rattle.bs_report.specs.Reading.{Reached, begins, turned, begun, behind_stored, more_listed, step_of, with_step, behind_state, log_place, taken}
 use Rattle.bs_report.specs.Reading.{is_done, line_or_fault, ended, report_from, nothing_read, report_in}
 use Rattle.bs_report.specs.Text.{title, cand_text, older_text, end_word, step_text, steps_text, stop_word, state_text, move_text, trace_text}
-use Rattle.bs_report.specs.Text.{budgets_text, head_text, tail_text, report_text, IsDepth, IsOfDepth, HasEndText, HasStepText, HasReportText}
+use Rattle.bs_report.specs.Text.{budgets_text, head_text, tail_text, report_text, IsOfDepth, HasEndText, HasStepText, HasReportText}
 use Rattle.bs_report.specs.ReadingLaw.{TextsAreReports}
 use Rattle.bs_report.proofs.TextLemmas.{steps_text_append}
 use Rattle.bs_report.proofs.ReadBackLemmas.{moves_text, range_moves, first_state}

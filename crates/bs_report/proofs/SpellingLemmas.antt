@@ -19,6 +19,7 @@ use Rattle.bs_log.proofs.RoundTrip.{texts_are_lines}
 use Rattle.bs_stim.specs.declared.limits.TheConstants.{MAX_RUNS, MAX_CYCLES}
 use Rattle.bs_report.specs.declared.limits.TheConstants.{MAX_STEPS, MAX_CANDIDATES, MAX_CONFLICTS}
 use Rattle.bs_report.specs.declared.report.Budgets.{Budgets}
+use Rattle.bs_scan.specs.Choice.{IsDepth}
 use Rattle.bs_scan.specs.DumpText.{signature_text}
 use Rattle.bs_report.specs.declared.report.Before.{Before}
 use Rattle.bs_report.specs.declared.report.Cand.{Cand}
@@ -30,7 +31,7 @@ use Rattle.bs_report.specs.declared.report.Stop.TheVariants.{Reset, Length, Nohi
 use Rattle.bs_report.specs.Forms.{◌>>=◌, next_in, behind, at_end, within, number_within, number_behind, bits_behind, bits_next, count_in, bits_in}
 use Rattle.bs_report.specs.Forms.{budgets_in, depth_in, older_in, source_in, before_in, cand_in, finished_end, end_of, end_in, run_cycle_in, moment_in}
 use Rattle.bs_report.specs.Forms.{hit_in, stop_of, stop_in}
-use Rattle.bs_report.specs.Text.{title, before_text, cand_words, end_word, stop_word, hit_text, IsDepth, IsOfDepth, HasEndText, HasHitText}
+use Rattle.bs_report.specs.Text.{title, before_text, cand_words, end_word, stop_word, hit_text, IsOfDepth, HasEndText, HasHitText}
 
 -- ---- parts that are there
 

@@ -1,4 +1,5 @@
 use Rattle.std.proofs.Common.{◌≡◌, ◌∷◌, [], List, length, All, subst, sym}
+use Rattle.std.specs.Option.{option_to_list}
 use Rattle.bs_net.specs.Circuit.{Circuit}
 use Rattle.bs_report.specs.declared.report.Cand.{Cand}
 use Rattle.bs_loop.proofs.MeetLemmas.{candidate_widths, hit_is, has_its_dump}
@@ -10,7 +11,7 @@ first-requires c =
     let cands : List Cand = c.in_ok-listing.listing.cands in
     subst (All (λ (cand : Cand). length cand.state ≡ length c.args.chip.now.recording.circuit.flops)) (sym c.slice.ensures)
     (subst (λ (k : Circuit). All (λ (cand : Cand). length cand.state ≡ length k.flops) cands) c.requires.circuit
-    (candidate_widths old.circuit old.choice c.args.now.now.state (c.args.stored.now ∷ []) cands c.in_ok-listing.ensures.ok.candidates))
+    (candidate_widths old.circuit old.choice c.args.now.now.state (c.args.stored.now ∷ option_to_list c.args.now.now.older) cands c.in_ok-listing.ensures.ok.candidates))
 
 pub returns-clause-back : goal.returns-clause-back
 returns-clause-back c =
