@@ -12,6 +12,8 @@ mod fault_rows;
 #[cfg(test)]
 mod limit_rows;
 #[cfg(test)]
+mod older_rows;
+#[cfg(test)]
 mod refusal_rows;
 #[cfg(test)]
 mod run_rows;
