@@ -5,7 +5,7 @@ ghost use Rattle.bs_bits.specs.Lines.{line};
 ghost use Rattle.bs_bits.specs.Text.{bits_text};
 ghost use Rattle.bs_log.specs.LineText.{line_text};
 ghost use Rattle.bs_scan.specs.DumpText.{signature_text};
-ghost use Rattle.bs_report.specs.Text.{before_text, cand_text, end_word, hit_text, older_text, step_text, steps_text, stop_word, move_text};
+ghost use Rattle.bs_report.specs.Text.{before_text, cand_text, end_word, hit_text, list_text, older_text, step_text, steps_text, stop_word, move_text};
 ghost use Rattle.bs_report.specs.Text.{budgets_text, head_text, report_text, tail_text, title, trace_text};
 
 use crate::report::{Before, Budgets, Cand, HitLine, ListEnd, Report, Step, Stop};
@@ -112,6 +112,15 @@ fn push_older(text: &mut Vec<u8>, depth: u8, older: &Option<Bits>) -> Result<(),
     end_line(text)
 }
 
+/// Appends the lines of a step's list.
+fn push_list(text: &mut Vec<u8>, step: &Step) -> Result<(), NoMemory>
+    ensures { OnOk result (text.new.items ≡ text.old.items ++ list_text step.now) }
+{
+    push_cands(text, step.cands.slice())?;
+    push_end(text, step.end)?;
+    push_hit(text, &step.hit)
+}
+
 /// Appends the lines of a step.
 fn push_step(text: &mut Vec<u8>, depth: u8, number: u64, step: &Step) -> Result<(), NoMemory>
     ensures { OnOk result (text.new.items ≡ text.old.items ++ step_text depth number step.now) }
@@ -120,9 +129,7 @@ fn push_step(text: &mut Vec<u8>, depth: u8, number: u64, step: &Step) -> Result<
     push_bits_line(text, b"present ", &step.present)?;
     push_bits_line(text, b"stored ", &step.stored)?;
     push_older(text, depth, &step.older)?;
-    push_cands(text, step.cands.slice())?;
-    push_end(text, step.end)?;
-    push_hit(text, &step.hit)
+    push_list(text, step)
 }
 
 /// Appends the lines of the steps.
