@@ -1,7 +1,7 @@
 -- A report that has a text is read back from it.
 use Rattle.std.proofs.Common.{◌≡◌, ℕ, suc, ◌<◌, ◌+◌, ◌-◌, ◌^◌, Bool, true, false, cond, List, [], ◌∷◌, ◌++◌, length, get_or, refl, arith, ap, sym, subst}
 use Rattle.std.proofs.Common.{◌∙◌, Option, Some, None, append_assoc}
-use Rattle.std.specs.Prelude.{codes, decimal, option_map, Err}
+use Rattle.std.specs.Prelude.{◌==◌, codes, decimal, option_map, Err}
 use Rattle.std.specs.List.{AllByRecursion as Each, flat_map, range_with_len}
 use Rattle.std.proofs.lemmas.Bool.{eq-eqb, eqb-true, ne_eqb}
 use Rattle.std.proofs.lemmas.List.{append-nil, length-append}

@@ -1,11 +1,11 @@
 //! The one text of a report.
-ghost use Rattle.std.specs.Prelude.{◌≡◌, ◌+◌, ◌<◌, ◌≤◌, ◌^◌, ◌++◌, decimal, length, codes, OnOk, OnErr, Option};
+ghost use Rattle.std.specs.Prelude.{◌≡◌, ◌+◌, ◌<◌, ◌≤◌, ◌^◌, ◌++◌, [], decimal, length, codes, OnOk, OnErr, Option};
 ghost use Rattle.std.specs.List.{flat_map};
 ghost use Rattle.bs_bits.specs.Lines.{line};
 ghost use Rattle.bs_bits.specs.Text.{bits_text};
 ghost use Rattle.bs_log.specs.LineText.{line_text};
 ghost use Rattle.bs_scan.specs.DumpText.{signature_text};
-ghost use Rattle.bs_report.specs.Text.{before_text, cand_text, end_word, hit_text, older_text, step_text, steps_text, stop_word, move_text};
+ghost use Rattle.bs_report.specs.Text.{before_text, cand_text, end_word, hit_text, list_text, older_text, step_text, steps_text, stop_word, move_text};
 ghost use Rattle.bs_report.specs.Text.{budgets_text, head_text, report_text, tail_text, title, trace_text};
 
 use crate::report::{Before, Budgets, Cand, HitLine, ListEnd, Report, Step, Stop};
@@ -112,6 +112,15 @@ fn push_older(text: &mut Vec<u8>, depth: u8, older: &Option<Bits>) -> Result<(),
     end_line(text)
 }
 
+/// Appends the lines of a step's list.
+fn push_list(text: &mut Vec<u8>, step: &Step) -> Result<(), NoMemory>
+    ensures { OnOk result (text.new.items ≡ text.old.items ++ list_text step.now) }
+{
+    push_cands(text, step.cands.slice())?;
+    push_end(text, step.end)?;
+    push_hit(text, &step.hit)
+}
+
 /// Appends the lines of a step.
 fn push_step(text: &mut Vec<u8>, depth: u8, number: u64, step: &Step) -> Result<(), NoMemory>
     ensures { OnOk result (text.new.items ≡ text.old.items ++ step_text depth number step.now) }
@@ -120,9 +129,7 @@ fn push_step(text: &mut Vec<u8>, depth: u8, number: u64, step: &Step) -> Result<
     push_bits_line(text, b"present ", &step.present)?;
     push_bits_line(text, b"stored ", &step.stored)?;
     push_older(text, depth, &step.older)?;
-    push_cands(text, step.cands.slice())?;
-    push_end(text, step.end)?;
-    push_hit(text, &step.hit)
+    push_list(text, step)
 }
 
 /// Appends the lines of the steps.
@@ -239,6 +246,31 @@ fn push_report(text: &mut Vec<u8>, report: &Report) -> Result<(), NoMemory>
     push_tail(text, report)
 }
 
+/// Writes the whole text in place, where nothing stands before it. The text is empty again where memory runs out.
+fn begin_report(text: &mut Vec<u8>, report: &Report) -> Result<(), NoMemory>
+    requires empty { text.old.items ≡ [] }
+    requires states { length report.now.states ≡ length report.now.inputs + 1 }
+    ensures ok { OnOk result (text.new.items ≡ report_text report.now) }
+    ensures err { OnErr result (text.new.items ≡ []) }
+{
+    let whole = push_report(text, report);
+    if whole.is_err() {
+        text.clear();
+    }
+    whole
+}
+
+/// Appends the whole text behind what stands there.
+fn append_report(text: &mut Vec<u8>, report: &Report) -> Result<(), NoMemory>
+    requires { length report.now.states ≡ length report.now.inputs + 1 }
+    ensures ok { OnOk result (text.new.items ≡ text.old.items ++ report_text report.now) }
+    ensures err { OnErr result (text.new.items ≡ text.old.items) }
+{
+    let mut whole = Vec::new(*text.allocator());
+    push_report(&mut whole, report)?;
+    push_piece(text, whole.as_slice())
+}
+
 impl Report {
     /// Appends the text of the report: there is one state more than inputs.
     pub fn text(&self, into: &mut Vec<u8>) -> Result<(), NoMemory>
@@ -246,8 +278,10 @@ impl Report {
         ensures ok { OnOk result (into.new.items ≡ into.old.items ++ report_text self.now) }
         ensures err { OnErr result (into.new.items ≡ into.old.items) }
     {
-        let mut text = Vec::new(*into.allocator());
-        push_report(&mut text, self)?;
-        push_piece(into, text.as_slice())
+        if into.is_empty() {
+            begin_report(into, self)
+        } else {
+            append_report(into, self)
+        }
     }
 }
