@@ -1,6 +1,8 @@
 -- Small circuits, computed by the definitions.
 use Rattle.std.proofs.Common.{◌≡◌, true, false, [], ◌∷◌, refl, Some, None, map}
 use Rattle.bs_net.specs.declared.net.Kind.TheVariants.{And, Nand, Or, Nor, Xor, Xnor, Buf, Not}
+use Rattle.bs_net.specs.declared.net.Mode.{Mode}
+use Rattle.bs_net.specs.declared.net.Mode.TheVariants.{Plain, Enable, Clear}
 use Rattle.bs_net.specs.Circuit.{Circuit, next, settled, all_bits, gate_value}
 use Rattle.bs_net.specs.Loops.{feeds_round}
 use Rattle.bs_net.specs.Names.{number_of, net}
@@ -12,7 +14,7 @@ toggle =
       nets = 4;
       clock = net 0;
       inputs = net 2 ∷ [];
-      flops = record { q = net 1; d = net 3; ck = net 0; reset = false } ∷ [];
+      flops = record { q = net 1; d = net 3; ck = net 0; reset = false; mode = Plain } ∷ [];
       gates = record { kind = Xor; out = net 3; ins = net 1 ∷ net 2 ∷ [] } ∷ [];
       constants = [];
     }
@@ -24,6 +26,45 @@ settles = refl
 steps_on : next toggle (true ∷ []) (true ∷ []) ≡ false ∷ []
 unfolding next settled all_bits
 steps_on = refl
+
+-- net 0 is the clock, net 1 the flip-flop, net 2 its input, and net 3 another input
+abbrev in_mode : Mode → Circuit
+in_mode m =
+    record {
+      nets = 4;
+      clock = net 0;
+      inputs = net 2 ∷ net 3 ∷ [];
+      flops = record { q = net 1; d = net 2; ck = net 0; reset = false; mode = m } ∷ [];
+      gates = [];
+      constants = [];
+    }
+
+-- an enabled flip-flop loads its input, and a disabled one its own bit
+enabled_loads : next (in_mode (Enable (net 3))) (false ∷ []) (true ∷ true ∷ []) ≡ true ∷ []
+unfolding next settled all_bits
+enabled_loads = refl
+
+disabled_keeps : next (in_mode (Enable (net 3))) (true ∷ []) (false ∷ false ∷ []) ≡ true ∷ []
+unfolding next settled all_bits
+disabled_keeps = refl
+
+-- a clear loads 0 where it shows 1, and elsewhere the input
+cleared_is_zero : next (in_mode (Clear (net 3))) (true ∷ []) (true ∷ true ∷ []) ≡ false ∷ []
+unfolding next settled all_bits
+cleared_is_zero = refl
+
+uncleared_loads : next (in_mode (Clear (net 3))) (false ∷ []) (true ∷ false ∷ []) ≡ true ∷ []
+unfolding next settled all_bits
+uncleared_loads = refl
+
+-- an enable that is its own q never lets a 0 go, and a clear that is its own d loads 0
+own_output : next (in_mode (Enable (net 1))) (false ∷ []) (true ∷ false ∷ []) ≡ false ∷ []
+unfolding next settled all_bits
+own_output = refl
+
+own_input : next (in_mode (Clear (net 2))) (true ∷ []) (true ∷ false ∷ []) ≡ false ∷ []
+unfolding next settled all_bits
+own_input = refl
 
 -- a gate of each kind on three ones, and on one zero
 kinds_of_ones : map (λ k. gate_value k (true ∷ true ∷ true ∷ [])) (And ∷ Nand ∷ Or ∷ Nor ∷ Xor ∷ Xnor ∷ []) ≡ true ∷ false ∷ true ∷ false ∷ true ∷ false ∷ []

@@ -6,7 +6,7 @@ use Rattle.bs_net.specs.declared.net.NetId.{NetId}
 use Rattle.bs_net.specs.declared.net.Gate.{Gate}
 use Rattle.bs_net.specs.declared.net.Flop.{Flop}
 use Rattle.bs_net.specs.declared.net.Const.{Const}
-use Rattle.bs_net.specs.Parts.{Parts, PartsArePlaced}
+use Rattle.bs_net.specs.Parts.{Parts, PartsArePlaced, IsModePlaced}
 use Rattle.bs_net.specs.Check.{driver_nets}
 
 -- each net is below the count
@@ -43,8 +43,10 @@ constants_in r p m e = let P : ℕ → Type 0 = λ k. All (λ (c : Const). c.net
 pub states_in : (r : Parts) (p : PartsArePlaced r) (m : ℕ) → m ≡ length r.names → All (λ (f : Flop). f.q.0 < m) r.flops
 states_in r p m e = let P : ℕ → Type 0 = λ k. All (λ (f : Flop). f.q.0 < k) r.flops in subst P (sym e) (λ i d lt. (p.flops.1 i d lt).0)
 
-pub loads_in : (r : Parts) (p : PartsArePlaced r) (m : ℕ) → m ≡ length r.names → All (λ (f : Flop). f.d.0 < m) r.flops
-loads_in r p m e = let P : ℕ → Type 0 = λ k. All (λ (f : Flop). f.d.0 < k) r.flops in subst P (sym e) (λ i d lt. (p.flops.1 i d lt).1)
+pub loads_in : (r : Parts) (p : PartsArePlaced r) (m : ℕ) → m ≡ length r.names → All (λ (f : Flop). (f.d.0 < m) × IsModePlaced m f.mode) r.flops
+loads_in r p m e =
+    let P : ℕ → Type 0 = λ k. All (λ (f : Flop). (f.d.0 < k) × IsModePlaced k f.mode) r.flops in
+    subst P (sym e) (λ i d lt. let h = p.flops.1 i d lt in (h.1, h.3))
 
 pub clocks_in : (r : Parts) (p : PartsArePlaced r) (m : ℕ) → m ≡ length r.names → All (λ (f : Flop). f.ck.0 < m) r.flops
 clocks_in r p m e = let P : ℕ → Type 0 = λ k. All (λ (f : Flop). f.ck.0 < k) r.flops in subst P (sym e) (λ i d lt. (p.flops.1 i d lt).2)

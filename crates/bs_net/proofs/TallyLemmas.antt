@@ -9,9 +9,10 @@ use Rattle.std.proofs.lemmas.List.{length-replicate, get_or-replicate, drop_more
 use Rattle.std.proofs.lemmas.List.Sums.{sum_by-cons}
 use Rattle.bs_net.specs.declared.net.NetId.{NetId}
 use Rattle.bs_net.specs.declared.net.Gate.{Gate}
+use Rattle.bs_net.specs.declared.net.Flop.{Flop}
 use Rattle.bs_net.specs.declared.tallies.Tally.{Tally}
 use Rattle.bs_net.specs.declared.tallies.Tally.TheVariants.{Never}
-use Rattle.bs_net.specs.Parts.{Parts, PartsArePlaced}
+use Rattle.bs_net.specs.Parts.{Parts, PartsArePlaced, mode_nets, load_nets}
 use Rattle.bs_net.specs.Check.{times_in, driver_nets, reader_nets, is_shared, is_undriven}
 use Rattle.bs_net.specs.Lowest.{IsLowest, NonePasses}
 use Rattle.bs_net.specs.Tallies.{tally_of, raised, is_often, is_never, tally_at, tallied, tallies_of, often_at, undriven_at}
@@ -33,6 +34,18 @@ inputs_more table gs i d lt =
     sym
     (ap (λ u. tallied table (flat_map (λ (g : Gate). g.ins) u)) (drop_more gs i d lt)
     ∙ tallied-append table (get_or gs i d).ins (flat_map (λ g. g.ins) (drop (i + 1) gs)))
+
+-- the nets by which one more flip-flop loads
+pub loads_more : (table between after : List Tally) (fs : List Flop) (i : ℕ) (d : Flop) → i < length fs →
+    between ≡ set table (get_or fs i d).d.0 (raised (tally_at table (get_or fs i d).d.0)) → after ≡ tallied between (mode_nets (get_or fs i d).mode) →
+    tallied after (flat_map load_nets (drop (i + 1) fs)) ≡ tallied table (flat_map load_nets (drop i fs))
+loads_more table between after fs i d lt first then =
+    let f = get_or fs i d in
+    let rest = flat_map load_nets (drop (i + 1) fs) in
+    ap (λ t. tallied t (flat_map load_nets (drop (i + 1) fs))) (then ∙ ap (λ t. tallied t (mode_nets (get_or fs i d).mode)) first)
+    ∙ sym
+    (ap (λ u. tallied table (flat_map load_nets u)) (drop_more fs i d lt)
+    ∙ tallied-append table (load_nets (get_or fs i d)) (flat_map load_nets (drop (i + 1) fs)))
 
 -- the four parts, one after another
 pub four_tallied : (t t₁ t₂ t₃ t₄ : List Tally) (a b c d : List NetId) → t₁ ≡ tallied t a → t₂ ≡ tallied t₁ b → t₃ ≡ tallied t₂ c → t₄ ≡ tallied t₃ d →

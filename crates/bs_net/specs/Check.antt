@@ -5,7 +5,7 @@ use Rattle.std.specs.Option.{option_map}
 use Rattle.bs_net.specs.declared.limits.TheConstants.{MAX_FLOPS, MAX_INPUTS, MAX_TERMINALS}
 use Rattle.bs_net.specs.declared.net.NetId.{NetId}
 use Rattle.bs_net.specs.declared.net.Gate.{Gate}
-use Rattle.bs_net.specs.Parts.{Parts}
+use Rattle.bs_net.specs.Parts.{Parts, load_nets}
 use Rattle.bs_net.specs.declared.fault.Count.{Count}
 use Rattle.bs_net.specs.declared.fault.Count.TheVariants.{Flops, Inputs, Terminals}
 use Rattle.bs_net.specs.declared.fault.NetFault.{NetFault}
@@ -37,9 +37,9 @@ too_many r =
 abbrev pub driver_nets : Parts → List NetId
 driver_nets r = r.inputs ++ (map (λ f. f.q) r.flops ++ (map (λ k. k.net) r.consts ++ map (λ g. g.out) r.gates))
 
--- every net that something reads: a gate's input, a d, a ck, an output port bit
+-- every net that something reads: a gate's input, a d, an e, an r, a ck, an output port bit
 abbrev pub reader_nets : Parts → List NetId
-reader_nets r = flat_map (λ g. g.ins) r.gates ++ (map (λ f. f.d) r.flops ++ (map (λ f. f.ck) r.flops ++ r.outputs))
+reader_nets r = flat_map (λ g. g.ins) r.gates ++ (flat_map load_nets r.flops ++ (map (λ f. f.ck) r.flops ++ r.outputs))
 
 -- how often a net stands in a list
 abbrev pub times_in : List NetId → ℕ → ℕ
@@ -66,9 +66,10 @@ abbrev pub first_of : Option NetId → Option NetId → Option NetId
 first_of (Some n) other = Some n
 first_of None other = other
 
--- whether a gate or a flip-flop's d reads a net
+-- whether a gate, a d, an e or an r reads a net
 abbrev pub is_data : Parts → NetId → Bool
-is_data r n = list_any (λ g. list_any (λ m. n.0 == m.0) g.ins) r.gates || list_any (λ f. n.0 == f.d.0) r.flops
+is_data r n =
+    list_any (λ g. list_any (λ m. n.0 == m.0) g.ins) r.gates || list_any (λ f. list_any (λ m. n.0 == m.0) (load_nets f)) r.flops
 
 -- the first clock of a flip-flop that is another net
 abbrev pub other_clock : Parts → Option NetId

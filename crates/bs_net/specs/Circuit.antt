@@ -1,12 +1,14 @@
 -- A netlist as a machine: its values, what fits it, and its next state.
 use Rattle.std.specs.Prelude.{◌≡◌, ℕ, ◌<◌, ◌%◌, Bool, true, false, not, ◌&&◌, ◌||◌, ◌==◌, List, [], ◌∷◌, ◌++◌, length, map, find, count_by}
-use Rattle.std.specs.Prelude.{slice_index_or, All, IsTrue, unwrap_or, zero, suc}
+use Rattle.std.specs.Prelude.{slice_index_or, All, IsTrue, unwrap_or, zero, suc, if◌then◌else◌}
 use Rattle.std.specs.Bool.{beq}
 use Rattle.std.specs.List.{list_all, list_any, range_with_len}
 use Rattle.bs_bits.specs.Bits.{bits_eq}
 use Rattle.bs_net.specs.declared.net.NetId.{NetId}
 use Rattle.bs_net.specs.declared.net.Gate.{Gate}
 use Rattle.bs_net.specs.declared.net.Flop.{Flop}
+use Rattle.bs_net.specs.declared.net.Mode.{Mode}
+use Rattle.bs_net.specs.declared.net.Mode.TheVariants.{Plain, Enable, Clear}
 use Rattle.bs_net.specs.declared.net.Const.{Const}
 use Rattle.bs_net.specs.declared.net.Kind.{Kind}
 use Rattle.bs_net.specs.declared.net.Kind.TheVariants.{And, Nand, Or, Nor, Xor, Xnor, Buf, Not}
@@ -99,9 +101,16 @@ IsZeroed c v = (length v ≡ c.nets) × ((n : ℕ) → n < c.nets → IsTrue (is
 abbrev pub reset_state : Circuit → List Bool
 reset_state c = map (λ f. f.reset) c.flops
 
+-- the bit that a mode loads under a valuation, of the bit of d and the bit of q: the bit of d, where an enable shows 0 the bit of q,
+-- and 0 where a clear shows 1
+abbrev pub mode_loads : List Bool → Mode → Bool → Bool → Bool
+mode_loads v Plain d q = d
+mode_loads v (Enable e) d q = if bit_at v e.0 then d else q
+mode_loads v (Clear r) d q = if bit_at v r.0 then false else d
+
 -- the bit that a flip-flop loads at a clock edge
 abbrev pub loaded : List Bool → Flop → Bool
-loaded v f = bit_at v f.d.0
+loaded v f = mode_loads v f.mode (bit_at v f.d.0) (bit_at v f.q.0)
 
 -- the bits that the flip-flops load
 abbrev pub next_state : Circuit → List Bool → List Bool

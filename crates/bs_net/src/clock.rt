@@ -4,8 +4,9 @@ ghost use Rattle.std.specs.List.{list_any};
 ghost use Rattle.std.specs.Option.{option_map};
 ghost use Rattle.bs_net.specs.Netlist.{parts_of, clock_of};
 ghost use Rattle.bs_net.specs.Check.{mixed_clock};
+ghost use Rattle.bs_net.specs.Parts.{mode_nets, load_nets};
 
-use crate::net::{Flop, Gate, NetId};
+use crate::net::{Flop, Gate, Mode, NetId};
 use crate::raw::Raw;
 
 /// Whether a net is among some.
@@ -22,11 +23,30 @@ fn gate_reads(gates: &[Gate], net: NetId) -> bool
     gates.iter().any(|g| is_among(g.ins.slice(), net))
 }
 
-/// Whether a flip-flop loads a net.
-fn flop_loads(flops: &[Flop], net: NetId) -> bool
-    ensures { result ≡ list_any (λ f. net.0 == f.d.0) flops.now }
+/// Whether an enable or a clear is a net.
+fn mode_reads(mode: Mode, net: NetId) -> bool
+    ensures { result ≡ list_any (λ m. net.0 == m.0) (mode_nets mode) }
 {
-    flops.iter().any(|f| net.0 == f.d.0)
+    match mode {
+        Mode::Plain => false,
+        Mode::Enable(enable) => net.0 == enable.0,
+        Mode::Clear(clear) => net.0 == clear.0,
+    }
+}
+
+/// Whether a flip-flop loads by a net.
+fn loads_by(flop: Flop, net: NetId) -> bool
+    ensures { result ≡ list_any (λ m. net.0 == m.0) (load_nets flop) }
+{
+    let by_mode = mode_reads(flop.mode, net);
+    net.0 == flop.d.0 || by_mode
+}
+
+/// Whether one of some flip-flops loads by a net.
+fn flop_loads(flops: &[Flop], net: NetId) -> bool
+    ensures { result ≡ list_any (λ f. list_any (λ m. net.0 == m.0) (load_nets f)) flops.now }
+{
+    flops.iter().any(|&f| loads_by(f, net))
 }
 
 /// The clock of the first flip-flop that another net clocks.

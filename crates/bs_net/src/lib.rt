@@ -23,6 +23,6 @@ pub use law::{
 pub use limits::{MAX_FLOPS, MAX_INPUTS, MAX_NETS, MAX_TERMINALS};
 pub use loops::{Levelling, levelize};
 pub use names::Names;
-pub use net::{Const, Flop, Gate, Kind, NetId, Terms};
+pub use net::{Const, Flop, Gate, Kind, Mode, NetId, Terms};
 pub use netlist::Netlist;
 pub use raw::Raw;

@@ -3,10 +3,10 @@ ghost use Rattle.std.specs.Prelude.{◌≡◌, ◌<◌, length, replicate, map, 
 ghost use Rattle.std.specs.List.{flat_map};
 ghost use Rattle.bs_net.specs.Tallies.{raised, tallied, tallies_of, tally_at};
 ghost use Rattle.bs_net.specs.Netlist.{parts_of};
-ghost use Rattle.bs_net.specs.Parts.{PartsArePlaced};
+ghost use Rattle.bs_net.specs.Parts.{PartsArePlaced, IsModePlaced, mode_nets, load_nets};
 ghost use Rattle.bs_net.specs.Check.{driver_nets, reader_nets};
 
-use crate::net::{Const, Flop, Gate, NetId};
+use crate::net::{Const, Flop, Gate, Mode, NetId};
 use crate::raw::Raw;
 use bs_bits::NoMemory;
 use std::alloc::Global;
@@ -94,14 +94,28 @@ fn count_states(table: &mut Vec<Tally>, flops: &[Flop])
     }
 }
 
-/// Counts the flip-flops' inputs.
-fn count_loads(table: &mut Vec<Tally>, flops: &[Flop])
-    requires { All (λ f. f.d.0 < length table.old.items) flops.now }
+/// Counts the net of an enable or of a clear.
+fn count_mode(table: &mut Vec<Tally>, mode: Mode)
+    requires { IsModePlaced (length table.old.items) mode }
     ensures wide { length table.new.items ≡ length table.old.items }
-    ensures counts { table.new.items ≡ tallied table.old.items (map (λ f. f.d) flops.now) }
+    ensures counts { table.new.items ≡ tallied table.old.items (mode_nets mode) }
+{
+    match mode {
+        Mode::Plain => {}
+        Mode::Enable(enable) => count_net(table, enable),
+        Mode::Clear(clear) => count_net(table, clear),
+    }
+}
+
+/// Counts the nets by which the flip-flops load.
+fn count_loads(table: &mut Vec<Tally>, flops: &[Flop])
+    requires { All (λ f. (f.d.0 < length table.old.items) × IsModePlaced (length table.old.items) f.mode) flops.now }
+    ensures wide { length table.new.items ≡ length table.old.items }
+    ensures counts { table.new.items ≡ tallied table.old.items (flat_map load_nets flops.now) }
 {
     for flop in flops {
         count_net(table, flop.d);
+        count_mode(table, flop.mode);
     }
 }
 

@@ -5,6 +5,7 @@ use Rattle.bs_net.specs.declared.net.Gate.{Gate}
 use Rattle.bs_net.specs.declared.net.Flop.{Flop}
 use Rattle.bs_net.specs.Tallies.{tallied}
 use Rattle.bs_net.specs.Check.{reader_nets}
+use Rattle.bs_net.specs.Parts.{load_nets}
 use Rattle.bs_net.specs.declared.tallies.Tally.TheVariants.{Never}
 use Rattle.bs_net.proofs.TallyLemmas.{four_tallied}
 use Rattle.bs_net.proofs.tallies.reader_tallies.Goals as goal
@@ -13,11 +14,11 @@ pub returns : goal.returns
 returns c =
     let r = (parts_of c.args.raw.now) in
     four_tallied c.in_ok-table.table.items c.count_inputs.new.table.items c.count_loads.new.table.items c.count_clocks.new.table.items
-    c.count_nets.new.table.items (flat_map (λ (g : Gate). g.ins) r.gates) (map (λ (f : Flop). f.d) r.flops) (map (λ (f : Flop). f.ck) r.flops) r.outputs
+    c.count_nets.new.table.items (flat_map (λ (g : Gate). g.ins) r.gates) (flat_map load_nets r.flops) (map (λ (f : Flop). f.ck) r.flops) r.outputs
     (c.count_inputs.ensures.counts
     ∙ ap (λ gs. tallied c.in_ok-table.table.items (flat_map (λ (g : Gate). g.ins) gs)) c.slice.ensures)
     (c.count_loads.ensures.counts
-    ∙ ap (λ fs. tallied c.count_inputs.new.table.items (map (λ (f : Flop). f.d) fs)) c.slice-2.ensures)
+    ∙ ap (λ fs. tallied c.count_inputs.new.table.items (flat_map load_nets fs)) c.slice-2.ensures)
     (c.count_clocks.ensures.counts
     ∙ ap (λ fs. tallied c.count_loads.new.table.items (map (λ (f : Flop). f.ck) fs)) c.slice-3.ensures)
     (c.count_nets.ensures.counts ∙ ap (tallied c.count_clocks.new.table.items) c.slice-4.ensures)
