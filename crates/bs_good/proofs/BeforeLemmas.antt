@@ -1,5 +1,5 @@
 -- The state that is named before a candidate shows that the register may have held the older signature.
-use Rattle.std.proofs.Common.{◌≡◌, ℕ, ◌-◌, Bool, true, false, List, length, refl, ap, subst, sym, ◌∙◌, ◌⊎◌, inl, inr, Option, Some, None}
+use Rattle.std.proofs.Common.{◌≡◌, ℕ, ◌-◌, Bool, true, false, List, ◌∷◌, length, refl, ap, subst, sym, ◌∙◌, ◌⊎◌, inl, inr, Option, Some, None, arith}
 use Rattle.std.specs.Prelude.{◌&&◌, ◌||◌, ◌==◌}
 use Rattle.std.specs.Option.{option_to_list}
 use Rattle.std.specs.List.{list_any}
@@ -27,7 +27,7 @@ at_two : (c : Circuit) (choice : Chosen) (older : Option (List Bool)) (s : List 
 at_two c choice None s None two right = by (depth_of choice == 1) refl right
   where
     by : (one : Bool) → (depth_of choice == 1) ≡ one → (one || bits_eq s (reset_state c)) ≡ true → bits_eq s (reset_state c) ≡ true
-    by true e h = let same : 2 ≡ 1 = sym two ∙ eqb-true (depth_of choice) 1 e in absurd (cc)
+    by true e h = let same : 2 ≡ 1 = sym two ∙ eqb-true (depth_of choice) 1 e in absurd (omega (arith, same))
     by false e h = h
 at_two c choice None s (Some before) two right = absurd (false≢true right)
 at_two c choice (Some older) s None two right = absurd (false≢true right)

@@ -4,6 +4,7 @@ use Rattle.std.specs.Prelude.{⊤, not}
 use Rattle.bs_log.specs.declared.why.Why.TheVariants.{Order as order}
 use Rattle.bs_net.specs.declared.net.NetId.{NetId}
 use Rattle.bs_net.specs.declared.net.Kind.TheVariants.{Not}
+use Rattle.bs_net.specs.declared.net.Mode.TheVariants.{Plain}
 use Rattle.bs_net.specs.Circuit.{Circuit, next, settled, all_bits}
 use Rattle.bs_scan.specs.Moments.{state_at, first_moment}
 use Rattle.bs_scan.specs.Signature.{predecessors}
@@ -29,7 +30,7 @@ toggle =
       nets = 3;
       clock = net 0;
       inputs = [];
-      flops = record { q = net 2; d = net 1; ck = net 0; reset = false } ∷ [];
+      flops = record { q = net 2; d = net 1; ck = net 0; reset = false; mode = Plain } ∷ [];
       gates = record { kind = Not; out = net 1; ins = net 2 ∷ [] } ∷ [];
       constants = [];
     }
@@ -92,7 +93,7 @@ shift =
       nets = 4;
       clock = net 0;
       inputs = net 1 ∷ [];
-      flops = record { q = net 2; d = net 1; ck = net 0; reset = false } ∷ record { q = net 3; d = net 2; ck = net 0; reset = false } ∷ [];
+      flops = record { q = net 2; d = net 1; ck = net 0; reset = false; mode = Plain } ∷ record { q = net 3; d = net 2; ck = net 0; reset = false; mode = Plain } ∷ [];
       gates = [];
       constants = [];
     }

@@ -1,5 +1,5 @@
 -- Each later finished step hits earlier.
-use Rattle.std.proofs.Common.{◌≡◌, ℕ, suc, zero, ◌<◌, ◌+◌, ◌-◌, Bool, true, List, [], ◌∷◌, length, get_or, refl, ap, subst, sym, ◌∙◌, ◌⊎◌, inl, inr}
+use Rattle.std.proofs.Common.{◌≡◌, ℕ, suc, zero, ◌<◌, ◌≤◌, ◌+◌, ◌-◌, Bool, true, List, [], ◌∷◌, length, get_or, refl, ap, subst, sym, ◌∙◌, ◌⊎◌, inl, inr}
 use Rattle.std.proofs.Common.{Option, Some, None, arith, add-one}
 use Rattle.std.specs.Prelude.{slice_get, option_map, MatchOption, All}
 use Rattle.std.specs.List.{AllByRecursion as Each}
@@ -11,6 +11,7 @@ use Rattle.bs_scan.specs.Signature.{stored_at, predecessors}
 use Rattle.bs_scan.specs.Law.{IsBefore, IsReached, IsFirstMoment}
 use Rattle.bs_scan.proofs.MomentLemmas.{first_is_least}
 use Rattle.bs_scan.proofs.SignatureLemmas.{came_from}
+use Rattle.bs_scan.proofs.CrashLemmas.{depth_is}
 use Rattle.bs_log.specs.declared.line.Line.{Line}
 use Rattle.bs_log.specs.Steps.{steps_of}
 use Rattle.bs_report.specs.declared.report.HitLine.{HitLine}
@@ -68,9 +69,10 @@ earlier_hit crash is run (suc k) later im st sg all =
     let line : Run = run_of crash.runs run in
     let before : Moment = record { run = run; cycle = k } in
     let here : IsMoment crash.runs before = record { from_one = im.from_one; recorded = im.recorded; lasts = omega (arith, im.lasts) } in
-    let width : length (get_or line k []) ≡ length c.inputs = is.inputs (run - 1) [] (omega (arith, im.from_one, im.recorded)) k [] (omega (arith, im.lasts)) in
+    let widths : (j : ℕ) → j ≤ k → length (get_or line j []) ≡ length c.inputs =
+    λ j le. is.inputs (run - 1) [] (omega (arith, im.from_one, im.recorded)) j [] (omega (arith, im.lasts, le)) in
     let come : is_listed (predecessors c crash.choice (state_at c line (suc k)) (stored_at c crash.choice line (suc k))) (state_at c line k) ≡ true =
-    came_from c crash.choice line k width in
+    came_from c crash.choice line k (depth_is c crash.choice crash.dump is.fits) widths in
     let asked : is_listed (asked_of crash later) (state_at c line k) ≡ true =
     subst (λ (p : List Bool). is_listed (predecessors c crash.choice p (stored_of later)) (state_at c line k) ≡ true) st
     (subst (λ (t : List (List Bool)). is_listed (predecessors c crash.choice (state_at c line (suc k)) t) (state_at c line k) ≡ true) sg come) in

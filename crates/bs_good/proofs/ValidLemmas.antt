@@ -28,9 +28,10 @@ use Rattle.std.specs.Cmp.Lexicographic.{slice_cmp}
 use Rattle.std.proofs.lemmas.List.{get_or_default}
 use Rattle.bs_net.specs.Circuit.{next}
 use Rattle.bs_net.proofs.NextLemmas.{next_is_led}
-use Rattle.bs_scan.specs.Choice.{depth_of, IsDepth}
+use Rattle.bs_scan.specs.Choice.{depth_of}
 use Rattle.bs_scan.specs.Signature.{signature, agrees}
 use Rattle.bs_scan.proofs.SignatureLemmas.{bits_same_is, is_predecessor}
+use Rattle.bs_scan.proofs.CrashLemmas.{depth_is}
 use Rattle.bs_log.specs.declared.why.Why.{Why}
 use Rattle.bs_log.specs.FirstRefused.{first_refused}
 use Rattle.bs_good.specs.declared.part.Part.{Part}
@@ -367,7 +368,7 @@ cands_are crash is budgets step h k d lt =
     let x : List Bool = (cand_at step k).input in
     let agree : agrees crash.circuit crash.choice (stored_of step) s ≡ true =
     agrees_where_right crash.circuit crash.choice step.stored step.older s (cand_at step k).before
-    (subst IsDepth is.fits.depth is.fits.sound.kept) right.signature right.before in
+    (depth_is crash.circuit crash.choice crash.dump is.fits) right.signature right.before in
     subst (IsCandidate crash.circuit crash.choice step.present (stored_of step)) (get_or_default step.cands k no_cand d lt)
     (record {
       predecessor = is_predecessor crash.circuit crash.choice step.present (stored_of step) s x right.state right.input agree right.leads;
