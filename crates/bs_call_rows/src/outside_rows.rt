@@ -6,6 +6,7 @@ use bs_outside::{
 };
 use std::alloc::{AllocError, Global};
 use std::io::{ErrorKind, Read, Write};
+use std::os::fd::AsRawFd;
 use std::test::Fail;
 use std::{fs, io};
 
@@ -168,7 +169,7 @@ fn writers_take_little_at_a_time_or_fail(rt: HostRuntime) -> Result<(), Fail> {
 }
 
 /// Files that are not what they seem are among them: an empty one, a folder, a name below a file, no name, a name that no file
-/// can have, and a device without an end.
+/// can have, a file that may only be written, and a device without an end.
 #[test]
 fn real_files(rt: HostRuntime) -> Result<(), Fail> {
     let alloc = rt.alloc();
@@ -189,6 +190,7 @@ fn real_files(rt: HostRuntime) -> Result<(), Fail> {
         ("real.txt/a", 4, Fetch::Failed, 0),
         ("", 4, Fetch::Failed, 0),
         ("real\0.txt", 4, Fetch::Failed, 0),
+        ("/proc/self/clear_refs", 4, Fetch::Failed, 0),
         ("/dev/zero", 20_000, Fetch::TooLong, 20_001),
         ("long.txt", 19_999, Fetch::TooLong, 20_000),
         ("long.txt", 8_192, Fetch::TooLong, 8_193),
@@ -209,6 +211,20 @@ fn real_files(rt: HostRuntime) -> Result<(), Fail> {
     assert_eq!(rt; sink.put(b"one line\n"), Put::Done);
     assert_eq!(rt; sink.put(b""), Put::Done);
     assert_eq!(rt; SureSink::new().put(b"none"), Put::Done);
+    Ok(())
+}
+
+/// A pipe is read like a file: what was written to it, up to its end.
+#[test]
+fn pipes(rt: HostRuntime) -> Result<(), Fail> {
+    let alloc = rt.alloc();
+    let (reader, mut writer) = io::pipe(&rt)?;
+    writer.write_all(b"hello")?;
+    drop(writer);
+    let name = format!(in alloc; "/proc/self/fd/{}", reader.as_raw_fd())?;
+    let mut into = Vec::new(alloc);
+    assert_eq!(rt; FileShelf::new(&rt).fetch(name.as_str(), 5, &mut into), Fetch::Done);
+    assert_eq!(rt; into.as_slice(), b"hello".as_slice());
     Ok(())
 }
 

@@ -1,7 +1,8 @@
--- The files of a job: the word that names each, its limit, and the status of its refusal (docs/FORMATS.md, "Statuses").
-use Rattle.std.specs.Prelude.{ℕ, List, ◌++◌, codes, Bool, true, false, Option, Some, None}
+-- What a job may refuse, a file or the state among its words: the word that names it, its limit, and the status of its refusal
+-- (docs/FORMATS.md, "Statuses").
+use Rattle.std.specs.Prelude.{ℕ, List, ◌++◌, codes, Bool, true, false}
 use Rattle.bs_job.specs.declared.file.File.{File}
-use Rattle.bs_job.specs.declared.file.File.TheVariants.{Netlist, Signature, Stimulus, Dump, Report}
+use Rattle.bs_job.specs.declared.file.File.TheVariants.{Netlist, Signature, Stimulus, Dump, Report, State}
 use Rattle.bs_job.specs.declared.limits.TheConstants.{MAX_NETLIST_BYTES, MAX_SIGNATURE_BYTES, MAX_STIMULUS_BYTES, MAX_DUMP_BYTES, MAX_REPORT_BYTES}
 use Rattle.bs_job.specs.declared.status.Status.{Status}
 use Rattle.bs_job.specs.declared.status.Status.TheVariants as S
@@ -12,14 +13,16 @@ file_word Signature = codes "signature"
 file_word Stimulus = codes "stimulus"
 file_word Dump = codes "dump"
 file_word Report = codes "report"
+file_word State = codes "state"
 
--- the most bytes that the file may have
+-- the most bytes that the file may have; for a state there is no file
 abbrev pub limit_of : File → ℕ
 limit_of Netlist = MAX_NETLIST_BYTES
 limit_of Signature = MAX_SIGNATURE_BYTES
 limit_of Stimulus = MAX_STIMULUS_BYTES
 limit_of Dump = MAX_DUMP_BYTES
 limit_of Report = MAX_REPORT_BYTES
+limit_of State = 0
 
 abbrev pub refusal_status : File → Status
 refusal_status Netlist = S.Netlist
@@ -27,15 +30,16 @@ refusal_status Signature = S.Signature
 refusal_status Stimulus = S.Stimulus
 refusal_status Dump = S.Dump
 refusal_status Report = S.Report
+refusal_status State = S.Dump
 
--- the file that a status says to be refused
-abbrev pub refused_file : Status → Option File
-refused_file S.Netlist = Some Netlist
-refused_file S.Signature = Some Signature
-refused_file S.Stimulus = Some Stimulus
-refused_file S.Dump = Some Dump
-refused_file S.Report = Some Report
-refused_file _ = None
+-- a status that says something to be refused
+abbrev pub is_refusal_status : Status → Bool
+is_refusal_status S.Netlist = true
+is_refusal_status S.Signature = true
+is_refusal_status S.Stimulus = true
+is_refusal_status S.Dump = true
+is_refusal_status S.Report = true
+is_refusal_status _ = false
 
 -- a status of work that is done, whatever came of it
 abbrev pub is_work_status : Status → Bool
@@ -44,6 +48,7 @@ is_work_status S.Nohit = true
 is_work_status S.Empty = true
 is_work_status S.Spent = true
 is_work_status S.Rejected = true
+is_work_status S.Unreached = true
 is_work_status _ = false
 
 -- `refused FILE WHY`, with its line feed

@@ -20,6 +20,7 @@ code_of S.Report = 10
 code_of S.Rejected = 11
 code_of S.ReadFault = 12
 code_of S.WriteFault = 13
+code_of S.Unreached = 15
 
 -- the same of an answer: want of memory has a code of its own
 abbrev pub exit_code : Result Status NoMemory → ℕ

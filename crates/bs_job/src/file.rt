@@ -1,4 +1,4 @@
-//! The files of a job: the word that names each, its limit, and the status of its refusal.
+//! What a job may refuse: the word that names it, its limit, and the status of its refusal.
 ghost use Rattle.std.specs.Prelude.{◌≡◌};
 ghost use Rattle.bs_job.specs.Files.{file_word, limit_of, refusal_status};
 
@@ -7,7 +7,7 @@ use crate::limits::{
 };
 use crate::status::Status;
 
-/// A file of a job. A job that has several fetches them in this order.
+/// A file of a job, or the state among its words, which is no file. A job that has several files fetches them in this order.
 #[derive(Clone, Copy, Debug, PartialEq, Eq)]
 pub enum File {
     Netlist,
@@ -15,10 +15,12 @@ pub enum File {
     Stimulus,
     Dump,
     Report,
+    /// A state that the words name. No file is fetched for it.
+    State,
 }
 
 impl File {
-    /// The word that names the file in a refusal line.
+    /// The word that names it in a refusal line.
     pub fn word(self) -> &'static str
         ensures { result.now ≡ file_word self }
     {
@@ -28,10 +30,11 @@ impl File {
             File::Stimulus => "stimulus",
             File::Dump => "dump",
             File::Report => "report",
+            File::State => "state",
         }
     }
 
-    /// The most bytes that the file may have.
+    /// The most bytes that the file may have, 0 where there is none.
     pub fn limit(self) -> u64
         ensures { result ≡ limit_of self }
     {
@@ -41,10 +44,11 @@ impl File {
             File::Stimulus => MAX_STIMULUS_BYTES,
             File::Dump => MAX_DUMP_BYTES,
             File::Report => MAX_REPORT_BYTES,
+            File::State => 0,
         }
     }
 
-    /// The status of a call that refuses the file.
+    /// The status of a call that refuses it.
     pub fn refusal(self) -> Status
         ensures { result ≡ refusal_status self }
     {
@@ -52,7 +56,7 @@ impl File {
             File::Netlist => Status::Netlist,
             File::Signature => Status::Signature,
             File::Stimulus => Status::Stimulus,
-            File::Dump => Status::Dump,
+            File::Dump | File::State => Status::Dump,
             File::Report => Status::Report,
         }
     }

@@ -8,7 +8,7 @@ pub const NO_MEMORY_CODE: u8 = 14;
 /// How a call ended. A status of a file's name says that this file is refused.
 #[derive(Clone, Copy, Debug, PartialEq, Eq)]
 pub enum Status {
-    /// A run stopped by length or reset; a report is accepted; a dump or a summary is written.
+    /// A run stopped by length or reset; a report is accepted; a dump, a summary or a wave is written; a state is reached.
     Done,
     /// The words are no job.
     Words,
@@ -16,12 +16,12 @@ pub enum Status {
     Nohit,
     /// A run stopped since no candidate exists.
     Empty,
-    /// A run stopped since a budget is spent.
+    /// A run, or a search for a state, stopped since a budget is spent.
     Spent,
     Netlist,
     Signature,
     Stimulus,
-    /// The dump is refused, or there is no such moment to dump.
+    /// The dump or a state among the words is refused, or there is no such moment to dump.
     Dump,
     Report,
     /// The report is not valid.
@@ -30,6 +30,8 @@ pub enum Status {
     ReadFault,
     /// A put failed.
     WriteFault,
+    /// A state is reached in no number of cycles up to the bound.
+    Unreached,
 }
 
 impl Status {
@@ -51,6 +53,7 @@ impl Status {
             Status::Rejected => 11,
             Status::ReadFault => 12,
             Status::WriteFault => 13,
+            Status::Unreached => 15,
         }
     }
 }

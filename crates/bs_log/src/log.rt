@@ -40,6 +40,17 @@ impl Log {
         Ok(())
     }
 
+    /// Puts two lines at the end, or neither where memory runs out.
+    pub fn push_two(&mut self, first: Line, second: Line) -> Result<(), NoMemory>
+        ensures ok { OnOk result (self.new ≡ self.old ++ first ∷ second ∷ []) }
+        ensures err { OnErr result (self.new ≡ self.old) }
+    {
+        self.items.reserve(2)?;
+        let _ = self.items.push(first);
+        let _ = self.items.push(second);
+        Ok(())
+    }
+
     /// The number of lines.
     pub fn len(&self) -> usize
         ensures { result ≡ length self.now }

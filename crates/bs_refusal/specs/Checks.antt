@@ -13,7 +13,7 @@ use Rattle.bs_place.specs.Nearest.{net_key}
 use Rattle.bs_place.specs.Quotes.{shown_line}
 use Rattle.bs_refusal.specs.declared.check.TheConstants.{RING}
 use Rattle.bs_refusal.specs.Notes.{saying, file_text, IsNoteOn}
-use Rattle.bs_refusal.specs.Parts.{before, behind, IsFirst, NoneOf}
+use Rattle.bs_refusal.specs.Parts.{before, behind, IsFirstPlace, NoneOf}
 
 -- ---- where a name stands in a text
 
@@ -43,7 +43,7 @@ stands_at text name at =
 -- the first place of a text at which a name stands, or its front where it stands nowhere
 abbrev pub IsNamePlace : List ℕ → List ℕ → ℕ → Type 0
 IsNamePlace text name at =
-    IsFirst (stands_at text name) (length text) at ⊎ (NoneOf (stands_at text name) (length text) × (at ≡ 0))
+    IsFirstPlace (stands_at text name) (length text) at ⊎ (NoneOf (stands_at text name) (length text) × (at ≡ 0))
 
 -- ---- a net
 

@@ -2,7 +2,7 @@
 use Rattle.std.specs.Prelude.{◌≡◌, ◌⊎◌, ◌+◌, ◌-◌, ◌==◌, ℕ, List, length, max, slice_index, nat_lt, Bool, ◌||◌, ◌&&◌, Option, Some, None}
 use Rattle.bs_refusal.specs.declared.form.Message.{Message}
 use Rattle.bs_refusal.specs.Notes.{Saying, said, IsNoteOn}
-use Rattle.bs_refusal.specs.Parts.{IsFirst, NoneOf, IsNumbered}
+use Rattle.bs_refusal.specs.Parts.{IsFirstPlace, NoneOf, IsNumbered}
 use Rattle.bs_refusal.specs.Sayings.{stray_saying, loose_saying}
 
 -- the byte is none of ` ` to `~`
@@ -18,11 +18,11 @@ loose_at line k = slice_index line k == 32 && (k == 0 || (k == length line - 1 |
 
 -- the first stray byte stands there
 abbrev pub IsStray : List ℕ → ℕ → Saying → Type 0
-IsStray line at says = IsFirst (stray_at line) (length line) at × (says ≡ stray_saying (slice_index line at))
+IsStray line at says = IsFirstPlace (stray_at line) (length line) at × (says ≡ stray_saying (slice_index line at))
 
 -- no byte is stray, and the first loose space stands there
 abbrev pub IsLoose : List ℕ → ℕ → Saying → Type 0
-IsLoose line at says = NoneOf (stray_at line) (length line) × IsFirst (loose_at line) (length line) at × (says ≡ loose_saying)
+IsLoose line at says = NoneOf (stray_at line) (length line) × IsFirstPlace (loose_at line) (length line) at × (says ≡ loose_saying)
 
 -- no byte is stray, and no space is loose
 abbrev pub IsClean : List ℕ → Type 0

@@ -19,7 +19,7 @@ abbrev pub behind : List ℕ → ℕ → List ℕ
 behind line byte = option_map_or (λ (at : ℕ). drop (at + 1) line) (place_of line byte) line
 
 -- the first place that passes, of so many
-pub record IsFirst (passes : ℕ → Bool) (count at : ℕ) : Type 0 where
+pub record IsFirstPlace (passes : ℕ → Bool) (count at : ℕ) : Type 0 where
   pub there : at < count
   pub is : passes at ≡ true
   pub none : (k : ℕ) → k < at → passes k ≡ false

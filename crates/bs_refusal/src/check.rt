@@ -6,7 +6,7 @@ ghost use Rattle.bs_place.specs.Quotes.{shown_line};
 ghost use Rattle.bs_refusal.specs.Checks.{base_of, count_sentence, first_key, is_joined, is_of_name, IsCheckNote, IsKeyNote, IsNamePlace, IsNetNote, IsRingNote};
 ghost use Rattle.bs_refusal.specs.Checks.{joins_before, keyed_text, output_of, ring_piece, ring_text, stands_at};
 ghost use Rattle.bs_refusal.specs.Notes.{file_text};
-ghost use Rattle.bs_refusal.specs.Parts.{IsFirst, NoneOf};
+ghost use Rattle.bs_refusal.specs.Parts.{IsFirstPlace, NoneOf};
 
 use crate::form::{Message, file_note, note_on};
 use crate::part::{before, behind};
@@ -86,7 +86,7 @@ fn stands_at(text: &[u8], at: usize, name: &[u8]) -> bool
 
 /// The first place of a text at which a name stands, if it stands anywhere.
 fn first_place(text: &[u8], name: &[u8]) -> Option<usize>
-    ensures some { IfSome result (IsFirst (stands_at text.now name.now) (length text.now)) }
+    ensures some { IfSome result (IsFirstPlace (stands_at text.now name.now) (length text.now)) }
     ensures none { IfNone result (NoneOf (stands_at text.now name.now) (length text.now)) }
 {
     'places: for at in 0..text.len() {

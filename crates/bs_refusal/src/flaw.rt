@@ -2,7 +2,7 @@
 ghost use Rattle.std.specs.Prelude.{◌≡◌, ◌≤◌, ◌<◌, ℕ, length, false, IfNone, IfOk, IfSome};
 ghost use Rattle.bs_refusal.specs.Flaws.{FlawIs, is_stray, IsFlawNote, IsLineNote, IsStartNote, loose_at, stray_at};
 ghost use Rattle.bs_refusal.specs.Notes.{said};
-ghost use Rattle.bs_refusal.specs.Parts.{IsFirst, NoneOf};
+ghost use Rattle.bs_refusal.specs.Parts.{IsFirstPlace, NoneOf};
 ghost use Rattle.bs_refusal.specs.Sayings.{loose_saying, stray_saying};
 
 use crate::form::{Message, note_on, say};
@@ -19,7 +19,7 @@ fn is_stray(byte: u8) -> bool
 
 /// The place of the first byte that is none of ` ` to `~`, if there is one.
 fn first_stray(line: &[u8]) -> Option<usize>
-    ensures some { IfSome result (IsFirst (stray_at line.now) (length line.now)) }
+    ensures some { IfSome result (IsFirstPlace (stray_at line.now) (length line.now)) }
     ensures none { IfNone result (NoneOf (stray_at line.now) (length line.now)) }
 {
     'bytes: for (k, byte) in line.iter().enumerate() {
@@ -40,7 +40,7 @@ fn is_loose(line: &[u8], k: usize) -> bool
 
 /// The place of the first space that stands at an end of the line or before another, if there is one.
 fn first_loose(line: &[u8]) -> Option<usize>
-    ensures some { IfSome result (IsFirst (loose_at line.now) (length line.now)) }
+    ensures some { IfSome result (IsFirstPlace (loose_at line.now) (length line.now)) }
     ensures none { IfNone result (NoneOf (loose_at line.now) (length line.now)) }
 {
     'bytes: for k in 0..line.len() {

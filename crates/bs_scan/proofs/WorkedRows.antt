@@ -2,6 +2,7 @@
 use Rattle.std.proofs.Common.{◌≡◌, ℕ, true, false, List, [], ◌∷◌, refl, Some, None, length}
 use Rattle.bs_net.specs.declared.net.NetId.{NetId}
 use Rattle.bs_net.specs.declared.net.Flop.{Flop}
+use Rattle.bs_net.specs.declared.net.Mode.TheVariants.{Plain}
 use Rattle.bs_net.specs.declared.net.Kind.TheVariants.{Not}
 use Rattle.bs_net.specs.Circuit.{Circuit, next, settled, all_bits}
 use Rattle.bs_scan.specs.Choice.{Chosen}
@@ -12,7 +13,7 @@ abbrev net : ℕ → NetId
 net n = record { 0 = n }
 
 abbrev flop_at : ℕ → ℕ → Flop
-flop_at q d = record { q = net q; d = net d; ck = net 0; reset = false }
+flop_at q d = record { q = net q; d = net d; ck = net 0; reset = false; mode = Plain }
 
 -- a shift register: net 0 is the clock, net 1 the input, net 2 the first flip-flop and net 3 the second
 abbrev register : Circuit

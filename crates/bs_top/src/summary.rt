@@ -5,7 +5,7 @@ ghost use Rattle.bs_report.specs.Text.{stop_word};
 ghost use Rattle.bs_top.specs.Summary.{is_finished, is_finished_end, listed_in, summary_text};
 
 use bs_bits::{NoMemory, end_line, push_number, push_piece};
-use bs_report::{ListEnd, Report, Step, Stop};
+use bs_report::{ListEnd, MAX_CANDIDATES, MAX_STEPS, Report, Step, Stop};
 use std::alloc::Global;
 
 /// How many lists are finished.
@@ -28,8 +28,8 @@ fn is_end(end: ListEnd) -> bool
 
 /// How many candidates stand in all lists.
 fn listed(steps: &[Step]) -> u64
-    requires count { length steps.now ≤ 65536 }
-    requires each { All (λ step. length step.cands ≤ 65536) steps.now }
+    requires count { length steps.now ≤ MAX_STEPS }
+    requires each { All (λ step. length step.cands ≤ MAX_CANDIDATES) steps.now }
     ensures { result ≡ listed_in steps.now }
 {
     let mut sum = 0;
@@ -63,8 +63,8 @@ fn push_stop(text: &mut Vec<u8>, stop: Stop) -> Result<(), NoMemory>
 
 /// Appends the line of a backtrace.
 fn push_summary(text: &mut Vec<u8>, number: u64, report: &Report) -> Result<(), NoMemory>
-    requires count { length report.now.steps ≤ 65536 }
-    requires each { All (λ step. length step.cands ≤ 65536) report.now.steps }
+    requires count { length report.now.steps ≤ MAX_STEPS }
+    requires each { All (λ step. length step.cands ≤ MAX_CANDIDATES) report.now.steps }
     ensures { OnOk result (text.new.items ≡ text.old.items ++ summary_text number report.now) }
 {
     push_count(text, b"demo ", number)?;
@@ -78,8 +78,8 @@ fn push_summary(text: &mut Vec<u8>, number: u64, report: &Report) -> Result<(), 
 
 /// The line that tells what the backtrace of a number's job found: its steps, finished lists, candidates and stop.
 pub fn summary_line(alloc: Global, number: u64, report: &Report) -> Result<Vec<u8>, NoMemory>
-    requires count { length report.now.steps ≤ 65536 }
-    requires each { All (λ step. length step.cands ≤ 65536) report.now.steps }
+    requires count { length report.now.steps ≤ MAX_STEPS }
+    requires each { All (λ step. length step.cands ≤ MAX_CANDIDATES) report.now.steps }
     ensures { IfOk result (λ text. text.items ≡ summary_text number report.now) }
 {
     let mut text = Vec::new(alloc);

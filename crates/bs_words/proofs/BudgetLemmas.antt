@@ -1,20 +1,23 @@
--- The budgets of a run are in their ranges.
+-- The budgets of a job are in their ranges.
 use Rattle.std.proofs.Common.{◌≡◌, ℕ, ◌≤◌, ◌-◌, ◌^◌, Bool, true, false, List, [], ◌∷◌, Option, Some, None, refl, sym, subst, codes, if◌then◌else◌, arith}
-use Rattle.std.specs.Prelude.{nat_le, ◌&&◌}
+use Rattle.std.specs.Prelude.{nat_le, ◌&&◌, IfSome}
 use Rattle.std.specs.Option.{option_map, option_and_then, unwrap_or}
 use Rattle.std.specs.Str.{bytes_eq}
 use Rattle.std.proofs.lemmas.Bool.{leb-true, and_parts}
 use Rattle.bs_bits.specs.Lines.{number_in}
 use Rattle.bs_stim.specs.declared.limits.TheConstants.{MAX_RUNS, MAX_CYCLES}
-use Rattle.bs_words.specs.declared.limits.TheConstants.{MAX_STEPS, MAX_CANDIDATES, MAX_CONFLICTS, DEFAULT_STEPS, DEFAULT_CANDIDATES, DEFAULT_CONFLICTS}
+use Rattle.bs_words.specs.declared.limits.TheConstants.{MAX_STEPS, MAX_CANDIDATES, MAX_CONFLICTS, MAX_BOUND}
+use Rattle.bs_words.specs.declared.limits.TheConstants.{DEFAULT_STEPS, DEFAULT_CANDIDATES, DEFAULT_CONFLICTS}
 use Rattle.bs_words.specs.declared.options.Kind.{Kind}
 use Rattle.bs_words.specs.declared.options.Kind.TheVariants.{Steps, Candidates, Conflicts}
 use Rattle.bs_words.specs.declared.line.Mode.{Mode}
 use Rattle.bs_words.specs.declared.line.Mode.TheVariants.{Plain, Wants, Names}
 use Rattle.bs_words.specs.Options.{number_between, value_in, has_dash, is_option, kind_of, rest_of}
 use Rattle.bs_words.specs.Line.{Line, once, set_to, set_if, set_by, add_to, State, in_mode, option_step, plain_step, step, finish, read_all, start}
-use Rattle.bs_words.specs.Job.{RunJob, Job, Run, run_job, run_at, audit_at, audit_job, dump_of, dump_at, dump_job}
-use Rattle.bs_words.specs.Job.{demo_at, demo_job, wave_at, wave_job, command_job, job_of}
+use Rattle.bs_words.specs.Job.{RunJob, ReachJob, Job, Run, Audit, Dump, Demo, Wave, Reach, run_job, run_at, audit_at, audit_job, dump_of, dump_at}
+use Rattle.bs_words.specs.Job.{dump_job, demo_at, demo_job, wave_at, wave_job, is_state, reach_of, reach_at, reach_if, reach_job, has_budget, command_job}
+use Rattle.bs_words.specs.Job.{job_of}
+use Rattle.bs_words.proofs.SpellingLemmas.{between_is}
 
 -- ---- equations of options
 
@@ -176,97 +179,129 @@ start_fits = record { steps = λ n e. absurd (no_some ℕ n e); candidates = λ 
 -- ---- jobs
 
 -- the budgets of a run are at least 1 and not too great
-pub record FitsJob (job : RunJob) : Type 0 where
+pub record FitsRun (job : RunJob) : Type 0 where
   pub steps : InRange MAX_STEPS job.steps
   pub candidates : InRange MAX_CANDIDATES job.candidates
   pub conflicts : InRange MAX_CONFLICTS job.conflicts
+
+-- so is the budget of a search, and its cycles are not too many
+pub record FitsReach (job : ReachJob) : Type 0 where
+  pub cycles : job.cycles ≤ MAX_BOUND
+  pub conflicts : InRange MAX_CONFLICTS job.conflicts
+
+abbrev pub FitsJob : Job → Type 0
+FitsJob (Run job) = FitsRun job
+FitsJob (Audit job) = Unit {0}
+FitsJob (Dump job) = Unit {0}
+FitsJob (Demo number) = Unit {0}
+FitsJob (Wave job) = Unit {0}
+FitsJob (Reach job) = FitsReach job
 
 or_default : (high default : ℕ) (o : Option ℕ) → InRange high default → InRangeIf high o → InRange high (unwrap_or o default)
 or_default high default None fits h = fits
 or_default high default (Some n) fits h = h n refl
 
-abbrev RunFits : Option Job → Type 0
-RunFits o = (job : RunJob) → o ≡ Some (Run job) → FitsJob job
+abbrev FitsIf : Option Job → Type 0
+FitsIf o = IfSome o FitsJob
 
-run_same : (a b : RunJob) → some_in Job (Run a) ≡ some_in Job (Run b) → a ≡ b
-run_same a b e = cc
+run_fits : (l : Line) (positions : List (List ℕ)) → Fits l → FitsIf (run_at l positions)
+run_fits l (netlist ∷ signature ∷ stimulus ∷ dump ∷ []) fits = record {
+  steps = or_default MAX_STEPS DEFAULT_STEPS l.steps (record { low = omega arith; most = omega arith }) fits.steps;
+  candidates = or_default MAX_CANDIDATES DEFAULT_CANDIDATES l.candidates (record { low = omega arith; most = omega arith }) fits.candidates;
+  conflicts = or_default MAX_CONFLICTS DEFAULT_CONFLICTS l.conflicts (record { low = omega arith; most = omega arith }) fits.conflicts;
+}
+run_fits l [] fits = tt
+run_fits l (a ∷ []) fits = tt
+run_fits l (a ∷ b ∷ []) fits = tt
+run_fits l (a ∷ b ∷ c ∷ []) fits = tt
+run_fits l (a ∷ b ∷ c ∷ d ∷ x ∷ xs) fits = tt
 
-run_fits : (l : Line) (positions : List (List ℕ)) → Fits l → RunFits (run_at l positions)
-run_fits l (netlist ∷ signature ∷ stimulus ∷ dump ∷ []) fits job e =
-    subst FitsJob (run_same _ job e) (record {
-      steps = or_default MAX_STEPS DEFAULT_STEPS l.steps (record { low = omega arith; most = omega arith }) fits.steps;
-      candidates = or_default MAX_CANDIDATES DEFAULT_CANDIDATES l.candidates (record { low = omega arith; most = omega arith }) fits.candidates;
+reach_fits : (l : Line) (positions : List (List ℕ)) → Fits l → FitsIf (reach_at l positions)
+reach_fits l (netlist ∷ state ∷ cycles ∷ []) fits = by (is_state state) (number_between 0 MAX_BOUND cycles) refl
+  where
+    by : (b : Bool) (o : Option ℕ) → number_between 0 MAX_BOUND cycles ≡ o → FitsIf (reach_of netlist state (unwrap_or l.conflicts DEFAULT_CONFLICTS) b o)
+    by true (Some n) e = record {
+      cycles = (between_is 0 MAX_BOUND cycles n e).2;
       conflicts = or_default MAX_CONFLICTS DEFAULT_CONFLICTS l.conflicts (record { low = omega arith; most = omega arith }) fits.conflicts;
-    })
-run_fits l [] fits job e = absurd (no_some Job (Run job) e)
-run_fits l (a ∷ []) fits job e = absurd (no_some Job (Run job) e)
-run_fits l (a ∷ b ∷ []) fits job e = absurd (no_some Job (Run job) e)
-run_fits l (a ∷ b ∷ c ∷ []) fits job e = absurd (no_some Job (Run job) e)
-run_fits l (a ∷ b ∷ c ∷ d ∷ x ∷ xs) fits job e = absurd (no_some Job (Run job) e)
+    }
+    by true None e = tt
+    by false o e = tt
+reach_fits l [] fits = tt
+reach_fits l (a ∷ []) fits = tt
+reach_fits l (a ∷ b ∷ []) fits = tt
+reach_fits l (a ∷ b ∷ c ∷ d ∷ ds) fits = tt
 
-audit_fits : (positions : List (List ℕ)) → RunFits (audit_at positions)
-audit_fits (a ∷ b ∷ c ∷ d ∷ x ∷ []) job e = absurd (cc)
-audit_fits [] job e = absurd (no_some Job (Run job) e)
-audit_fits (a ∷ []) job e = absurd (no_some Job (Run job) e)
-audit_fits (a ∷ b ∷ []) job e = absurd (no_some Job (Run job) e)
-audit_fits (a ∷ b ∷ c ∷ []) job e = absurd (no_some Job (Run job) e)
-audit_fits (a ∷ b ∷ c ∷ d ∷ []) job e = absurd (no_some Job (Run job) e)
-audit_fits (a ∷ b ∷ c ∷ d ∷ x ∷ y ∷ ys) job e = absurd (no_some Job (Run job) e)
+asked_fits : (l : Line) (steps candidates : Option ℕ) → Fits l → FitsIf (reach_if l steps candidates)
+asked_fits l None None fits = reach_fits l l.positions fits
+asked_fits l None (Some n) fits = tt
+asked_fits l (Some n) candidates fits = tt
 
-wave_fits : (positions : List (List ℕ)) → RunFits (wave_at positions)
-wave_fits (a ∷ b ∷ c ∷ d ∷ x ∷ []) job e = absurd (cc)
-wave_fits [] job e = absurd (no_some Job (Run job) e)
-wave_fits (a ∷ []) job e = absurd (no_some Job (Run job) e)
-wave_fits (a ∷ b ∷ []) job e = absurd (no_some Job (Run job) e)
-wave_fits (a ∷ b ∷ c ∷ []) job e = absurd (no_some Job (Run job) e)
-wave_fits (a ∷ b ∷ c ∷ d ∷ []) job e = absurd (no_some Job (Run job) e)
-wave_fits (a ∷ b ∷ c ∷ d ∷ x ∷ y ∷ ys) job e = absurd (no_some Job (Run job) e)
+audit_fits : (positions : List (List ℕ)) → FitsIf (audit_at positions)
+audit_fits (a ∷ b ∷ c ∷ d ∷ x ∷ []) = tt
+audit_fits [] = tt
+audit_fits (a ∷ []) = tt
+audit_fits (a ∷ b ∷ []) = tt
+audit_fits (a ∷ b ∷ c ∷ []) = tt
+audit_fits (a ∷ b ∷ c ∷ d ∷ []) = tt
+audit_fits (a ∷ b ∷ c ∷ d ∷ x ∷ y ∷ ys) = tt
 
-dumped_fits : (a b c : List ℕ) (run cycle : Option ℕ) → RunFits (dump_of a b c run cycle)
-dumped_fits a b c (Some run) (Some cycle) job e = absurd (cc)
-dumped_fits a b c (Some run) None job e = absurd (no_some Job (Run job) e)
-dumped_fits a b c None cycle job e = absurd (no_some Job (Run job) e)
+wave_fits : (positions : List (List ℕ)) → FitsIf (wave_at positions)
+wave_fits (a ∷ b ∷ c ∷ d ∷ x ∷ []) = tt
+wave_fits [] = tt
+wave_fits (a ∷ []) = tt
+wave_fits (a ∷ b ∷ []) = tt
+wave_fits (a ∷ b ∷ c ∷ []) = tt
+wave_fits (a ∷ b ∷ c ∷ d ∷ []) = tt
+wave_fits (a ∷ b ∷ c ∷ d ∷ x ∷ y ∷ ys) = tt
 
-dump_fits : (positions : List (List ℕ)) → RunFits (dump_at positions)
-dump_fits (a ∷ b ∷ c ∷ d ∷ x ∷ []) job e = dumped_fits a b c (number_between 1 MAX_RUNS d) (number_between 0 MAX_CYCLES x) job e
-dump_fits [] job e = absurd (no_some Job (Run job) e)
-dump_fits (a ∷ []) job e = absurd (no_some Job (Run job) e)
-dump_fits (a ∷ b ∷ []) job e = absurd (no_some Job (Run job) e)
-dump_fits (a ∷ b ∷ c ∷ []) job e = absurd (no_some Job (Run job) e)
-dump_fits (a ∷ b ∷ c ∷ d ∷ []) job e = absurd (no_some Job (Run job) e)
-dump_fits (a ∷ b ∷ c ∷ d ∷ x ∷ y ∷ ys) job e = absurd (no_some Job (Run job) e)
+dumped_fits : (a b c : List ℕ) (run cycle : Option ℕ) → FitsIf (dump_of a b c run cycle)
+dumped_fits a b c (Some run) (Some cycle) = tt
+dumped_fits a b c (Some run) None = tt
+dumped_fits a b c None cycle = tt
 
-numbered_fits : (o : Option ℕ) → RunFits (option_map (λ (n : ℕ). Rattle.bs_words.specs.Job.Demo n) o)
-numbered_fits None job e = absurd (no_some Job (Run job) e)
-numbered_fits (Some n) job e = absurd (cc)
+dump_fits : (positions : List (List ℕ)) → FitsIf (dump_at positions)
+dump_fits (a ∷ b ∷ c ∷ d ∷ x ∷ []) = dumped_fits a b c (number_between 1 MAX_RUNS d) (number_between 0 MAX_CYCLES x)
+dump_fits [] = tt
+dump_fits (a ∷ []) = tt
+dump_fits (a ∷ b ∷ []) = tt
+dump_fits (a ∷ b ∷ c ∷ []) = tt
+dump_fits (a ∷ b ∷ c ∷ d ∷ []) = tt
+dump_fits (a ∷ b ∷ c ∷ d ∷ x ∷ y ∷ ys) = tt
 
-demo_fits : (positions : List (List ℕ)) → RunFits (demo_at positions)
-demo_fits (a ∷ []) job e = numbered_fits (number_between 0 (2 ^ 64 - 1) a) job e
-demo_fits [] job e = absurd (no_some Job (Run job) e)
-demo_fits (a ∷ b ∷ bs) job e = absurd (no_some Job (Run job) e)
+numbered_fits : (o : Option ℕ) → FitsIf (option_map (λ (n : ℕ). Demo n) o)
+numbered_fits None = tt
+numbered_fits (Some n) = tt
 
-command_fits : (command : List ℕ) (l : Line) → Fits l → RunFits (command_job command l)
-command_fits command l fits job e =
-    by (bytes_eq command (codes "run")) (bytes_eq command (codes "audit")) (bytes_eq command (codes "dump")) (bytes_eq command (codes "demo"))
-    (bytes_eq command (codes "wave")) e
+demo_fits : (positions : List (List ℕ)) → FitsIf (demo_at positions)
+demo_fits (a ∷ []) = numbered_fits (number_between 0 (2 ^ 64 - 1) a)
+demo_fits [] = tt
+demo_fits (a ∷ b ∷ bs) = tt
+
+command_fits : (command : List ℕ) (l : Line) → Fits l → FitsIf (command_job command l)
+command_fits command l fits =
+    by (bytes_eq command (codes "run")) (bytes_eq command (codes "reach")) (bytes_eq command (codes "audit")) (bytes_eq command (codes "dump"))
+    (bytes_eq command (codes "demo")) (bytes_eq command (codes "wave"))
   where
-    by : (r a d m v : Bool) →
-        (if r then run_job l else (if a then audit_job l else (if d then dump_job l else
-        (if m then demo_job l else (if v then wave_job l else None))))) ≡ some_in Job (Run job) →
-        FitsJob job
-    by true a d m v k = run_fits l l.positions fits job k
-    by false true d m v k = audit_fits l.positions job k
-    by false false true m v k = dump_fits l.positions job k
-    by false false false true v k = demo_fits l.positions job k
-    by false false false false true k = wave_fits l.positions job k
-    by false false false false false k = absurd (no_some Job (Run job) k)
+    by : (r h a d m v : Bool) →
+        FitsIf (if r then run_job l else (if h then reach_job l else (if a then audit_job l else (if d then dump_job l else
+        (if m then demo_job l else (if v then wave_job l else None))))))
+    by true h a d m v = run_fits l l.positions fits
+    by false true a d m v = asked_fits l l.steps l.candidates fits
+    by false false true d m v = audit_fits l.positions
+    by false false false true m v = dump_fits l.positions
+    by false false false false true v = demo_fits l.positions
+    by false false false false false true = wave_fits l.positions
+    by false false false false false false = tt
 
--- the budgets of each run that words ask for
-pub job_fits : (words : List (List ℕ)) (job : RunJob) → job_of words ≡ Some (Run job) → FitsJob job
-job_fits [] job e = absurd (no_some Job (Run job) e)
-job_fits (command ∷ words) job e =
-    by (read_all (bytes_eq command (codes "run")) words start) (λ l k. all_fits (bytes_eq command (codes "run")) words start l start_fits k) e
+job_fits_if : (words : List (List ℕ)) → FitsIf (job_of words)
+job_fits_if [] = tt
+job_fits_if (command ∷ words) =
+    by (read_all (has_budget command) words start) (λ l k. all_fits (has_budget command) words start l start_fits k)
   where
-    by : (o : Option Line) → ((l : Line) → o ≡ Some l → Fits l) → option_and_then (command_job command) o ≡ Some (Run job) → FitsJob job
-    by None h k = absurd (no_some Job (Run job) k)
-    by (Some l) h k = command_fits command l (h l refl) job k
+    by : (o : Option Line) → ((l : Line) → o ≡ Some l → Fits l) → FitsIf (option_and_then (command_job command) o)
+    by None h = tt
+    by (Some l) h = command_fits command l (h l refl)
+
+-- the budgets of each job that words ask for
+pub job_fits : (words : List (List ℕ)) (job : Job) → job_of words ≡ Some job → FitsJob job
+job_fits words job e = subst FitsIf e (job_fits_if words)

@@ -1,22 +1,25 @@
 -- The job that words spell is the one that is read of them.
-use Rattle.std.proofs.Common.{◌≡◌, ◌⊎◌, inl, inr, ⊎_elim, ℕ, ◌^◌, ◌-◌, Bool, true, false, cond, List, [], ◌∷◌, ◌++◌, refl, arith, ap, sym, subst, ◌∙◌}
+use Rattle.std.proofs.Common.{◌≡◌, ◌⊎◌, inl, inr, ⊎_elim, ℕ, ◌^◌, ◌-◌, Bool, true, false, cond, ◌||◌, List, [], ◌∷◌, ◌++◌, map, refl, arith, ap, sym, subst, ◌∙◌}
 use Rattle.std.proofs.Common.{Option, Some, None, append-nil}
-use Rattle.std.specs.Prelude.{codes, decimal, MatchOption}
-use Rattle.std.specs.List.{flat_map}
+use Rattle.std.specs.Prelude.{codes, decimal, ◌==◌, ◌≢◌, MatchOption}
+use Rattle.std.specs.List.{flat_map, list_all}
 use Rattle.std.specs.Option.{option_map, option_and_then, unwrap_or}
 use Rattle.std.specs.Str.{bytes_eq}
 use Rattle.std.proofs.lemmas.Slice.Eq.{bytes_eq-Decides}
+use Rattle.std.proofs.lemmas.Bool.{and_parts, eqb-true}
+use Rattle.bs_bits.specs.Text.{digit_of, bits_text}
 use Rattle.bs_stim.specs.declared.limits.TheConstants.{MAX_RUNS, MAX_CYCLES}
-use Rattle.bs_words.specs.declared.limits.TheConstants.{DEFAULT_STEPS, DEFAULT_CANDIDATES, DEFAULT_CONFLICTS}
+use Rattle.bs_words.specs.declared.limits.TheConstants.{DEFAULT_STEPS, DEFAULT_CANDIDATES, DEFAULT_CONFLICTS, MAX_BOUND}
 use Rattle.bs_words.specs.declared.options.Kind.{Kind}
 use Rattle.bs_words.specs.declared.options.Kind.TheVariants.{Steps, Candidates, Conflicts}
 use Rattle.bs_words.specs.declared.line.Mode.TheVariants.{Plain}
 use Rattle.bs_words.specs.Options.{number_between}
 use Rattle.bs_words.specs.Line.{Line, read_all, start}
-use Rattle.bs_words.specs.Job.{RunJob, AuditJob, DumpJob, Job, Run, Audit, Dump, Demo, Wave}
-use Rattle.bs_words.specs.Job.{wave_at, wave_job, run_at, run_job, audit_at, audit_job, dump_of, dump_at}
+use Rattle.bs_words.specs.Job.{RunJob, AuditJob, DumpJob, ReachJob, Job, Run, Audit, Dump, Demo, Wave, Reach}
+use Rattle.bs_words.specs.Job.{is_bit, is_state, reach_of, reach_at, reach_if, reach_job, wave_at, wave_job, run_at, run_job, audit_at, audit_job, dump_of, dump_at}
 use Rattle.bs_words.specs.Job.{dump_job, demo_at, demo_job, job_of}
-use Rattle.bs_words.specs.Spelling.{spelling, positions_of, options_of, given, values_of, listed, IsLine, plain, IsRun, IsDump, IsDemo, IsJob}
+use Rattle.bs_words.specs.Spelling.{spelling, positions_of, options_of, given, values_of, listed, IsLine, plain, IsRun, IsDump, IsDemo}
+use Rattle.bs_words.specs.Spelling.{IsStateWord, IsReach, IsJob}
 use Rattle.bs_words.specs.Spelling.{IsNoJob, SpelledJobsAreRead}
 use Rattle.bs_words.proofs.SpellingLemmas.{Rest, Once, Fresh, state, after, read_sound, read_pieces, read_names, after_positions, after_given}
 use Rattle.bs_words.proofs.SpellingLemmas.{fresh_from, listed_same, own_values, between_is, between_again}
@@ -106,6 +109,40 @@ plain_gives_none positions Steps = refl
 plain_gives_none positions Candidates = refl
 plain_gives_none positions Conflicts = refl
 
+-- ---- states
+
+digit : (c : ℕ) → is_bit c ≡ true → c ≡ digit_of (c == 49)
+digit c e = by (c == 49) refl (c == 48) refl e
+  where
+    by : (one : Bool) → (c == 49) ≡ one → (nought : Bool) → (c == 48) ≡ nought → (nought || one) ≡ true → c ≡ digit_of one
+    by true is nought was e = eqb-true c 49 is
+    by false is true was e = eqb-true c 48 was
+    by false is false was e = absurd cc
+
+digits : (word : List ℕ) → list_all is_bit word ≡ true → word ≡ map digit_of (map (λ (c : ℕ). c == 49) word)
+digits [] e = refl
+digits (c ∷ cs) e =
+    let parts = and_parts (is_bit c) (list_all is_bit cs) e in
+    let first : c ≡ digit_of (c == 49) = digit c parts.0 in
+    let others : cs ≡ map digit_of (map (λ (c : ℕ). c == 49) cs) = digits cs parts.1 in
+    λ i. first i ∷ others i
+
+state_word : (word : List ℕ) → is_state word ≡ true → IsStateWord word
+state_word [] e = absurd cc
+state_word (c ∷ cs) e = record { bits = map (λ (c : ℕ). c == 49) (c ∷ cs); some = λ none. cc; spelled = digits (c ∷ cs) e }
+
+all_bits : (bits : List Bool) → list_all is_bit (map digit_of bits) ≡ true
+all_bits [] = refl
+all_bits (true ∷ bits) = all_bits bits
+all_bits (false ∷ bits) = all_bits bits
+
+state_again : (word : List ℕ) → IsStateWord word → is_state word ≡ true
+state_again word h = ap is_state h.spelled ∙ again h.bits h.some
+  where
+    again : (bits : List Bool) → bits ≢ [] → is_state (bits_text bits) ≡ true
+    again [] some = absurd (some refl)
+    again (b ∷ bits) some = all_bits (b ∷ bits)
+
 -- ---- from what is read to the job
 
 run_said : (words : List (List ℕ)) (line : Line) (positions : List (List ℕ)) (job : Job) → line.positions ≡ positions → IsLine words line →
@@ -186,11 +223,46 @@ demo_said words (a ∷ []) job is e = by (number_between 0 (2 ^ 64 - 1) a) refl 
 demo_said words [] job is e = absurd cc
 demo_said words (a ∷ b ∷ bs) job is e = absurd cc
 
+reach_said : (words : List (List ℕ)) (line : Line) (positions : List (List ℕ)) (job : Job) → line.positions ≡ positions → IsLine words line →
+    line.steps ≡ None → line.candidates ≡ None → reach_at line positions ≡ Some job → IsJob (codes "reach" ∷ words) job
+reach_said words line (netlist ∷ state ∷ k ∷ []) job p is steps candidates e = by (is_state state) refl (number_between 0 MAX_BOUND k) refl e
+  where
+    by : (b : Bool) → is_state state ≡ b → (cycles : Option ℕ) → number_between 0 MAX_BOUND k ≡ cycles →
+        reach_of netlist state (unwrap_or line.conflicts DEFAULT_CONFLICTS) b cycles ≡ Some job → IsJob (codes "reach" ∷ words) job
+    by true bits (Some cycles) f e =
+        let x = between_is 0 MAX_BOUND k cycles f in
+        let reach : ReachJob =
+        record { netlist = netlist; state = state; cycles = cycles; conflicts = unwrap_or line.conflicts DEFAULT_CONFLICTS } in
+        let same : Reach reach ≡ job = cc in
+        let places : line.positions ≡ netlist ∷ state ∷ decimal cycles ∷ [] = p ∙ ap (λ c. netlist ∷ state ∷ c ∷ []) (sym x.0) in
+        let is_reach : IsReach words reach = record {
+          line = line;
+          is = is;
+          places = places;
+          state = state_word state bits;
+          few_cycles = x.2;
+          conflicts = refl;
+          no_steps = steps;
+          no_candidates = candidates;
+        } in
+        subst (IsJob (codes "reach" ∷ words)) same (words, refl, is_reach)
+    by true bits None f e = absurd cc
+    by false bits cycles f e = absurd cc
+reach_said words line [] job p is steps candidates e = absurd cc
+reach_said words line (a ∷ []) job p is steps candidates e = absurd cc
+reach_said words line (a ∷ b ∷ []) job p is steps candidates e = absurd cc
+reach_said words line (a ∷ b ∷ c ∷ d ∷ ds) job p is steps candidates e = absurd cc
+
+reach_asked : (words : List (List ℕ)) (line : Line) (job : Job) → IsLine words line → (steps : Option ℕ) → line.steps ≡ steps →
+    (candidates : Option ℕ) → line.candidates ≡ candidates → reach_if line steps candidates ≡ Some job → IsJob (codes "reach" ∷ words) job
+reach_asked words line job is None s None c e = reach_said words line line.positions job refl is s c e
+reach_asked words line job is None s (Some n) c e = absurd cc
+reach_asked words line job is (Some n) s candidates c e = absurd cc
+
 job_said : (words : List (List ℕ)) (job : Job) → job_of words ≡ Some job → IsJob words job
 job_said [] job e = absurd cc
 job_said (command ∷ words) job e =
-    by (bytes_eq command (codes "run")) refl (bytes_eq command (codes "audit")) refl (bytes_eq command (codes "dump")) refl
-    (bytes_eq command (codes "demo")) refl (bytes_eq command (codes "wave")) refl e
+    by (bytes_eq command (codes "run")) refl (bytes_eq command (codes "reach")) refl e
   where
     named : (name : List ℕ) → bytes_eq command name ≡ true → IsJob (name ∷ words) job → IsJob (command ∷ words) job
     named name is h = subst (λ (c : List ℕ). IsJob (c ∷ words) job) (sym ((bytes_eq-Decides command name).0 is)) h
@@ -214,6 +286,11 @@ job_said (command ∷ words) job e =
     on_run None is e = absurd cc
     on_run (Some line) is e = run_said words line line.positions job refl (line_is true words line (read true line is)) e
 
+    on_reach : (o : Option Line) → read_all true words start ≡ o → option_and_then reach_job o ≡ Some job → IsJob (codes "reach" ∷ words) job
+    on_reach None is e = absurd cc
+    on_reach (Some line) is e =
+        reach_asked words line job (line_is true words line (read true line is)) line.steps refl line.candidates refl e
+
     on_others : (o : Option Line) → read_all false words start ≡ o →
         option_and_then (λ (line : Line). cond (bytes_eq command (codes "audit")) (audit_job line)
         (cond (bytes_eq command (codes "dump")) (dump_job line)
@@ -225,17 +302,18 @@ job_said (command ∷ words) job e =
         others line is (bytes_eq command (codes "audit")) refl (bytes_eq command (codes "dump")) refl
         (bytes_eq command (codes "demo")) refl (bytes_eq command (codes "wave")) refl e
 
-    by : (r : Bool) → bytes_eq command (codes "run") ≡ r → (a : Bool) → bytes_eq command (codes "audit") ≡ a → (d : Bool) →
-        bytes_eq command (codes "dump") ≡ d → (m : Bool) → bytes_eq command (codes "demo") ≡ m → (v : Bool) → bytes_eq command (codes "wave") ≡ v →
+    by : (r : Bool) → bytes_eq command (codes "run") ≡ r → (h : Bool) → bytes_eq command (codes "reach") ≡ h →
         option_and_then (λ (line : Line). cond r (run_job line)
+        (cond h (reach_job line)
         (cond (bytes_eq command (codes "audit")) (audit_job line)
         (cond (bytes_eq command (codes "dump")) (dump_job line)
         (cond (bytes_eq command (codes "demo")) (demo_job line)
-        (cond (bytes_eq command (codes "wave")) (wave_job line) None)))))
-        (read_all r words start) ≡ Some job →
+        (cond (bytes_eq command (codes "wave")) (wave_job line) None))))))
+        (read_all (r || h) words start) ≡ Some job →
         IsJob (command ∷ words) job
-    by true r a f d g m h v k e = named (codes "run") r (on_run (read_all true words start) refl e)
-    by false r a f d g m h v k e = on_others (read_all false words start) refl e
+    by true r h k e = named (codes "run") r (on_run (read_all true words start) refl e)
+    by false r true k e = named (codes "reach") k (on_reach (read_all true words start) refl e)
+    by false r false k e = on_others (read_all false words start) refl e
 
 -- ---- from the job to what is read
 
@@ -258,6 +336,18 @@ job_again words (Run job) h =
 job_again words (Audit job) h =
     let positions : List (List ℕ) = job.netlist ∷ job.signature ∷ job.stimulus ∷ job.dump ∷ job.report ∷ [] in
     ap job_of h.1 ∙ ap (option_and_then audit_job) (line_read false h.0 (plain positions) h.2 (inr (plain_gives_none positions)))
+job_again words (Reach job) h =
+    let r : IsReach h.0 job = h.2 in
+    let conflicts : ℕ = unwrap_or r.line.conflicts DEFAULT_CONFLICTS in
+    ap job_of h.1
+    ∙ (ap (option_and_then reach_job) (line_read true h.0 r.line r.is (inl refl))
+    ∙ (ap (λ o. reach_if r.line o r.line.candidates) r.no_steps
+    ∙ (ap (reach_if r.line None) r.no_candidates
+    ∙ (ap (reach_at r.line) r.places
+    ∙ (ap (λ b. reach_of job.netlist job.state conflicts b (number_between 0 MAX_BOUND (decimal job.cycles))) (state_again job.state r.state)
+    ∙ (ap (λ o. reach_of job.netlist job.state conflicts true o)
+    (between_again 0 MAX_BOUND job.cycles (omega arith) r.few_cycles (omega (arith, r.few_cycles)))
+    ∙ ap (λ n. Some (Reach (record { netlist = job.netlist; state = job.state; cycles = job.cycles; conflicts = n }))) (sym r.conflicts)))))))
 job_again words (Wave job) h =
     let positions : List (List ℕ) = job.netlist ∷ job.signature ∷ job.stimulus ∷ job.dump ∷ job.report ∷ [] in
     ap job_of h.1 ∙ ap (option_and_then wave_job) (line_read false h.0 (plain positions) h.2 (inr (plain_gives_none positions)))

@@ -5,7 +5,7 @@ use Rattle.bs_words.specs.declared.line.State.{State as CodeState}
 use Rattle.bs_words.specs.declared.job.Job.{Job as CodeJob}
 use Rattle.bs_words.specs.declared.job.Job.TheVariants as J
 use Rattle.bs_words.specs.Line.{Line, State}
-use Rattle.bs_words.specs.Job.{Job, Run, Audit, Dump, Demo, Wave}
+use Rattle.bs_words.specs.Job.{Job, Run, Audit, Dump, Demo, Wave, Reach}
 
 abbrev pub line_in : CodeLine → Line
 line_in l = record { positions = map (λ s. s.now) l.positions.items; steps = l.steps; candidates = l.candidates; conflicts = l.conflicts }
@@ -33,6 +33,7 @@ job_in (J.Audit a) = Audit record { netlist = a.netlist.now; signature = a.signa
 job_in (J.Dump d) = Dump record { netlist = d.netlist.now; signature = d.signature.now; stimulus = d.stimulus.now; run = d.run; cycle = d.cycle }
 job_in (J.Demo number) = Demo number
 job_in (J.Wave a) = Wave record { netlist = a.netlist.now; signature = a.signature.now; stimulus = a.stimulus.now; dump = a.dump.now; report = a.report.now }
+job_in (J.Reach r) = Reach record { netlist = r.netlist.now; state = r.state.now; cycles = r.cycles; conflicts = r.conflicts }
 
 abbrev pub shown_job : Option CodeJob → Option Job
 shown_job None = None

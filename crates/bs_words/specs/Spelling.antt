@@ -1,14 +1,15 @@
 -- Which words spell which job, with no reading of them (docs/FORMATS.md, "Command words").
-use Rattle.std.specs.Prelude.{◌≡◌, ◌⊎◌, ℕ, ◌≤◌, ◌<◌, ◌^◌, false, List, [], ◌∷◌, ◌++◌, codes, decimal, Option, Some, None, ◌↔◌}
+use Rattle.std.specs.Prelude.{◌≡◌, ◌≢◌, ◌⊎◌, ℕ, ◌≤◌, ◌<◌, ◌^◌, Bool, false, List, [], ◌∷◌, ◌++◌, codes, decimal, Option, Some, None, ◌↔◌}
 use Rattle.std.specs.List.{AllByRecursion, flat_map}
 use Rattle.std.specs.Option.{unwrap_or}
+use Rattle.bs_bits.specs.Text.{bits_text}
 use Rattle.bs_stim.specs.declared.limits.TheConstants.{MAX_RUNS, MAX_CYCLES}
-use Rattle.bs_words.specs.declared.limits.TheConstants.{DEFAULT_STEPS, DEFAULT_CANDIDATES, DEFAULT_CONFLICTS}
+use Rattle.bs_words.specs.declared.limits.TheConstants.{DEFAULT_STEPS, DEFAULT_CANDIDATES, DEFAULT_CONFLICTS, MAX_BOUND}
 use Rattle.bs_words.specs.declared.options.Kind.{Kind}
 use Rattle.bs_words.specs.declared.options.Kind.TheVariants.{Steps, Candidates, Conflicts}
 use Rattle.bs_words.specs.Options.{greatest, is_option}
 use Rattle.bs_words.specs.Line.{Line}
-use Rattle.bs_words.specs.Job.{RunJob, AuditJob, DumpJob, Job, Run, Audit, Dump, Demo, Wave, job_of}
+use Rattle.bs_words.specs.Job.{RunJob, AuditJob, DumpJob, ReachJob, Job, Run, Audit, Dump, Demo, Wave, Reach, job_of}
 
 -- ---- pieces
 
@@ -118,6 +119,23 @@ pub record IsDump (words : List (List ℕ)) (job : DumpJob) : Type 0 where
 abbrev pub IsDemo : List (List ℕ) → ℕ → Type 0
 IsDemo words number = IsLine words (plain (decimal number ∷ [])) × (number < 2 ^ 64)
 
+-- a state of one or more bits
+pub record IsStateWord (word : List ℕ) : Type 0 where
+  pub bits : List Bool
+  pub some : bits ≢ []
+  pub spelled : word ≡ bits_text bits
+
+-- `reach`: a file name, a state and a number of cycles, and the budget of lemmas, which has its default where none is given
+pub record IsReach (words : List (List ℕ)) (job : ReachJob) : Type 0 where
+  pub line : Line
+  pub is : IsLine words line
+  pub places : line.positions ≡ job.netlist ∷ job.state ∷ decimal job.cycles ∷ []
+  pub state : IsStateWord job.state
+  pub few_cycles : job.cycles ≤ MAX_BOUND
+  pub conflicts : job.conflicts ≡ unwrap_or line.conflicts DEFAULT_CONFLICTS
+  pub no_steps : line.steps ≡ None
+  pub no_candidates : line.candidates ≡ None
+
 -- the first word is the command
 abbrev pub IsJob : List (List ℕ) → Job → Type 0
 IsJob words (Run job) = (rest : List (List ℕ)) × (words ≡ codes "run" ∷ rest) × IsRun rest job
@@ -125,6 +143,7 @@ IsJob words (Audit job) = (rest : List (List ℕ)) × (words ≡ codes "audit" �
 IsJob words (Dump job) = (rest : List (List ℕ)) × (words ≡ codes "dump" ∷ rest) × IsDump rest job
 IsJob words (Demo number) = (rest : List (List ℕ)) × (words ≡ codes "demo" ∷ rest) × IsDemo rest number
 IsJob words (Wave job) = (rest : List (List ℕ)) × (words ≡ codes "wave" ∷ rest) × IsAudit rest job
+IsJob words (Reach job) = (rest : List (List ℕ)) × (words ≡ codes "reach" ∷ rest) × IsReach rest job
 
 -- the words spell no job
 pub record IsNoJob (words : List (List ℕ)) : Type 0 where
