@@ -1,9 +1,9 @@
 -- Moments of recorded runs, and the dump of one.
-use Rattle.std.proofs.Common.{◌≡◌, ℕ, suc, zero, ◌≤◌, ◌-◌, Bool, List, [], ◌∷◌, length, map, get_or, refl, arith, ap, subst, sym, Option, None}
+use Rattle.std.proofs.Common.{◌≡◌, inl, inr, ℕ, suc, zero, ◌≤◌, ◌-◌, Bool, List, [], ◌∷◌, ◌++◌, length, map, get_or, refl, arith, ap, subst, sym, None}
 use Rattle.std.specs.Prelude.{All, slice_get}
 use Rattle.std.specs.Option.{option_to_list}
 use Rattle.std.proofs.lemmas.List.{length-map}
-use Rattle.std.proofs.lemmas.List.Elements.{All-map, All-weaker, All-from_recursion}
+use Rattle.std.proofs.lemmas.List.Elements.{All-map, All-weaker, AllByRecursion, All-from_recursion}
 use Rattle.bs_net.specs.Circuit.{Circuit, reset_state}
 use Rattle.bs_net.specs.Netlist.{circuit_of}
 use Rattle.bs_net.specs.Order.{IsChecked}
@@ -11,12 +11,12 @@ use Rattle.bs_net.specs.Parts.{Parts}
 use Rattle.bs_stim.specs.declared.limits.TheConstants.{MAX_CYCLES}
 use Rattle.bs_stim.specs.Runs.{Recorded, Stimulus, IsRecorded, IsStimulus, no_run, run_at, inputs_of}
 use Rattle.bs_scan.specs.declared.dump.Dump.{Dump}
-use Rattle.bs_scan.specs.Choice.{Chosen}
+use Rattle.bs_scan.specs.Choice.{Chosen, depth_of, IsDepth}
 use Rattle.bs_scan.specs.Crash.{Recording, recording_of, IsRecording, dump_at, crash_of, DumpFits, IsCrash}
 use Rattle.bs_scan.specs.Moments.{Run, Moment, moment, IsMoment, run_of, state_at, state_of}
 use Rattle.bs_scan.specs.Present.{present_in}
-use Rattle.bs_scan.specs.Signature.{signature, parity_of, stored_at}
-use Rattle.bs_scan.proofs.SignatureLemmas.{length_state}
+use Rattle.bs_scan.specs.Signature.{parity_of, signatures_before, stored_at}
+use Rattle.bs_scan.proofs.SignatureLemmas.{length_state, some_kept}
 
 -- ---- the runs of a stimulus
 
@@ -52,12 +52,13 @@ inputs_fit c s sound width =
     (All-weaker (IsRecorded s.width) (λ (run : Recorded). All (λ (input : List Bool). length input ≡ length c.inputs) run.inputs)
     (λ run is. subst (λ (n : ℕ). All (λ (input : List Bool). length input ≡ n) run.inputs) width is.widths) s.runs sound.recorded)
 
-pub recording_is : (raw : Parts) (choice : Chosen) (s : Stimulus) → IsChecked (circuit_of raw) → IsStimulus s →
+pub recording_is : (raw : Parts) (choice : Chosen) (s : Stimulus) → IsChecked (circuit_of raw) → IsDepth (depth_of choice) → IsStimulus s →
     choice.width ≡ length (circuit_of raw).flops → s.width ≡ length (circuit_of raw).inputs →
     IsRecording (recording_of raw choice s)
-recording_is raw choice s checked sound states inputs =
+recording_is raw choice s checked kept sound states inputs =
     record {
       checked = checked;
+      kept = kept;
       states = states;
       inputs = inputs_fit (circuit_of raw) s sound inputs;
       few_runs = omega (arith, sound.few_runs, length-map s.runs (λ (run : Recorded). run.inputs));
@@ -69,44 +70,89 @@ recording_is raw choice s checked sound states inputs =
 pub crash_is : (r : Recording) (dump : Dump) → IsRecording r → DumpFits r.circuit r.choice dump → IsCrash (crash_of r dump)
 crash_is r dump is fits = record { checked = is.checked; inputs = is.inputs; fits = fits }
 
+-- a dump that fits is of a chip whose register keeps one signature or two
+pub depth_is : (c : Circuit) (choice : Chosen) (dump : Dump) → DumpFits c choice dump → IsDepth (depth_of choice)
+depth_is c choice dump fits = subst IsDepth fits.depth fits.sound.kept
+
 -- ---- the dump of a moment
 
 abbrev Widths : Chosen → List (List Bool) → Type 0
 Widths choice stored = All (λ t. length t ≡ length choice.items) stored
 
+before_widths : (c : Circuit) (choice : Chosen) (run : Run) (count cycle : ℕ) →
+    AllByRecursion (λ (t : List Bool). length t ≡ length choice.items) (signatures_before c choice run count cycle)
+before_widths c choice run zero cycle = tt
+before_widths c choice run (suc count) zero = tt
+before_widths c choice run (suc count) (suc cycle) =
+    (length-map choice.items (parity_of (state_at c run cycle)), before_widths c choice run count cycle)
+
 -- what the register holds at a moment has a bit for each item
 pub stored_widths : (c : Circuit) (choice : Chosen) (run : Run) (cycle : ℕ) → Widths choice (stored_at c choice run cycle)
-stored_widths c choice run zero = All-from_recursion (λ (t : List Bool). length t ≡ length choice.items) [] tt
-stored_widths c choice run (suc cycle) =
-    All-from_recursion (λ (t : List Bool). length t ≡ length choice.items) (signature choice (state_at c run cycle) ∷ [])
-    (length-map choice.items (parity_of (state_at c run cycle)), tt)
+stored_widths c choice run cycle =
+    All-from_recursion (λ (t : List Bool). length t ≡ length choice.items) (stored_at c choice run cycle)
+    (before_widths c choice run (depth_of choice) cycle)
 
-abbrev held : Circuit → Chosen → Run → ℕ → Option (List Bool)
-held c choice run cycle = slice_get (stored_at c choice run cycle) 0
+-- it holds no more than it keeps
+few_before : (c : Circuit) (choice : Chosen) (run : Run) (count cycle : ℕ) → length (signatures_before c choice run count cycle) ≤ count
+few_before c choice run zero cycle = omega arith
+few_before c choice run (suc count) zero = omega arith
+few_before c choice run (suc count) (suc cycle) = omega (arith, few_before c choice run count cycle)
 
-all_held : (c : Circuit) (choice : Chosen) (run : Run) (cycle : ℕ) → option_to_list (held c choice run cycle) ≡ stored_at c choice run cycle
-all_held c choice run zero = refl
-all_held c choice run (suc cycle) = refl
+few_stored : (c : Circuit) (choice : Chosen) (run : Run) (cycle : ℕ) → IsDepth (depth_of choice) → length (stored_at c choice run cycle) ≤ 2
+few_stored c choice run cycle (inl one) = omega (arith, one, few_before c choice run (depth_of choice) cycle)
+few_stored c choice run cycle (inr two) = omega (arith, two, few_before c choice run (depth_of choice) cycle)
 
-pub dump_at_fits : (r : Recording) (m : Moment) → DumpFits r.circuit r.choice (dump_at r m)
-dump_at_fits r m =
+-- a list of up to two members, by its places
+both_held : (t : List (List Bool)) → length t ≤ 2 → option_to_list (slice_get t 0) ++ option_to_list (slice_get t 1) ≡ t
+both_held [] h = refl
+both_held (a ∷ []) h = refl
+both_held (a ∷ b ∷ []) h = refl
+both_held (a ∷ b ∷ x ∷ t) h = absurd (omega (arith, h))
+
+none_second : (t : List (List Bool)) → length t ≤ 1 → slice_get t 1 ≡ None
+none_second [] h = refl
+none_second (a ∷ []) h = refl
+none_second (a ∷ b ∷ t) h = absurd (omega (arith, h))
+
+none_after_none : (t : List (List Bool)) → slice_get t 0 ≡ None → slice_get t 1 ≡ None
+none_after_none [] e = refl
+none_after_none (a ∷ t) e = absurd (cc)
+
+all_held : (c : Circuit) (choice : Chosen) (run : Run) (cycle : ℕ) → IsDepth (depth_of choice) →
+    option_to_list (slice_get (stored_at c choice run cycle) 0) ++ option_to_list (slice_get (stored_at c choice run cycle) 1) ≡ stored_at c choice run cycle
+all_held c choice run cycle kept = both_held (stored_at c choice run cycle) (few_stored c choice run cycle kept)
+
+pub dump_at_fits : (r : Recording) (m : Moment) → IsDepth (depth_of r.choice) → DumpFits r.circuit r.choice (dump_at r m)
+dump_at_fits r m kept =
+    let run : Run = run_of r.runs m.run in
     record {
-      state = length_state r.circuit (run_of r.runs m.run) m.cycle;
+      sound =
+          record {
+            kept = kept;
+            alone = λ (one : depth_of r.choice ≡ 1).
+                none_second (stored_at r.circuit r.choice run m.cycle) (omega (arith, one, few_before r.circuit r.choice run (depth_of r.choice) m.cycle));
+            behind = none_after_none (stored_at r.circuit r.choice run m.cycle);
+          };
+      depth = refl;
+      state = length_state r.circuit run m.cycle;
       signatures =
-          subst (Widths r.choice) (sym (all_held r.circuit r.choice (run_of r.runs m.run) m.cycle))
-          (stored_widths r.circuit r.choice (run_of r.runs m.run) m.cycle);
+          subst (Widths r.choice) (sym (all_held r.circuit r.choice run m.cycle kept)) (stored_widths r.circuit r.choice run m.cycle);
     }
 
-stored_none : (c : Circuit) (choice : Chosen) (run : Run) (cycle : ℕ) → held c choice run cycle ≡ None → state_at c run cycle ≡ reset_state c
+none_before : (c : Circuit) (choice : Chosen) (run : Run) (count cycle : ℕ) → 1 ≤ count → slice_get (signatures_before c choice run count cycle) 0 ≡ None →
+    state_at c run cycle ≡ reset_state c
 unfolding state_at
-stored_none c choice run zero e = refl
-stored_none c choice run (suc cycle) e = cc
+none_before c choice run zero cycle h e = absurd (omega (arith, h))
+none_before c choice run (suc count) zero h e = refl
+none_before c choice run (suc count) (suc cycle) h e = absurd (cc)
 
 -- without a signature it is of the reset state
-pub dump_at_rests : (r : Recording) (m : Moment) → (dump_at r m).stored ≡ None → (dump_at r m).state ≡ reset_state r.circuit
-dump_at_rests r m = stored_none r.circuit r.choice (run_of r.runs m.run) m.cycle
+pub dump_at_rests : (r : Recording) (m : Moment) → IsDepth (depth_of r.choice) → (dump_at r m).stored ≡ None →
+    (dump_at r m).state ≡ reset_state r.circuit
+dump_at_rests r m kept e = none_before r.circuit r.choice (run_of r.runs m.run) (depth_of r.choice) m.cycle (some_kept (depth_of r.choice) kept) e
 
 -- what a dump shows of its moment
-pub present_at : (r : Recording) (m : Moment) →
+pub present_at : (r : Recording) (m : Moment) → IsDepth (depth_of r.choice) →
     present_in (dump_at r m) ≡ record { state = state_of r.circuit r.runs m; stored = stored_at r.circuit r.choice (run_of r.runs m.run) m.cycle }
-present_at r m = λ i. record { state = state_of r.circuit r.runs m; stored = all_held r.circuit r.choice (run_of r.runs m.run) m.cycle i }
+present_at r m kept =
+    λ i. record { state = state_of r.circuit r.runs m; stored = all_held r.circuit r.choice (run_of r.runs m.run) m.cycle kept i }

@@ -1,13 +1,13 @@
 -- What is read of a dump is as its text says, fits the chip, and is at reset where it has no signature.
-use Rattle.std.proofs.Common.{◌≡◌, inl, inr, ⊎_elim, ℕ, Bool, true, false, cond, List, [], ◌∷◌, ◌++◌, length, take, drop, refl, sym, ap, subst, ◌∙◌}
-use Rattle.std.proofs.Common.{Option, Some, None, Result, Ok, Err}
-use Rattle.std.specs.Prelude.{◌==◌, IfOk, codes, slice_get, All}
+use Rattle.std.proofs.Common.{◌≡◌, inl, inr, ⊎_elim, ℕ, ◌+◌, Bool, true, false, not, ◌&&◌, cond, List, [], ◌∷◌, ◌++◌, length, take, drop, refl, arith, sym}
+use Rattle.std.proofs.Common.{ap, subst, ◌∙◌, Option, Some, None, Result, Ok, Err}
+use Rattle.std.specs.Prelude.{◌==◌, IfOk, codes, is_none, slice_get, All}
 use Rattle.std.specs.List.{flat_map}
 use Rattle.std.specs.Option.{option_and_then, option_to_list}
 use Rattle.std.specs.Str.{bytes_eq}
 use Rattle.std.proofs.lemmas.Bool.{eqb-true}
 use Rattle.std.proofs.lemmas.List.{take-append-drop, length-map, nil_from_length}
-use Rattle.std.proofs.lemmas.List.Elements.{All-from_recursion}
+use Rattle.std.proofs.lemmas.List.Elements.{All-append, All-from_recursion, All-nil}
 use Rattle.std.proofs.lemmas.Slice.Eq.{bytes_eq-Decides}
 use Rattle.bs_bits.specs.Bits.{bits_eq}
 use Rattle.bs_bits.specs.Lines.{line, lines_of}
@@ -20,9 +20,10 @@ use Rattle.bs_net.specs.Circuit.{Circuit, reset_state}
 use Rattle.bs_scan.specs.declared.dump.Dump.{Dump}
 use Rattle.bs_scan.specs.declared.fault.DumpFault.{DumpFault}
 use Rattle.bs_scan.specs.declared.fault.DumpFault.TheVariants.{Line, Width, NotReset, NoMemory}
-use Rattle.bs_scan.specs.Choice.{Chosen}
+use Rattle.bs_scan.specs.Choice.{Chosen, depth_of, IsDepth}
 use Rattle.bs_scan.specs.Crash.{DumpFits}
-use Rattle.bs_scan.specs.DumpText.{behind, of_width, bits_line, is_text, stored_line, end_line, at_reset, signature_text, dump_text, dump_of}
+use Rattle.bs_scan.specs.DumpText.{behind, behind_older, of_width, bits_line, is_text, held_line, old_line, older_line, end_line, at_reset}
+use Rattle.bs_scan.specs.DumpText.{signature_text, older_text, dump_text, dump_of}
 use Rattle.bs_scan.specs.Law.{DumpTextsAreExact}
 use Rattle.bs_scan.proofs.SignatureLemmas.{bits_same_is}
 
@@ -58,151 +59,256 @@ wide number width (Some t) bits h = by (length t == width) refl h
     by true e k = let same : t ≡ bits = ok_same (List Bool) t bits k in (ap Some same, ap length (sym same) ∙ eqb-true (length t) width e)
     by false e k = absurd (not_err (List Bool) (Width number) bits k)
 
-behind_is : (word text : List ℕ) (bits : List Bool) → option_and_then bits_of (behind word text) ≡ Some bits → text ≡ word ++ bits_text bits
-behind_is word text bits h = by (bytes_eq (take (length word) text) word) refl h
+behind_is : (word text rest : List ℕ) → behind word text ≡ Some rest → text ≡ word ++ rest
+behind_is word text rest h = by (bytes_eq (take (length word) text) word) refl h
   where
-    by : (b : Bool) → bytes_eq (take (length word) text) word ≡ b →
-        option_and_then bits_of (cond b (Some (drop (length word) text)) None) ≡ Some bits → text ≡ word ++ bits_text bits
+    by : (b : Bool) → bytes_eq (take (length word) text) word ≡ b → cond b (Some (drop (length word) text)) None ≡ Some rest → text ≡ word ++ rest
     by true e k =
+        let left : drop (length word) text ≡ rest = cc in
         sym (take-append-drop (length word) text)
-        ∙ (ap (λ front. front ++ drop (length word) text) ((bytes_eq-Decides (take (length word) text) word).0 e)
-        ∙ ap (λ rest. word ++ rest) (sym (text_again (drop (length word) text) bits k)))
-    by false e k = cc
+        ∙ (ap (λ front. front ++ drop (length word) text) ((bytes_eq-Decides (take (length word) text) word).0 e) ∙ ap (λ rest. word ++ rest) left)
+    by false e k = absurd (cc)
+
+bits_are : (word text : List ℕ) (bits : List Bool) → option_and_then bits_of (behind word text) ≡ Some bits → text ≡ word ++ bits_text bits
+bits_are word text bits h = by (behind word text) refl h
+  where
+    by : (o : Option (List ℕ)) → behind word text ≡ o → option_and_then bits_of o ≡ Some bits → text ≡ word ++ bits_text bits
+    by None e k = absurd (cc)
+    by (Some rest) e k = behind_is word text rest e ∙ ap (λ rest. word ++ rest) (sym (text_again rest bits k))
 
 line_is : (word : List ℕ) (number width : ℕ) (text : Option (List ℕ)) (bits : List Bool) → bits_line word number width text ≡ Ok bits →
     IsBits text word width bits
 line_is word number width None bits h = absurd (not_err (List Bool) (Line number) bits h)
 line_is word number width (Some text) bits h =
     let is = wide number width (option_and_then bits_of (behind word text)) bits h in
-    record { spelled_so = ap Some (behind_is word text bits is.0); as_wide = is.1 }
+    record { spelled_so = ap Some (bits_are word text bits is.0); as_wide = is.1 }
 
 abbrev Widths : ℕ → Option (List Bool) → Type 0
-Widths items stored = All (λ t. length t ≡ items) (option_to_list stored)
+Widths items held = All (λ t. length t ≡ items) (option_to_list held)
+
+no_width : (items : ℕ) → Widths items None
+no_width items = All-nil (λ (t : List Bool). length t ≡ items)
 
 -- a signature that was read, or none
-record IsStored (text : Option (List ℕ)) (items : ℕ) (stored : Option (List Bool)) : Type 0 where
-  spelled_so : text ≡ Some (codes "sig " ++ signature_text stored)
-  as_wide : Widths items stored
+record IsHeld (text : Option (List ℕ)) (word : List ℕ) (items : ℕ) (held : Option (List Bool)) : Type 0 where
+  spelled_so : text ≡ Some (word ++ signature_text held)
+  as_wide : Widths items held
 
-stored_is : (items : ℕ) (text : Option (List ℕ)) (stored : Option (List Bool)) → stored_line items text ≡ Ok stored → IsStored text items stored
-stored_is items text stored h = by (is_text (codes "sig none") text) refl h
+none_is : (word : List ℕ) (text : Option (List ℕ)) → is_text (codes "none") (option_and_then (behind word) text) ≡ true →
+    text ≡ Some (word ++ codes "none")
+none_is word None e = cc
+none_is word (Some text) e =
+    ap Some (behind_is word text (codes "none") (is_text_is (codes "none") (behind word text) e))
+
+held_is : (word : List ℕ) (number items : ℕ) (text : Option (List ℕ)) (held : Option (List Bool)) → held_line word number items text ≡ Ok held →
+    IsHeld text word items held
+held_is word number items text held h = by (is_text (codes "none") (option_and_then (behind word) text)) refl h
   where
-    read : (r : Result (List Bool) DumpFault) → ((bits : List Bool) → r ≡ Ok bits → IsBits text (codes "sig ") items bits) →
-        (r >>= λ bits. Ok (Some bits)) ≡ Ok stored → IsStored text items stored
+    read : (r : Result (List Bool) DumpFault) → ((bits : List Bool) → r ≡ Ok bits → IsBits text word items bits) →
+        (r >>= λ bits. Ok (Some bits)) ≡ Ok held → IsHeld text word items held
     read (Ok bits) line k =
         let is = line bits refl in
-        subst (IsStored text items) (ok_same (Option (List Bool)) (Some bits) stored k)
+        subst (IsHeld text word items) (ok_same (Option (List Bool)) (Some bits) held k)
         (record { spelled_so = is.spelled_so; as_wide = All-from_recursion (λ (t : List Bool). length t ≡ items) (bits ∷ []) (is.as_wide, tt) })
-    read (Err fault) line k = absurd (not_err (Option (List Bool)) fault stored k)
+    read (Err fault) line k = absurd (not_err (Option (List Bool)) fault held k)
 
-    by : (b : Bool) → is_text (codes "sig none") text ≡ b →
-        cond b (Ok None) (bits_line (codes "sig ") 2 items text >>= λ bits. Ok (Some bits)) ≡ ok_in (Option (List Bool)) stored → IsStored text items stored
+    by : (b : Bool) → is_text (codes "none") (option_and_then (behind word) text) ≡ b →
+        cond b (Ok None) (bits_line word number items text >>= λ bits. Ok (Some bits)) ≡ ok_in (Option (List Bool)) held → IsHeld text word items held
     by true e k =
-        subst (IsStored text items) (ok_same (Option (List Bool)) None stored k)
-        (record { spelled_so = is_text_is (codes "sig none") text e; as_wide = All-from_recursion (λ (t : List Bool). length t ≡ items) [] tt })
-    by false e k = read (bits_line (codes "sig ") 2 items text) (λ bits e. line_is (codes "sig ") 2 items text bits e) k
+        subst (IsHeld text word items) (ok_same (Option (List Bool)) None held k) (record { spelled_so = none_is word text e; as_wide = no_width items })
+    by false e k = read (bits_line word number items text) (λ bits e. line_is word number items text bits e) k
 
 -- the last line
-ended : (lines : List (List ℕ)) (b : Bool) → end_line lines ≡ Ok b → lines ≡ codes "end" ∷ []
-ended [] b h = absurd (not_err Bool (Line 3) b h)
-ended (text ∷ rest) b h = by (bytes_eq text (codes "end")) refl h
+ended : (number : ℕ) (lines : List (List ℕ)) (b : Bool) → end_line number lines ≡ Ok b → lines ≡ codes "end" ∷ []
+ended number [] b h = absurd (not_err Bool (Line number) b h)
+ended number (text ∷ rest) b h = by (bytes_eq text (codes "end")) refl h
   where
-    last : (z : Bool) → (length rest == 0) ≡ z → text ≡ codes "end" → cond z (Ok true) (Err (Line 4)) ≡ ok_in Bool b → text ∷ rest ≡ codes "end" ∷ []
-    last true none same k = λ i. same i ∷ nil_from_length rest (eqb-true (length rest) 0 none) i
-    last false some same k = absurd (not_err Bool (Line 4) b k)
-
-    by : (z : Bool) → bytes_eq text (codes "end") ≡ z → cond z (cond (length rest == 0) (Ok true) (Err (Line 4))) (Err (Line 3)) ≡ ok_in Bool b →
+    last : (z : Bool) → (length rest == 0) ≡ z → text ≡ codes "end" → cond z (Ok true) (Err (Line (number + 1))) ≡ ok_in Bool b →
         text ∷ rest ≡ codes "end" ∷ []
+    last true none same k = λ i. same i ∷ nil_from_length rest (eqb-true (length rest) 0 none) i
+    last false some same k = absurd (not_err Bool (Line (number + 1)) b k)
+
+    by : (z : Bool) → bytes_eq text (codes "end") ≡ z →
+        cond z (cond (length rest == 0) (Ok true) (Err (Line (number + 1)))) (Err (Line number)) ≡ ok_in Bool b → text ∷ rest ≡ codes "end" ∷ []
     by true e k = last (length rest == 0) refl ((bytes_eq-Decides text (codes "end")).0 e) k
-    by false e k = absurd (not_err Bool (Line 3) b k)
+    by false e k = absurd (not_err Bool (Line number) b k)
+
+-- the lines behind that of the last signature
+record IsTail (rest : List (List ℕ)) (depth items : ℕ) (stored older : Option (List Bool)) : Type 0 where
+  spelled_so : spelled rest ≡ older_text depth older ++ line (codes "end")
+  as_wide : Widths items older
+  alone : depth ≡ 1 → older ≡ None
+  after : stored ≡ None → older ≡ None
+
+-- the older signature that was read
+record IsOld (text : Option (List ℕ)) (items : ℕ) (stored older : Option (List Bool)) : Type 0 where
+  old : IsHeld text (codes "old ") items older
+  after : stored ≡ None → older ≡ None
+
+old_is : (items : ℕ) (stored older : Option (List Bool)) (text : Option (List ℕ)) → old_line items stored text ≡ Ok older → IsOld text items stored older
+old_is items (Some t) older text h =
+    record { old = held_is (codes "old ") 3 items text older h; after = λ (none : Some t ≡ None). absurd (cc) }
+old_is items None older text h = by (is_text (codes "old none") text) refl h
+  where
+    by : (b : Bool) → is_text (codes "old none") text ≡ b → cond b (Ok None) (Err (Line 3)) ≡ ok_in (Option (List Bool)) older → IsOld text items None older
+    by true e k =
+        subst (IsOld text items None) (ok_same (Option (List Bool)) None older k)
+        (record {
+          old = record { spelled_so = is_text_is (codes "old none") text e; as_wide = no_width items };
+          after = λ _. refl;
+        })
+    by false e k = absurd (not_err (Option (List Bool)) (Line 3) older k)
+
+two : (lines : List (List ℕ)) (a b : List ℕ) → slice_get lines 0 ≡ Some a → drop 1 lines ≡ b ∷ [] → lines ≡ a ∷ b ∷ []
+two [] a b x y = cc
+two (k ∷ rest) a b x y = cc
+
+tail_is : (rest : List (List ℕ)) (depth items : ℕ) (stored older : Option (List Bool)) → older_line depth items stored (slice_get rest 0) ≡ Ok older →
+    behind_older depth rest ≡ codes "end" ∷ [] → IsTail rest depth items stored older
+tail_is rest depth items stored older h e = by (depth == 2) refl h e
+  where
+    by : (b : Bool) → (depth == 2) ≡ b → cond b (old_line items stored (slice_get rest 0)) (Ok None) ≡ ok_in (Option (List Bool)) older →
+        cond b (drop 1 rest) rest ≡ codes "end" ∷ [] → IsTail rest depth items stored older
+    by true deep k last =
+        let is = old_is items stored older (slice_get rest 0) k in
+        record {
+          spelled_so =
+              ap spelled (two rest (codes "old " ++ signature_text older) (codes "end") is.old.spelled_so last)
+              ∙ sym (ap (λ b. cond {A = List ℕ} b (line (codes "old " ++ signature_text older)) [] ++ line (codes "end")) deep);
+          as_wide = is.old.as_wide;
+          alone = λ (one : depth ≡ 1). absurd (omega (arith, one, eqb-true depth 2 deep));
+          after = is.after;
+        }
+    by false flat k last =
+        let none : None ≡ older = ok_same (Option (List Bool)) None older k in
+        record {
+          spelled_so =
+              ap spelled last
+              ∙ sym (ap (λ b. cond {A = List ℕ} b (line (codes "old " ++ signature_text older)) [] ++ line (codes "end")) flat);
+          as_wide = subst (Widths items) none (no_width items);
+          alone = λ _. sym none;
+          after = λ _. sym none;
+        }
 
 -- what the last step makes of the parts
-record IsMade (reset state : List Bool) (stored : Option (List Bool)) (dump : Dump) : Type 0 where
-  made_of : record { state = state; stored = stored } ≡ dump
-  rests : stored ≡ None → state ≡ reset
+record IsMade (reset : List Bool) (made dump : Dump) : Type 0 where
+  made_of : made ≡ dump
+  rests : made.stored ≡ None → made.state ≡ reset
 
-made_is : (reset state : List Bool) (stored : Option (List Bool)) (dump : Dump) → at_reset reset state stored ≡ Ok dump → IsMade reset state stored dump
-made_is reset state (Some t) dump h =
-    record { made_of = ok_same Dump (record { state = state; stored = Some t }) dump h; rests = λ (k : Some t ≡ None). absurd (cc) }
-made_is reset state None dump h = by (bits_eq state reset) refl h
+made_is : (reset : List Bool) (made dump : Dump) → at_reset reset made ≡ Ok dump → IsMade reset made dump
+made_is reset made dump h = let is = by made.stored (bits_eq made.state reset) refl h in record { made_of = is.0; rests = is.1 }
   where
-    by : (b : Bool) → bits_eq state reset ≡ b → cond b (Ok (record { state = state; stored = None })) (Err NotReset) ≡ ok_in Dump dump →
-        IsMade reset state None dump
-    by true same k = record { made_of = ok_same Dump (record { state = state; stored = None }) dump k; rests = λ _. bits_same_is state reset same }
-    by false same k = absurd (not_err Dump NotReset dump k)
+    by : (o : Option (List Bool)) (b : Bool) → bits_eq made.state reset ≡ b → cond (is_none o && not b) (Err NotReset) (Ok made) ≡ ok_in Dump dump →
+        (made ≡ dump) × (o ≡ None → made.state ≡ reset)
+    by (Some t) b e k = (ok_same Dump made dump k, λ (none : Some t ≡ None). absurd (cc))
+    by None true e k = (ok_same Dump made dump k, λ _. bits_same_is made.state reset e)
+    by None false e k = absurd (not_err Dump NotReset dump k)
 
 -- ---- a dump that was read
 
-pub record IsRead (reset : List Bool) (items : ℕ) (lines : List (List ℕ)) (dump : Dump) : Type 0 where
-  pub lines_are : lines ≡ (codes "state " ++ bits_text dump.state) ∷ (codes "sig " ++ signature_text dump.stored) ∷ codes "end" ∷ []
+pub record IsRead (reset : List Bool) (depth items : ℕ) (lines : List (List ℕ)) (dump : Dump) : Type 0 where
+  pub spelled_so : spelled lines ≡ dump_text dump
+  pub as_deep : dump.depth ≡ depth
+  pub alone : depth ≡ 1 → dump.older ≡ None
+  pub after : dump.stored ≡ None → dump.older ≡ None
   pub state : length dump.state ≡ length reset
-  pub signatures : Widths items dump.stored
+  pub last : Widths items dump.stored
+  pub before : Widths items dump.older
   pub rests : dump.stored ≡ None → dump.state ≡ reset
 
-three : (lines : List (List ℕ)) (a b c : List ℕ) → slice_get lines 0 ≡ Some a → slice_get (drop 1 lines) 0 ≡ Some b → drop 1 (drop 1 lines) ≡ c ∷ [] →
-    lines ≡ a ∷ b ∷ c ∷ []
-three [] a b c x y z = cc
-three (k ∷ []) a b c x y z = cc
-three (k ∷ l ∷ rest) a b c x y z = cc
+in_order : (lines : List (List ℕ)) (a b tail : List ℕ) → slice_get lines 0 ≡ Some a → slice_get (drop 1 lines) 0 ≡ Some b →
+    spelled (drop 1 (drop 1 lines)) ≡ tail →
+    spelled lines ≡ line a ++ (line b ++ tail)
+in_order [] a b tail x y z = absurd (cc)
+in_order (k ∷ []) a b tail x y z = absurd (cc)
+in_order (k ∷ l ∷ rest) a b tail x y z =
+    let first : k ≡ a = cc in
+    let second : l ≡ b = cc in
+    λ i. line (first i) ++ (line (second i) ++ z i)
 
-parts_are : (reset : List Bool) (items : ℕ) (lines : List (List ℕ)) (dump : Dump) (rs : Result (List Bool) DumpFault)
-    (rt : Result (Option (List Bool)) DumpFault) (re : Result Bool DumpFault) →
+parts_are : (reset : List Bool) (depth items : ℕ) (lines : List (List ℕ)) (dump : Dump) (rs : Result (List Bool) DumpFault)
+    (rt : Result (Option (List Bool)) DumpFault) (ro : Option (List Bool) → Result (Option (List Bool)) DumpFault) (re : Result Bool DumpFault) →
     ((s : List Bool) → rs ≡ Ok s → IsBits (slice_get lines 0) (codes "state ") (length reset) s) →
-    ((t : Option (List Bool)) → rt ≡ Ok t → IsStored (slice_get (drop 1 lines) 0) items t) →
-    ((b : Bool) → re ≡ Ok b → drop 1 (drop 1 lines) ≡ codes "end" ∷ []) →
-    (rs >>= λ state. rt >>= λ stored. re >>= λ ended. at_reset reset state stored) ≡ Ok dump → IsRead reset items lines dump
-parts_are reset items lines dump (Err fault) rt re state stored end_is h = absurd (not_err Dump fault dump h)
-parts_are reset items lines dump (Ok s) (Err fault) re state stored end_is h = absurd (not_err Dump fault dump h)
-parts_are reset items lines dump (Ok s) (Ok t) (Err fault) state stored end_is h = absurd (not_err Dump fault dump h)
-parts_are reset items lines dump (Ok s) (Ok t) (Ok b) state stored end_is h =
-    let made = made_is reset s t dump h in
-    let first = state s refl in
-    let second = stored t refl in
-    let read : IsRead reset items lines (record { state = s; stored = t }) =
-    record {
-      lines_are =
-          three lines (codes "state " ++ bits_text s) (codes "sig " ++ signature_text t) (codes "end") first.spelled_so second.spelled_so (end_is b refl);
-      state = first.as_wide;
-      signatures = second.as_wide;
-      rests = made.rests;
-    } in
-    subst (IsRead reset items lines) made.made_of read
+    ((t : Option (List Bool)) → rt ≡ Ok t → IsHeld (slice_get (drop 1 lines) 0) (codes "sig ") items t) →
+    ((t o : Option (List Bool)) (b : Bool) → ro t ≡ Ok o → re ≡ Ok b → IsTail (drop 1 (drop 1 lines)) depth items t o) →
+    (rs >>= λ state. rt >>= λ stored. ro stored >>= λ older. re >>= λ ended.
+    at_reset reset (record { state = state; stored = stored; older = older; depth = depth })) ≡ Ok dump →
+    IsRead reset depth items lines dump
+parts_are reset depth items lines dump (Err fault) rt ro re state stored tail h = absurd (not_err Dump fault dump h)
+parts_are reset depth items lines dump (Ok s) (Err fault) ro re state stored tail h = absurd (not_err Dump fault dump h)
+parts_are reset depth items lines dump (Ok s) (Ok t) ro re state stored tail h = by (ro t) refl re refl h
+  where
+    by : (r : Result (Option (List Bool)) DumpFault) → ro t ≡ r → (e : Result Bool DumpFault) → re ≡ e →
+        (r >>= λ older. e >>= λ ended. at_reset reset (record { state = s; stored = t; older = older; depth = depth })) ≡ Ok dump →
+        IsRead reset depth items lines dump
+    by (Err fault) x e y k = absurd (not_err Dump fault dump k)
+    by (Ok o) x (Err fault) y k = absurd (not_err Dump fault dump k)
+    by (Ok o) x (Ok b) y k =
+        let made = made_is reset (record { state = s; stored = t; older = o; depth = depth }) dump k in
+        let first = state s refl in
+        let second = stored t refl in
+        let third = tail t o b x y in
+        let read : IsRead reset depth items lines (record { state = s; stored = t; older = o; depth = depth }) =
+        record {
+          spelled_so = in_order lines _ _ _ first.spelled_so second.spelled_so third.spelled_so;
+          as_deep = refl;
+          alone = third.alone;
+          after = third.after;
+          state = first.as_wide;
+          last = second.as_wide;
+          before = third.as_wide;
+          rests = made.rests;
+        } in
+        subst (IsRead reset depth items lines) made.made_of read
 
-pub dump_read : (reset : List Bool) (items : ℕ) (lines : List (List ℕ)) (dump : Dump) → dump_of reset items lines ≡ Ok dump → IsRead reset items lines dump
+pub dump_read : (reset : List Bool) (depth items : ℕ) (lines : List (List ℕ)) (dump : Dump) → dump_of reset depth items lines ≡ Ok dump →
+    IsRead reset depth items lines dump
 unfolding dump_of
-dump_read reset items lines dump h =
-    parts_are reset items lines dump (bits_line (codes "state ") 1 (length reset) (slice_get lines 0))
-    (stored_line items (slice_get (drop 1 lines) 0)) (end_line (drop 1 (drop 1 lines)))
+dump_read reset depth items lines dump h =
+    parts_are reset depth items lines dump (bits_line (codes "state ") 1 (length reset) (slice_get lines 0))
+    (held_line (codes "sig ") 2 items (slice_get (drop 1 lines) 0))
+    (λ stored. older_line depth items stored (slice_get (drop 1 (drop 1 lines)) 0))
+    (end_line (depth + 2) (behind_older depth (drop 1 (drop 1 lines))))
     (λ s e. line_is (codes "state ") 1 (length reset) (slice_get lines 0) s e)
-    (λ t e. stored_is items (slice_get (drop 1 lines) 0) t e)
-    (λ b e. ended (drop 1 (drop 1 lines)) b e) h
+    (λ t e. held_is (codes "sig ") 2 items (slice_get (drop 1 lines) 0) t e)
+    (λ t o b e last. tail_is (drop 1 (drop 1 lines)) depth items t o e (ended (depth + 2) (behind_older depth (drop 1 (drop 1 lines))) b last)) h
 
 -- the dump fits the chip
-pub read_fits : (c : Circuit) (choice : Chosen) (lines : List (List ℕ)) (dump : Dump) →
-    dump_of (reset_state c) (length choice.items) lines ≡ Ok dump → DumpFits c choice dump
-read_fits c choice lines dump h =
-    let is = dump_read (reset_state c) (length choice.items) lines dump h in
-    record { state = is.state ∙ length-map c.flops (λ (f : Flop). f.reset); signatures = is.signatures }
+pub read_fits : (c : Circuit) (choice : Chosen) (lines : List (List ℕ)) (dump : Dump) → IsDepth (depth_of choice) →
+    dump_of (reset_state c) (depth_of choice) (length choice.items) lines ≡ Ok dump → DumpFits c choice dump
+read_fits c choice lines dump kept h =
+    let is = dump_read (reset_state c) (depth_of choice) (length choice.items) lines dump h in
+    record {
+      sound =
+          record {
+            kept = subst IsDepth (sym is.as_deep) kept;
+            alone = λ (one : dump.depth ≡ 1). is.alone (sym is.as_deep ∙ one);
+            behind = is.after;
+          };
+      depth = is.as_deep;
+      state = is.state ∙ length-map c.flops (λ (f : Flop). f.reset);
+      signatures =
+          All-append (λ (t : List Bool). length t ≡ length choice.items) (option_to_list dump.stored) (option_to_list dump.older) is.last is.before;
+    }
 
 -- a text that stands for a dump is its text, or that without the last line feed
 pub dump_texts_are_exact : DumpTextsAreExact
-dump_texts_are_exact reset items text dump h =
-    let is = dump_read reset items (lines_of text) dump h in
-    let whole : spelled (lines_of text) ≡ dump_text dump = ap spelled is.lines_are in
+dump_texts_are_exact reset depth items text dump h =
+    let is = dump_read reset depth items (lines_of text) dump h in
+    let whole : spelled (lines_of text) ≡ dump_text dump = is.spelled_so in
     ⊎_elim (λ (same : text ≡ spelled (lines_of text)). inl (same ∙ whole)) (λ (longer : line text ≡ spelled (lines_of text)). inr (longer ∙ whole))
     (lines_again text)
 
 -- ---- the same of what a reader answers
 
-pub fits_if_read : (c : Circuit) (choice : Chosen) (reset : List Bool) (items : ℕ) (lines : List (List ℕ)) (r : Result Dump DumpFault) →
-    reset ≡ reset_state c → items ≡ length choice.items →
-    Answers NoMemory (λ dump. dump) r (dump_of reset items lines) → IfOk r (DumpFits c choice)
-fits_if_read c choice reset items lines (Err fault) is counted answers = tt
-fits_if_read c choice reset items lines (Ok dump) is counted answers =
-    read_fits c choice lines dump
-    (ap (λ (s : List Bool). dump_of s (length choice.items) lines) (sym is) ∙ (ap (λ (n : ℕ). dump_of reset n lines) (sym counted) ∙ answers))
+pub fits_if_read : (c : Circuit) (choice : Chosen) (reset : List Bool) (depth items : ℕ) (lines : List (List ℕ)) (r : Result Dump DumpFault) →
+    IsDepth (depth_of choice) → reset ≡ reset_state c → depth ≡ depth_of choice → items ≡ length choice.items →
+    Answers NoMemory (λ dump. dump) r (dump_of reset depth items lines) → IfOk r (DumpFits c choice)
+fits_if_read c choice reset depth items lines (Err fault) kept is deep counted answers = tt
+fits_if_read c choice reset depth items lines (Ok dump) kept is deep counted answers =
+    read_fits c choice lines dump kept (sym (λ i. dump_of (is i) (deep i) (counted i) lines) ∙ answers)
 
-pub rests_if_read : (reset reset' : List Bool) (items : ℕ) (lines : List (List ℕ)) (r : Result Dump DumpFault) → reset ≡ reset' →
-    Answers NoMemory (λ dump. dump) r (dump_of reset items lines) → IfOk r (λ dump. dump.stored ≡ None → dump.state ≡ reset')
-rests_if_read reset reset' items lines (Err fault) is answers = tt
-rests_if_read reset reset' items lines (Ok dump) is answers = λ none. (dump_read reset items lines dump answers).rests none ∙ is
+pub rests_if_read : (reset reset' : List Bool) (depth items : ℕ) (lines : List (List ℕ)) (r : Result Dump DumpFault) → reset ≡ reset' →
+    Answers NoMemory (λ dump. dump) r (dump_of reset depth items lines) → IfOk r (λ dump. dump.stored ≡ None → dump.state ≡ reset')
+rests_if_read reset reset' depth items lines (Err fault) is answers = tt
+rests_if_read reset reset' depth items lines (Ok dump) is answers = λ none. (dump_read reset depth items lines dump answers).rests none ∙ is

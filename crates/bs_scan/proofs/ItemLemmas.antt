@@ -53,27 +53,27 @@ flops_end whole net number item ws e l = e ∙ (ap (λ ws. with_front item (flop
 abbrev Items : Type 0
 Items = Result (List (List ℕ)) ChoiceFault
 
-pub item_step : (whole : Items) (net : Parts) (number : ℕ) (items : List (List ℕ)) (lines more : List (List ℕ)) (line : List ℕ) (item : List ℕ) →
-    whole ≡ with_front items (items_of net number lines) → lines ≡ line ∷ more → item_of net number (names_of (words_of line)) ≡ Ok item →
-    whole ≡ with_front (items ++ item ∷ []) (items_of net (number + 1) more)
+pub item_step : (whole : Items) (net : Parts) (at number : ℕ) (items : List (List ℕ)) (lines more : List (List ℕ)) (line : List ℕ) (item : List ℕ) →
+    whole ≡ with_front items (items_of net at number lines) → lines ≡ line ∷ more → item_of net at number (names_of (words_of line)) ≡ Ok item →
+    whole ≡ with_front (items ++ item ∷ []) (items_of net (at + 1) (number + 1) more)
 unfolding items_of
-item_step whole net number items lines more line item e l r =
-    e ∙ (ap (λ ls. with_front items (items_of net number ls)) l
-    ∙ (ap (λ o. with_front items (o >>= λ item. items_of net (number + 1) more >>= put item)) r ∙ front_more items item (items_of net (number + 1) more)))
+item_step whole net at number items lines more line item e l r =
+    e ∙ (ap (λ ls. with_front items (items_of net at number ls)) l
+    ∙ (ap (λ o. with_front items (o >>= λ item. items_of net (at + 1) (number + 1) more >>= put item)) r ∙ front_more items item (items_of net (at + 1) (number + 1) more)))
 
-pub item_refused : (whole : Items) (net : Parts) (number : ℕ) (items : List (List ℕ)) (lines more : List (List ℕ)) (line : List ℕ) (f : ChoiceFault) →
-    whole ≡ with_front items (items_of net number lines) → lines ≡ line ∷ more → (f ≡ NoMemory) ⊎ (item_of net number (names_of (words_of line)) ≡ Err f) →
+pub item_refused : (whole : Items) (net : Parts) (at number : ℕ) (items : List (List ℕ)) (lines more : List (List ℕ)) (line : List ℕ) (f : ChoiceFault) →
+    whole ≡ with_front items (items_of net at number lines) → lines ≡ line ∷ more → (f ≡ NoMemory) ⊎ (item_of net at number (names_of (words_of line)) ≡ Err f) →
     (f ≡ NoMemory) ⊎ (whole ≡ Err f)
 unfolding items_of
-item_refused whole net number items lines more line f e l (inl none) = inl none
-item_refused whole net number items lines more line f e l (inr r) =
-    inr (e ∙ (ap (λ ls. with_front items (items_of net number ls)) l
-    ∙ ap (λ o. with_front items (o >>= λ item. items_of net (number + 1) more >>= put item)) r))
+item_refused whole net at number items lines more line f e l (inl none) = inl none
+item_refused whole net at number items lines more line f e l (inr r) =
+    inr (e ∙ (ap (λ ls. with_front items (items_of net at number ls)) l
+    ∙ ap (λ o. with_front items (o >>= λ item. items_of net (at + 1) (number + 1) more >>= put item)) r))
 
-pub items_end : (whole : Items) (net : Parts) (number : ℕ) (items : List (List ℕ)) (lines : List (List ℕ)) →
-    whole ≡ with_front items (items_of net number lines) → lines ≡ [] → whole ≡ Ok items
+pub items_end : (whole : Items) (net : Parts) (at number : ℕ) (items : List (List ℕ)) (lines : List (List ℕ)) →
+    whole ≡ with_front items (items_of net at number lines) → lines ≡ [] → whole ≡ Ok items
 unfolding items_of
-items_end whole net number items lines e l = e ∙ (ap (λ ls. with_front items (items_of net number ls)) l ∙ ap Ok (append-nil items))
+items_end whole net at number items lines e l = e ∙ (ap (λ ls. with_front items (items_of net at number ls)) l ∙ ap Ok (append-nil items))
 
 -- the lines of a text have no more bytes than the text
 pub bytes_within : (bs : List ℕ) → bytes_in (lines_of bs) ≤ length bs

@@ -1,11 +1,18 @@
 -- Small circuits, computed by the definitions.
-use Rattle.std.proofs.Common.{◌≡◌, ℕ, true, false, List, [], ◌∷◌, refl, Some, None, length}
+use Rattle.std.proofs.Common.{◌≡◌, ℕ, true, false, List, [], ◌∷◌, refl, Some, None, length, Result, Ok, Err}
+use Rattle.std.specs.Prelude.{codes}
+use Rattle.bs_bits.specs.Lines.{lines_of}
 use Rattle.bs_net.specs.declared.net.NetId.{NetId}
 use Rattle.bs_net.specs.declared.net.Flop.{Flop}
 use Rattle.bs_net.specs.declared.net.Mode.TheVariants.{Plain}
 use Rattle.bs_net.specs.declared.net.Kind.TheVariants.{Not}
 use Rattle.bs_net.specs.Circuit.{Circuit, next, settled, all_bits}
+use Rattle.bs_scan.specs.declared.dump.Dump.{Dump}
+use Rattle.bs_scan.specs.declared.fault.DumpFault.{DumpFault}
+use Rattle.bs_scan.specs.declared.fault.DumpFault.TheVariants.{Line, Width, NotReset}
 use Rattle.bs_scan.specs.Choice.{Chosen}
+use Rattle.bs_scan.specs.Crash.{dump_at}
+use Rattle.bs_scan.specs.DumpText.{dump_of}
 use Rattle.bs_scan.specs.Moments.{Run, state_at, moments, first_moment}
 use Rattle.bs_scan.specs.Signature.{signature, stored_at, predecessors}
 
@@ -41,13 +48,26 @@ toggle =
 
 -- the second flip-flop alone, no item, and an item that names both and the first one twice
 abbrev second : Chosen
-second = record { width = 2; items = (1 ∷ []) ∷ [] }
+second = record { width = 2; depth = 1; items = (1 ∷ []) ∷ [] }
 
 abbrev none : Chosen
-none = record { width = 2; items = [] }
+none = record { width = 2; depth = 1; items = [] }
 
 abbrev doubled : Chosen
-doubled = record { width = 2; items = (0 ∷ 1 ∷ 0 ∷ []) ∷ [] }
+doubled = record { width = 2; depth = 1; items = (0 ∷ 1 ∷ 0 ∷ []) ∷ [] }
+
+-- the same in a register that keeps two signatures, and one item that is the first flip-flop
+abbrev second_twice : Chosen
+second_twice = record { width = 2; depth = 2; items = (1 ∷ []) ∷ [] }
+
+abbrev none_twice : Chosen
+none_twice = record { width = 2; depth = 2; items = [] }
+
+abbrev first : Chosen
+first = record { width = 2; depth = 1; items = (0 ∷ []) ∷ [] }
+
+abbrev first_twice : Chosen
+first_twice = record { width = 2; depth = 2; items = (0 ∷ []) ∷ [] }
 
 abbrev ones : Run
 ones = (true ∷ []) ∷ (true ∷ []) ∷ (true ∷ []) ∷ []
@@ -86,9 +106,129 @@ none_before_reset : predecessors register none (true ∷ true ∷ []) [] ≡ []
 unfolding predecessors next settled all_bits
 none_before_reset = refl
 
-toggle_comes_from : predecessors toggle (record { width = 1; items = [] }) (true ∷ []) ([] ∷ []) ≡ (false ∷ []) ∷ []
+toggle_comes_from : predecessors toggle (record { width = 1; depth = 1; items = [] }) (true ∷ []) ([] ∷ []) ≡ (false ∷ []) ∷ []
 unfolding predecessors next settled all_bits
 toggle_comes_from = refl
+
+-- ---- two signatures
+
+none_kept_at_reset : stored_at register second_twice ones 0 ≡ []
+none_kept_at_reset = refl
+
+one_kept_after_one_cycle : stored_at register second_twice ones 1 ≡ (false ∷ []) ∷ []
+unfolding state_at next settled all_bits
+one_kept_after_one_cycle = refl
+
+two_kept_after_two_cycles : stored_at register second_twice ones 2 ≡ (false ∷ []) ∷ (false ∷ []) ∷ []
+unfolding state_at next settled all_bits
+two_kept_after_two_cycles = refl
+
+two_kept_after_three_cycles : stored_at register second_twice ones 3 ≡ (true ∷ []) ∷ (false ∷ []) ∷ []
+unfolding state_at next settled all_bits
+two_kept_after_three_cycles = refl
+
+dumped_with_both : dump_at (record { circuit = register; choice = second_twice; runs = ones ∷ [] }) (record { run = 1; cycle = 3 })
+    ≡ record { state = true ∷ true ∷ []; stored = Some (true ∷ []); older = Some (false ∷ []); depth = 2 }
+unfolding state_at next settled all_bits
+dumped_with_both = refl
+
+first_step : predecessors register second_twice (true ∷ true ∷ []) ((true ∷ []) ∷ (false ∷ []) ∷ []) ≡ (true ∷ true ∷ []) ∷ []
+unfolding predecessors next settled all_bits
+first_step = refl
+
+second_step : predecessors register second_twice (true ∷ true ∷ []) ((false ∷ []) ∷ (false ∷ []) ∷ []) ≡ (true ∷ false ∷ []) ∷ []
+unfolding predecessors next settled all_bits
+second_step = refl
+
+third_step : predecessors register second_twice (true ∷ false ∷ []) ((false ∷ []) ∷ []) ≡ (false ∷ false ∷ []) ∷ []
+unfolding predecessors next settled all_bits
+third_step = refl
+
+-- the older signature alone cuts the list
+weak_signature : predecessors register first (true ∷ true ∷ []) ((true ∷ []) ∷ []) ≡ (true ∷ false ∷ []) ∷ (true ∷ true ∷ []) ∷ []
+unfolding predecessors next settled all_bits
+weak_signature = refl
+
+cut_by_the_older : predecessors register first_twice (true ∷ true ∷ []) ((true ∷ []) ∷ (true ∷ []) ∷ []) ≡ (true ∷ true ∷ []) ∷ []
+unfolding predecessors next settled all_bits
+cut_by_the_older = refl
+
+no_items_cut_nothing : predecessors register none_twice (true ∷ true ∷ []) ([] ∷ [] ∷ []) ≡ (true ∷ false ∷ []) ∷ (true ∷ true ∷ []) ∷ []
+unfolding predecessors next settled all_bits
+no_items_cut_nothing = refl
+
+-- with one signature of two, the state before is the reset state alone
+reset_alone_without_an_older : predecessors register none_twice (true ∷ false ∷ []) ([] ∷ []) ≡ (false ∷ false ∷ []) ∷ []
+unfolding predecessors next settled all_bits
+reset_alone_without_an_older = refl
+
+any_state_with_one_kept : predecessors register none (true ∷ false ∷ []) ([] ∷ []) ≡ (false ∷ false ∷ []) ∷ (false ∷ true ∷ []) ∷ []
+unfolding predecessors next settled all_bits
+any_state_with_one_kept = refl
+
+nothing_before_reset : predecessors register none_twice (true ∷ true ∷ []) [] ≡ []
+unfolding predecessors next settled all_bits
+nothing_before_reset = refl
+
+-- ---- the texts of dumps of two flip-flops and one item
+
+abbrev read_as : ℕ → List ℕ → Result Dump DumpFault
+read_as depth text = dump_of (false ∷ false ∷ []) depth 1 (lines_of text)
+
+two_signatures : read_as 2 (codes "state 11\nsig 1\nold 0\nend\n")
+    ≡ Ok (record { state = true ∷ true ∷ []; stored = Some (true ∷ []); older = Some (false ∷ []); depth = 2 })
+unfolding dump_of
+two_signatures = refl
+
+older_none : read_as 2 (codes "state 11\nsig 1\nold none\nend") ≡ Ok (record { state = true ∷ true ∷ []; stored = Some (true ∷ []); older = None; depth = 2 })
+unfolding dump_of
+older_none = refl
+
+none_at_all : read_as 2 (codes "state 00\nsig none\nold none\nend\n") ≡ Ok (record { state = false ∷ false ∷ []; stored = None; older = None; depth = 2 })
+unfolding dump_of
+none_at_all = refl
+
+older_behind_none : read_as 2 (codes "state 00\nsig none\nold 1\nend\n") ≡ Err (Line 3)
+unfolding dump_of
+older_behind_none = refl
+
+older_not_said : read_as 2 (codes "state 11\nsig 1\nend\n") ≡ Err (Line 3)
+unfolding dump_of
+older_not_said = refl
+
+older_too_wide : read_as 2 (codes "state 11\nsig 1\nold 00\nend\n") ≡ Err (Width 3)
+unfolding dump_of
+older_too_wide = refl
+
+older_without_bits : read_as 2 (codes "state 11\nsig 1\nold .\nend\n") ≡ Err (Width 3)
+unfolding dump_of
+older_without_bits = refl
+
+five_lines : read_as 2 (codes "state 11\nsig 1\nold 0\nend\n\n") ≡ Err (Line 5)
+unfolding dump_of
+five_lines = refl
+
+no_end : read_as 2 (codes "state 11\nsig 1\nold 0\n") ≡ Err (Line 4)
+unfolding dump_of
+no_end = refl
+
+not_at_reset : read_as 2 (codes "state 11\nsig none\nold none\nend\n") ≡ Err NotReset
+unfolding dump_of
+not_at_reset = refl
+
+older_where_one_is_kept : read_as 1 (codes "state 11\nsig 1\nold 0\nend\n") ≡ Err (Line 3)
+unfolding dump_of
+older_where_one_is_kept = refl
+
+four_lines_where_one_is_kept : read_as 1 (codes "state 11\nsig 1\nend\nold 0\n") ≡ Err (Line 4)
+unfolding dump_of
+four_lines_where_one_is_kept = refl
+
+one_signature : read_as 1 (codes "state 11\nsig 1\nend\n") ≡ Ok (record { state = true ∷ true ∷ []; stored = Some (true ∷ []); older = None; depth = 1 })
+unfolding dump_of
+one_signature = refl
+
+-- ---- first moments
 
 first_in_one_run : first_moment register (ones ∷ []) ((true ∷ true ∷ []) ∷ []) ≡ Some (record { run = 1; cycle = 2 })
 unfolding first_moment state_at next settled all_bits

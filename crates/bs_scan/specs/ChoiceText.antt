@@ -45,22 +45,22 @@ flops_of net number (name ∷ names) = do
   flops ← flops_of net number names
   Ok (flop ∷ flops)
 
--- the item of the line with this number, which is the number of the item too
-abbrev pub item_of : Parts → ℕ → Option (List (List ℕ)) → Result (List ℕ) ChoiceFault
-item_of net number None = Err (Line number)
-item_of net number (Some names) = if nat_lt MAX_ITEMS number then Err (TooMany number) else flops_of net number names
+-- the item with this number, in the line with that one, or the line's fault
+abbrev pub item_of : Parts → ℕ → ℕ → Option (List (List ℕ)) → Result (List ℕ) ChoiceFault
+item_of net at number None = Err (Line at)
+item_of net at number (Some names) = if nat_lt MAX_ITEMS number then Err (TooMany at) else flops_of net at names
 
--- the items of the lines from this number on, or the first fault
-unfoldable pub items_of : Parts → ℕ → List (List ℕ) → Result (List (List ℕ)) ChoiceFault
-items_of net number [] = Ok []
-items_of net number (text ∷ texts) = do
-  item ← item_of net number (names_of (words_of text))
-  items ← items_of net (number + 1) texts
+-- the items of the lines from this number on, the first of which has that number, or the first fault
+unfoldable pub items_of : Parts → ℕ → ℕ → List (List ℕ) → Result (List (List ℕ)) ChoiceFault
+items_of net at number [] = Ok []
+items_of net at number (text ∷ texts) = do
+  item ← item_of net at number (names_of (words_of text))
+  items ← items_of net (at + 1) (number + 1) texts
   Ok (item ∷ items)
 
-abbrev pub chosen : ℕ → List (List ℕ) → Chosen
-chosen width items = record { width = width; items = items }
+abbrev pub chosen : ℕ → ℕ → List (List ℕ) → Chosen
+chosen width depth items = record { width = width; depth = depth; items = items }
 
--- what the lines of a signature file say
+-- what the lines of a signature file say, where the first is that of the first item
 abbrev pub choice_of : Parts → List (List ℕ) → Result Chosen ChoiceFault
-choice_of net texts = items_of net 1 texts >>= λ items. Ok (chosen (length net.flops) items)
+choice_of net texts = items_of net 1 1 texts >>= λ items. Ok (chosen (length net.flops) 1 items)

@@ -1,8 +1,8 @@
 -- Signatures, and the predecessors that agree with them (docs/DEFINITIONS.md, "Signature" and "Predecessors").
-use Rattle.std.specs.Prelude.{ℕ, zero, suc, Bool, false, ◌&&◌, List, [], ◌∷◌, map, filter, length}
+use Rattle.std.specs.Prelude.{ℕ, zero, suc, ◌-◌, Bool, true, false, ◌&&◌, List, [], ◌∷◌, map, filter, length}
 use Rattle.std.specs.List.{list_any}
 use Rattle.bs_bits.specs.Bits.{bits_eq}
-use Rattle.bs_net.specs.Circuit.{Circuit, next, all_bits, is_odd, bit_at}
+use Rattle.bs_net.specs.Circuit.{Circuit, reset_state, next, all_bits, is_odd, bit_at}
 use Rattle.bs_scan.specs.Choice.{Chosen, depth_of}
 use Rattle.bs_scan.specs.Moments.{Run, state_at}
 
@@ -29,10 +29,19 @@ stored_at c choice run cycle = signatures_before c choice run (depth_of choice) 
 abbrev pub some_input_leads : Circuit → List Bool → List Bool → Bool
 some_input_leads c s p = list_any (λ x. bits_eq (next c s x) p) (all_bits (length c.inputs))
 
--- whether a state of the circuit may stand directly before a moment at which the register holds these signatures
+-- whether a register that keeps so many signatures may hold these in a state: none in the reset state alone, and otherwise the
+-- last one is of a state that leads to it, in which the register may hold the others
+abbrev pub may_hold : Circuit → Chosen → ℕ → List (List Bool) → List Bool → Bool
+may_hold c choice zero stored p = true
+may_hold c choice (suc count) [] p = bits_eq p (reset_state c)
+may_hold c choice (suc count) (last ∷ older) p =
+    list_any (λ s. (bits_eq (signature choice s) last && may_hold c choice count older s) && some_input_leads c s p) (all_bits (length c.flops))
+
+-- whether a state may stand directly before a moment at which the register holds these signatures: it has the last one, and the
+-- register may have held the others in it
 abbrev pub agrees : Circuit → Chosen → List (List Bool) → List Bool → Bool
 agrees c choice [] s = false
-agrees c choice (last ∷ older) s = bits_eq (signature choice s) last
+agrees c choice (last ∷ older) s = bits_eq (signature choice s) last && may_hold c choice (depth_of choice - 1) older s
 
 -- the predecessors of p that agree with the stored signatures, ascending
 unfoldable pub predecessors : Circuit → Chosen → List Bool → List (List Bool) → List (List Bool)

@@ -1,7 +1,7 @@
 //! What a signature is taken of.
 ghost use Rattle.std.specs.Prelude.{◌≡◌, ◌<◌, ◌≤◌, length, Some, slice_get, All, IfOk};
 ghost use Rattle.bs_bits.specs.Lines.{lines_of};
-ghost use Rattle.bs_scan.specs.Choice.{IsChoice};
+ghost use Rattle.bs_scan.specs.Choice.{depth_of, with_depth, IsChoice, IsDepth};
 ghost use Rattle.bs_bits.specs.Reading.{Answers};
 ghost use Rattle.bs_scan.specs.ChoiceText.{choice_of};
 ghost use Rattle.bs_scan.specs.Signature.{parity_of, signature};
@@ -23,10 +23,12 @@ pub const MAX_ITEM_FLOPS: u32 = 1_048_576;
 /// The greatest number of bytes of a signature file.
 pub const MAX_SIGNATURE_BYTES: u32 = 1_048_576;
 
-/// The items of a signature, each a list of flip-flop numbers.
+/// What a signature is taken of: items, each a list of flip-flop numbers. The depth is the number of states whose
+/// signatures the register keeps.
 #[derive(Drop)]
 pub struct Choice {
     width: usize,
+    depth: u8,
     items: List<List<u32>>,
 }
 
@@ -35,9 +37,9 @@ impl Model for Choice {
 
     ghost Value = { Chosen };
 
-    ghost view = { λ choice. record { width = choice.width; items = choice.items } };
+    ghost view = { λ choice. record { width = choice.width; depth = choice.depth; items = choice.items } };
 
-    ghost invariant = { λ choice. IsChoice (record { width = choice.width; items = choice.items }) };
+    ghost invariant = { λ choice. IsChoice (record { width = choice.width; depth = choice.depth; items = choice.items }) };
 }
 
 /// The parity of an item's flip-flops in a state. A flip-flop that is named twice counts twice.
@@ -57,11 +59,32 @@ impl Choice {
         ensures { Answers ChoiceFault.NoMemory (λ choice. choice) result (choice_of net.now.raw (lines_of bytes.now)) }
     {
         let flops = FlopNames::new(alloc, net)?;
-        let items = read_items(alloc, bytes, &flops)?;
+        let items = read_items(alloc, bytes, 1, &flops)?;
         Ok(Choice {
             width: net.width(),
+            depth: 1,
             items,
         })
+    }
+
+    /// The same items with another depth.
+    pub fn with_depth(self, depth: u8) -> Choice
+        requires { IsDepth depth }
+        ensures { result ≡ with_depth self depth }
+    {
+        Choice {
+            width: self.width,
+            depth,
+            items: self.items,
+        }
+    }
+
+    /// The number of states whose signatures the register keeps: the last one, or the last two.
+    pub fn depth(&self) -> u8
+        ensures depth { result ≡ depth_of self.now }
+        ensures sound { IsChoice self.now }
+    {
+        self.depth
     }
 
     /// The number of flip-flops of the netlist.

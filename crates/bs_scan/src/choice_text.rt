@@ -38,44 +38,49 @@ fn read_flops(
     Ok(item)
 }
 
-/// The item of the line with this number.
+/// The item with this number, in the line with that one.
 fn read_item(
     alloc: Global,
     line: &[u8],
+    at: u32,
     number: u32,
     flops: &FlopNames<'_>,
 ) -> Result<List<u32>, ChoiceFault>
-    ensures reads { Answers ChoiceFault.NoMemory (λ item. item) result (item_of flops.now number (names_of (words_of line.now))) }
+    ensures reads { Answers ChoiceFault.NoMemory (λ item. item) result (item_of flops.now at number (names_of (words_of line.now))) }
     ensures range { IfOk result (λ item. All (λ flop. flop < length flops.now.flops) item) }
     ensures short { IfOk result (λ item. length item ≤ length line.now) }
     ensures few { IfOk result (λ _. number ≤ MAX_ITEMS) }
 {
     match item_names(line) {
-        None => Err(ChoiceFault::Line(number)),
+        None => Err(ChoiceFault::Line(at)),
         Some(names) => {
             if number > MAX_ITEMS {
-                return Err(ChoiceFault::TooMany(number));
+                return Err(ChoiceFault::TooMany(at));
             }
-            read_flops(alloc, names, number, flops)
+            read_flops(alloc, names, at, flops)
         }
     }
 }
 
-/// The items of a text.
+/// The items of a text, whose first line has this number.
 pub fn read_items(
     alloc: Global,
     bytes: &[u8],
+    first: u32,
     flops: &FlopNames<'_>,
 ) -> Result<List<List<u32>>, ChoiceFault>
-    requires { length bytes.now ≤ MAX_SIGNATURE_BYTES }
-    ensures reads { Answers ChoiceFault.NoMemory (λ items. items) result (items_of flops.now 1 (lines_of bytes.now)) }
-    ensures sound { IfOk result (λ items. IsChoice (chosen (length flops.now.flops) items)) }
+    requires bytes { length bytes.now ≤ MAX_SIGNATURE_BYTES }
+    requires first { first ≤ 2 }
+    ensures reads { Answers ChoiceFault.NoMemory (λ items. items) result (items_of flops.now first 1 (lines_of bytes.now)) }
+    ensures sound { IfOk result (λ items. IsChoice (chosen (length flops.now.flops) 1 items)) }
 {
     let mut items = List::new(alloc);
     let mut rest = bytes;
+    let mut at = first;
     let mut number = 1u32;
     'lines: while let Some((line, behind)) = next_line(rest) {
-        items.push(read_item(alloc, line, number, flops)?)?;
+        items.push(read_item(alloc, line, at, number, flops)?)?;
+        at += 1;
         number += 1;
         rest = behind;
     }

@@ -1,12 +1,14 @@
 //! The lines of a dump, read and written one by one.
-ghost use Rattle.std.specs.Prelude.{◌≡◌, ◌==◌, length, true, drop, codes, Bool, slice_get, option_map, option_and_then, ◌++◌, IfOk, OnOk, OnErr};
-ghost use Rattle.bs_scan.specs.DumpText.{behind, of_width as bits_of_width, bits_line as bits_line_of, stored_line as stored_line_of};
-ghost use Rattle.bs_scan.specs.DumpText.{end_line as end_line_of, is_text as is_text_of, signature_text, lines_text};
+ghost use Rattle.std.specs.Prelude.{◌≡◌, ◌==◌, ◌≤◌, length, true, drop, codes, Bool, slice_get, option_map, option_and_then, ◌++◌, IfOk, OnOk, OnErr};
+ghost use Rattle.bs_scan.specs.DumpText.{behind, behind_older, of_width as bits_of_width, bits_line as bits_line_of, held_line as held_line_of};
+ghost use Rattle.bs_scan.specs.DumpText.{old_line as old_line_of, older_line as older_line_of, end_line as end_line_of, is_text as is_text_of};
+ghost use Rattle.bs_scan.specs.DumpText.{signature_line, older_text, dump_text};
 ghost use Rattle.bs_bits.specs.Lines.{lines_of, line as written_line};
 ghost use Rattle.bs_bits.specs.Reading.{Answers};
 ghost use Rattle.bs_bits.specs.Text.{bits_of, bits_text};
 ghost use Rattle.bs_stim.specs.Appending.{Begins};
 
+use crate::dump::Dump;
 use crate::fault::DumpFault;
 use crate::words::is_same;
 use bs_bits::{Bits, NoMemory, end_line as written_end, next_line, push_line, push_piece};
@@ -91,18 +93,81 @@ pub fn bits_line(
     of_width(number, width, bits_behind(alloc, word, line)?)
 }
 
-/// The signature of the second line, or none.
-pub fn stored_line(
+/// Whether there is a line, and `none` is what stands behind a word in it.
+fn is_none_behind(word: &[u8], line: Option<&[u8]>) -> bool
+    ensures { result ≡ is_text_of (codes "none") (option_and_then (behind word.now) (option_map (λ line. line.now) line.entry)) }
+{
+    let text = match line {
+        Some(text) => text,
+        None => return false,
+    };
+    match rest_behind(word, text) {
+        Some(rest) => is_same(rest, b"none"),
+        None => false,
+    }
+}
+
+/// The signature behind a word, or none, in the line with this number.
+pub fn held_line(
     alloc: Global,
+    word: &[u8],
+    number: u32,
     items: usize,
     line: Option<&[u8]>,
 ) -> Result<Option<Bits>, DumpFault>
-    ensures { Answers DumpFault.NoMemory (λ stored. stored) result (stored_line_of items (option_map (λ line. line.now) line.entry)) }
+    ensures { Answers DumpFault.NoMemory (λ held. held) result (held_line_of word.now number items (option_map (λ line. line.now) line.entry)) }
 {
-    if is_line(line, b"sig none") {
+    if is_none_behind(word, line) {
         return Ok(None);
     }
-    Ok(Some(bits_line(alloc, b"sig ", 2, items, line)?))
+    Ok(Some(bits_line(alloc, word, number, items, line)?))
+}
+
+/// The older signature behind what was read of the last one.
+fn old_line(
+    alloc: Global,
+    items: usize,
+    stored: &Option<Bits>,
+    line: Option<&[u8]>,
+) -> Result<Option<Bits>, DumpFault>
+    ensures { Answers DumpFault.NoMemory (λ older. older) result (old_line_of items stored.now (option_map (λ line. line.now) line.entry)) }
+{
+    match stored {
+        Some(_) => held_line(alloc, b"old ", 3, items, line),
+        None => {
+            if is_line(line, b"old none") {
+                Ok(None)
+            } else {
+                Err(DumpFault::Line(3))
+            }
+        }
+    }
+}
+
+/// The older signature of the third line, where two are kept.
+pub fn older_line(
+    alloc: Global,
+    depth: u8,
+    items: usize,
+    stored: &Option<Bits>,
+    line: Option<&[u8]>,
+) -> Result<Option<Bits>, DumpFault>
+    ensures { Answers DumpFault.NoMemory (λ older. older) result (older_line_of depth items stored.now (option_map (λ line. line.now) line.entry)) }
+{
+    if depth == 2 {
+        old_line(alloc, items, stored, line)
+    } else {
+        Ok(None)
+    }
+}
+
+/// What stands behind the line of the older signature, where there is one: of the lines from there on, and those behind
+/// the first of them.
+pub fn rest_behind_older<'a>(depth: u8, rest: &'a [u8], behind: &'a [u8]) -> &'a [u8]
+    requires { lines_of behind.now ≡ drop 1 (lines_of rest.now) }
+    ensures { lines_of result.now ≡ behind_older depth (lines_of rest.now) }
+{
+    if depth == 2 { behind } else { rest }
 }
 
 /// Whether there is no line.
@@ -115,16 +180,17 @@ fn is_finished(text: &[u8]) -> bool
     }
 }
 
-/// The last line, with none behind it.
-pub fn end_line(text: &[u8]) -> Result<(), DumpFault>
-    ensures { Answers DumpFault.NoMemory (λ _. true) result (end_line_of (lines_of text.now)) }
+/// The last line, which has this number, with none behind it.
+pub fn end_line(number: u32, text: &[u8]) -> Result<(), DumpFault>
+    requires { number ≤ 4 }
+    ensures { Answers DumpFault.NoMemory (λ _. true) result (end_line_of number (lines_of text.now)) }
 {
     let (line, rest) = first_line(text);
     if !is_line(line, b"end") {
-        return Err(DumpFault::Line(3));
+        return Err(DumpFault::Line(number));
     }
     if !is_finished(rest) {
-        return Err(DumpFault::Line(4));
+        return Err(DumpFault::Line(number + 1));
     }
     Ok(())
 }
@@ -139,23 +205,39 @@ fn push_bits_line(word: &[u8], bits: &Bits, into: &mut Vec<u8>) -> Result<(), No
     written_end(into)
 }
 
-/// Appends the line of the signature, or of none.
-fn push_stored(stored: &Option<Bits>, into: &mut Vec<u8>) -> Result<(), NoMemory>
-    ensures ok { OnOk result (into.new.items ≡ into.old.items ++ written_line (codes "sig " ++ signature_text stored.now)) }
+/// Appends the line of a signature, or of none, behind a word.
+fn push_signature(word: &[u8], signature: &Option<Bits>, into: &mut Vec<u8>) -> Result<(), NoMemory>
+    ensures ok { OnOk result (into.new.items ≡ into.old.items ++ signature_line word.now signature.now) }
     ensures err { OnErr result (Begins into.old.items into.new.items) }
 {
-    match stored {
-        Some(bits) => push_bits_line(b"sig ", bits, into),
-        None => push_line(into, b"sig none"),
+    match signature {
+        Some(bits) => push_bits_line(word, bits, into),
+        None => {
+            push_piece(into, word)?;
+            push_line(into, b"none")
+        }
     }
 }
 
-/// Appends the three lines of a dump.
-pub fn push_lines(state: &Bits, stored: &Option<Bits>, into: &mut Vec<u8>) -> Result<(), NoMemory>
-    ensures ok { OnOk result (into.new.items ≡ into.old.items ++ lines_text state.now stored.now) }
+/// Appends the line of the older signature, where two are kept.
+fn push_older(depth: u8, older: &Option<Bits>, into: &mut Vec<u8>) -> Result<(), NoMemory>
+    ensures ok { OnOk result (into.new.items ≡ into.old.items ++ older_text depth older.now) }
     ensures err { OnErr result (Begins into.old.items into.new.items) }
 {
-    push_bits_line(b"state ", state, into)?;
-    push_stored(stored, into)?;
+    if depth == 2 {
+        push_signature(b"old ", older, into)
+    } else {
+        Ok(())
+    }
+}
+
+/// Appends the lines of a dump.
+pub fn push_lines(dump: &Dump, into: &mut Vec<u8>) -> Result<(), NoMemory>
+    ensures ok { OnOk result (into.new.items ≡ into.old.items ++ dump_text dump.now) }
+    ensures err { OnErr result (Begins into.old.items into.new.items) }
+{
+    push_bits_line(b"state ", &dump.state, into)?;
+    push_signature(b"sig ", &dump.stored, into)?;
+    push_older(dump.depth, &dump.older, into)?;
     push_line(into, b"end")
 }

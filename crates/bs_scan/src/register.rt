@@ -7,24 +7,27 @@ use crate::choice::{Choice, parity};
 use bs_bits::{Bits, NoMemory};
 use std::alloc::Global;
 use std::marker::Model;
+use std::mem;
 
-/// A register that at each clock edge stores the signature of the state before it. Its room is made by `new`.
+/// A register that at each clock edge stores the signature of the state before it, and at depth 2 keeps the one that was
+/// stored. Its room is made by `new`.
 #[derive(Drop)]
 pub struct SigReg<'a> {
     choice: &'a Choice,
     bits: Bits,
     held: bool,
+    older: Bits,
+    older_held: bool,
 }
 
 impl<'a> Model for SigReg<'a> {
-    ghost use Rattle.std.specs.Prelude.{◌≡◌, [], ◌∷◌, if◌then◌else◌, length};
-    ghost use Rattle.bs_scan.specs.Register.{Register};
+    ghost use Rattle.bs_scan.specs.Register.{Register, shown, IsRegister};
 
     ghost Value = { Register };
 
-    ghost view = { λ register. record { choice = register.choice.now; stored = if register.held then register.bits ∷ [] else [] } };
+    ghost view = { λ register. shown register.choice.now register.held register.bits register.older_held register.older };
 
-    ghost invariant = { λ register. length register.bits ≡ length register.choice.now.items };
+    ghost invariant = { λ register. IsRegister register.choice.now register.bits register.older_held register.older };
 }
 
 /// Makes the bits the signature of a state.
@@ -55,10 +58,13 @@ impl<'a> SigReg<'a> {
         ensures { IfOk result (λ register. register ≡ record { choice = choice.now; stored = [] }) }
     {
         let bits = zeros(alloc, choice.items())?;
+        let older = zeros(alloc, if choice.depth() == 2 { choice.items() } else { 0 })?;
         Ok(SigReg {
             choice,
             bits,
             held: false,
+            older,
+            older_held: false,
         })
     }
 
@@ -69,11 +75,15 @@ impl<'a> SigReg<'a> {
         self.held = false;
     }
 
-    /// A clock edge from a state: stores its signature.
+    /// A clock edge from a state: stores its signature. At depth 2 the one that was stored becomes the older one.
     pub fn clock(&mut self, state: &Bits)
         requires { length state.now ≡ self.old.choice.width }
         ensures { self.new ≡ clocked self.old state.now }
     {
+        if self.choice.depth() == 2 {
+            mem::swap(&mut self.bits, &mut self.older);
+            self.older_held = self.held;
+        }
         write_signature(self.choice, state, &mut self.bits);
         self.held = true;
     }
@@ -83,5 +93,16 @@ impl<'a> SigReg<'a> {
         ensures { option_map (λ bits. bits.now) result ≡ slice_get self.now.stored 0 }
     {
         if self.held { Some(&self.bits) } else { None }
+    }
+
+    /// The signature that was stored before it, if the depth is 2 and there were two clock edges since `new` or `clear`.
+    pub fn older(&self) -> Option<&Bits>
+        ensures { option_map (λ bits. bits.now) result ≡ slice_get self.now.stored 1 }
+    {
+        if self.held && self.older_held {
+            Some(&self.older)
+        } else {
+            None
+        }
     }
 }

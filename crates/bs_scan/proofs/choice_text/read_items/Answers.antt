@@ -11,7 +11,8 @@ pub lines-init : goal.lines-init
 lines-init c =
     rw c.new-items.ensures
     (record {
-      whole = front_none (items_of c.args.flops.now 1 (lines_of c.args.bytes.now));
+      whole = front_none (items_of c.args.flops.now c.args.first 1 (lines_of c.args.bytes.now));
+      placed = omega arith;
       numbered = refl;
       few = omega arith;
       range = All-nil (All (λ (flop : ℕ). flop < length c.args.flops.now.flops));
@@ -22,7 +23,7 @@ pub returns-in_err-read_item-clause-reads : goal.returns-in_err-read_item-clause
 returns-in_err-read_item-clause-reads c =
     let p = err_from_is_err_and c.from_residual.result c.from_residual.ensures.1 in
     rw (p.1, p.2)
-    (item_refused (items_of c.args.flops.now 1 (lines_of c.args.bytes.now)) c.args.flops.now c.lines.number c.lines.items (lines_of c.lines.rest.now)
+    (item_refused (items_of c.args.flops.now c.args.first 1 (lines_of c.args.bytes.now)) c.args.flops.now c.lines.at c.lines.number c.lines.items (lines_of c.lines.rest.now)
     (lines_of c.in-Some.behind.now) c.in-Some.line.now _
     c.lines.invariant.whole c.in-Some.ensures c.in_err-read_item.ensures.reads)
 
@@ -32,9 +33,10 @@ lines-preserved c =
     record {
       whole =
           rw c.in_ok-push.ensures.ok
-          (item_step (items_of c.args.flops.now 1 (lines_of c.args.bytes.now)) c.args.flops.now c.lines.number c.lines.items
+          (item_step (items_of c.args.flops.now c.args.first 1 (lines_of c.args.bytes.now)) c.args.flops.now c.lines.at c.lines.number c.lines.items
           (lines_of c.lines.rest.now) (lines_of c.in-Some.behind.now) c.in-Some.line.now _
           c.lines.invariant.whole c.in-Some.ensures c.in_ok-read_item.ensures.reads);
+      placed = omega (arith, more, c.lines.invariant.placed);
       numbered = omega (arith, more, c.lines.invariant.numbered);
       few = omega (arith, more, c.lines.invariant.numbered, c.in_ok-read_item.ensures.few);
       range =
@@ -48,5 +50,5 @@ lines-preserved c =
 
 pub returns-clause-reads : goal.returns-clause-reads
 returns-clause-reads c =
-    items_end (items_of c.args.flops.now 1 (lines_of c.args.bytes.now)) c.args.flops.now c.lines.number c.lines.items (lines_of c.lines.rest.now)
+    items_end (items_of c.args.flops.now c.args.first 1 (lines_of c.args.bytes.now)) c.args.flops.now c.lines.at c.lines.number c.lines.items (lines_of c.lines.rest.now)
     c.lines.invariant.whole c.in_default.ensures

@@ -9,7 +9,8 @@ use Rattle.bs_scan.proofs.choice_text.read_items.Given as goal
 
 abbrev pub invariant-lines : goal.invariant-lines
 invariant-lines l = record {
-  whole : items_of l.flops 1 (lines_of l.bytes) ≡ with_front l.items (items_of l.flops l.number (lines_of l.rest));
+  whole : items_of l.flops l.first 1 (lines_of l.bytes) ≡ with_front l.items (items_of l.flops l.at l.number (lines_of l.rest));
+  placed : l.at ≡ l.first + length l.items;
   numbered : l.number ≡ 1 + length l.items;
   few : length l.items ≤ MAX_ITEMS;
   range : All (λ item. All (λ flop. flop < length l.flops.flops) item) l.items;
