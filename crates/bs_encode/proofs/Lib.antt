@@ -12,4 +12,6 @@ pub mod DistinctLemmas
 pub mod LiteralLemmas
 pub mod CopyLemmas
 pub mod CycleLemmas
+pub mod OlderLemmas
+pub mod MeaningLemmas
 pub mod ListingLemmas

@@ -1,5 +1,6 @@
 -- What a step assumes, and what blocks a state (docs/FORMATS.md, "Clauses of the transition relation").
-use Rattle.std.specs.Prelude.{ℕ, ◌+◌, Bool, true, not, List, [], ◌∷◌, ◌++◌, map, slice_get, slice_index_or, Option, Some, None}
+use Rattle.std.specs.Prelude.{◌≡◌, ℕ, ◌+◌, Bool, true, not, List, [], ◌∷◌, ◌++◌, map, length, slice_get, slice_index_or, All, Option, Some, None}
+use Rattle.std.specs.Option.{option_to_list}
 use Rattle.bs_clause.specs.Literal.{Literal, Clause, negation}
 use Rattle.bs_log.specs.History.{Problem}
 use Rattle.bs_scan.specs.Present.{Present}
@@ -11,6 +12,14 @@ abbrev pub signed : List Literal → List Bool → List Literal
 signed [] bits = []
 signed (l ∷ ls) [] = []
 signed (l ∷ ls) (b ∷ bits) = lit l.variable b ∷ signed ls bits
+
+-- a state whose register holds a signature, and perhaps an older one
+abbrev pub asking : List Bool → List Bool → Option (List Bool) → Present
+asking present stored older = record { state = present; stored = stored ∷ option_to_list older }
+
+-- a signature that may be there has so many bits
+abbrev pub AreWide : ℕ → Option (List Bool) → Type 0
+AreWide items signature = All (λ t. length t ≡ items) (option_to_list signature)
 
 -- what is assumed of the cycle before, under a link: where an older signature is stored, that the other copy shows it and leads to
 -- the state, and otherwise that the state is the one at reset

@@ -1,7 +1,9 @@
 -- The encoding by a choice: a copy of the transition for each signature that the register keeps, and the link between them
 -- (docs/FORMATS.md, "Clauses of the transition relation").
-use Rattle.std.specs.Prelude.{ℕ, ◌+◌, ◌*◌, ◌==◌, Bool, true, List, ◌++◌, map, Some, if◌then◌else◌}
+use Rattle.std.specs.Prelude.{◌≡◌, ℕ, ◌+◌, ◌*◌, ◌<◌, ◌==◌, Bool, true, List, ◌++◌, map, length, All, Some, if◌then◌else◌}
+use Rattle.bs_clause.specs.declared.literal.TheConstants.{VARIABLE_LIMIT}
 use Rattle.bs_clause.specs.Literal.{Literal, Clause}
+use Rattle.bs_clause.specs.Range.{HasVariables}
 use Rattle.bs_log.specs.Shown.{Basis}
 use Rattle.bs_net.specs.Circuit.{Circuit, reset_state}
 use Rattle.bs_scan.specs.Choice.{Chosen, depth_of}
@@ -38,6 +40,16 @@ linked reset e =
       older_signatures = raised_all e.variables e.signatures;
       at_reset = signed e.states reset;
     }
+
+-- a second copy has room above the first, and each flip-flop of the first a next variable
+pub record IsLinkable (e : Encoded) : Type 0 where
+  pub room : 2 * e.variables + 1 < VARIABLE_LIMIT
+  pub same_width : length e.next ≡ length e.states
+  pub clauses : All (HasVariables e.variables) e.clauses
+  pub states : HasVariables e.variables e.states
+  pub next : HasVariables e.variables e.next
+  pub inputs : HasVariables e.variables e.inputs
+  pub signatures : HasVariables e.variables e.signatures
 
 -- one copy, or two where the register keeps two signatures
 abbrev pub encoding_by : Circuit → Chosen → Encoded
