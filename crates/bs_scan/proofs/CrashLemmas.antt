@@ -1,9 +1,10 @@
 -- Moments of recorded runs, and the dump of one.
 use Rattle.std.proofs.Common.{◌≡◌, inl, inr, ℕ, suc, zero, ◌≤◌, ◌-◌, Bool, List, [], ◌∷◌, ◌++◌, length, map, get_or, refl, arith, ap, subst, sym, None}
 use Rattle.std.specs.Prelude.{All, slice_get}
+use Rattle.std.specs.List.{AllByRecursion}
 use Rattle.std.specs.Option.{option_to_list}
 use Rattle.std.proofs.lemmas.List.{length-map}
-use Rattle.std.proofs.lemmas.List.Elements.{All-map, All-weaker, AllByRecursion, All-from_recursion}
+use Rattle.std.proofs.lemmas.List.Elements.{All-map, All-weaker, All-from_recursion}
 use Rattle.bs_net.specs.Circuit.{Circuit, reset_state}
 use Rattle.bs_net.specs.Netlist.{circuit_of}
 use Rattle.bs_net.specs.Order.{IsChecked}

@@ -86,9 +86,10 @@ widths_of : (items : ℕ) (stored older : Option (List Bool)) → All (λ t. len
     All (λ t. length t ≡ items) (option_to_list stored) × All (λ t. length t ≡ items) (option_to_list older)
 widths_of items None older h = (All-nil (λ (t : List Bool). length t ≡ items), h)
 widths_of items (Some t) older h =
-    let all = recursion_from_All (λ (t : List Bool). length t ≡ items) (t ∷ option_to_list older) h in
-    (All-from_recursion (λ (t : List Bool). length t ≡ items) (t ∷ []) (all.0, tt),
-    All-from_recursion (λ (t : List Bool). length t ≡ items) (option_to_list older) all.1)
+    let all = recursion_from_All (λ (t : List Bool). length t ≡ items) (t ∷ option_to_list older) h in (
+      All-from_recursion (λ (t : List Bool). length t ≡ items) (t ∷ []) (all.0, tt),
+      All-from_recursion (λ (t : List Bool). length t ≡ items) (option_to_list older) all.1,
+    )
 
 -- of a register that keeps one signature
 one_again : (reset : List Bool) (items : ℕ) (s : List Bool) (o : Option (List Bool)) → length s ≡ length reset →

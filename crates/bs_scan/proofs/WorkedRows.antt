@@ -6,6 +6,7 @@ use Rattle.bs_net.specs.declared.net.NetId.{NetId}
 use Rattle.bs_net.specs.declared.net.Flop.{Flop}
 use Rattle.bs_net.specs.declared.net.Mode.TheVariants.{Plain}
 use Rattle.bs_net.specs.declared.net.Kind.TheVariants.{Not}
+use Rattle.bs_net.specs.declared.net.Mode.TheVariants.{Plain}
 use Rattle.bs_net.specs.Circuit.{Circuit, next, settled, all_bits}
 use Rattle.bs_scan.specs.declared.dump.Dump.{Dump}
 use Rattle.bs_scan.specs.declared.fault.DumpFault.{DumpFault}

@@ -10,7 +10,9 @@ ghost use Rattle.bs_bits.specs.Reading.{Answers};
 ghost use Rattle.bs_scan.specs.Crash.{DumpFits};
 
 use crate::choice::Choice;
-use crate::dump_text::{bits_line, end_line, first_line, held_line, older_line, push_lines, rest_behind_older};
+use crate::dump_text::{
+    bits_line, end_line, first_line, held_line, older_line, push_lines, rest_behind_older,
+};
 use crate::fault::DumpFault;
 use bs_bits::{Bits, NoMemory};
 use bs_net::Netlist;
@@ -56,7 +58,15 @@ fn read_lines(
     let older = older_line(alloc, depth, items, &stored, line)?;
     let last = rest_behind_older(depth, rest, behind);
     match end_line(depth as u32 + 2, last) {
-        Ok(()) => at_reset(reset, Dump { state, stored, older, depth }),
+        Ok(()) => at_reset(
+            reset,
+            Dump {
+                state,
+                stored,
+                older,
+                depth,
+            },
+        ),
         Err(fault) => Err(fault),
     }
 }
@@ -79,7 +89,12 @@ impl Dump {
         let state = self.state.copy()?;
         let stored = copy_of(&self.stored)?;
         let older = copy_of(&self.older)?;
-        Ok(Dump { state, stored, older, depth: self.depth })
+        Ok(Dump {
+            state,
+            stored,
+            older,
+            depth: self.depth,
+        })
     }
 
     /// The dump that a text stands for, of a netlist and what its signatures are taken of (docs/FORMATS.md, "Dump").

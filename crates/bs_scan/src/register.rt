@@ -58,7 +58,14 @@ impl<'a> SigReg<'a> {
         ensures { IfOk result (λ register. register ≡ record { choice = choice.now; stored = [] }) }
     {
         let bits = zeros(alloc, choice.items())?;
-        let older = zeros(alloc, if choice.depth() == 2 { choice.items() } else { 0 })?;
+        let older = zeros(
+            alloc,
+            if choice.depth() == 2 {
+                choice.items()
+            } else {
+                0
+            },
+        )?;
         Ok(SigReg {
             choice,
             bits,
