@@ -11,6 +11,7 @@ use Rattle.bs_bits.specs.Bits.{bits_eq}
 use Rattle.bs_clause.specs.Literal.{Literal, Clause, negation, literal_value, Satisfies}
 use Rattle.bs_clause.specs.Range.{IsWithin, HasVariables}
 use Rattle.bs_clause.proofs.Literals.{literal_value-negation}
+use Rattle.bs_clause.proofs.Values.{value_of_negated}
 use Rattle.bs_log.specs.History.{Problem, guard_of}
 use Rattle.bs_log.specs.Refusal.{has_distinct_variables, assumptions_of}
 use Rattle.bs_log.specs.Shown.{Shown}
@@ -285,6 +286,7 @@ module _ (c : Circuit) (choice : Chosen) (checked : IsChecked c) (p : IsClosed c
     older_signatures_width = λ two. absurd (omega (arith, one, two));
     older_states_width = λ two. absurd (omega (arith, one, two));
     older_inputs_width = λ two. absurd (omega (arith, one, two));
+    link_range = All-from_recursion (IsWithin n) [] tt;
     older_states_range = All-from_recursion (IsWithin n) [] tt;
     older_inputs_range = All-from_recursion (IsWithin n) [] tt;
     assumptions_range = λ guard q above. with_guard_ranged e guard q above (one_within q);
@@ -343,11 +345,11 @@ module _ (c : Circuit) (choice : Chosen) (checked : IsChecked c) (p : IsClosed c
         ∙ bits_shown value e.signatures stored (signature_wide ∙ sym t.signatures_width)
         (left_all (λ l. literal_value value l ≡ true) (signed e.signatures stored) last rest_holds)
 
-    first_is_predecessor : (u y : List Bool) → agrees c choice q.stored s ≡ true →
-        (depth_of choice ≡ 2 → slice_get q.stored 1 ≡ None → s ≡ reset_state c) →
-        ((older : List Bool) → depth_of choice ≡ 2 → slice_get q.stored 1 ≡ Some older → IsBefore c choice older s u y) →
-        IsPredecessor c choice q s x u y
-    first_is_predecessor u y agree at_reset before =
+    first_is_predecessor : (u y : List Bool) (joined : Bool) → agrees c choice q.stored s ≡ true → (depth_of choice ≡ 1 → joined ≡ false) →
+        (depth_of choice ≡ 2 → slice_get q.stored 1 ≡ None → (joined ≡ false) × (s ≡ reset_state c)) →
+        ((older : List Bool) → depth_of choice ≡ 2 → slice_get q.stored 1 ≡ Some older → (joined ≡ true) × IsBefore c choice older s u y) →
+        IsPredecessor c choice q s x u y joined
+    first_is_predecessor u y joined agree alone first later =
         let fit = exactly_one_fits c s x checked state_width input_width in
         record {
           state_width = state_width;
@@ -356,16 +358,17 @@ module _ (c : Circuit) (choice : Chosen) (checked : IsChecked c) (p : IsClosed c
           agrees = agree;
           next = led;
           leads = (fit.0, fit.1, next_from_fits c s x fit.0 checked state_width input_width fit.1 ∙ led);
-          at_reset = at_reset;
-          before = before;
+          alone = alone;
+          first = first;
+          later = later;
         }
 
   pub one_leads : depth_of choice ≡ 1 → SolutionsArePredecessors c choice e
   one_leads one value guard q wide some widths met assumed =
       let holds = (recursion_from_All (λ l. literal_value value l ≡ true) (assumptions_for e guard q) assumed).1 in
       let first_wide : length (slice_index_or q.stored 0 []) ≡ length choice.items = widths 0 [] some in
-      first_is_predecessor value q [] wide first_wide met holds [] []
-      (agrees_at_one c choice q.stored (bits_on value e.states) one some (signed_as value q [] wide first_wide met holds))
+      first_is_predecessor value q [] wide first_wide met holds [] [] false
+      (agrees_at_one c choice q.stored (bits_on value e.states) one some (signed_as value q [] wide first_wide met holds)) (λ _. refl)
       (λ two _. absurd (omega (arith, one, two)))
       (λ older two _. absurd (omega (arith, one, two)))
 
@@ -462,6 +465,7 @@ module _ (c : Circuit) (choice : Chosen) (checked : IsChecked c) (p : IsClosed c
       older_signatures_width = λ _. length-raised_all n e.signatures ∙ t.signatures_width;
       older_states_width = λ _. length-raised_all n e.states ∙ t.states_width;
       older_inputs_width = λ _. length-raised_all n e.inputs ∙ t.inputs_width;
+      link_range = All-from_recursion (IsWithin (2 * n + 1)) (L ∷ []) ((omega arith, omega arith), tt);
       older_states_range = high_range e.states t.states_range;
       older_inputs_range = high_range e.inputs t.inputs_range;
       assumptions_range = λ guard q above. with_guard_ranged E guard q above (two_within q);
@@ -588,11 +592,13 @@ module _ (c : Circuit) (choice : Chosen) (checked : IsChecked c) (p : IsClosed c
         let older : Clause = before_assumed E L (slice_get q.stored 1) in
         let first_wide : length (slice_index_or q.stored 0 []) ≡ length choice.items = widths 0 [] some in
         let last : AllTrue value older = last_holds value q older wide first_wide first holds in
-        first_is_predecessor value q older wide first_wide first holds (bits_on value E.older_states) (bits_on value E.older_inputs)
+        first_is_predecessor value q older wide first_wide first holds (bits_on value E.older_states) (bits_on value E.older_inputs) (literal_value value L)
         (agrees_at_two c choice q.stored (bits_on value e.states) two some (signed_as value q older wide first_wide first holds)
         (before_holds value q widths all_met last))
-        (λ _ is. reset_is value q widths all_met last is)
-        (λ z _ is. before_is value q widths all_met last z is)
+        (λ one. absurd (omega (arith, one, two)))
+        (λ _ is.
+        (value_of_negated value L (subst (λ o. AllTrue value (before_assumed E L o)) is last).0, reset_is value q widths all_met last is))
+        (λ z _ is. ((subst (λ o. AllTrue value (before_assumed E L o)) is last).0, before_is value q widths all_met last z is))
 
 -- ---- by the depth
 

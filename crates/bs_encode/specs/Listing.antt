@@ -1,5 +1,6 @@
 -- What the lists of candidates need of an encoding.
-use Rattle.std.specs.Prelude.{◌≡◌, ◌≢◌, ℕ, ◌+◌, ◌<◌, Bool, true, List, [], length, All, IsTrue, None, Some, slice_get, slice_index_or}
+use Rattle.std.specs.Prelude.{◌≡◌, ◌≢◌, ℕ, ◌+◌, ◌<◌, Bool, true, false, List, [], length, All, IsTrue, Option, None, Some, slice_get, slice_index_or}
+use Rattle.std.specs.Option.{option_to_list}
 use Rattle.bs_clause.specs.declared.literal.TheConstants.{VARIABLE_LIMIT}
 use Rattle.bs_clause.specs.Literal.{Literal, literal_value, Satisfies}
 use Rattle.bs_clause.specs.Range.{HasVariables}
@@ -34,6 +35,7 @@ pub record IsTidy (c : Circuit) (choice : Chosen) (e : Encoded) : Type 0 where
   pub older_signatures_width : depth_of choice ≡ 2 → length e.older_signatures ≡ length choice.items
   pub older_states_width : depth_of choice ≡ 2 → length e.older_states ≡ length c.flops
   pub older_inputs_width : depth_of choice ≡ 2 → length e.older_inputs ≡ length c.inputs
+  pub link_range : HasVariables e.variables (option_to_list e.link)
   pub older_states_range : HasVariables e.variables e.older_states
   pub older_inputs_range : HasVariables e.variables e.older_inputs
   pub assumptions_range : (guard : Literal) (q : Present) → e.variables < guard.variable → HasVariables guard.variable (assumptions_for e guard q)
@@ -58,17 +60,24 @@ pub record IsBefore (c : Circuit) (choice : Chosen) (older s u y : List Bool) : 
   pub signature : signature choice u ≡ older
   pub next : next c u y ≡ s
 
--- The state agrees with what the register holds at the present and leads to it under the input. Where two signatures are kept, it
--- is the one at reset where the register holds one, and otherwise the other state, which has the older signature, leads to it.
-pub record IsPredecessor (c : Circuit) (choice : Chosen) (q : Present) (s x u y : List Bool) : Type 0 where
+-- whether an assignment shows on its link that the second copy leads to the first
+abbrev pub joins : (ℕ → Bool) → Option Literal → Bool
+joins value None = false
+joins value (Some l) = literal_value value l
+
+-- The state agrees with what the register holds at the present and leads to it under the input. Where two signatures are kept and
+-- the register holds one, it is the state at reset and the copies are not joined; where it holds two, they are, and the other
+-- state, which has the older signature, leads to it.
+pub record IsPredecessor (c : Circuit) (choice : Chosen) (q : Present) (s x u y : List Bool) (joined : Bool) : Type 0 where
   pub state_width : length s ≡ length c.flops
   pub input_width : length x ≡ length c.inputs
   pub signature : signature choice s ≡ slice_index_or q.stored 0 []
   pub agrees : agrees c choice q.stored s ≡ true
   pub next : next c s x ≡ q.state
   pub leads : Leads c s x q.state
-  pub at_reset : depth_of choice ≡ 2 → slice_get q.stored 1 ≡ None → s ≡ reset_state c
-  pub before : (older : List Bool) → depth_of choice ≡ 2 → slice_get q.stored 1 ≡ Some older → IsBefore c choice older s u y
+  pub alone : depth_of choice ≡ 1 → joined ≡ false
+  pub first : depth_of choice ≡ 2 → slice_get q.stored 1 ≡ None → (joined ≡ false) × (s ≡ reset_state c)
+  pub later : (older : List Bool) → depth_of choice ≡ 2 → slice_get q.stored 1 ≡ Some older → (joined ≡ true) × IsBefore c choice older s u y
 
 -- Every assignment that meets the clauses and what a step assumes of a present shows such a state and such an input, and in the
 -- second copy such ones of the cycle before.
@@ -78,3 +87,4 @@ SolutionsArePredecessors c choice e =
     All (λ t. length t ≡ length choice.items) q.stored →
     All (Satisfies value) e.clauses → All (λ l. IsTrue (literal_value value l)) (assumptions_for e guard q) →
     IsPredecessor c choice q (bits_on value e.states) (bits_on value e.inputs) (bits_on value e.older_states) (bits_on value e.older_inputs)
+    (joins value e.link)

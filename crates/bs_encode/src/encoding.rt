@@ -343,6 +343,13 @@ impl Encoding {
         *self.inputs.get(i)
     }
 
+    /// The link, where there is a second copy.
+    pub fn link(&self) -> Option<Lit>
+        ensures { result ≡ self.now.link }
+    {
+        self.link
+    }
+
     /// The link, which is true where the second copy leads to the first.
     pub fn link_lit(&self) -> Lit
         requires { self.now.link ≢ None }
