@@ -10,7 +10,8 @@ use Rattle.bs_scan.specs.declared.dump.Dump.{Dump}
 use Rattle.bs_scan.specs.Choice.{depth_of}
 use Rattle.bs_scan.specs.Present.{present_in}
 use Rattle.bs_encode.specs.Tables.{lit}
-use Rattle.bs_encode.specs.Encoded.{Encoded, encoding_of}
+use Rattle.bs_encode.specs.Encoded.{Encoded}
+use Rattle.bs_encode.specs.Depth.{encoding_by}
 use Rattle.bs_encode.specs.Assuming.{assumptions_for, block_for, problem_of}
 use Rattle.bs_report.specs.declared.report.ListEnd.TheVariants.{Conflicts}
 use Rattle.bs_report.specs.declared.report.Step.{Step}
@@ -24,7 +25,7 @@ use Rattle.bs_preimage.specs.Preimage.{PreimageState}
 
 -- the clauses of the crash's circuit and signature
 abbrev pub encoding_in : Crash → Encoded
-encoding_in crash = encoding_of crash.circuit crash.choice.items
+encoding_in crash = encoding_by crash.circuit crash.choice
 
 -- the guard of a step, counted from 0
 abbrev pub guard_at : Crash → ℕ → Literal
