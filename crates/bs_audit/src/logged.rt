@@ -1,5 +1,5 @@
 //! The log of a report: what it is checked against, and the lines of each step.
-ghost use Rattle.std.specs.Prelude.{◌≡◌, ◌+◌, ◌<◌, ◌^◌, true, length, map, IfOk};
+ghost use Rattle.std.specs.Prelude.{◌≡◌, ◌+◌, ◌<◌, ◌^◌, true, length, map, option_map, IfOk};
 ghost use Rattle.bs_encode.specs.Assuming.{assumptions_for, steps_from, AreWide};
 ghost use Rattle.bs_encode.specs.Tables.{lit};
 ghost use Rattle.bs_log.specs.FirstRefused.{first_refused};
@@ -13,7 +13,7 @@ use crate::blocks::are_right_blocks;
 use crate::candidates::number;
 use crate::ends::is_right_end;
 use crate::step_lines::split_step;
-use bs_bits::{List, NoMemory};
+use bs_bits::{Bits, List, NoMemory};
 use bs_clause::{Lit, Lits, Var};
 use bs_encode::Encoding;
 use bs_good::Part;
@@ -30,6 +30,16 @@ fn guard_of(encoding: &Encoding, i: usize) -> Lit
     Lit::new(Var(encoding.vars() + (i as u32 + 1)), true)
 }
 
+/// The signature, lent, if there is one.
+fn lent(signature: &Option<Bits>) -> Option<&Bits>
+    ensures { option_map (λ bits. bits.now) result ≡ signature.now }
+{
+    match signature {
+        None => None,
+        Some(bits) => Some(bits),
+    }
+}
+
 /// What a step assumes.
 fn assumed(alloc: Global, encoding: &Encoding, guard: Lit, step: &Step) -> Result<Lits, NoMemory>
     requires present { length step.now.present ≡ length encoding.now.next }
@@ -37,13 +47,8 @@ fn assumed(alloc: Global, encoding: &Encoding, guard: Lit, step: &Step) -> Resul
     requires older { AreWide (length encoding.now.older_signatures) step.now.older }
     ensures { IfOk result (λ l. l ≡ assumptions_for encoding.now guard (present_of step.now)) }
 {
-    encoding.assumptions(
-        alloc,
-        guard,
-        &step.present,
-        &step.stored,
-        step.older.as_ref(),
-    )
+    let older = lent(&step.older);
+    encoding.assumptions(alloc, guard, &step.present, &step.stored, older)
 }
 
 /// What each step assumes.

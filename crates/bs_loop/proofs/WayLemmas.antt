@@ -4,7 +4,8 @@ use Rattle.std.specs.Prelude.{MatchOption, option_map}
 use Rattle.std.proofs.lemmas.List.{length-append}
 use Rattle.std.proofs.lemmas.List.Elements.{All-from_recursion}
 use Rattle.bs_scan.specs.declared.dump.Dump.{Dump}
-use Rattle.bs_scan.specs.Choice.{depth_of}
+use Rattle.bs_scan.specs.Choice.{depth_of, IsDepth}
+use Rattle.bs_scan.proofs.CrashLemmas.{depth_is}
 use Rattle.bs_scan.specs.Present.{present_in}
 use Rattle.bs_chip.specs.declared.replay.Hit.{Hit}
 use Rattle.bs_scan.specs.Crash.{Recording, crash_of, DumpFits}
@@ -48,22 +49,23 @@ starts r dump budgets s now new same fits =
     (record { made = subst (HasMade (crash_of r dump) budgets []) (sym new) (none_made r dump budgets); stands = refl; fits = fits; count = refl })
 
 -- the moment hit is the next present
-step_stands : (r : Recording) (dump next : Dump) (step : Step) (hit : Hit) → step.hit ≡ Some (line_of hit) → HasItsDump r hit → next ≡ hit.dump →
+step_stands : (r : Recording) (dump next : Dump) (step : Step) (hit : Hit) → IsDepth (depth_of r.choice) → step.hit ≡ Some (line_of hit) → HasItsDump r hit → next ≡ hit.dump →
     present_after (crash_of r dump) step ≡ Some (present_in next)
-step_stands r dump next step hit line is there =
-    ap (option_map (present_of_hit (crash_of r dump))) line ∙ ap Some (met r dump hit is ∙ ap present_in (sym there))
+step_stands r dump next step hit kept line is there =
+    ap (option_map (present_of_hit (crash_of r dump))) line ∙ ap Some (met r dump hit kept is ∙ ap present_in (sym there))
 
 pub stepped : (r : Recording) (dump : Dump) (budgets : Budgets) (steps more : List Step) (old new : PreimageState) (now next : Dump) (n : ℕ) →
     IsUnderWay r dump budgets steps old now n → HasStepped r budgets steps more old new now next → IsUnderWay r dump budgets more new next (n + 1)
 stepped r dump budgets steps more old new now next n way s =
     let is : HasItsDump r s.hit = s.back.back.dump s.hit refl in
+    let kept : IsDepth (depth_of r.choice) = depth_is r.circuit r.choice now way.fits in
     subst (λ (l : List Step). IsUnderWay r dump budgets l new next (n + 1)) (sym s.made)
     (record {
       made = made_more r dump budgets steps old new now s.step (Some s.hit) way.made way.stands way.fits s.back;
       stands =
           last_present_more (crash_of r dump) (Some (present_in dump)) steps s.step
-          ∙ step_stands r dump next s.step s.hit (ap (λ (step : Step). step.hit) s.back.step_is) is s.there;
-      fits = subst (DumpFits r.circuit r.choice) (sym s.there) (hit_fits r s.hit is);
+          ∙ step_stands r dump next s.step s.hit kept (ap (λ (step : Step). step.hit) s.back.step_is) is s.there;
+      fits = subst (DumpFits r.circuit r.choice) (sym s.there) (hit_fits r s.hit kept is);
       count = length-append steps (s.step ∷ []) ∙ ap (λ (k : ℕ). k + 1) way.count;
     })
 

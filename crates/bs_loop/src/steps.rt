@@ -22,6 +22,16 @@ struct Back {
     hit: Option<Hit>,
 }
 
+/// The signature, lent, if there is one.
+fn lent(signature: &Option<Bits>) -> Option<&Bits>
+    ensures { option_map (λ bits. bits.now) result ≡ signature.now }
+{
+    match signature {
+        None => None,
+        Some(bits) => Some(bits),
+    }
+}
+
 /// The states before a present that has a stored signature, and the first moment of a run in one of them.
 fn look_back(
     alloc: Global,
@@ -44,7 +54,7 @@ fn look_back(
         alloc,
         &now.state,
         stored,
-        now.older.as_ref(),
+        lent(&now.older),
         budgets.candidates,
         budgets.conflicts,
     )?;
