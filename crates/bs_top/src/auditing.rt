@@ -122,6 +122,7 @@ pub fn find(alloc: Global, claimed: &Claimed) -> Result<Finding, NoMemory>
     let setup = &crashed.setup;
     let _order = setup.net.order();
     let _count = setup.runs.count();
+    let _depth = setup.choice.depth();
     bs_audit::audit(
         alloc,
         &setup.net,
