@@ -108,9 +108,11 @@ no_part o e = ap (option_map (λ (x : ℕ × Why). parts.Log x.0 x.1)) e
 pub valid_of_right : (crash : Crash) (basis : Basis) (r : Report) → AllIsRight crash basis r → IsValid crash basis r
 unfolding first_failing
 valid_of_right crash basis r h =
-    none_there (parts_of crash basis r)
-    (right (r.depth == depth_of crash.choice) parts.Format h.format, each_joined IsRight (each_step (step_parts crash r) 0 r.steps) others steps_right
-    others_right)
+    none_there (parts_of crash basis r) (
+      right (r.depth == depth_of crash.choice) parts.Format h.format,
+      each_joined IsRight (each_step (step_parts crash r) 0 r.steps) others steps_right
+          others_right,
+    )
   where
     others : List (Option Part)
     others =

@@ -7,7 +7,8 @@ use Rattle.std.proofs.lemmas.List.Elements.{recursion_from_All}
 use Rattle.bs_net.specs.Circuit.{Circuit}
 use Rattle.bs_scan.specs.declared.moment.Moment.{Moment}
 use Rattle.bs_scan.specs.Moments.{Run, IsMoment, run_of, state_at, state_of, is_listed, first_moment}
-use Rattle.bs_scan.specs.Signature.{stored_at, predecessors}
+use Rattle.bs_scan.specs.Choice.{Chosen, depth_of}
+use Rattle.bs_scan.specs.Signature.{signatures_before, stored_at, predecessors}
 use Rattle.bs_scan.specs.Law.{IsBefore, IsReached, IsFirstMoment}
 use Rattle.bs_scan.proofs.MomentLemmas.{first_is_least}
 use Rattle.bs_scan.proofs.SignatureLemmas.{came_from}
@@ -58,12 +59,19 @@ pub record HitBelow (crash : Crash) (step : Step) (cycle : ℕ) : Type 0 where
   pub first : first_moment crash.circuit crash.runs (listed step.cands) ≡ Some moment
   pub below : moment.cycle < cycle
 
+-- the register holds nothing at reset
+pub none_at_reset : (c : Circuit) (choice : Chosen) (run : Run) (count : ℕ) → signatures_before c choice run count 0 ≡ []
+none_at_reset c choice run zero = refl
+none_at_reset c choice run (suc count) = refl
+
 -- the list of the step has the state one cycle earlier
 earlier_hit : (crash : Crash) → IsCrash crash → (run cycle : ℕ) (later : Step) → IsMoment crash.runs (record { run = run; cycle = cycle }) →
     state_at crash.circuit (run_of crash.runs run) cycle ≡ later.present →
     stored_at crash.circuit crash.choice (run_of crash.runs run) cycle ≡ stored_of later →
     listed later.cands ≡ asked_of crash later → HitBelow crash later cycle
-earlier_hit crash is run zero later im st sg all = cc
+earlier_hit crash is run zero later im st sg all =
+    let none : [] ≡ stored_of later = sym (none_at_reset crash.circuit crash.choice (run_of crash.runs run) (depth_of crash.choice)) ∙ sg in
+    cc
 earlier_hit crash is run (suc k) later im st sg all =
     let c : Circuit = crash.circuit in
     let line : Run = run_of crash.runs run in
