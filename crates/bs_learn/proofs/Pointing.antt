@@ -17,7 +17,7 @@ use Rattle.bs_learn.specs.Point.{IsFirstPoint, IsLastDecision, IsUnforced, Bypas
 use Rattle.bs_learn.specs.Marks.{MarkState, is_marked, marks_in, IsClear, HasMarked, HasTraded}
 use Rattle.bs_watch.proofs.Gets.{same_some, get_take, take_get, Contains_from_get, get_map}
 use Rattle.bs_learn.proofs.Literals.{absent, Contains-from_has}
-use Rattle.bs_learn.proofs.Sound.{IsClauseAt, IsSound, one_place, live_contains}
+use Rattle.bs_learn.proofs.Walkable.{IsClauseAt, IsWalkable, one_place, live_contains}
 use Rattle.bs_learn.proofs.Clauses.{cons_contains, contains_first, all_from, resolvent_cases}
 use Rattle.bs_watch.proofs.Literals.{negation-negation}
 use Rattle.bs_learn.proofs.Counts.{get_drop, OtherPassing, count_some, count_first, count_other, count_pair}
@@ -38,7 +38,7 @@ pub record PointMarks (clauses : List Held) (places : List Place) (conflict star
   pub bypassed : (k : ℕ) → down ≤ k → k < length places → Bypasses clauses places conflict start k
 
 -- a marked place is yet to come
-pub marked_ahead : (clauses : List Held) (places : List Place) (down : ℕ) (s : MarkState) (hints : List ℕ) (k : ℕ) (p : Place) → IsSound clauses places →
+pub marked_ahead : (clauses : List Held) (places : List Place) (down : ℕ) (s : MarkState) (hints : List ℕ) (k : ℕ) (p : Place) → IsWalkable clauses places →
     (w : MarkWalk clauses places down s hints) → All (IsFalseOn (literals_of (take down places))) w.left → slice_get places k ≡ Some p →
     is_marked s p.literal ≡ true → k < down
 marked_ahead clauses places down s hints k p sound w below at t =
@@ -64,7 +64,7 @@ some_marked places start s h =
 
 -- the walk is above the level's first place
 pub above_start : (clauses : List Held) (places : List Place) (conflict start down vars : ℕ) (s : MarkState) (hints : List ℕ) (ahead : ℕ) →
-    IsSound clauses places →
+    IsWalkable clauses places →
     PointMarks clauses places conflict start down vars s hints ahead → start < down
 above_start clauses places conflict start down vars s hints ahead sound w =
     let one = some_marked places start s (omega (arith, w.some, w.counted)) in
@@ -72,7 +72,7 @@ above_start clauses places conflict start down vars s hints ahead sound w =
     omega (arith, one.low, before)
 
 pub point_start : (clauses : List Held) (places : List Place) (start vars at : ℕ) (c : Clause) (s0 s : MarkState) (hints : List ℕ) (ahead down : ℕ) →
-    IsSound clauses places → IsClauseAt clauses at c → has_distinct_variables c ≡ true → IsConflict (literals_of places) c → HasVariables vars c →
+    IsWalkable clauses places → IsClauseAt clauses at c → has_distinct_variables c ≡ true → IsConflict (literals_of places) c → HasVariables vars c →
     IsQuiet (literals_of (take start places)) (live_clauses clauses) → IsClear (vars + 1) s0 → HasMarked s0 s c →
     marks_in s (drop start places) ≡ ahead → down ≡ length places → hints ≡ at ∷ [] →
     PointMarks clauses places at start down vars s hints ahead
@@ -127,7 +127,7 @@ point_start clauses places start vars at c s0 s hints ahead down sound there dis
     ]
 
 pub point_past : (clauses : List Held) (places : List Place) (conflict start down i vars : ℕ) (s : MarkState) (hints : List ℕ) (ahead : ℕ) (p : Place) →
-    IsSound clauses places → IsLastDecision places start → IsQuiet (literals_of (take start places)) (live_clauses clauses) → down ≡ suc i →
+    IsWalkable clauses places → IsLastDecision places start → IsQuiet (literals_of (take start places)) (live_clauses clauses) → down ≡ suc i →
     slice_get places i ≡ Some p →
     is_marked s p.literal ≡ false → PointMarks clauses places conflict start down vars s hints ahead →
     PointMarks clauses places conflict start i vars s hints ahead
@@ -161,7 +161,7 @@ point_past clauses places conflict start down i vars s hints ahead p sound last 
 
 pub point_step : (clauses : List Held) (places : List Place) (conflict start down i vars : ℕ) (s now : MarkState) (hints more : List ℕ)
     (ahead left_ahead : ℕ) (p : Place) (r : ℕ) →
-    IsSound clauses places → IsLastDecision places start → IsQuiet (literals_of (take start places)) (live_clauses clauses) →
+    IsWalkable clauses places → IsLastDecision places start → IsQuiet (literals_of (take start places)) (live_clauses clauses) →
     All (λ c. has_distinct_variables c ≡ true) (live_clauses clauses) → All (HasVariables vars) (live_clauses clauses) → down ≡ suc i →
     slice_get places i ≡ Some p → p.reason ≡ Some r →
     is_marked s p.literal ≡ true → HasTraded s now (literals_at clauses r) p.literal → marks_in now (drop start places) ≡ left_ahead →
@@ -228,7 +228,7 @@ point_step clauses places conflict start down i vars s now hints more ahead left
 
 -- the only marked place of the level
 pub point_end : (clauses : List Held) (places : List Place) (conflict start down i vars : ℕ) (s : MarkState) (hints : List ℕ) (p : Place) (lits : Clause) →
-    IsSound clauses places → down ≡ suc i → slice_get places i ≡ Some p → is_marked s p.literal ≡ true →
+    IsWalkable clauses places → down ≡ suc i → slice_get places i ≡ Some p → is_marked s p.literal ≡ true →
     (w : PointMarks clauses places conflict start down vars s hints 1) → slice_get lits 0 ≡ Some (negation p.literal) →
     Taken clauses w.walk.left lits hints → IsFirstPoint clauses places conflict start lits
 point_end clauses places conflict start down i vars s hints p lits sound e at on w first t = record {
@@ -270,7 +270,7 @@ pub record FinalMarks (clauses : List Held) (places : List Place) (down vars : �
   pub flags : length s.flags ≡ vars + 1
 
 pub final_start : (clauses : List Held) (places : List Place) (vars at : ℕ) (c : Clause) (s0 s : MarkState) (hints : List ℕ) (down : ℕ) →
-    IsSound clauses places → IsClauseAt clauses at c → has_distinct_variables c ≡ true → IsConflict (literals_of places) c → HasVariables vars c →
+    IsWalkable clauses places → IsClauseAt clauses at c → has_distinct_variables c ≡ true → IsConflict (literals_of places) c → HasVariables vars c →
     IsClear (vars + 1) s0 → HasMarked s0 s c → down ≡ length places → hints ≡ at ∷ [] → FinalMarks clauses places down vars s hints
 final_start clauses places vars at c s0 s hints down sound there distinct conflict range clear marked is_down is_hints =
     let first = mark_start clauses places at c vars s0 s sound there distinct conflict range clear marked in
@@ -310,7 +310,7 @@ final_past clauses places down i vars s hints p e at past v =
     }
 
 pub final_step : (clauses : List Held) (places : List Place) (down i vars : ℕ) (s now : MarkState) (hints more : List ℕ) (p : Place) (r : ℕ) →
-    IsSound clauses places → All (λ c. has_distinct_variables c ≡ true) (live_clauses clauses) → All (HasVariables vars) (live_clauses clauses) →
+    IsWalkable clauses places → All (λ c. has_distinct_variables c ≡ true) (live_clauses clauses) → All (HasVariables vars) (live_clauses clauses) →
     down ≡ suc i → slice_get places i ≡ Some p → p.reason ≡ Some r →
     is_marked s p.literal ≡ true → HasTraded s now (literals_at clauses r) p.literal → more ≡ hints ++ r ∷ [] →
     FinalMarks clauses places down vars s hints → FinalMarks clauses places i vars now more
@@ -358,7 +358,7 @@ final_end clauses places down vars s hints lits e w t =
 -- ---- what a trade asks
 
 -- the reason's literals are the pivot, which is marked, and false ones
-pub reason_known : (clauses : List Held) (places : List Place) (i : ℕ) (s : MarkState) (p : Place) (r : ℕ) → IsSound clauses places →
+pub reason_known : (clauses : List Held) (places : List Place) (i : ℕ) (s : MarkState) (p : Place) (r : ℕ) → IsWalkable clauses places →
     slice_get places i ≡ Some p → p.reason ≡ Some r → is_marked s p.literal ≡ true →
     All (λ m. (is_marked s m ≡ true) ⊎ IsFalseOn (literals_of places) m) (literals_at clauses r)
 reason_known clauses places i s p r sound at is on =
@@ -380,7 +380,7 @@ stands_behind places start i p low at =
 
 -- where more than one place is marked, the newest was forced
 pub point_forced : (clauses : List Held) (places : List Place) (conflict start down i vars : ℕ) (s : MarkState) (hints : List ℕ) (ahead : ℕ) (p : Place) →
-    IsSound clauses places → IsLastDecision places start → down ≡ suc i → slice_get places i ≡ Some p → ahead ≢ 1 → p.reason ≡ None →
+    IsWalkable clauses places → IsLastDecision places start → down ≡ suc i → slice_get places i ≡ Some p → ahead ≢ 1 → p.reason ≡ None →
     PointMarks clauses places conflict start down vars s hints ahead → ⊥
 point_forced clauses places conflict start down i vars s hints ahead p sound last e at many free w = elim (cases_lt start i) [
   | inl later ↦ false≢true (sym (ap is_some free) ∙ last.forced i p later at)

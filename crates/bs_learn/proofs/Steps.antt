@@ -15,7 +15,7 @@ use Rattle.bs_learn.specs.Walk.{IsLearnt}
 use Rattle.bs_learn.specs.Point.{IsFirstPoint, IsLastDecision, IsUnforced, IsReasonIn}
 use Rattle.bs_learn.specs.Marks.{MarkState, is_marked, marks_in, unmarked, IsClear, AreWithin, HasMarked, HasTraded, HasCounted, HasMoved}
 use Rattle.bs_learn.proofs.Clauses.{all_from}
-use Rattle.bs_learn.proofs.Sound.{IsClauseAt, sound, live_contains}
+use Rattle.bs_learn.proofs.Walkable.{IsClauseAt, sound, live_contains}
 use Rattle.bs_learn.proofs.MarkWalks.{count_first_marks, denied_at, taken, taken_at, Taken}
 use Rattle.bs_learn.proofs.Pointing.{PointMarks, FinalMarks, above_start, point_start, point_past, point_step, point_end, point_forced, final_start}
 use Rattle.bs_learn.proofs.Pointing.{final_past, final_step, final_end, reason_known, stands_behind}

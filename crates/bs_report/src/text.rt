@@ -4,7 +4,6 @@ ghost use Rattle.std.specs.List.{flat_map};
 ghost use Rattle.bs_bits.specs.Lines.{line};
 ghost use Rattle.bs_bits.specs.Text.{bits_text};
 ghost use Rattle.bs_log.specs.LineText.{line_text};
-ghost use Rattle.bs_scan.specs.DumpText.{signature_text};
 ghost use Rattle.bs_report.specs.Text.{before_text, cand_text, end_word, hit_text, list_text, older_text, step_text, steps_text, stop_word, move_text};
 ghost use Rattle.bs_report.specs.Text.{budgets_text, head_text, report_text, tail_text, title, trace_text};
 
@@ -90,16 +89,6 @@ fn push_hit(text: &mut Vec<u8>, hit: &Option<HitLine>) -> Result<(), NoMemory>
     }
 }
 
-/// Appends a signature, or that there is none.
-fn push_signature(text: &mut Vec<u8>, signature: &Option<Bits>) -> Result<(), NoMemory>
-    ensures { OnOk result (text.new.items ≡ text.old.items ++ signature_text signature.now) }
-{
-    match signature {
-        None => push_piece(text, b"none"),
-        Some(bits) => bits.text(text),
-    }
-}
-
 /// Appends the line of the older signature, which stands where the depth is not 1.
 fn push_older(text: &mut Vec<u8>, depth: u8, older: &Option<Bits>) -> Result<(), NoMemory>
     ensures { OnOk result (text.new.items ≡ text.old.items ++ older_text depth older.now) }
@@ -107,9 +96,10 @@ fn push_older(text: &mut Vec<u8>, depth: u8, older: &Option<Bits>) -> Result<(),
     if depth == 1 {
         return Ok(());
     }
-    push_piece(text, b"older ")?;
-    push_signature(text, older)?;
-    end_line(text)
+    match older {
+        None => push_line(text, b"older none"),
+        Some(bits) => push_bits_line(text, b"older ", bits),
+    }
 }
 
 /// Appends the lines of a step's list.

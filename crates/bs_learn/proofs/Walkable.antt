@@ -17,14 +17,14 @@ pub record IsClauseAt (clauses : List Held) (r : ℕ) (c : Clause) : Type 0 wher
   pub live : is_some (held_at clauses r) ≡ true
   pub is : literals_at clauses r ≡ c
 
-pub record IsPlaced (clauses : List Held) (earlier : List Place) (p : Place) : Type 0 where
+pub record IsWalkablePlace (clauses : List Held) (earlier : List Place) (p : Place) : Type 0 where
   pub unassigned : IsOpenOn (literals_of earlier) p.literal
   pub forced : (r : ℕ) → p.reason ≡ Some r → (c : Clause) × IsClauseAt clauses r c × Forces (literals_of earlier) c p.literal
 
-pub record IsSound (clauses : List Held) (places : List Place) : Type 0 where
-  pub placed : (k : ℕ) (p : Place) → slice_get places k ≡ Some p → IsPlaced clauses (take k places) p
+pub record IsWalkable (clauses : List Held) (places : List Place) : Type 0 where
+  pub placed : (k : ℕ) (p : Place) → slice_get places k ≡ Some p → IsWalkablePlace clauses (take k places) p
 
-pub sound : (clauses : List Held) (places : List Place) → AreApart places → IsReasoned clauses places → IsSound clauses places
+pub sound : (clauses : List Held) (places : List Place) → AreApart places → IsReasoned clauses places → IsWalkable clauses places
 sound clauses places apart reasons = record {
   placed = λ k p at. record {
     unassigned = (earlier k p at p.literal refl, earlier k p at (negation p.literal) refl);
@@ -62,7 +62,7 @@ pub open_apart : (places : List Place) (l : Literal) → IsOpenOn (literals_of p
 open_apart places l o k p at = literal_apart (literals_of places) l o k p.literal (get_map (λ (x : Place). x.literal) places k p at)
 
 -- no variable has two places
-pub one_place : (clauses : List Held) (places : List Place) → IsSound clauses places → (i j : ℕ) (p q : Place) →
+pub one_place : (clauses : List Held) (places : List Place) → IsWalkable clauses places → (i j : ℕ) (p q : Place) →
     slice_get places i ≡ Some p → slice_get places j ≡ Some q → p.literal.variable ≡ q.literal.variable → i ≡ j
 one_place clauses places s i j p q at_i at_j same = elim (cases_lt i j) [
   | inl before ↦ absurd (open_apart (take j places) q.literal (s.placed j q at_j).unassigned i p (take_get j places i p before at_i) same)
