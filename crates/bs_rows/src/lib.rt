@@ -12,13 +12,11 @@ mod fault_rows;
 #[cfg(test)]
 mod limit_rows;
 #[cfg(test)]
-<<<<<<< HEAD
-mod older_rows;
-=======
 mod mode_rows;
 #[cfg(test)]
+mod older_rows;
+#[cfg(test)]
 mod reach_rows;
->>>>>>> e91682f104411f75374609b9c92e5afcded29c84
 #[cfg(test)]
 mod refusal_rows;
 #[cfg(test)]
