@@ -4,7 +4,7 @@ use Rattle.bs_bits.specs.Lines.{lines_of}
 use Rattle.bs_net.specs.Circuit.{reset_state}
 use Rattle.bs_net.specs.Netlist.{circuit_of}
 use Rattle.bs_net.specs.Parts.{Parts}
-use Rattle.bs_scan.specs.Choice.{Chosen, depth_of}
+use Rattle.bs_scan.specs.Choice.{Chosen}
 use Rattle.bs_scan.specs.ChoiceText.{choice_of}
 use Rattle.bs_scan.specs.DumpText.{dump_of}
 use Rattle.bs_scan.specs.Moments.{Moment, moment}
@@ -43,7 +43,7 @@ stimulus_in width bytes = with_reason stimulus_reason (stimulus_of width (lines_
 -- a dump of a netlist and of what its signatures are taken of
 abbrev pub dump_in : Parts → Chosen → List ℕ → Result Dump (Reason Parts)
 dump_in raw choice bytes =
-    with_reason dump_reason (dump_of (reset_state (circuit_of raw)) (depth_of choice) (length choice.items) (lines_of bytes))
+    with_reason dump_reason (dump_of (reset_state (circuit_of raw)) (length choice.items) (lines_of bytes))
 
 -- whether the runs have the moment: a run from 1, and a cycle from 0 to the run's number of cycles
 abbrev pub has_moment : Stimulus → ℕ → ℕ → Bool

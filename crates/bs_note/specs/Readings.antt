@@ -7,7 +7,7 @@ use Rattle.bs_net.specs.Netlist.{circuit_of}
 use Rattle.bs_net.specs.Parts.{Parts}
 use Rattle.bs_syntax.specs.declared.fault.VerilogFault.{VerilogFault}
 use Rattle.bs_verilog.specs.Netlist.{netlist_text}
-use Rattle.bs_scan.specs.Choice.{Chosen, depth_of}
+use Rattle.bs_scan.specs.Choice.{Chosen}
 use Rattle.bs_scan.specs.ChoiceText.{choice_of}
 use Rattle.bs_scan.specs.DumpText.{dump_of}
 use Rattle.bs_scan.specs.declared.dump.Dump.{Dump}
@@ -69,7 +69,7 @@ widths_of r choice = record { flops = length (circuit_of r).flops; items = lengt
 abbrev pub dump_noted : Parts → Chosen → List ℕ → List ℕ → Result Dump (Reason Case)
 dump_noted r choice path text =
     noted (λ (fault : DumpFault). told_as files.Dump path (mistaken files.Dump text) (in_dump path text (widths_of r choice) fault))
-    (dump_of (reset_state (circuit_of r)) (depth_of choice) (length choice.items) (lines_of text))
+    (dump_of (reset_state (circuit_of r)) (length choice.items) (lines_of text))
 
 -- whether the runs have the moment
 abbrev pub moment_noted : Stimulus → ℕ → ℕ → Result Bool (Reason Case)
