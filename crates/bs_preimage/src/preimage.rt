@@ -110,8 +110,8 @@ impl<'a> Preimage<'a> {
     ) -> Result<Listing, NoMemory>
         requires state { length present.now ≡ length self.old.circuit.flops }
         requires signature { length stored.now ≡ length self.old.choice.items }
-        requires older { AreWide (length self.old.choice.items) (option_map (λ bits. bits.now) older.entry) }
-        requires alone { depth_of self.old.choice ≡ 1 → option_map (λ bits. bits.now) older.entry ≡ None }
+        requires older { AreWide (length self.old.choice.items) (option_map (λ bits. bits.now) older) }
+        requires alone { depth_of self.old.choice ≡ 1 → option_map (λ bits. bits.now) older ≡ None }
         requires candidates { 1 ≤ k }
         requires conflicts { 1 ≤ b }
         requires calls { self.old.calls < MAX_GUARDS }
