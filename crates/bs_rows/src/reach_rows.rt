@@ -19,8 +19,18 @@ const WIDE: &str =
 fn states_are_reached_or_not(rt: HostRuntime) -> Result<(), Fail> {
     let alloc = rt.alloc();
     for (line, netlist, status, want) in [
-        ("reach n 11 5", SHIFT, Status::Done, "?"),
-        ("reach n 1 3", ZERO, Status::Unreached, "?"),
+        (
+            "reach n 11 5",
+            SHIFT,
+            Status::Done,
+            "reach 1\nasked 5 conflicts 100000\nresult reached 2\nstate 00\ninput 1\nstate 10\ninput 1\nstate 11\nlog 6\ns\n44 -6 0 26 4 0\ne 44\nr 45\ns\nr 46\nend\n",
+        ),
+        (
+            "reach n 1 3",
+            ZERO,
+            Status::Unreached,
+            "reach 1\nasked 3 conflicts 100000\nresult unreached\nlog 12\ns\n27 -5 0 5 6 2 0\ne 27\nr 28\ns\n29 -10 0 12 13 9 0\ne 29\nr 30\ns\n31 -15 0 19 20 16 0\ne 31\nr 32\nend\n",
+        ),
         (
             "reach n 0 0",
             TOGGLE,
@@ -33,7 +43,12 @@ fn states_are_reached_or_not(rt: HostRuntime) -> Result<(), Fail> {
             Status::Unreached,
             "reach 1\nasked 0 conflicts 100000\nresult unreached\nlog 0\nend\n",
         ),
-        ("reach n 1 3 --conflicts 1", THREE, Status::Spent, "?"),
+        (
+            "reach n 1 3 --conflicts 1",
+            THREE,
+            Status::Spent,
+            "reach 1\nasked 3 conflicts 1\nresult unknown 1\nlog 3\ns\n63 2 -6 -7 -5 0 1 9 6 0\nr 64\nend\n",
+        ),
         ("reach n 1 5", SHIFT, Status::Dump, "refused state Width\n"),
         (
             "reach n 11 1024",

@@ -10,7 +10,7 @@ use Rattle.bs_told.specs.declared.told.Miss.TheVariants as M
 abbrev pub miss_text : Miss → List ℕ
 miss_text M.Unreached =
     pair_text
-    (codes "no execution from reset ends in this state within the cycles that were asked for, whatever the inputs: each length is refuted")
+    (codes "no execution of so many cycles from reset, or of fewer, ends in this state, whatever the inputs")
     (codes "ask for more cycles, up to 1024; the state's bits are in the order of the netlist's flip-flops, the first on the left")
 miss_text M.Unknown =
     pair_text (codes "the budget of conflicts is spent on this number of cycles, and each smaller one is refuted")

@@ -15,7 +15,7 @@ pub fn miss_note(alloc: Global, miss: Miss) -> Result<Vec<u8>, NoMemory>
     match miss {
         Miss::Unreached => pair_note(
             alloc,
-            b"no execution from reset ends in this state within the cycles that were asked for, whatever the inputs: each length is refuted",
+            b"no execution of so many cycles from reset, or of fewer, ends in this state, whatever the inputs",
             b"ask for more cycles, up to 1024; the state's bits are in the order of the netlist's flip-flops, the first on the left",
         ),
         Miss::Unknown => pair_note(

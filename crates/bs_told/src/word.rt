@@ -38,7 +38,7 @@ struct Scan {
 }
 
 /// Which options a command takes.
-#[derive(Clone, Copy, PartialEq, Eq)]
+#[derive(Clone, Copy)]
 enum Options {
     Nothing,
     /// The budget of lemmas.
