@@ -2,13 +2,12 @@
 use Rattle.std.proofs.Common.{◌≡◌, ◌≢◌, ℕ, ◌+◌, ◌-◌, ◌<◌, ◌≤◌, Bool, true, false, List, [], ◌∷◌, ◌++◌, length, reverse, get_or, refl, ap, subst, sym}
 use Rattle.std.proofs.Common.{◌∙◌, ◌⊎◌, inl, inr, append_assoc, arith, Option, Some, None}
 use mathlib.Core.List.{reverse_aux}
-use Rattle.std.specs.Prelude.{◌^◌, ◌==◌, Contains, All, ◌||◌, ◌&&◌, filter_map, slice_get, IsTrue, if◌then◌else◌}
-use Rattle.std.specs.Option.{option_to_list}
+use Rattle.std.specs.Prelude.{◌^◌, Contains, All, ◌||◌, ◌&&◌, filter_map, slice_get, IsTrue}
 use Rattle.std.specs.List.{AllByRecursion as Each}
 use Rattle.std.specs.List.Sorted.{IsPermutation}
-use Rattle.std.proofs.lemmas.Bool.{true≢false, eq-eqb, or_left, or_right}
+use Rattle.std.proofs.lemmas.Bool.{true≢false}
 use Rattle.std.proofs.lemmas.List.{length-append, reverse-reverse}
-use Rattle.std.proofs.lemmas.List.Elements.{All-weaker, All-cons, All-map, All-from_recursion, recursion_from_All, Contains-append_left, Contains-push}
+use Rattle.std.proofs.lemmas.List.Elements.{All-weaker, All-map, All-from_recursion, recursion_from_All, Contains-append_left, Contains-push}
 use Rattle.std.proofs.lemmas.List.Sorted.{length_permutation, All-permutation}
 use Rattle.bs_bits.specs.Bits.{bits_eq}
 use Rattle.bs_clause.specs.Literal.{Literal, Clause, negation, literal_value, Satisfies}
@@ -23,9 +22,9 @@ use Rattle.bs_log.specs.Shown.{Shown}
 use Rattle.bs_log.specs.Steps.{steps_of, block_of_line, finish_of_line}
 use Rattle.bs_log.proofs.Laws.{finished_steps_are_refuted}
 use Rattle.bs_log.proofs.StepLemmas.{finish_at}
-use Rattle.bs_net.specs.Circuit.{Circuit, next, reset_state, all_bits}
+use Rattle.bs_net.specs.Circuit.{Circuit, next, all_bits}
 use Rattle.bs_net.proofs.NextLemmas.{Member}
-use Rattle.bs_scan.specs.Choice.{Chosen, depth_of, IsDepth}
+use Rattle.bs_scan.specs.Choice.{Chosen}
 use Rattle.bs_scan.specs.Present.{Present}
 use Rattle.bs_scan.specs.Moments.{is_listed}
 use Rattle.bs_scan.specs.Signature.{agrees, some_input_leads, predecessors}
@@ -33,22 +32,20 @@ use Rattle.bs_scan.proofs.MomentLemmas.{each_member}
 use Rattle.bs_scan.proofs.SignatureLemmas.{bits_same, bits_same_is, is_predecessor}
 use Rattle.bs_book.specs.Book.{Book, standing, next_id}
 use Rattle.bs_book.specs.Solver.{SolverState, finished, retired, leaving}
-use Rattle.bs_encode.specs.Encoded.{Encoded}
-use Rattle.bs_encode.specs.Assuming.{AreWide, assumptions_for, block_for}
-use Rattle.bs_encode.specs.Depth.{encoding_by}
+use Rattle.bs_encode.specs.Encoded.{Encoded, encoding_of}
+use Rattle.bs_encode.specs.Assuming.{assumptions_for, block_for}
 use Rattle.bs_encode.specs.Cycle.{bits_on}
 use Rattle.bs_encode.specs.Listing.{IsTidy, PredecessorsAreShown, SolutionsArePredecessors, IsPredecessor}
-use Rattle.bs_report.specs.declared.report.Before.{Before}
 use Rattle.bs_report.specs.declared.report.Cand.{Cand}
 use Rattle.bs_report.specs.declared.report.ListEnd.{ListEnd}
 use Rattle.bs_report.specs.declared.report.ListEnd.TheVariants.{Finished, Conflicts}
 use Rattle.bs_good.specs.Step.{listed, IsCandidate}
-use Rattle.bs_good.specs.Valid.{is_right_before, HaveBefores, blocks_due, are_right_blocks, is_right_finish, blocks_in, finishes_in}
+use Rattle.bs_good.specs.Valid.{blocks_due, are_right_blocks, is_right_finish, blocks_in, finishes_in}
 use Rattle.bs_good.proofs.SortedLemmas.{asc_of_pairs, asc_filter, asc_all_bits, same_lists}
 use Rattle.bs_good.proofs.ValidLemmas.{both}
 use Rattle.bs_good.proofs.GoodLemmas.{listed_member, filter_member, passing, all_bits_length}
 use Rattle.bs_preimage.specs.declared.listing.Listing.{Listing}
-use Rattle.bs_preimage.specs.Preimage.{next_guard}
+use Rattle.bs_preimage.specs.Preimage.{next_guard, asking}
 use Rattle.bs_preimage.specs.Rest.{IsAbout, IsAtRest, AreWholeSteps}
 use Rattle.bs_preimage.specs.Turn.{IsReadable, IsShownIn, guard_in}
 use Rattle.bs_preimage.specs.Order.{IsInOrder}
@@ -68,7 +65,8 @@ pub record Sought : Type 0 where
   pub e : Encoded
   pub old : SolverState
   pub new : SolverState
-  pub q : Present
+  pub present : List Bool
+  pub stored : List Bool
   pub k : ℕ
   pub b : ℕ
   pub found : List Cand
@@ -76,12 +74,9 @@ pub record Sought : Type 0 where
   pub end : ListEnd
   pub about : IsAbout c choice e old.book
   pub rest : IsAtRest old
-  pub kept : IsDepth (depth_of choice)
-  pub state : length q.state ≡ length c.flops
-  pub some : 0 < length q.stored
-  pub signatures : All (λ (t : List Bool). length t ≡ length choice.items) q.stored
-  pub alone : depth_of choice ≡ 1 → slice_get q.stored 1 ≡ None
-  pub sought : HasSought e old new q k b found end
+  pub state : length present ≡ length c.flops
+  pub signature : length stored ≡ length choice.items
+  pub sought : HasSought e old new present stored k b found end
   pub order : IsInOrder found cands
   pub accepted : IsAccepted new.book.problem (reverse new.book.history)
   pub shown : PredecessorsAreShown c choice e
@@ -97,8 +92,11 @@ finished_history : (b : Book) (end : Option ℕ) → (finished b end).history �
 finished_history b None = refl
 finished_history b (Some id) = refl
 
+abbrev asked : Sought → Present
+asked t = asking t.present t.stored
+
 abbrev assumed_by : Sought → Clause
-assumed_by t = assumptions_at t.e t.old.book t.q
+assumed_by t = assumptions_at t.e t.old.book t.present t.stored
 
 -- the lines of the step, the newest first, without its retire line
 abbrev lines_by : Sought → List Line
@@ -182,63 +180,27 @@ rests t =
 
 -- ---- the candidates
 
--- the candidate is a predecessor, and the state before it is right
-pub record IsListed (t : Sought) (cand : Cand) : Type 0 where
-  pub state_width : length cand.state ≡ length t.c.flops
-  pub candidate : IsCandidate t.c t.choice t.q.state t.q.stored cand
-  pub before : is_right_before t.c t.choice (slice_get t.q.stored 1) cand.state cand.before ≡ true
+one_stored : (s : List Bool) → 0 < length (s ∷ [])
+one_stored s = omega arith
 
--- the state before is right where it is named as the copies are joined
-before_right : (c : Circuit) (choice : Chosen) (q : Present) (s x u y : List Bool) (joined : Bool) → IsDepth (depth_of choice) →
-    (depth_of choice ≡ 1 → slice_get q.stored 1 ≡ None) → IsPredecessor c choice q s x u y joined →
-    is_right_before c choice (slice_get q.stored 1) s (if joined then Some (record { state = u; input = y }) else None) ≡ true
-before_right c choice q s x u y joined (inl one) alone p =
-    ap (λ (b : Bool). is_right_before c choice (slice_get q.stored 1) s (named b)) (p.alone one)
-    ∙ (ap (λ (o : Option (List Bool)). is_right_before c choice o s None) (alone one)
-    ∙ or_left (depth_of choice == 1) (bits_eq s (reset_state c)) (eq-eqb (depth_of choice) 1 one))
-  where
-    named : Bool → Option Before
-    named b = if b then Some (record { state = u; input = y }) else None
-before_right c choice q s x u y joined (inr two) alone p = by (slice_get q.stored 1) refl
-  where
-    named : Bool → Option Before
-    named b = if b then Some (record { state = u; input = y }) else None
-
-    by : (o : Option (List Bool)) → slice_get q.stored 1 ≡ o → is_right_before c choice o s (named joined) ≡ true
-    by None is =
-        let h = p.first two is in
-        ap (λ (b : Bool). is_right_before c choice None s (named b)) h.0
-        ∙ or_right (depth_of choice == 1) (bits_eq s (reset_state c)) (ap (bits_eq s) (sym h.1) ∙ bits_same s)
-    by (Some older) is =
-        let h = p.later older two is in
-        ap (λ (b : Bool). is_right_before c choice (Some older) s (named b)) h.0
-        ∙ all_right (eq-eqb (length u) (length c.flops) h.1.state_width) (eq-eqb (length y) (length c.inputs) h.1.input_width)
-        (ap (λ (z : List Bool). bits_eq z older) h.1.signature ∙ bits_same older) (ap (λ (z : List Bool). bits_eq z s) h.1.next ∙ bits_same s)
-      where
-        all_right : {a b c d : Bool} → a ≡ true → b ≡ true → c ≡ true → d ≡ true → (a && b && c && d) ≡ true
-        all_right e f g h = rw (e, f, g, h) refl
-
-shows : (t : Sought) (cand : Cand) → IsShownIn t.e (assumed_by t) cand → IsListed t cand
+shows : (t : Sought) (cand : Cand) → IsShownIn t.e (assumed_by t) cand → IsPredecessor t.c t.choice (asked t) cand.state cand.input
 shows t cand h =
-    let s : List Bool = bits_on h.value t.e.states in
-    let x : List Bool = bits_on h.value t.e.inputs in
-    let p = t.solutions h.value (next_guard t.old.book.problem) t.q t.state t.some t.signatures h.clauses h.holds in
-    let lead : IsPredecessor t.c t.choice t.q cand.state cand.input _ _ _ =
-    subst (λ (z : List Bool). IsPredecessor t.c t.choice t.q z cand.input _ _ _) (sym h.state)
-    (subst (λ (z : List Bool). IsPredecessor t.c t.choice t.q s z _ _ _) (sym h.input) p) in
-    record {
-      state_width = lead.state_width;
-      candidate = record {
-        predecessor = is_predecessor t.c t.choice t.q.state t.q.stored cand.state cand.input lead.state_width lead.input_width lead.agrees lead.next;
-        leads = lead.leads;
-      };
-      before = ap (is_right_before t.c t.choice (slice_get t.q.stored 1) cand.state) h.before
-          ∙ before_right t.c t.choice t.q cand.state cand.input _ _ _ t.kept t.alone lead;
-    }
+    subst (λ (s : List Bool). IsPredecessor t.c t.choice (asked t) s cand.input) (sym h.state)
+    (subst (λ (x : List Bool). IsPredecessor t.c t.choice (asked t) (bits_on h.value t.e.states) x) (sym h.input)
+    (t.solutions h.value (next_guard t.old.book.problem) (asked t) t.state (one_stored t.stored) t.signature h.clauses h.holds))
 
-all_show : (t : Sought) → All (IsListed t) t.cands
+all_show : (t : Sought) → All (λ cand. IsPredecessor t.c t.choice (asked t) cand.state cand.input) t.cands
 all_show t =
-    All-permutation (IsListed t) t.found t.cands t.order.same (All-weaker (IsShownIn t.e (assumed_by t)) (IsListed t) (shows t) t.found t.sought.search.cands.shown)
+    All-permutation (λ (cand : Cand). IsPredecessor t.c t.choice (asked t) cand.state cand.input) t.found t.cands t.order.same
+    (All-weaker (IsShownIn t.e (assumed_by t)) (λ (cand : Cand). IsPredecessor t.c t.choice (asked t) cand.state cand.input)
+    (shows t) t.found t.sought.search.cands.shown)
+
+candidate_of : (t : Sought) (cand : Cand) → IsPredecessor t.c t.choice (asked t) cand.state cand.input → IsCandidate t.c t.choice t.present (t.stored ∷ []) cand
+candidate_of t cand p =
+    record {
+      predecessor = is_predecessor t.c t.choice t.present (t.stored ∷ []) cand.state cand.input p.state_width p.input_width p.agrees p.next;
+      leads = p.leads;
+    }
 
 -- ---- the blocks
 
@@ -289,16 +251,16 @@ lines_now t =
     ∙ get_last (steps_of (reverse t.old.book.history)) (reverse (lines_by t)) (length t.old.book.problem.steps) [] (sym t.rest.count)
 
 refuted : (t : Sought) (id : ℕ) → t.end ≡ Finished id → (s x : List Bool) → length s ≡ length t.c.flops → length x ≡ length t.c.inputs →
-    agrees t.c t.choice t.q.stored s ≡ true → next t.c s x ≡ t.q.state → is_listed (listed t.cands) s ≡ false → ⊥
+    agrees t.c t.choice (t.stored ∷ []) s ≡ true → next t.c s x ≡ t.present → is_listed (listed t.cands) s ≡ false → ⊥
 refuted t id fin s x ls lx ag nx out =
     let p : Problem = t.new.book.problem in
     let i : ℕ = length t.old.book.problem.steps in
     let log : List Line = reverse t.new.book.history in
-    let step : slice_get p.steps i ≡ Some (assumptions_for t.e (guard_of p (i + 1)) t.q) =
+    let step : slice_get p.steps i ≡ Some (assumptions_for t.e (guard_of p (i + 1)) (asked t)) =
     ap (λ (cs : List Clause). slice_get cs i) (steps_are t)
-    ∙ (slice_get_last t.old.book.problem.steps (assumed_by t) i refl ∙ ap (λ (g : Literal). Some (assumptions_for t.e g t.q)) (sym (guard_now t))) in
+    ∙ (slice_get_last t.old.book.problem.steps (assumed_by t) i refl ∙ ap (λ (g : Literal). Some (assumptions_for t.e g (asked t))) (sym (guard_now t))) in
     let shown : Shown (record { problem = p; block = block_for t.e }) (length t.c.flops) (i + 1) s =
-    t.shown p i t.q s x (vars_are t ∙ t.about.vars) (clauses_are t ∙ t.about.clauses) step ls lx ag nx in
+    t.shown p i (asked t) s x (vars_are t ∙ t.about.vars) (clauses_are t ∙ t.about.clauses) step ls lx ag nx in
     let v : ℕ → Bool = shown.value in
     let blocks : Each (Satisfies v) (blocks_in (reverse (lines_by t))) =
     blocks_hold t v s out (λ u lu apart. subst (λ (g : Literal). Satisfies v (negation g ∷ block_for t.e u)) (guard_now t) (shown.blocks u lu apart)) in
@@ -321,21 +283,17 @@ each_listed : (asked : List (List Bool)) (cands : List Cand) → Each (λ cand. 
 each_listed asked [] h = tt
 each_listed asked (c ∷ cs) h = (h.0, each_listed asked cs h.1)
 
-candidates : (t : Sought) → All (IsCandidate t.c t.choice t.q.state t.q.stored) t.cands
+candidates : (t : Sought) → All (IsCandidate t.c t.choice t.present (t.stored ∷ [])) t.cands
 candidates t =
-    All-weaker (IsListed t) (IsCandidate t.c t.choice t.q.state t.q.stored) (λ cand h. h.candidate) t.cands (all_show t)
+    All-weaker (λ (cand : Cand). IsPredecessor t.c t.choice (asked t) cand.state cand.input) (IsCandidate t.c t.choice t.present (t.stored ∷ []))
+    (candidate_of t) t.cands (all_show t)
 
-befores : (t : Sought) → HaveBefores t.c t.choice (slice_get t.q.stored 1) t.cands
-befores t =
-    All-weaker (IsListed t) (λ (cand : Cand). is_right_before t.c t.choice (slice_get t.q.stored 1) cand.state cand.before ≡ true) (λ cand h. h.before)
-    t.cands (all_show t)
-
-whole : (t : Sought) (id : ℕ) → t.end ≡ Finished id → listed t.cands ≡ predecessors t.c t.choice t.q.state t.q.stored
+whole : (t : Sought) (id : ℕ) → t.end ≡ Finished id → listed t.cands ≡ predecessors t.c t.choice t.present (t.stored ∷ [])
 unfolding predecessors
 whole t id fin =
-    let q : List Bool → Bool = λ s. agrees t.c t.choice t.q.stored s && some_input_leads t.c s t.q.state in
+    let q : List Bool → Bool = λ s. agrees t.c t.choice (t.stored ∷ []) s && some_input_leads t.c s t.present in
     let all : List (List Bool) = all_bits (length t.c.flops) in
-    let asked_for : List (List Bool) = predecessors t.c t.choice t.q.state t.q.stored in
+    let asked_for : List (List Bool) = predecessors t.c t.choice t.present (t.stored ∷ []) in
     same_lists (listed t.cands) asked_for
     (asc_of_pairs (listed t.cands) (in_order_ascend t.found t.cands t.order t.sought.search.cands.apart))
     (asc_filter q all (asc_all_bits (length t.c.flops)))
@@ -346,11 +304,11 @@ whole t id fin =
     (recursion_from_All (λ (cand : Cand). is_listed asked_for cand.state ≡ true) t.cands (λ i d lt. (candidates t i d lt).predecessor))) m))
     (λ s m.
     let found = filter_member q s all m in
-    let tests = both (agrees t.c t.choice t.q.stored s) (some_input_leads t.c s t.q.state) found.0 in
-    let x = passing (λ (x : List Bool). bits_eq (next t.c s x) t.q.state) (all_bits (length t.c.inputs)) tests.1 in
+    let tests = both (agrees t.c t.choice (t.stored ∷ []) s) (some_input_leads t.c s t.present) found.0 in
+    let x = passing (λ (x : List Bool). bits_eq (next t.c s x) t.present) (all_bits (length t.c.inputs)) tests.1 in
     by s (is_listed (listed t.cands) s) refl
     (refuted t id fin s x.item (all_bits_length (length t.c.flops) s found.1) (all_bits_length (length t.c.inputs) x.item x.member) tests.0
-    (bits_same_is (next t.c s x.item) t.q.state x.passes)))
+    (bits_same_is (next t.c s x.item) t.present x.passes)))
   where
     by : (s : List Bool) (b : Bool) → is_listed (listed t.cands) s ≡ b → (is_listed (listed t.cands) s ≡ false → ⊥) → Member s (listed t.cands)
     by s true e out = listed_member s (listed t.cands) e
@@ -371,8 +329,8 @@ bounded t ended run range unit =
 -- ---- the step
 
 pub made_step : (t : Sought) (listing : Listing) → listing ≡ record { cands = t.cands; end = t.end } →
-    HasMadeStep t.c t.choice t.old t.new t.q t.k t.b listing
-made_step t listing e = subst (HasMadeStep t.c t.choice t.old t.new t.q t.k t.b) (sym e) (record {
+    HasMadeStep t.c t.choice t.old t.new t.present t.stored t.k t.b listing
+made_step t listing e = subst (HasMadeStep t.c t.choice t.old t.new t.present t.stored t.k t.b) (sym e) (record {
   rest = rests t;
   count = one_longer t;
   listed = record {
@@ -386,13 +344,12 @@ made_step t listing e = subst (HasMadeStep t.c t.choice t.old t.new t.q t.k t.b)
       more = gone_by t ++ Retire (retired_by t) ∷ lines_by t;
       history = history_is t ∙ sym (append_assoc (gone_by t) (Retire (retired_by t) ∷ lines_by t) t.old.book.history);
     };
-    steps = steps_are t ∙ ap (λ (e : Encoded). t.old.book.problem.steps ++ assumptions_for e (next_guard t.old.book.problem) t.q ∷ []) t.about.encoding;
+    steps = steps_are t ∙ ap (λ (e : Encoded). t.old.book.problem.steps ++ assumptions_for e (next_guard t.old.book.problem) (asked t) ∷ []) t.about.encoding;
     lines = reverse (lines_by t);
     step_lines = step_lines t;
     ascend = in_order_ascend t.found t.cands t.order t.sought.search.cands.apart;
     candidates = candidates t;
-    befores = befores t;
-    ends = end_is (predecessors t.c t.choice t.q.state t.q.stored) t.k t.b (assumed_by t) t.sought.middle t.sought.search.logged.lines
+    ends = end_is (predecessors t.c t.choice t.present (t.stored ∷ [])) t.k t.b (assumed_by t) t.sought.middle t.sought.search.logged.lines
         (length t.found) t.cands t.end
         (length_permutation t.found t.cands t.order.same) t.sought.search.ended (whole t);
     blocks =
@@ -400,61 +357,45 @@ made_step t listing e = subst (HasMadeStep t.c t.choice t.old t.new t.q t.k t.b)
         (sym t.about.encoding)
         ∙ right_blocks (blocks_due (next_guard t.old.book.problem) (block_for t.e) t.cands) (blocks_in (reverse (lines_by t))) (due_blocks t);
     finish =
-        ap (λ (e : Encoded). is_right_finish t.b (assumptions_for e (next_guard t.old.book.problem) t.q) (reverse (lines_by t)) t.end
+        ap (λ (e : Encoded). is_right_finish t.b (assumptions_for e (next_guard t.old.book.problem) (asked t)) (reverse (lines_by t)) t.end
         (finishes_in (reverse (lines_by t)))) (sym t.about.encoding)
         ∙ finish_is t.k t.b (assumed_by t) t.sought.middle t.sought.search.logged.lines
         (length t.found) t.end t.sought.search.logged.inner t.sought.search.ended;
     bound = subst
         (λ (e : Encoded). t.end ≡ Conflicts → (run : List Literal) → HasVariables e.variables run →
-        IsUnitRun e.clauses (assumptions_for e (next_guard t.old.book.problem) t.q) run →
+        IsUnitRun e.clauses (assumptions_for e (next_guard t.old.book.problem) (asked t)) run →
         t.b < 2 ^ (e.variables - length run)) t.about.encoding (bounded t);
   };
 })
 
 -- ---- what the laws of the encoding give
 
-pub readable_by : (c : Circuit) (choice : Chosen) (e : Encoded) → e ≡ encoding_by c choice → IsTidy c choice (encoding_by c choice) → IsReadable e
-readable_by c choice e is tidy = subst IsReadable (sym is) (record {
+pub readable_by : (c : Circuit) (items : List (List ℕ)) (e : Encoded) → e ≡ encoding_of c items → IsTidy c items (encoding_of c items) → IsReadable e
+readable_by c items e is tidy = subst IsReadable (sym is) (record {
   room = tidy.room;
   assumptions_range = tidy.assumptions_range;
   assumptions_distinct = tidy.assumptions_distinct;
   states = tidy.states_range;
   inputs = tidy.inputs_range;
-  link = tidy.link_range;
-  older_states = tidy.older_states_range;
-  older_inputs = tidy.older_inputs_range;
   block_range = tidy.block_range;
   block_distinct = tidy.block_distinct;
 })
 
--- an older signature has the width of the second copy's literals, if there is one
-pub older_width : (c : Circuit) (choice : Chosen) (e : Encoded) → e ≡ encoding_by c choice → IsTidy c choice (encoding_by c choice) →
-    IsDepth (depth_of choice) → (o : Option (List Bool)) → (depth_of choice ≡ 1 → o ≡ None) → AreWide (length choice.items) o →
-    AreWide (length e.older_signatures) o
-older_width c choice e is tidy kept None alone wide = λ k d lt. absurd (omega (arith, lt))
-older_width c choice e is tidy (inl one) (Some t) alone wide = absurd (some_is_none t (alone one))
-  where
-    some_is_none : (t : List Bool) → Some t ≡ None → ⊥
-    some_is_none t h = cc
-older_width c choice e is tidy (inr two) (Some t) alone wide =
-    subst (λ (n : ℕ). AreWide n (Some t)) (sym (tidy.older_signatures_width two) ∙ ap (λ (e : Encoded). length e.older_signatures) (sym is)) wide
+pub next_width : (c : Circuit) (items : List (List ℕ)) (e : Encoded) → e ≡ encoding_of c items → IsTidy c items (encoding_of c items) → (n : ℕ) →
+    n ≡ length c.flops → n ≡ length e.next
+next_width c items e is tidy n w = w ∙ (sym tidy.next_width ∙ ap (λ (e : Encoded). length e.next) (sym is))
 
-pub shown_by : (c : Circuit) (choice : Chosen) (e : Encoded) → e ≡ encoding_by c choice → PredecessorsAreShown c choice (encoding_by c choice) →
+pub signature_width : (c : Circuit) (items : List (List ℕ)) (e : Encoded) → e ≡ encoding_of c items → IsTidy c items (encoding_of c items) → (n : ℕ) →
+    n ≡ length items → n ≡ length e.signatures
+signature_width c items e is tidy n w = w ∙ (sym tidy.signatures_width ∙ ap (λ (e : Encoded). length e.signatures) (sym is))
+
+pub shown_by : (c : Circuit) (choice : Chosen) (e : Encoded) → e ≡ encoding_of c choice.items → PredecessorsAreShown c choice (encoding_of c choice.items) →
     PredecessorsAreShown c choice e
 shown_by c choice e is h = subst (λ (e : Encoded). PredecessorsAreShown c choice e) (sym is) h
 
-pub solutions_by : (c : Circuit) (choice : Chosen) (e : Encoded) → e ≡ encoding_by c choice → SolutionsArePredecessors c choice (encoding_by c choice) →
-    SolutionsArePredecessors c choice e
+pub solutions_by : (c : Circuit) (choice : Chosen) (e : Encoded) → e ≡ encoding_of c choice.items →
+    SolutionsArePredecessors c choice (encoding_of c choice.items) → SolutionsArePredecessors c choice e
 solutions_by c choice e is h = subst (λ (e : Encoded). SolutionsArePredecessors c choice e) (sym is) h
-
--- a signature and perhaps an older one, of which contracts speak one by one
-pub older_is : (stored : List Bool) (o : Option (List Bool)) → slice_get (stored ∷ option_to_list o) 1 ≡ o
-older_is stored None = refl
-older_is stored (Some t) = refl
-
-pub widths_are : (n : ℕ) (stored : List Bool) (o : Option (List Bool)) → length stored ≡ n → AreWide n o →
-    All (λ (t : List Bool). length t ≡ n) (stored ∷ option_to_list o)
-widths_are n stored o wide rest = All-cons (λ (t : List Bool). length t ≡ n) stored (option_to_list o) wide rest
 
 pub accepted_by : (p : Problem) (h : History) (log : List Line) → history_of log ≡ h → IsAccepted p log → IsAccepted p (reverse h)
 accepted_by p h log e ok = subst (IsAccepted p) (sym (ap reverse (sym e) ∙ reverse-reverse log)) ok

@@ -11,10 +11,9 @@ use Rattle.bs_book.specs.Book.{Book, next_id, without}
 use Rattle.bs_book.specs.Solver.{SolverState, HasEnded, finished, retired, leaving}
 use Rattle.bs_book.specs.Stages.{is_begun}
 use Rattle.bs_book.proofs.Clauses.{contains_first}
-use Rattle.bs_scan.specs.Present.{Present}
 use Rattle.bs_encode.specs.Encoded.{Encoded}
 use Rattle.bs_encode.specs.Assuming.{assumptions_for}
-use Rattle.bs_preimage.specs.Preimage.{next_guard}
+use Rattle.bs_preimage.specs.Preimage.{asking, next_guard}
 use Rattle.bs_preimage.specs.Rest.{IsAtRest}
 use Rattle.bs_preimage.specs.Turn.{Extends, IsReadable, MayTurn, guard_in}
 use Rattle.bs_preimage.specs.Step.{begun, assumptions_at}
@@ -26,36 +25,36 @@ begun_is_not_blocked e = true≢false (ap is_begun e)
 guard_is : (old : SolverState) → IsAtRest old → guard_in old.book ≡ next_guard old.book.problem
 guard_is old rest = ap (guard_of old.book.problem) rest.number
 
-may_start : (e : Encoded) (old : SolverState) (q : Present) → IsReadable e → old.book.problem.vars ≡ e.variables →
+may_start : (e : Encoded) (old : SolverState) (present stored : List Bool) → IsReadable e → old.book.problem.vars ≡ e.variables →
     old.book.problem.clauses ≡ e.clauses → IsAtRest old →
-    MayTurn e (begun old) (assumptions_at e old.book q)
-may_start e old q readable vars clauses rest =
+    MayTurn e (begun old) (assumptions_at e old.book present stored)
+may_start e old present stored readable vars clauses rest =
     let guard : Literal = next_guard old.book.problem in
     let above : e.variables < guard.variable = omega (arith, vars) in
     let last : guard.variable ≡ old.vars + 1 = omega (arith, rest.guards) in
     record {
       may = record { stage = λ _. inl refl; again = λ k. absurd (begun_is_not_blocked k) };
-      range = subst (λ (n : ℕ). HasVariables n (assumptions_at e old.book q)) last
-          (readable.assumptions_range guard q above);
-      distinct = readable.assumptions_distinct guard q above;
-      guard = subst (Contains (assumptions_at e old.book q)) (sym (guard_is old rest)) (contains_first guard _);
+      range = subst (λ (n : ℕ). HasVariables n (assumptions_at e old.book present stored)) last
+          (readable.assumptions_range guard (asking present stored) above);
+      distinct = readable.assumptions_distinct guard (asking present stored) above;
+      guard = subst (Contains (assumptions_at e old.book present stored)) (sym (guard_is old rest)) (contains_first guard _);
       vars = vars;
       guards = omega (arith, rest.guards, vars);
       clauses = clauses;
       stand = rest.stand;
     }
 
-assumptions_are : (e : Encoded) (old : SolverState) (q : Present) (guard : Literal) (a : Clause) → IsAtRest old → guard ≡ guard_in old.book →
-    a ≡ assumptions_for e guard q → a ≡ assumptions_at e old.book q
-assumptions_are e old q guard a rest g is = is ∙ ap (λ (g : Literal). assumptions_for e g q) (g ∙ guard_is old rest)
+assumptions_are : (e : Encoded) (old : SolverState) (present stored : List Bool) (guard : Literal) (a : Clause) → IsAtRest old → guard ≡ guard_in old.book →
+    a ≡ assumptions_for e guard (asking present stored) → a ≡ assumptions_at e old.book present stored
+assumptions_are e old present stored guard a rest g is = is ∙ ap (λ (g : Literal). assumptions_for e g (asking present stored)) (g ∙ guard_is old rest)
 
-pub may_seek : (e : Encoded) (old s : SolverState) (q : Present) (guard : Literal) (a : Clause) → IsReadable e →
+pub may_seek : (e : Encoded) (old s : SolverState) (present stored : List Bool) (guard : Literal) (a : Clause) → IsReadable e →
     old.book.problem.vars ≡ e.variables →
-    old.book.problem.clauses ≡ e.clauses → IsAtRest old → s ≡ begun old → guard ≡ guard_in old.book → a ≡ assumptions_for e guard q →
+    old.book.problem.clauses ≡ e.clauses → IsAtRest old → s ≡ begun old → guard ≡ guard_in old.book → a ≡ assumptions_for e guard (asking present stored) →
     MayTurn e s a
-may_seek e old s q guard a readable vars clauses rest new g is =
-    subst (λ (a : Clause). MayTurn e s a) (sym (assumptions_are e old q guard a rest g is))
-    (subst (λ (s : SolverState). MayTurn e s (assumptions_at e old.book q)) (sym new) (may_start e old q readable vars clauses rest))
+may_seek e old s present stored guard a readable vars clauses rest new g is =
+    subst (λ (a : Clause). MayTurn e s a) (sym (assumptions_are e old present stored guard a rest g is))
+    (subst (λ (s : SolverState). MayTurn e s (assumptions_at e old.book present stored)) (sym new) (may_start e old present stored readable vars clauses rest))
 
 -- ---- extensions
 
@@ -88,17 +87,17 @@ failed_extends old new end (inr (inl e)) = finished_extends old new end e
 failed_extends old new end (inr (inr e)) = retired_extends old new end e
 
 -- a search in a step that has just begun
-pub sought_extends : (e : Encoded) (old s new : SolverState) (q : Present) (guard : Literal) (a : Clause) → IsAtRest old → s ≡ begun old →
+pub sought_extends : (e : Encoded) (old s new : SolverState) (present stored : List Bool) (guard : Literal) (a : Clause) → IsAtRest old → s ≡ begun old →
     guard ≡ guard_in old.book →
-    a ≡ assumptions_for e guard q → Extends true s.book new.book a →
-    Extends true old.book new.book (assumptions_at e old.book q)
-sought_extends e old s new q guard a rest is g assumed x =
+    a ≡ assumptions_for e guard (asking present stored) → Extends true s.book new.book a →
+    Extends true old.book new.book (assumptions_at e old.book present stored)
+sought_extends e old s new present stored guard a rest is g assumed x =
     let p = ap (λ (s : SolverState). s.book.problem) is in
     let h = ap (λ (s : SolverState). s.book.history) is in
-    extends_from old.book s.book new.book (assumptions_at e old.book q) true p [] h
-    (subst (λ (a : Clause). Extends true s.book new.book a) (assumptions_are e old q guard a rest g assumed) x)
+    extends_from old.book s.book new.book (assumptions_at e old.book present stored) true p [] h
+    (subst (λ (a : Clause). Extends true s.book new.book a) (assumptions_are e old present stored guard a rest g assumed) x)
 
 -- a step that was begun, and no more
-pub begun_extends : (e : Encoded) (old s : SolverState) (q : Present) → s ≡ begun old →
-    Extends true old.book s.book (assumptions_at e old.book q)
-begun_extends e old s q is = extends_same true old.book s.book (assumptions_at e old.book q) (ap (λ (s : SolverState). s.book) is)
+pub begun_extends : (e : Encoded) (old s : SolverState) (present stored : List Bool) → s ≡ begun old →
+    Extends true old.book s.book (assumptions_at e old.book present stored)
+begun_extends e old s present stored is = extends_same true old.book s.book (assumptions_at e old.book present stored) (ap (λ (s : SolverState). s.book) is)

@@ -2,15 +2,12 @@
 ghost use Rattle.std.specs.Prelude.{◌≡◌, ◌<◌, ◌≤◌, length, IfOk};
 ghost use Rattle.bs_clause.specs.Range.{HasVariables};
 ghost use Rattle.bs_book.specs.Values.{value_of};
-ghost use Rattle.std.specs.Option.{option_to_list};
 ghost use Rattle.bs_encode.specs.Cycle.{bits_on};
-ghost use Rattle.bs_encode.specs.Listing.{joins};
-ghost use Rattle.bs_preimage.specs.Turn.{before_shown};
 
 use bs_bits::Bits;
 use bs_clause::{Assignment, Lit, NoMemory, Var};
 use bs_encode::Encoding;
-use bs_report::{Before, Cand};
+use bs_report::Cand;
 use std::alloc::Global;
 
 /// The value of a variable, false where it is open.
@@ -33,37 +30,7 @@ fn bits(alloc: Global, literals: &[Lit], values: &Assignment) -> Result<Bits, No
     Ok(bits)
 }
 
-/// Whether an assignment shows that the second copy leads to the first.
-fn is_joined(encoding: &Encoding, values: &Assignment) -> bool
-    requires { HasVariables (length values.now) (option_to_list encoding.now.link) }
-    ensures { result ≡ joins (value_of values.now) encoding.now.link }
-{
-    match encoding.link() {
-        None => false,
-        Some(l) => value(values, l.var()) == l.positive(),
-    }
-}
-
-/// The state before and its input, where an assignment shows that this leads to the state.
-fn before(
-    alloc: Global,
-    encoding: &Encoding,
-    values: &Assignment,
-) -> Result<Option<Before>, NoMemory>
-    requires link { HasVariables (length values.now) (option_to_list encoding.now.link) }
-    requires states { HasVariables (length values.now) encoding.now.older_states }
-    requires inputs { HasVariables (length values.now) encoding.now.older_inputs }
-    ensures { IfOk result (λ before. before ≡ before_shown (value_of values.now) encoding.now) }
-{
-    if !is_joined(encoding, values) {
-        return Ok(None);
-    }
-    let state = bits(alloc, encoding.older_states(), values)?;
-    let input = bits(alloc, encoding.older_inputs(), values)?;
-    Ok(Some(Before { state, input }))
-}
-
-/// The state and the input that an assignment shows, and the state before.
+/// The state and the input that an assignment shows.
 pub(crate) fn candidate(
     alloc: Global,
     encoding: &Encoding,
@@ -71,19 +38,10 @@ pub(crate) fn candidate(
 ) -> Result<Cand, NoMemory>
     requires states { HasVariables (length values.now) encoding.now.states }
     requires inputs { HasVariables (length values.now) encoding.now.inputs }
-    requires link { HasVariables (length values.now) (option_to_list encoding.now.link) }
-    requires older_states { HasVariables (length values.now) encoding.now.older_states }
-    requires older_inputs { HasVariables (length values.now) encoding.now.older_inputs }
     ensures state { IfOk result (λ cand. cand.state ≡ bits_on (value_of values.now) encoding.now.states) }
     ensures input { IfOk result (λ cand. cand.input ≡ bits_on (value_of values.now) encoding.now.inputs) }
-    ensures before { IfOk result (λ cand. cand.before ≡ before_shown (value_of values.now) encoding.now) }
 {
     let state = bits(alloc, encoding.states(), values)?;
     let input = bits(alloc, encoding.inputs(), values)?;
-    let before = before(alloc, encoding, values)?;
-    Ok(Cand {
-        state,
-        input,
-        before,
-    })
+    Ok(Cand { state, input })
 }
