@@ -1,9 +1,9 @@
 -- Two copies and their link: what an assignment that meets their clauses shows, and the assignments that do.
-use Rattle.std.proofs.Common.{◌≡◌, ℕ, suc, ◌+◌, ◌-◌, ◌*◌, ◌<◌, ◌≤◌, ◌^◌, Bool, true, false, not, ◌||◌, cond, leb, List, [], ◌∷◌, ◌++◌, map, length, take, get_or}
+use Rattle.std.proofs.Common.{◌≡◌, ℕ, ◌+◌, ◌-◌, ◌*◌, ◌<◌, ◌≤◌, Bool, true, false, not, ◌||◌, cond, leb, List, [], ◌∷◌, ◌++◌, map, length, take, get_or}
 use Rattle.std.proofs.Common.{refl, sym, ap, ◌∙◌, arith}
 use Rattle.std.specs.Bool.{beq}
-use Rattle.std.specs.List.{AllByRecursion, All, list_any, range_with_len}
-use Rattle.std.proofs.lemmas.Bool.{false≢true, false_from_ne_true, le-leb, leb-true, or_right, or_from}
+use Rattle.std.specs.List.{AllByRecursion, list_any}
+use Rattle.std.proofs.lemmas.Bool.{false_from_ne_true, le-leb, leb-true, or_right}
 use Rattle.std.proofs.lemmas.List.{append_assoc, map-append}
 use Rattle.std.proofs.lemmas.List.Elements.{recursion_from_All, All-from_recursion, All-weaker}
 use Rattle.bs_clause.specs.declared.literal.TheConstants.{VARIABLE_LIMIT}
@@ -11,9 +11,7 @@ use Rattle.bs_clause.specs.Literal.{Literal, Clause, negation, literal_value, Sa
 use Rattle.bs_clause.specs.Range.{IsWithin, HasVariables}
 use Rattle.bs_clause.proofs.Literals.{literal_value-negation}
 use Rattle.bs_log.specs.Refusal.{has_distinct_variables}
-use Rattle.bs_encode.specs.Tables.{lit}
 use Rattle.bs_encode.specs.Encoded.{Encoded}
-use Rattle.bs_encode.specs.Assuming.{signed}
 use Rattle.bs_encode.specs.Copy.{raised_all, HasRoom, HasRooms, link, links, under, lowered}
 use Rattle.bs_encode.specs.Depth.{link_of, linked_clauses, IsLinkable}
 use Rattle.bs_encode.specs.Cycle.{bits_on}

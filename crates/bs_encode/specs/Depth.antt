@@ -1,6 +1,6 @@
 -- The encoding by a choice: a copy of the transition for each signature that the register keeps, and the link between them
 -- (docs/FORMATS.md, "Clauses of the transition relation").
-use Rattle.std.specs.Prelude.{◌≡◌, ℕ, ◌+◌, ◌*◌, ◌<◌, ◌==◌, Bool, true, List, ◌++◌, map, length, All, Some, if◌then◌else◌}
+use Rattle.std.specs.Prelude.{◌≡◌, ◌+◌, ◌*◌, ◌<◌, ◌==◌, Bool, true, List, ◌++◌, map, length, All, Some, if◌then◌else◌}
 use Rattle.bs_clause.specs.declared.literal.TheConstants.{VARIABLE_LIMIT}
 use Rattle.bs_clause.specs.Literal.{Literal, Clause}
 use Rattle.bs_clause.specs.Range.{HasVariables}

@@ -378,7 +378,7 @@ impl Encoding {
 
     /// Puts what an older signature, or none, says of the cycle before at the end.
     fn push_before(&self, into: &mut Lits, l: Lit, older: Option<&Bits>) -> Result<(), NoMemory>
-        requires { AreWide (length self.now.older_signatures) (option_map (λ bits. bits.now) older.entry) }
+        requires { AreWide (length self.now.older_signatures) (option_map (λ bits. bits.now) older) }
         ensures { OnOk result (into.new ≡ into.old ++ before_assumed self.now l (option_map (λ bits. bits.now) older.entry)) }
     {
         match older {
@@ -406,7 +406,7 @@ impl Encoding {
     ) -> Result<Lits, NoMemory>
         requires state { length present.now ≡ length self.now.next }
         requires signature { length stored.now ≡ length self.now.signatures }
-        requires older { AreWide (length self.now.older_signatures) (option_map (λ bits. bits.now) older.entry) }
+        requires older { AreWide (length self.now.older_signatures) (option_map (λ bits. bits.now) older) }
         ensures { IfOk result (λ l. l ≡ assumptions_for self.now guard (asking present.now stored.now (option_map (λ bits. bits.now) older.entry))) }
     {
         let mut all = Lits::new(alloc);

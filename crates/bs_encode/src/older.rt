@@ -88,22 +88,8 @@ fn link_lit(one: &Encoding) -> Lit
     Lit::new(Var(2 * one.vars() + 1), true)
 }
 
-/// The literals that are true at reset.
-fn reset_literals(alloc: Global, one: &Encoding, reset: &Bits) -> Result<Lits, NoMemory>
-    requires { length one.now.states ≡ length reset.now }
-    ensures { IfOk result (λ all. all ≡ signed one.now.states reset.now) }
-{
-    let mut all = Lits::new(alloc);
-    push_signed(&mut all, one.states(), reset)?;
-    Ok(all)
-}
-
 /// The link and the literals of a second copy.
-pub(crate) fn older_literals(
-    alloc: Global,
-    one: &Encoding,
-    reset: &Bits,
-) -> Result<Older, NoMemory>
+pub(crate) fn older_literals(alloc: Global, one: &Encoding, reset: &Bits) -> Result<Older, NoMemory>
     requires linkable { IsLinkable one.now }
     requires width { length one.now.states ≡ length reset.now }
     ensures link { IfOk result (λ o. o.link ≡ Some (link_of one.now)) }
@@ -116,7 +102,8 @@ pub(crate) fn older_literals(
     let states = raise_copy(alloc, one, one.states())?;
     let inputs = raise_copy(alloc, one, one.inputs())?;
     let signatures = raise_copy(alloc, one, one.signatures())?;
-    let at_reset = reset_literals(alloc, one, reset)?;
+    let mut at_reset = Lits::new(alloc);
+    push_signed(&mut at_reset, one.states(), reset)?;
     Ok(Older {
         link,
         states,
