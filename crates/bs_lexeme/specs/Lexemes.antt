@@ -21,7 +21,7 @@ use Rattle.bs_lexeme.specs.declared.lexeme.Sort.TheVariants as sorts
 use Rattle.bs_lexeme.specs.declared.lexeme.Word as code
 use Rattle.bs_lexeme.specs.declared.lexeme.Word.TheVariants as words
 use Rattle.bs_lexeme.specs.declared.lexeme.Cell as code_cell
-use Rattle.bs_lexeme.specs.declared.lexeme.Cell.TheVariants.{Dff, Dffs}
+use Rattle.bs_lexeme.specs.declared.lexeme.Cell.TheVariants.{Dff, Dffs, Dffe, Dffr}
 
 -- the name is one of these
 abbrev pub is_one_of : List ℕ → List String → Bool
@@ -58,10 +58,10 @@ own_words =
     ∷ ("primitive", words.Primitive) ∷ ("and", words.Gate And) ∷ ("nand", words.Gate Nand) ∷ ("or", words.Gate Or) ∷ ("nor", words.Gate Nor)
     ∷ ("xor", words.Gate Xor) ∷ ("xnor", words.Gate Xnor) ∷ ("buf", words.Gate Buf) ∷ ("not", words.Gate Not) ∷ []
 
--- the keyword of this text in a list
-abbrev pub word_among : List ℕ → List (String × code.Word) → Option code.Word
-word_among name [] = None
-word_among name (w ∷ ws) = if bytes_eq name (codes w.0) then Some w.1 else word_among name ws
+-- what a list has beside this text
+abbrev pub among : {A : Type 0} → List ℕ → List (String × A) → Option A
+among name [] = None
+among name (w ∷ ws) = if bytes_eq name (codes w.0) then Some w.1 else among name ws
 
 -- the keyword that a name is
 unfoldable pub word_of : List ℕ → Option code.Word
@@ -71,11 +71,15 @@ word_of name =
     else if is_one_of name net_words then Some words.NetType
     else if is_one_of name switch_words then Some words.Switch
     else if is_one_of name strength_words then Some words.Strength
-    else word_among name own_words
+    else among name own_words
+
+-- the cells and their names
+abbrev pub cell_names : List (String × code_cell.Cell)
+cell_names = ("dff", Dff) ∷ ("dffs", Dffs) ∷ ("dffe", Dffe) ∷ ("dffr", Dffr) ∷ []
 
 -- the cell of a name
 abbrev pub cell_of : List ℕ → Option code_cell.Cell
-cell_of name = if bytes_eq name (codes "dff") then Some Dff else if bytes_eq name (codes "dffs") then Some Dffs else None
+cell_of name = among name cell_names
 
 -- the number that digits are, after the number before them
 unfoldable pub decimal_from : ℕ → List ℕ → ℕ

@@ -5,7 +5,7 @@ use Rattle.bs_lexeme.specs.declared.limits.TheConstants.{GREAT}
 use Rattle.bs_lexeme.specs.declared.lexeme.Sort.{Sort}
 use Rattle.bs_lexeme.specs.declared.lexeme.Sort.TheVariants as sorts
 use Rattle.bs_lexeme.specs.declared.lexeme.Word.TheVariants as words
-use Rattle.bs_lexeme.specs.declared.lexeme.Cell.TheVariants.{Dff, Dffs}
+use Rattle.bs_lexeme.specs.declared.lexeme.Cell.TheVariants.{Dff, Dffs, Dffe, Dffr}
 use Rattle.bs_lexeme.specs.declared.tag.Tag.{Tag}
 use Rattle.bs_lexeme.specs.declared.tag.Tag.TheVariants as tags
 
@@ -45,6 +45,8 @@ sort_in tags.Strength high number = sorts.Word words.Strength
 sort_in tags.Name high number = sorts.Name None
 sort_in tags.Dff high number = sorts.Name (Some Dff)
 sort_in tags.Dffs high number = sorts.Name (Some Dffs)
+sort_in tags.Dffe high number = sorts.Name (Some Dffe)
+sort_in tags.Dffr high number = sorts.Name (Some Dffr)
 sort_in tags.Zero high number = sorts.Bit false
 sort_in tags.One high number = sorts.Bit true
 sort_in tags.Small high number = sorts.Digits number
@@ -63,6 +65,8 @@ abbrev pub name_in : Tag → ℕ → ℕ
 name_in tags.Name number = number
 name_in tags.Dff number = number
 name_in tags.Dffs number = number
+name_in tags.Dffe number = number
+name_in tags.Dffr number = number
 name_in tags.Great number = number
 name_in _ number = 0
 

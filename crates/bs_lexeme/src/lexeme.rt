@@ -4,11 +4,13 @@ ghost use Rattle.bs_lexeme.specs.Lexemes as spec;
 
 use bs_net::Kind;
 
-/// A library cell, which stands for a flip-flop.
+/// A library cell, which stands for a flip-flop. `Dffe` has an enable, `Dffr` a synchronous reset.
 #[derive(Clone, Copy, Debug, PartialEq, Eq)]
 pub enum Cell {
     Dff,
     Dffs,
+    Dffe,
+    Dffr,
 }
 
 /// A keyword, or the group of keywords that the grammar treats alike.

@@ -58,6 +58,8 @@ impl Lexeme {
             Sort::Name(None) => Lexeme::numbered(Tag::Name, at, number),
             Sort::Name(Some(Cell::Dff)) => Lexeme::numbered(Tag::Dff, at, number),
             Sort::Name(Some(Cell::Dffs)) => Lexeme::numbered(Tag::Dffs, at, number),
+            Sort::Name(Some(Cell::Dffe)) => Lexeme::numbered(Tag::Dffe, at, number),
+            Sort::Name(Some(Cell::Dffr)) => Lexeme::numbered(Tag::Dffr, at, number),
             Sort::Bit(false) => Lexeme::made(Tag::Zero, at, 0, 0),
             Sort::Bit(true) => Lexeme::made(Tag::One, at, 0, 0),
             Sort::Digits(digits) => {
@@ -174,6 +176,8 @@ fn sort_in(tag: Tag, high: u8, number: u32) -> Sort
         Tag::Name => Sort::Name(None),
         Tag::Dff => Sort::Name(Some(Cell::Dff)),
         Tag::Dffs => Sort::Name(Some(Cell::Dffs)),
+        Tag::Dffe => Sort::Name(Some(Cell::Dffe)),
+        Tag::Dffr => Sort::Name(Some(Cell::Dffr)),
         Tag::Zero => Sort::Bit(false),
         Tag::One => Sort::Bit(true),
         Tag::Small => Sort::Digits(number),
@@ -194,7 +198,7 @@ fn name_in(tag: Tag, number: u32) -> u32
     ensures { result ≡ packing.name_in tag number }
 {
     match tag {
-        Tag::Name | Tag::Dff | Tag::Dffs | Tag::Great => number,
+        Tag::Name | Tag::Dff | Tag::Dffs | Tag::Dffe | Tag::Dffr | Tag::Great => number,
         _ => 0,
     }
 }

@@ -31,6 +31,8 @@ pub enum Tag {
     Name,
     Dff,
     Dffs,
+    Dffe,
+    Dffr,
     /// A number of one bit.
     Zero,
     One,

@@ -91,7 +91,7 @@ fn is_strength(name: &[u8]) -> bool
 
 /// The keyword that a name is, of those which the grammar tells apart.
 fn own_word(name: &[u8]) -> Option<Word>
-    ensures { result ≡ spec.word_among name.now spec.own_words }
+    ensures { result ≡ spec.among name.now spec.own_words }
 {
     if name == b"module".as_slice() {
         Some(Word::Module)
@@ -164,6 +164,10 @@ fn cell_of(name: &[u8]) -> Option<Cell>
         Some(Cell::Dff)
     } else if name == b"dffs".as_slice() {
         Some(Cell::Dffs)
+    } else if name == b"dffe".as_slice() {
+        Some(Cell::Dffe)
+    } else if name == b"dffr".as_slice() {
+        Some(Cell::Dffr)
     } else {
         None
     }

@@ -3,7 +3,7 @@ use Rattle.std.proofs.Common.{◌≡◌, ◌≤◌, ℕ, ◌<◌, ◌+◌, ◌==
 use Rattle.std.proofs.Common.{subst, ap, sym, ◌∙◌, ⊎_elim, nat_eq, eq-eqb, ne_eqb, length-set, get_or-set_same, get_or-set_other, zero-add, take, drop}
 use Rattle.std.specs.List.{All, flat_map, range_with_len, count_by}
 use Rattle.std.proofs.lemmas.Bool.{cases_eq}
-use Rattle.std.proofs.lemmas.List.{length-replicate, get_or-replicate, take_more, append-nil, map-append}
+use Rattle.std.proofs.lemmas.List.{length-replicate, get_or-replicate, take_more, append-nil}
 use Rattle.std.proofs.lemmas.Grind.{flat_map-append}
 use Rattle.std.proofs.lemmas.List.Elements.{All-set, All-weaker}
 use Rattle.std.proofs.lemmas.List.Sums.{sum_by-cons}
@@ -11,7 +11,7 @@ use Rattle.std.proofs.lemmas.List.FromFn.{fill_by_all}
 use Rattle.bs_net.specs.declared.net.NetId.{NetId}
 use Rattle.bs_net.specs.declared.net.Gate.{Gate}
 use Rattle.bs_net.specs.declared.net.Flop.{Flop}
-use Rattle.bs_net.specs.Parts.{Parts}
+use Rattle.bs_net.specs.Parts.{Parts, load_nets}
 use Rattle.bs_net.specs.declared.limits.TheConstants.{MAX_TERMINALS}
 use Rattle.bs_listing.specs.Sizes.{readers, fan_outs}
 use Rattle.bs_listing.specs.Tallies.{counted}
@@ -97,19 +97,24 @@ ins_more old before after gs i d lt e f =
     f ∙ (ap (λ (t : List ℕ). counted t (get_or gs i d).ins) e
     ∙ (sym (counted-append old (flat_map (λ (g : Gate). g.ins) (take i gs)) (get_or gs i d).ins) ∙ ap (counted old) (sym put)))
 
--- the input of one more flip-flop
-pub loads_more : (old before after : List ℕ) (fs : List Flop) (i : ℕ) (d : Flop) → i < length fs → before ≡ counted old (map (λ f. f.d) (take i fs)) →
-    after ≡ counted before ((get_or fs i d).d ∷ []) → after ≡ counted old (map (λ f. f.d) (take (i + 1) fs))
+pub bound_flop : (b i : ℕ) (table : List ℕ) → All (λ m. m ≤ b + 2 * i + 2) table → All (λ m. m ≤ b + 2 * (i + 1)) table
+bound_flop b i table h = λ k d lt. omega (arith, h k d lt)
+
+-- the nets by which one more flip-flop loads
+pub loads_more : (old before after : List ℕ) (fs : List Flop) (i : ℕ) (d : Flop) → i < length fs → before ≡ counted old (flat_map load_nets (take i fs)) →
+    after ≡ counted before (load_nets (get_or fs i d)) → after ≡ counted old (flat_map load_nets (take (i + 1) fs))
 loads_more old before after fs i d lt e f =
-    let put : map (λ (x : Flop). x.d) (take (i + 1) fs) ≡ map (λ (x : Flop). x.d) (take i fs) ++ (get_or fs i d).d ∷ [] =
-    ap (map (λ (x : Flop). x.d)) (take_more fs i d lt) ∙ map-append (λ (x : Flop). x.d) (take i fs) (get_or fs i d ∷ []) in
-    f ∙ (ap (λ (t : List ℕ). counted t ((get_or fs i d).d ∷ [])) e
-    ∙ (sym (counted-append old (map (λ (x : Flop). x.d) (take i fs)) ((get_or fs i d).d ∷ [])) ∙ ap (counted old) (sym put)))
+    let put : flat_map load_nets (take (i + 1) fs) ≡ flat_map load_nets (take i fs) ++ load_nets (get_or fs i d) =
+    ap (flat_map load_nets) (take_more fs i d lt)
+    ∙ (flat_map-append load_nets (take i fs) (get_or fs i d ∷ [])
+    ∙ ap (λ (ns : List NetId). flat_map load_nets (take i fs) ++ ns) (append-nil (load_nets (get_or fs i d)))) in
+    f ∙ (ap (λ (t : List ℕ). counted t (load_nets (get_or fs i d))) e
+    ∙ (sym (counted-append old (flat_map load_nets (take i fs)) (load_nets (get_or fs i d))) ∙ ap (counted old) (sym put)))
 
 -- the counts of gates and flip-flops are those of all readers
 pub readers_counted : (r : Parts) (none between all : List ℕ) → none ≡ zeros (length r.names) → between ≡ counted none (flat_map (λ g. g.ins) r.gates) →
-    all ≡ counted between (map (λ f. f.d) r.flops) → all ≡ fan_outs r
+    all ≡ counted between (flat_map load_nets r.flops) → all ≡ fan_outs r
 readers_counted r none between all e f g =
-    g ∙ (ap (λ (t : List ℕ). counted t (map (λ (x : Flop). x.d) r.flops)) (f ∙ ap (λ (t : List ℕ). counted t (flat_map (λ (x : Gate). x.ins) r.gates)) e)
-    ∙ (sym (counted-append (zeros (length r.names)) (flat_map (λ (x : Gate). x.ins) r.gates) (map (λ (x : Flop). x.d) r.flops))
+    g ∙ (ap (λ (t : List ℕ). counted t (flat_map load_nets r.flops)) (f ∙ ap (λ (t : List ℕ). counted t (flat_map (λ (x : Gate). x.ins) r.gates)) e)
+    ∙ (sym (counted-append (zeros (length r.names)) (flat_map (λ (x : Gate). x.ins) r.gates) (flat_map load_nets r.flops))
     ∙ counts_are (length r.names) (readers r)))

@@ -2,13 +2,13 @@
 ghost use Rattle.std.specs.Prelude.{◌≡◌, ◌++◌, length, IfOk, OnOk, count_by, map, fold, max, not};
 ghost use Rattle.bs_net.specs.Netlist.{circuit, parts_of};
 ghost use Rattle.bs_net.specs.Parts.{PartsArePlaced};
-ghost use Rattle.bs_listing.specs.Sizes.{TellsSizes, clear_count, depths_told, greatest, is_kind, kind_count, fan_outs, most_inputs, number_line, parities_told, ports_told, reset_count, stats_told, tables_told};
+ghost use Rattle.bs_listing.specs.Sizes.{TellsSizes, depths_told, dff_count, dffe_count, dffr_count, dffs_count, flops_told, greatest, has_clear, has_enable, is_kind, is_plain, kind_count, fan_outs, most_inputs, number_line, parities_told, ports_told, stats_told, tables_told};
 
 use crate::mark::Measure;
 use crate::marking::marks;
 use crate::tally::reader_counts;
 use bs_bits::{NoMemory, push_number_line};
-use bs_net::{Flop, Gate, Kind, Netlist, Raw};
+use bs_net::{Flop, Gate, Kind, Mode, Netlist, Raw};
 use std::alloc::Global;
 
 /// Whether two kinds are the same.
@@ -35,18 +35,56 @@ fn kind_count(kind: Kind, gates: &[Gate]) -> usize
     gates.iter().filter(|gate| is_kind(kind, gate.kind)).count()
 }
 
-/// How many flip-flops are 1 at reset.
-fn reset_count(flops: &[Flop]) -> usize
-    ensures { result ≡ reset_count flops.now }
+fn is_plain(mode: Mode) -> bool
+    ensures { result ≡ is_plain mode }
 {
-    flops.iter().filter(|flop| flop.reset).count()
+    matches!(mode, Mode::Plain)
 }
 
-/// How many flip-flops are 0 at reset.
-fn clear_count(flops: &[Flop]) -> usize
-    ensures { result ≡ clear_count flops.now }
+fn has_enable(mode: Mode) -> bool
+    ensures { result ≡ has_enable mode }
 {
-    flops.iter().filter(|flop| !flop.reset).count()
+    matches!(mode, Mode::Enable(_))
+}
+
+fn has_clear(mode: Mode) -> bool
+    ensures { result ≡ has_clear mode }
+{
+    matches!(mode, Mode::Clear(_))
+}
+
+/// How many flip-flops are a `dff`.
+fn dff_count(flops: &[Flop]) -> usize
+    ensures { result ≡ dff_count flops.now }
+{
+    flops
+        .iter()
+        .filter(|flop| is_plain(flop.mode) && !flop.reset)
+        .count()
+}
+
+/// How many flip-flops are a `dffs`.
+fn dffs_count(flops: &[Flop]) -> usize
+    ensures { result ≡ dffs_count flops.now }
+{
+    flops
+        .iter()
+        .filter(|flop| is_plain(flop.mode) && flop.reset)
+        .count()
+}
+
+/// How many flip-flops are a `dffe`.
+fn dffe_count(flops: &[Flop]) -> usize
+    ensures { result ≡ dffe_count flops.now }
+{
+    flops.iter().filter(|flop| has_enable(flop.mode)).count()
+}
+
+/// How many flip-flops are a `dffr`.
+fn dffr_count(flops: &[Flop]) -> usize
+    ensures { result ≡ dffr_count flops.now }
+{
+    flops.iter().filter(|flop| has_clear(flop.mode)).count()
 }
 
 /// The greatest of some numbers.
@@ -71,16 +109,24 @@ fn most_inputs(gates: &[Gate]) -> usize
     most
 }
 
-/// Appends the lines of the flip-flops and ports.
+/// Appends the lines of the flip-flops.
+#[tactic(auto, unfolding(crate::specs::Sizes::flops_told))]
+fn push_cells(text: &mut Vec<u8>, flops: &[Flop]) -> Result<(), NoMemory>
+    ensures { OnOk result (text.new.items ≡ text.old.items ++ flops_told flops.now) }
+{
+    push_number_line(text, b"flops ", flops.len() as u64)?;
+    push_number_line(text, b"dff ", dff_count(flops) as u64)?;
+    push_number_line(text, b"dffs ", dffs_count(flops) as u64)?;
+    push_number_line(text, b"dffe ", dffe_count(flops) as u64)?;
+    push_number_line(text, b"dffr ", dffr_count(flops) as u64)
+}
+
+/// Appends the lines of the ports and nets.
 #[tactic(auto, unfolding(crate::specs::Sizes::ports_told))]
 fn push_ports(text: &mut Vec<u8>, net: &Netlist) -> Result<(), NoMemory>
     ensures { OnOk result (text.new.items ≡ text.old.items ++ ports_told net.now.raw) }
 {
     let raw = net.raw();
-    let flops = raw.flops.slice();
-    push_number_line(text, b"flops ", flops.len() as u64)?;
-    push_number_line(text, b"dff ", clear_count(flops) as u64)?;
-    push_number_line(text, b"dffs ", reset_count(flops) as u64)?;
     push_number_line(text, b"inputs ", net.data_inputs().len() as u64)?;
     push_number_line(text, b"outputs ", raw.outputs.len() as u64)?;
     push_number_line(text, b"nets ", u64::from(raw.names.len()))
@@ -143,6 +189,7 @@ fn push_stats(
     ensures { OnOk result (text.new.items ≡ text.old.items ++ stats_told net.now.raw levels.now) }
 {
     let raw = net.raw();
+    push_cells(text, raw.flops.slice())?;
     push_ports(text, net)?;
     push_tables(text, raw.gates.slice())?;
     push_parities(text, raw.gates.slice())?;

@@ -2,13 +2,13 @@
 ghost use Rattle.std.specs.Prelude.{◌≡◌, ◌≤◌, ◌<◌, ◌+◌, ◌*◌, ◌^◌, ◌∷◌, [], length, map, replicate, All, IfOk};
 ghost use Rattle.std.specs.List.{flat_map};
 ghost use Rattle.bs_net.specs.Netlist.{parts_of};
-ghost use Rattle.bs_net.specs.Parts.{PartsArePlaced};
+ghost use Rattle.bs_net.specs.Parts.{PartsArePlaced, IsFlopPlaced, IsModePlaced, load_nets, mode_nets};
 ghost use Rattle.bs_listing.specs.Sizes.{fan_outs};
 ghost use Rattle.bs_listing.specs.Tallies.{counted};
 ghost use Rattle.bs_net.specs.declared.limits.TheConstants.{MAX_TERMINALS};
 
 use bs_bits::NoMemory;
-use bs_net::{Flop, Gate, MAX_TERMINALS, NetId, Raw};
+use bs_net::{Flop, Gate, MAX_TERMINALS, Mode, NetId, Raw};
 use std::alloc::Global;
 
 /// Counts a net once more.
@@ -56,17 +56,46 @@ fn count_inputs(table: &mut Vec<usize>, gates: &[Gate])
     }
 }
 
-/// Counts the flip-flops' inputs.
+/// Counts the net of an enable or of a clear.
+fn count_mode(table: &mut Vec<usize>, mode: Mode, bound: usize)
+    requires placed { IsModePlaced (length table.old.items) mode }
+    requires small { All (λ m. m ≤ bound) table.old.items }
+    requires room { bound < 2 ^ 63 }
+    ensures wide { length table.new.items ≡ length table.old.items }
+    ensures counts { table.new.items ≡ counted table.old.items (mode_nets mode) }
+    ensures small { All (λ m. m ≤ bound + 1) table.new.items }
+{
+    match mode {
+        Mode::Plain => {}
+        Mode::Enable(net) => count_net(table, net, bound),
+        Mode::Clear(net) => count_net(table, net, bound),
+    }
+}
+
+/// Counts the nets by which a flip-flop loads.
+fn count_load(table: &mut Vec<usize>, flop: Flop, bound: usize)
+    requires placed { IsFlopPlaced (length table.old.items) flop }
+    requires small { All (λ m. m ≤ bound) table.old.items }
+    requires room { bound + 1 < 2 ^ 63 }
+    ensures wide { length table.new.items ≡ length table.old.items }
+    ensures counts { table.new.items ≡ counted table.old.items (load_nets flop) }
+    ensures small { All (λ m. m ≤ bound + 2) table.new.items }
+{
+    count_net(table, flop.d, bound);
+    count_mode(table, flop.mode, bound + 1);
+}
+
+/// Counts the nets by which the flip-flops load.
 #[tactic(auto, using(crate::proofs::TallyLemmas::loads_more))]
 fn count_loads(table: &mut Vec<usize>, flops: &[Flop], bound: usize)
-    requires placed { All (λ f. f.d.0 < length table.old.items) flops.now }
+    requires placed { All (IsFlopPlaced (length table.old.items)) flops.now }
     requires small { All (λ m. m ≤ bound) table.old.items }
     requires room { bound < 2 ^ 60 }
     requires few { length flops.now < 2 ^ 32 }
-    ensures counts { table.new.items ≡ counted table.old.items (map (λ f. f.d) flops.now) }
+    ensures counts { table.new.items ≡ counted table.old.items (flat_map load_nets flops.now) }
 {
     'flops: for i in 0..flops.len() {
-        count_net(table, flops[i].d, bound + i);
+        count_load(table, flops[i], bound + 2 * i);
     }
 }
 

@@ -81,10 +81,9 @@ finished_extends : (old new : Book) (end : Option ℕ) → new ≡ finished old 
 finished_extends old new None e = extends_same false old new [] e
 finished_extends old new (Some id) e = extends_line false old new (Finish id) [] e
 
-pub failed_extends : (old new : Book) (end : Option ℕ) → (new ≡ old) ⊎ (new ≡ finished old end) ⊎ (new ≡ retired (finished old end)) → Extends false old new []
+pub failed_extends : (old new : Book) (end : Option ℕ) → (new ≡ old) ⊎ (new ≡ finished old end) → Extends false old new []
 failed_extends old new end (inl e) = extends_same false old new [] e
-failed_extends old new end (inr (inl e)) = finished_extends old new end e
-failed_extends old new end (inr (inr e)) = retired_extends old new end e
+failed_extends old new end (inr e) = finished_extends old new end e
 
 -- a search in a step that has just begun
 pub sought_extends : (e : Encoded) (old s new : SolverState) (present stored : List Bool) (guard : Literal) (a : Clause) → IsAtRest old → s ≡ begun old →

@@ -97,8 +97,8 @@ IsCheckNote r path text (net.Undriven n) note =
     IsNetNote path text (net_key r n) (codes " is read and has no driver") (codes "is the name misspelt, or a gate missing?") note
 IsCheckNote r path text (net.Loop gates) note = IsRingNote r path text gates note
 IsCheckNote r path text net.NoFlop note =
-    note ≡ file_text path (codes "there is no flip-flop: cells are dff and dffs (docs/FORMATS.md, Netlists)")
+    note ≡ file_text path (codes "there is no flip-flop: cells are dff, dffs, dffe and dffr (docs/FORMATS.md, Netlists)")
 IsCheckNote r path text (net.ClockMixed n) note =
     IsNetNote path text (net_key r n) (codes " is no single clock")
-    (codes "all flip-flops take one input port bit as their clock, and no gate and no d reads it") note
+    (codes "all flip-flops take one input port bit as their clock, and no gate and no d, e or r reads it") note
 IsCheckNote r path text net.NoMemory note = note ≡ file_text path (codes "memory ran out")

@@ -38,7 +38,7 @@ what_saying what.Constant = saying (codes "a constant here is of one bit") (code
 what_saying what.Directive = saying (codes "this compiler directive is left out") (codes "take it out, or run a preprocessor first")
 what_saying what.Hierarchy =
     saying (codes "no cell of this name is known")
-    (codes "cells are dff and dffs with pins CK, Q, D, gates are and nand or nor xor xnor buf not: flatten and map to these (docs/FORMATS.md, Netlists)")
+    (codes "cells are dff and dffs (CK, Q, D), dffe (E too), dffr (R too), gates and nand or nor xor xnor buf not: flatten and map to these (docs/FORMATS.md)")
 
 -- a byte that cannot go on, or the text's end
 abbrev pub syntax_saying : Option ℕ → Saying
@@ -47,7 +47,7 @@ syntax_saying None =
 syntax_saying (Some b) =
     if b == 239 then mark_saying
     else (if b == 36 then saying (codes "no cell of this name is known")
-    (codes "cells are dff and dffs with pins CK, Q, D: flatten and map to these (docs/FORMATS.md, Netlists)")
+    (codes "cells are dff and dffs (CK, Q, D), dffe (E too), dffr (R too): flatten and map to these (docs/FORMATS.md, Netlists)")
     else saying (codes "what begins here cannot stand here")
     (codes "is a `;` missing before it? a structural netlist of one module is read (docs/FORMATS.md, Netlists)"))
 
@@ -65,7 +65,7 @@ nets_saying = saying (codes "there are more than 100000 nets") (codes "split the
 abbrev pub terminals_saying : Saying
 terminals_saying =
     saying (codes "this gate or cell has other terminals than it takes")
-    (codes "a gate has its output first; dff and dffs take (CK, Q, D) or pins of these names")
+    (codes "a gate has its output first; dff and dffs take (CK, Q, D), dffe (CK, Q, D, E), dffr (CK, Q, D, R), or pins of these names")
 
 abbrev pub index_saying : Saying
 index_saying = saying (codes "this index is none of the vector's, or a bound is above 65535") (codes "compare it with the declaration")
@@ -122,7 +122,7 @@ dump_saying number =
 abbrev pub reset_saying : Saying
 reset_saying =
     saying (codes "`sig none` goes with the reset state alone, and this is another state")
-    (codes "at reset dff holds 0 and dffs 1; in any later state the register holds a signature")
+    (codes "at reset dffs holds 1 and each other cell 0; in any later state the register holds a signature")
 
 -- ---- a report
 

@@ -290,7 +290,7 @@ pub fn check_note(
         NetFault::NoFlop => file_note(
             alloc,
             path,
-            b"there is no flip-flop: cells are dff and dffs (docs/FORMATS.md, Netlists)",
+            b"there is no flip-flop: cells are dff, dffs, dffe and dffr (docs/FORMATS.md, Netlists)",
         ),
         NetFault::ClockMixed(net) => net_note(
             alloc,
@@ -298,7 +298,7 @@ pub fn check_note(
             text,
             key_of(raw, *net),
             " is no single clock",
-            b"all flip-flops take one input port bit as their clock, and no gate and no d reads it",
+            b"all flip-flops take one input port bit as their clock, and no gate and no d, e or r reads it",
         ),
         NetFault::NoMemory => file_note(alloc, path, b"memory ran out"),
     }

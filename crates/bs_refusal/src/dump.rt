@@ -121,7 +121,7 @@ pub fn dump_note(
             0,
             say(
                 "`sig none` goes with the reset state alone, and this is another state",
-                "at reset dff holds 0 and dffs 1; in any later state the register holds a signature",
+                "at reset dffs holds 1 and each other cell 0; in any later state the register holds a signature",
             ),
         ),
         DumpFault::NoMemory => file_note(alloc, path, b"memory ran out"),

@@ -48,7 +48,7 @@ fn what_message(what: What) -> Message<'static>
         ),
         What::Hierarchy => say(
             "no cell of this name is known",
-            "cells are dff and dffs with pins CK, Q, D, gates are and nand or nor xor xnor buf not: flatten and map to these (docs/FORMATS.md, Netlists)",
+            "cells are dff and dffs (CK, Q, D), dffe (E too), dffr (R too), gates and nand or nor xor xnor buf not: flatten and map to these (docs/FORMATS.md)",
         ),
     }
 }
@@ -66,7 +66,7 @@ fn byte_message(byte: u8) -> Message<'static>
     if byte == b'$' {
         return say(
             "no cell of this name is known",
-            "cells are dff and dffs with pins CK, Q, D: flatten and map to these (docs/FORMATS.md, Netlists)",
+            "cells are dff and dffs (CK, Q, D), dffe (E too), dffr (R too): flatten and map to these (docs/FORMATS.md, Netlists)",
         );
     }
     say(
@@ -106,7 +106,7 @@ fn message_of(text: &[u8], fault: VerilogFault) -> Message<'static>
         VerilogFault::TooManyNets(_) => say("there are more than 100000 nets", "split the netlist"),
         VerilogFault::Terminals(_) => say(
             "this gate or cell has other terminals than it takes",
-            "a gate has its output first; dff and dffs take (CK, Q, D) or pins of these names",
+            "a gate has its output first; dff and dffs take (CK, Q, D), dffe (CK, Q, D, E), dffr (CK, Q, D, R), or pins of these names",
         ),
         VerilogFault::Index(_) => say(
             "this index is none of the vector's, or a bound is above 65535",

@@ -1,5 +1,5 @@
 //! The one text of a report.
-ghost use Rattle.std.specs.Prelude.{◌≡◌, ◌+◌, ◌<◌, ◌≤◌, ◌^◌, ◌++◌, decimal, length, codes, OnOk, OnErr, Option};
+ghost use Rattle.std.specs.Prelude.{◌≡◌, ◌+◌, ◌<◌, ◌≤◌, ◌^◌, ◌++◌, [], decimal, length, codes, OnOk, OnErr, Option};
 ghost use Rattle.std.specs.List.{flat_map};
 ghost use Rattle.bs_bits.specs.Lines.{line};
 ghost use Rattle.bs_bits.specs.Text.{bits_text};
@@ -186,6 +186,31 @@ fn push_report(text: &mut Vec<u8>, report: &Report) -> Result<(), NoMemory>
     push_tail(text, report)
 }
 
+/// Writes the whole text in place, where nothing stands before it. The text is empty again where memory runs out.
+fn begin_report(text: &mut Vec<u8>, report: &Report) -> Result<(), NoMemory>
+    requires empty { text.old.items ≡ [] }
+    requires states { length report.now.states ≡ length report.now.inputs + 1 }
+    ensures ok { OnOk result (text.new.items ≡ report_text report.now) }
+    ensures err { OnErr result (text.new.items ≡ []) }
+{
+    let whole = push_report(text, report);
+    if whole.is_err() {
+        text.clear();
+    }
+    whole
+}
+
+/// Appends the whole text behind what stands there.
+fn append_report(text: &mut Vec<u8>, report: &Report) -> Result<(), NoMemory>
+    requires { length report.now.states ≡ length report.now.inputs + 1 }
+    ensures ok { OnOk result (text.new.items ≡ text.old.items ++ report_text report.now) }
+    ensures err { OnErr result (text.new.items ≡ text.old.items) }
+{
+    let mut whole = Vec::new(*text.allocator());
+    push_report(&mut whole, report)?;
+    push_piece(text, whole.as_slice())
+}
+
 impl Report {
     /// Appends the text of the report: there is one state more than inputs.
     pub fn text(&self, into: &mut Vec<u8>) -> Result<(), NoMemory>
@@ -193,8 +218,10 @@ impl Report {
         ensures ok { OnOk result (into.new.items ≡ into.old.items ++ report_text self.now) }
         ensures err { OnErr result (into.new.items ≡ into.old.items) }
     {
-        let mut text = Vec::new(*into.allocator());
-        push_report(&mut text, self)?;
-        push_piece(into, text.as_slice())
+        if into.is_empty() {
+            begin_report(into, self)
+        } else {
+            append_report(into, self)
+        }
     }
 }

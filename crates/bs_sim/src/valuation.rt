@@ -3,12 +3,12 @@ ghost use Rattle.std.specs.Prelude.{◌≡◌, ◌<◌, length, map, replicate, 
 ghost use Rattle.std.specs.List.{list_all, list_any};
 ghost use Rattle.bs_net.specs.Circuit.{Fits, gate_value, shown, is_odd, loaded, next, next_state, bit_at, IsZeroed};
 ghost use Rattle.bs_net.specs.Order.{gates_in};
-ghost use Rattle.bs_net.specs.Parts.{takes};
+ghost use Rattle.bs_net.specs.Parts.{takes, IsFlopPlaced};
 ghost use Rattle.bs_net.specs.Netlist.{circuit};
 ghost use Rattle.bs_net.specs.Steps.{run, puts, constant_step, gate_write};
 
 use bs_bits::{Bits, NoMemory};
-use bs_net::{Const, Flop, Gate, Kind, NetId, Netlist};
+use bs_net::{Const, Flop, Gate, Kind, Mode, NetId, Netlist};
 use std::alloc::Global;
 
 /// Whether all of these nets show 1.
@@ -120,14 +120,39 @@ pub(crate) fn settle(values: &mut [bool], net: &Netlist, state: &Bits, input: &B
     settle_gates(values, raw.gates.slice(), order.slice());
 }
 
+/// The bit that a flip-flop loads from what the nets show.
+fn loaded_bit(values: &[bool], flop: Flop) -> bool
+    requires { IsFlopPlaced (length values.now) flop }
+    ensures { result ≡ loaded values.now flop }
+{
+    let input = values[flop.d.0 as usize];
+    match flop.mode {
+        Mode::Plain => input,
+        Mode::Enable(enable) => {
+            if values[enable.0 as usize] {
+                input
+            } else {
+                values[flop.q.0 as usize]
+            }
+        }
+        Mode::Clear(clear) => {
+            if values[clear.0 as usize] {
+                false
+            } else {
+                input
+            }
+        }
+    }
+}
+
 /// Loads the flip-flops from what the nets show: one clock edge.
 pub(crate) fn load(state: &mut Bits, values: &[bool], flops: &[Flop])
-    requires placed { All (λ f. f.d.0 < length values.now) flops.now }
+    requires placed { All (IsFlopPlaced (length values.now)) flops.now }
     requires same { length state.old ≡ length flops.now }
     ensures { state.new ≡ map (loaded values.now) flops.now }
 {
     for i in 0..flops.len() {
-        state.set(i, values[flops[i].d.0 as usize]);
+        state.set(i, loaded_bit(values, flops[i]));
     }
 }
 

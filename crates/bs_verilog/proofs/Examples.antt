@@ -2,6 +2,7 @@
 use Rattle.std.proofs.Common.{◌≡◌, ℕ, [], ◌∷◌, ◌++◌, Ok, Err, false, true, refl, length, Result}
 use Rattle.bs_net.specs.declared.net.NetId.{NetId}
 use Rattle.bs_net.specs.declared.net.Kind.TheVariants.{Not, Buf}
+use Rattle.bs_net.specs.declared.net.Mode.TheVariants.{Plain, Enable, Clear}
 use Rattle.std.specs.Prelude.{codes, ⊤}
 use Rattle.std.specs.Fmt.{digits}
 use Rattle.bs_lex.specs.Tokens.{piece_at, tokens_from, comment_size, quoted_size}
@@ -13,7 +14,7 @@ use Rattle.bs_syntax.specs.Parts.{by_place, gate, place, pin, connections, insta
 use Rattle.bs_syntax.specs.Modules.{item, items, top, skipped, begun, further, cells, leading, syntax_of}
 use Rattle.bs_scope.specs.Keys.{scalar_key, bit_key, keys}
 use Rattle.bs_scope.specs.Declaring.{said, first_after, known_nets, first_over, naming_fault, declaring_fault}
-use Rattle.bs_verilog.specs.Terminals.{is_gate, is_assignment, named_pins, pins_of, cell_pins}
+use Rattle.bs_verilog.specs.Terminals.{is_gate, is_assignment, pins_of, cell_pins}
 use Rattle.bs_verilog.specs.Building.{each, implicit_net, declared_key, constant_net, named_net, term_net, with_connection, gates_of, with_part}
 use Rattle.bs_net.specs.Parts.{Parts}
 use Rattle.bs_scope.specs.Nets.{with_keys}
@@ -28,7 +29,7 @@ unfolding piece_at tokens_from comment_size quoted_size word_of decimal_from nam
     index term num time delay attributes_from range port_says net_says names declared_name plain_port header_port carried ports header timed by_place
     gate place pin connections instance assignment gates instances assignments item items top skipped begun further cells leading syntax_of scalar_key
     bit_key keys known_nets first_over declaring_fault naming_fault term_net with_part supply_consts built_of said first_after is_gate is_assignment
-    named_pins pins_of cell_pins each implicit_net declared_key constant_net named_net with_connection gates_of port_bits with_keys meaning_of
+    pins_of cell_pins each implicit_net declared_key constant_net named_net with_connection gates_of port_bits with_keys meaning_of
     netlist_text
 reading_a_netlist = tt
 
@@ -88,7 +89,7 @@ toggle : netlist_text (codes "module t(ck); input ck; not g(d,q); dff f(ck,q,d);
       consts = [];
       gates = record
           { kind = Not; out = net 1; ins = net 2 ∷ [] } ∷ [];
-      flops = record { q = net 2; d = net 1; ck = net 0; reset = false } ∷ [];
+      flops = record { q = net 2; d = net 1; ck = net 0; reset = false; mode = Plain } ∷ [];
     })
 unfolding reading_a_netlist
 toggle = refl
@@ -103,7 +104,7 @@ pins_ports_constants : netlist_text (codes
           record { net = net 2; value = true } ∷ record { net = net 3; value = false } ∷ [];
       gates = record { kind = Buf; out = net 4; ins = net 1 ∷ [] } ∷ record
           { kind = Buf; out = net 5; ins = net 1 ∷ [] } ∷ [];
-      flops = record { q = net 1; d = net 3; ck = net 0; reset = true } ∷ [];
+      flops = record { q = net 1; d = net 3; ck = net 0; reset = true; mode = Plain } ∷ [];
     })
 unfolding reading_a_netlist
 pins_ports_constants = refl
@@ -263,6 +264,11 @@ cells_around_the_top : shown (netlist_text (codes
 unfolding reading_a_netlist
 cells_around_the_top = refl
 
+cells_with_four_pins_around_the_top : shown (netlist_text (codes
+    "module dffe (E); wire endmodule module m(ck); input ck; endmodule module dffr 1 endmodule")) ≡ (1, 1, 0, 0, 0)
+unfolding reading_a_netlist
+cells_with_four_pins_around_the_top = refl
+
 escaped_names : shown (netlist_text (codes "module m(ck); input ck; not (\\ck ,a); not (\\a+ ,a); endmodule")) ≡ (3, 1, 0, 2, 0)
 unfolding reading_a_netlist
 escaped_names = refl
@@ -290,6 +296,47 @@ pin_twice = refl
 empty_connection : netlist_text (codes "module m(ck); input ck; dff f(ck, , d); endmodule") ≡ Err (Terminals 29)
 unfolding reading_a_netlist
 empty_connection = refl
+
+enable_and_clear_by_place : netlist_text (codes "module m(ck); input ck; dffe f(ck, q, d, e); dffr g(ck, p, d, r); endmodule") ≡ Ok
+    (record {
+      names = codes "ck" ∷ codes "q" ∷ codes "d" ∷ codes "e" ∷ codes "p" ∷ codes "r" ∷ [];
+      inputs = net 0 ∷ [];
+      outputs = [];
+      consts = [];
+      gates = [];
+      flops = record
+          { q = net 1; d = net 2; ck = net 0; reset = false; mode = Enable (net 3) } ∷ record
+          { q = net 4; d = net 2; ck = net 0; reset = false; mode = Clear (net 5) } ∷ [];
+    })
+unfolding reading_a_netlist
+enable_and_clear_by_place = refl
+
+enable_and_clear_by_name : netlist_text
+    (codes "module m(ck); input ck; dffe f(.E(e), .D(d), .CK(ck), .Q(q)); dffr g(.Q(p), .R(r), .D(q), .CK(ck)); endmodule") ≡ Ok
+    (record {
+      names = codes "ck" ∷ codes "e" ∷ codes "d" ∷ codes "q" ∷ codes "p" ∷ codes "r" ∷ [];
+      inputs = net 0 ∷ [];
+      outputs = [];
+      consts = [];
+      gates = [];
+      flops = record
+          { q = net 3; d = net 2; ck = net 0; reset = false; mode = Enable (net 1) } ∷ record
+          { q = net 4; d = net 3; ck = net 0; reset = false; mode = Clear (net 5) } ∷ [];
+    })
+unfolding reading_a_netlist
+enable_and_clear_by_name = refl
+
+three_connections_of_four : netlist_text (codes "module m(ck); input ck; dffe f(ck,q,d); endmodule") ≡ Err (Terminals 30)
+unfolding reading_a_netlist
+three_connections_of_four = refl
+
+four_connections_of_three : netlist_text (codes "module m(ck); input ck; dff f(ck,q,d,e); endmodule") ≡ Err (Terminals 29)
+unfolding reading_a_netlist
+four_connections_of_three = refl
+
+pin_of_another_cell : netlist_text (codes "module m(ck); input ck; dffe f(.CK(ck), .Q(q), .D(d), .R(r)); endmodule") ≡ Err (Terminals 30)
+unfolding reading_a_netlist
+pin_of_another_cell = refl
 
 no_name_after_module : netlist_text (codes "module module endmodule") ≡ Err (Syntax 7)
 unfolding reading_a_netlist

@@ -242,7 +242,7 @@ module _ (table : List (List ℕ)) (scope : ℕ → Option Says) (v : All IsVisi
       by : (shape : Shape) → IfOk (elim shape [
         | shapes.Gate kind ↦ if is_gate kind p.connections then with_gates table scope kind b p.connections else Err (Terminals p.at)
         | shapes.Cell cell ↦
-            elim (cell_pins table p.connections) [
+            elim (cell_pins table cell p.connections) [
               | Some pins ↦ with_flop table scope cell pins b p.connections
               | None ↦ Err (Terminals p.at)
             ]
@@ -250,7 +250,7 @@ module _ (table : List (List ℕ)) (scope : ℕ → Option Says) (v : All IsVisi
       ]) BuiltNamed
       by (shapes.Gate kind) =
           cond_both (is_gate kind p.connections) _ _ BuiltHolds (λ _. gates_named kind b p.connections h) (λ _. tt)
-      by (shapes.Cell cell) = by_pins cell (cell_pins table p.connections)
+      by (shapes.Cell cell) = by_pins cell (cell_pins table cell p.connections)
       by shapes.Assign =
           cond_both (is_assignment p.connections) _ _ BuiltHolds (λ _. gates_named Buf b p.connections h) (λ _. tt)
 

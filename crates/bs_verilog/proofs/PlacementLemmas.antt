@@ -12,11 +12,13 @@ use Rattle.std.proofs.lemmas.List.Elements.{All-more, All-append, All-map, All-w
 use Rattle.bs_net.specs.declared.net.NetId.{NetId}
 use Rattle.bs_net.specs.declared.net.Gate.{Gate}
 use Rattle.bs_net.specs.declared.net.Flop.{Flop}
+use Rattle.bs_net.specs.declared.net.Mode.{Mode}
+use Rattle.bs_net.specs.declared.net.Mode.TheVariants as modes
 use Rattle.bs_net.specs.declared.net.Const.{Const}
 use Rattle.bs_net.specs.declared.net.Kind.{Kind}
 use Rattle.bs_net.specs.declared.net.Kind.TheVariants.{And, Nand, Or, Nor, Xor, Xnor, Buf, Not}
 use Rattle.bs_net.specs.Names.{with_key, number_of}
-use Rattle.bs_net.specs.Parts.{ArePlaced, takes}
+use Rattle.bs_net.specs.Parts.{ArePlaced, IsFlopPlaced, IsModePlaced, takes}
 use Rattle.bs_syntax.specs.declared.fault.VerilogFault.{VerilogFault}
 use Rattle.bs_syntax.specs.declared.fault.VerilogFault.TheVariants.{TooManyNets, Index, Terminals}
 use Rattle.bs_syntax.specs.declared.tree.Says.{Says}
@@ -29,16 +31,20 @@ use Rattle.bs_syntax.specs.declared.tree.Component.{Component}
 use Rattle.bs_syntax.specs.declared.tree.Shape.{Shape}
 use Rattle.bs_syntax.specs.declared.tree.Shape.TheVariants as shapes
 use Rattle.bs_lexeme.specs.declared.lexeme.Cell.{Cell}
+use Rattle.bs_lexeme.specs.declared.lexeme.Cell.TheVariants.{Dff, Dffs, Dffe, Dffr}
+use Rattle.bs_verilog.specs.declared.terminals.Control.{Control}
+use Rattle.bs_verilog.specs.declared.terminals.Control.TheVariants as controls
 use Rattle.bs_verilog.specs.declared.terminals.Pins.{Pins}
 use Rattle.bs_verilog.specs.declared.placing.Made.{Made}
 use Rattle.bs_verilog.specs.declared.building.Built.{Built}
 use Rattle.bs_bits.specs.Reading.{◌>>=◌}
 use Rattle.bs_scope.specs.Keys.{text, scalar_key, constant_key, keys}
+use Rattle.bs_verilog.specs.Cells.{pin_list}
 use Rattle.bs_verilog.specs.Terminals.{term_of, has_term, is_single, is_gate, is_assignment, cell_pins, pins_of, is_constant, output_count}
 use Rattle.bs_verilog.specs.Building.{each, has_key, is_full, implicit_net, declared_key, constant_net, named_net, term_net, with_connection}
-use Rattle.bs_verilog.specs.Building.{connection_nets, gates_of, net_at, no_net, flop_of, with_gates, with_flop, with_part, with_parts}
+use Rattle.bs_verilog.specs.Building.{connection_nets, gates_of, net_at, no_net, mode_of, flop_of, with_gates, with_flop, with_part, with_parts}
 use Rattle.bs_scope.specs.Nets.{net_of, with_keys, numbered, nets_of}
-use Rattle.bs_verilog.specs.Placement.{AreWithin, ConstsWithin, GateWithin, FlopWithin, IsBuiltWithin, AreShort, IsFinished, WillFinish}
+use Rattle.bs_verilog.specs.Placement.{AreWithin, ConstsWithin, GateWithin, IsBuiltWithin, AreShort, IsFinished, WillFinish}
 use Rattle.bs_syntax.specs.declared.tree.Range.{Range}
 use Rattle.bs_syntax.specs.declared.tree.Module.{Module}
 use Rattle.bs_syntax.specs.declared.tree.Declared.{Declared}
@@ -385,17 +391,29 @@ gates_within Nor count nets w short (inr single) = absurd cc
 gates_within Xor count nets w short (inr single) = absurd cc
 gates_within Xnor count nets w short (inr single) = absurd cc
 
-flop_within : (cell : Cell) (pins : Pins) (count : ℕ) (nets : List NetId) → 0 < length nets → AreWithin count nets → FlopWithin count (flop_of cell pins nets)
+one_within : (count : ℕ) (n : NetId) → n.0 < count → AreWithin count (n ∷ [])
+one_within count n h = All-from_recursion (λ (k : NetId). k.0 < count) (n ∷ []) (h, tt)
+
+mode_within : (control : Control) (count : ℕ) (nets : List NetId) → 0 < count → AreWithin count nets → IsModePlaced count (mode_of control nets)
+mode_within controls.Plain count nets some w = All-from_recursion (λ (k : NetId). k.0 < count) [] tt
+mode_within (controls.Enable place) count nets some w = one_within count (net_at nets place) (net_at-within count nets place some w)
+mode_within (controls.Clear place) count nets some w = one_within count (net_at nets place) (net_at-within count nets place some w)
+
+flop_within : (cell : Cell) (pins : Pins) (count : ℕ) (nets : List NetId) → 0 < length nets → AreWithin count nets → IsFlopPlaced count (flop_of cell pins nets)
 flop_within cell pins count nets h w =
-    let some : 0 < count = some_count count nets h w in
-    (net_at-within count nets pins.output some w, net_at-within count nets pins.input some w, net_at-within count nets pins.clock some w)
+    let some : 0 < count = some_count count nets h w in (
+      net_at-within count nets pins.output some w,
+      net_at-within count nets pins.input some w,
+      net_at-within count nets pins.clock some w,
+      mode_within pins.control count nets some w,
+    )
 
 -- What is built.
 
 pub record IsBuilding (scope : ℕ → Option Says) (b : Built) : Type 0 where
   pub placing : IsPlacing scope b.made
   pub gates_within : All (GateWithin (length b.made.names)) b.gates
-  pub flops_within : All (FlopWithin (length b.made.names)) b.flops
+  pub flops_within : All (IsFlopPlaced (length b.made.names)) b.flops
 
 -- what a part, or parts, make of it
 pub record Builds (scope : ℕ → Option Says) (before after : Built) : Type 0 where
@@ -406,9 +424,15 @@ gates_more : (n m : ℕ) (gs : List Gate) → n ≤ m → All (GateWithin n) gs 
 gates_more n m gs le all =
     All-weaker (GateWithin n) (GateWithin m) (λ g w. (omega (arith, w.0, le), (w.1.0, nets_more n m g.ins le w.1.1), w.2)) gs all
 
-flops_more : (n m : ℕ) (fs : List Flop) → n ≤ m → All (FlopWithin n) fs → All (FlopWithin m) fs
+mode_more : (n m : ℕ) (mode : Mode) → n ≤ m → IsModePlaced n mode → IsModePlaced m mode
+mode_more n m modes.Plain le w = All-from_recursion (λ (k : NetId). k.0 < m) [] tt
+mode_more n m (modes.Enable e) le w = nets_more n m (e ∷ []) le w
+mode_more n m (modes.Clear r) le w = nets_more n m (r ∷ []) le w
+
+flops_more : (n m : ℕ) (fs : List Flop) → n ≤ m → All (IsFlopPlaced n) fs → All (IsFlopPlaced m) fs
 flops_more n m fs le all =
-    All-weaker (FlopWithin n) (FlopWithin m) (λ f w. (omega (arith, w.0, le), omega (arith, w.1, le), omega (arith, w.2, le))) fs all
+    All-weaker (IsFlopPlaced n) (IsFlopPlaced m) (λ f w. (omega (arith, w.0, le), omega (arith, w.1, le), omega (arith, w.2, le), mode_more n m f.mode le w.3)) fs
+    all
 
 abbrev no_nets : Made → List NetId × Made
 no_nets made = ([], made)
@@ -466,9 +490,9 @@ with_flop_built table scope cell pins b after cs p some full e = by (connection_
             placing = nets.goes.placing;
             gates_within = gates_more (length b.made.names) (length placed.1.names) b.gates nets.goes.grows p.gates_within;
             flops_within =
-                All-append (FlopWithin (length placed.1.names)) b.flops (flop_of cell pins placed.0 ∷ [])
+                All-append (IsFlopPlaced (length placed.1.names)) b.flops (flop_of cell pins placed.0 ∷ [])
                 (flops_more (length b.made.names) (length placed.1.names) b.flops nets.goes.grows p.flops_within)
-                (All-from_recursion (FlopWithin (length placed.1.names)) (flop_of cell pins placed.0 ∷ [])
+                (All-from_recursion (IsFlopPlaced (length placed.1.names)) (flop_of cell pins placed.0 ∷ [])
                 (flop_within cell pins (length placed.1.names) placed.0 here nets.within, tt));
           };
         })
@@ -493,15 +517,25 @@ gate_shape kind cs e =
     by true false c f g x = absurd cc
     by false b c f g x = absurd cc
 
-cell_shape : (table : List (List ℕ)) (cs : List Connection) (pins : Pins) → cell_pins table cs ≡ Some pins → (0 < length cs) × (list_all has_term cs ≡ true)
+has_pins : (cell : Cell) → 0 < length (pin_list cell)
+has_pins Dff = omega arith
+has_pins Dffs = omega arith
+has_pins Dffe = omega arith
+has_pins Dffr = omega arith
+
+cell_shape : (table : List (List ℕ)) (cell : Cell) (cs : List Connection) (pins : Pins) → cell_pins table cell cs ≡ Some pins
+    → (0 < length cs) × (list_all has_term cs ≡ true)
 unfolding cell_pins
-cell_shape table cs pins e = by (length cs == 3) (list_all has_term cs) refl refl e
+cell_shape table cell cs pins e = by (length cs == length (pin_list cell)) (list_all has_term cs) refl refl e
   where
     inner : Option Pins
-    inner = elim (pins_of table cs) [ Some found ↦ cond (is_constant (get_or cs found.output Empty)) None (Some found) | None ↦ None ]
+    inner = elim (pins_of table cell cs) [ Some found ↦ cond (is_constant (get_or cs found.output Empty)) None (Some found) | None ↦ None ]
 
-    by : (a b : Bool) → (length cs == 3) ≡ a → list_all has_term cs ≡ b → cond (a && b) inner None ≡ Some pins → (0 < length cs) × (list_all has_term cs ≡ true)
-    by true true f g x = let three : length cs ≡ 3 = eqb-true (length cs) 3 f in (omega (arith, three), g)
+    by : (a b : Bool) → (length cs == length (pin_list cell)) ≡ a → list_all has_term cs ≡ b → cond (a && b) inner None ≡ Some pins
+        → (0 < length cs) × (list_all has_term cs ≡ true)
+    by true true f g x =
+        let each : length cs ≡ length (pin_list cell) = eqb-true (length cs) (length (pin_list cell)) f in
+        (omega (arith, each, has_pins cell), g)
     by true false f g x = absurd cc
     by false b f g x = absurd cc
 
@@ -521,23 +555,23 @@ with_part_built table scope b after p built short e = by p.shape e
     assign true x = with_gates_built table scope Buf b after cs built short (inr refl) x
     assign false x = absurd cc
 
-    cell : (c : Cell) (o : Option Pins) → cell_pins table cs ≡ o
+    cell : (c : Cell) (o : Option Pins) → cell_pins table c cs ≡ o
         → ◌≡◌ {A = Result Built VerilogFault} (elim o [ Some pins ↦ with_flop table scope c pins b cs | None ↦ Err (Terminals p.at) ]) (Ok after)
         → Builds scope b after
-    cell c (Some pins) is x = let shape = cell_shape table cs pins is in with_flop_built table scope c pins b after cs built shape.0 shape.1 x
+    cell c (Some pins) is x = let shape = cell_shape table c cs pins is in with_flop_built table scope c pins b after cs built shape.0 shape.1 x
     cell c None is x = absurd cc
 
     by : (s : Shape)
         → ◌≡◌ {A = Result Built VerilogFault}
         (elim s [
           | shapes.Gate kind ↦ cond (is_gate kind cs) (with_gates table scope kind b cs) (Err (Terminals p.at))
-          | shapes.Cell c ↦ (elim (cell_pins table cs) [ Some pins ↦ with_flop table scope c pins b cs | None ↦ Err (Terminals p.at) ])
+          | shapes.Cell c ↦ (elim (cell_pins table c cs) [ Some pins ↦ with_flop table scope c pins b cs | None ↦ Err (Terminals p.at) ])
           | shapes.Assign ↦ cond (is_assignment cs) (with_gates table scope Buf b cs) (Err (Terminals p.at))
         ])
         (Ok after)
         → Builds scope b after
     by (shapes.Gate kind) x = gate kind (is_gate kind cs) refl x
-    by (shapes.Cell c) x = cell c (cell_pins table cs) refl x
+    by (shapes.Cell c) x = cell c (cell_pins table c cs) refl x
     by shapes.Assign x = assign (is_assignment cs) x
 
 pub with_parts_built : (table : List (List ℕ)) (scope : ℕ → Option Says) (b after : Built) (parts : List Component) → IsBuilding scope b → AreShort parts
@@ -676,7 +710,7 @@ start_building table m none =
             declared = λ id s e. some_numbered table (known_nets m) (some_declared m (said_some m.declared id s e));
           };
       gates_within = All-from_recursion (GateWithin (length names)) [] tt;
-      flops_within = All-from_recursion (FlopWithin (length names)) [] tt;
+      flops_within = All-from_recursion (IsFlopPlaced (length names)) [] tt;
     }
 
 module_within : (table : List (List ℕ)) (m : Module) (after : Built) → first_over table 0 (known_nets m) ≡ None → AreShort m.parts

@@ -5,11 +5,12 @@ use Rattle.bs_net.specs.declared.limits.TheConstants.{MAX_NETS}
 use Rattle.bs_net.specs.declared.net.NetId.{NetId}
 use Rattle.bs_net.specs.declared.net.Gate.{Gate}
 use Rattle.bs_net.specs.declared.net.Flop.{Flop}
+use Rattle.bs_net.specs.declared.net.Mode.{Mode}
+use Rattle.bs_net.specs.declared.net.Mode.TheVariants as modes
 use Rattle.bs_net.specs.declared.net.Kind.{Kind}
 use Rattle.bs_net.specs.declared.net.Kind.TheVariants.{Buf}
 use Rattle.bs_net.specs.Names.{with_key, number_of}
 use Rattle.bs_lexeme.specs.declared.lexeme.Cell.{Cell}
-use Rattle.bs_lexeme.specs.declared.lexeme.Cell.TheVariants.{Dffs}
 use Rattle.bs_lexeme.specs.declared.lexeme.Name.{Name}
 use Rattle.bs_syntax.specs.declared.tree.Range.{Range}
 use Rattle.bs_syntax.specs.declared.tree.Says.{Says}
@@ -18,6 +19,8 @@ use Rattle.bs_syntax.specs.declared.tree.Term.TheVariants.{Constant, Named}
 use Rattle.bs_syntax.specs.declared.tree.Connection.{Connection}
 use Rattle.bs_syntax.specs.declared.tree.Component.{Component}
 use Rattle.bs_syntax.specs.declared.tree.Shape.TheVariants as shapes
+use Rattle.bs_verilog.specs.declared.terminals.Control.{Control}
+use Rattle.bs_verilog.specs.declared.terminals.Control.TheVariants as controls
 use Rattle.bs_verilog.specs.declared.terminals.Pins.{Pins}
 use Rattle.bs_verilog.specs.declared.placing.Made.{Made}
 use Rattle.bs_verilog.specs.declared.building.Built.{Built}
@@ -27,6 +30,7 @@ use Rattle.bs_syntax.specs.declared.fault.VerilogFault.TheVariants.{TooManyNets,
 use Rattle.bs_bits.specs.Reading.{◌>>=◌}
 use Rattle.bs_scope.specs.Keys.{text, scalar_key, bit_key, constant_key, has_index}
 use Rattle.bs_scope.specs.Nets.{net_of}
+use Rattle.bs_verilog.specs.Cells.{starts_as_one}
 use Rattle.bs_verilog.specs.Terminals.{term_of, is_single, is_gate, is_assignment, cell_pins}
 
 -- one after another, up to the first fault
@@ -108,13 +112,21 @@ gates_of kind nets =
     then map (λ out. record { kind = kind; out = out; ins = net_at nets (length nets - 1) ∷ [] }) (take (length nets - 1) nets)
     else record { kind = kind; out = net_at nets 0; ins = drop 1 nets } ∷ []
 
-abbrev pub starts_as_one : Cell → Bool
-starts_as_one Dffs = true
-starts_as_one _ = false
+-- what the flip-flop of a cell with these nets loads
+abbrev pub mode_of : Control → List NetId → Mode
+mode_of controls.Plain nets = modes.Plain
+mode_of (controls.Enable place) nets = modes.Enable (net_at nets place)
+mode_of (controls.Clear place) nets = modes.Clear (net_at nets place)
 
 abbrev pub flop_of : Cell → Pins → List NetId → Flop
 flop_of cell pins nets =
-    record { q = net_at nets pins.output; d = net_at nets pins.input; ck = net_at nets pins.clock; reset = starts_as_one cell }
+    record {
+      q = net_at nets pins.output;
+      d = net_at nets pins.input;
+      ck = net_at nets pins.clock;
+      reset = starts_as_one cell;
+      mode = mode_of pins.control nets;
+    }
 
 abbrev pub with_gates : List (List ℕ) → (ℕ → Option Says) → Kind → Built → List Connection → Result Built VerilogFault
 with_gates table scope kind b cs =
@@ -132,7 +144,7 @@ with_part table scope b p =
     elim p.shape [
       | shapes.Gate kind ↦ if is_gate kind p.connections then with_gates table scope kind b p.connections else Err (Terminals p.at)
       | shapes.Cell cell ↦
-          elim (cell_pins table p.connections) [
+          elim (cell_pins table cell p.connections) [
             | Some pins ↦ with_flop table scope cell pins b p.connections
             | None ↦ Err (Terminals p.at)
           ]

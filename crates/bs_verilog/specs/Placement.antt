@@ -3,9 +3,8 @@ use Rattle.std.specs.Prelude.{ℕ, ◌<◌, ◌≤◌, ◌^◌, ◌≡◌, List,
 use Rattle.bs_net.specs.declared.limits.TheConstants.{MAX_NETS}
 use Rattle.bs_net.specs.declared.net.NetId.{NetId}
 use Rattle.bs_net.specs.declared.net.Gate.{Gate}
-use Rattle.bs_net.specs.declared.net.Flop.{Flop}
 use Rattle.bs_net.specs.declared.net.Const.{Const}
-use Rattle.bs_net.specs.Parts.{ArePlaced, takes}
+use Rattle.bs_net.specs.Parts.{ArePlaced, IsFlopPlaced, takes}
 use Rattle.bs_syntax.specs.declared.tree.Component.{Component}
 use Rattle.bs_verilog.specs.declared.building.Built.{Built}
 use Rattle.bs_lexeme.specs.declared.lexeme.Name.{Name}
@@ -24,15 +23,12 @@ ConstsWithin count consts = All (λ k. k.net.0 < count) consts
 abbrev pub GateWithin : ℕ → Gate → Type 0
 GateWithin count g = (g.out.0 < count) × ArePlaced count g.ins × IsTrue (takes g.kind (length g.ins))
 
-abbrev pub FlopWithin : ℕ → Flop → Type 0
-FlopWithin count f = (f.q.0 < count) × (f.d.0 < count) × (f.ck.0 < count)
-
 abbrev pub IsBuiltWithin : Built → Type 0
 IsBuiltWithin b =
     (length b.made.names ≤ MAX_NETS)
     × ConstsWithin (length b.made.names) b.made.consts
     × All (GateWithin (length b.made.names)) b.gates
-    × All (FlopWithin (length b.made.names)) b.flops
+    × All (IsFlopPlaced (length b.made.names)) b.flops
 
 -- each part has fewer than 2^32 connections
 abbrev pub AreShort : List Component → Type 0

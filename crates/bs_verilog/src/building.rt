@@ -5,11 +5,12 @@ ghost use Rattle.bs_verilog.specs.Building as spec;
 ghost use Rattle.bs_bits.specs.Reading.{Answers};
 ghost use Rattle.bs_syntax.specs.declared.fault.VerilogFault.TheVariants.{NoMemory as want};
 
+use crate::cells::starts_as_one;
 use crate::placing::{Made, connection_nets};
-use crate::terminals::{Pins, cell_pins, is_assignment, is_gate, is_single};
+use crate::terminals::{Control, Pins, cell_pins, is_assignment, is_gate, is_single};
 use bs_bits::List;
 use bs_lexeme::{Cell, Table};
-use bs_net::{Flop, Gate, Kind, NetId, Terms};
+use bs_net::{Flop, Gate, Kind, Mode, NetId, Terms};
 use bs_syntax::{Component, PackedConnection, Says, Shape, VerilogFault};
 use std::alloc::Global;
 
@@ -103,12 +104,14 @@ fn add_gates(
     Ok(())
 }
 
-fn starts_as_one(cell: Cell) -> bool
-    ensures { result ≡ spec.starts_as_one cell }
+/// What the flip-flop of a cell with these nets loads.
+fn mode_of(control: Control, nets: &[NetId]) -> Mode
+    ensures { result ≡ spec.mode_of control nets.now }
 {
-    match cell {
-        Cell::Dff => false,
-        Cell::Dffs => true,
+    match control {
+        Control::Plain => Mode::Plain,
+        Control::Enable(place) => Mode::Enable(net_at(nets, place)),
+        Control::Clear(place) => Mode::Clear(net_at(nets, place)),
     }
 }
 
@@ -120,6 +123,7 @@ fn flop_of(cell: Cell, pins: Pins, nets: &[NetId]) -> Flop
         d: net_at(nets, pins.input),
         ck: net_at(nets, pins.clock),
         reset: starts_as_one(cell),
+        mode: mode_of(pins.control, nets),
     }
 }
 
@@ -174,7 +178,7 @@ fn with_part(
                 Err(VerilogFault::Terminals(part.at))
             }
         }
-        Shape::Cell(cell) => match cell_pins(table, cs) {
+        Shape::Cell(cell) => match cell_pins(table, cell, cs) {
             Some(pins) => with_flop(alloc, built, table, scope, cell, pins, cs),
             None => Err(VerilogFault::Terminals(part.at)),
         },

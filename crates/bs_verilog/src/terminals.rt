@@ -4,16 +4,26 @@ ghost use Rattle.std.specs.List.{list_all, list_any};
 ghost use Rattle.bs_verilog.specs.Terminals as spec;
 ghost use Rattle.bs_syntax.specs.declared.tree.Connection.TheVariants.{Empty};
 
-use bs_lexeme::Table;
+use crate::cells::{Pin, pin_list, pin_name};
+use bs_lexeme::{Cell, Table};
 use bs_net::Kind;
 use bs_syntax::{Connection, PackedConnection, Term};
 
-/// Where a cell's clock, output and input stand among its connections.
+/// Where the pin of a cell stands that decides what its flip-flop loads, if there is one.
+#[derive(Clone, Copy, Debug, PartialEq, Eq)]
+pub enum Control {
+    Plain,
+    Enable(usize),
+    Clear(usize),
+}
+
+/// Where a cell's pins stand among its connections.
 #[derive(Clone, Copy, Debug, PartialEq, Eq)]
 pub struct Pins {
     pub clock: usize,
     pub output: usize,
     pub input: usize,
+    pub control: Control,
 }
 
 /// The term of a connection, where it has one.
@@ -142,56 +152,77 @@ pub fn is_assignment(cs: &[PackedConnection]) -> bool
     !is_constant_at(cs, 0)
 }
 
-fn pin_place(table: &Table, name: &str, cs: &[PackedConnection]) -> Option<usize>
-    ensures { result ≡ position (spec.is_pin table.now name.now) cs.now }
+/// Where a pin stands in the order of a cell's pins.
+fn ordered_place(cell: Cell, pin: Pin) -> Option<usize>
+    ensures { result ≡ spec.ordered_place cell pin }
 {
+    pin_list(cell)
+        .iter()
+        .position(|p| pin_name(*p) == pin_name(pin))
+}
+
+/// Where a pin stands by its name.
+fn named_place(table: &Table, cs: &[PackedConnection], pin: Pin) -> Option<usize>
+    ensures { result ≡ spec.named_place table.now cs.now pin }
+{
+    let name = pin_name(pin);
     cs.iter().position(|c| is_pin(table, name, c.get()))
 }
 
-#[tactic(auto, unfolding(crate::specs::Terminals::named_pins))]
-fn named_pins(table: &Table, cs: &[PackedConnection]) -> Option<Pins>
-    ensures { result ≡ spec.named_pins table.now cs.now }
+/// Where a pin of a cell stands among the connections.
+fn pin_place(table: &Table, cell: Cell, cs: &[PackedConnection], pin: Pin) -> Option<usize>
+    ensures { result ≡ spec.pin_place table.now cell cs.now pin }
 {
-    let clock = pin_place(table, "CK", cs);
-    let output = pin_place(table, "Q", cs);
-    let input = pin_place(table, "D", cs);
-    pins_at(clock, output, input)
+    if are_places(cs) {
+        ordered_place(cell, pin)
+    } else {
+        named_place(table, cs, pin)
+    }
 }
 
-fn pins_at(clock: Option<usize>, output: Option<usize>, input: Option<usize>) -> Option<Pins>
-    ensures { result ≡ spec.pins_at clock output input }
+/// Where the pin of a cell stands that decides what its flip-flop loads.
+fn control_place(table: &Table, cell: Cell, cs: &[PackedConnection]) -> Option<Control>
+    ensures { result ≡ spec.control_place table.now cell cs.now }
 {
-    let clock = clock?;
-    let output = output?;
-    let input = input?;
+    match cell {
+        Cell::Dff | Cell::Dffs => Some(Control::Plain),
+        Cell::Dffe => {
+            let place = pin_place(table, cell, cs, Pin::Enable)?;
+            Some(Control::Enable(place))
+        }
+        Cell::Dffr => {
+            let place = pin_place(table, cell, cs, Pin::Clear)?;
+            Some(Control::Clear(place))
+        }
+    }
+}
+
+#[tactic(auto, unfolding(crate::specs::Terminals::pins_of))]
+fn pins_of(table: &Table, cell: Cell, cs: &[PackedConnection]) -> Option<Pins>
+    ensures { result ≡ spec.pins_of table.now cell cs.now }
+{
+    let clock = pin_place(table, cell, cs, Pin::Clock)?;
+    let output = pin_place(table, cell, cs, Pin::Output)?;
+    let input = pin_place(table, cell, cs, Pin::Input)?;
+    let control = control_place(table, cell, cs)?;
     Some(Pins {
         clock,
         output,
         input,
+        control,
     })
-}
-
-#[tactic(auto, unfolding(crate::specs::Terminals::pins_of))]
-fn pins_of(table: &Table, cs: &[PackedConnection]) -> Option<Pins>
-    ensures { result ≡ spec.pins_of table.now cs.now }
-{
-    if are_places(cs) {
-        pins_at(Some(0), Some(1), Some(2))
-    } else {
-        named_pins(table, cs)
-    }
 }
 
 /// The pins of a cell, where it may have these connections.
 #[tactic(auto, unfolding(crate::specs::Terminals::cell_pins))]
-pub fn cell_pins(table: &Table, cs: &[PackedConnection]) -> Option<Pins>
-    ensures { result ≡ spec.cell_pins table.now cs.now }
+pub fn cell_pins(table: &Table, cell: Cell, cs: &[PackedConnection]) -> Option<Pins>
+    ensures { result ≡ spec.cell_pins table.now cell cs.now }
 {
     let full = are_full(cs);
-    if !(cs.len() == 3 && full) {
+    if !(cs.len() == pin_list(cell).len() && full) {
         return None;
     }
-    match pins_of(table, cs) {
+    match pins_of(table, cell, cs) {
         Some(pins) => {
             if is_constant_at(cs, pins.output) {
                 None

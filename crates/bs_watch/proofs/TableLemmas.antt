@@ -12,12 +12,12 @@ use Rattle.std.proofs.lemmas.Map.Steps.{length-le_from_distinct_below}
 use Rattle.bs_clause.specs.Literal.{Literal, negation, code_of}
 use Rattle.bs_clause.specs.Range.{HasVariables, IsWithin}
 use Rattle.bs_watch.specs.declared.cause.Cause.{Cause}
-use Rattle.bs_watch.specs.Trail.{IsOpenOn, IsAssignedOn, IsValueOn, AreAssignedBelow}
+use Rattle.bs_watch.specs.Trail.{IsOpenOn, IsAssignedOn, IsValueOn}
 use Rattle.bs_watch.specs.Places.{Place, AreApart, IsPlaceOf, IsOnLevel, IsForcedBy, HasNoReason, literals_of, variable_of, renamed_place}
-use Rattle.bs_watch.specs.Tables.{IsTrail, HasValues, AreDistinct, IsNextOpen, no_cause, cause_of, place_with, places_in, value_of, renamed_cause}
+use Rattle.bs_watch.specs.Tables.{IsTrail, AreDistinct, IsNextOpen, no_cause, cause_of, place_with, places_in, value_of, renamed_cause}
 use Rattle.bs_watch.proofs.Gets.{none_is_not_some, same_some, get_left, get_last, get_push_cases, get_from_Contains, Contains_from_get, get_map_cases}
 use Rattle.bs_watch.proofs.Gets.{get_within, get_map}
-use Rattle.bs_watch.proofs.Literals.{cases_literal, same_variable, negation-negation, code_of-injective}
+use Rattle.bs_watch.proofs.Literals.{cases_literal, same_variable, code_of-injective}
 use Rattle.bs_watch.proofs.Codes.{range_at, code_within}
 use Rattle.bs_watch.proofs.Looks.{all_from_gets}
 

@@ -1,5 +1,5 @@
 -- The trail with its reasons: the literals that are true, the oldest first.
-use Rattle.std.specs.Prelude.{◌≡◌, ◌⊎◌, ℕ, ◌<◌, ◌≤◌, List, [], ◌∷◌, ◌++◌, map, take, length, Option, option_map, unwrap_or, Some, None, slice_get}
+use Rattle.std.specs.Prelude.{◌≡◌, ℕ, ◌≤◌, List, [], ◌∷◌, ◌++◌, map, Option, option_map, unwrap_or, Some, None, slice_get}
 use Rattle.bs_clause.specs.Literal.{Literal}
 use Rattle.bs_arena.specs.Renaming.{new_name}
 use Rattle.bs_watch.specs.Trail.{IsOpenOn}

@@ -1,5 +1,5 @@
 -- What visits do to the trail, the watch lists and the clauses.
-use Rattle.std.specs.Prelude.{◌≡◌, ◌⊎◌, ◌↔◌, ℕ, ◌+◌, ◌*◌, ◌<◌, ◌≤◌, true, List, map, take, length, Option, Some, None, is_some, Contains}
+use Rattle.std.specs.Prelude.{◌≡◌, ◌⊎◌, ◌↔◌, ℕ, ◌+◌, ◌*◌, ◌<◌, ◌≤◌, true, List, map, take, length, Some, is_some, Contains}
 use Rattle.std.specs.Prelude.{IsPermutation, slice_get}
 use Rattle.bs_clause.specs.Literal.{Literal, Clause}
 use Rattle.bs_clause.specs.Range.{HasVariables}

@@ -1,6 +1,6 @@
 -- How a trail is kept: its literals, a table of values by literal code, and one of causes by
 -- variable.
-use Rattle.std.specs.Prelude.{◌≡◌, ◌⊎◌, ◌↔◌, ℕ, ◌+◌, ◌*◌, ◌^◌, ◌<◌, ◌≤◌, Bool, true, false, ◌||◌, List, map, length, Some, None, option_map}
+use Rattle.std.specs.Prelude.{◌≡◌, ◌⊎◌, ℕ, ◌+◌, ◌*◌, ◌^◌, ◌<◌, ◌≤◌, Bool, true, false, ◌||◌, List, map, length, Some, None, option_map}
 use Rattle.std.specs.Prelude.{unwrap_or, slice_get, slice_index_or, Contains}
 use Rattle.bs_clause.specs.Literal.{Literal, code_of, negation}
 use Rattle.bs_clause.specs.Range.{HasVariables}

@@ -1,7 +1,7 @@
 -- What a watch holds, and when it serves an arena.
-use Rattle.std.specs.Prelude.{◌≡◌, ◌⊎◌, ◌↔◌, ℕ, ◌+◌, ◌*◌, ◌<◌, ◌≤◌, ◌^◌, List, [], ◌∷◌, ◌++◌, Option, map, take, length, Some, slice_get}
+use Rattle.std.specs.Prelude.{◌≡◌, ◌⊎◌, ◌↔◌, ℕ, ◌+◌, ◌<◌, ◌≤◌, ◌^◌, List, [], ◌∷◌, ◌++◌, Option, map, take, length, Some, slice_get}
 use Rattle.bs_clause.specs.Literal.{Literal, Clause}
-use Rattle.bs_arena.specs.Arena.{Held, literals_at}
+use Rattle.bs_arena.specs.Arena.{Held}
 use Rattle.bs_arena.specs.Renaming.{new_name, IsRenaming}
 use Rattle.bs_watch.specs.declared.lists.Watcher.{Watcher}
 use Rattle.bs_watch.specs.declared.watch.Level.{Level}
@@ -79,6 +79,10 @@ decided w = record w {
 -- with one more literal on the last level
 abbrev pub assigned : WatchState → Literal → Option ℕ → WatchState
 assigned w l reason = record w { trail = with_place w.trail l reason (length w.levels) }
+
+-- with so many places looked at
+abbrev pub with_head : WatchState → ℕ → WatchState
+with_head w head = record w { head = head }
 
 -- with the new reference of each clause
 abbrev pub renamed_watch : List (ℕ × ℕ) → WatchState → WatchState

@@ -1,5 +1,5 @@
 //! The watch lists: for each literal the clauses that watch it.
-ghost use Rattle.std.specs.Prelude.{◌≡◌, ◌<◌, [], ◌∷◌, ◌++◌, length, take, replicate, slice_get, slice_set, Some, IfOk, OnOk, OnErr, map, swap_remove};
+ghost use Rattle.std.specs.Prelude.{◌≡◌, ◌<◌, ◌==◌, [], ◌∷◌, ◌++◌, length, take, replicate, slice_get, slice_set, Some, IfOk, OnOk, OnErr, map, swap_remove};
 ghost use Rattle.bs_clause.specs.Literal.{code_of};
 ghost use Rattle.bs_watch.specs.Lists.{row, with_row, with_watcher, renamed_lists};
 
@@ -75,6 +75,16 @@ impl Lists {
         ensures { result ≡ length (row self.now l) }
     {
         self.rows[l.code() as usize].len()
+    }
+
+    /// Whether a literal has no watcher.
+    pub fn is_empty(&self, l: Lit) -> bool
+        ensures { result ≡ (length (row self.now l) == 0) }
+    {
+        match self.rows.get(l.code() as usize) {
+            Some(watchers) => watchers.is_empty(),
+            None => true,
+        }
     }
 
     /// A watcher of a literal.

@@ -1,5 +1,6 @@
 //! Propagation: the literals of the trail are looked at, one after another.
 ghost use Rattle.std.specs.Prelude.{◌≡◌, ◌<◌, ◌≤◌, length, IfOk};
+ghost use Rattle.bs_watch.specs.Passing.{ArePassed};
 ghost use Rattle.bs_watch.specs.Scene.{AreListed, AreGuarded, Advances, Propagated, KeepsRoom, scene_in};
 
 use crate::lists::Lists;
@@ -7,6 +8,18 @@ use crate::trail::Trail;
 use crate::visit::{Outcome, visit_all};
 use bs_arena::Arena;
 use bs_clause::NoMemory;
+
+/// The first place of the trail, from one on, whose negated literal is watched, or the end of the trail.
+pub fn first_watched(trail: &Trail, lists: &Lists, start: usize) -> usize
+    requires { start ≤ length trail.now.places }
+    ensures { ArePassed lists.now trail.now.places start result }
+{
+    let mut at = start;
+    'places: while at < trail.len() && lists.is_empty(trail.literal(at).negate()) {
+        at += 1;
+    }
+    at
+}
 
 /// Looks at the literals of the trail from a place on, until all have been looked at or a clause
 /// is false.

@@ -5,7 +5,7 @@ ghost use Rattle.bs_clause.specs.Literal.{code_of};
 ghost use Rattle.bs_clause.specs.Range.{HasVariables};
 ghost use Rattle.bs_watch.specs.Trail.{IsTrueOn, IsFalseOn, IsOpenOn, IsAssignedOn, IsValueOn, IsFirstOpen, AreAssignedBelow};
 ghost use Rattle.bs_watch.specs.Places.{IsUnassigned, IsLevelOf, IsForcedBy, HasNoReason, IsLiteralAt, AreApart, literals_of, renamed_place, with_place};
-ghost use Rattle.bs_watch.specs.Tables.{no_cause};
+ghost use Rattle.bs_watch.specs.Tables.{no_cause, HasValues};
 
 use crate::cause::Cause;
 use crate::renaming::rename_causes;
@@ -114,6 +114,14 @@ impl Trail {
         ensures { IsTrue result ↔ IsTrueOn (literals_of self.now.places) l }
     {
         self.values[l.code() as usize]
+    }
+
+    /// Whether each literal is true, by its code.
+    pub fn values(&self) -> &[bool]
+        ensures long { length result.now ≡ 2 * self.now.vars + 2 }
+        ensures values { HasValues result.now (literals_of self.now.places) }
+    {
+        self.values.as_slice()
     }
 
     /// Whether the literal is true or false, if its variable has a value.

@@ -1,20 +1,22 @@
 //! A trail with levels and reasons, and the watched literals of clauses.
-ghost use Rattle.std.specs.Prelude.{◌≡◌, ◌+◌, ◌^◌, ◌<◌, ◌≤◌, [], length, take, slice_get, option_map, IfOk, IfSome, IfNone, IsSome, IsPermutation, OnOk, OnErr};
+ghost use Rattle.std.specs.Prelude.{◌≡◌, ◌+◌, ◌*◌, ◌^◌, ◌<◌, ◌≤◌, [], length, take, slice_get, option_map, IfOk, IfSome, IfNone, IsSome, IsPermutation, OnOk, OnErr};
 ghost use Rattle.bs_watch.specs.Trail.{IsAssignedOn, IsValueOn, IsFirstOpen, AreAssignedBelow};
 ghost use Rattle.bs_watch.specs.Places.{IsUnassigned, IsLevelOf, IsForcedBy, HasNoReason, AreApart, literals_of};
 ghost use Rattle.bs_watch.specs.Scene.{IsWatchable, Advances, Propagated, KeepsRoom};
 ghost use Rattle.bs_clause.specs.Range.{HasVariables};
 ghost use Rattle.bs_watch.specs.Choice.{AreHighest};
+ghost use Rattle.bs_watch.specs.Passing.{ArePassed};
+ghost use Rattle.bs_watch.specs.Tables.{HasValues};
 ghost use Rattle.bs_watch.specs.Sweep.{HasServed, HasSwept};
 ghost use Rattle.bs_watch.specs.Lists.{IsAttached};
 ghost use Rattle.bs_arena.specs.Arena.{KeepsOthers, held_at, literals_at};
 ghost use Rattle.bs_watch.specs.Watch.{Serves, ServesAll, HasNone, KeepsService, MayAttach, HasAttached, HasGoneBack, ServesRenamed, AreLevelled};
-ghost use Rattle.bs_watch.specs.Watch.{scene, grown, decided, assigned, renamed_watch};
+ghost use Rattle.bs_watch.specs.Watch.{scene, grown, decided, assigned, with_head, renamed_watch};
 
 use crate::attachment::join_two;
 use crate::choice::lift;
 use crate::lists::Lists;
-use crate::propagation::look_on;
+use crate::propagation::{first_watched, look_on};
 use crate::sweep::sweep_lists;
 use crate::trail::Trail;
 use crate::visit::Outcome;
@@ -160,6 +162,14 @@ impl Watch {
         self.trail.literals()
     }
 
+    /// Whether each literal is true, by its code.
+    pub fn values(&self) -> &[bool]
+        ensures long { length result.now ≡ 2 * self.now.trail.vars + 2 }
+        ensures values { HasValues result.now (literals_of self.now.trail.places) }
+    {
+        self.trail.values()
+    }
+
     /// Whether the literal is true or false, if its variable has a value.
     pub fn value(&self, lit: Lit) -> Option<bool>
         requires { lit.variable ≤ self.now.trail.vars }
@@ -256,6 +266,16 @@ impl Watch {
             level,
             &mut self.head,
         )
+    }
+
+    /// Counts the next places of the trail as looked at, up to the first whose negated literal is watched. What nobody will
+    /// watch is so passed once, and not again by each propagation after a return. It takes no memory.
+    pub fn pass(&mut self)
+        ensures new { self.new ≡ with_head self.old self.new.head }
+        ensures passed { ArePassed self.old.lists self.old.trail.places self.old.head self.new.head }
+        ensures serves { KeepsService self.old self.new }
+    {
+        self.head = first_watched(&self.trail, &self.lists, self.head);
     }
 
     /// Goes back to the end of a level.

@@ -1,0 +1,49 @@
+//! The cells: which pins each has, and with which bit its flip-flop begins.
+ghost use Rattle.std.specs.Prelude.{◌≡◌};
+ghost use Rattle.bs_verilog.specs.Cells as spec;
+
+use bs_lexeme::Cell;
+
+/// A pin of a cell.
+#[derive(Clone, Copy, Debug, PartialEq, Eq)]
+pub enum Pin {
+    Clock,
+    Output,
+    Input,
+    Enable,
+    Clear,
+}
+
+/// The name of a pin.
+pub fn pin_name(pin: Pin) -> &'static str
+    ensures { result.now ≡ spec.pin_name pin }
+{
+    match pin {
+        Pin::Clock => "CK",
+        Pin::Output => "Q",
+        Pin::Input => "D",
+        Pin::Enable => "E",
+        Pin::Clear => "R",
+    }
+}
+
+/// The pins of a cell in the order of their places.
+pub fn pin_list(cell: Cell) -> &'static [Pin]
+    ensures { result.now ≡ spec.pin_list cell }
+{
+    match cell {
+        Cell::Dff | Cell::Dffs => &[Pin::Clock, Pin::Output, Pin::Input],
+        Cell::Dffe => &[Pin::Clock, Pin::Output, Pin::Input, Pin::Enable],
+        Cell::Dffr => &[Pin::Clock, Pin::Output, Pin::Input, Pin::Clear],
+    }
+}
+
+/// Whether a cell's flip-flop is 1 at reset.
+pub fn starts_as_one(cell: Cell) -> bool
+    ensures { result ≡ spec.starts_as_one cell }
+{
+    match cell {
+        Cell::Dffs => true,
+        Cell::Dff | Cell::Dffe | Cell::Dffr => false,
+    }
+}
