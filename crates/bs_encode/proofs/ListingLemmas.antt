@@ -1,9 +1,9 @@
 -- What the lists of candidates need of the encoding of a checked netlist, of one copy or two.
-use Rattle.std.proofs.Common.{◌≡◌, ◌⊎◌, ℕ, ◌+◌, ◌-◌, ◌*◌, ◌<◌, ◌≤◌, ◌^◌, ◌==◌, Bool, true, false, not, ◌&&◌, cond, List, [], ◌∷◌, ◌++◌, map, length}
-use Rattle.std.proofs.Common.{eqb, leb, refl, sym, ap, ◌∙◌, inl, inr, arith, subst, get_or, Option, None, Some}
+use Rattle.std.proofs.Common.{◌≡◌, ℕ, ◌+◌, ◌-◌, ◌*◌, ◌<◌, ◌≤◌, ◌^◌, ◌==◌, Bool, true, false, not, ◌&&◌, cond, List, [], ◌∷◌, ◌++◌, map, length}
+use Rattle.std.proofs.Common.{eqb, leb, refl, sym, ap, ◌∙◌, inl, inr, arith, subst, Option, None, Some}
 use Rattle.std.specs.Prelude.{slice_get, slice_index_or, unwrap_or, IsTrue}
 use Rattle.std.specs.Bool.{beq}
-use Rattle.std.specs.List.{AllByRecursion, All, list_any, range_with_len}
+use Rattle.std.specs.List.{AllByRecursion, All, list_any}
 use Rattle.std.proofs.lemmas.Bool.{false_from_ne_true, false≢true, le-leb, leb-true, eq-eqb, ne_eqb, eqb-true, or_right, or_cases, and_parts, and_from}
 use Rattle.std.proofs.lemmas.List.{length-map}
 use Rattle.std.proofs.lemmas.List.Elements.{All-from_recursion, recursion_from_All}
@@ -24,7 +24,6 @@ use Rattle.bs_scan.specs.Choice.{Chosen, depth_of, IsDepth}
 use Rattle.bs_scan.specs.Present.{Present}
 use Rattle.bs_scan.specs.Signature.{signature, may_hold, agrees, some_input_leads}
 use Rattle.bs_scan.proofs.SignatureLemmas.{any_member, some_input}
-use Rattle.bs_encode.specs.Tables.{lit}
 use Rattle.bs_encode.specs.Transition.{first_next, first_item, variables}
 use Rattle.bs_encode.specs.Encoded.{Encoded, encoding_of}
 use Rattle.bs_encode.specs.Copy.{raised_all, lowered}

@@ -1,18 +1,18 @@
 -- Two copies and their link: what an assignment that meets their clauses shows, and the assignments that do.
-use Rattle.std.proofs.Common.{◌≡◌, ℕ, suc, ◌+◌, ◌-◌, ◌*◌, ◌<◌, ◌≤◌, ◌^◌, Bool, true, false, not, ◌||◌, cond, leb, List, [], ◌∷◌, ◌++◌, map, length, take, get_or}
-use Rattle.std.proofs.Common.{refl, sym, ap, ◌∙◌, arith, subst, add-one}
+use Rattle.std.proofs.Common.{◌≡◌, ℕ, ◌+◌, ◌-◌, ◌*◌, ◌<◌, ◌≤◌, Bool, true, false, not, ◌||◌, cond, leb, List, [], ◌∷◌, ◌++◌, map, length, take, get_or}
+use Rattle.std.proofs.Common.{refl, sym, ap, ◌∙◌, arith}
 use Rattle.std.specs.Bool.{beq}
-use Rattle.std.specs.List.{AllByRecursion, All, list_any, range_with_len}
-use Rattle.std.proofs.lemmas.Bool.{false≢true, false_from_ne_true, le-leb, leb-true, or_right, or_from}
+use Rattle.std.specs.List.{AllByRecursion, list_any}
+use Rattle.std.proofs.lemmas.Bool.{false_from_ne_true, le-leb, leb-true, or_right}
 use Rattle.std.proofs.lemmas.List.{append_assoc, map-append}
-use Rattle.std.proofs.lemmas.List.Elements.{recursion_from_All, All-from_recursion}
+use Rattle.std.proofs.lemmas.List.Elements.{recursion_from_All, All-from_recursion, All-weaker}
+use Rattle.bs_clause.specs.declared.literal.TheConstants.{VARIABLE_LIMIT}
 use Rattle.bs_clause.specs.Literal.{Literal, Clause, negation, literal_value, Satisfies}
 use Rattle.bs_clause.specs.Range.{IsWithin, HasVariables}
 use Rattle.bs_clause.proofs.Literals.{literal_value-negation}
 use Rattle.bs_log.specs.Refusal.{has_distinct_variables}
-use Rattle.bs_encode.specs.Tables.{lit}
 use Rattle.bs_encode.specs.Encoded.{Encoded}
-use Rattle.bs_encode.specs.Copy.{raised_all, link, links, under, lowered}
+use Rattle.bs_encode.specs.Copy.{raised_all, HasRoom, HasRooms, link, links, under, lowered}
 use Rattle.bs_encode.specs.Depth.{link_of, linked_clauses, IsLinkable}
 use Rattle.bs_encode.specs.Cycle.{bits_on}
 use Rattle.bs_encode.proofs.RangeLemmas.{join}
@@ -71,6 +71,15 @@ under_distinct n l (c ∷ cs) above r h = (
       (recursion_from_All (IsWithin n) c r.0))) h.0,
   under_distinct n l cs above r.1 h.1,
 )
+
+-- ---- room for a second copy
+
+pub copy_room : (e : Encoded) (n : ℕ) (ls : List Literal) → IsLinkable e → n ≡ e.variables → HasVariables e.variables ls → HasRoom n ls
+copy_room e n ls k is h =
+    All-weaker (IsWithin e.variables) (λ (l : Literal). n + l.variable < VARIABLE_LIMIT) (λ l w. omega (arith, w.1, k.room, is)) ls h
+
+pub copies_room : (e : Encoded) (n : ℕ) → IsLinkable e → n ≡ e.variables → HasRooms n e.clauses
+copies_room e n k is = All-weaker (HasVariables e.variables) (HasRoom n) (λ c h. copy_room e n c k is h) e.clauses k.clauses
 
 -- ---- a second copy
 

@@ -1,6 +1,6 @@
 -- The encoding by a choice: a copy of the transition for each signature that the register keeps, and the link between them
 -- (docs/FORMATS.md, "Clauses of the transition relation").
-use Rattle.std.specs.Prelude.{◌≡◌, ℕ, ◌+◌, ◌*◌, ◌<◌, ◌==◌, Bool, true, List, ◌++◌, map, length, All, Some, if◌then◌else◌}
+use Rattle.std.specs.Prelude.{◌≡◌, ◌+◌, ◌*◌, ◌<◌, ◌==◌, Bool, true, List, ◌++◌, map, length, All, Some, if◌then◌else◌}
 use Rattle.bs_clause.specs.declared.literal.TheConstants.{VARIABLE_LIMIT}
 use Rattle.bs_clause.specs.Literal.{Literal, Clause}
 use Rattle.bs_clause.specs.Range.{HasVariables}
@@ -17,12 +17,13 @@ use Rattle.bs_encode.specs.Assuming.{signed, block_for, problem_of}
 abbrev pub link_of : Encoded → Literal
 link_of e = lit (2 * e.variables + 1) true
 
--- the clauses of both copies, and that under the link the next state of the second is the state of the first
+-- the clauses of the second copy, and that under the link its next state is the state of the first
+abbrev pub older_clauses : Encoded → List Clause
+older_clauses e = map (raised_all e.variables) e.clauses ++ under (link_of e) (links (raised_all e.variables e.next) e.states)
+
+-- the clauses of both copies
 abbrev pub linked_clauses : Encoded → List Clause
-linked_clauses e =
-    e.clauses
-    ++ (map (raised_all e.variables) e.clauses
-    ++ under (link_of e) (links (raised_all e.variables e.next) e.states))
+linked_clauses e = e.clauses ++ older_clauses e
 
 -- with a second copy, for the cycle before, over the variables above; this is the state at reset
 abbrev pub linked : List Bool → Encoded → Encoded

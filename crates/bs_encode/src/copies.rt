@@ -1,18 +1,9 @@
 //! Copies of clauses over higher variables.
-ghost use Rattle.std.specs.Prelude.{◌≡◌, ◌+◌, ◌<◌, ◌++◌, map, IfOk, OnOk};
-ghost use Rattle.bs_clause.specs.declared.literal.TheConstants.{VARIABLE_LIMIT};
-ghost use Rattle.bs_encode.specs.Copy.{raised, raised_all, HasRoom, HasRooms};
+ghost use Rattle.std.specs.Prelude.{◌≡◌, ◌++◌, map, IfOk, OnOk};
+ghost use Rattle.bs_encode.specs.Copy.{raised_all, HasRoom, HasRooms};
 
 use bs_clause::{Clauses, Lit, Lits, NoMemory, Var};
 use std::alloc::Global;
-
-/// The literal of the variable that is so much higher.
-fn raise(l: Lit, by: u32) -> Lit
-    requires { by + l.variable < VARIABLE_LIMIT }
-    ensures { result ≡ raised by l }
-{
-    Lit::new(Var(by + l.var().0), l.positive())
-}
 
 /// The literals of the variables that are so much higher.
 pub fn raise_all(alloc: Global, literals: &[Lit], by: u32) -> Result<Lits, NoMemory>
@@ -21,7 +12,7 @@ pub fn raise_all(alloc: Global, literals: &[Lit], by: u32) -> Result<Lits, NoMem
 {
     let mut all = Lits::new(alloc);
     'literals: for l in literals {
-        all.push(raise(*l, by))?;
+        all.push(Lit::new(Var(by + l.var().0), l.positive()))?;
     }
     Ok(all)
 }

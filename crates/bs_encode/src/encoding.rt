@@ -11,9 +11,8 @@ ghost use Rattle.bs_encode.specs.Encoded.{literals, joined, encoding_of};
 ghost use Rattle.bs_encode.specs.Assuming.{asking, AreWide, before_assumed, assumptions_for, block_for};
 ghost use Rattle.bs_encode.specs.Depth.{IsLinkable, linked, encoding_by};
 
-use crate::copies::raise_all;
 use crate::law::encodings_are_linkable;
-use crate::older::{append, older_clauses};
+use crate::older::{Older, append, no_older, older_clauses, older_literals};
 use crate::parts::{add_gates, add_items, add_next, variable};
 use crate::signs::{push_all, push_denied, push_signed};
 use crate::tidy::tidy;
@@ -145,11 +144,7 @@ pub struct Encoding {
     next: Lits,
     signatures: Lits,
     inputs: Lits,
-    link: Option<Lit>,
-    older_states: Lits,
-    older_inputs: Lits,
-    older_signatures: Lits,
-    at_reset: Lits,
+    older: Older,
 }
 
 impl Model for Encoding {
@@ -157,7 +152,7 @@ impl Model for Encoding {
 
     ghost Value = { Encoded };
 
-    ghost view = { λ e. record { clauses = e.clauses; variables = e.variables; states = e.states; next = e.next; signatures = e.signatures; inputs = e.inputs; link = e.link; older_states = e.older_states; older_inputs = e.older_inputs; older_signatures = e.older_signatures; at_reset = e.at_reset } };
+    ghost view = { λ e. record { clauses = e.clauses; variables = e.variables; states = e.states; next = e.next; signatures = e.signatures; inputs = e.inputs; link = e.older.link; older_states = e.older.states; older_inputs = e.older.inputs; older_signatures = e.older.signatures; at_reset = e.older.at_reset } };
 }
 
 /// The encoding of these clauses and signatures over the literals of a netlist.
@@ -187,11 +182,7 @@ fn join(
         next,
         signatures,
         inputs,
-        link: None,
-        older_states: Lits::new(alloc),
-        older_inputs: Lits::new(alloc),
-        older_signatures: Lits::new(alloc),
-        at_reset: Lits::new(alloc),
+        older: no_older(alloc),
     })
 }
 
@@ -209,35 +200,19 @@ fn one_copy(alloc: Global, net: &Netlist, choice: &Choice) -> Result<Encoding, N
     Ok(encoding)
 }
 
-/// The encoding with a second copy, for the cycle before.
-fn link_older(alloc: Global, one: Encoding, reset: &Bits) -> Result<Encoding, NoMemory>
-    requires linkable { IsLinkable one }
-    requires width { length one.states ≡ length reset.now }
-    ensures { IfOk result (λ e. e ≡ linked reset.now one) }
+/// Gives an encoding of one copy a second one, for the cycle before.
+fn link_older(alloc: Global, one: &mut Encoding, reset: &Bits) -> Result<(), NoMemory>
+    requires linkable { IsLinkable one.old }
+    requires width { length one.old.states ≡ length reset.now }
+    ensures { OnOk result (one.new ≡ linked reset.now one.old) }
 {
-    let by = one.variables;
-    let link = Lit::new(Var(2 * by + 1), true);
-    let older_states = raise_all(alloc, one.states.slice(), by)?;
-    let older_inputs = raise_all(alloc, one.inputs.slice(), by)?;
-    let older_signatures = raise_all(alloc, one.signatures.slice(), by)?;
-    let mut at_reset = Lits::new(alloc);
-    push_signed(&mut at_reset, one.states.slice(), reset)?;
-    let more = older_clauses(alloc, &one, link)?;
-    let mut clauses = one.clauses;
-    append(&mut clauses, more)?;
-    Ok(Encoding {
-        clauses,
-        variables: 2 * by + 1,
-        states: one.states,
-        next: one.next,
-        signatures: one.signatures,
-        inputs: one.inputs,
-        link: Some(link),
-        older_states,
-        older_inputs,
-        older_signatures,
-        at_reset,
-    })
+    let variables = 2 * one.variables + 1;
+    let older = older_literals(alloc, one, reset)?;
+    let more = older_clauses(alloc, one)?;
+    append(&mut one.clauses, more)?;
+    one.variables = variables;
+    one.older = older;
+    Ok(())
 }
 
 impl Encoding {
@@ -248,13 +223,11 @@ impl Encoding {
         ensures { IfOk result (λ e. e ≡ encoding_by (circuit net.now) choice.now) }
     {
         encodings_are_linkable(net, choice);
-        let one = one_copy(alloc, net, choice)?;
+        let mut encoding = one_copy(alloc, net, choice)?;
         if choice.depth() == 2 {
-            let both = link_older(alloc, one, net.reset())?;
-            Ok(both)
-        } else {
-            Ok(one)
+            link_older(alloc, &mut encoding, net.reset())?;
         }
+        Ok(encoding)
     }
 
     /// The encoding of a netlist without a signature.
@@ -311,6 +284,13 @@ impl Encoding {
         self.inputs.slice()
     }
 
+    /// The literals of the signature, in the order of the items.
+    pub fn signatures(&self) -> &[Lit]
+        ensures { result.now ≡ self.now.signatures }
+    {
+        self.signatures.slice()
+    }
+
     /// The literal of a flip-flop's present bit.
     pub fn state_lit(&self, i: usize) -> Lit
         requires { i < length self.now.states }
@@ -347,7 +327,7 @@ impl Encoding {
     pub fn link(&self) -> Option<Lit>
         ensures { result ≡ self.now.link }
     {
-        self.link
+        self.older.link
     }
 
     /// The link, which is true where the second copy leads to the first.
@@ -355,21 +335,21 @@ impl Encoding {
         requires { self.now.link ≢ None }
         ensures { self.now.link ≡ Some result }
     {
-        self.link.unwrap()
+        self.older.link.unwrap()
     }
 
     /// The literals of the state before, in the order of the flip-flops; none where there is one copy.
     pub fn older_states(&self) -> &[Lit]
         ensures { result.now ≡ self.now.older_states }
     {
-        self.older_states.slice()
+        self.older.states.slice()
     }
 
     /// The literals of the data inputs in the cycle before, in their order; none where there is one copy.
     pub fn older_inputs(&self) -> &[Lit]
         ensures { result.now ≡ self.now.older_inputs }
     {
-        self.older_inputs.slice()
+        self.older.inputs.slice()
     }
 
     /// The literal of a flip-flop's bit before.
@@ -377,7 +357,7 @@ impl Encoding {
         requires { i < length self.now.older_states }
         ensures { slice_get self.now.older_states i ≡ Some result }
     {
-        *self.older_states.get(i)
+        *self.older.states.get(i)
     }
 
     /// The literal of a data input's bit in the cycle before.
@@ -385,7 +365,7 @@ impl Encoding {
         requires { i < length self.now.older_inputs }
         ensures { slice_get self.now.older_inputs i ≡ Some result }
     {
-        *self.older_inputs.get(i)
+        *self.older.inputs.get(i)
     }
 
     /// The literal of an item's bit of the signature before.
@@ -393,22 +373,22 @@ impl Encoding {
         requires { i < length self.now.older_signatures }
         ensures { slice_get self.now.older_signatures i ≡ Some result }
     {
-        *self.older_signatures.get(i)
+        *self.older.signatures.get(i)
     }
 
     /// Puts what an older signature, or none, says of the cycle before at the end.
     fn push_before(&self, into: &mut Lits, l: Lit, older: Option<&Bits>) -> Result<(), NoMemory>
-        requires { AreWide (length self.now.older_signatures) (option_map (λ bits. bits.now) older.entry) }
+        requires { AreWide (length self.now.older_signatures) (option_map (λ bits. bits.now) older) }
         ensures { OnOk result (into.new ≡ into.old ++ before_assumed self.now l (option_map (λ bits. bits.now) older.entry)) }
     {
         match older {
             None => {
                 into.push(l.negate())?;
-                push_all(into, self.at_reset.slice())
+                push_all(into, self.older.at_reset.slice())
             }
             Some(older) => {
                 into.push(l)?;
-                push_signed(into, self.older_signatures.slice(), older)
+                push_signed(into, self.older.signatures.slice(), older)
             }
         }
     }
@@ -426,14 +406,14 @@ impl Encoding {
     ) -> Result<Lits, NoMemory>
         requires state { length present.now ≡ length self.now.next }
         requires signature { length stored.now ≡ length self.now.signatures }
-        requires older { AreWide (length self.now.older_signatures) (option_map (λ bits. bits.now) older.entry) }
+        requires older { AreWide (length self.now.older_signatures) (option_map (λ bits. bits.now) older) }
         ensures { IfOk result (λ l. l ≡ assumptions_for self.now guard (asking present.now stored.now (option_map (λ bits. bits.now) older.entry))) }
     {
         let mut all = Lits::new(alloc);
         all.push(guard)?;
         push_signed(&mut all, self.next.slice(), present)?;
         push_signed(&mut all, self.signatures.slice(), stored)?;
-        if let Some(l) = self.link {
+        if let Some(l) = self.older.link {
             self.push_before(&mut all, l, older)?;
         }
         Ok(all)

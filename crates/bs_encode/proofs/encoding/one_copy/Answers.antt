@@ -1,4 +1,4 @@
-use Rattle.std.proofs.Common.{◌≡◌, ◌<◌, ◌∙◌, arith}
+use Rattle.std.proofs.Common.{arith}
 use Rattle.bs_net.specs.Netlist.{circuit}
 use Rattle.bs_encode.proofs.RoomLemmas.{few_variables, short_items}
 use Rattle.bs_encode.proofs.encoding.one_copy.Goals as goal
