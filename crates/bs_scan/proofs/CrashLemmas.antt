@@ -94,7 +94,7 @@ stored_widths c choice run cycle =
     (before_widths c choice run (depth_of choice) cycle)
 
 -- it holds no more than it keeps
-few_before : (c : Circuit) (choice : Chosen) (run : Run) (count cycle : ℕ) → length (signatures_before c choice run count cycle) ≤ count
+pub few_before : (c : Circuit) (choice : Chosen) (run : Run) (count cycle : ℕ) → length (signatures_before c choice run count cycle) ≤ count
 few_before c choice run zero cycle = omega arith
 few_before c choice run (suc count) zero = omega arith
 few_before c choice run (suc count) (suc cycle) = omega (arith, few_before c choice run count cycle)

@@ -85,8 +85,11 @@ bytes_within (b ∷ bs) = by (b == 10) (lines_of bs) (bytes_within bs)
     by false [] h = omega (arith, sum_by-cons (λ (l : List ℕ). length l) (b ∷ []) [])
     by false (l ∷ ls) h = omega (arith, sum_by-cons (λ (l : List ℕ). length l) (b ∷ l) ls, sum_by-cons (λ (l : List ℕ). length l) l ls)
 
-pub no_numbers : (bs : List ℕ) → numbers_of [] + bytes_in (lines_of bs) ≤ length bs
-no_numbers bs = omega (arith, bytes_within bs)
+-- nor have those behind the first
+pub bytes_behind : (bs line : List ℕ) (more : List (List ℕ)) → lines_of bs ≡ line ∷ more → bytes_in more ≤ length bs
+bytes_behind bs line more e =
+    let cut : bytes_in (lines_of bs) ≡ length line + bytes_in more = ap bytes_in e ∙ sum_by-cons (λ (l : List ℕ). length l) line more in
+    omega (arith, cut, bytes_within bs)
 
 -- an item has no more numbers than its line has bytes
 pub bytes_step : (items : List (List ℕ)) (item : List ℕ) (lines : List (List ℕ)) (line : List ℕ) (more : List (List ℕ)) (n : ℕ) →

@@ -4,6 +4,7 @@ use Rattle.std.specs.Prelude.{codes}
 use Rattle.bs_bits.specs.Lines.{lines_of}
 use Rattle.bs_net.specs.declared.net.NetId.{NetId}
 use Rattle.bs_net.specs.declared.net.Flop.{Flop}
+use Rattle.bs_net.specs.declared.net.Mode.TheVariants.{Plain}
 use Rattle.bs_net.specs.declared.net.Kind.TheVariants.{Not}
 use Rattle.bs_net.specs.declared.net.Mode.TheVariants.{Plain}
 use Rattle.bs_net.specs.Circuit.{Circuit, next, settled, all_bits}
@@ -12,7 +13,11 @@ use Rattle.bs_scan.specs.declared.fault.DumpFault.{DumpFault}
 use Rattle.bs_scan.specs.declared.fault.DumpFault.TheVariants.{Line, Width, NotReset}
 use Rattle.bs_scan.specs.Choice.{Chosen}
 use Rattle.bs_scan.specs.Crash.{dump_at}
+use Rattle.bs_scan.specs.ChoiceText.{choice_of, flops_of, item_of, items_of}
 use Rattle.bs_scan.specs.DumpText.{dump_of}
+use Rattle.bs_net.specs.Parts.{Parts}
+use Rattle.bs_scan.specs.declared.fault.ChoiceFault.{ChoiceFault}
+use Rattle.bs_scan.specs.declared.fault.ChoiceFault.TheVariants as faults
 use Rattle.bs_scan.specs.Moments.{Run, state_at, moments, first_moment}
 use Rattle.bs_scan.specs.Signature.{signature, stored_at, predecessors}
 
@@ -227,6 +232,61 @@ four_lines_where_one_is_kept = refl
 one_signature : read_as 1 (codes "state 11\nsig 1\nend\n") ≡ Ok (record { state = true ∷ true ∷ []; stored = Some (true ∷ []); older = None; depth = 1 })
 unfolding dump_of
 one_signature = refl
+
+-- ---- the texts of signature files, of two flip-flops `a` and `b`
+
+abbrev parts : Parts
+parts =
+    record {
+      names = codes "ck" ∷ codes "i" ∷ codes "a" ∷ codes "b" ∷ [];
+      inputs = [];
+      outputs = [];
+      consts = [];
+      gates = [];
+      flops = flop_at 2 1 ∷ flop_at 3 2 ∷ [];
+    }
+
+abbrev chosen_by : List ℕ → Result Chosen ChoiceFault
+chosen_by text = choice_of parts (lines_of text)
+
+one_cycle : chosen_by (codes "bit b\nxor a b\n") ≡ Ok (record { width = 2; depth = 1; items = (1 ∷ []) ∷ (0 ∷ 1 ∷ []) ∷ [] })
+unfolding items_of flops_of
+one_cycle = refl
+
+two_cycles : chosen_by (codes "cycles 2\nbit b\n") ≡ Ok second_twice
+unfolding items_of flops_of
+two_cycles = refl
+
+two_cycles_of_nothing : chosen_by (codes "cycles 2") ≡ Ok none_twice
+unfolding items_of flops_of
+two_cycles_of_nothing = refl
+
+nothing : chosen_by [] ≡ Ok none
+unfolding items_of flops_of
+nothing = refl
+
+cycles_in_a_later_line : chosen_by (codes "bit b\ncycles 2\n") ≡ Err (faults.Line 2)
+unfolding items_of flops_of
+cycles_in_a_later_line = refl
+
+cycles_twice : chosen_by (codes "cycles 2\ncycles 2\n") ≡ Err (faults.Line 2)
+unfolding items_of flops_of
+cycles_twice = refl
+
+one_is_not_said : chosen_by (codes "cycles 1\n") ≡ Err (faults.Line 1)
+unfolding items_of flops_of
+one_is_not_said = refl
+
+space_behind : chosen_by (codes "cycles 2 \n") ≡ Err (faults.Line 1)
+unfolding items_of flops_of
+space_behind = refl
+
+unknown_behind : chosen_by (codes "cycles 2\nbit i\n") ≡ Err (faults.UnknownFlop 2)
+unfolding items_of flops_of
+unknown_behind = refl
+
+one_item_too_many : item_of parts 258 257 (Some (codes "b" ∷ [])) ≡ Err (faults.TooMany 258)
+one_item_too_many = refl
 
 -- ---- first moments
 

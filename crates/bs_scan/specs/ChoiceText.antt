@@ -1,6 +1,7 @@
--- The text of what a signature is taken of (docs/FORMATS.md, "Signature"): each line is `bit NAME`, or `xor NAME ..` with one name or more.
+-- The text of what a signature is taken of (docs/FORMATS.md, "Signature"): each line is `bit NAME`, or `xor NAME ..` with one name or more,
+-- but that the first one may be `cycles 2`.
 use Rattle.std.specs.Prelude.{ℕ, ◌+◌, ◌==◌, nat_le, nat_lt, Bool, ◌&&◌, ◌||◌, List, [], ◌∷◌, length, codes, Option, Some, None, Result, Ok, Err}
-use Rattle.std.specs.Prelude.{if◌then◌else◌, option_and_then}
+use Rattle.std.specs.Prelude.{false, drop, if◌then◌else◌, option_and_then}
 use Rattle.std.specs.List.{list_all, position}
 use Rattle.std.specs.Str.{bytes_eq}
 use Rattle.bs_bits.specs.Reading.{◌>>=◌}
@@ -61,6 +62,15 @@ items_of net at number (text ∷ texts) = do
 abbrev pub chosen : ℕ → ℕ → List (List ℕ) → Chosen
 chosen width depth items = record { width = width; depth = depth; items = items }
 
--- what the lines of a signature file say, where the first is that of the first item
+-- whether the first line says that two signatures are kept
+abbrev pub keeps_two : List (List ℕ) → Bool
+keeps_two [] = false
+keeps_two (first ∷ texts) = bytes_eq first (codes "cycles 2")
+
+-- what the lines say where they are those of items, from the line with this number on, in a file of this depth
+abbrev pub choice_from : Parts → ℕ → ℕ → List (List ℕ) → Result Chosen ChoiceFault
+choice_from net first depth texts = items_of net first 1 texts >>= λ items. Ok (chosen (length net.flops) depth items)
+
+-- what the lines of a signature file say
 abbrev pub choice_of : Parts → List (List ℕ) → Result Chosen ChoiceFault
-choice_of net texts = items_of net 1 1 texts >>= λ items. Ok (chosen (length net.flops) 1 items)
+choice_of net texts = if keeps_two texts then choice_from net 2 2 (drop 1 texts) else choice_from net 1 1 texts

@@ -3,10 +3,11 @@ ghost use Rattle.std.specs.Prelude.{◌≡◌, ◌<◌, ◌≤◌, length, Some,
 ghost use Rattle.bs_bits.specs.Lines.{lines_of};
 ghost use Rattle.bs_scan.specs.Choice.{depth_of, with_depth, IsChoice, IsDepth};
 ghost use Rattle.bs_bits.specs.Reading.{Answers};
-ghost use Rattle.bs_scan.specs.ChoiceText.{choice_of};
+ghost use Rattle.bs_scan.specs.ChoiceText.{choice_from, choice_of};
+ghost use Rattle.bs_scan.specs.Reading.{bytes_in};
 ghost use Rattle.bs_scan.specs.Signature.{parity_of, signature};
 
-use crate::choice_text::read_items;
+use crate::choice_text::{read_items, rest_behind_two};
 use crate::fault::ChoiceFault;
 use crate::flops::FlopNames;
 use bs_bits::{Bits, List, NoMemory};
@@ -51,6 +52,28 @@ pub(crate) fn parity(item: &[u32], state: &Bits) -> bool
     ones.count() % 2 == 1
 }
 
+/// The items of a text, whose first line has this number, in a file of this depth.
+fn read_from(
+    alloc: Global,
+    bytes: &[u8],
+    first: u32,
+    depth: u8,
+    net: &Netlist,
+) -> Result<Choice, ChoiceFault>
+    requires bytes { bytes_in (lines_of bytes.now) ≤ MAX_SIGNATURE_BYTES }
+    requires first { first ≤ 2 }
+    requires depth { IsDepth depth }
+    ensures { Answers ChoiceFault.NoMemory (λ choice. choice) result (choice_from net.now.raw first depth (lines_of bytes.now)) }
+{
+    let flops = FlopNames::new(alloc, net)?;
+    let items = read_items(alloc, bytes, first, &flops)?;
+    Ok(Choice {
+        width: net.width(),
+        depth,
+        items,
+    })
+}
+
 impl Choice {
     /// The items that a signature file names, by the keys of the flip-flops' output nets
     /// (docs/FORMATS.md, "Signature").
@@ -58,13 +81,10 @@ impl Choice {
         requires { length bytes.now ≤ MAX_SIGNATURE_BYTES }
         ensures { Answers ChoiceFault.NoMemory (λ choice. choice) result (choice_of net.now.raw (lines_of bytes.now)) }
     {
-        let flops = FlopNames::new(alloc, net)?;
-        let items = read_items(alloc, bytes, 1, &flops)?;
-        Ok(Choice {
-            width: net.width(),
-            depth: 1,
-            items,
-        })
+        match rest_behind_two(bytes) {
+            Some(rest) => read_from(alloc, rest, 2, 2, net),
+            None => read_from(alloc, bytes, 1, 1, net),
+        }
     }
 
     /// The same items with another depth.

@@ -1,17 +1,36 @@
 //! The text of a signature file, read line by line.
-ghost use Rattle.std.specs.Prelude.{◌≡◌, ◌<◌, ◌≤◌, length, All, IsTrue, IfOk, option_map};
+ghost use Rattle.std.specs.Prelude.{◌≡◌, ◌<◌, ◌≤◌, length, All, IsTrue, IfOk, IfSome, drop, is_some, option_map};
 ghost use Rattle.std.specs.List.{list_all};
 ghost use Rattle.bs_bits.specs.Reading.{Answers};
 ghost use Rattle.bs_bits.specs.Lines.{lines_of, words_of, is_name as is_name_text};
 ghost use Rattle.bs_scan.specs.Choice.{IsChoice};
-ghost use Rattle.bs_scan.specs.ChoiceText.{names_of, flops_of, item_of, items_of, chosen};
+ghost use Rattle.bs_scan.specs.ChoiceText.{names_of, flops_of, item_of, items_of, chosen, keeps_two};
+ghost use Rattle.bs_scan.specs.Reading.{bytes_in};
 
 use crate::choice::{MAX_ITEMS, MAX_SIGNATURE_BYTES};
 use crate::fault::ChoiceFault;
 use crate::flops::FlopNames;
-use crate::words::{item_names, split_word};
+use crate::words::{is_same, item_names, split_word};
 use bs_bits::{List, next_line};
 use std::alloc::Global;
+
+/// The text behind its first line, where that says that two signatures are kept.
+pub fn rest_behind_two(bytes: &[u8]) -> Option<&[u8]>
+    ensures said { is_some result ≡ keeps_two (lines_of bytes.now) }
+    ensures rest { IfSome result (λ rest. lines_of rest.now ≡ drop 1 (lines_of bytes.now)) }
+    ensures short { IfSome result (λ rest. bytes_in (lines_of rest.now) ≤ length bytes.now) }
+{
+    match next_line(bytes) {
+        Some((line, rest)) => {
+            if is_same(line, b"cycles 2") {
+                Some(rest)
+            } else {
+                None
+            }
+        }
+        None => None,
+    }
+}
 
 /// The flip-flops of the names in the line with this number.
 fn read_flops(
@@ -69,7 +88,7 @@ pub fn read_items(
     first: u32,
     flops: &FlopNames<'_>,
 ) -> Result<List<List<u32>>, ChoiceFault>
-    requires bytes { length bytes.now ≤ MAX_SIGNATURE_BYTES }
+    requires bytes { bytes_in (lines_of bytes.now) ≤ MAX_SIGNATURE_BYTES }
     requires first { first ≤ 2 }
     ensures reads { Answers ChoiceFault.NoMemory (λ items. items) result (items_of flops.now first 1 (lines_of bytes.now)) }
     ensures sound { IfOk result (λ items. IsChoice (chosen (length flops.now.flops) 1 items)) }

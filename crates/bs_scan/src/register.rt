@@ -1,5 +1,6 @@
 //! The signature register of the chip.
 ghost use Rattle.std.specs.Prelude.{◌≡◌, ◌<◌, [], length, slice_get, option_map, IfOk};
+ghost use Rattle.bs_scan.specs.Choice.{depth_of, IsDepth};
 ghost use Rattle.bs_scan.specs.Signature.{signature};
 ghost use Rattle.bs_scan.specs.Register.{Register, cleared, clocked};
 
@@ -93,6 +94,14 @@ impl<'a> SigReg<'a> {
         }
         write_signature(self.choice, state, &mut self.bits);
         self.held = true;
+    }
+
+    /// The number of signatures that are kept.
+    pub fn depth(&self) -> u8
+        ensures depth { result ≡ depth_of self.now.choice }
+        ensures kept { IsDepth result }
+    {
+        self.choice.depth()
     }
 
     /// The signature that is stored, if there was a clock edge since `new` or `clear`.

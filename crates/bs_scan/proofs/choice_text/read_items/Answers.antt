@@ -4,7 +4,8 @@ use Rattle.std.proofs.lemmas.Result.{err_from_is_err_and}
 use Rattle.std.proofs.lemmas.List.Elements.{All-push, All-nil}
 use Rattle.bs_bits.specs.Lines.{lines_of}
 use Rattle.bs_scan.specs.ChoiceText.{items_of}
-use Rattle.bs_scan.proofs.ItemLemmas.{front_none, item_step, item_refused, items_end, no_numbers, bytes_step}
+use Rattle.bs_scan.specs.Reading.{bytes_in}
+use Rattle.bs_scan.proofs.ItemLemmas.{front_none, item_step, item_refused, items_end, bytes_step}
 use Rattle.bs_scan.proofs.choice_text.read_items.Goals as goal
 
 pub lines-init : goal.lines-init
@@ -16,7 +17,7 @@ lines-init c =
       numbered = refl;
       few = omega arith;
       range = All-nil (All (λ (flop : ℕ). flop < length c.args.flops.now.flops));
-      bytes = no_numbers c.args.bytes.now;
+      bytes = omega arith;
     })
 
 pub returns-in_err-read_item-clause-reads : goal.returns-in_err-read_item-clause-reads
@@ -44,7 +45,7 @@ lines-preserved c =
           (All-push (All (λ (flop : ℕ). flop < length c.args.flops.now.flops)) c.lines.items _ c.lines.invariant.range c.in_ok-read_item.ensures.range);
       bytes =
           rw c.in_ok-push.ensures.ok
-          (bytes_step c.lines.items _ (lines_of c.lines.rest.now) c.in-Some.line.now (lines_of c.in-Some.behind.now) (length c.args.bytes.now)
+          (bytes_step c.lines.items _ (lines_of c.lines.rest.now) c.in-Some.line.now (lines_of c.in-Some.behind.now) (bytes_in (lines_of c.args.bytes.now))
           c.in-Some.ensures c.in_ok-read_item.ensures.short c.lines.invariant.bytes);
     }
 

@@ -14,7 +14,7 @@ invariant-lines l = record {
   numbered : l.number ≡ 1 + length l.items;
   few : length l.items ≤ MAX_ITEMS;
   range : All (λ item. All (λ flop. flop < length l.flops.flops) item) l.items;
-  bytes : numbers_of l.items + bytes_in (lines_of l.rest) ≤ length l.bytes;
+  bytes : numbers_of l.items + bytes_in (lines_of l.rest) ≤ bytes_in (lines_of l.bytes);
 }
 
 abbrev pub decreases-lines : goal.decreases-lines
