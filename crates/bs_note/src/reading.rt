@@ -20,7 +20,7 @@ ghost use Rattle.bs_note.specs.Readings.{checked_noted, dump_noted, moment_noted
 ghost use Rattle.bs_note.specs.Readings.{report_noted, signature_noted, size_noted, stimulus_noted, widths_of};
 
 use bs_bits::NoMemory;
-use bs_entry::MAX_WAVE_VALUES;
+use bs_entry::{MAX_WAVE_VALUES, read_choice};
 use bs_job::{File, Refusal};
 use bs_net::{NetFault, Netlist, Raw};
 use bs_refusal::{
@@ -123,7 +123,7 @@ pub fn read_signature(
     requires { length text.now ≤ MAX_SIGNATURE_BYTES }
     ensures { Reads NoteSays (λ choice. choice) (signature_noted net.now.raw path.now text.now) result }
 {
-    match Choice::read(alloc, text, net) {
+    match read_choice(alloc, text, net) {
         Ok(choice) => Ok(choice),
         Err(fault) => Err(signature_refusal(alloc, path, text, net, fault)),
     }
@@ -168,6 +168,7 @@ fn widths_of(net: &Netlist, choice: &Choice) -> Widths
 {
     Widths {
         flops: net.width(),
+        depth: choice.depth(),
         items: choice.items(),
     }
 }
