@@ -21,10 +21,11 @@ use Rattle.bs_log.proofs.Histories.{live-push}
 use Rattle.bs_keep.proofs.Deletions.{live_after}
 use Rattle.bs_book.specs.Ids.{Rises, is_among}
 use Rattle.bs_book.specs.Walk.{IsLearnt}
-use Rattle.bs_book.specs.Book.{Book, lemma_ids, IsKept, IsRecorded, with_line, with_lemma, without}
+use Rattle.bs_book.specs.Book.{Book, lemma_ids, next_id, IsKept, IsRecorded, with_line, with_lemma, without}
 use Rattle.bs_book.proofs.Lists.{none_is_not_some}
 use Rattle.bs_book.proofs.Clauses.{all_list}
-use Rattle.bs_book.proofs.Entries.{ascending_rises, hints_are_ids, deleted_are_ids, finished_is_id, ids_with, ids_without}
+use Rattle.bs_keep.specs.Rows.{AreInOrder}
+use Rattle.bs_book.proofs.Entries.{live_in_order, ascending_rises, hints_are_ids, deleted_are_ids, finished_is_id, ids_with, ids_without}
 
 -- ---- texts
 
@@ -127,6 +128,25 @@ pub retired_stands : (b : Book) (id : ℕ) → IsKept b → id ≡ last_id b.pro
 retired_stands b id k next =
     live-push b.problem b.history (record { id = id; origin = Retired; literals = negation (guard_of b.problem (step_of b.history)) ∷ [] }) k.right next
 
+-- the line that ends a step is right
+retire_is_right : (b : Book) (id : ℕ) → id ≡ last_id b.problem b.history + 1 → is_between_steps (phase_of b.history) ≡ false →
+    refusal b.problem (state_of b.problem b.history) (Retire id) ≡ None
+retire_is_right b id next phase = none_from_right b.problem (state_of b.problem b.history) (Retire id) (record {
+  order = and_from (not (is_between_steps (phase_of b.history))) (eqb id (last_id b.problem b.history + 1)) (ap not phase)
+      (eq-eqb id (last_id b.problem b.history + 1) next);
+  names = refl;
+  distinct = refl;
+  block = refl;
+  unit = refl;
+  last = refl;
+  finish = refl;
+})
+
+-- what stands then has ascending ids
+pub retired_in_order : (b : Book) → IsKept b → is_between_steps (phase_of b.history) ≡ false →
+    AreInOrder (live b.problem (Retire (next_id b) ∷ b.history))
+retired_in_order b k phase = live_in_order b.problem (Retire (next_id b) ∷ b.history) (retire_is_right b (next_id b) refl phase, k.right)
+
 pub recorded_retire : (last id : ℕ) (ids : List ℕ) (b : Book) → IsRecorded last ids b → id ≡ last + 1 → id < 2 ^ 64 →
     is_between_steps (phase_of b.history) ≡ false → IsRecorded id ids (with_line b (Retire id))
 recorded_retire last id ids b r is high phase =
@@ -134,19 +154,7 @@ recorded_retire last id ids b r is high phase =
     let e : Entry = record { id = id; origin = Retired; literals = negation (guard_of b.problem (step_of b.history)) ∷ [] } in
     record {
       kept = record {
-        right = (
-          none_from_right b.problem (state_of b.problem b.history) (Retire id) (record {
-            order = and_from (not (is_between_steps (phase_of b.history))) (eqb id (last_id b.problem b.history + 1)) (ap not phase)
-                (eq-eqb id (last_id b.problem b.history + 1) next);
-            names = refl;
-            distinct = refl;
-            block = refl;
-            unit = refl;
-            last = refl;
-            finish = refl;
-          }),
-          r.kept.right,
-        );
+        right = (retire_is_right b id next phase, r.kept.right);
         lean = r.kept.lean;
         texts = ((omega (arith, is), high), r.kept.texts);
       };

@@ -22,7 +22,7 @@ use Rattle.bs_log.specs.Steps.{is_lemma_line}
 use Rattle.bs_book.specs.Place.{Place}
 use Rattle.bs_watch.specs.Trail.{IsTrueOn, IsFalseOn, IsOpenOn, IsConflict, IsQuiet}
 use Rattle.bs_book.specs.Bound.{number}
-use Rattle.bs_book.specs.Places.{TrailState, literals_of, IsSound, IsUnassigned}
+use Rattle.bs_book.specs.Places.{TrailState, literals_of, AreWarranted, IsUnassigned}
 use Rattle.bs_book.specs.Grown.{Grows}
 use Rattle.bs_book.specs.Learning.{digits}
 use Rattle.bs_book.specs.Book.{Book, standing}
@@ -63,7 +63,7 @@ open_ahead a i l d at = ((λ t. apart a i l d at l t refl), (λ f. apart a i l d
     ]
 
 pub assumed_are_sound : (clauses : List Clause) (base : ℕ) (a : Clause) → has_distinct_variables a ≡ true → length a ≤ base →
-    IsSound clauses base a (assumption_places a)
+    AreWarranted clauses base a (assumption_places a)
 assumed_are_sound clauses base a d low = record {
   placed = λ k p e.
       let (l, at, is) = get_map_cases (λ (x : Literal). record { literal = x; forced = false }) a k p e in
@@ -284,12 +284,12 @@ bound_of_run clauses a vars base count places digits quiet given counted run r =
 -- the trail of the first level is sound
 pub first_is_sound : (b : Book) (a : Clause) (places : List Place) → has_distinct_variables a ≡ true → assumed b ≡ a →
     Grows (standing b) (assumption_places a) places →
-    IsSound (standing b) (length places) (assumed b) places
+    AreWarranted (standing b) (length places) (assumed b) places
 first_is_sound b a places distinct is g =
     let count : length (assumption_places a) ≡ length a = length-map a (λ (x : Literal). record { literal = x; forced = false }) in
     let longer = g.longer in
     sound_grows (standing b) (length places) (assumed b) (assumption_places a) places
-    (subst (λ x. IsSound (standing b) (length places) x (assumption_places a)) (sym is)
+    (subst (λ x. AreWarranted (standing b) (length places) x (assumption_places a)) (sym is)
     (assumed_are_sound (standing b) (length places) a distinct (omega (arith, count, longer)))) g
 
 -- the first propagation was quiet

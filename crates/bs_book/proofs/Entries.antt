@@ -161,7 +161,8 @@ chain_rises : (es : List Entry) → InChain es → Rises (map (λ (e : Entry). e
 chain_rises [] c = record { below = λ i j a b before at_i at_j. absurd (none_is_not_some a at_i) }
 chain_rises (x ∷ xs) c = record { below = by (chain_rises xs c.1) }
   where
-    by : Rises (map (λ (e : Entry). e.id) xs) → (i j a b : ℕ) → i < j → slice_get (map (λ (e : Entry). e.id) (x ∷ xs)) i ≡ Some a → slice_get (map (λ (e : Entry). e.id) (x ∷ xs)) j ≡ Some b → a < b
+    by : Rises (map (λ (e : Entry). e.id) xs) → (i j a b : ℕ) → i < j → slice_get (map (λ (e : Entry). e.id) (x ∷ xs)) i ≡ Some a →
+        slice_get (map (λ (e : Entry). e.id) (x ∷ xs)) j ≡ Some b → a < b
     by rest i zero a b before at_i at_j = absurd (omega (arith, before))
     by rest zero (suc j) a b before at_i at_j = subst (λ n. n < b) (same_some x.id a at_i) (later_id x.id xs j b c.0 at_j)
     by rest (suc i) (suc j) a b before at_i at_j = rest.below i j a b (omega (arith, before)) at_i at_j
@@ -270,5 +271,6 @@ ids_without f (x ∷ es) = by (f x.id) refl (is_lemma x) refl (ids_without f es)
     by true on false is rest =
         ap (λ c. map (λ (y : Entry). y.id) (cond c (x ∷ filter is_lemma (filter (λ y. f y.id) es)) (filter is_lemma (filter (λ y. f y.id) es)))) is ∙ rest
     by false off true is rest = rest ∙
-        sym (ap (λ c. cond c (x.id ∷ filter f (map (λ (y : Entry). y.id) (filter is_lemma es))) (filter f (map (λ (y : Entry). y.id) (filter is_lemma es)))) off)
+        sym (ap (λ c. cond c (x.id ∷ filter f (map (λ (y : Entry). y.id) (filter is_lemma es)))
+        (filter f (map (λ (y : Entry). y.id) (filter is_lemma es)))) off)
     by false off false is rest = rest

@@ -12,7 +12,7 @@ use Rattle.bs_log.specs.Lean.{IsContained}
 use Rattle.bs_book.specs.Place.{Place}
 use Rattle.bs_watch.specs.Trail.{IsTrueOn, IsFalseOn, IsOpenOn, Forces, IsQuiet}
 use Rattle.bs_book.specs.Bound.{number}
-use Rattle.bs_book.specs.Places.{literals_of, IsSound}
+use Rattle.bs_book.specs.Places.{literals_of, AreWarranted}
 use Rattle.bs_book.specs.Point.{is_alone_at, IsDecisionAt, IsCut, IsUnforced, AreForced}
 use Rattle.bs_book.specs.Learning.{digits, after_learning}
 use Rattle.bs_book.proofs.Lists.{none_is_not_some, same_some, get_take, get_within}
@@ -80,7 +80,7 @@ another places end u (x ∷ c) e =
     }
 
 -- nothing is true and false
-pub consistent : (clauses : List Clause) (base : ℕ) (a : List Literal) (places : List Place) → IsSound clauses base a places → (l : Literal) →
+pub consistent : (clauses : List Clause) (base : ℕ) (a : List Literal) (places : List Place) → AreWarranted clauses base a places → (l : Literal) →
     IsTrueOn (literals_of places) l → ¬ IsFalseOn (literals_of places) l
 consistent clauses base a places s l t f =
     let (i, p, at_i, is_p) = place_of places l t in
@@ -102,11 +102,11 @@ open_negation trail l o = (o.1, (λ f. o.0 (subst (Contains trail) (negation-neg
 pub record Learns (clauses : List Clause) (base : ℕ) (a : List Literal) (places : List Place) (c : Clause) (u : Literal) (cut : ℕ) : Type 0 where
   pub forces : Forces (literals_of (take cut places)) c u
   pub new : All (λ d. ¬ IsContained d c) clauses
-  pub sound : IsSound (clauses ++ c ∷ []) base a (after_learning places u cut)
+  pub sound : AreWarranted (clauses ++ c ∷ []) base a (after_learning places u cut)
   pub free : IsOpenOn (literals_of (take cut places)) u
 
 pub learns : (clauses : List Clause) (base start at : ℕ) (a : List Literal) (places : List Place) (c : Clause) (p : Place) (cut : ℕ) →
-    IsSound clauses base a places → slice_get places at ≡ Some p → start ≤ at → Contains c (negation p.literal) →
+    AreWarranted clauses base a places → slice_get places at ≡ Some p → start ≤ at → Contains c (negation p.literal) →
     IsCut places base start (negation p.literal) c cut → Learns clauses base a places c (negation p.literal) cut
 learns clauses base start at a places c p cut s there low denied k = record {
   forces = forces;
@@ -162,12 +162,12 @@ learns clauses base start at a places c p cut s there low denied k = record {
         subst (λ xs. IsQuiet (literals_of xs) (clauses ++ c ∷ [])) (sym (take-take j cut places (omega (arith, before))))
         (learnt_clauses_keep_quiet clauses (literals_of (take j places)) c u one.literal old one.other denied open_u one.stands open_m)
 
-    kept : IsSound (clauses ++ c ∷ []) base a (take cut places)
+    kept : AreWarranted (clauses ++ c ∷ []) base a (take cut places)
     kept = sound_clause clauses c base a (take cut places) (sound_take clauses base a places cut s) quiet_at
 
 -- the clause does not end its step
 pub not_denying : (clauses : List Clause) (base start at : ℕ) (a : List Literal) (places : List Place) (c : Clause) (p : Place) →
-    IsSound clauses base a places → slice_get places at ≡ Some p → base ≤ start → start ≤ at → Contains c (negation p.literal) →
+    AreWarranted clauses base a places → slice_get places at ≡ Some p → base ≤ start → start ≤ at → Contains c (negation p.literal) →
     All (IsTrueOn (literals_of (take base places))) a → denies a c ≡ false
 not_denying clauses base start at a places c p s there low high denied given = elim (cases_Bool (denies a c)) [
   | inr unlike ↦ unlike
@@ -188,7 +188,7 @@ not_denying clauses base start at a places c p s there low high denied given = e
         ]
 
 -- without a decision the unforced literals are assumptions
-pub denies_from_unforced : (clauses : List Clause) (base : ℕ) (a : List Literal) (places : List Place) (c : Clause) → IsSound clauses base a places →
+pub denies_from_unforced : (clauses : List Clause) (base : ℕ) (a : List Literal) (places : List Place) (c : Clause) → AreWarranted clauses base a places →
     AreForced places base → All (λ l. IsUnforced places (negation l)) c → denies a c ≡ true
 denies_from_unforced clauses base a places [] s f all = refl
 denies_from_unforced clauses base a places (l ∷ c) s f all =

@@ -35,6 +35,15 @@ pub recorded_line : (last : ℕ) (ids : List ℕ) (vars : ℕ) (axioms steps : L
 recorded_line last ids vars axioms steps log longer line now is is_longer =
     subst (IsRecorded last ids) (sym (seen_line vars axioms steps log longer line now is is_longer))
 
+-- two lines more
+pub seen_two : (vars : ℕ) (axioms steps : List Clause) (log longer : List Line) (first second : Line) (now : Book) →
+    seen_book vars axioms steps log ≡ now → longer ≡ log ++ first ∷ second ∷ [] →
+    seen_book vars axioms steps longer ≡ with_line (with_line now first) second
+seen_two vars axioms steps log longer first second now is is_longer =
+    let newest : reverse longer ≡ second ∷ first ∷ reverse log = ap reverse is_longer ∙ reverse-append log (first ∷ second ∷ []) in
+    (λ i. record { problem = record { vars = vars; clauses = axioms; steps = steps }; history = newest i }) ∙
+    ap (λ b. with_line (with_line b first) second) is
+
 pub seen_step : (vars : ℕ) (axioms steps more : List Clause) (log : List Line) (member : Clause) (now : Book) → seen_book vars axioms steps log ≡ now →
     more ≡ steps ++ member ∷ [] → seen_book vars axioms more log ≡ with_member now member
 seen_step vars axioms steps more log member now is is_more =

@@ -7,41 +7,41 @@ use Rattle.std.proofs.lemmas.List.Elements.{Contains-append_left}
 use Rattle.bs_clause.specs.Literal.{Literal, Clause}
 use Rattle.bs_book.specs.Place.{Place}
 use Rattle.bs_watch.specs.Trail.{IsQuiet}
-use Rattle.bs_book.specs.Places.{literals_of, IsPlaced, IsSound}
+use Rattle.bs_book.specs.Places.{literals_of, IsWarranted, AreWarranted}
 use Rattle.bs_book.specs.Grown.{IsForced, Grows}
 use Rattle.bs_book.proofs.Lists.{none_is_not_some, get_push_cases, get_take, take_get, get_within}
 use Rattle.bs_book.proofs.Walks.{open_apart}
 
 -- the empty trail
-pub sound_nil : (clauses : List Clause) (base : ℕ) (a : List Literal) → IsSound clauses base a []
+pub sound_nil : (clauses : List Clause) (base : ℕ) (a : List Literal) → AreWarranted clauses base a []
 sound_nil clauses base a = record { placed = λ k p e. absurd (none_is_not_some p e) }
 
 pub sound_push : (clauses : List Clause) (base : ℕ) (a : List Literal) (places : List Place) (p : Place) →
-    IsSound clauses base a places → IsPlaced clauses base a places p → IsSound clauses base a (places ++ p ∷ [])
+    AreWarranted clauses base a places → IsWarranted clauses base a places p → AreWarranted clauses base a (places ++ p ∷ [])
 sound_push clauses base a places p s placed = record {
   placed = λ k q e. elim (get_push_cases places p q k e) [
     | inl there ↦
         let within = get_within places k q there in
-        subst (λ earlier. IsPlaced clauses base a earlier q) (sym (take-append-le k places (p ∷ []) (omega arith))) (s.placed k q there)
+        subst (λ earlier. IsWarranted clauses base a earlier q) (sym (take-append-le k places (p ∷ []) (omega arith))) (s.placed k q there)
     | inr last ↦
         let front : take k (places ++ p ∷ []) ≡ places = take_at places (p ∷ []) k (sym last.0) in
-        subst (λ earlier. IsPlaced clauses base a earlier q) (sym front) (subst (IsPlaced clauses base a places) last.1 placed)
+        subst (λ earlier. IsWarranted clauses base a earlier q) (sym front) (subst (IsWarranted clauses base a places) last.1 placed)
   ];
 }
 
-pub sound_take : (clauses : List Clause) (base : ℕ) (a : List Literal) (places : List Place) (n : ℕ) → IsSound clauses base a places →
-    IsSound clauses base a (take n places)
+pub sound_take : (clauses : List Clause) (base : ℕ) (a : List Literal) (places : List Place) (n : ℕ) → AreWarranted clauses base a places →
+    AreWarranted clauses base a (take n places)
 sound_take clauses base a places n s = record {
   placed = λ k p e.
       let found = get_take n places k p e in
       let before : k < n = found.0 in
-      subst (λ earlier. IsPlaced clauses base a earlier p) (sym (take-take k n places (omega arith))) (s.placed k p found.1);
+      subst (λ earlier. IsWarranted clauses base a earlier p) (sym (take-take k n places (omega arith))) (s.placed k p found.1);
 }
 
 -- one more clause, where the trail is quiet for all of them at each decision
-pub sound_clause : (clauses : List Clause) (c : Clause) (base : ℕ) (a : List Literal) (places : List Place) → IsSound clauses base a places →
+pub sound_clause : (clauses : List Clause) (c : Clause) (base : ℕ) (a : List Literal) (places : List Place) → AreWarranted clauses base a places →
     ((k : ℕ) (p : Place) → slice_get places k ≡ Some p → p.forced ≡ false → base ≤ k → IsQuiet (literals_of (take k places)) (clauses ++ c ∷ [])) →
-    IsSound (clauses ++ c ∷ []) base a places
+    AreWarranted (clauses ++ c ∷ []) base a places
 sound_clause clauses c base a places s quiet = record {
   placed = λ k p e.
       let old = s.placed k p e in
@@ -56,7 +56,7 @@ sound_clause clauses c base a places s quiet = record {
 }
 
 -- no variable has two places
-pub one_place : (clauses : List Clause) (base : ℕ) (a : List Literal) (places : List Place) → IsSound clauses base a places → (i j : ℕ) (p q : Place) →
+pub one_place : (clauses : List Clause) (base : ℕ) (a : List Literal) (places : List Place) → AreWarranted clauses base a places → (i j : ℕ) (p q : Place) →
     slice_get places i ≡ Some p → slice_get places j ≡ Some q → p.literal.variable ≡ q.literal.variable → i ≡ j
 one_place clauses base a places s i j p q at_i at_j same = elim (cases_lt i j) [
   | inl before ↦ absurd (open_apart (take j places) q.literal (s.placed j q at_j).unassigned i p (take_get j places i p before at_i) same)
@@ -92,7 +92,7 @@ grows_push clauses old new p g f = record {
 
 -- a forced literal is placed on any level
 pub placed_from_forced : (clauses : List Clause) (base : ℕ) (a : List Literal) (earlier : List Place) (p : Place) → IsForced clauses earlier p →
-    IsPlaced clauses base a earlier p
+    IsWarranted clauses base a earlier p
 placed_from_forced clauses base a earlier p f = record {
   unassigned = f.forces.unassigned;
   forced = λ _. (f.clause, f.there, f.forces);
@@ -100,14 +100,14 @@ placed_from_forced clauses base a earlier p f = record {
   quiet = λ free. absurd (false≢true (sym free ∙ f.is));
 }
 
-pub sound_grows : (clauses : List Clause) (base : ℕ) (a : List Literal) (old new : List Place) → IsSound clauses base a old → Grows clauses old new →
-    IsSound clauses base a new
+pub sound_grows : (clauses : List Clause) (base : ℕ) (a : List Literal) (old new : List Place) → AreWarranted clauses base a old → Grows clauses old new →
+    AreWarranted clauses base a new
 sound_grows clauses base a old new s g = record {
   placed = λ k p e. elim (cases_lt k (length old)) [
     | inl before ↦
         let in_old : slice_get old k ≡ Some p = subst (λ xs. slice_get xs k ≡ Some p) g.front (take_get (length old) new k p before e) in
         let front : take k old ≡ take k new = ap (take k) (sym g.front) ∙ take-take k (length old) new (omega arith) in
-        subst (λ earlier. IsPlaced clauses base a earlier p) front (s.placed k p in_old)
+        subst (λ earlier. IsWarranted clauses base a earlier p) front (s.placed k p in_old)
     | inr past ↦ placed_from_forced clauses base a (take k new) p (g.forced k p past e)
   ];
 }

@@ -13,7 +13,7 @@ use Rattle.bs_log.specs.Lean.{IsContained, IsNew}
 use Rattle.bs_log.specs.LineForms.{HasVariable}
 use Rattle.bs_book.specs.Place.{Place}
 use Rattle.bs_watch.specs.Trail.{IsTrueOn}
-use Rattle.bs_book.specs.Places.{literals_of, IsSound}
+use Rattle.bs_book.specs.Places.{literals_of, AreWarranted}
 use Rattle.bs_book.specs.Walk.{IsLearnt}
 use Rattle.bs_book.specs.Point.{IsPoint, IsCut, IsUnforced, AreForced}
 use Rattle.bs_book.specs.Learning.{after_learning}
@@ -61,12 +61,13 @@ new_lemma b lemma new = inr (all_from (λ (e : Entry). ¬ IsContained e.literals
 
 -- what conflict analysis above the first level leads to
 pub learns_at : (b : Book) (base start cut : ℕ) (places : List Place) (lits : Clause) (at : ℕ) →
-    IsSound (standing b) base (assumed b) places → (p : IsPoint places start lits at) → IsCut places base start (negation p.place.literal) lits cut →
+    AreWarranted (standing b) base (assumed b) places → (p : IsPoint places start lits at) → IsCut places base start (negation p.place.literal) lits cut →
     Learns (standing b) base (assumed b) places lits (negation p.place.literal) cut
 learns_at b base start cut places lits at s p k = learns (standing b) base start at (assumed b) places lits p.place cut s p.there p.low p.denied k
 
 pub has_learnt : (old new : Book) (vars base start cut at id : ℕ) (places : List Place) (lits : Clause) (hints : List ℕ) (denied : Literal) →
-    IsSound (standing old) base (assumed old) places → All (IsTrueOn (literals_of (take base places))) (assumed old) → All (HasVariables vars) (standing old) →
+    AreWarranted (standing old) base (assumed old) places → All (IsTrueOn (literals_of (take base places))) (assumed old) →
+    All (HasVariables vars) (standing old) →
     base ≤ start → length places ≤ vars →
     IsLearnt (live old.problem old.history) lits hints → (p : IsPoint places start lits at) → denied ≡ negation p.place.literal →
     IsCut places base start denied lits cut → HasLemma old new id lits →
@@ -91,8 +92,8 @@ has_learnt old new vars base start cut at id places lits hints denied s given ra
       range = learnt_range (live old.problem old.history) vars lits hints learnt range;
       distinct = learnt.distinct;
       vars = refl;
-      sound = subst (λ cs. IsSound cs base (assumed new) after) (sym logged.stands)
-          (subst (λ a. IsSound (standing old ++ lits ∷ []) base a after) (sym same_assumed) learning.sound);
+      sound = subst (λ cs. AreWarranted cs base (assumed new) after) (sym logged.stands)
+          (subst (λ a. AreWarranted (standing old ++ lits ∷ []) base a after) (sym same_assumed) learning.sound);
       low = omega (arith, low_cut, length_front, length_push (take cut places) (record { literal = u; forced = true }));
       front = take-append-le base (take cut places) (record { literal = u; forced = true } ∷ [])
           (omega (arith, low_cut, length_front)) ∙ take-take base cut places low_cut;
@@ -100,12 +101,13 @@ has_learnt old new vars base start cut at id places lits hints denied s given ra
     })
 
 -- no standing clause is contained in what is learnt above the first level
-pub learnt_is_new : (b : Book) (base start cut at : ℕ) (places : List Place) (lits : Clause) (denied : Literal) → IsSound (standing b) base (assumed b) places →
+pub learnt_is_new : (b : Book) (base start cut at : ℕ) (places : List Place) (lits : Clause) (denied : Literal) →
+    AreWarranted (standing b) base (assumed b) places →
     (p : IsPoint places start lits at) → denied ≡ negation p.place.literal → IsCut places base start denied lits cut → IsNew b.problem b.history lits
 learnt_is_new b base start cut at places lits denied s p is_denied k =
     new_lemma b lits (learns_at b base start cut places lits at s p (subst (λ l. IsCut places base start l lits cut) is_denied k)).new
 
 -- the last conflict
-pub ending_lemma : (b : Book) (base : ℕ) (places : List Place) (lits : Clause) → IsSound (standing b) base (assumed b) places → AreForced places base →
+pub ending_lemma : (b : Book) (base : ℕ) (places : List Place) (lits : Clause) → AreWarranted (standing b) base (assumed b) places → AreForced places base →
     All (λ l. IsUnforced places (negation l)) lits → denies (assumed b) lits ≡ true
 ending_lemma b base places lits s forced free = denies_from_unforced (standing b) base (assumed b) places lits s forced free

@@ -1,7 +1,7 @@
 -- The end of a step: the retire line, and the line of what is not kept.
 use Rattle.std.proofs.Common.{◌≡◌, ℕ, suc, ◌+◌, ◌-◌, ◌<◌, ◌≤◌, ◌^◌, arith, Bool, true, false, not, List, [], ◌∷◌, ◌++◌, map, length, refl, sym, ap, subst, ◌∙◌}
-use Rattle.std.proofs.Common.{Option, Some, None}
-use Rattle.std.specs.Prelude.{All, Contains}
+use Rattle.std.proofs.Common.{Option, Some, None, Result, Ok, Err}
+use Rattle.std.specs.Prelude.{All, Contains, OnOk}
 use Rattle.std.specs.List.{filter}
 use Rattle.std.proofs.lemmas.List.{map-append}
 use Rattle.std.proofs.lemmas.List.Elements.{All-contains, All-cons, All-nil, All-push}
@@ -31,6 +31,18 @@ leaving_is_right fin ret is order =
     subst (λ (b : Book). refusal b.problem (state_of b.problem b.history) (Delete (leaving fin)) ≡ None) (sym is)
     (delete_is_right fin.problem (step_of fin.history) (next_id fin) fin.history
     (subst (λ (b : Book). AreInOrder (live b.problem b.history)) is order))
+
+-- what stands after the lines that end a step, if they came
+pub stands_at_end : {T E : Type 0} (r : Result T E) (old new : Book) (ids : List ℕ) → OnOk r (new ≡ without (retired old) ids) →
+    OnOk r (live new.problem new.history ≡ filter (λ e. not (is_among ids e.id)) (live (retired old).problem (retired old).history))
+stands_at_end (Ok x) old new ids is = ap (λ (b : Book). live b.problem b.history) is ∙ without_stands (retired old) ids
+stands_at_end (Err e) old new ids is = tt
+
+-- the same, where nothing goes
+pub stands_at_bare_end : {T E : Type 0} (r : Result T E) (old new : Book) (ids : List ℕ) → length ids ≡ 0 → OnOk r (new ≡ retired old) →
+    OnOk r (live new.problem new.history ≡ filter (λ e. not (is_among ids e.id)) (live (retired old).problem (retired old).history))
+stands_at_bare_end r old new [] none is = stands_at_end r old new [] is
+stands_at_bare_end r old new (id ∷ ids) none is = absurd (omega (arith, none))
 
 -- what stands after a step's end stood before it, or is the unit of the negated guard
 standing_after : (fin ret new : Book) (ids : List ℕ) (unit : Clause) → standing ret ≡ standing fin ++ unit ∷ [] → new ≡ without ret ids →
@@ -87,7 +99,8 @@ ready_after_end inside fin ret new end guard ids ready well here phase is is_gua
       bound = ready.bound;
       range = λ _. standing_after fin ret new ids (negation guard ∷ []) ret_stands is_new (HasVariables vars)
           (subst (All (HasVariables vars)) (sym fin_stands) (ready.range well))
-          (All-cons (IsWithin vars) (negation guard) [] (omega (arith, positive, vars_is, unit_variable), omega (arith, unit_variable)) (All-nil (IsWithin vars)));
+          (All-cons (IsWithin vars) (negation guard) [] (omega (arith, positive, vars_is, unit_variable), omega (arith, unit_variable))
+          (All-nil (IsWithin vars)));
       distinct = λ _. standing_after fin ret new ids (negation guard ∷ []) ret_stands is_new (λ c. has_distinct_variables c ≡ true)
           (subst (All (λ c. has_distinct_variables c ≡ true)) (sym fin_stands) (ready.distinct well)) refl;
       fits = λ _. subst (λ x. IsIdle x vars) (sym new_is) (idle_after fin vars ids here_fin);

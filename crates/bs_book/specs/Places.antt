@@ -22,11 +22,12 @@ pub record IsUnassigned (s : TrailState) (l : Literal) : Type 0 where
 
 -- A clause of the list forces a forced literal. On the first level the others are assumptions; above it they are decisions,
 -- and when one was made no clause was false or unit.
-pub record IsPlaced (clauses : List Clause) (base : ℕ) (assumptions : List Literal) (earlier : List Place) (p : Place) : Type 0 where
+pub record IsWarranted (clauses : List Clause) (base : ℕ) (assumptions : List Literal) (earlier : List Place) (p : Place) : Type 0 where
   pub unassigned : IsOpenOn (literals_of earlier) p.literal
   pub forced : p.forced ≡ true → (c : Clause) × Contains clauses c × Forces (literals_of earlier) c p.literal
   pub assumed : p.forced ≡ false → length earlier < base → Contains assumptions p.literal
   pub quiet : p.forced ≡ false → base ≤ length earlier → IsQuiet (literals_of earlier) clauses
 
-pub record IsSound (clauses : List Clause) (base : ℕ) (assumptions : List Literal) (places : List Place) : Type 0 where
-  pub placed : (k : ℕ) (p : Place) → slice_get places k ≡ Some p → IsPlaced clauses base assumptions (take k places) p
+-- so is each place, over those before it
+pub record AreWarranted (clauses : List Clause) (base : ℕ) (assumptions : List Literal) (places : List Place) : Type 0 where
+  pub placed : (k : ℕ) (p : Place) → slice_get places k ≡ Some p → IsWarranted clauses base assumptions (take k places) p

@@ -7,7 +7,7 @@ use Rattle.bs_log.specs.History.{step_of, live}
 use Rattle.bs_log.specs.Refusal.{entry_of, assumptions_of, has_distinct_variables, denies}
 use Rattle.bs_book.specs.Place.{Place}
 use Rattle.bs_book.specs.Bound.{number}
-use Rattle.bs_book.specs.Places.{TrailState, IsSound}
+use Rattle.bs_book.specs.Places.{TrailState, AreWarranted}
 use Rattle.bs_book.specs.Learning.{digits}
 use Rattle.bs_book.specs.Book.{Book, standing, next_id, with_lemma}
 
@@ -37,7 +37,7 @@ pub record HasLearnt (base : ℕ) (old new : Book) (before after : TrailState) :
   pub range : HasVariables after.vars lemma
   pub distinct : has_distinct_variables lemma ≡ true
   pub vars : after.vars ≡ before.vars
-  pub sound : IsSound (standing new) base (assumed new) after.places
+  pub sound : AreWarranted (standing new) base (assumed new) after.places
   pub low : base ≤ length after.places
   pub front : take base after.places ≡ take base before.places
   pub rises : number (after.vars - base) (drop base (digits before.places)) + 1 ≤ number (after.vars - base) (drop base (digits after.places))

@@ -5,7 +5,7 @@ use Rattle.bs_log.specs.Refusal.{has_distinct_variables, in_solve}
 use Rattle.bs_book.specs.Place.{Place}
 use Rattle.bs_watch.specs.Trail.{IsTrueOn, IsQuiet}
 use Rattle.bs_book.specs.Bound.{number}
-use Rattle.bs_book.specs.Places.{literals_of, IsSound}
+use Rattle.bs_book.specs.Places.{literals_of, AreWarranted}
 use Rattle.bs_clause.specs.Range.{HasVariables}
 use Rattle.bs_book.specs.Learning.{digits}
 use Rattle.bs_book.specs.Book.{Book, standing}
@@ -18,7 +18,7 @@ use Rattle.bs_book.specs.Ending.{HasLemmas}
 pub record InSearch (old : Book) (vars base conflicts limit : ℕ) (book : Book) (places : List Place) (quiet : Bool) : Type 0 where
   pub logged : HasLemmas old book conflicts
   pub under : conflicts < limit
-  pub sound : IsSound (standing book) base (assumed book) places
+  pub sound : AreWarranted (standing book) base (assumed book) places
   pub given : All (IsTrueOn (literals_of (take base places))) (assumed book)
   pub start : IsQuiet (literals_of (take base places)) (standing old)
   pub counted : conflicts ≤ number (vars - base) (drop base (digits places))

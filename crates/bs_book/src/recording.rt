@@ -1,5 +1,5 @@
 //! The one door of the log: each line goes in together with what is recorded beside it.
-ghost use Rattle.std.specs.Prelude.{◌≡◌, ◌==◌, ◌∷◌, ◌++◌, [], true, Some, None, false, not, All, IfOk, OnOk, OnErr, filter};
+ghost use Rattle.std.specs.Prelude.{◌≡◌, ◌<◌, ◌==◌, ◌∷◌, ◌++◌, [], true, Some, None, false, not, length, All, IfOk, OnOk, OnErr, filter};
 ghost use Rattle.std.specs.List.{list_any};
 ghost use Rattle.bs_clause.specs.Literal.{negation};
 ghost use Rattle.bs_log.specs.declared.line.Line.TheVariants.{Solve, Block, Finish, Retire, Delete};
@@ -13,7 +13,7 @@ ghost use Rattle.bs_keep.specs.Rows.{AreInOrder};
 ghost use Rattle.bs_book.specs.Walk.{IsLearnt};
 ghost use Rattle.bs_book.specs.Book.{standing, lemma_ids, next_id, with_line, with_lemma, with_member, without};
 ghost use Rattle.bs_book.specs.Search.{assumed};
-ghost use Rattle.bs_book.specs.Solver.{retired};
+ghost use Rattle.bs_book.specs.Solver.{retired, leaving, ended};
 
 use crate::ids::{copied, push_id, take_out};
 use bs_bits::List;
@@ -177,13 +177,37 @@ impl Recording {
         Ok(id)
     }
 
-    /// Logs that the step of this guard ends. The unit of its negation stands under the next id.
-    pub fn log_retire(&mut self, guard: Lit) -> Result<(), NoMemory>
+    /// The unit of the negated guard stands last, once the step under way has ended.
+    pub fn holds_end(&self, guard: Lit)
+        requires { guard ≡ guard_of self.now.problem (step_of self.now.history) }
+        ensures { live (retired self.now).problem (retired self.now).history
+            ≡ live self.now.problem self.now.history ++ record { id = next_id self.now; origin = Retired; literals = negation guard ∷ [] } ∷ [] }
+    {
+        let _ = self.log.len();
+    }
+
+    /// Logs that the step ends, and that what is not kept goes, if anything is not: these ids. Both lines come, or neither.
+    pub fn log_end(&mut self, alloc: Global, ids: &[u64]) -> Result<(), NoMemory>
         requires phase { is_between_steps (phase_of self.old.history) ≡ false }
-        requires guard { guard ≡ guard_of self.old.problem (step_of self.old.history) }
-        ensures line { OnOk result (self.new ≡ retired self.old) }
+        requires leaving { ids.now ≡ leaving self.old }
+        ensures lines { OnOk result (self.new ≡ ended self.old) }
+        ensures order { AreInOrder (live (retired self.old).problem (retired self.old).history) }
         ensures stands { OnOk result (live self.new.problem self.new.history
-            ≡ live self.old.problem self.old.history ++ record { id = next_id self.old; origin = Retired; literals = negation guard ∷ [] } ∷ []) }
+            ≡ filter (λ e. not (list_any (λ d. e.id == d) ids.now)) (live (retired self.old).problem (retired self.old).history)) }
+        ensures err { OnErr result (self.new ≡ self.old) }
+    {
+        let _ = self.log.len();
+        if ids.len() == 0 {
+            self.log_retire()
+        } else {
+            self.log_both(alloc, ids)
+        }
+    }
+
+    // Logs that the step ends.
+    fn log_retire(&mut self) -> Result<(), NoMemory>
+        requires { is_between_steps (phase_of self.old.history) ≡ false }
+        ensures ok { OnOk result (self.new ≡ retired self.old) }
         ensures err { OnErr result (self.new ≡ self.old) }
     {
         let id = self.next_id()?;
@@ -195,22 +219,24 @@ impl Recording {
         Ok(())
     }
 
-    /// Logs that clauses are taken away, if there are any. Their ids stay given.
-    pub fn log_delete(&mut self, alloc: Global, ids: &[u64]) -> Result<(), NoMemory>
-        requires { refusal self.old.problem (state_of self.old.problem self.old.history) (Delete ids.now) ≡ None }
-        ensures line { OnOk result (self.new ≡ without self.old ids.now) }
-        ensures stands { OnOk result (live self.new.problem self.new.history
-            ≡ filter (λ e. not (list_any (λ d. e.id == d) ids.now)) (live self.old.problem self.old.history)) }
+    // Logs that the step ends, and that clauses are taken away. Their ids stay given. Both lines come, or neither.
+    fn log_both(&mut self, alloc: Global, ids: &[u64]) -> Result<(), NoMemory>
+        requires phase { is_between_steps (phase_of self.old.history) ≡ false }
+        requires some { 0 < length ids.now }
+        requires gone { refusal self.old.problem (state_of self.old.problem (retired self.old).history) (Delete ids.now) ≡ None }
+        ensures ok { OnOk result (self.new ≡ without (retired self.old) ids.now) }
         ensures err { OnErr result (self.new ≡ self.old) }
     {
-        if ids.len() == 0 {
-            return Ok(());
-        }
+        let id = self.next_id()?;
         let named = copied(alloc, ids)?;
-        match self.log.push(Line::Delete { ids: named }) {
+        match self
+            .log
+            .push_two(Line::Retire { id }, Line::Delete { ids: named })
+        {
             Ok(()) => {}
             Err(_) => return Err(NoMemory),
         }
+        self.last = id;
         take_out(&mut self.lemmas, ids);
         Ok(())
     }

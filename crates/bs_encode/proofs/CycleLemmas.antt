@@ -21,7 +21,7 @@ use Rattle.bs_encode.specs.Encoded.{Encoded, encoding_of}
 use Rattle.bs_encode.specs.Meaning.{IsClosed, ShowsStep, nets_of, next_of, signature_of}
 use Rattle.bs_encode.specs.Cycle.{bits_on, ShowsCycle, IsTransition, EncodesCycles}
 use Rattle.bs_encode.proofs.PartLemmas.{OnNets, shown_by}
-use Rattle.bs_encode.proofs.LawLemmas.{fitting_extends, meeting_fits, parts_placed}
+use Rattle.bs_encode.proofs.LawLemmas.{fitting_extends, meeting_fits, parts_placed, states_in_place}
 use Rattle.bs_encode.proofs.LiteralLemmas.{length-literals, bits_of_literals}
 use Rattle.bs_encode.proofs.RangeLemmas.{Ranged, AllRanged, transition_ranged, states_ranged, next_literals_ranged, signatures_ranged, inputs_ranged}
 use Rattle.bs_encode.proofs.DistinctLemmas.{weaken, transition_distinct, signed_distinct, numbers_distinct, states_distinct}
@@ -49,7 +49,7 @@ module _ (c : Circuit) (items : List (List ℕ)) (checked : IsChecked c) (closed
   states_on : (a : ℕ → Bool) (v : List Bool) → OnNets a v c.nets → bits_on a e.states ≡ shown v (state_nets c)
   states_on a v on =
       bits_of_literals a (state_vars c)
-      ∙ state_shown a v c.nets on c.flops (recursion_from_All (λ (f : Flop). f.q.0 < c.nets) c.flops closed.states)
+      ∙ state_shown a v c.nets on c.flops (states_in_place c items closed)
 
   inputs_on : (a : ℕ → Bool) (v : List Bool) → OnNets a v c.nets → bits_on a e.inputs ≡ shown v c.inputs
   inputs_on a v on =

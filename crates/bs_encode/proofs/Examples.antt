@@ -5,6 +5,8 @@ use Rattle.bs_net.specs.declared.net.Kind.TheVariants.{And, Nand, Or, Nor, Not, 
 use Rattle.bs_net.specs.declared.net.Kind.{Kind}
 use Rattle.bs_net.specs.declared.net.Gate.{Gate}
 use Rattle.bs_net.specs.declared.net.Flop.{Flop}
+use Rattle.bs_net.specs.declared.net.Mode.{Mode}
+use Rattle.bs_net.specs.declared.net.Mode.TheVariants.{Plain, Enable, Clear}
 use Rattle.bs_net.specs.Circuit.{Circuit}
 use Rattle.bs_encode.specs.Tables.{lit}
 use Rattle.bs_encode.specs.Transition.{transition_clauses, variables}
@@ -21,7 +23,7 @@ toggle =
       nets = 3;
       clock = net 0;
       inputs = [];
-      flops = record { q = net 2; d = net 1; ck = net 0; reset = false } ∷ [];
+      flops = record { q = net 2; d = net 1; ck = net 0; reset = false; mode = Plain } ∷ [];
       gates = record { kind = Not; out = net 1; ins = net 2 ∷ [] } ∷ [];
       constants = [];
     }
@@ -52,12 +54,46 @@ twice_clauses : transition_clauses toggle ((0 ∷ 0 ∷ []) ∷ []) ≡
     ∷ (lit 5 false ∷ lit 3 true ∷ []) ∷ (lit 5 false ∷ lit 3 false ∷ []) ∷ []
 twice_clauses = refl
 
+-- a flip-flop alone, which loads the data input d by a mode: nets ck, q, d, e
+abbrev alone : Mode → ℕ → Circuit
+alone mode d =
+    record {
+      nets = 4;
+      clock = net 0;
+      inputs = net 2 ∷ net 3 ∷ [];
+      flops = record { q = net 1; d = net d; ck = net 0; reset = false; mode = mode } ∷ [];
+      gates = [];
+      constants = [];
+    }
+
+enable_clauses : transition_clauses (alone (Enable (net 3)) 2) [] ≡
+    (lit 1 false ∷ []) ∷ (lit 5 false ∷ lit 4 false ∷ lit 3 true ∷ []) ∷ (lit 5 true ∷ lit 4 false ∷ lit 3 false ∷ [])
+    ∷ (lit 5 false ∷ lit 4 true ∷ lit 2 true ∷ []) ∷ (lit 5 true ∷ lit 4 true ∷ lit 2 false ∷ []) ∷ []
+enable_clauses = refl
+
+clear_clauses : transition_clauses (alone (Clear (net 3)) 2) [] ≡
+    (lit 1 false ∷ []) ∷ (lit 5 false ∷ lit 3 true ∷ []) ∷ (lit 5 false ∷ lit 4 false ∷ []) ∷ (lit 5 true ∷ lit 3 false ∷ lit 4 true ∷ []) ∷ []
+clear_clauses = refl
+
+-- an enable that is its own d, or its own q, makes a tautology and a repeated literal
+enabled_by_d : transition_clauses (alone (Enable (net 2)) 2) [] ≡
+    (lit 1 false ∷ []) ∷ (lit 5 true ∷ lit 3 false ∷ []) ∷ (lit 5 false ∷ lit 3 true ∷ lit 2 true ∷ []) ∷ (lit 5 true ∷ lit 3 true ∷ lit 2 false ∷ []) ∷ []
+enabled_by_d = refl
+
+enabled_by_q : transition_clauses (alone (Enable (net 1)) 2) [] ≡
+    (lit 1 false ∷ []) ∷ (lit 5 false ∷ lit 2 false ∷ lit 3 true ∷ []) ∷ (lit 5 true ∷ lit 2 false ∷ lit 3 false ∷ []) ∷ (lit 5 false ∷ lit 2 true ∷ []) ∷ []
+enabled_by_q = refl
+
+-- a clear that is its own d
+cleared_by_d : transition_clauses (alone (Clear (net 2)) 2) [] ≡ (lit 1 false ∷ []) ∷ (lit 5 false ∷ lit 3 true ∷ []) ∷ (lit 5 false ∷ lit 3 false ∷ []) ∷ []
+cleared_by_d = refl
+
 -- s27 (GND VDD CK G0 G1 G17 G2 G3 G5 G10 G6 G11 G7 G13 G14 G8 G15 G12 G16 G9), with the item of G5
 abbrev gate : Kind → ℕ → List NetId → Gate
 gate k z ins = record { kind = k; out = net z; ins = ins }
 
 abbrev flop : ℕ → ℕ → Flop
-flop q d = record { q = net q; d = net d; ck = net 2; reset = false }
+flop q d = record { q = net q; d = net d; ck = net 2; reset = false; mode = Plain }
 
 abbrev s27 : Circuit
 s27 =
@@ -94,7 +130,7 @@ xnor_of_three =
       nets = 6;
       clock = net 0;
       inputs = [];
-      flops = record { q = net 1; d = net 3; ck = net 0; reset = false } ∷ record { q = net 2; d = net 4; ck = net 0; reset = false } ∷ [];
+      flops = record { q = net 1; d = net 3; ck = net 0; reset = false; mode = Plain } ∷ record { q = net 2; d = net 4; ck = net 0; reset = false; mode = Plain } ∷ [];
       gates = gate Xnor 3 (net 1 ∷ net 2 ∷ net 5 ∷ []) ∷ gate Nand 4 (net 1 ∷ []) ∷ [];
       constants = record { net = net 5; value = false } ∷ [];
     }

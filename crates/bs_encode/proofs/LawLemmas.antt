@@ -11,7 +11,7 @@ use Rattle.bs_net.specs.declared.net.Gate.{Gate}
 use Rattle.bs_net.specs.declared.net.Flop.{Flop}
 use Rattle.bs_net.specs.declared.net.Const.{Const}
 use Rattle.bs_net.specs.Circuit.{Circuit, Fits, Shows, IsSettled, bit_at, shown, loaded, state_nets}
-use Rattle.bs_net.specs.Parts.{Parts, PartsArePlaced}
+use Rattle.bs_net.specs.Parts.{Parts, PartsArePlaced, IsFlopPlaced}
 use Rattle.bs_net.specs.Netlist.{circuit_of, clock_of}
 use Rattle.bs_net.proofs.NetlistLemmas.{without_placed}
 use Rattle.bs_net.proofs.NextLemmas.{below_from_range, range_from_below}
@@ -20,7 +20,7 @@ use Rattle.bs_encode.specs.Transition.{items_clauses, table_clauses, transition_
 use Rattle.bs_encode.specs.Meaning.{IsClosed, ShowsStep, nets_of, ClausesEqualGates}
 use Rattle.bs_encode.proofs.TidyLemmas.{meets, meets_all, meets-tidied}
 use Rattle.bs_encode.proofs.TableLemmas.{and_true, meets_all-append, Has, has_left, has_right}
-use Rattle.bs_encode.proofs.PartLemmas.{OnNets, GatePlaced, FlopPlaced, ItemPlaced, OnState, UnitsSay, gates_bits, length-gates_bits, items_bits}
+use Rattle.bs_encode.proofs.PartLemmas.{OnNets, GatePlaced, ItemPlaced, OnState, UnitsSay, gates_bits, length-gates_bits, items_bits}
 use Rattle.bs_encode.proofs.PartLemmas.{gates-sound, gates-complete, next-sound, next-complete, items-sound, items-complete, unit-sound}
 use Rattle.bs_encode.proofs.PartLemmas.{unit-complete, flat-sound, flat-complete}
 
@@ -51,8 +51,11 @@ module _ (c : Circuit) (items : List (List ℕ)) (p : IsClosed c items) where
       gates_placed c.nets c.gates (recursion_from_All (λ (g : Gate). g.out.0 < c.nets) c.gates p.outs)
       (recursion_from_All (λ (g : Gate). All (λ (n : NetId). n.0 < c.nets) g.ins) c.gates p.ins)
 
-  pub flops_in_place : AllByRecursion (FlopPlaced c.nets) c.flops
-  flops_in_place = recursion_from_All (FlopPlaced c.nets) c.flops p.loads
+  pub flops_in_place : AllByRecursion (IsFlopPlaced c.nets) c.flops
+  flops_in_place = recursion_from_All (IsFlopPlaced c.nets) c.flops p.flops
+
+  pub states_in_place : AllByRecursion (λ (f : Flop). f.q.0 < c.nets) c.flops
+  states_in_place = recursion_from_All (λ (f : Flop). f.q.0 < c.nets) c.flops (λ k d lt. (p.flops k d lt).0)
 
   pub items_in_place : AllByRecursion (ItemPlaced c) items
   items_in_place =
@@ -113,7 +116,7 @@ meeting_fits c items a p m =
       next = next-sound a v c.nets (first_next c) c.flops on (flops_in_place c items p) three.0;
       signature =
           items-sound a c (shown v (state_nets c)) (first_item c) items
-          (λ i lt. state_shown a v c.nets on c.flops (recursion_from_All (λ (f : Flop). f.q.0 < c.nets) c.flops p.states) i lt)
+          (λ i lt. state_shown a v c.nets on c.flops (states_in_place c items p) i lt)
           (items_in_place c items p) three.1;
     }
 
@@ -178,7 +181,7 @@ fitting_extends c items s x v p f =
     next-complete a v c.nets (first_next c) c.flops on (flops_in_place c items p) (has_left a (first_next c) next_part item_part two) in
     let on_state : OnState a c s =
     λ i lt.
-    state_shown a v c.nets on c.flops (recursion_from_All (λ (g : Flop). g.q.0 < c.nets) c.flops p.states) i lt ∙ ap (λ bs. get_or bs i false) f.state in
+    state_shown a v c.nets on c.flops (states_in_place c items p) i lt ∙ ap (λ bs. get_or bs i false) f.state in
     let items_met = items-complete a c s (first_item c) items on_state (items_in_place c items p) three in
     let whole : meets_all a (table_clauses c items) ≡ true =
     meets_all-append a (gates_clauses (first_helper c) c.gates) (units ++ (nexts ++ rest))
@@ -210,8 +213,7 @@ parts_placed r p items placed = record {
   outs = λ k d lt. (p.gates.1 k d lt).0;
   ins = λ k d lt. (p.gates.1 k d lt).1.1;
   inputs = without_placed (clock_of r.flops) r.inputs (length r.names) p.inputs.1;
-  loads = λ k d lt. (p.flops.1 k d lt).1;
-  states = λ k d lt. (p.flops.1 k d lt).0;
+  flops = p.flops.1;
   constants = p.consts.1;
   items_placed = placed;
 }

@@ -14,17 +14,20 @@ use Rattle.bs_clause.proofs.Literals.{beq-true}
 use Rattle.bs_net.specs.declared.net.NetId.{NetId}
 use Rattle.bs_net.specs.declared.net.Gate.{Gate}
 use Rattle.bs_net.specs.declared.net.Flop.{Flop}
+use Rattle.bs_net.specs.declared.net.Mode.{Mode}
+use Rattle.bs_net.specs.declared.net.Mode.TheVariants.{Plain, Enable, Clear}
 use Rattle.bs_net.specs.declared.net.Const.{Const}
-use Rattle.bs_net.specs.Circuit.{Circuit, gate_value, bit_at, shown, loaded, is_odd, is_zero_net}
+use Rattle.bs_net.specs.Circuit.{Circuit, gate_value, bit_at, shown, mode_loads, loaded, is_odd, is_zero_net}
+use Rattle.bs_net.specs.Parts.{IsModePlaced, IsFlopPlaced}
 use Rattle.bs_scan.specs.Signature.{parity_of}
 use Rattle.bs_encode.specs.Tables.{lit, gate_clauses, odd_clauses, helpers_of}
-use Rattle.bs_encode.specs.Transition.{net_var, gate_helpers, item_helpers, item_vars, state_vars, chosen, gates_clauses, unit_clauses, load_clauses}
+use Rattle.bs_encode.specs.Transition.{net_var, gate_helpers, item_helpers, item_vars, state_vars, chosen, gates_clauses, unit_clauses, mode_clauses, load_clauses}
 use Rattle.bs_encode.specs.Transition.{next_clauses, items_clauses}
 use Rattle.bs_encode.specs.Encoded.{literals}
 use Rattle.std.proofs.Common.{◌^◌, ◌≤◌, append_assoc}
 use Rattle.bs_encode.proofs.TidyLemmas.{meets, meets_all}
 use Rattle.bs_encode.proofs.TableLemmas.{beq-from, and_true, meets_all-append, Has, has_left, has_right, helper_bits, gate_bits, gate-sound}
-use Rattle.bs_encode.proofs.TableLemmas.{gate-complete, odd-sound, odd-complete, same_means, length-helper_bits, length-gate_bits}
+use Rattle.bs_encode.proofs.TableLemmas.{gate-complete, odd-sound, odd-complete, same_means, either_means, unless_means, length-helper_bits, length-gate_bits}
 
 -- the assignment shows v on the first nets
 abbrev pub OnNets : (ℕ → Bool) → List Bool → ℕ → Type 0
@@ -90,30 +93,49 @@ gates-complete a v nets h (g ∷ gs) on p k s =
     gates-complete a v nets (h + gate_helpers g) gs on p.1 (subst Q (length-own_bits v g) (has_right a h bits (gates_bits v gs) k)) s.1 in
     meets_all-append a own rest ∙ (ap (λ b. b && meets_all a rest) first ∙ later)
 
--- ---- flip-flops: where one loads by another rule, `load-sound` and `load-complete` change with `load_clauses`
+-- ---- flip-flops: where one loads by another rule, `mode-sound` and `mode-complete` change with `mode_clauses`
 
-abbrev pub FlopPlaced : ℕ → Flop → Type 0
-FlopPlaced nets f = f.d.0 < nets
-
-load-sound : (a : ℕ → Bool) (v : List Bool) (nets n : ℕ) (f : Flop) → OnNets a v nets → FlopPlaced nets f → meets_all a (load_clauses n f) ≡ true →
-    a n ≡ loaded v f
-load-sound a v nets n f on p m =
-    beq-true _ _ (sym (same_means a true n (net_var f.d)) ∙ m) ∙ (yes (a (net_var f.d)) ∙ on f.d.0 p)
+mode-sound : (a : ℕ → Bool) (v : List Bool) (nets n : ℕ) (mode : Mode) (d q : NetId) → OnNets a v nets → d.0 < nets → q.0 < nets → IsModePlaced nets mode →
+    meets_all a (mode_clauses mode n d q) ≡ true → a n ≡ mode_loads v mode (bit_at v d.0) (bit_at v q.0)
+mode-sound a v nets n Plain d q on load state other m =
+    beq-true _ _ (sym (same_means a true n (net_var d)) ∙ m) ∙ (yes (a (net_var d)) ∙ on d.0 load)
   where
     yes : (b : Bool) → beq true b ≡ b
     yes true = refl
     yes false = refl
+mode-sound a v nets n (Enable e) d q on load state other m =
+    beq-true _ _ (sym (either_means a n (net_var e) (net_var d) (net_var q)) ∙ m)
+    ∙ (λ k. cond (on e.0 (other 0 e (omega arith)) k) (on d.0 load k) (on q.0 state k))
+mode-sound a v nets n (Clear r) d q on load state other m =
+    beq-true _ _ (sym (unless_means a n (net_var r) (net_var d)) ∙ m)
+    ∙ (λ k. cond (on r.0 (other 0 r (omega arith)) k) false (on d.0 load k))
 
-load-complete : (a : ℕ → Bool) (v : List Bool) (nets n : ℕ) (f : Flop) → OnNets a v nets → FlopPlaced nets f → a n ≡ loaded v f →
-    meets_all a (load_clauses n f) ≡ true
-load-complete a v nets n f on p e =
-    same_means a true n (net_var f.d) ∙ beq-from _ _ (e ∙ (sym (on f.d.0 p) ∙ yes (a (net_var f.d))))
+mode-complete : (a : ℕ → Bool) (v : List Bool) (nets n : ℕ) (mode : Mode) (d q : NetId) → OnNets a v nets → d.0 < nets → q.0 < nets → IsModePlaced nets mode →
+    a n ≡ mode_loads v mode (bit_at v d.0) (bit_at v q.0) → meets_all a (mode_clauses mode n d q) ≡ true
+mode-complete a v nets n Plain d q on load state other e =
+    same_means a true n (net_var d) ∙ beq-from _ _ (e ∙ (sym (on d.0 load) ∙ yes (a (net_var d))))
   where
     yes : (b : Bool) → b ≡ beq true b
     yes true = refl
     yes false = refl
+mode-complete a v nets n (Enable on_net) d q on load state other e =
+    let same : cond (a (net_var on_net)) (a (net_var d)) (a (net_var q)) ≡ cond (bit_at v on_net.0) (bit_at v d.0) (bit_at v q.0) =
+    λ k. cond (on on_net.0 (other 0 on_net (omega arith)) k) (on d.0 load k) (on q.0 state k) in
+    either_means a n (net_var on_net) (net_var d) (net_var q) ∙ beq-from _ _ (e ∙ sym same)
+mode-complete a v nets n (Clear r) d q on load state other e =
+    let same : cond (a (net_var r)) false (a (net_var d)) ≡ cond (bit_at v r.0) false (bit_at v d.0) =
+    λ k. cond (on r.0 (other 0 r (omega arith)) k) false (on d.0 load k) in
+    unless_means a n (net_var r) (net_var d) ∙ beq-from _ _ (e ∙ sym same)
 
-pub next-sound : (a : ℕ → Bool) (v : List Bool) (nets n : ℕ) (fs : List Flop) → OnNets a v nets → AllByRecursion (FlopPlaced nets) fs →
+load-sound : (a : ℕ → Bool) (v : List Bool) (nets n : ℕ) (f : Flop) → OnNets a v nets → IsFlopPlaced nets f → meets_all a (load_clauses n f) ≡ true →
+    a n ≡ loaded v f
+load-sound a v nets n f on p m = mode-sound a v nets n f.mode f.d f.q on p.1 p.0 p.3 m
+
+load-complete : (a : ℕ → Bool) (v : List Bool) (nets n : ℕ) (f : Flop) → OnNets a v nets → IsFlopPlaced nets f → a n ≡ loaded v f →
+    meets_all a (load_clauses n f) ≡ true
+load-complete a v nets n f on p e = mode-complete a v nets n f.mode f.d f.q on p.1 p.0 p.3 e
+
+pub next-sound : (a : ℕ → Bool) (v : List Bool) (nets n : ℕ) (fs : List Flop) → OnNets a v nets → AllByRecursion (IsFlopPlaced nets) fs →
     meets_all a (next_clauses n fs) ≡ true → map a (range_with_len n (length fs)) ≡ map (loaded v) fs
 next-sound a v nets n [] on p m = refl
 next-sound a v nets n (f ∷ fs) on p m =
@@ -122,7 +144,7 @@ next-sound a v nets n (f ∷ fs) on p m =
     ap (λ b. b ∷ map a (range_with_len (n + 1) (length fs))) (load-sound a v nets n f on p.0 parts.0)
     ∙ ap (λ bs. loaded v f ∷ bs) (next-sound a v nets (n + 1) fs on p.1 parts.1)
 
-pub next-complete : (a : ℕ → Bool) (v : List Bool) (nets n : ℕ) (fs : List Flop) → OnNets a v nets → AllByRecursion (FlopPlaced nets) fs →
+pub next-complete : (a : ℕ → Bool) (v : List Bool) (nets n : ℕ) (fs : List Flop) → OnNets a v nets → AllByRecursion (IsFlopPlaced nets) fs →
     Has a n (map (loaded v) fs) → meets_all a (next_clauses n fs) ≡ true
 next-complete a v nets n [] on p k = refl
 next-complete a v nets n (f ∷ fs) on p k =

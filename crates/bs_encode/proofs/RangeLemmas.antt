@@ -15,17 +15,21 @@ use Rattle.bs_net.specs.declared.net.Kind.{Kind}
 use Rattle.bs_net.specs.declared.net.Kind.TheVariants.{And, Nand, Or, Nor, Xor, Xnor, Buf, Not}
 use Rattle.bs_net.specs.declared.net.Gate.{Gate}
 use Rattle.bs_net.specs.declared.net.Flop.{Flop}
+use Rattle.bs_net.specs.declared.net.Mode.{Mode}
+use Rattle.bs_net.specs.declared.net.Mode.TheVariants.{Plain, Enable, Clear}
 use Rattle.bs_net.specs.declared.net.Const.{Const}
 use Rattle.bs_net.specs.Circuit.{Circuit, is_zero_net}
+use Rattle.bs_net.specs.Parts.{IsModePlaced, IsFlopPlaced}
 use Rattle.bs_net.proofs.NextLemmas.{range_from_below}
-use Rattle.bs_encode.specs.Tables.{lit, all_clauses, any_clauses, same_clauses, differ_clauses, odd_from, odd_clauses, first_clauses, gate_clauses, helpers_of}
+use Rattle.bs_encode.specs.Tables.{lit, all_clauses, any_clauses, same_clauses, differ_clauses, either_clauses, unless_clauses, odd_from, odd_clauses}
+use Rattle.bs_encode.specs.Tables.{first_clauses, gate_clauses, helpers_of}
 use Rattle.bs_encode.specs.Transition.{net_var, gate_helpers, item_helpers, item_vars, state_vars, first_helper, first_next, first_item, variables}
-use Rattle.bs_encode.specs.Transition.{chosen, gates_clauses, unit_clauses, load_clauses, next_clauses, items_clauses, table_clauses, is_tautology}
+use Rattle.bs_encode.specs.Transition.{chosen, gates_clauses, unit_clauses, mode_clauses, load_clauses, next_clauses, items_clauses, table_clauses, is_tautology}
 use Rattle.bs_encode.specs.Transition.{tidied, transition_clauses}
 use Rattle.bs_encode.specs.Encoded.{literals}
 use Rattle.bs_encode.specs.Meaning.{IsClosed}
-use Rattle.bs_encode.proofs.PartLemmas.{GatePlaced, FlopPlaced}
-use Rattle.bs_encode.proofs.LawLemmas.{gates_in_place, flops_in_place, items_in_place}
+use Rattle.bs_encode.proofs.PartLemmas.{GatePlaced}
+use Rattle.bs_encode.proofs.LawLemmas.{gates_in_place, flops_in_place, states_in_place, items_in_place}
 
 -- a variable is one of 1 to n, and so are those of a clause and of clauses
 abbrev pub InRange : ℕ → ℕ → Type 0
@@ -69,6 +73,15 @@ differ_ranged : (n : ℕ) (sense : Bool) (z a b : ℕ) → InRange n z → InRan
 differ_ranged n sense z a b hz ha hb =
     let one : Ranged n (lit z sense ∷ lit a sense ∷ lit b sense ∷ []) = (hz, (ha, (hb, tt))) in
     (one, (one, (one, (one, tt))))
+
+either_ranged : (n z on a b : ℕ) → InRange n z → InRange n on → InRange n a → InRange n b → AllRanged n (either_clauses z on a b)
+either_ranged n z on a b hz ho ha hb =
+    let one : Ranged n (lit z true ∷ lit on true ∷ lit a true ∷ []) = (hz, (ho, (ha, tt))) in
+    let other : Ranged n (lit z true ∷ lit on true ∷ lit b true ∷ []) = (hz, (ho, (hb, tt))) in
+    (one, (one, (other, (other, tt))))
+
+unless_ranged : (n z off a : ℕ) → InRange n z → InRange n off → InRange n a → AllRanged n (unless_clauses z off a)
+unless_ranged n z off a hz ho ha = ((hz, (ha, tt)), ((hz, (ho, tt)), ((hz, (ha, (ho, tt))), tt)))
 
 odd_from_ranged : (n : ℕ) (sense : Bool) (h z a : ℕ) (rest : List ℕ) → 1 ≤ h → h + (length rest - 1) ≤ n + 1 → InRange n z → InRange n a →
     AllByRecursion (InRange n) rest → AllRanged n (odd_from sense h z a rest)
@@ -138,12 +151,23 @@ flat_ranged : (n : ℕ) (f : ℕ → List Clause) (ks : List ℕ) → AllByRecur
 flat_ranged n f [] h = tt
 flat_ranged n f (k ∷ ks) h = join (Ranged n) (f k) (flat_map f ks) h.0 (flat_ranged n f ks h.1)
 
-next_ranged : (n nets m : ℕ) (fs : List Flop) → nets ≤ n → AllByRecursion (FlopPlaced nets) fs → 1 ≤ m → m + length fs ≤ n + 1 → AllRanged n (next_clauses m fs)
+net_var_ranged : (n nets : ℕ) (m : NetId) → nets ≤ n → m.0 < nets → InRange n (net_var m)
+net_var_ranged n nets m le lt = (omega arith, omega (arith, lt, le))
+
+mode_ranged : (n nets v : ℕ) (mode : Mode) (d q : NetId) → nets ≤ n → InRange n v → d.0 < nets → q.0 < nets → IsModePlaced nets mode →
+    AllRanged n (mode_clauses mode v d q)
+mode_ranged n nets v Plain d q le own load state other = same_ranged n true v (net_var d) own (net_var_ranged n nets d le load)
+mode_ranged n nets v (Enable e) d q le own load state other =
+    either_ranged n v (net_var e) (net_var d) (net_var q) own (net_var_ranged n nets e le (other 0 e (omega arith))) (net_var_ranged n nets d le load)
+    (net_var_ranged n nets q le state)
+mode_ranged n nets v (Clear r) d q le own load state other =
+    unless_ranged n v (net_var r) (net_var d) own (net_var_ranged n nets r le (other 0 r (omega arith))) (net_var_ranged n nets d le load)
+
+next_ranged : (n nets m : ℕ) (fs : List Flop) → nets ≤ n → AllByRecursion (IsFlopPlaced nets) fs → 1 ≤ m → m + length fs ≤ n + 1 → AllRanged n (next_clauses m fs)
 next_ranged n nets m [] le p one room = tt
 next_ranged n nets m (f ∷ fs) le p one room =
-    let load : f.d.0 < nets = p.0 in
     join (Ranged n) (load_clauses m f) (next_clauses (m + 1) fs)
-    (same_ranged n true m (net_var f.d) (one, omega (arith, room)) (omega arith, omega (arith, load, le)))
+    (mode_ranged n nets m f.mode f.d f.q le (one, omega (arith, room)) p.0.1 p.0.0 p.0.3)
     (next_ranged n nets (m + 1) fs le p.1 (omega (arith, one)) (omega (arith, room)))
 
 chosen_ranged : (n : ℕ) (states item : List ℕ) → AllByRecursion (InRange n) states → AllByRecursion (λ i. i < length states) item →
@@ -198,7 +222,7 @@ tidied_ranged n cs h =
 module _ (c : Circuit) (items : List (List ℕ)) (p : IsClosed c items) where
   states_in_range : AllByRecursion (InRange (variables c items)) (state_vars c)
   states_in_range =
-      state_vars_ranged (variables c items) c.nets c.flops (omega arith) (recursion_from_All (λ (f : Flop). f.q.0 < c.nets) c.flops p.states)
+      state_vars_ranged (variables c items) c.nets c.flops (omega arith) (states_in_place c items p)
 
   items_below : AllByRecursion (λ (item : List ℕ). AllByRecursion (λ i. i < length (state_vars c)) item) items
   items_below =

@@ -11,7 +11,7 @@ use Rattle.bs_clause.proofs.Literals.{beq-true}
 use Rattle.bs_net.specs.declared.net.Kind.{Kind}
 use Rattle.bs_net.specs.declared.net.Kind.TheVariants.{And, Nand, Or, Nor, Xor, Xnor, Buf, Not}
 use Rattle.bs_net.specs.Circuit.{gate_value, is_one, is_odd}
-use Rattle.bs_encode.specs.Tables.{lit, all_clauses, any_clauses, same_clauses, differ_clauses, odd_from, odd_clauses, gate_clauses, helpers_of}
+use Rattle.bs_encode.specs.Tables.{lit, all_clauses, any_clauses, same_clauses, differ_clauses, either_clauses, unless_clauses, odd_from, odd_clauses, gate_clauses, helpers_of}
 use Rattle.bs_encode.proofs.TidyLemmas.{meets, meets_all}
 
 pub beq-refl : (x : Bool) → beq x x ≡ true
@@ -152,6 +152,48 @@ differ_means a p z i j = table (a z) p (a i) (a j)
     table false false true false = refl
     table false false false true = refl
     table false false false false = refl
+
+-- ---- either, unless
+
+pub either_means : (a : ℕ → Bool) (z on i j : ℕ) → meets_all a (either_clauses z on i j) ≡ beq (a z) (cond (a on) (a i) (a j))
+either_means a z on i j = table (a z) (a on) (a i) (a j)
+  where
+    table : (z c x y : Bool) →
+        ((beq z false || (beq c false || (beq x true || false)))
+        && ((beq z true || (beq c false || (beq x false || false)))
+        && ((beq z false || (beq c true || (beq y true || false)))
+        && ((beq z true || (beq c true || (beq y false || false))) && true)))) ≡ beq z (cond c x y)
+    table true true true true = refl
+    table true true true false = refl
+    table true true false true = refl
+    table true true false false = refl
+    table true false true true = refl
+    table true false true false = refl
+    table true false false true = refl
+    table true false false false = refl
+    table false true true true = refl
+    table false true true false = refl
+    table false true false true = refl
+    table false true false false = refl
+    table false false true true = refl
+    table false false true false = refl
+    table false false false true = refl
+    table false false false false = refl
+
+pub unless_means : (a : ℕ → Bool) (z off i : ℕ) → meets_all a (unless_clauses z off i) ≡ beq (a z) (cond (a off) false (a i))
+unless_means a z off i = table (a z) (a off) (a i)
+  where
+    table : (z c x : Bool) →
+        ((beq z false || (beq x true || false))
+        && ((beq z false || (beq c false || false)) && ((beq z true || (beq x false || (beq c true || false))) && true))) ≡ beq z (cond c false x)
+    table true true true = refl
+    table true true false = refl
+    table true false true = refl
+    table true false false = refl
+    table false true true = refl
+    table false true false = refl
+    table false false true = refl
+    table false false false = refl
 
 -- ---- an odd number
 

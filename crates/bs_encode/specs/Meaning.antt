@@ -3,6 +3,7 @@ use Rattle.std.specs.Prelude.{◌≡◌, ℕ, ◌+◌, ◌<◌, Bool, List, leng
 use Rattle.std.specs.List.{range_with_len}
 use Rattle.bs_clause.specs.Literal.{Satisfies}
 use Rattle.bs_net.specs.Circuit.{Circuit, Fits, shown, state_nets, next_state}
+use Rattle.bs_net.specs.Parts.{IsFlopPlaced}
 use Rattle.bs_scan.specs.Signature.{parity_of}
 use Rattle.bs_encode.specs.Transition.{transition_clauses, first_next, first_item, item_vars}
 
@@ -11,8 +12,7 @@ pub record IsClosed (c : Circuit) (items : List (List ℕ)) : Type 0 where
   pub outs : All (λ g. g.out.0 < c.nets) c.gates
   pub ins : All (λ g. All (λ n. n.0 < c.nets) g.ins) c.gates
   pub inputs : All (λ n. n.0 < c.nets) c.inputs
-  pub loads : All (λ f. f.d.0 < c.nets) c.flops
-  pub states : All (λ f. f.q.0 < c.nets) c.flops
+  pub flops : All (IsFlopPlaced c.nets) c.flops
   pub constants : All (λ k. k.net.0 < c.nets) c.constants
   pub items_placed : All (λ item. All (λ i. i < length c.flops) item) items
 

@@ -47,6 +47,20 @@ abbrev pub first_clauses : Bool → ℕ → List ℕ → List Clause
 first_clauses sense z [] = (lit z (not sense) ∷ []) ∷ []
 first_clauses sense z (a ∷ rest) = same_clauses sense z a
 
+-- z has the value of a where `on` is 1, and that of b where it is 0
+abbrev pub either_clauses : ℕ → ℕ → ℕ → ℕ → List Clause
+either_clauses z on a b =
+    (lit z false ∷ lit on false ∷ lit a true ∷ [])
+    ∷ (lit z true ∷ lit on false ∷ lit a false ∷ [])
+    ∷ (lit z false ∷ lit on true ∷ lit b true ∷ [])
+    ∷ (lit z true ∷ lit on true ∷ lit b false ∷ [])
+    ∷ []
+
+-- z is 0 where `off` is 1, and has the value of a where it is 0
+abbrev pub unless_clauses : ℕ → ℕ → ℕ → List Clause
+unless_clauses z off a =
+    (lit z false ∷ lit a true ∷ []) ∷ (lit z false ∷ lit off false ∷ []) ∷ (lit z true ∷ lit a false ∷ lit off true ∷ []) ∷ []
+
 -- z shows the value of a gate of this kind on these inputs; helpers from h on
 abbrev pub gate_clauses : Kind → ℕ → ℕ → List ℕ → List Clause
 gate_clauses And h z ins = all_clauses true z ins

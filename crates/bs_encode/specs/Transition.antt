@@ -6,8 +6,10 @@ use Rattle.bs_clause.specs.Resolvent.{once}
 use Rattle.bs_net.specs.declared.net.NetId.{NetId}
 use Rattle.bs_net.specs.declared.net.Gate.{Gate}
 use Rattle.bs_net.specs.declared.net.Flop.{Flop}
+use Rattle.bs_net.specs.declared.net.Mode.{Mode}
+use Rattle.bs_net.specs.declared.net.Mode.TheVariants.{Plain, Enable, Clear}
 use Rattle.bs_net.specs.Circuit.{Circuit, is_zero_net}
-use Rattle.bs_encode.specs.Tables.{lit, gate_clauses, same_clauses, odd_clauses, helpers_of}
+use Rattle.bs_encode.specs.Tables.{lit, gate_clauses, same_clauses, either_clauses, unless_clauses, odd_clauses, helpers_of}
 
 -- ---- variables: the nets, the helpers of long xor gates, the next state, and for each item its helpers and its own
 
@@ -62,9 +64,15 @@ unit_clauses c n =
     map (λ k. lit (n + 1) k.value ∷ []) (filter (λ k. k.net.0 == n) c.constants)
     ++ (if is_zero_net c n then (lit (n + 1) false ∷ []) ∷ [] else [])
 
+-- n is the bit that a mode loads of d and q
+abbrev pub mode_clauses : Mode → ℕ → NetId → NetId → List Clause
+mode_clauses Plain n d q = same_clauses true n (net_var d)
+mode_clauses (Enable e) n d q = either_clauses n (net_var e) (net_var d) (net_var q)
+mode_clauses (Clear r) n d q = unless_clauses n (net_var r) (net_var d)
+
 -- n is the bit that a flip-flop loads
 abbrev pub load_clauses : ℕ → Flop → List Clause
-load_clauses n f = same_clauses true n (net_var f.d)
+load_clauses n f = mode_clauses f.mode n f.d f.q
 
 -- the clauses of the flip-flops, whose next variables begin at n
 abbrev pub next_clauses : ℕ → List Flop → List Clause

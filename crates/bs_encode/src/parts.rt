@@ -1,14 +1,15 @@
 //! The clauses of the gates, the flip-flops and the items.
 ghost use Rattle.std.specs.Prelude.{◌≡◌, ◌<◌, ◌≤◌, ◌+◌, ◌-◌, ◌^◌, ◌++◌, ◌∷◌, [], true, length, map, All, IfOk, OnOk, sum_by};
 ghost use Rattle.bs_net.specs.declared.limits.TheConstants.{MAX_NETS};
+ghost use Rattle.bs_net.specs.Parts.{IsFlopPlaced};
 ghost use Rattle.bs_clause.specs.declared.literal.TheConstants.{VARIABLE_LIMIT};
 ghost use Rattle.bs_clause.specs.Literal.{IsVariable};
 ghost use Rattle.bs_encode.specs.Tables.{lit, helpers_of, odd_clauses};
 ghost use Rattle.bs_encode.specs.Transition.{net_var, gate_helpers, gates_clauses, next_clauses, load_clauses, item_helpers, items_clauses, item_vars, chosen};
 
-use crate::table::{add_gate, add_odd, add_same};
+use crate::table::{add_either, add_gate, add_odd, add_same, add_unless};
 use bs_clause::{Clauses, Lit, Lits, NoMemory, Var};
-use bs_net::{Flop, Gate, Kind, NetId};
+use bs_net::{Flop, Gate, Kind, Mode, NetId};
 use bs_scan::Choice;
 use std::alloc::Global;
 
@@ -72,11 +73,16 @@ pub(crate) fn add_gates(
 
 /// The clauses of a flip-flop, whose next variable is n.
 fn add_load(alloc: Global, into: &mut Clauses, n: u32, flop: &Flop) -> Result<(), NoMemory>
-    requires placed { flop.now.d.0 < MAX_NETS }
+    requires placed { IsFlopPlaced MAX_NETS flop.now }
     requires next { IsVariable n }
     ensures { OnOk result (into.new ≡ into.old ++ load_clauses n flop.now) }
 {
-    add_same(alloc, into, true, n, variable(flop.d))
+    let d = variable(flop.d);
+    match flop.mode {
+        Mode::Plain => add_same(alloc, into, true, n, d),
+        Mode::Enable(e) => add_either(alloc, into, n, variable(e), d, variable(flop.q)),
+        Mode::Clear(r) => add_unless(alloc, into, n, variable(r), d),
+    }
 }
 
 /// The clauses of the flip-flops, whose next variables begin at n.
@@ -86,7 +92,7 @@ pub(crate) fn add_next(
     n: u32,
     flops: &[Flop],
 ) -> Result<(), NoMemory>
-    requires placed { All (λ f. f.d.0 < MAX_NETS) flops.now }
+    requires placed { All (IsFlopPlaced MAX_NETS) flops.now }
     requires next { (1 ≤ n) × (n + length flops.now ≤ VARIABLE_LIMIT) }
     ensures { OnOk result (into.new ≡ into.old ++ next_clauses n flops.now) }
 {

@@ -2,7 +2,7 @@
 ghost use Rattle.std.specs.Prelude.{◌≡◌, ◌<◌, ◌≤◌, ◌+◌, ◌-◌, ◌∷◌, [], ◌++◌, true, false, length, map, All, IfOk, OnOk};
 ghost use Rattle.bs_clause.specs.declared.literal.TheConstants.{VARIABLE_LIMIT};
 ghost use Rattle.bs_clause.specs.Literal.{IsVariable};
-ghost use Rattle.bs_encode.specs.Tables.{lit, all_clauses, any_clauses, same_clauses, differ_clauses, odd_clauses, first_clauses, gate_clauses, helpers_of};
+ghost use Rattle.bs_encode.specs.Tables.{lit, all_clauses, any_clauses, same_clauses, differ_clauses, either_clauses, unless_clauses, odd_clauses, first_clauses, gate_clauses, helpers_of};
 
 use bs_clause::{Clauses, Lit, Lits, NoMemory, Var};
 use bs_net::Kind;
@@ -147,6 +147,52 @@ fn add_differ(
     add_triple(alloc, into, off, not_a, not_b)?;
     add_triple(alloc, into, on, not_a, b)?;
     add_triple(alloc, into, on, a, not_b)
+}
+
+/// z has the value of a where `on` is 1, and that of b where it is 0.
+pub(crate) fn add_either(
+    alloc: Global,
+    into: &mut Clauses,
+    z: u32,
+    on: u32,
+    a: u32,
+    b: u32,
+) -> Result<(), NoMemory>
+    requires output { IsVariable z }
+    requires chooser { IsVariable on }
+    requires left { IsVariable a }
+    requires right { IsVariable b }
+    ensures { OnOk result (into.new ≡ into.old ++ either_clauses z on a b) }
+{
+    let (z, not_z) = (Lit::new(Var(z), true), Lit::new(Var(z), false));
+    let (on, off) = (Lit::new(Var(on), true), Lit::new(Var(on), false));
+    let (a, not_a) = (Lit::new(Var(a), true), Lit::new(Var(a), false));
+    let (b, not_b) = (Lit::new(Var(b), true), Lit::new(Var(b), false));
+    add_triple(alloc, into, not_z, off, a)?;
+    add_triple(alloc, into, z, off, not_a)?;
+    add_triple(alloc, into, not_z, on, b)?;
+    add_triple(alloc, into, z, on, not_b)
+}
+
+/// z is 0 where `off` is 1, and has the value of a where it is 0.
+pub(crate) fn add_unless(
+    alloc: Global,
+    into: &mut Clauses,
+    z: u32,
+    off: u32,
+    a: u32,
+) -> Result<(), NoMemory>
+    requires output { IsVariable z }
+    requires clear { IsVariable off }
+    requires input { IsVariable a }
+    ensures { OnOk result (into.new ≡ into.old ++ unless_clauses z off a) }
+{
+    let (z, not_z) = (Lit::new(Var(z), true), Lit::new(Var(z), false));
+    let (off, on) = (Lit::new(Var(off), true), Lit::new(Var(off), false));
+    let (a, not_a) = (Lit::new(Var(a), true), Lit::new(Var(a), false));
+    add_pair(alloc, into, not_z, a)?;
+    add_pair(alloc, into, not_z, on)?;
+    add_triple(alloc, into, z, not_a, off)
 }
 
 /// z has the value `sense` exactly where an odd number of the inputs are 1; helpers from h on.

@@ -38,7 +38,7 @@ fn refusal(words: Result<Vec<u8>, NoMemory>) -> Refusal
 }
 
 /// The refusal of one word.
-fn worded(alloc: Global, word: &[u8]) -> Refusal
+pub fn worded(alloc: Global, word: &[u8]) -> Refusal
     ensures { HasWords word.now result }
 {
     match word.to_vec(alloc) {

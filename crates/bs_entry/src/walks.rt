@@ -21,7 +21,7 @@ use bs_stim::Runs;
 use std::alloc::Global;
 
 /// The netlist.
-fn take_netlist<S: Shelf>(alloc: Global, shelf: &mut S, name: &str) -> Result<Netlist, JobFault>
+pub fn take_netlist<S: Shelf>(alloc: Global, shelf: &mut S, name: &str) -> Result<Netlist, JobFault>
     ensures { Walks CheckSays S.held S.faults S.leads shelf.old shelf.new (netlist_of name.now) (λ net. net.raw) result }
 {
     let bytes = fetch_file(alloc, shelf, File::Netlist, name)?;

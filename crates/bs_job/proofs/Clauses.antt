@@ -15,7 +15,7 @@ use Rattle.bs_job.specs.Answers.{Answers, CallsFor, CallsByTold}
 use Rattle.bs_job.specs.Prepared.{Prepares, Prepared, IsWork}
 use Rattle.bs_job.specs.Delivery.{Delivers, PutsLines}
 use Rattle.bs_job.specs.Clauses.{Answered, AnsweredAsTold, AnsweredWhole, CallByCall, CallsWanting, FailedToRead, ReadFaultOf, IsCalm, IsWordsOnlyFor}
-use Rattle.bs_job.specs.Clauses.{Refuses, RefusesInSomeWay, RefusesFirstOf}
+use Rattle.bs_job.specs.Clauses.{Refuses, RefusesFirstOf}
 use Rattle.bs_job.proofs.Plans.{ready_in, refused_in, faulted_in, ends_as_told, ends_by_fault}
 use Rattle.bs_job.proofs.Preparing.{IsPlain, work_plain, refusal_plain}
 use Rattle.std.specs.Option.{option_map}

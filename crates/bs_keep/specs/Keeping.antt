@@ -1,5 +1,6 @@
 -- The lemmas and blocks of a log as rows over an arena, and which of them stay at a step's end.
-use Rattle.std.specs.Prelude.{◌≡◌, ℕ, ◌<◌, ◌≤◌, Bool, true, not, ◌&&◌, cond, List, [], ◌++◌, ◌∷◌, map, take, length, count_by, option_map, unwrap_or, Some, All, slice_get}
+use Rattle.std.specs.Prelude.{◌≡◌, ℕ, ◌<◌, ◌≤◌, Bool, true, not, ◌&&◌, cond, List, [], ◌++◌, ◌∷◌}
+use Rattle.std.specs.Prelude.{map, take, length, count_by, option_map, unwrap_or, Some, All, slice_get}
 use Rattle.bs_clause.specs.Literal.{Literal}
 use Rattle.bs_arena.specs.Arena.{Held, held_at, literals_at}
 use Rattle.bs_arena.specs.Renaming.{new_name}

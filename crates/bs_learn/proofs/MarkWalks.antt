@@ -18,7 +18,7 @@ use Rattle.bs_learn.specs.Marks.{MarkState, is_marked, marks_in, added, marked_w
 use Rattle.bs_learn.specs.Marks.{HasMoved}
 use Rattle.bs_watch.proofs.Gets.{get_take, take_get, take_push_at, Contains_from_get, get_map}
 use Rattle.bs_learn.proofs.Literals.{Contains-from_has, absent}
-use Rattle.bs_learn.proofs.Sound.{IsClauseAt, IsSound}
+use Rattle.bs_learn.proofs.Walkable.{IsClauseAt, IsWalkable}
 use Rattle.bs_learn.proofs.Clauses.{nothing_in, cons_contains, contains_first, contains_cases, all_from, resolvent_cases, resolvent_reason}
 use Rattle.bs_learn.proofs.Clauses.{resolvent_left, distinct_cons}
 use Rattle.bs_watch.proofs.Literals.{negation-negation}
@@ -228,7 +228,7 @@ pub record MarkWalk (clauses : List Held) (places : List Place) (down : ℕ) (s 
 
 -- a marked false literal is left
 pub marked_is_left : (clauses : List Held) (places : List Place) (down : ℕ) (s : MarkState) (hints : List ℕ) (l : Literal) →
-    IsSound clauses places → (w : MarkWalk clauses places down s hints) → IsFalseOn (literals_of places) l → is_marked s l ≡ true → Contains w.left l
+    IsWalkable clauses places → (w : MarkWalk clauses places down s hints) → IsFalseOn (literals_of places) l → is_marked s l ≡ true → Contains w.left l
 marked_is_left clauses places down s hints l sound w f t =
     let (m, in_left, same) = w.known l.variable t in
     subst (Contains w.left) (false_same clauses places sound m l
@@ -236,14 +236,14 @@ marked_is_left clauses places down s hints l sound w f t =
 
 -- a place's literal is denied where its variable is marked
 pub denied_at : (clauses : List Held) (places : List Place) (down : ℕ) (s : MarkState) (hints : List ℕ) (k : ℕ) (p : Place) →
-    IsSound clauses places → (w : MarkWalk clauses places down s hints) → slice_get places k ≡ Some p → is_marked s p.literal ≡ true →
+    IsWalkable clauses places → (w : MarkWalk clauses places down s hints) → slice_get places k ≡ Some p → is_marked s p.literal ≡ true →
     Contains w.left (negation p.literal)
 denied_at clauses places down s hints k p sound w at t =
     marked_is_left clauses places down s hints (negation p.literal) sound w
     (subst (Contains (literals_of places)) (sym (negation-negation p.literal))
     (Contains_from_get (literals_of places) k p.literal (get_map (λ (x : Place). x.literal) places k p at))) t
 
-pub mark_start : (clauses : List Held) (places : List Place) (at : ℕ) (c : Clause) (vars : ℕ) (s0 s : MarkState) → IsSound clauses places →
+pub mark_start : (clauses : List Held) (places : List Place) (at : ℕ) (c : Clause) (vars : ℕ) (s0 s : MarkState) → IsWalkable clauses places →
     IsClauseAt clauses at c → has_distinct_variables c ≡ true → IsConflict (literals_of places) c → HasVariables vars c → IsClear (vars + 1) s0 →
     HasMarked s0 s c →
     (w : MarkWalk clauses places (length places) s (at ∷ [])) × (w.left ≡ c)
@@ -292,7 +292,7 @@ mark_past clauses places i s hints w = (
 )
 
 pub mark_step : (clauses : List Held) (places : List Place) (i : ℕ) (s now : MarkState) (hints : List ℕ) (p : Place) (r : ℕ) (c : Clause) (vars : ℕ) →
-    IsSound clauses places → (w : MarkWalk clauses places (suc i) s hints) → slice_get places i ≡ Some p → p.reason ≡ Some r → IsClauseAt clauses r c →
+    IsWalkable clauses places → (w : MarkWalk clauses places (suc i) s hints) → slice_get places i ≡ Some p → p.reason ≡ Some r → IsClauseAt clauses r c →
     has_distinct_variables c ≡ true → HasVariables vars c → length s.flags ≡ vars + 1 → is_marked s p.literal ≡ true → HasTraded s now c p.literal →
     (v : MarkWalk clauses places i now (hints ++ r ∷ [])) × (v.left ≡ resolvent c w.left p.literal)
 mark_step clauses places i s now hints p r c vars sound w at is there distinct range flags is_set traded =
@@ -428,7 +428,7 @@ touched_all clauses places down s hints w = record {
   covered = λ v t. let (l, in_left, same) = w.known v t in (l, w.touched l in_left, same);
 }
 
-pub taken : (clauses : List Held) (places : List Place) (down : ℕ) (s now : MarkState) (hints : List ℕ) (lits : Clause) → IsSound clauses places →
+pub taken : (clauses : List Held) (places : List Place) (down : ℕ) (s now : MarkState) (hints : List ℕ) (lits : Clause) → IsWalkable clauses places →
     (w : MarkWalk clauses places down s hints) → HasMoved s now [] lits → Taken clauses w.left lits hints
 taken clauses places down s now hints lits sound w moved =
     record {
@@ -454,7 +454,7 @@ taken clauses places down s now hints lits sound w moved =
 
 -- the pivot's negation comes first
 pub taken_at : (clauses : List Held) (places : List Place) (down : ℕ) (s now : MarkState) (hints : List ℕ) (pivot : Literal) (lits : Clause) →
-    IsSound clauses places →
+    IsWalkable clauses places →
     (w : MarkWalk clauses places down s hints) → Contains w.left (negation pivot) → pivot.variable < length s.flags →
     HasMoved (unmarked s pivot) now (negation pivot ∷ []) lits →
     Taken clauses w.left lits hints

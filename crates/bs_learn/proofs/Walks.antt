@@ -18,7 +18,7 @@ use Rattle.bs_learn.specs.Derives.{AreFresh}
 use Rattle.bs_learn.specs.Walk.{clauses_at, IsLearnt, IsRightBy, AreUsed, IsWalk}
 use Rattle.bs_watch.proofs.Gets.{none_is_not_some, same_some, get_take, take_get, get_from_Contains, Contains_from_get, get_map_cases, get_map}
 use Rattle.bs_learn.proofs.Literals.{has-from_Contains, negation-negation}
-use Rattle.bs_learn.proofs.Sound.{IsClauseAt, IsPlaced, IsSound, open_apart, one_place}
+use Rattle.bs_learn.proofs.Walkable.{IsClauseAt, IsWalkablePlace, IsWalkable, open_apart, one_place}
 use Rattle.bs_learn.proofs.Clauses.{cons_contains, contains_first, contains_cases, all_from, any_cases, any_first, any_later, filter_cases}
 use Rattle.bs_learn.proofs.Clauses.{same_or_not, not_same, resolvent_cases, news_cases, distinct_once, resolvent_reason, resolvent_left}
 use Rattle.bs_learn.proofs.Clauses.{distinct_cons, distinct_filter, distinct_append, distinct_parts, has_none, map_cases, map_contains}
@@ -58,7 +58,7 @@ open_false_apart places a b o f same =
     open_apart places a o k p at (ap (λ (x : Literal). x.variable) is ∙ sym same)
 
 -- two false literals of one variable are the same
-pub false_same : (clauses : List Held) (places : List Place) → IsSound clauses places → (x y : Literal) →
+pub false_same : (clauses : List Held) (places : List Place) → IsWalkable clauses places → (x y : Literal) →
     IsFalseOn (literals_of places) x → IsFalseOn (literals_of places) y → x.variable ≡ y.variable → x ≡ y
 false_same clauses places s x y fx fy same =
     let (i, p, at_i, is_p) = place_of places (negation x) fx in
@@ -111,7 +111,7 @@ walk_past clauses trail i left hints w = record {
 -- ---- a literal is traded for its reason's others
 
 pub walk_step : (clauses : List Held) (trail : List Place) (i : ℕ) (left : Clause) (hints : List ℕ) (p : Place) (r : ℕ) (c : Clause) →
-    IsSound clauses trail → IsWalk clauses trail (suc i) left hints → slice_get trail i ≡ Some p → p.reason ≡ Some r → IsClauseAt clauses r c →
+    IsWalkable clauses trail → IsWalk clauses trail (suc i) left hints → slice_get trail i ≡ Some p → p.reason ≡ Some r → IsClauseAt clauses r c →
     has_distinct_variables c ≡ true → Contains left (negation p.literal) → IsWalk clauses trail i (resolvent c left p.literal) (hints ++ r ∷ [])
 walk_step clauses trail i left hints p r c s w at is there distinct_c denied = record {
   links = link ∷ w.links;
@@ -185,7 +185,7 @@ walk_step clauses trail i left hints p r c s w at is there distinct_c denied = r
     next : Clause
     next = resolvent c left p.literal
 
-    placed : IsPlaced clauses (take i trail) p
+    placed : IsWalkablePlace clauses (take i trail) p
     placed = s.placed i p at
 
     forces : Forces (literals_of (take i trail)) c p.literal

@@ -11,7 +11,7 @@ use Rattle.bs_learn.specs.Reasons.{live_clauses}
 use Rattle.bs_watch.specs.Trail.{IsFalseOn, IsUnit, IsQuiet}
 use Rattle.bs_learn.specs.Point.{IsLastDecision, DeniesAt, ForcedWith, LeadsTo, Bypasses}
 use Rattle.bs_watch.proofs.Gets.{get_take, take_get, Contains_from_get, get_map}
-use Rattle.bs_learn.proofs.Sound.{IsSound, live_contains}
+use Rattle.bs_learn.proofs.Walkable.{IsWalkable, live_contains}
 use Rattle.bs_learn.proofs.Clauses.{contains_cases, all_from}
 use Rattle.bs_watch.proofs.Literals.{negation-negation}
 use Rattle.bs_learn.proofs.Walks.{place_of, open_earlier}
@@ -57,7 +57,7 @@ record StepBack (clauses : List Held) (places : List Place) (start at : ℕ) : T
   before : earlier < at
   forced : ForcedWith clauses places earlier at
 
-step_back : (clauses : List Held) (places : List Place) (start at : ℕ) (p : Place) → IsSound clauses places → IsLastDecision places start →
+step_back : (clauses : List Held) (places : List Place) (start at : ℕ) (p : Place) → IsWalkable clauses places → IsLastDecision places start →
     IsQuiet (literals_of (take start places)) (live_clauses clauses) → slice_get places at ≡ Some p → start < at → StepBack clauses places start at
 step_back clauses places start at p sound last quiet there above =
     let (r, is) = reason_of p.reason (last.forced at p above there) in
@@ -134,7 +134,7 @@ climbed_later clauses places conflict start j at way before rest = record {
       ]);
 }
 
-pub climb : (clauses : List Held) (places : List Place) (conflict start : ℕ) → IsSound clauses places → IsLastDecision places start →
+pub climb : (clauses : List Held) (places : List Place) (conflict start : ℕ) → IsWalkable clauses places → IsLastDecision places start →
     IsQuiet (literals_of (take start places)) (live_clauses clauses) → (n at : ℕ) (p : Place) (way : List ℕ) → slice_get places at ≡ Some p →
     start ≤ at → at ≤ start + n →
     LeadsTo clauses places conflict (at ∷ way) → Climbed clauses places conflict start at way
@@ -150,7 +150,7 @@ climb clauses places conflict start sound last quiet (suc n) at p way there low 
 ]
 
 -- a place between a marked one and the further places of its way is bypassed
-pub bypass : (clauses : List Held) (places : List Place) (conflict start i at : ℕ) (p : Place) → IsSound clauses places → IsLastDecision places start →
+pub bypass : (clauses : List Held) (places : List Place) (conflict start i at : ℕ) (p : Place) → IsWalkable clauses places → IsLastDecision places start →
     IsQuiet (literals_of (take start places)) (live_clauses clauses) → slice_get places at ≡ Some p → start ≤ at → at < i →
     WayFrom clauses places conflict (suc i) at → Bypasses clauses places conflict start i
 bypass clauses places conflict start i at p sound last quiet there low under w =

@@ -5,6 +5,7 @@ use Rattle.bs_bits.specs.Lines.{line}
 use Rattle.bs_bits.specs.Text.{digit_of}
 use Rattle.bs_net.specs.declared.net.NetId.{NetId}
 use Rattle.bs_net.specs.declared.net.Flop.{Flop}
+use Rattle.bs_net.specs.declared.net.Mode.TheVariants.{Plain}
 use Rattle.bs_net.specs.Parts.{Parts}
 use Rattle.bs_net.specs.Netlist.{circuit_of}
 use Rattle.bs_listing.specs.declared.mark.Measure.TheVariants.{Source}
@@ -36,7 +37,7 @@ abbrev pub no_net : NetId
 no_net = record { 0 = 0 }
 
 abbrev pub no_flop : Flop
-no_flop = record { q = no_net; d = no_net; ck = no_net; reset = false }
+no_flop = record { q = no_net; d = no_net; ck = no_net; reset = false; mode = Plain }
 
 -- the lines of the flip-flop and of the data input with this number
 abbrev pub flop_at_line : Parts → List ℕ → ℕ → List ℕ

@@ -166,6 +166,11 @@ fn netlists_have_an_order_or_a_refusal(rt: HostRuntime) -> Result<(), Fail> {
         ),
         ("ck", "input ck;not g(d,ck);dff f(ck,q,d);", "mixed ck"),
         ("ck", "input ck;dff f(ck,q,ck);", "mixed ck"),
+        ("ck", "input ck;dffe f(ck,q,q,q);", "order"),
+        ("ck", "input ck;dffe f(ck,q,q,e);", "undriven e"),
+        ("ck", "input ck;dffr f(ck,q,q,r);", "undriven r"),
+        ("ck", "input ck;dffe f(ck,q,q,ck);", "mixed ck"),
+        ("ck", "input ck;dffr f(ck,q,q,ck);", "mixed ck"),
         (
             "ck,a",
             "input ck;input [4095:0] a;dff f(ck,q,q);",

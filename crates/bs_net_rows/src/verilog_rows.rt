@@ -40,6 +40,7 @@ nand #(1,2.5) (n1,b[0],b[1]); or #(1:2:3,4) (n2,b[2],b[3]); nor (n3,n1,n2); xor 
 buf #2.5 (u,v,n5); not (n6,u,1'b1);
 assign #1 z = n6, k = 1'h0;
 dff f0(ck,q0,n5), f1(ck,q1,q0); dffs f2(.D(q1),.CK(ck),.Q(q2));
+dffe f3(ck,q3,q1,v); dffr f4(.R(u),.Q(q4),.CK(ck),.D(q2));
 endmodule
 (* cell *) module dffs(CK,Q,D); endmodule
 `endcelldefine
@@ -49,7 +50,7 @@ endmodule
 fn netlists_are_read(rt: HostRuntime) -> Result<(), Fail> {
     let alloc = rt.alloc();
     assert_eq!(rt; counted(alloc, PLAIN), Ok((10, 4, 0, 3, 2, 1)));
-    assert_eq!(rt; counted(alloc, EACH_FORM), Ok((29, 9, 1, 5, 13, 3)));
+    assert_eq!(rt; counted(alloc, EACH_FORM), Ok((31, 9, 1, 5, 13, 5)));
     let mut great = Vec::new(alloc);
     great.extend_from_slice(b"module m(ck); input ck; wire [65535:0] v; wire [34462:0] w;\n")?;
     for _ in 0..40_000 {

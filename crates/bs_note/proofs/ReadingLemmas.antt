@@ -1,5 +1,5 @@
 -- What a reading of a file answers, in the words of a note.
-use Rattle.std.proofs.Common.{◌≡◌, ◌≢◌, ℕ, List, Bool, true, false, Option, Some, None, Result, Ok, Err, Vec, refl, sym, subst}
+use Rattle.std.proofs.Common.{◌≡◌, ◌≢◌, ℕ, List, Bool, true, false, Option, Some, None, [], length, Result, Ok, Err, Vec, refl, sym, subst, ap}
 use Rattle.std.specs.Prelude.{IfOk, if◌then◌else◌}
 use Rattle.std.specs.declared.alloc.Global.{Global}
 use Rattle.bs_bits.specs.declared.memory.NoMemory.{NoMemory}
@@ -16,7 +16,12 @@ use Rattle.bs_job.specs.Walks.{Reads}
 use Rattle.bs_refusal.specs.Checks.{IsCheckNote}
 use Rattle.bs_refusal.specs.Kinds.{mistaken_text}
 use Rattle.bs_note.specs.Cases.{Case, in_check, NoteSays, told_as, noted_as, HasNote}
-use Rattle.bs_note.specs.Readings.{checked_noted}
+use Rattle.bs_net.specs.Netlist.{circuit_of}
+use Rattle.bs_encode.specs.Transition.{variables}
+use Rattle.bs_entry.specs.Refusals.{CheckSays}
+use Rattle.bs_target.specs.Target.{room_in, state_in}
+use Rattle.bs_told.specs.Searches.{room_text, state_text}
+use Rattle.bs_note.specs.Readings.{checked_noted, room_noted, said_by, state_noted}
 
 -- a note that was made is the refusal's
 pub noted_is : (reason : Reason Case) (note : Result (Vec ℕ Global) NoMemory) → IfOk note (λ n. Says NoteSays reason n.items) → HasNote reason (noted_as note)
@@ -72,3 +77,49 @@ reads_else holds text note refusal e same says =
         Reads NoteSays (λ (_ : Unit {0}). true) (Err (exactly text)) (Err (noted_as n))
     by (Ok n) says = says
     by (Err want) says = tt
+
+-- ---- searches
+
+-- a reading in the words of a refusal line, in those of a note
+said_right : {T V : Type 0} (view : T → V) (text : List ℕ) (wanted : Result V (Reason Parts)) (read : T) → Reads CheckSays view wanted (Ok read) →
+    Reads NoteSays (λ (_ : Unit {0}). true) (said_by text wanted) (Ok tt)
+said_right view text wanted read h = ap (said_by text) h
+
+said_wrong : {T V : Type 0} (view : T → V) (text : List ℕ) (wanted : Result V (Reason Parts)) (why : Vec ℕ Global)
+    (note : Result (Vec ℕ Global) NoMemory) → Reads CheckSays view wanted (Err (Q.Why why)) → IfOk note (λ n. n.items ≡ text) →
+    Reads NoteSays (λ (_ : Unit {0}). true) (said_by text wanted) (Err (noted_as note))
+said_wrong view text (Ok v) why note h says = absurd h
+said_wrong view text (Err reason) why (Ok n) h says = says
+said_wrong view text (Err reason) why (Err want) h says = tt
+
+pub state_fits : (r : Parts) (word : List ℕ) (result : Result (List Bool) Refusal) (state : List Bool) → result ≡ Ok state →
+    Reads CheckSays (λ (s : List Bool). s) (state_in r word) result → Reads NoteSays (λ (_ : Unit {0}). true) (state_noted r word) (Ok tt)
+state_fits r word result state is h =
+    said_right (λ (s : List Bool). s) (state_text word (length (circuit_of r).flops)) (state_in r word) state
+    (subst (Reads CheckSays (λ (s : List Bool). s) (state_in r word)) is h)
+
+pub state_fails : (r : Parts) (word : List ℕ) (result : Result (List Bool) Refusal) (refusal given : Refusal) (why : Vec ℕ Global)
+    (note : Result (Vec ℕ Global) NoMemory) → result ≡ Err refusal → refusal ≡ Q.Why why → given ≡ noted_as note →
+    Reads CheckSays (λ (s : List Bool). s) (state_in r word) result →
+    IfOk note (λ n. n.items ≡ state_text word (length (circuit_of r).flops)) → Reads NoteSays (λ (_ : Unit {0}). true) (state_noted r word) (Err given)
+state_fails r word result refusal given why note is because same h says =
+    subst (λ (q : Refusal). Reads NoteSays (λ (_ : Unit {0}). true) (state_noted r word) (Err q)) (sym same)
+    (said_wrong (λ (s : List Bool). s) (state_text word (length (circuit_of r).flops)) (state_in r word) why note
+    (subst (λ (q : Refusal). Reads CheckSays (λ (s : List Bool). s) (state_in r word) (Err q)) because
+    (subst (Reads CheckSays (λ (s : List Bool). s) (state_in r word)) is h)) says)
+
+pub room_fits : (r : Parts) (cycles : ℕ) (result : Result (Unit {0}) Refusal) (u : Unit {0}) → result ≡ Ok u →
+    Reads CheckSays (λ (_ : Unit {0}). true) (room_in r cycles) result → Reads NoteSays (λ (_ : Unit {0}). true) (room_noted r cycles) (Ok tt)
+room_fits r cycles result u is h =
+    said_right (λ (_ : Unit {0}). true) (room_text (variables (circuit_of r) [])) (room_in r cycles) u
+    (subst (Reads CheckSays (λ (_ : Unit {0}). true) (room_in r cycles)) is h)
+
+pub room_fails : (r : Parts) (cycles : ℕ) (result : Result (Unit {0}) Refusal) (refusal given : Refusal) (why : Vec ℕ Global)
+    (note : Result (Vec ℕ Global) NoMemory) → result ≡ Err refusal → refusal ≡ Q.Why why → given ≡ noted_as note →
+    Reads CheckSays (λ (_ : Unit {0}). true) (room_in r cycles) result →
+    IfOk note (λ n. n.items ≡ room_text (variables (circuit_of r) [])) → Reads NoteSays (λ (_ : Unit {0}). true) (room_noted r cycles) (Err given)
+room_fails r cycles result refusal given why note is because same h says =
+    subst (λ (q : Refusal). Reads NoteSays (λ (_ : Unit {0}). true) (room_noted r cycles) (Err q)) (sym same)
+    (said_wrong (λ (_ : Unit {0}). true) (room_text (variables (circuit_of r) [])) (room_in r cycles) why note
+    (subst (λ (q : Refusal). Reads CheckSays (λ (_ : Unit {0}). true) (room_in r cycles) (Err q)) because
+    (subst (Reads CheckSays (λ (_ : Unit {0}). true) (room_in r cycles)) is h)) says)

@@ -1,6 +1,6 @@
 -- The names of the files of a job.
 use Rattle.std.specs.Prelude.{List, [], ℕ}
-use Rattle.bs_words.specs.Job.{Job, Run, Audit, Dump as Moment, Demo, Wave}
+use Rattle.bs_words.specs.Job.{Job, Run, Audit, Dump as Moment, Demo, Wave, Reach}
 use Rattle.bs_job.specs.declared.file.File.{File}
 use Rattle.bs_job.specs.declared.file.File.TheVariants as files
 
@@ -11,13 +11,14 @@ pub record Names : Type 0 where
   pub dump : List ℕ
   pub report : List ℕ
 
--- the name of a file
+-- the name of a file; a state has none
 abbrev pub name_of : Names → File → List ℕ
 name_of n files.Netlist = n.netlist
 name_of n files.Signature = n.signature
 name_of n files.Stimulus = n.stimulus
 name_of n files.Dump = n.dump
 name_of n files.Report = n.report
+name_of n files.State = []
 
 -- the files of a job; a name that it does not give is empty
 abbrev pub names_of : Job → Names
@@ -26,3 +27,4 @@ names_of (Audit j) = record { netlist = j.netlist; signature = j.signature; stim
 names_of (Moment j) = record { netlist = j.netlist; signature = j.signature; stimulus = j.stimulus; dump = []; report = [] }
 names_of (Demo number) = record { netlist = []; signature = []; stimulus = []; dump = []; report = [] }
 names_of (Wave j) = record { netlist = j.netlist; signature = j.signature; stimulus = j.stimulus; dump = j.dump; report = j.report }
+names_of (Reach j) = record { netlist = j.netlist; signature = []; stimulus = []; dump = []; report = [] }

@@ -9,7 +9,7 @@ use Rattle.bs_scan.specs.declared.dump.Dump.{Dump}
 use Rattle.bs_report.specs.declared.report.Report.{Report}
 use Rattle.bs_report.specs.declared.report.Stop.{Stop}
 use Rattle.bs_report.specs.declared.report.Stop.TheVariants as S
-use Rattle.bs_words.specs.Job.{Job, Run, Audit, Dump as Moment, Demo, Wave}
+use Rattle.bs_words.specs.Job.{Job, Run, Audit, Dump as Moment, Demo, Wave, Reach}
 use Rattle.bs_outside.specs.Calls.{FetchCall, InTurn}
 use Rattle.bs_job.specs.declared.file.File.{File}
 use Rattle.bs_job.specs.declared.file.File.TheVariants as files
@@ -20,11 +20,14 @@ use Rattle.bs_entry.specs.Entry.{Setup}
 use Rattle.bs_refusal.specs.Notes.{plain_text}
 use Rattle.bs_told.specs.Faults.{IsUnreadNote, long_text, order_text}
 use Rattle.bs_told.specs.Stops.{stop_text}
+use Rattle.bs_told.specs.Searches.{miss_text}
+use Rattle.bs_told.specs.declared.told.Miss.{Miss}
 use Rattle.bs_told.specs.declared.told.Told.{Told}
 use Rattle.bs_note.specs.declared.walk.Setup.{Setup as CodeSetup}
 use Rattle.bs_note.specs.Cases.{Case, NoteSays}
 use Rattle.bs_note.specs.Files.{Names, name_of, names_of}
 use Rattle.bs_note.specs.Readings.{netlist_noted, signature_noted, stimulus_noted, dump_noted, moment_noted, report_noted, size_noted}
+use Rattle.bs_note.specs.Readings.{state_noted, room_noted}
 
 -- ---- the walks
 
@@ -94,6 +97,13 @@ placed_looked names run cycle = do
   setup ← setup_looked names
   read_as files.Dump (moment_noted setup.runs run cycle)
 
+-- the netlist of a search, its state and its size
+abbrev pub target_looked : (netlist state : List ℕ) → (cycles : ℕ) → Plan Case Bool
+target_looked netlist state cycles = do
+  raw ← netlist_looked netlist
+  fits ← read_as files.State (state_noted raw state)
+  read_as files.Netlist (room_noted raw cycles)
+
 -- the files of a job, by their names
 abbrev pub looked_of : Job → Names → Plan Case Bool
 looked_of (Run j) names = run_looked names
@@ -101,6 +111,7 @@ looked_of (Audit j) names = claimed_looked names
 looked_of (Moment j) names = placed_looked names j.run j.cycle
 looked_of (Demo number) names = end true
 looked_of (Wave j) names = drawn_looked names
+looked_of (Reach j) names = target_looked names.netlist j.state j.cycles
 
 -- ---- the note on a file
 
@@ -185,6 +196,11 @@ pub record IsStopNote (told : Tells) (before now : Counts) (job : Option Job) (t
   pub stop : List ℕ
   pub is : stop_text t.steps t.stop ≡ Some stop
   pub followed : IsFollowed (is_nohit t.stop) told before now job stop note
+
+-- the same, or the note on a search that has no execution
+abbrev pub IsEndingNote : Tells → (before now : Counts) → Option Job → Told → Option Miss → List ℕ → Type 0
+IsEndingNote told before now job t None note = IsStopNote told before now job t note
+IsEndingNote told before now job t (Some miss) note = note ≡ miss_text miss
 
 -- ---- the shelf
 

@@ -1,5 +1,5 @@
 -- What the text of a file is to a note: a value, or the reason of its refusal, whose words are the note.
-use Rattle.std.specs.Prelude.{ℕ, Bool, true, List, length, Result, Ok, Err, if◌then◌else◌}
+use Rattle.std.specs.Prelude.{ℕ, Bool, true, List, [], length, Result, Ok, Err, if◌then◌else◌}
 use Rattle.bs_bits.specs.Lines.{lines_of}
 use Rattle.bs_net.specs.Circuit.{reset_state}
 use Rattle.bs_net.specs.Decided.{passes}
@@ -21,6 +21,9 @@ use Rattle.bs_entry.specs.Readings.{choice_in, has_moment, is_drawable}
 use Rattle.bs_refusal.specs.declared.dump.Widths.{Widths}
 use Rattle.bs_refusal.specs.Kinds.{mistaken}
 use Rattle.bs_told.specs.Faults.{large_text, range_text}
+use Rattle.bs_told.specs.Searches.{room_text, state_text}
+use Rattle.bs_encode.specs.Transition.{variables}
+use Rattle.bs_target.specs.Target.{room_in, state_in}
 use Rattle.bs_note.specs.Cases.{Case, in_netlist, in_check, in_signature, in_stimulus, in_dump, in_report, told_as}
 
 -- what a reader's definition wants, with a reason for its fault
@@ -78,3 +81,16 @@ report_noted path text = noted (λ fault. told_as files.Report path (mistaken fi
 -- whether a waveform of the report's trace has few enough values
 abbrev pub size_noted : List ℕ → Parts → Report → Result Bool (Reason Case)
 size_noted path r report = if is_drawable r report then Ok true else Err (exactly (large_text path))
+
+-- a value is right, and what is refused has this text
+abbrev pub said_by : {V : Type 0} → List ℕ → Result V (Reason Parts) → Result Bool (Reason Case)
+said_by text (Ok v) = Ok true
+said_by text (Err reason) = Err (exactly text)
+
+-- whether a word is a state of the netlist
+abbrev pub state_noted : Parts → List ℕ → Result Bool (Reason Case)
+state_noted r word = said_by (state_text word (length (circuit_of r).flops)) (state_in r word)
+
+-- whether a search of so many cycles is small enough
+abbrev pub room_noted : Parts → ℕ → Result Bool (Reason Case)
+room_noted r cycles = said_by (room_text (variables (circuit_of r) [])) (room_in r cycles)

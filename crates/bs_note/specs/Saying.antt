@@ -14,7 +14,7 @@ use Rattle.bs_told.specs.declared.topic.Topic.TheVariants as T
 use Rattle.bs_told.specs.Faults.{IsOutputNote, memory_text, rejected_text, want_text}
 use Rattle.bs_told.specs.Topics.{topic_of}
 use Rattle.bs_told.specs.Words.{IsWordsNote, unread_text}
-use Rattle.bs_note.specs.Looking.{IsFilesNote, IsStopNote}
+use Rattle.bs_note.specs.Looking.{IsFilesNote, IsEndingNote}
 
 -- ---- what is said
 
@@ -38,7 +38,7 @@ IsNoteAbout told before now words o T.Output note = IsOutputNote o.told.lines o.
 IsNoteAbout told before now words o T.Memory note = note ≡ memory_text
 IsNoteAbout told before now words o T.Rejected note = note ≡ rejected_text
 IsNoteAbout told before now words o T.Files note = IsFilesNote told before now (job_given words) note
-IsNoteAbout told before now words o T.Stop note = IsStopNote told before now (job_given words) o.told note
+IsNoteAbout told before now words o T.Stop note = IsEndingNote told before now (job_given words) o.told o.told.miss note
 
 -- the note on an outcome of a call with these words, where the shelf tells this and counts its faults so before and after
 abbrev pub IsNote : Tells → (before now : Counts) → Given → Outcome → List ℕ → Type 0

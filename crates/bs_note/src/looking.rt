@@ -26,6 +26,7 @@ fn name_of<'a>(names: &Names<'a>, file: File) -> &'a str
         File::Stimulus => names.stimulus,
         File::Dump => names.dump,
         File::Report => names.report,
+        File::State => "",
     }
 }
 

@@ -17,12 +17,16 @@ ghost use Rattle.bs_refusal.specs.Kinds.{mistaken, mistaken_text};
 ghost use Rattle.bs_note.specs.Cases.{HasNote, NoteSays, in_check, in_dump, in_netlist, in_report, in_signature, in_stimulus, noted_as, told_as};
 ghost use Rattle.bs_note.specs.Looking.{input_width};
 ghost use Rattle.bs_note.specs.Readings.{checked_noted, dump_noted, moment_noted, netlist_noted, netlist_reason};
-ghost use Rattle.bs_note.specs.Readings.{report_noted, signature_noted, size_noted, stimulus_noted, widths_of};
+ghost use Rattle.bs_note.specs.Readings.{report_noted, room_noted, signature_noted, size_noted, state_noted, stimulus_noted, widths_of};
+ghost use Rattle.bs_net.specs.Netlist.{circuit};
+ghost use Rattle.bs_encode.specs.Transition.{variables};
+ghost use Rattle.bs_told.specs.Searches.{room_text};
 
 use bs_bits::NoMemory;
 use bs_entry::{MAX_WAVE_VALUES, read_choice};
 use bs_job::{File, Refusal};
 use bs_net::{NetFault, Netlist, Raw};
+use bs_reach::size;
 use bs_refusal::{
     Widths, check_note, dump_note, mistaken, mistaken_note, netlist_note, report_note,
     signature_note, stimulus_note,
@@ -31,7 +35,8 @@ use bs_report::{Report, ReportFault};
 use bs_scan::{Choice, ChoiceFault, Dump, DumpFault};
 use bs_stim::{Runs, StimFault};
 use bs_syntax::VerilogFault;
-use bs_told::{large_note, range_note};
+use bs_target::read_state;
+use bs_told::{large_note, range_note, room_note, state_note};
 use std::alloc::Global;
 
 /// The refusal that is a note.
@@ -273,5 +278,36 @@ pub fn check_size(alloc: Global, path: &str, net: &Netlist, report: &Report) -> 
         Ok(())
     } else {
         Err(noted(large_note(alloc, path)))
+    }
+}
+
+/// Whether a word is a state of the netlist, or why not.
+#[tactic(auto, using(crate::proofs::ReadingLemmas::state_fits, crate::proofs::ReadingLemmas::state_fails))]
+pub fn check_state(alloc: Global, net: &Netlist, word: &str) -> Result<(), Refusal>
+    ensures { Reads NoteSays (λ _. true) (state_noted net.now.raw word.now) result }
+{
+    match read_state(alloc, word, net) {
+        Ok(_) => Ok(()),
+        Err(Refusal::NoMemory) => Err(Refusal::NoMemory),
+        Err(Refusal::Why(_)) => Err(noted(state_note(alloc, word, net.raw().flops.len()))),
+    }
+}
+
+/// The note on a search that is too large.
+fn large_search_note(alloc: Global, net: &Netlist) -> Result<Vec<u8>, NoMemory>
+    ensures { IfOk result (λ note. note.items ≡ room_text (variables (circuit net.now) [])) }
+{
+    room_note(alloc, size(alloc, net)?)
+}
+
+/// Whether a search of so many cycles is small enough, or why not.
+#[tactic(auto, using(crate::proofs::ReadingLemmas::room_fits, crate::proofs::ReadingLemmas::room_fails))]
+pub fn check_room(alloc: Global, net: &Netlist, cycles: u64) -> Result<(), Refusal>
+    ensures { Reads NoteSays (λ _. true) (room_noted net.now.raw cycles) result }
+{
+    match bs_target::check_room(alloc, net, cycles) {
+        Ok(()) => Ok(()),
+        Err(Refusal::NoMemory) => Err(Refusal::NoMemory),
+        Err(Refusal::Why(_)) => Err(noted(large_search_note(alloc, net))),
     }
 }

@@ -5,7 +5,7 @@ ghost use Rattle.bs_note.specs.Saying.{IsMade, IsNote, IsNoteOnWords, output, Pu
 ghost use Rattle.bs_told.specs.Topics.{is_due};
 
 use crate::looking::note_on_given;
-use crate::search::note_on_stop;
+use crate::search::note_on_ending;
 use bs_bits::NoMemory;
 use bs_outside::{Shelf, Sink};
 use bs_told::{
@@ -44,7 +44,7 @@ fn note_on<S: Shelf, C: Causes>(
         Topic::Memory => memory_note(alloc),
         Topic::Rejected => rejected_note(alloc),
         Topic::Files => note_on_given(alloc, words, shelf, causes),
-        Topic::Stop => note_on_stop(alloc, words, shelf, outcome.told),
+        Topic::Stop => note_on_ending(alloc, words, shelf, outcome.told),
     }
 }
 

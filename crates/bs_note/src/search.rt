@@ -2,7 +2,7 @@
 ghost use Rattle.std.specs.Prelude.{◌≡◌, ◌++◌, map, string_bytes, IfOk, OnOk, Some};
 ghost use Rattle.bs_words.specs.Job.{job_of};
 ghost use Rattle.bs_words.specs.Shown.{job_in};
-ghost use Rattle.bs_note.specs.Looking.{is_nohit, IsFollowed, IsKept, IsNohitNote, IsSearchedNote, IsStopNote, moments, searched_text, SearchedOn};
+ghost use Rattle.bs_note.specs.Looking.{is_nohit, IsEndingNote, IsFollowed, IsKept, IsNohitNote, IsSearchedNote, IsStopNote, moments, searched_text, SearchedOn};
 ghost use Rattle.bs_note.specs.Saying.{job_given};
 ghost use Rattle.bs_note.specs.Shown.{setup_in};
 
@@ -13,7 +13,7 @@ use bs_outside::Shelf;
 use bs_refusal::plain_note;
 use bs_report::Stop;
 use bs_stim::Runs;
-use bs_told::{Told, stop_note};
+use bs_told::{Told, miss_note, stop_note};
 use bs_words::{Job, read_words};
 use std::alloc::Global;
 use std::io::ErrorKind;
@@ -159,7 +159,7 @@ fn follow<S: Shelf>(
 
 /// The note on a stop that has one.
 #[tactic(auto, using(crate::proofs::WalkLemmas::kept_here, crate::proofs::SearchLemmas::stop_noted))]
-pub fn note_on_stop<S: Shelf>(
+fn note_on_stop<S: Shelf>(
     alloc: Global,
     words: &Result<Vec<String>, ErrorKind>,
     shelf: &mut S,
@@ -172,5 +172,23 @@ pub fn note_on_stop<S: Shelf>(
     match stop_note(alloc, told)? {
         Some(stop) => follow(alloc, words, shelf, is_nohit(told.stop), stop),
         None => Err(NoMemory),
+    }
+}
+
+/// The note on a stop, or on a search that has no execution.
+#[tactic(auto, using(crate::proofs::WalkLemmas::kept_here))]
+pub fn note_on_ending<S: Shelf>(
+    alloc: Global,
+    words: &Result<Vec<String>, ErrorKind>,
+    shelf: &mut S,
+    told: Told,
+) -> Result<Vec<u8>, NoMemory>
+    ensures kept { IsKept S.held S.leads shelf.old shelf.new }
+    ensures note { IfOk result (λ note.
+        IsEndingNote (S.held shelf.old) (S.faults shelf.old) (S.faults shelf.new) (job_given words.now) told told.miss note.items) }
+{
+    match told.miss {
+        Some(miss) => miss_note(alloc, miss),
+        None => note_on_stop(alloc, words, shelf, told),
     }
 }

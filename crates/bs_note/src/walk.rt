@@ -5,11 +5,12 @@ ghost use Rattle.bs_words.specs.Shown.{job_in};
 ghost use Rattle.bs_note.specs.Cases.{NoteSays};
 ghost use Rattle.bs_note.specs.Files.{names_of};
 ghost use Rattle.bs_note.specs.Looking.{claimed_looked, crashed_looked, drawn_looked, dump_looked, looked_of, netlist_looked, placed_looked};
-ghost use Rattle.bs_note.specs.Looking.{report_looked, run_looked, setup_looked, signature_looked, stimulus_looked};
+ghost use Rattle.bs_note.specs.Looking.{report_looked, run_looked, setup_looked, signature_looked, stimulus_looked, target_looked};
 ghost use Rattle.bs_note.specs.Shown.{names_in, setup_in};
 
 use crate::reading::{
-    check_size, read_dump, read_moment, read_netlist, read_report, read_signature, read_stimulus,
+    check_room, check_size, check_state, read_dump, read_moment, read_netlist, read_report,
+    read_signature, read_stimulus,
 };
 use bs_job::{File, JobFault, fetch_file, settle};
 use bs_net::Netlist;
@@ -77,6 +78,13 @@ pub fn names_of<'a>(job: &Job<'a>) -> Names<'a>
             stimulus: job.stimulus,
             dump: job.dump,
             report: job.report,
+        },
+        Job::Reach(job) => Names {
+            netlist: job.netlist,
+            signature: "",
+            stimulus: "",
+            dump: "",
+            report: "",
         },
     }
 }
@@ -208,6 +216,22 @@ fn look_placed<S: Shelf>(
     settle(File::Dump, moment)
 }
 
+/// The netlist of a search, its state and its size.
+fn look_target<S: Shelf>(
+    alloc: Global,
+    shelf: &mut S,
+    netlist: &str,
+    state: &str,
+    cycles: u64,
+) -> Result<(), JobFault>
+    ensures { Walks NoteSays S.held S.faults S.leads shelf.old shelf.new (target_looked netlist.now state.now cycles) (λ _. true) result }
+{
+    let net = take_netlist(alloc, shelf, netlist)?;
+    let _fits = settle(File::State, check_state(alloc, &net, state))?;
+    let room = check_room(alloc, &net, cycles);
+    settle(File::Netlist, room)
+}
+
 /// The files of a job, each read, up to the first that is at fault.
 #[tactic(auto, using(crate::proofs::WalkLemmas::looks_at_none))]
 pub fn look<S: Shelf>(
@@ -224,5 +248,6 @@ pub fn look<S: Shelf>(
         Job::Dump(moment) => look_placed(alloc, shelf, names, moment.run, moment.cycle),
         Job::Demo(_) => Ok(()),
         Job::Wave(_) => look_drawn(alloc, shelf, names),
+        Job::Reach(job) => look_target(alloc, shelf, names.netlist, job.state, job.cycles),
     }
 }

@@ -3,7 +3,7 @@ use bs_bits::NoMemory;
 use bs_note::note;
 use bs_outside::{MemShelf, MemSink};
 use bs_report::Stop;
-use bs_told::{NoCauses, Outcome, Told};
+use bs_told::{Miss, NoCauses, Outcome, Told};
 use std::alloc::Global;
 use std::io::ErrorKind;
 use std::test::Fail;
@@ -38,6 +38,15 @@ fn shelf_with(alloc: Global, mistake: &str) -> Result<MemShelf, NoMemory> {
     MemShelf::new(alloc, files, Vec::new(alloc))
 }
 
+/// What a search misses that ended with this code.
+fn miss_of(code: u8) -> Option<Miss> {
+    if code == 15 {
+        Some(Miss::Unreached)
+    } else {
+        None
+    }
+}
+
 /// The note on a call with these words that ended so.
 fn noted(
     alloc: Global,
@@ -55,6 +64,7 @@ fn noted(
             lines: 4,
             steps: 2,
             stop,
+            miss: miss_of(code),
         },
         cause: None,
     };
@@ -122,6 +132,20 @@ fn each_mistake_has_its_note(rt: HostRuntime) -> Result<(), Fail> {
             Some(Stop::Nohit),
             "",
             "note: no recorded run comes to a state that is listed in step 2\nnote: record more or longer runs of what the chip did, or choose a signature that tells more states apart\nnote: so many moments of recorded runs were searched, each cycle of each run from 0: 2\n",
+        ),
+        (
+            "reach n.v 111 5",
+            9,
+            None,
+            "",
+            "note: the state `111`: 3 bits stand here, and 2 are due: one for each flip-flop of the netlist\nnote: the bits stand in the order of the netlist's flip-flops, the first on the left\n",
+        ),
+        (
+            "reach n.v 11 1",
+            15,
+            None,
+            "",
+            "note: no execution of so many cycles from reset, or of fewer, ends in this state, whatever the inputs\nnote: ask for more cycles, up to 1024; the state's bits are in the order of the netlist's flip-flops, the first on the left\n",
         ),
         (
             "run n.v s.txt t.txt d.txt",

@@ -42,6 +42,7 @@ fn rank(file: File) -> u8
         File::Stimulus => 2,
         File::Dump => 3,
         File::Report => 4,
+        File::State => 5,
     }
 }
 

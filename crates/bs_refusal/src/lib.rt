@@ -21,3 +21,4 @@ pub use netlist::netlist_note;
 pub use report::report_note;
 pub use signature::signature_note;
 pub use stimulus::stimulus_note;
+pub use width::width_sentence;

@@ -12,6 +12,10 @@ mod fault_rows;
 #[cfg(test)]
 mod limit_rows;
 #[cfg(test)]
+mod mode_rows;
+#[cfg(test)]
+mod reach_rows;
+#[cfg(test)]
 mod refusal_rows;
 #[cfg(test)]
 mod run_rows;

@@ -146,16 +146,18 @@ assign #1 y = u, v = 1'h1;
 (* c *) dff f0(ck, q0, s), f1(.D(t), .CK(ck), .Q(q1));
 dffs (ck, q2, v);
 dffs f3(ck, q3, \\p+q );
+dffe f4(ck, q4, u, n[1]), f5(.E(n[0]), .D(v), .Q(q5), .CK(ck));
+dffr f6(ck, q6, v, n[3]), f7(.D(v), .R(t), .CK(ck), .Q(q7));
 endmodule
-module dff(CK,Q,D); always @(posedge CK) Q <= D; endmodule
+module dff(CK,Q,D); always @(posedge CK) Q <= D; endmodule module dffe(E); endmodule
 ";
 
 #[test]
 fn each_form_of_a_netlist_is_read(rt: HostRuntime) -> Result<(), Fail> {
     let alloc = rt.alloc();
     for (line, want) in [
-        ("dump n s t 1 0", "state 0011\nsig none\nend\n"),
-        ("dump n s t 1 1", "state 0110\nsig 11\nend\n"),
+        ("dump n s t 1 0", "state 00110000\nsig none\nend\n"),
+        ("dump n s t 1 1", "state 01101010\nsig 11\nend\n"),
     ] {
         let texts = [
             FORMS,

@@ -44,6 +44,10 @@ fn netlists_are_refused(rt: HostRuntime) -> Result<(), Fail> {
             "Terminals 29",
         ),
         (
+            "module m(ck); input ck; dffe f(ck,q,d); endmodule",
+            "Terminals 30",
+        ),
+        (
             "module m(ck); input ck; wire [1:0] a; not (b, a[2]); endmodule",
             "Index 46",
         ),

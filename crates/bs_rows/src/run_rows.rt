@@ -26,7 +26,7 @@ fn without_id(line: &str) -> &str {
 }
 
 /// The report up to its log, without the ids of lemmas.
-fn shown(alloc: Global, report: &str) -> Result<String, AllocError> {
+pub fn shown(alloc: Global, report: &str) -> Result<String, AllocError> {
     let mut shown = String::new(alloc);
     for line in report.lines() {
         if line.starts_with("log ") {
@@ -54,7 +54,7 @@ fn without_inputs(alloc: Global, text: &str) -> Result<String, AllocError> {
 }
 
 /// Whether the report is accepted.
-fn is_accepted(alloc: Global, texts: [&str; 5], report: &str) -> bool {
+pub fn is_accepted(alloc: Global, texts: [&str; 5], report: &str) -> bool {
     match call(
         alloc,
         "audit n s t d r",

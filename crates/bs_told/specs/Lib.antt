@@ -3,3 +3,4 @@ pub mod Topics
 pub mod Words
 pub mod Stops
 pub mod Faults
+pub mod Searches

@@ -1,10 +1,12 @@
 -- What a note is about, by the outcome of a call of the program.
-use Rattle.std.specs.Prelude.{ℕ, ◌==◌, nat_le, ◌&&◌, Bool, true, false, Option, Some, None, if◌then◌else◌}
+use Rattle.std.specs.Prelude.{ℕ, ◌==◌, nat_le, ◌&&◌, ◌||◌, Bool, true, false, Option, Some, None, if◌then◌else◌}
 use Rattle.bs_report.specs.declared.report.Stop.{Stop}
 use Rattle.bs_report.specs.declared.report.Stop.TheVariants as S
 use Rattle.bs_job.specs.declared.status.Status.TheVariants as status
 use Rattle.bs_job.specs.declared.status.TheConstants.{NO_MEMORY_CODE}
 use Rattle.bs_job.specs.Statuses.{code_of}
+use Rattle.bs_told.specs.declared.told.Miss.{Miss}
+use Rattle.bs_told.specs.declared.told.Told.{Told}
 use Rattle.bs_told.specs.declared.topic.Outcome.{Outcome}
 use Rattle.bs_told.specs.declared.topic.Topic.{Topic}
 use Rattle.bs_told.specs.declared.topic.Topic.TheVariants as T
@@ -29,14 +31,19 @@ has_note (Some S.Empty) = true
 has_note (Some S.Candidates) = true
 has_note (Some S.Conflicts) = true
 
-abbrev pub is_due_on : Topic → Option Stop → Bool
-is_due_on T.Stop stop = has_note stop
-is_due_on T.Words stop = true
-is_due_on T.Output stop = true
-is_due_on T.Memory stop = true
-is_due_on T.Rejected stop = true
-is_due_on T.Files stop = true
+-- so has a search without an execution
+abbrev pub has_miss : Option Miss → Bool
+has_miss None = false
+has_miss (Some miss) = true
+
+abbrev pub is_due_on : Topic → Told → Bool
+is_due_on T.Stop told = has_note told.stop || has_miss told.miss
+is_due_on T.Words told = true
+is_due_on T.Output told = true
+is_due_on T.Memory told = true
+is_due_on T.Rejected told = true
+is_due_on T.Files told = true
 
 -- a note is due on each outcome but work that is done, or a run that came to reset
 abbrev pub is_due : Outcome → Bool
-is_due o = is_due_on (topic_of o.code) o.told.stop
+is_due o = is_due_on (topic_of o.code) o.told

@@ -36,7 +36,8 @@ taken command =
     else (if bytes_eq command (codes "wave") then Some 5
     else (if bytes_eq command (codes "dump") then Some 5
     else (if bytes_eq command (codes "demo") then Some 1
-    else None))))
+    else (if bytes_eq command (codes "reach") then Some 3
+    else None)))))
 
 -- how a command is used, or all of them
 abbrev pub usage : List ℕ → List ℕ
@@ -47,14 +48,17 @@ usage command =
     else (if bytes_eq command (codes "wave") then codes "usage: backspace wave NETLIST SIGNATURE STIMULUS DUMP REPORT"
     else (if bytes_eq command (codes "dump") then codes "usage: backspace dump NETLIST SIGNATURE STIMULUS RUN CYCLE"
     else (if bytes_eq command (codes "demo") then codes "usage: backspace demo NUMBER"
-    else codes "usage: backspace run NETLIST SIGNATURE STIMULUS DUMP [options], audit NETLIST SIGNATURE STIMULUS DUMP REPORT, wave NETLIST SIGNATURE STIMULUS DUMP REPORT, dump NETLIST SIGNATURE STIMULUS RUN CYCLE, or demo NUMBER"))))
+    else (if bytes_eq command (codes "reach") then codes "usage: backspace reach NETLIST STATE CYCLES [--conflicts B]"
+    else codes "usage: backspace run NETLIST SIGNATURE STIMULUS DUMP [options], audit NETLIST SIGNATURE STIMULUS DUMP REPORT, wave NETLIST SIGNATURE STIMULUS DUMP REPORT, dump NETLIST SIGNATURE STIMULUS RUN CYCLE, reach NETLIST STATE CYCLES [--conflicts B], or demo NUMBER")))))
 
 -- what else may be wrong where each word is of its form and their number is right
 abbrev pub rest_sentence : List ℕ → List ℕ
 rest_sentence command =
     if bytes_eq command (codes "run") then codes "an option is given twice"
     else (if bytes_eq command (codes "dump") then codes "RUN lies between 1 and 256 and CYCLE between 0 and 65536, each in digits alone"
-    else codes "NUMBER lies below 2^64, in digits alone")
+    else (if bytes_eq command (codes "reach")
+    then codes "STATE is one or more characters 0 and 1, CYCLES lies between 0 and 1024, in digits alone, and an option is given once"
+    else codes "NUMBER lies below 2^64, in digits alone"))
 
 -- the note on what is wrong with words
 abbrev pub fault_text : List (List ℕ) → WordFault → List ℕ

@@ -5,6 +5,7 @@ mod cause;
 mod ear;
 mod fault;
 mod output;
+mod search;
 mod stop;
 mod told;
 mod topic;
@@ -17,7 +18,8 @@ pub use fault::{
     unread_note,
 };
 pub use output::{Reasons, TellingSink};
+pub use search::{miss_note, room_note, state_note};
 pub use stop::stop_note;
-pub use told::Told;
+pub use told::{Miss, Told};
 pub use topic::{Outcome, Topic, is_due, topic_of};
 pub use word::{unread_words_note, words_note};

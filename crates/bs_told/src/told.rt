@@ -1,15 +1,25 @@
 //! What the output was told, as far as a note needs it.
 ghost use Rattle.std.specs.Prelude.{◌≡◌};
-ghost use Rattle.bs_told.specs.Told.{heard, is_step, later, more, nothing_told, stop_in};
+ghost use Rattle.bs_told.specs.Told.{heard, is_step, later, later_miss, miss_in, more, nothing_told, stop_in};
 
 use bs_report::Stop;
 
-/// What went out so far: how many lines, how many of them begin a step, and the cause of the stop.
+/// What the answer of a search says where it has no execution.
+#[derive(Clone, Copy, Debug, PartialEq, Eq)]
+pub enum Miss {
+    /// The state is not reached within the cycles that were asked for.
+    Unreached,
+    /// The budget of lemmas is spent.
+    Unknown,
+}
+
+/// What went out so far: how many lines, how many of them begin a step, the cause of a run's stop, and what a search misses.
 #[derive(Clone, Copy, Debug)]
 pub struct Told {
     pub lines: u64,
     pub steps: u64,
     pub stop: Option<Stop>,
+    pub miss: Option<Miss>,
 }
 
 /// The cause that a line tells.
@@ -37,6 +47,19 @@ fn stop_in(line: &[u8]) -> Option<Stop>
     None
 }
 
+/// What a line tells of a search that has no execution.
+fn miss_in(line: &[u8]) -> Option<Miss>
+    ensures { result ≡ miss_in line.now }
+{
+    if line == b"result unreached\n".as_slice() {
+        return Some(Miss::Unreached);
+    }
+    if line.starts_with(b"result unknown ".as_slice()) {
+        return Some(Miss::Unknown);
+    }
+    None
+}
+
 /// Whether a line begins a step.
 fn is_step(line: &[u8]) -> bool
     ensures { result ≡ is_step line.now }
@@ -60,6 +83,7 @@ impl Told {
             lines: 0,
             steps: 0,
             stop: None,
+            miss: None,
         }
     }
 
@@ -71,6 +95,7 @@ impl Told {
             lines: more(self.lines, true),
             steps: more(self.steps, is_step(line)),
             stop: later(self.stop, stop_in(line)),
+            miss: later_miss(self.miss, miss_in(line)),
         }
     }
 }
@@ -81,6 +106,16 @@ fn later(before: Option<Stop>, now: Option<Stop>) -> Option<Stop>
 {
     match now {
         Some(stop) => Some(stop),
+        None => before,
+    }
+}
+
+/// What a search misses by the later line, where it tells that.
+fn later_miss(before: Option<Miss>, now: Option<Miss>) -> Option<Miss>
+    ensures { result ≡ later_miss before now }
+{
+    match now {
+        Some(miss) => Some(miss),
         None => before,
     }
 }

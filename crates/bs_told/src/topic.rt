@@ -1,8 +1,8 @@
 //! How a call of the program ended, and what a note on it is about.
 ghost use Rattle.std.specs.Prelude.{◌≡◌};
-ghost use Rattle.bs_told.specs.Topics.{has_note, is_due, topic_of};
+ghost use Rattle.bs_told.specs.Topics.{has_miss, has_note, is_due, topic_of};
 
-use crate::told::Told;
+use crate::told::{Miss, Told};
 use bs_job::{NO_MEMORY_CODE, Status};
 use bs_report::Stop;
 use std::io::ErrorKind;
@@ -28,7 +28,7 @@ pub enum Topic {
     Rejected,
     /// A file that is refused or does not read.
     Files,
-    /// The stop of a run, or work that is done.
+    /// The stop of a run, a search without an execution, or work that is done.
     Stop,
 }
 
@@ -72,12 +72,22 @@ fn has_note(stop: Option<Stop>) -> bool
     }
 }
 
+/// Whether there is something to say of a search.
+fn has_miss(miss: Option<Miss>) -> bool
+    ensures { result ≡ has_miss miss }
+{
+    match miss {
+        None => false,
+        Some(_) => true,
+    }
+}
+
 /// Whether a note is due: on each outcome but work that is done, or a run that came to reset.
 pub fn is_due(outcome: &Outcome) -> bool
     ensures { result ≡ is_due outcome.now }
 {
     match topic_of(outcome.code) {
-        Topic::Stop => has_note(outcome.told.stop),
+        Topic::Stop => has_note(outcome.told.stop) || has_miss(outcome.told.miss),
         _ => true,
     }
 }

@@ -37,18 +37,47 @@ struct Scan {
     positions: usize,
 }
 
-/// The greatest value of an option.
-fn greatest(name: &str) -> Option<u64> {
+/// Which options a command takes.
+#[derive(Clone, Copy)]
+enum Options {
+    Nothing,
+    /// The budget of lemmas.
+    Conflicts,
+    /// All three budgets.
+    All,
+}
+
+/// Which options a command takes.
+fn options_of(command: &str) -> Options {
+    if command == "run" {
+        return Options::All;
+    }
+    if command == "reach" {
+        return Options::Conflicts;
+    }
+    Options::Nothing
+}
+
+/// The greatest value of a budget that `run` alone has.
+fn greatest_of_run(name: &str) -> Option<u64> {
     if name == "--steps" {
         return Some(MAX_STEPS);
     }
     if name == "--candidates" {
         return Some(MAX_CANDIDATES);
     }
+    None
+}
+
+/// The greatest value of an option.
+fn greatest(name: &str, options: Options) -> Option<u64> {
     if name == "--conflicts" {
         return Some(MAX_CONFLICTS);
     }
-    None
+    match options {
+        Options::All => greatest_of_run(name),
+        _ => None,
+    }
 }
 
 /// Whether a word is a number from 1 to a greatest one.
@@ -73,9 +102,9 @@ enum Opening {
 }
 
 /// What a word is that begins as an option.
-fn opening_of(word: &str) -> Opening {
+fn opening_of(word: &str, options: Options) -> Opening {
     match word.split_once('=') {
-        Some((name, value)) => match greatest(name) {
+        Some((name, value)) => match greatest(name, options) {
             Some(most) => {
                 if is_value(value, most) {
                     Opening::Whole
@@ -85,15 +114,15 @@ fn opening_of(word: &str) -> Opening {
             }
             None => Opening::Unknown,
         },
-        None => match greatest(word) {
+        None => match greatest(word, options) {
             Some(most) => Opening::Waits(most),
             None => Opening::Unknown,
         },
     }
 }
 
-/// The state behind a word, or what is wrong with it. `options` says whether the command takes any.
-fn scan_word(scan: Scan, options: bool, at: usize, word: &str) -> Result<Scan, WordFault>
+/// The state behind a word, or what is wrong with it. `options` says which the command takes.
+fn scan_word(scan: Scan, options: Options, at: usize, word: &str) -> Result<Scan, WordFault>
     requires waits { IfSome scan.wants (λ w. w.0 < at) }
     ensures fault { IfErr result (IsOfWords (at + 1)) }
     ensures next { IfOk result (λ scan. IfSome scan.wants (λ w. w.0 < at + 1)) }
@@ -114,10 +143,10 @@ fn scan_word(scan: Scan, options: bool, at: usize, word: &str) -> Result<Scan, W
     if !is_option(word) {
         return Ok(counted(scan));
     }
-    if !options {
+    if let Options::Nothing = options {
         return Err(WordFault::Option(at));
     }
-    match opening_of(word) {
+    match opening_of(word, options) {
         Opening::Waits(most) => Ok(Scan {
             names: false,
             wants: Some((at, most)),
@@ -156,7 +185,7 @@ fn settled(scan: Scan, option: usize, right: bool) -> Result<Scan, WordFault>
 }
 
 /// The number of words by position behind a command, or the first word that is wrong.
-fn positions_of(words: &[String], options: bool) -> Result<usize, WordFault>
+fn positions_of(words: &[String], options: Options) -> Result<usize, WordFault>
     ensures { IfErr result (IsOfWords (length words.now)) }
 {
     let mut scan = Scan {
@@ -192,6 +221,9 @@ fn taken(command: &str) -> Option<usize>
     if command == "demo" {
         return Some(1);
     }
+    if command == "reach" {
+        return Some(3);
+    }
     None
 }
 
@@ -215,7 +247,7 @@ fn options_fault(words: &[String], command: &str, wanted: usize) -> WordFault
     requires { 0 < length words.now }
     ensures { IsWordFault (length words.now) command.now result }
 {
-    match positions_of(words, command == "run") {
+    match positions_of(words, options_of(command)) {
         Err(fault) => fault,
         Ok(given) if given != wanted => WordFault::Positions(given),
         Ok(_) => WordFault::Rest,
@@ -241,7 +273,10 @@ fn usage(command: &str) -> &'static str
     if command == "demo" {
         return "usage: backspace demo NUMBER";
     }
-    "usage: backspace run NETLIST SIGNATURE STIMULUS DUMP [options], audit NETLIST SIGNATURE STIMULUS DUMP REPORT, wave NETLIST SIGNATURE STIMULUS DUMP REPORT, dump NETLIST SIGNATURE STIMULUS RUN CYCLE, or demo NUMBER"
+    if command == "reach" {
+        return "usage: backspace reach NETLIST STATE CYCLES [--conflicts B]";
+    }
+    "usage: backspace run NETLIST SIGNATURE STIMULUS DUMP [options], audit NETLIST SIGNATURE STIMULUS DUMP REPORT, wave NETLIST SIGNATURE STIMULUS DUMP REPORT, dump NETLIST SIGNATURE STIMULUS RUN CYCLE, reach NETLIST STATE CYCLES [--conflicts B], or demo NUMBER"
 }
 
 /// What else may be wrong where each word is of its form and their number is right.
@@ -253,6 +288,9 @@ fn rest_sentence(command: &str) -> &'static str
     }
     if command == "dump" {
         return "RUN lies between 1 and 256 and CYCLE between 0 and 65536, each in digits alone";
+    }
+    if command == "reach" {
+        return "STATE is one or more characters 0 and 1, CYCLES lies between 0 and 1024, in digits alone, and an option is given once";
     }
     "NUMBER lies below 2^64, in digits alone"
 }

@@ -18,8 +18,10 @@ use Rattle.bs_job.specs.Prepared.{Prepared, IsWork}
 use Rattle.bs_job.proofs.Preparing.{prepares_work, prepares_nothing}
 use Rattle.bs_words.specs.Job.{Job}
 use Rattle.bs_entry.specs.Refusals.{CheckSays}
-use Rattle.bs_top.specs.Work.{Work, to_run, to_audit, to_dump, to_demo, to_wave, plan_of}
-use Rattle.bs_top.specs.Finishes.{finishes, stop_status}
+use Rattle.bs_top.specs.Work.{Work, to_run, to_audit, to_dump, to_demo, to_wave, to_reach, plan_of}
+use Rattle.bs_reach.specs.declared.reach.Outcome.{Outcome}
+use Rattle.bs_reach.specs.declared.reach.Outcome.TheVariants.{Reached, Unreached, Unknown}
+use Rattle.bs_top.specs.Finishes.{finishes, stop_status, reach_status}
 
 stop_work : (stop : Stop) → is_work_status (stop_status stop) ≡ true
 stop_work Reset = refl
@@ -33,12 +35,18 @@ finding_work : (part : Option Part) → is_work_status (finding_status part) ≡
 finding_work None = refl
 finding_work (Some part) = refl
 
+reach_work : (outcome : Outcome) → is_work_status (reach_status outcome) ≡ true
+reach_work (Reached j) = refl
+reach_work Unreached = refl
+reach_work (Unknown j) = refl
+
 work_status : (work : Work) (status : Status) (text : List ℕ) → finishes work status text → is_work_status status ≡ true
 work_status (to_run budgets crashed) status text done = ap is_work_status done.answered ∙ stop_work done.report.stop
 work_status (to_audit claimed) status text done = ap is_work_status done.answered ∙ finding_work done.part
 work_status (to_dump placed) status text done = ap is_work_status done.0 ∙ refl
 work_status (to_demo number placed) status text done = ap is_work_status done.answered ∙ refl
 work_status (to_wave claimed) status text done = ap is_work_status done.answered ∙ finding_work done.part
+work_status (to_reach conflicts target) status text done = ap is_work_status done.answered ∙ reach_work done.reach.outcome
 
 pub is_work : IsWork finishes
 is_work = record { status = work_status }

@@ -1,5 +1,5 @@
 -- The status and the text of work that is done.
-use Rattle.std.specs.Prelude.{◌≡◌, ℕ, List, Option, None}
+use Rattle.std.specs.Prelude.{◌≡◌, ℕ, Bool, List, Option, None}
 use Rattle.bs_scan.specs.DumpText.{dump_text}
 use Rattle.bs_log.specs.Lean.{IsLean}
 use Rattle.bs_log.specs.Refusal.{history_of}
@@ -20,9 +20,16 @@ use Rattle.bs_top.specs.Summary.{summary_text}
 use Rattle.bs_top.specs.Rejected.{finding_status, finding_text}
 use Rattle.bs_audit.specs.Finding.{basis_for}
 use Rattle.bs_top.specs.Sound.{IsSoundReport}
+use Rattle.bs_net.specs.Circuit.{Circuit}
+use Rattle.bs_net.specs.Netlist.{circuit_of}
 use Rattle.bs_net.specs.Parts.{Parts}
+use Rattle.bs_reach.specs.declared.reach.Outcome.{Outcome}
+use Rattle.bs_reach.specs.declared.reach.Outcome.TheVariants.{Reached, Unreached, Unknown}
+use Rattle.bs_reach.specs.declared.reach.Reach.{Reach}
+use Rattle.bs_reach.specs.Reach.{IsReach}
+use Rattle.bs_reach.specs.Text.{reach_text}
 use Rattle.bs_top.specs.Drawn.{IsDrawn}
-use Rattle.bs_top.specs.Work.{Work, to_run, to_audit, to_dump, to_demo, to_wave}
+use Rattle.bs_top.specs.Work.{Work, to_run, to_audit, to_dump, to_demo, to_wave, to_reach}
 
 -- the status of a backtrace by its stop
 abbrev pub stop_status : Stop → Status
@@ -80,6 +87,19 @@ pub record Summarises (number : ℕ) (crash : Crash) (status : Status) (text : L
   pub written : text ≡ summary_text number report
   pub answered : status ≡ S.Done
 
+-- the status of an answer whether a state is reached
+abbrev pub reach_status : Outcome → Status
+reach_status (Reached j) = S.Done
+reach_status Unreached = S.Unreached
+reach_status (Unknown j) = S.Spent
+
+-- a right answer whether the state is reached in at most k cycles, where each length may take b lemmas
+pub record Answers (c : Circuit) (p : List Bool) (k b : ℕ) (status : Status) (text : List ℕ) : Type 0 where
+  pub reach : Reach
+  pub right : IsReach c p k b reach
+  pub written : text ≡ reach_text reach
+  pub answered : status ≡ reach_status reach.outcome
+
 abbrev pub finishes : Work → Status → List ℕ → Type 0
 finishes (to_run budgets crashed) status text = Reports (crash_of (recording_in crashed.setup) crashed.dump) budgets status text
 finishes (to_audit claimed) status text = Audits (crash_of (recording_in claimed.crashed.setup) claimed.crashed.dump) claimed.report status text
@@ -88,3 +108,4 @@ finishes (to_demo number placed) status text =
     Summarises number (crash_of (recording_in placed.setup) (dump_at (recording_in placed.setup) placed.moment)) status text
 finishes (to_wave claimed) status text =
     Draws claimed.crashed.setup.raw (crash_of (recording_in claimed.crashed.setup) claimed.crashed.dump) claimed.report status text
+finishes (to_reach conflicts target) status text = Answers (circuit_of target.raw) target.state target.cycles conflicts status text

@@ -2,7 +2,8 @@
 use Rattle.bs_words.specs.declared.job.RunJob.{RunJob as CodeRunJob}
 use Rattle.bs_words.specs.declared.job.AuditJob.{AuditJob as CodeAuditJob}
 use Rattle.bs_words.specs.declared.job.DumpJob.{DumpJob as CodeDumpJob}
-use Rattle.bs_words.specs.Job.{RunJob, AuditJob, DumpJob}
+use Rattle.bs_words.specs.declared.job.ReachJob.{ReachJob as CodeReachJob}
+use Rattle.bs_words.specs.Job.{RunJob, AuditJob, DumpJob, ReachJob}
 
 abbrev pub run_job : CodeRunJob → RunJob
 run_job r = record {
@@ -21,3 +22,6 @@ audit_job a = record { netlist = a.netlist.now; signature = a.signature.now; sti
 
 abbrev pub dump_job : CodeDumpJob → DumpJob
 dump_job d = record { netlist = d.netlist.now; signature = d.signature.now; stimulus = d.stimulus.now; run = d.run; cycle = d.cycle }
+
+abbrev pub reach_job : CodeReachJob → ReachJob
+reach_job r = record { netlist = r.netlist.now; state = r.state.now; cycles = r.cycles; conflicts = r.conflicts }

@@ -2,19 +2,21 @@
 use Rattle.std.specs.Prelude.{ℕ}
 use Rattle.bs_net.specs.Parts.{Parts}
 use Rattle.bs_report.specs.declared.report.Budgets.{Budgets}
-use Rattle.bs_words.specs.Job.{RunJob, AuditJob, DumpJob, Job, Run, Audit, Dump, Demo, Wave}
+use Rattle.bs_words.specs.Job.{RunJob, AuditJob, DumpJob, Job, Run, Audit, Dump, Demo, Wave, Reach}
 use Rattle.bs_job.specs.Plan.{Plan, end, ◌>>=◌}
 use Rattle.bs_entry.specs.Entry.{FileNames, Placed, placed_of, Crashed, crashed_of, Claimed, claimed_of, drawn_of}
+use Rattle.bs_target.specs.Target.{Target, target_of}
 use Rattle.bs_top.specs.Demo.{demo_of}
 
 -- the backtrace of a dump within budgets, what an audit finds of a report, the dump of a moment, the line of a generated
--- job's backtrace, or the waveform of a report's trace, is to be written
+-- job's backtrace, the waveform of a report's trace, or the answer of a search for a state within a budget, is to be written
 pub data Work : Type 0 where
   to_run : Budgets → Crashed → Work
   to_audit : Claimed → Work
   to_dump : Placed → Work
   to_demo : ℕ → Placed → Work
   to_wave : Claimed → Work
+  to_reach : (conflicts : ℕ) → Target → Work
 
 abbrev pub run_names : RunJob → FileNames
 run_names job = record { netlist = job.netlist; signature = job.signature; stimulus = job.stimulus }
@@ -45,3 +47,6 @@ plan_of (Demo number) = do
 plan_of (Wave job) = do
   claimed ← drawn_of (audit_names job) job.dump job.report
   end (to_wave claimed)
+plan_of (Reach job) = do
+  target ← target_of job.netlist job.state job.cycles
+  end (to_reach job.conflicts target)

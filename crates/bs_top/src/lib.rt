@@ -9,6 +9,7 @@ mod dumping;
 mod generated;
 mod law;
 mod program;
+mod reaching;
 mod summary;
 mod summing;
 mod top;

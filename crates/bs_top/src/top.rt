@@ -13,6 +13,7 @@ use crate::auditing::audit;
 use crate::backtracing::run;
 use crate::drawing::wave;
 use crate::dumping::dump;
+use crate::reaching::reach;
 use crate::summing::demo;
 use bs_job::{Reply, Status, deliver, refused_words};
 use bs_outside::{NoMemory, Shelf, Sink};
@@ -20,7 +21,6 @@ use bs_words::{Job, read_words};
 use std::alloc::Global;
 
 /// What is to be answered and written.
-#[tactic(auto, using(crate::proofs::AskedLemmas::budget_is))]
 fn prepare<S: Shelf>(alloc: Global, words: &[String], shelf: &mut S) -> Result<Reply, NoMemory>
     ensures { Prepared CheckSays finishes S.held S.faults S.leads shelf.old shelf.new (option_map plan_of (job_of (map string_bytes words.now))) result }
 {
@@ -30,6 +30,7 @@ fn prepare<S: Shelf>(alloc: Global, words: &[String], shelf: &mut S) -> Result<R
         Some(Job::Audit(job)) => audit(alloc, shelf, &job),
         Some(Job::Demo(number)) => demo(alloc, number),
         Some(Job::Wave(job)) => wave(alloc, shelf, &job),
+        Some(Job::Reach(job)) => reach(alloc, shelf, &job),
         None => refused_words(alloc),
     }
 }
@@ -52,7 +53,7 @@ pub fn backspace<S: Shelf, K: Sink>(
         AnsweredAsTold CheckSays finishes (S.held shelf.old) (option_map plan_of (job_of (map string_bytes words.now)))
         (K.written out.old) (K.written out.new) status) }
 
-    // The status of a file's refusal comes exactly where the first refusal of the walk is of that file.
+    // The status of a refusal comes exactly where the first refusal of the walk has it.
     ensures refusals { IfOk result (λ status. status ≢ Status.ReadFault → status ≢ Status.WriteFault →
         RefusesFirstOf (S.held shelf.old) (S.faults shelf.old) (S.faults shelf.new) (option_map plan_of (job_of (map string_bytes words.now))) status) }
 

@@ -20,4 +20,5 @@ returns-then-next-gone-clause-result c = elim c.loop-next-test.branch [
 
 pub returns-else-next-gone-clause-result : goal.returns-else-next-gone-clause-result
 returns-else-next-gone-clause-result c =
-    le-ltb c.loop-next.next (length c.args.gone.now) c.if-next-gone.false ∙ sym (among_none c.args.gone.now c.args.id c.loop-next.next c.loop-next.invariant.less c.if-next-gone.false)
+    le-ltb c.loop-next.next (length c.args.gone.now) c.if-next-gone.false ∙
+    sym (among_none c.args.gone.now c.args.id c.loop-next.next c.loop-next.invariant.less c.if-next-gone.false)

@@ -11,3 +11,6 @@ returns-in-Dump g c = rw c.in-Dump.is c.look_placed.ensures
 
 pub returns-in-Wave : goal.returns-in-Wave
 returns-in-Wave g c = rw c.in-Wave.is c.look_drawn.ensures
+
+pub returns-in-Reach : goal.returns-in-Reach
+returns-in-Reach g c = rw c.in-Reach.is c.look_target.ensures

@@ -3,7 +3,7 @@ use Rattle.std.specs.Prelude.{map, string_bytes}
 use Rattle.bs_job.proofs.Preparing.{prepares_alone}
 use Rattle.bs_words.specs.Job.{job_of}
 use Rattle.bs_words.specs.Shown.{job_in, shown_job}
-use Rattle.bs_top.proofs.AskedLemmas.{budget_is}
+use Rattle.bs_top.proofs.AskedLemmas.{budget_is, conflicts_fit, cycles_fit}
 use Rattle.bs_top.proofs.WorkLemmas.{prepared_for, prepared_short}
 use Rattle.bs_top.proofs.top.prepare.Goals as goal
 
@@ -40,3 +40,18 @@ pub returns-in-Some-Wave : goal.returns-in-Some-Wave
 returns-in-Some-Wave g c =
     prepared_for _ (job_of (map string_bytes c.args.words.now))
     (sym (sym c.in_ok-job.ensures.read ∙ (ap shown_job c.in-Some-Wave.is ∙ ap (λ j. Some (job_in j)) c.in-Some-Wave.field-0-is))) c.wave.ensures
+
+pub reach-requires-cycles : goal.reach-requires-cycles
+reach-requires-cycles g c =
+    cycles_fit (map string_bytes c.args.words.now) _
+    (sym (sym c.in_ok-job.ensures.read ∙ (ap shown_job c.in-Some-Reach.is ∙ ap (λ j. Some (job_in j)) c.in-Some-Reach.field-0-is)))
+
+pub reach-requires-limit : goal.reach-requires-limit
+reach-requires-limit g c =
+    conflicts_fit (map string_bytes c.args.words.now) _
+    (sym (sym c.in_ok-job.ensures.read ∙ (ap shown_job c.in-Some-Reach.is ∙ ap (λ j. Some (job_in j)) c.in-Some-Reach.field-0-is)))
+
+pub returns-in-Some-Reach : goal.returns-in-Some-Reach
+returns-in-Some-Reach g c =
+    prepared_for _ (job_of (map string_bytes c.args.words.now))
+    (sym (sym c.in_ok-job.ensures.read ∙ (ap shown_job c.in-Some-Reach.is ∙ ap (λ j. Some (job_in j)) c.in-Some-Reach.field-0-is))) c.reach.ensures

@@ -17,6 +17,7 @@ invariant_of-self-2 c =
 pub returns-clause-stands : goal.returns-clause-stands
 returns-clause-stands c =
     ap (λ (b : Book). live b.problem b.history)
-    (seen_line c.self.inside.vars c.self.inside.axioms.value c.self.inside.steps c.self.inside.log c.push.new.self (Block c.in_ok-id.id c.args.lits) c.args.self.now c.self.view_is
+    (seen_line c.self.inside.vars c.self.inside.axioms.value c.self.inside.steps c.self.inside.log c.push.new.self (Block c.in_ok-id.id c.args.lits)
+    c.args.self.now c.self.view_is
     c.in-Ok.ensures.ok) ∙
     block_stands c.args.self.now c.in_ok-id.id c.args.lits (subst IsKept c.self.view_is c.self.invariant.kept) c.in_ok-id.ensures.id

@@ -7,7 +7,8 @@ use Rattle.bs_book.proofs.recording.Recording.log_finish.Goals as goal
 
 pub invariant_of-self-2 : goal.invariant_of-self-2
 invariant_of-self-2 c =
-    recorded_line c.self.inside.last c.self.inside.lemmas.items c.self.inside.vars c.self.inside.axioms.value c.self.inside.steps c.self.inside.log c.push.new.self
+    recorded_line c.self.inside.last c.self.inside.lemmas.items c.self.inside.vars c.self.inside.axioms.value c.self.inside.steps c.self.inside.log
+    c.push.new.self
     (Finish c.args.id) c.args.self.now c.self.view_is c.in-Ok.ensures.ok
     (recorded_finish c.self.inside.last c.args.id c.self.inside.lemmas.items c.args.self.now
     (subst (IsRecorded c.self.inside.last c.self.inside.lemmas.items) c.self.view_is c.self.invariant) (omega (arith, c.self.ranges))

@@ -23,7 +23,8 @@ invariant_of-self-2 c =
 pub returns-clause-stands : goal.returns-clause-stands
 returns-clause-stands c =
     ap (λ (b : Book). live b.problem b.history)
-    (seen_line c.self.inside.vars c.self.inside.axioms.value c.self.inside.steps c.self.inside.log c.push.new.self (Lemma c.in_ok-id.id c.args.lits c.args.hints) c.args.self.now c.self.view_is
+    (seen_line c.self.inside.vars c.self.inside.axioms.value c.self.inside.steps c.self.inside.log c.push.new.self
+    (Lemma c.in_ok-id.id c.args.lits c.args.hints) c.args.self.now c.self.view_is
     c.in-Ok.ensures.ok) ∙
     lemma_stands c.args.self.now c.in_ok-id.id c.args.lits c.args.hints (subst IsKept c.self.view_is c.self.invariant.kept) c.in_ok-id.ensures.id
 
@@ -35,7 +36,8 @@ returns-clause-entry c =
     (c.in_ok-id.ensures.id ∙ ap (λ n. n + 1) (sym recorded.last_is)) (omega arith) c.requires.phase c.requires.learnt c.requires.range c.requires.new in
     let new : Book = with_lemma c.args.self.now c.in_ok-id.id c.args.lits c.args.hints in
     ap (λ (b : Book). entry_of (live b.problem b.history) c.in_ok-id.id)
-    (seen_line c.self.inside.vars c.self.inside.axioms.value c.self.inside.steps c.self.inside.log c.push.new.self (Lemma c.in_ok-id.id c.args.lits c.args.hints) c.args.self.now c.self.view_is
+    (seen_line c.self.inside.vars c.self.inside.axioms.value c.self.inside.steps c.self.inside.log c.push.new.self
+    (Lemma c.in_ok-id.id c.args.lits c.args.hints) c.args.self.now c.self.view_is
     c.in-Ok.ensures.ok) ∙
     found_last new.problem new.history (live c.args.self.now.problem c.args.self.now.history) e after.kept.right
     (lemma_stands c.args.self.now c.in_ok-id.id c.args.lits c.args.hints (subst IsKept c.self.view_is c.self.invariant.kept) c.in_ok-id.ensures.id)

@@ -1,0 +1,10 @@
+//! The state that a search asks for: the walk over the netlist, the word of the state and the size of the search.
+#![tactic(auto)]
+
+mod readings;
+mod target;
+mod walk;
+
+pub use readings::{check_room, read_state};
+pub use target::Target;
+pub use walk::take_target;

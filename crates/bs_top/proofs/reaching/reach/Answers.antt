@@ -1,0 +1,12 @@
+use Rattle.bs_job.proofs.Walking.{walks_as}
+use Rattle.bs_job.proofs.Preparing.{prepares_stop}
+use Rattle.bs_top.specs.Work.{to_reach}
+use Rattle.bs_top.specs.Finishes.{finishes}
+use Rattle.bs_top.proofs.WorkLemmas.{prepares_done}
+use Rattle.bs_top.proofs.reaching.reach.Goals as goal
+
+pub returns-in-Ok : goal.returns-in-Ok
+returns-in-Ok g c = prepares_done _ (walks_as (to_reach c.args.job.now.conflicts) c.in-Ok.ensures) c.reached.ensures
+
+pub returns-in-Err : goal.returns-in-Err
+returns-in-Err g c = prepares_stop finishes _ (walks_as (to_reach c.args.job.now.conflicts) c.in-Err.ensures) c.stopped.ensures
