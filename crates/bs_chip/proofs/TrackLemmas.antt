@@ -12,7 +12,10 @@ use Rattle.bs_scan.specs.Moments.{Run, moment, run_of, state_at}
 use Rattle.bs_scan.specs.Register.{Register, cleared, clocked}
 use Rattle.bs_scan.specs.Signature.{signature, signatures_before, stored_at}
 use Rattle.bs_scan.proofs.CrashLemmas.{few_before}
-use Rattle.bs_chip.specs.Lockstep.{IsChip, Passing, ShowsCycle, TrackShows, Extends, IsFirstIn, IsLongest, IsLowest, NoneAmong, NoneBefore, NoneReached}
+use Rattle.bs_chip.specs.declared.index.Index.{Index}
+use Rattle.bs_chip.specs.Chip.{IsChip}
+use Rattle.bs_chip.proofs.IndexLemmas.{cycles_none}
+use Rattle.bs_chip.specs.Lockstep.{Passing, ShowsCycle, TrackShows, Extends, IsFirstIn, IsLongest, IsLowest, NoneAmong, NoneBefore, NoneReached}
 
 pub ok_weaker : {A E : Type 0} (P Q : A → Type 0) (r : Result A E) → ((a : A) → P a → Q a) → IfOk r P → IfOk r Q
 ok_weaker P Q (Ok a) f h = f a h
@@ -152,9 +155,9 @@ filled_all c choice run first cycle k r e same f =
 -- ---- a chip
 
 -- a new chip stands at reset and keeps that cycle
-pub new_chip : (made : Recording) (p : Passing) (kept : List ℕ) (track : List (List ℕ)) → IsRecording made → p.circuit ≡ made.circuit →
-    p.runs ≡ made.runs → p.cycle ≡ 0 → ShowsCycle p.circuit p.runs kept p.cycle → track ≡ kept ∷ [] → IsChip made p track
-new_chip made p kept track recording e f g shows t =
+pub new_chip : (made : Recording) (p : Passing) (kept : List ℕ) (track : List (List ℕ)) (index : Index) → IsRecording made → p.circuit ≡ made.circuit →
+    p.runs ≡ made.runs → p.cycle ≡ 0 → ShowsCycle p.circuit p.runs kept p.cycle → track ≡ kept ∷ [] → index.cycles ≡ 0 → IsChip made p track index
+new_chip made p kept track index recording e f g shows t none =
     let P : Circuit → Type 0 = λ c. ShowsCycle c p.runs kept p.cycle in
     let Q : List Run → Type 0 = λ runs. ShowsCycle made.circuit runs kept p.cycle in
     let R : ℕ → Type 0 = λ n. ShowsCycle made.circuit made.runs kept n in
@@ -163,4 +166,6 @@ new_chip made p kept track recording e f g shows t =
       circuit = e;
       runs = f;
       shows = first_shows made.circuit made.runs kept track (subst R g (subst Q f (subst P e shows))) t;
+      within = omega (arith, none);
+      notes = cycles_none made.circuit made.runs index.first index.cycles none;
     }

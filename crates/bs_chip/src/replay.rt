@@ -8,6 +8,7 @@ ghost use Rattle.bs_chip.specs.Lockstep.{TrackShows};
 ghost use Rattle.bs_chip.specs.Replay.{dump_holding, in_state};
 ghost use Rattle.bs_chip.specs.Stepped.{StandsAt};
 
+use crate::index::{Index, grow, start};
 use crate::moments::{replay, unload};
 use crate::pass::Pass;
 use crate::player::Player;
@@ -34,7 +35,8 @@ pub const MAX_TRACK_BYTES: usize = 536_870_912;
 
 /// A chip that replays recorded runs. It steps all runs in lock step and keeps the flip-flops' planes of each cycle, so
 /// that a cycle is stepped once and looked at many times; cycles beyond its bound are stepped again. Contracts see the
-/// recording, and the cycle at which the lanes stand.
+/// recording, and the cycle at which the lanes stand. An index of the states at the first of these cycles says where a look
+/// may begin. It is made as fast as looks at cycles pay for it.
 #[derive(Drop)]
 pub struct Chip<'a> {
     player: Player<'a>,
@@ -42,17 +44,19 @@ pub struct Chip<'a> {
     pass: Pass<'a>,
     track: List<List<u64>>,
     most: usize,
+    index: Index,
+    credit: u64,
 }
 
 impl<'a> Model for Chip<'a> {
-    ghost use Rattle.bs_chip.specs.Lockstep.{IsChip};
+    ghost use Rattle.bs_chip.specs.Chip.{IsChip};
     ghost use Rattle.bs_chip.specs.Stepped.{Stepped};
 
     ghost Value = { Stepped };
 
     ghost view = { λ chip. record { recording = record { circuit = chip.player.circuit; choice = chip.register.choice; runs = chip.player.runs }; at = chip.pass.cycle } };
 
-    ghost invariant = { λ chip. IsChip (record { circuit = chip.player.circuit; choice = chip.register.choice; runs = chip.player.runs }) chip.pass chip.track };
+    ghost invariant = { λ chip. IsChip (record { circuit = chip.player.circuit; choice = chip.register.choice; runs = chip.player.runs }) chip.pass chip.track chip.index };
 }
 
 /// Brings a player and a register to a moment: out of the track, or else by a replay of the run from reset.
@@ -147,6 +151,8 @@ impl<'a> Chip<'a> {
             pass,
             track,
             most,
+            index: Index::new(alloc),
+            credit: 0,
         })
     }
 
@@ -199,8 +205,12 @@ impl<'a> Chip<'a> {
         ensures stands { IfOk result (λ found. IfSome found (λ moment. self.new.at ≡ moment.cycle)) }
         ensures kept { self.new.recording ≡ self.old.recording }
     {
-        let bank = Bank::load(alloc, list, self.player.width())?;
-        first_moment(alloc, &mut self.pass, &bank, &mut self.track, self.most)
+        let width = self.player.width();
+        grow(&mut self.index, &self.pass, &self.track, width, &mut self.credit)?;
+        let from = start(&self.index, list);
+        self.credit = self.credit.saturating_add((self.track.len() - from) as u64);
+        let bank = Bank::load(alloc, list, width)?;
+        first_moment(alloc, &mut self.pass, &bank, &mut self.track, self.most, from)
     }
 
     /// The chip's lanes. Each run that lasts to the cycle at which they stand is in its state there: after a `first` that
