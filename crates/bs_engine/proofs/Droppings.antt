@@ -1,5 +1,6 @@
 -- The stock after clauses have gone, and after they have moved.
-use Rattle.std.proofs.Common.{◌≡◌, ◌≢◌, ℕ, zero, suc, ◌+◌, ◌-◌, ◌<◌, ◌≤◌, arith, Bool, true, false, not, ◌&&◌, ◌||◌, cond, List, [], ◌∷◌, ◌++◌, map, length, take}
+use Rattle.std.proofs.Common.{◌≡◌, ◌≢◌, ℕ, zero, suc, ◌+◌, ◌-◌, ◌<◌, ◌≤◌, arith, Bool, true}
+use Rattle.std.proofs.Common.{false, not, ◌&&◌, ◌||◌, cond, List, [], ◌∷◌, ◌++◌, map, length, take}
 use Rattle.std.proofs.Common.{refl, sym, ap, subst, ◌∙◌, inl, inr, ◌⊎◌, Option, Some, None, eqb, get_or}
 use Rattle.std.specs.Prelude.{All, AllPairs, Contains, slice_get, is_some, option_map, unwrap_or, count_by, IsPermutation}
 use Rattle.std.specs.List.{filter, list_any}
@@ -74,7 +75,8 @@ found_left : (ids : List ℕ) (es : List Entry) (id : ℕ) (e : Entry) → entry
 found_left ids [] id e found stays = absurd (none_is_not_some e found)
 found_left ids (x ∷ xs) id e found stays = by (eqb x.id id) refl found (λ rest. found_left ids xs id e rest stays)
   where
-    rest_of : (b : Bool) → eqb x.id id ≡ false → entry_of (without_ids ids xs) id ≡ Some e → entry_of (cond b (x ∷ without_ids ids xs) (without_ids ids xs)) id ≡ Some e
+    rest_of : (b : Bool) → eqb x.id id ≡ false → entry_of (without_ids ids xs) id ≡ Some e →
+        entry_of (cond b (x ∷ without_ids ids xs) (without_ids ids xs)) id ≡ Some e
     rest_of true off rest = ap (λ b. cond b (Some x) (entry_of (without_ids ids xs) id)) off ∙ rest
     rest_of false off rest = rest
 
@@ -240,7 +242,8 @@ stocked_less old new before after stock less start ids refs watched es l swept s
   few = all_from (λ r. length (literals_at after r) < 2) less.shorts.items (λ r there.
       let c = short_cases r there in
       subst (λ x. length x < 2) (sym (literals_same r c.1)) (All-contains (λ x. length (literals_at before x) < 2) stock.shorts.items r s.few c.0));
-  rows = subst (λ fs. AreRowsOf after less.rows.items fs) (sym (marked_left ids es)) (subst (λ xs. AreRowsOf after xs (without_ids ids (marked es))) (sym l.rows)
+  rows = subst (λ fs. AreRowsOf after less.rows.items fs) (sym (marked_left ids es)) (subst (λ xs. AreRowsOf after xs (without_ids ids (marked es)))
+      (sym l.rows)
       (rows_permuted before after (filter (λ (x : Row). is_some (held_at after x.clause)) stock.rows.items) (without_ids ids (marked es))
       (rows_filtered before (λ (x : Row). is_some (held_at after x.clause)) (λ (e : Entry). stays_by ids e.id) stock.rows.items (marked es) s.rows
       (λ x e there is. row_alike old.lists es before after stock less start ids refs watched l s x e there is))
@@ -390,7 +393,8 @@ get_or_rows f [] k = refl
 get_or_rows f (ws ∷ lists) zero = refl
 get_or_rows f (ws ∷ lists) (suc k) = get_or_rows f lists k
 
-attached_renamed : (names : List (ℕ × ℕ)) (lists : List (List Watcher)) (r : ℕ) → IsAttached lists r → IsAttached (renamed_lists names lists) (renamed_ref names r)
+attached_renamed : (names : List (ℕ × ℕ)) (lists : List (List Watcher)) (r : ℕ) → IsAttached lists r →
+    IsAttached (renamed_lists names lists) (renamed_ref names r)
 attached_renamed names lists r (l, there) = (
   l,
   record {

@@ -1,5 +1,6 @@
 -- The end of a step.
-use Rattle.std.proofs.Common.{◌≡◌, ℕ, zero, suc, ◌+◌, ◌-◌, ◌*◌, ◌<◌, ◌≤◌, arith, Bool, true, false, not, cond, List, [], ◌∷◌, ◌++◌, map, length, take, refl, sym, ap, subst}
+use Rattle.std.proofs.Common.{◌≡◌, ℕ, zero, suc, ◌+◌, ◌-◌, ◌*◌, ◌<◌, ◌≤◌, arith, Bool, true, false}
+use Rattle.std.proofs.Common.{not, cond, List, [], ◌∷◌, ◌++◌, map, length, take, refl, sym, ap, subst}
 use Rattle.std.proofs.Common.{◌∙◌, inl, inr, ◌⊎◌, Option, Some, None, eqb}
 use Rattle.std.specs.Prelude.{All, Contains, slice_get, count_by}
 use Rattle.std.specs.List.{filter, list_any}
@@ -115,7 +116,8 @@ unit_stays b w clauses stock guard steps ids order s g ids_are = record {
             (filter is_lemma_or_block (entries b ++ unit_of b guard ∷ [])) e in_going).0 in
             let marked_e = filter_cases is_lemma_or_block (entries b) e (subst (λ xs. Contains xs e) (marked_unit (entries b) b guard) in_marked) in
             let found = found_still (entries b) (unit_of b guard ∷ []) e.id e (found_self (entries b) e order marked_e.0) in
-            let same : e ≡ u.entry = same_some e u.entry (sym found ∙ ap (entry_of (entries b ++ unit_of b guard ∷ [])) (is ∙ ap (id_in clauses) (sym one)) ∙ u.found) in
+            let same : e ≡ u.entry = same_some e u.entry (sym found ∙
+            ap (entry_of (entries b ++ unit_of b guard ∷ [])) (is ∙ ap (id_in clauses) (sym one)) ∙ u.found) in
             retired_is_other e (ap (λ (x : Entry). x.origin) same ∙ u.retired) marked_e.1),
       );
 }
@@ -179,7 +181,8 @@ pub settled_low : (old mid new : WatchState) (before between after : List Held) 
     start ≤ length more.rows.items
 settled_low old mid new before between after stock less more start ids es d m s =
     let one = length_rows between less.rows.items (marked (without_ids ids es)) (d.stocked es s).rows in
-    let two = length_rows after more.rows.items (marked (without_ids ids es)) (both_stocked old mid new before between after stock less more start ids es d m s).rows in
+    let two = length_rows after more.rows.items (marked (without_ids ids es)) (both_stocked old mid new before between after stock less more start ids
+    es d m s).rows in
     let low = d.low in omega (arith, one, two, low)
 
 pub settled_long : (own steps : ℕ) (known : Known) (old mid new : WatchState) (before between after : List Held) (stock less more : Stock) (start : ℕ)

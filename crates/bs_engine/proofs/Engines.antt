@@ -1,5 +1,6 @@
 -- A solver with what it knows of its lemmas, from one call to the next.
-use Rattle.std.proofs.Common.{◌≡◌, ℕ, zero, suc, ◌+◌, ◌-◌, ◌*◌, ◌<◌, ◌≤◌, ◌^◌, arith, Bool, true, false, not, ◌&&◌, ◌||◌, List, [], ◌∷◌, ◌++◌, map, length, take}
+use Rattle.std.proofs.Common.{◌≡◌, ℕ, zero, suc, ◌+◌, ◌-◌, ◌*◌, ◌<◌, ◌≤◌, ◌^◌, arith, Bool}
+use Rattle.std.proofs.Common.{true, false, not, ◌&&◌, ◌||◌, List, [], ◌∷◌, ◌++◌, map, length, take}
 use Rattle.std.proofs.Common.{refl, sym, ap, subst, ◌∙◌, inl, inr, ◌⊎◌, Option, Some, None}
 use Rattle.std.specs.Prelude.{All, Contains, slice_get, count_by}
 use Rattle.std.specs.List.{filter, list_any, AllByRecursion}
@@ -219,7 +220,8 @@ pub noted_leave : (b fin ret : Book) (end : Option ℕ) (vars own steps : ℕ) (
     ids ≡ map (λ (e : Entry). e.id) (going b.problem steps (entries b ++ unit_of b guard ∷ [])) → ids ≡ leaving fin
 noted_leave b fin ret end vars own steps guard ids is_fin is_ret grown inside own_is steps_is ids_are =
     let same_entries : entries b ++ unit_of b guard ∷ [] ≡ entries (retired fin) =
-    (λ i. sym (finished_entries b fin end is_fin) i ++ sym (ap (λ x. unit_of x guard) is_fin ∙ finished_next b end guard) i ∷ []) ∙ sym grown ∙ ap entries is_ret in
+    (λ i. sym (finished_entries b fin end is_fin) i ++ sym (ap (λ x. unit_of x guard) is_fin ∙ finished_next b end guard) i ∷ []) ∙ sym grown ∙
+    ap entries is_ret in
     let same_problem : b.problem ≡ fin.problem = sym (ap (λ (x : Book). x.problem) is_fin ∙ finished_problem b end) in
     let same_step : steps ≡ step_of fin.history = steps_is ∙ guards_are b vars own inside own_is ∙
     sym (ap (λ (x : Book). step_of x.history) is_fin ∙ finished_step b end) in

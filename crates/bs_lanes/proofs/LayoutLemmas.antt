@@ -1,5 +1,5 @@
 -- Writes to planes that lie in another order than the nets: each net's bit is where its plane lies.
-use Rattle.std.proofs.Common.{◌≡◌, ◌≢◌, ℕ, ◌<◌, ◌≤◌, ◌+◌, ◌*◌, ◌/◌, ◌%◌, Bool, false, ◌&&◌, ◌||◌, List, [], ◌∷◌, ◌++◌, map, length, get_or, set, replicate, refl, arith, subst, ap, sym, ◌∙◌, ⊎_elim, length-set, get_or-set_same, get_or-set_other}
+use Rattle.std.proofs.Common.{◌≡◌, ◌≢◌, ℕ, ◌<◌, ◌≤◌, ◌+◌, ◌*◌, ◌/◌, ◌%◌, Bool, false, cond, ◌&&◌, ◌||◌, List, [], ◌∷◌, ◌++◌, map, length, get_or, set, replicate, refl, arith, subst, ap, sym, ◌∙◌, ⊎_elim, length-set, get_or-set_same, get_or-set_other}
 use Rattle.std.specs.Prelude.{◌==◌, IsTrue, nat_lt}
 use Rattle.std.specs.Int.{bit_at}
 use Rattle.std.specs.List.{All, AllByRecursion}
@@ -13,10 +13,12 @@ use Rattle.bs_net.specs.declared.net.NetId.{NetId}
 use Rattle.bs_net.specs.declared.net.Flop.{Flop}
 use Rattle.bs_net.specs.declared.net.Const.{Const}
 use Rattle.bs_net.specs.declared.net.Gate.{Gate}
-use Rattle.bs_net.specs.Circuit.{Circuit, Fits, IsZeroed, shown, loaded, state_nets, next, reset_state}
+use Rattle.bs_net.specs.declared.net.Mode.{Mode}
+use Rattle.bs_net.specs.declared.net.Mode.TheVariants.{Plain, Enable, Clear}
+use Rattle.bs_net.specs.Circuit.{Circuit, Fits, IsZeroed, shown, bit_at as net_shows, mode_loads, loaded, state_nets, next, reset_state}
 use Rattle.bs_net.specs.Netlist.{Checked, circuit}
 use Rattle.bs_net.specs.Order.{gates_in, IsOrder}
-use Rattle.bs_net.specs.Parts.{takes}
+use Rattle.bs_net.specs.Parts.{takes, mode_nets, IsFlopPlaced}
 use Rattle.bs_net.specs.Steps.{Step, run, put, puts, gate_write, constant_step, steps}
 use Rattle.bs_net.proofs.ResettleLemmas.{settled_from, zeroed_by_fit, zeroed_zeros}
 use Rattle.bs_net.proofs.NetlistLemmas.{run-append}
@@ -26,11 +28,12 @@ use Rattle.bs_stim.specs.Packing.{bit_in}
 use Rattle.bs_plane.specs.Planes.{bit_place, lane, IsWidened}
 use Rattle.bs_plane.proofs.PlaneLemmas.{bit_from, lane_at, lane_zeros, length_lane}
 use Rattle.bs_lanes.specs.declared.layout.Layout.{Layout}
-use Rattle.bs_lanes.specs.Layout.{place_of, placed_net, placed_gate, placed_const, unplaced, words_by_net, layout_steps, AreInside, IsPlacing, IsLayout, IsGateOf, SettlesAll, HasLayout}
+use Rattle.bs_lanes.specs.Layout.{place_of, placed_net, placed_gate, placed_const, placed_mode, placed_flop, unplaced, words_by_net, layout_steps, AreInside, IsPlacing, IsLayout, IsGateOf, SettlesAll, HasLayout}
 use Rattle.bs_lanes.specs.Lanes.{LaneTable, is_wide, IsLaneTable, AreReset, AreStepped}
 use Rattle.bs_lanes.specs.Program.{program_gates, HasGate}
-use Rattle.bs_lanes.specs.Settling.{net_bit, HasPlane, RunsAll, LoadsAll, ResetsAll}
+use Rattle.bs_lanes.specs.Settling.{HasPlane, HasFlop, lane_loads, RunsAll, LoadsAll, ResetsAll}
 use Rattle.bs_lanes.proofs.SettlingLemmas.{has_plane}
+use Rattle.bs_lanes.proofs.LoadLemmas.{lane_bit_is}
 
 -- ---- the planes of the nets, one net behind another
 
@@ -186,7 +189,7 @@ puts_in count [] bs h = tt
 puts_in count (n ∷ ns) [] h = tt
 puts_in count (n ∷ ns) (b ∷ bs) h = ((h.0, tt), puts_in count ns bs h.1)
 
-outputs_in : (count : ℕ) (fs : List Flop) → AllByRecursion (λ (f : Flop). (f.q.0 < count) × (f.d.0 < count) × (f.ck.0 < count)) fs →
+outputs_in : (count : ℕ) (fs : List Flop) → AllByRecursion (IsFlopPlaced count) fs →
     AllByRecursion (λ (n : NetId). n.0 < count) (map (λ (f : Flop). f.q) fs)
 outputs_in count [] h = tt
 outputs_in count (f ∷ fs) h = (h.0.0, outputs_in count fs h.1)
@@ -212,7 +215,7 @@ pub steps_in : (c : Circuit) (s x : List Bool) (order : List ℕ) → AreInside 
 steps_in c s x order h o =
     let a = puts_in c.nets c.inputs x (all_nets c.nets c.inputs h.inputs) in
     let b = puts_in c.nets (state_nets c) s
-    (outputs_in c.nets c.flops (recursion_from_All (λ (f : Flop). (f.q.0 < c.nets) × (f.d.0 < c.nets) × (f.ck.0 < c.nets)) c.flops h.flops)) in
+    (outputs_in c.nets c.flops (recursion_from_All (IsFlopPlaced c.nets) c.flops h.flops)) in
     let k = consts_in c.nets c.constants (recursion_from_All (λ (k : Const). k.net.0 < c.nets) c.constants h.consts) in
     let g = gates_in_bound c.nets (gates_in order c.gates) (recursion_from_All (IsGateOf c.nets) (gates_in order c.gates) (ordered_gates c order h o)) in
     steps_join c.nets (puts c.inputs x) _ a
@@ -245,24 +248,39 @@ gate_has nets planes wide places words g p size h =
       taken = subst P (sym (length-map g.ins (placed_net places))) h.2;
     }
 
+mode_moves : (places : List ℕ) (m : Mode) → mode_nets (placed_mode places m) ≡ map (placed_net places) (mode_nets m)
+mode_moves places Plain = refl
+mode_moves places (Enable e) = refl
+mode_moves places (Clear r) = refl
+
+flop_has : (nets planes wide : ℕ) (places words : List ℕ) (f : Flop) → IsPlacing nets planes places → length words ≡ planes * wide → IsFlopPlaced nets f →
+    HasFlop wide words (placed_flop places f)
+flop_has nets planes wide places words f p size h =
+    let P : List NetId → Type 0 = λ ns. All (λ (n : NetId). HasPlane wide words n.0) ns in (
+      net_has nets planes wide places words f.q p size h.0,
+      net_has nets planes wide places words f.d p size h.1,
+      subst P (sym (mode_moves places f.mode)) (nets_at_have nets planes wide places words (mode_nets f.mode) p size h.3),
+    )
+
 pub has_layout : (c : Circuit) (l : Layout) (wide : ℕ) (words : List ℕ) → IsLayout c l → length words ≡ l.planes * wide → HasLayout wide words l
 has_layout c l wide words h size =
     let Has : NetId → Type 0 = λ n. HasPlane wide words n.0 in
     let Ns : List NetId → Type 0 = λ ns. All Has ns in
     let Ks : List Const → Type 0 = λ ks. All (λ (k : Const). HasPlane wide words k.net.0) ks in
     let Gs : List Gate → Type 0 = λ gs. All (HasGate wide words) gs in
-    let Fl : Flop → Type 0 = λ f. (f.q.0 < c.nets) × (f.d.0 < c.nets) × (f.ck.0 < c.nets) in
+    let Fs : List Flop → Type 0 = λ fs. All (HasFlop wide words) fs in
     let has : (n : NetId) → n.0 < c.nets → Has (placed_net l.places n) = λ n lt. net_has c.nets l.planes wide l.places words n h.placing size lt in
     record {
       inputs = subst Ns (sym h.inputs) (nets_at_have c.nets l.planes wide l.places words c.inputs h.placing size h.inside.inputs);
       outputs =
           subst Ns (sym h.outputs)
           (All-map Has (λ (f : Flop). placed_net l.places f.q) c.flops
-          (All-weaker Fl (λ (f : Flop). Has (placed_net l.places f.q)) (λ f k. has f.q k.0) c.flops h.inside.flops));
-      loads =
-          subst Ns (sym h.loads)
-          (All-map Has (λ (f : Flop). placed_net l.places f.d) c.flops
-          (All-weaker Fl (λ (f : Flop). Has (placed_net l.places f.d)) (λ f k. has f.d k.1) c.flops h.inside.flops));
+          (All-weaker (IsFlopPlaced c.nets) (λ (f : Flop). Has (placed_net l.places f.q)) (λ f k. has f.q k.0) c.flops h.inside.flops));
+      flops =
+          subst Fs (sym h.flops)
+          (All-map (HasFlop wide words) (placed_flop l.places) c.flops
+          (All-weaker (IsFlopPlaced c.nets) (λ (f : Flop). HasFlop wide words (placed_flop l.places f))
+          (λ f k. flop_has c.nets l.planes wide l.places words f h.placing size k) c.flops h.inside.flops));
       consts =
           subst Ks (sym h.consts)
           (All-map (λ (k : Const). HasPlane wide words k.net.0) (placed_const l.places) c.constants
@@ -282,8 +300,8 @@ length_inputs c l h = ap length h.inputs ∙ length-map c.inputs (placed_net l.p
 pub length_outputs : (c : Circuit) (l : Layout) → IsLayout c l → length l.outputs ≡ length c.flops
 length_outputs c l h = ap length h.outputs ∙ length-map c.flops (λ (f : Flop). placed_net l.places f.q)
 
-pub length_loads : (c : Circuit) (l : Layout) → IsLayout c l → length l.loads ≡ length c.flops
-length_loads c l h = ap length h.loads ∙ length-map c.flops (λ (f : Flop). placed_net l.places f.d)
+pub length_flops : (c : Circuit) (l : Layout) → IsLayout c l → length l.flops ≡ length c.flops
+length_flops c l h = ap length h.flops ∙ length-map c.flops (placed_flop l.places)
 
 -- ---- a settling of a layout settles its netlist in each lane
 
@@ -315,29 +333,49 @@ settled_lane c l wide flops inputs old new r h size zeroed k lt =
     (subst Z (by_net_lane wide c.nets l.planes l.places old r h.placing lt) (zeroed r lt)) in
     subst F (sym (by_net_lane wide c.nets l.planes l.places new r h.placing lt)) (subst F (sym by_nets) fits)
 
--- what the flip-flops load of the planes is what they load of a lane's nets
-loads_of : (c : Circuit) (l : Layout) (wide : ℕ) (words : List ℕ) (r : ℕ) (fs : List Flop) → length l.places ≡ c.nets → r < 64 * wide →
-    AllByRecursion (λ (f : Flop). (f.q.0 < c.nets) × (f.d.0 < c.nets) × (f.ck.0 < c.nets)) fs →
-    map (net_bit wide words r) (map (λ (f : Flop). placed_net l.places f.d) fs) ≡ map (loaded (lane wide c.nets (words_by_net wide l.places words) r)) fs
-loads_of c l wide words r [] size lt h = refl
-loads_of c l wide words r (f ∷ fs) size lt h =
-    let u : List Bool = lane wide c.nets (words_by_net wide l.places words) r in
-    let here : net_bit wide words r (placed_net l.places f.d) ≡ loaded u f =
-    sym (by_net_bit wide l.places words f.d.0 r (omega (arith, h.0.1, size)) lt)
-    ∙ sym (lane_at wide c.nets (words_by_net wide l.places words) r f.d.0 h.0.1) in
-    ap (λ b. b ∷ map (net_bit wide words r) (map (λ (f : Flop). placed_net l.places f.d) fs)) here
-    ∙ ap (λ bs. loaded u f ∷ bs) (loads_of c l wide words r fs size lt h.1)
+-- a net's bit in a lane, by the planes as they lie and by the nets
+net_same : (c : Circuit) (l : Layout) (wide : ℕ) (words : List ℕ) (r : ℕ) (n : NetId) → IsPlacing c.nets l.planes l.places → length words ≡ l.planes * wide →
+    r < 64 * wide → n.0 < c.nets →
+    net_shows (lane wide (length words) words r) (place_of l.places n.0) ≡ net_shows (lane wide c.nets (words_by_net wide l.places words) r) n.0
+net_same c l wide words r n p size lt small =
+    lane_bit_is wide r words (placed_net l.places n) (net_has c.nets l.planes wide l.places words n p size small) lt
+    ∙ (sym (by_net_bit wide l.places words n.0 r (omega (arith, small, p.size)) lt)
+    ∙ sym (lane_at wide c.nets (words_by_net wide l.places words) r n.0 small))
 
-pub loaded_lane : (c : Circuit) (l : Layout) (wide : ℕ) (flops inputs words new : List ℕ) (r : ℕ) → IsLayout c l → LoadsAll wide words l.loads flops new →
-    r < 64 * wide →
+-- a mode loads the same, by the planes as they lie and by the nets
+mode_same : (places : List ℕ) (w u : List Bool) (m : Mode) (d q : Bool) →
+    All (λ (n : NetId). net_shows w (place_of places n.0) ≡ net_shows u n.0) (mode_nets m) →
+    mode_loads w (placed_mode places m) d q ≡ mode_loads u m d q
+mode_same places w u Plain d q h = refl
+mode_same places w u (Enable e) d q h = ap (λ b. cond b d q) (h 0 e (omega arith))
+mode_same places w u (Clear r) d q h = ap (λ b. cond b false d) (h 0 r (omega arith))
+
+-- what the flip-flops load of the planes is what they load of a lane's nets
+loads_of : (c : Circuit) (l : Layout) (wide : ℕ) (words : List ℕ) (r : ℕ) (fs : List Flop) → IsPlacing c.nets l.planes l.places →
+    length words ≡ l.planes * wide → r < 64 * wide → AllByRecursion (IsFlopPlaced c.nets) fs →
+    map (lane_loads wide words r) (map (placed_flop l.places) fs) ≡ map (loaded (lane wide c.nets (words_by_net wide l.places words) r)) fs
+loads_of c l wide words r [] p size lt h = refl
+loads_of c l wide words r (f ∷ fs) p size lt h =
+    let w : List Bool = lane wide (length words) words r in
+    let u : List Bool = lane wide c.nets (words_by_net wide l.places words) r in
+    let same : (n : NetId) → n.0 < c.nets → net_shows w (place_of l.places n.0) ≡ net_shows u n.0 = λ n small. net_same c l wide words r n p size lt small in
+    let here : lane_loads wide words r (placed_flop l.places f) ≡ loaded u f =
+    mode_same l.places w u f.mode (net_shows w (place_of l.places f.d.0)) (net_shows w (place_of l.places f.q.0))
+    (All-weaker (λ (n : NetId). n.0 < c.nets) (λ (n : NetId). net_shows w (place_of l.places n.0) ≡ net_shows u n.0) same (mode_nets f.mode) h.0.3)
+    ∙ (ap (λ b. mode_loads u f.mode b (net_shows w (place_of l.places f.q.0))) (same f.d h.0.1)
+    ∙ ap (λ b. mode_loads u f.mode (net_shows u f.d.0) b) (same f.q h.0.0)) in
+    ap (λ b. b ∷ map (lane_loads wide words r) (map (placed_flop l.places) fs)) here
+    ∙ ap (λ bs. loaded u f ∷ bs) (loads_of c l wide words r fs p size lt h.1)
+
+pub loaded_lane : (c : Circuit) (l : Layout) (wide : ℕ) (flops inputs words new : List ℕ) (r : ℕ) → IsLayout c l → length words ≡ l.planes * wide →
+    LoadsAll wide words l.flops flops new → r < 64 * wide →
     Fits c (lane wide (length c.flops) flops r) (lane wide (length c.inputs) inputs r) (lane wide c.nets (words_by_net wide l.places words) r) →
     lane wide (length c.flops) new r ≡ next c (lane wide (length c.flops) flops r) (lane wide (length c.inputs) inputs r)
-loaded_lane c l wide flops inputs words new r h k lt fits =
-    let Fl : Flop → Type 0 = λ f. (f.q.0 < c.nets) × (f.d.0 < c.nets) × (f.ck.0 < c.nets) in
-    ap (λ n. lane wide n new r) (sym (length_loads c l h))
+loaded_lane c l wide flops inputs words new r h size k lt fits =
+    ap (λ n. lane wide n new r) (sym (length_flops c l h))
     ∙ (k.each r lt
-    ∙ (ap (map (net_bit wide words r)) h.loads
-    ∙ (loads_of c l wide words r c.flops h.placing.size lt (recursion_from_All Fl c.flops h.inside.flops)
+    ∙ (ap (map (lane_loads wide words r)) h.flops
+    ∙ (loads_of c l wide words r c.flops h.placing size lt (recursion_from_All (IsFlopPlaced c.nets) c.flops h.inside.flops)
     ∙ next_from_fits c (lane wide (length c.flops) flops r) (lane wide (length c.inputs) inputs r) (lane wide c.nets (words_by_net wide l.places words) r)
     h.checked (length_lane wide (length c.flops) flops r) (length_lane wide (length c.inputs) inputs r) fits)))
 
@@ -353,7 +391,7 @@ sizes net l wide planes nets h = length_by_net wide l.places nets ∙ ap (λ n. 
 
 -- after a clock edge
 pub table_stepped : (net : Checked) (l : Layout) (wide : ℕ) (flops inputs old flops' new : List ℕ) → IsLayout (circuit net) l →
-    IsLaneTable (table net l wide flops old) → length old ≡ l.planes * wide → SettlesAll wide l flops inputs old new → LoadsAll wide new l.loads flops flops' →
+    IsLaneTable (table net l wide flops old) → length old ≡ l.planes * wide → SettlesAll wide l flops inputs old new → LoadsAll wide new l.flops flops flops' →
     IsLaneTable (table net l wide flops' new) × AreStepped (table net l wide flops old) (table net l wide flops' new) inputs
 table_stepped net l wide flops inputs old flops' new h t size k m =
     let c = circuit net in
@@ -365,7 +403,7 @@ table_stepped net l wide flops inputs old flops' new h t size k m =
         zeroed = λ r lt. zeroed_by_fit c _ _ _ (fits r lt);
       },
       record {
-        state = λ r lt. loaded_lane c l wide flops inputs new flops' r h m lt (fits r lt);
+        state = λ r lt. loaded_lane c l wide flops inputs new flops' r h (k.size ∙ size) m lt (fits r lt);
         fits = fits;
       },
     )

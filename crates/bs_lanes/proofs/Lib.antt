@@ -3,3 +3,4 @@ pub mod LevelLemmas
 pub mod PairLemmas
 pub mod ProgramLemmas
 pub mod SettlingLemmas
+pub mod LoadLemmas

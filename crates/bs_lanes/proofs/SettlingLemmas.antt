@@ -26,7 +26,7 @@ use Rattle.bs_net.specs.Steps.{Step, run, put, puts, gate_write, constant_step}
 use Rattle.bs_stim.specs.Packing.{bit_in}
 use Rattle.bs_plane.specs.Planes.{bit_place, lane, IsPlane}
 use Rattle.bs_plane.proofs.PlaneLemmas.{lane_put, lane_at, length_lane, and_is_plane, or_is_plane, xor_is_plane, inverse_is_plane, same_plane}
-use Rattle.bs_lanes.specs.Settling.{net_bit, HasPlane, RunsTo}
+use Rattle.bs_lanes.specs.Settling.{net_bit, HasPlane, RunsTo, lane_loads}
 
 -- ---- where planes lie
 
@@ -146,13 +146,13 @@ one_gate wide gates i d g old now p whole lt is h room ins q =
 -- ---- what flip-flops load
 
 -- one flip-flop more
-pub one_load : (wide : ℕ) (nets flops p : List ℕ) (ns : List NetId) (i : ℕ) (d : NetId) → i < length ns → length flops ≡ length ns * wide →
-    ((r : ℕ) → r < 64 * wide → take i (lane wide (length ns) flops r) ≡ map (net_bit wide nets r) (take i ns)) →
-    IsPlane wide p (λ r. net_bit wide nets r (get_or ns i d)) → (r : ℕ) → r < 64 * wide →
-    take (i + 1) (lane wide (length ns) (put_chunk (i * wide) flops p) r) ≡ map (net_bit wide nets r) (take (i + 1) ns)
+pub one_load : (wide : ℕ) (nets flops p : List ℕ) (ns : List Flop) (i : ℕ) (d : Flop) → i < length ns → length flops ≡ length ns * wide →
+    ((r : ℕ) → r < 64 * wide → take i (lane wide (length ns) flops r) ≡ map (lane_loads wide nets r) (take i ns)) →
+    IsPlane wide p (λ r. lane_loads wide nets r (get_or ns i d)) → (r : ℕ) → r < 64 * wide →
+    take (i + 1) (lane wide (length ns) (put_chunk (i * wide) flops p) r) ≡ map (lane_loads wide nets r) (take (i + 1) ns)
 one_load wide nets flops p ns i d lt size so_far q r small =
     let v : List Bool = lane wide (length ns) flops r in
-    let load : NetId → Bool = net_bit wide nets r in
+    let load : Flop → Bool = lane_loads wide nets r in
     let here : i < length v = omega (arith, lt, length_lane wide (length ns) flops r) in
     ap (take (i + 1)) (lane_put wide (length ns) i r flops p q.long small lt (omega (arith, size)))
     ∙ (take-set_at v i (i + 1) (bit_in p r) refl here

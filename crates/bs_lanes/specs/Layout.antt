@@ -4,12 +4,15 @@ use Rattle.std.specs.List.{range_with_len}
 use Rattle.bs_net.specs.declared.net.NetId.{NetId}
 use Rattle.bs_net.specs.declared.net.Gate.{Gate}
 use Rattle.bs_net.specs.declared.net.Const.{Const}
+use Rattle.bs_net.specs.declared.net.Flop.{Flop}
+use Rattle.bs_net.specs.declared.net.Mode.{Mode}
+use Rattle.bs_net.specs.declared.net.Mode.TheVariants.{Plain, Enable, Clear}
 use Rattle.bs_net.specs.Circuit.{Circuit}
 use Rattle.bs_net.specs.Order.{gates_in, IsChecked, IsOrder}
-use Rattle.bs_net.specs.Parts.{takes, ArePlaced}
+use Rattle.bs_net.specs.Parts.{takes, ArePlaced, IsFlopPlaced}
 use Rattle.bs_net.specs.Steps.{Step, puts, constant_step, gate_write}
 use Rattle.bs_plane.specs.Planes.{lane}
-use Rattle.bs_lanes.specs.Settling.{HasPlane, RunsAll}
+use Rattle.bs_lanes.specs.Settling.{HasPlane, HasFlop, RunsAll}
 use Rattle.bs_lanes.specs.Program.{program_gates, HasGate}
 use Rattle.bs_lanes.specs.declared.layout.Layout.{Layout}
 
@@ -39,7 +42,7 @@ pub record Grows (old new : List ℕ) : Type 0 where
 abbrev pub AreListed : List ℕ → List ℕ → Type 0
 AreListed listed places = (n : ℕ) → n < length places → IsListed listed (place_of places n) n
 
--- a net, a gate and a constant by the places of their planes
+-- a net, a gate, a constant and a flip-flop by the places of their planes
 abbrev pub placed_net : List ℕ → NetId → NetId
 placed_net places n = record { 0 = place_of places n.0 }
 
@@ -48,6 +51,21 @@ placed_gate places g = record { kind = g.kind; out = placed_net places g.out; in
 
 abbrev pub placed_const : List ℕ → Const → Const
 placed_const places k = record { net = placed_net places k.net; value = k.value }
+
+abbrev pub placed_mode : List ℕ → Mode → Mode
+placed_mode places Plain = Plain
+placed_mode places (Enable e) = Enable (placed_net places e)
+placed_mode places (Clear r) = Clear (placed_net places r)
+
+abbrev pub placed_flop : List ℕ → Flop → Flop
+placed_flop places f =
+    record {
+      q = placed_net places f.q;
+      d = placed_net places f.d;
+      ck = placed_net places f.ck;
+      reset = f.reset;
+      mode = placed_mode places f.mode;
+    }
 
 -- the gates with these numbers, by the places of their planes
 abbrev pub placed_gates : List ℕ → List ℕ → List Gate → List Gate
@@ -69,7 +87,7 @@ words_by_net wide places words =
 -- the nets of a circuit's parts have numbers below the number of its nets
 pub record AreInside (c : Circuit) : Type 0 where
   pub inputs : All (λ n. n.0 < c.nets) c.inputs
-  pub flops : All (λ f. (f.q.0 < c.nets) × (f.d.0 < c.nets) × (f.ck.0 < c.nets)) c.flops
+  pub flops : All (IsFlopPlaced c.nets) c.flops
   pub consts : All (λ k. k.net.0 < c.nets) c.constants
   pub gates : All (IsGateOf c.nets) c.gates
 
@@ -80,7 +98,7 @@ pub record IsLayout (c : Circuit) (l : Layout) : Type 0 where
   pub placing : IsPlacing c.nets l.planes l.places
   pub inputs : l.inputs ≡ map (placed_net l.places) c.inputs
   pub outputs : l.outputs ≡ map (λ f. placed_net l.places f.q) c.flops
-  pub loads : l.loads ≡ map (λ f. placed_net l.places f.d) c.flops
+  pub flops : l.flops ≡ map (placed_flop l.places) c.flops
   pub consts : l.consts ≡ map (placed_const l.places) c.constants
   pub order : List ℕ
   pub ordered : IsOrder c.gates order
@@ -90,7 +108,7 @@ pub record IsLayout (c : Circuit) (l : Layout) : Type 0 where
 pub record HasLayout (wide : ℕ) (words : List ℕ) (l : Layout) : Type 0 where
   pub inputs : All (λ n. HasPlane wide words n.0) l.inputs
   pub outputs : All (λ n. HasPlane wide words n.0) l.outputs
-  pub loads : All (λ n. HasPlane wide words n.0) l.loads
+  pub flops : All (HasFlop wide words) l.flops
   pub consts : All (λ k. HasPlane wide words k.net.0) l.consts
   pub gates : All (HasGate wide words) (program_gates l.program)
 

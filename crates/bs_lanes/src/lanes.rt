@@ -80,10 +80,10 @@ fn step_all(wide: usize, nets: &mut Vec<u64>, flops: &mut Vec<u64>, layout: &Lay
     requires wide { IsTrue (is_wide wide) }
     requires placed { HasLayout wide nets.old.items layout.now }
     requires outputs { length flops.old.items ≡ length layout.now.outputs * wide }
-    requires loads { length flops.old.items ≡ length layout.now.loads * wide }
+    requires loads { length flops.old.items ≡ length layout.now.flops * wide }
     requires inputs { length inputs.now ≡ length layout.now.inputs * wide }
     ensures settled { SettlesAll wide layout.now flops.old.items inputs.now nets.old.items nets.new.items }
-    ensures loaded { LoadsAll wide nets.new.items layout.now.loads flops.old.items flops.new.items }
+    ensures loaded { LoadsAll wide nets.new.items layout.now.flops flops.old.items flops.new.items }
 {
     step(
         wide,

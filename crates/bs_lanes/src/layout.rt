@@ -1,13 +1,14 @@
 //! A netlist's parts with the places of planes for nets.
 ghost use Rattle.std.specs.Prelude.{◌≡◌, ◌<◌, ◌≤◌, length, map, All, IfOk};
 ghost use Rattle.bs_net.specs.Netlist.{circuit};
-ghost use Rattle.bs_lanes.specs.Layout.{placed_net, placed_const, IsLayout};
+ghost use Rattle.bs_net.specs.Parts.{IsModePlaced, IsFlopPlaced};
+ghost use Rattle.bs_lanes.specs.Layout.{placed_net, placed_const, placed_mode, placed_flop, IsLayout};
 
 use crate::levels::by_level;
 use crate::places::places_of;
 use crate::program::{Stretch, place, stretches_of};
 use bs_bits::{List, NoMemory};
-use bs_net::{Const, Flop, NetId, Netlist};
+use bs_net::{Const, Flop, Mode, NetId, Netlist};
 use std::alloc::Global;
 
 /// Where the planes of a netlist's nets lie, and the netlist's parts with these places for nets.
@@ -21,8 +22,8 @@ pub(crate) struct Layout {
     pub inputs: List<NetId>,
     /// The outputs of the flip-flops.
     pub outputs: List<NetId>,
-    /// What the flip-flops load.
-    pub loads: List<NetId>,
+    /// The flip-flops.
+    pub flops: List<Flop>,
     pub consts: List<Const>,
     /// The gates, each behind those whose outputs it reads.
     pub program: List<Stretch>,
@@ -42,7 +43,7 @@ fn nets_at(alloc: Global, nets: &[NetId], places: &[u32]) -> Result<List<NetId>,
 
 /// The places of the flip-flops' outputs.
 fn outputs_at(alloc: Global, flops: &[Flop], places: &[u32]) -> Result<List<NetId>, NoMemory>
-    requires { All (λ f. (f.q.0 < length places.now) × (f.d.0 < length places.now) × (f.ck.0 < length places.now)) flops.now }
+    requires { All (IsFlopPlaced (length places.now)) flops.now }
     ensures { IfOk result (λ placed. placed ≡ map (λ f. placed_net places.now f.q) flops.now) }
 {
     let mut placed = List::new(alloc);
@@ -52,14 +53,40 @@ fn outputs_at(alloc: Global, flops: &[Flop], places: &[u32]) -> Result<List<NetI
     Ok(placed)
 }
 
-/// The places of what the flip-flops load.
-fn loads_at(alloc: Global, flops: &[Flop], places: &[u32]) -> Result<List<NetId>, NoMemory>
-    requires { All (λ f. (f.q.0 < length places.now) × (f.d.0 < length places.now) × (f.ck.0 < length places.now)) flops.now }
-    ensures { IfOk result (λ placed. placed ≡ map (λ f. placed_net places.now f.d) flops.now) }
+/// A mode by the place of its net.
+fn mode_at(mode: Mode, places: &[u32]) -> Mode
+    requires { IsModePlaced (length places.now) mode }
+    ensures { result ≡ placed_mode places.now mode }
+{
+    match mode {
+        Mode::Plain => Mode::Plain,
+        Mode::Enable(enable) => Mode::Enable(place(places, enable)),
+        Mode::Clear(clear) => Mode::Clear(place(places, clear)),
+    }
+}
+
+/// A flip-flop by the places of its nets.
+fn flop_at(flop: Flop, places: &[u32]) -> Flop
+    requires { IsFlopPlaced (length places.now) flop }
+    ensures { result ≡ placed_flop places.now flop }
+{
+    Flop {
+        q: place(places, flop.q),
+        d: place(places, flop.d),
+        ck: place(places, flop.ck),
+        reset: flop.reset,
+        mode: mode_at(flop.mode, places),
+    }
+}
+
+/// The flip-flops by their places.
+fn flops_at(alloc: Global, flops: &[Flop], places: &[u32]) -> Result<List<Flop>, NoMemory>
+    requires { All (IsFlopPlaced (length places.now)) flops.now }
+    ensures { IfOk result (λ placed. placed ≡ map (placed_flop places.now) flops.now) }
 {
     let mut placed = List::new(alloc);
     'flops: for i in 0..flops.len() {
-        placed.push(place(places, flops[i].d))?;
+        placed.push(flop_at(flops[i], places))?;
     }
     Ok(placed)
 }
@@ -90,7 +117,7 @@ pub(crate) fn layout_of(alloc: Global, net: &Netlist) -> Result<Layout, NoMemory
     let (places, planes) = places_of(alloc, raw.names.len() as usize, gates, order.as_slice())?;
     let inputs = nets_at(alloc, net.data_inputs().slice(), places.slice())?;
     let outputs = outputs_at(alloc, raw.flops.slice(), places.slice())?;
-    let loads = loads_at(alloc, raw.flops.slice(), places.slice())?;
+    let flops = flops_at(alloc, raw.flops.slice(), places.slice())?;
     let consts = consts_at(alloc, raw.consts.slice(), places.slice())?;
     let program = stretches_of(alloc, gates, order.as_slice(), places.slice())?;
     Ok(Layout {
@@ -98,7 +125,7 @@ pub(crate) fn layout_of(alloc: Global, net: &Netlist) -> Result<Layout, NoMemory
         places,
         inputs,
         outputs,
-        loads,
+        flops,
         consts,
         program,
     })

@@ -5,6 +5,7 @@ mod gates;
 mod lanes;
 mod layout;
 mod levels;
+mod loads;
 mod nets;
 mod pairs;
 mod places;

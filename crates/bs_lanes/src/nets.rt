@@ -1,4 +1,4 @@
-//! The planes of a netlist's nets: shown sources, gates settled in order, and what the flip-flops load.
+//! The planes of a netlist's nets: shown sources, and gates settled in order; then the flip-flops load.
 ghost use Rattle.std.specs.Prelude.{◌≡◌, ◌<◌, ◌≤◌, ◌+◌, ◌*◌, length, map, All};
 ghost use Rattle.bs_net.specs.Steps.{puts, constant_step, gate_write};
 ghost use Rattle.bs_plane.specs.Planes.{lane};
@@ -6,8 +6,9 @@ ghost use Rattle.bs_lanes.specs.Program.{stretch_gates, program_gates, HasGate};
 ghost use Rattle.bs_lanes.specs.Layout.{HasLayout, SettlesAll};
 ghost use Rattle.bs_lanes.specs.Settling.{HasPlane, RunsAll, LoadsAll, ResetsAll};
 
-use crate::gates::{gate_plane, net_plane, splat_of};
+use crate::gates::{gate_plane, splat_of};
 use crate::layout::Layout;
+use crate::loads::load;
 use crate::pairs::settle_pairs;
 use crate::program::Stretch;
 use bs_net::{Const, Flop, Gate, NetId};
@@ -71,18 +72,6 @@ fn settle_program<const N: usize>(nets: &mut [u64], program: &[Stretch])
     }
 }
 
-/// Loads the flip-flops from what the nets show: one clock edge.
-fn load<const N: usize>(planes: &mut [u64], nets: &[u64], loads: &[NetId])
-    requires placed { All (λ n. HasPlane N nets.now n.0) loads.now }
-    requires same { length planes.old ≡ length loads.now * N }
-    ensures { LoadsAll N nets.now loads.now planes.old planes.new }
-{
-    'loads: for i in 0..loads.len() {
-        let plane = net_plane::<N>(nets, loads[i]);
-        put_plane::<N>(planes, i, plane);
-    }
-}
-
 /// Makes the planes of the flip-flops those of the reset state.
 fn load_reset<const N: usize>(planes: &mut [u64], flops: &[Flop])
     requires { length planes.old ≡ length flops.now * N }
@@ -116,13 +105,13 @@ pub(crate) fn step<const N: usize>(
 )
     requires placed { HasLayout N nets.old layout.now }
     requires outputs { length flops.old ≡ length layout.now.outputs * N }
-    requires loads { length flops.old ≡ length layout.now.loads * N }
+    requires loads { length flops.old ≡ length layout.now.flops * N }
     requires inputs { length inputs.now ≡ length layout.now.inputs * N }
     ensures settled { SettlesAll N layout.now flops.old inputs.now nets.old nets.new }
-    ensures loaded { LoadsAll N nets.new layout.now.loads flops.old flops.new }
+    ensures loaded { LoadsAll N nets.new layout.now.flops flops.old flops.new }
 {
     settle::<N>(nets, layout, flops, inputs);
-    load::<N>(flops, nets, layout.loads.slice());
+    load::<N>(flops, nets, layout.flops.slice());
 }
 
 /// Brings all lanes to reset, with the input of zeros settled.

@@ -43,10 +43,10 @@ pub(crate) fn step(
     requires wide { IsTrue (is_wide wide) }
     requires placed { HasLayout wide nets.old layout.now }
     requires outputs { length flops.old ≡ length layout.now.outputs * wide }
-    requires loads { length flops.old ≡ length layout.now.loads * wide }
+    requires loads { length flops.old ≡ length layout.now.flops * wide }
     requires inputs { length inputs.now ≡ length layout.now.inputs * wide }
     ensures settled { SettlesAll wide layout.now flops.old inputs.now nets.old nets.new }
-    ensures loaded { LoadsAll wide nets.new layout.now.loads flops.old flops.new }
+    ensures loaded { LoadsAll wide nets.new layout.now.flops flops.old flops.new }
 {
     match wide {
         1 => nets::step::<1>(nets, flops, layout, inputs),

@@ -11,8 +11,10 @@ use Rattle.bs_clause.specs.Range.{HasVariables}
 use Rattle.bs_log.specs.Refusal.{has_distinct_variables}
 use Rattle.bs_arena.specs.Arena.{Held, literals_at}
 use Rattle.bs_watch.specs.Places.{Place, literals_of}
-use Rattle.bs_learn.specs.Reasons.{live_clauses}
+use Rattle.bs_learn.specs.Reasons.{live_clauses, IsSpared, AreSpared}
+use Rattle.bs_watch.specs.declared.watch.Level.{Level}
 use Rattle.bs_watch.specs.Trail.{IsFalseOn, IsConflict, IsQuiet}
+use Rattle.bs_watch.proofs.Advancing.{true_in_front, take_front}
 use Rattle.bs_learn.specs.Point.{IsFirstPoint, IsLastDecision, IsUnforced, Bypasses}
 use Rattle.bs_learn.specs.Marks.{MarkState, is_marked, marks_in, IsClear, HasMarked, HasTraded}
 use Rattle.bs_watch.proofs.Gets.{same_some, get_take, take_get, Contains_from_get, get_map}
@@ -263,32 +265,35 @@ point_end clauses places conflict start down i vars s hints p lits sound e at on
     low = let h = above_start clauses places conflict start down vars s hints 1 sound w in omega (arith, h, e)
 
 -- the walk to what no clause forced
-pub record FinalMarks (clauses : List Held) (places : List Place) (down vars : ℕ) (s : MarkState) (hints : List ℕ) : Type 0 where
+pub record FinalMarks (clauses : List Held) (levels : List Level) (places : List Place) (down vars : ℕ) (s : MarkState) (hints : List ℕ) : Type 0 where
   pub high : down ≤ length places
   pub walk : MarkWalk clauses places down s hints
   pub below : All (λ m. IsFalseOn (literals_of (take down places)) m ⊎ IsUnforced places (negation m)) walk.left
+  pub spared : (v : Level) → slice_get levels 0 ≡ Some v → IsSpared (take v.start places) walk.left
   pub flags : length s.flags ≡ vars + 1
 
-pub final_start : (clauses : List Held) (places : List Place) (vars at : ℕ) (c : Clause) (s0 s : MarkState) (hints : List ℕ) (down : ℕ) →
+pub final_start : (clauses : List Held) (levels : List Level) (places : List Place) (vars at : ℕ) (c : Clause) (s0 s : MarkState) (hints : List ℕ) (down : ℕ) →
     IsWalkable clauses places → IsClauseAt clauses at c → has_distinct_variables c ≡ true → IsConflict (literals_of places) c → HasVariables vars c →
-    IsClear (vars + 1) s0 → HasMarked s0 s c → down ≡ length places → hints ≡ at ∷ [] → FinalMarks clauses places down vars s hints
-final_start clauses places vars at c s0 s hints down sound there distinct conflict range clear marked is_down is_hints =
+    AreSpared clauses levels places → IsClear (vars + 1) s0 → HasMarked s0 s c → down ≡ length places → hints ≡ at ∷ [] → FinalMarks clauses levels places down vars s hints
+final_start clauses levels places vars at c s0 s hints down sound there distinct conflict range spared clear marked is_down is_hints =
     let first = mark_start clauses places at c vars s0 s sound there distinct conflict range clear marked in
-    subst (λ d. FinalMarks clauses places d vars s hints) (sym is_down)
-    (subst (λ hs. FinalMarks clauses places (length places) vars s hs) (sym is_hints) (record {
+    subst (λ d. FinalMarks clauses levels places d vars s hints) (sym is_down)
+    (subst (λ hs. FinalMarks clauses levels places (length places) vars s hs) (sym is_hints) (record {
       high = omega arith;
       walk = first.0;
       below = subst (All (λ m. IsFalseOn (literals_of (take (length places) places)) m ⊎ IsUnforced places (negation m))) (sym first.1)
           (λ k d h. inl (subst (λ ps. IsFalseOn (literals_of ps) (get_or c k d)) (sym (take_all (length places) places (omega arith))) (conflict k d h)));
+      spared = λ v is. subst (IsSpared (take v.start places)) (sym first.1)
+          (All-contains (IsSpared (take v.start places)) (live_clauses clauses) c (spared.each v is) (live_contains clauses at c there));
       flags = marked.length_is ∙ clear.length_is;
     }))
 
 -- a place without a mark, or that no clause forced
-pub final_past : (clauses : List Held) (places : List Place) (down i vars : ℕ) (s : MarkState) (hints : List ℕ) (p : Place) → down ≡ suc i →
+pub final_past : (clauses : List Held) (levels : List Level) (places : List Place) (down i vars : ℕ) (s : MarkState) (hints : List ℕ) (p : Place) → down ≡ suc i →
     slice_get places i ≡ Some p →
-    ((is_marked s p.literal ≡ false) ⊎ (p.reason ≡ None)) → FinalMarks clauses places down vars s hints → FinalMarks clauses places i vars s hints
-final_past clauses places down i vars s hints p e at past v =
-    let w : FinalMarks clauses places (suc i) vars s hints = subst (λ d. FinalMarks clauses places d vars s hints) e v in
+    ((is_marked s p.literal ≡ false) ⊎ (p.reason ≡ None)) → FinalMarks clauses levels places down vars s hints → FinalMarks clauses levels places i vars s hints
+final_past clauses levels places down i vars s hints p e at past v =
+    let w : FinalMarks clauses levels places (suc i) vars s hints = subst (λ d. FinalMarks clauses levels places d vars s hints) e v in
     let next = mark_past clauses places i s hints w.walk in
     record {
       high = (let h = w.high in omega (arith, h));
@@ -306,16 +311,17 @@ final_past clauses places down i vars s hints p e at past v =
               ]
             ]
           ]));
+      spared = λ v is. subst (IsSpared (take v.start places)) (sym next.1) (w.spared v is);
       flags = w.flags;
     }
 
-pub final_step : (clauses : List Held) (places : List Place) (down i vars : ℕ) (s now : MarkState) (hints more : List ℕ) (p : Place) (r : ℕ) →
+pub final_step : (clauses : List Held) (levels : List Level) (places : List Place) (down i vars : ℕ) (s now : MarkState) (hints more : List ℕ) (p : Place) (r : ℕ) →
     IsWalkable clauses places → All (λ c. has_distinct_variables c ≡ true) (live_clauses clauses) → All (HasVariables vars) (live_clauses clauses) →
-    down ≡ suc i → slice_get places i ≡ Some p → p.reason ≡ Some r →
+    AreSpared clauses levels places → down ≡ suc i → slice_get places i ≡ Some p → p.reason ≡ Some r →
     is_marked s p.literal ≡ true → HasTraded s now (literals_at clauses r) p.literal → more ≡ hints ++ r ∷ [] →
-    FinalMarks clauses places down vars s hints → FinalMarks clauses places i vars now more
-final_step clauses places down i vars s now hints more p r sound distinct range e at is on traded is_more v =
-    let w : FinalMarks clauses places (suc i) vars s hints = subst (λ d. FinalMarks clauses places d vars s hints) e v in
+    FinalMarks clauses levels places down vars s hints → FinalMarks clauses levels places i vars now more
+final_step clauses levels places down i vars s now hints more p r sound distinct range spared e at is on traded is_more v =
+    let w : FinalMarks clauses levels places (suc i) vars s hints = subst (λ d. FinalMarks clauses levels places d vars s hints) e v in
     let f = (sound.placed i p at).forced r is in
     let c : Clause = f.0 in
     let at_r : literals_at clauses r ≡ c = f.1.is in
@@ -324,7 +330,7 @@ final_step clauses places down i vars s now hints more p r sound distinct range 
     let next = mark_step clauses places i s now hints p r c vars sound w.walk at is f.1
     (All-contains (λ x. has_distinct_variables x ≡ true) (live_clauses clauses) c distinct in_clauses)
     (All-contains (HasVariables vars) (live_clauses clauses) c range in_clauses) w.flags on traded_c in
-    subst (λ hs. FinalMarks clauses places i vars now hs) (sym is_more) (record {
+    subst (λ hs. FinalMarks clauses levels places i vars now hs) (sym is_more) (record {
       high = (let h = w.high in omega (arith, h));
       walk = next.0;
       below = subst (All (λ m. IsFalseOn (literals_of (take i places)) m ⊎ IsUnforced places (negation m))) (sym next.1)
@@ -340,18 +346,33 @@ final_step clauses places down i vars s now hints more p r sound distinct range 
                   | inr free ↦ inr free
                 ]
           ]));
+      spared = λ v first. subst (IsSpared (take v.start places)) (sym next.1)
+          (all_from (λ m. ¬ IsFalseOn (literals_of (take v.start places)) m) (resolvent c w.walk.left p.literal) (λ m in_new.
+          elim (resolvent_cases c w.walk.left p.literal m in_new) [
+            | inl fresh ↦ All-contains (λ x. ¬ IsFalseOn (literals_of (take v.start places)) x) c m
+                (All-contains (IsSpared (take v.start places)) (live_clauses clauses) c (spared.each v first) in_clauses) fresh.0
+            | inr old ↦ All-contains (λ x. ¬ IsFalseOn (literals_of (take v.start places)) x) w.walk.left m (w.spared v first) old.0
+          ]));
       flags = ap (λ (x : MarkState). length x.flags) traded_c.pivot_gone ∙ length-set traded_c.middle.flags p.literal.variable false ∙
           traded_c.marked.length_is ∙ w.flags;
     })
 
-pub final_end : (clauses : List Held) (places : List Place) (down vars : ℕ) (s : MarkState) (hints : List ℕ) (lits : Clause) → down ≡ 0 →
-    (w : FinalMarks clauses places down vars s hints) →
+-- what is false on a front is false on a longer one
+false_further : (places : List Place) (n m : ℕ) (l : Literal) → n ≤ m → IsFalseOn (literals_of (take n places)) l →
+    IsFalseOn (literals_of (take m places)) l
+false_further places n m l h lost =
+    true_in_front n (take m places) (negation l) (subst (λ ps. IsFalseOn (literals_of ps) l) (sym (take_front m n places h)) lost)
+
+-- the walk may end where the first level begins
+pub final_end : (clauses : List Held) (levels : List Level) (places : List Place) (down vars : ℕ) (s : MarkState) (hints : List ℕ) (lits : Clause)
+    (v : Level) → slice_get levels 0 ≡ Some v → down ≤ v.start → (w : FinalMarks clauses levels places down vars s hints) →
     Taken clauses w.walk.left lits hints → All (λ l. IsUnforced places (negation l)) lits
-final_end clauses places down vars s hints lits e w t =
+final_end clauses levels places down vars s hints lits v first low w t =
     all_from (λ l. IsUnforced places (negation l)) lits (λ m in_lits.
-    elim (All-contains (λ x. IsFalseOn (literals_of (take 0 places)) x ⊎ IsUnforced places (negation x)) w.walk.left m
-    (subst (λ d. All (λ m. IsFalseOn (literals_of (take d places)) m ⊎ IsUnforced places (negation m)) w.walk.left) e w.below) ((t.same m).1 in_lits)) [
-      | inl false_m ↦ absurd (let h : false_m.0 < 0 = false_m.1 in omega (arith, h))
+    let in_left = (t.same m).1 in_lits in
+    elim (All-contains (λ x. IsFalseOn (literals_of (take down places)) x ⊎ IsUnforced places (negation x)) w.walk.left m w.below in_left) [
+      | inl false_m ↦ absurd (All-contains (λ x. ¬ IsFalseOn (literals_of (take v.start places)) x) w.walk.left m (w.spared v first) in_left
+          (false_further places down v.start m low false_m))
       | inr free ↦ free
     ])
 

@@ -7,10 +7,11 @@ use Rattle.bs_clause.specs.Literal.{Literal, Clause, negation}
 use Rattle.bs_clause.specs.Range.{IsWithin, HasVariables}
 use Rattle.bs_log.specs.Refusal.{has_distinct_variables}
 use Rattle.bs_arena.specs.Arena.{Held, held_at, literals_at}
+use Rattle.bs_watch.specs.declared.watch.Level.{Level}
 use Rattle.bs_watch.specs.Trail.{IsFalseOn, IsQuiet}
 use Rattle.bs_watch.specs.Places.{Place, literals_of, AreApart, IsLiteralAt}
 use Rattle.bs_watch.proofs.Gets.{same_some}
-use Rattle.bs_learn.specs.Reasons.{live_clauses, IsReasoned, IsConflictAt}
+use Rattle.bs_learn.specs.Reasons.{live_clauses, IsReasoned, IsConflictAt, AreSpared, IsBelowLevels}
 use Rattle.bs_learn.specs.Walk.{IsLearnt}
 use Rattle.bs_learn.specs.Point.{IsFirstPoint, IsLastDecision, IsUnforced, IsReasonIn}
 use Rattle.bs_learn.specs.Marks.{MarkState, is_marked, marks_in, unmarked, IsClear, AreWithin, HasMarked, HasTraded, HasCounted, HasMoved}
@@ -151,38 +152,38 @@ found clauses places conflict start down vars s now hints ahead l lits apart rea
 
 -- ---- down to what no clause forced
 
-pub at_first : (clauses : List Held) (places : List Place) (vars conflict : ℕ) (s0 s : MarkState) (hints : List ℕ) (down : ℕ) →
+pub at_first : (clauses : List Held) (levels : List Level) (places : List Place) (vars conflict : ℕ) (s0 s : MarkState) (hints : List ℕ) (down : ℕ) →
     AreApart places → IsReasoned clauses places → All (HasVariables vars) (live_clauses clauses) →
     All (λ c. has_distinct_variables c ≡ true) (live_clauses clauses) →
-    IsConflictAt clauses (literals_of places) conflict → IsClear (vars + 1) s0 → HasMarked s0 s (literals_at clauses conflict) →
-    down ≡ length places → hints ≡ conflict ∷ [] → FinalMarks clauses places down vars s hints
-at_first clauses places vars conflict s0 s hints down apart reasons range distinct lost clear marked is_down is_hints =
+    IsConflictAt clauses (literals_of places) conflict → AreSpared clauses levels places → IsClear (vars + 1) s0 → HasMarked s0 s (literals_at clauses conflict) →
+    down ≡ length places → hints ≡ conflict ∷ [] → FinalMarks clauses levels places down vars s hints
+at_first clauses levels places vars conflict s0 s hints down apart reasons range distinct lost spared clear marked is_down is_hints =
     let c : Clause = literals_at clauses conflict in
     let there : IsClauseAt clauses conflict c = clause_is clauses conflict lost.live in
     let inside : Contains (live_clauses clauses) c = live_contains clauses conflict c there in
-    final_start clauses places vars conflict c s0 s hints down (sound clauses places apart reasons) there
+    final_start clauses levels places vars conflict c s0 s hints down (sound clauses places apart reasons) there
     (All-contains (λ x. has_distinct_variables x ≡ true) (live_clauses clauses) c distinct inside) lost.lost
-    (All-contains (HasVariables vars) (live_clauses clauses) c range inside) clear marked is_down is_hints
+    (All-contains (HasVariables vars) (live_clauses clauses) c range inside) spared clear marked is_down is_hints
 
 -- a place without a mark, or without a reason
-pub past_free : (clauses : List Held) (places : List Place) (down vars : ℕ) (s : MarkState) (hints : List ℕ) (l : Literal) → 0 < down →
-    IsLiteralAt places (down - 1) l → (is_marked s l ≡ false) ⊎ IsReasonIn places (down - 1) None → FinalMarks clauses places down vars s hints →
-    FinalMarks clauses places (down - 1) vars s hints
-past_free clauses places down vars s hints l above at past w =
-    final_past clauses places down (down - 1) vars s hints at.0 (omega (arith, above)) at.1
+pub past_free : (clauses : List Held) (levels : List Level) (places : List Place) (down vars : ℕ) (s : MarkState) (hints : List ℕ) (l : Literal) → 0 < down →
+    IsLiteralAt places (down - 1) l → (is_marked s l ≡ false) ⊎ IsReasonIn places (down - 1) None → FinalMarks clauses levels places down vars s hints →
+    FinalMarks clauses levels places (down - 1) vars s hints
+past_free clauses levels places down vars s hints l above at past w =
+    final_past clauses levels places down (down - 1) vars s hints at.0 (omega (arith, above)) at.1
     (elim past as (λ _. (is_marked s at.0.literal ≡ false) ⊎ (at.0.reason ≡ None)) [
       | inl off ↦ inl (ap (is_marked s) at.2 ∙ off)
       | inr free ↦ inr (reason_is places (down - 1) l None at free)
     ]) w
 
-pub traded_free : (clauses : List Held) (places : List Place) (down vars : ℕ) (s now : MarkState) (hints next : List ℕ) (l : Literal) (r : ℕ) → 0 < down →
+pub traded_free : (clauses : List Held) (levels : List Level) (places : List Place) (down vars : ℕ) (s now : MarkState) (hints next : List ℕ) (l : Literal) (r : ℕ) → 0 < down →
     AreApart places → IsReasoned clauses places → All (HasVariables vars) (live_clauses clauses) →
-    All (λ c. has_distinct_variables c ≡ true) (live_clauses clauses) →
+    All (λ c. has_distinct_variables c ≡ true) (live_clauses clauses) → AreSpared clauses levels places →
     IsLiteralAt places (down - 1) l → IsReasonIn places (down - 1) (Some r) → is_marked s l ≡ true →
-    HasTraded s now (literals_at clauses r) l → next ≡ hints ++ r ∷ [] → FinalMarks clauses places down vars s hints →
-    FinalMarks clauses places (down - 1) vars now next
-traded_free clauses places down vars s now hints next l r above apart reasons range distinct at is on traded is_next w =
-    final_step clauses places down (down - 1) vars s now hints next at.0 r (sound clauses places apart reasons) distinct range (omega (arith, above)) at.1
+    HasTraded s now (literals_at clauses r) l → next ≡ hints ++ r ∷ [] → FinalMarks clauses levels places down vars s hints →
+    FinalMarks clauses levels places (down - 1) vars now next
+traded_free clauses levels places down vars s now hints next l r above apart reasons range distinct spared at is on traded is_next w =
+    final_step clauses levels places down (down - 1) vars s now hints next at.0 r (sound clauses places apart reasons) distinct range spared (omega (arith, above)) at.1
     (reason_is places (down - 1) l (Some r) at is) (marked_at places (down - 1) l s at on)
     (subst (HasTraded s now (literals_at clauses r)) (sym at.2) traded) is_next w
 
@@ -190,8 +191,19 @@ pub record IsDone (clauses : List Held) (places : List Place) (lits : Clause) (h
   pub learnt : IsLearnt clauses lits hints
   pub unforced : All (λ l. IsUnforced places (negation l)) lits
 
-pub done : (clauses : List Held) (places : List Place) (down vars : ℕ) (s now : MarkState) (hints : List ℕ) (lits : Clause) → down ≤ 0 →
-    AreApart places → IsReasoned clauses places → HasMoved s now [] lits → FinalMarks clauses places down vars s hints → IsDone clauses places lits hints
-done clauses places down vars s now hints lits end apart reasons moved w =
+-- the first level
+first_level : (levels : List Level) → 1 ≤ length levels → (v : Level) × (slice_get levels 0 ≡ Some v)
+first_level [] some = absurd (omega (arith, some))
+first_level (v ∷ levels) some = (v, refl)
+
+pub done : (clauses : List Held) (levels : List Level) (places : List Place) (down vars : ℕ) (s now : MarkState) (hints : List ℕ) (lits : Clause) →
+    (down ≤ 0) ⊎ IsBelowLevels levels (down - 1) → AreSpared clauses levels places → AreApart places → IsReasoned clauses places → HasMoved s now [] lits →
+    FinalMarks clauses levels places down vars s hints → IsDone clauses places lits hints
+done clauses levels places down vars s now hints lits end spared apart reasons moved w =
     let t : Taken clauses w.walk.left lits hints = taken clauses places down s now hints lits (sound clauses places apart reasons) w.walk moved in
-    record { learnt = t.learnt; unforced = final_end clauses places down vars s hints lits (omega (arith, end)) w t }
+    let (v, first) = first_level levels spared.some in
+    let low : down ≤ v.start = elim end as (λ _. down ≤ v.start) [
+      | inl none ↦ omega (arith, none)
+      | inr below ↦ let h = below.below v first in omega (arith, h)
+    ] in
+    record { learnt = t.learnt; unforced = final_end clauses levels places down vars s hints lits v first low w t }

@@ -1,15 +1,17 @@
 -- A trail whose reasons are right, as the walk reads it.
-use Rattle.std.proofs.Common.{◌≡◌, ◌≢◌, ℕ, ◌<◌, arith, Bool, true, false, cond, List, [], ◌∷◌, take, refl, sym, ap, subst, ◌∙◌, inl, inr, Some, eqb}
+use Rattle.std.proofs.Common.{◌≡◌, ◌≢◌, ℕ, ◌<◌, arith, Bool, true, false, cond, List, [], ◌∷◌, take, refl, sym, ap, subst, ◌∙◌, inl, inr, Some, eqb, ltb, ◌≤◌}
 use Rattle.std.specs.Prelude.{Contains, slice_get, is_some, option_map, unwrap_or}
 use Rattle.std.specs.List.{find}
-use Rattle.std.proofs.lemmas.Bool.{false≢true, cases_lt, cases_eq}
+use Rattle.std.proofs.lemmas.Bool.{false≢true, cases_lt, cases_eq, ltb-false}
 use Rattle.bs_clause.specs.Literal.{Literal, Clause, negation}
 use Rattle.bs_arena.specs.Arena.{Held, held_at, literals_at}
 use Rattle.bs_watch.specs.Trail.{IsOpenOn, Forces}
-use Rattle.bs_watch.specs.Places.{Place, literals_of, AreApart}
+use Rattle.bs_watch.specs.Places.{Place, literals_of, AreApart, IsLevelOf}
+use Rattle.bs_watch.specs.Watch.{AreLevelled}
 use Rattle.bs_watch.proofs.Gets.{get_take, take_get, get_from_Contains, get_map_cases, get_map}
 use Rattle.bs_watch.proofs.TableLemmas.{open_apart as literal_apart}
-use Rattle.bs_learn.specs.Reasons.{live_clauses, IsReasoned}
+use Rattle.bs_watch.specs.declared.watch.Level.{Level}
+use Rattle.bs_learn.specs.Reasons.{live_clauses, IsReasoned, IsBelowLevels}
 use Rattle.bs_learn.proofs.Clauses.{contains_first, cons_contains}
 
 -- the live clause of this reference
@@ -73,3 +75,17 @@ one_place clauses places s i j p q at_i at_j same = elim (cases_lt i j) [
         absurd (open_apart (take i places) p.literal (s.placed i p at_i).unassigned j q (take_get i places j q later at_j) (sym same))
   ]
 ]
+
+-- the place of a literal that has level 0 is below the first level
+pub below_levels : (places : List Place) (levels : List Level) (at level : ℕ) (p : Place) → AreLevelled places levels → slice_get places at ≡ Some p →
+    IsLevelOf places p.literal level → ltb 0 level ≡ false → IsBelowLevels levels at
+below_levels places levels at level p levelled there is none = record {
+  below = λ v first. elim (cases_lt at v.start) [
+    | inl before ↦ before
+    | inr behind ↦
+        let above : 0 < p.level = levelled.above 0 at v p first there behind in
+        let same : p.level ≡ level = is.only p.level (p, record { at = at; there = there; same = refl }, refl) in
+        let low : level ≤ 0 = ltb-false 0 level none in
+        absurd (omega (arith, above, same, low))
+  ];
+}

@@ -1,11 +1,11 @@
 //! The walk from a false clause back along the trail, over the marks that are to come.
-ghost use Rattle.std.specs.Prelude.{◌≡◌, ◌+◌, ◌<◌, ◌≤◌, length, take, All, IfOk, true};
+ghost use Rattle.std.specs.Prelude.{◌≡◌, ◌⊎◌, ◌+◌, ◌-◌, ◌<◌, ◌≤◌, length, take, All, IfOk, true, false};
 ghost use Rattle.bs_clause.specs.Literal.{negation};
 ghost use Rattle.bs_clause.specs.Range.{HasVariables};
 ghost use Rattle.bs_log.specs.Refusal.{has_distinct_variables};
 ghost use Rattle.bs_watch.specs.Trail.{IsQuiet};
 ghost use Rattle.bs_watch.specs.Places.{IsLiteralAt, literals_of};
-ghost use Rattle.bs_learn.specs.Reasons.{IsReasoned, IsConflictAt, live_clauses, last_start};
+ghost use Rattle.bs_learn.specs.Reasons.{IsReasoned, IsConflictAt, AreSpared, IsBelowLevels, live_clauses, last_start};
 ghost use Rattle.bs_learn.specs.Walk.{IsLearnt};
 ghost use Rattle.bs_learn.specs.Marks.{IsClear};
 ghost use Rattle.bs_learn.specs.Point.{IsLastDecision, IsFirstPoint, IsUnforced, IsReasonIn};
@@ -96,7 +96,28 @@ pub fn first_point(
     }
 }
 
-/// Resolves the false clause until it denies only literals that no clause forced.
+// Whether a place of the trail is of a level. One that is not stands for good, and so do those below it.
+fn is_levelled(watch: &Watch, at: usize) -> bool
+    requires { at < length watch.now.trail.places }
+    ensures { result ≡ false → IsBelowLevels watch.now.levels at }
+{
+    watch.holds_levels();
+    watch.level_of(watch.trail()[at]) > 0
+}
+
+// Whether there is a place of a level among the first so many.
+fn goes_on(watch: &Watch, down: usize) -> bool
+    requires { down ≤ length watch.now.trail.places }
+    ensures some { result ≡ true → 0 < down }
+    ensures none { result ≡ false → (down ≤ 0) ⊎ IsBelowLevels watch.now.levels (down - 1) }
+{
+    if down == 0 {
+        return false;
+    }
+    is_levelled(watch, down - 1)
+}
+
+/// Resolves the false clause until it denies only literals that no clause forced. It looks at no place that stands for good.
 pub fn to_unforced(
     alloc: Global,
     watch: &Watch,
@@ -110,6 +131,7 @@ pub fn to_unforced(
         (live_clauses arena.now.clauses) }
     requires conflict { IsConflictAt arena.now.clauses (literals_of watch.now.trail.places)
         conflict }
+    requires spared { AreSpared arena.now.clauses watch.now.levels watch.now.trail.places }
     requires clear { IsClear (watch.now.trail.vars + 1) marks.old }
     ensures learnt { IfOk result (λ r. IsLearnt arena.now.clauses r.lits r.hints.items) }
     ensures unforced { IfOk result (λ r.
@@ -121,7 +143,7 @@ pub fn to_unforced(
     hints.push(conflict)?;
     mark_clause(marks, watch, arena, conflict)?;
     let mut down = watch.trail().len();
-    'walk: while down > 0 {
+    'walk: while goes_on(watch, down) {
         down -= 1;
         let pivot = literal_at(watch, down);
         if marks.has(pivot) {

@@ -6,7 +6,7 @@ use Rattle.bs_net.specs.declared.net.Flop.{Flop}
 use Rattle.bs_net.specs.declared.net.Gate.{Gate}
 use Rattle.bs_net.specs.Netlist.{circuit}
 use Rattle.bs_net.proofs.NetlistLemmas.{order_below, without_placed}
-use Rattle.bs_lanes.specs.Layout.{placed_net, placed_const, placed_gates, IsPlacing}
+use Rattle.bs_lanes.specs.Layout.{placed_net, placed_const, placed_flop, placed_gates, IsPlacing}
 use Rattle.bs_lanes.proofs.LevelLemmas.{few_gates, length-order}
 use Rattle.bs_lanes.proofs.layout.layout_of.Goals as goal
 
@@ -72,9 +72,9 @@ returns c =
       outputs =
           c.in_ok-outputs.ensures
           ∙ (ap (λ ps. map (λ (f : Flop). placed_net ps f.q) c.slice-3.result.now) c.slice-4.ensures ∙ ap (map (λ (f : Flop). placed_net places f.q)) flops);
-      loads =
-          c.in_ok-loads.ensures
-          ∙ (ap (λ ps. map (λ (f : Flop). placed_net ps f.d) c.slice-5.result.now) c.slice-6.ensures ∙ ap (map (λ (f : Flop). placed_net places f.d)) flops');
+      flops =
+          c.in_ok-flops.ensures
+          ∙ (ap (λ ps. map (placed_flop ps) c.slice-5.result.now) c.slice-6.ensures ∙ ap (map (placed_flop places)) flops');
       consts =
           c.in_ok-consts.ensures ∙ (ap (λ ps. map (placed_const ps) c.slice-7.result.now) c.slice-8.ensures ∙ ap (map (placed_const places)) consts);
       order = c.in_ok-order.order.items;
