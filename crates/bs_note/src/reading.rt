@@ -1,5 +1,5 @@
 //! A file is read once more, for a note on why its reader refuses it.
-ghost use Rattle.std.specs.Prelude.{◌≡◌, ◌≤◌, length, true, IfOk};
+ghost use Rattle.std.specs.Prelude.{◌≡◌, ◌≤◌, [], length, true, IfOk};
 ghost use Rattle.bs_net.specs.Check.{IsFault};
 ghost use Rattle.bs_net.specs.Netlist.{parts_of};
 ghost use Rattle.bs_scan.specs.declared.fault.ChoiceFault.TheVariants.{NoMemory as ChoiceWant};
