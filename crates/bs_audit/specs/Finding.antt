@@ -3,7 +3,7 @@ use Rattle.std.specs.Prelude.{◌≡◌, map, Option, Some, None}
 use Rattle.bs_scan.specs.declared.dump.Dump.{Dump}
 use Rattle.bs_scan.specs.Crash.{Recording, Crash, crash_of, DumpFits}
 use Rattle.bs_log.specs.Shown.{Basis}
-use Rattle.bs_encode.specs.Assuming.{basis_of}
+use Rattle.bs_encode.specs.Depth.{basis_of}
 use Rattle.bs_good.specs.declared.part.Part.{Part}
 use Rattle.bs_report.specs.declared.report.Report.{Report}
 use Rattle.bs_good.specs.Chain.{present_of}
@@ -14,7 +14,7 @@ use Rattle.bs_audit.specs.declared.finding.Finding.TheVariants.{Accepted, Reject
 
 -- what a report's log is checked against: the clauses of the netlist, and what each step assumes of its present
 abbrev pub basis_for : Crash → Report → Basis
-basis_for crash r = basis_of crash.circuit crash.choice.items (map present_of r.steps)
+basis_for crash r = basis_of crash.circuit crash.choice (map present_of r.steps)
 
 -- the part that a finding names
 abbrev pub part_of : Finding → Option Part

@@ -10,7 +10,7 @@ use Rattle.bs_log.specs.Steps.{lemma_of_line}
 use Rattle.bs_scan.specs.Present.{Present, present_in}
 use Rattle.bs_encode.specs.Encoded.{Encoded}
 use Rattle.bs_encode.specs.Tables.{lit}
-use Rattle.bs_encode.specs.Assuming.{block_for}
+use Rattle.bs_encode.specs.Assuming.{block_for, AreWide}
 use Rattle.bs_report.specs.declared.report.Step.{Step}
 use Rattle.bs_report.specs.declared.report.Report.{Report}
 use Rattle.bs_good.specs.declared.part.Part.{Part}
@@ -44,20 +44,30 @@ lines_parts e assumptions b i step lines =
     unless (are_right_blocks (blocks_due (lit (e.variables + (i + 1)) true) (block_for e) step.cands) (blocks_in lines)) (parts.Blocks (i + 1)) ∷
     unless (is_right_finish b assumptions lines step.end (finishes_in lines)) (parts.Ended (i + 1)) ∷ []
 
--- a step whose states have the widths, and whose candidates ascend
-pub record IsFit (flops items : ℕ) (step : Step) : Type 0 where
+-- a step whose states and signatures have the widths, with an older signature only where two are kept, and whose candidates ascend
+pub record IsFit (flops items depth : ℕ) (step : Step) : Type 0 where
   pub present : length step.present ≡ flops
   pub stored : length step.stored ≡ items
+  pub older : AreWide items step.older
+  pub alone : depth ≡ 1 → step.older ≡ None
   pub ascend : Ascend (listed step.cands)
   pub widths : All (λ s. length s ≡ flops) (listed step.cands)
+
+-- the same against an encoding's literals
+pub record Suits (e : Encoded) (step : Step) : Type 0 where
+  pub present : length step.present ≡ length e.states
+  pub stored : length step.stored ≡ length e.signatures
+  pub older : AreWide (length e.older_signatures) step.older
+  pub ascend : Ascend (listed step.cands)
+  pub widths : All (λ s. length s ≡ length e.states) (listed step.cands)
 
 -- the part that a verdict on the log is
 abbrev pub refused_part : Option (ℕ × Why) → Option Part
 refused_part refused = option_map (λ refused. parts.Log refused.0 refused.1) refused
 
--- each step of the report is fit
+-- each step of the report suits the encoding
 abbrev pub AreFit : Encoded → List Step → Type 0
-AreFit e steps = All (IsFit (length e.states) (length e.signatures)) steps
+AreFit e steps = All (Suits e) steps
 
 -- the parts of a report against its log
 abbrev pub logged_parts : Basis → Report → List (Option Part)
@@ -76,6 +86,6 @@ first_after (Fails part) dumped basis r = Some part
 first_after (Holds due) dumped basis r = first_of_all (behind_parts (option_map present_in due) dumped basis r)
 
 -- where all parts of the steps hold, the steps are fit
-abbrev pub LeavesFit : ℕ → ℕ → List Step → Walk → Type 0
-LeavesFit flops items steps (Fails part) = Unit {0}
-LeavesFit flops items steps (Holds due) = All (IsFit flops items) steps
+abbrev pub LeavesFit : ℕ → ℕ → ℕ → List Step → Walk → Type 0
+LeavesFit flops items depth steps (Fails part) = Unit {0}
+LeavesFit flops items depth steps (Holds due) = All (IsFit flops items depth) steps

@@ -1,22 +1,23 @@
 //! The candidates of a step, tried by simulation and replay.
-ghost use Rattle.std.specs.Prelude.{◌≡◌, ◌<◌, ◌+◌, ◌-◌, ◌^◌, ◌==◌, ◌||◌, length, option_map, All, IfOk};
+ghost use Rattle.std.specs.Prelude.{◌≡◌, ◌<◌, ◌+◌, ◌-◌, ◌^◌, ◌==◌, ◌||◌, length, option_map, All, IfOk, Some};
 ghost use Rattle.std.specs.Ordering.{bool_cmp, is_lt};
 ghost use Rattle.std.specs.Cmp.Lexicographic.{slice_cmp};
 ghost use Rattle.bs_bits.specs.Bits.{bits_eq};
-ghost use Rattle.bs_net.specs.Circuit.{next};
+ghost use Rattle.bs_net.specs.Circuit.{next, reset_state};
 ghost use Rattle.bs_net.specs.Netlist.{circuit};
+ghost use Rattle.bs_scan.specs.Choice.{depth_of};
 ghost use Rattle.bs_scan.specs.Signature.{signature};
 ghost use Rattle.bs_scan.specs.Present.{present_in};
 ghost use Rattle.bs_good.specs.Chain.{present_of_hit};
 ghost use Rattle.bs_good.specs.Step.{listed, hit_of};
-ghost use Rattle.bs_good.specs.Valid.{cand_at, first_of_all, is_right_cand};
+ghost use Rattle.bs_good.specs.Valid.{cand_at, first_of_all, is_right_before, is_right_cand};
 ghost use Rattle.bs_audit.specs.Following.{cand_parts, line_of};
 
 use crate::replay::Replay;
 use bs_bits::{Bits, NoMemory};
 use bs_chip::Hit;
 use bs_good::Part;
-use bs_report::{Budgets, Cand, Step};
+use bs_report::{Before, Budgets, Cand, Step};
 use bs_scan::Choice;
 use bs_sim::Sim;
 use std::alloc::Global;
@@ -50,15 +51,15 @@ fn has_signature(
 }
 
 /// Whether a state leads to another under an input.
-fn leads(sim: &mut Sim<'_>, cand: &Cand, present: &Bits) -> bool
-    requires state { length cand.now.state ≡ length (circuit sim.old.net).flops }
-    requires input { length cand.now.input ≡ length (circuit sim.old.net).inputs }
+fn leads(sim: &mut Sim<'_>, state: &Bits, input: &Bits, target: &Bits) -> bool
+    requires state { length state.now ≡ length (circuit sim.old.net).flops }
+    requires input { length input.now ≡ length (circuit sim.old.net).inputs }
     ensures net { sim.new.net ≡ sim.old.net }
-    ensures leads { result ≡ bits_eq (next (circuit sim.old.net) cand.now.state cand.now.input) present.now }
+    ensures leads { result ≡ bits_eq (next (circuit sim.old.net) state.now input.now) target.now }
 {
-    sim.load(&cand.state);
-    sim.step(&cand.input);
-    sim.state().equals(present)
+    sim.load(state);
+    sim.step(input);
+    sim.state().equals(target)
 }
 
 /// The number of a place, counted from 1.
@@ -70,6 +71,62 @@ pub(crate) fn number(i: usize) -> u64
 }
 
 impl<'a> Replay<'a> {
+    /// Whether a state may stand where the register holds one signature: at depth 1 any, and else the reset state.
+    fn may_begin(&self, state: &Bits) -> bool
+        ensures { result ≡ ((depth_of self.now.choice == 1) || bits_eq state.now (reset_state self.now.circuit)) }
+    {
+        if self.choice.depth() == 1 {
+            return true;
+        }
+        state.equals(self.net.reset())
+    }
+
+    /// Whether a state with the older signature is named before a candidate's, to which it leads.
+    fn has_source(
+        &mut self,
+        alloc: Global,
+        older: &Bits,
+        state: &Bits,
+        before: &Before,
+    ) -> Result<bool, NoMemory>
+        ensures right { IfOk result (λ right. right ≡ is_right_before self.old.circuit self.old.choice (Some older.now) state.now (Some before.now)) }
+        ensures kept { self.new ≡ self.old }
+    {
+        if before.state.len() != self.net.width() {
+            return Ok(false);
+        }
+        if before.input.len() != self.net.data_inputs().len() {
+            return Ok(false);
+        }
+        if !has_signature(alloc, self.choice, &before.state, older)? {
+            return Ok(false);
+        }
+        Ok(leads(&mut self.sim, &before.state, &before.input, state))
+    }
+
+    /// Whether the state before a candidate's is right.
+    fn has_before(
+        &mut self,
+        alloc: Global,
+        older: &Option<Bits>,
+        state: &Bits,
+        before: &Option<Before>,
+    ) -> Result<bool, NoMemory>
+        ensures right { IfOk result (λ right. right ≡ is_right_before self.old.circuit self.old.choice older.now state.now before.now) }
+        ensures kept { self.new ≡ self.old }
+    {
+        match older {
+            None => match before {
+                None => Ok(self.may_begin(state)),
+                Some(_) => Ok(false),
+            },
+            Some(older) => match before {
+                None => Ok(false),
+                Some(before) => self.has_source(alloc, older, state, before),
+            },
+        }
+    }
+
     /// Whether a candidate, counted from 0, is right.
     fn is_right_candidate(
         &mut self,
@@ -95,8 +152,11 @@ impl<'a> Replay<'a> {
         if !has_signature(alloc, self.choice, &cand.state, &step.stored)? {
             return Ok(false);
         }
-        let leads = leads(&mut self.sim, cand, &step.present);
-        Ok(leads && (j as u64) < budgets.candidates)
+        let leads = leads(&mut self.sim, &cand.state, &cand.input, &step.present);
+        if !(leads && (j as u64) < budgets.candidates) {
+            return Ok(false);
+        }
+        self.has_before(alloc, &step.older, &cand.state, &cand.before)
     }
 
     /// The first candidate that is not right.

@@ -1,9 +1,9 @@
 //! What an audit finds of a report.
 ghost use Rattle.std.specs.Prelude.{◌≡◌, ◌+◌, ◌<◌, ◌≤◌, ◌^◌, length, map, None, All, IfOk, option_map};
 ghost use Rattle.bs_net.specs.Netlist.{circuit};
-ghost use Rattle.bs_encode.specs.Assuming.{basis_of};
-ghost use Rattle.bs_encode.specs.Encoded.{encoding_of};
+ghost use Rattle.bs_encode.specs.Depth.{basis_of, encoding_by};
 ghost use Rattle.bs_encode.specs.Listing.{IsTidy};
+ghost use Rattle.bs_scan.specs.Choice.{depth_of};
 ghost use Rattle.bs_scan.specs.Crash.{crash_of, recording_of, DumpFits};
 ghost use Rattle.bs_scan.specs.Present.{present_in};
 ghost use Rattle.bs_good.specs.Chain.{present_of};
@@ -51,8 +51,8 @@ fn finding_of(part: Option<Part>) -> Finding
 /// The encoding of a netlist and of what its signature is taken of.
 fn encoding(alloc: Global, net: &Netlist, choice: &Choice) -> Result<Encoding, NoMemory>
     requires { choice.now.width ≡ length (circuit net.now).flops }
-    ensures value { IfOk result (λ e. e ≡ encoding_of (circuit net.now) choice.now.items) }
-    ensures tidy { IfOk result (IsTidy (circuit net.now) choice.now.items) }
+    ensures value { IfOk result (λ e. e ≡ encoding_by (circuit net.now) choice.now) }
+    ensures tidy { IfOk result (IsTidy (circuit net.now) choice.now) }
 {
     encodings_are_tidy(net, choice);
     Encoding::new(alloc, net, choice)
@@ -87,10 +87,11 @@ fn log_part(
 ) -> Result<Option<Part>, NoMemory>
     requires choice { choice.now.width ≡ length (circuit net.now).flops }
     requires few { length report.now.steps ≤ MAX_STEPS }
-    requires sound { All (IsFit (length (circuit net.now).flops) (length choice.now.items)) report.now.steps }
-    ensures { IfOk result (λ part. part ≡ first_of_all (logged_parts (basis_of (circuit net.now) choice.now.items (map present_of report.now.steps)) report.now)) }
+    requires sound { All (IsFit (length (circuit net.now).flops) (length choice.now.items) (depth_of choice.now)) report.now.steps }
+    ensures { IfOk result (λ part. part ≡ first_of_all (logged_parts (basis_of (circuit net.now) choice.now (map present_of report.now.steps)) report.now)) }
 {
     let encoding = encoding(alloc, net, choice)?;
+    let _depth = choice.depth();
     let assumptions = assumptions(alloc, &encoding, report.steps.slice())?;
     logged_part(alloc, &encoding, net.width(), report, &assumptions)
 }
@@ -106,8 +107,8 @@ fn part_behind(
 ) -> Result<Option<Part>, NoMemory>
     requires choice { choice.now.width ≡ length (circuit net.now).flops }
     requires budget { report.now.budgets.steps ≤ MAX_STEPS }
-    requires sound { All (IsFit (length (circuit net.now).flops) (length choice.now.items)) report.now.steps }
-    ensures { IfOk result (λ part. part ≡ first_of_all (behind_parts (option_map present_in due.now) dump.now.state (basis_of (circuit net.now) choice.now.items (map present_of report.now.steps)) report.now)) }
+    requires sound { All (IsFit (length (circuit net.now).flops) (length choice.now.items) (depth_of choice.now)) report.now.steps }
+    ensures { IfOk result (λ part. part ≡ first_of_all (behind_parts (option_map present_in due.now) dump.now.state (basis_of (circuit net.now) choice.now (map present_of report.now.steps)) report.now)) }
 {
     if !is_right_stop(report, due) {
         return Ok(Some(Part::Stop));
@@ -146,13 +147,33 @@ fn part_after(
 ) -> Result<Option<Part>, NoMemory>
     requires choice { choice.now.width ≡ length (circuit net.now).flops }
     requires budget { report.now.budgets.steps ≤ MAX_STEPS }
-    requires sound { LeavesFit (length (circuit net.now).flops) (length choice.now.items) report.now.steps walk.now }
-    ensures { IfOk result (λ part. part ≡ first_after walk.now dump.now.state (basis_of (circuit net.now) choice.now.items (map present_of report.now.steps)) report.now) }
+    requires sound { LeavesFit (length (circuit net.now).flops) (length choice.now.items) (depth_of choice.now) report.now.steps walk.now }
+    ensures { IfOk result (λ part. part ≡ first_after walk.now dump.now.state (basis_of (circuit net.now) choice.now (map present_of report.now.steps)) report.now) }
 {
     match walk {
         Walk::Fails(part) => Ok(Some(*part)),
         Walk::Holds(due) => part_behind(alloc, net, choice, dump, report, due),
     }
+}
+
+/// The first part that fails of a report of the signature's depth.
+fn part_within(
+    alloc: Global,
+    net: &Netlist,
+    choice: &Choice,
+    runs: &Runs,
+    dump: &Dump,
+    report: &Report,
+) -> Result<Option<Part>, NoMemory>
+    requires choice { choice.now.width ≡ length (circuit net.now).flops }
+    requires runs { runs.now.width ≡ length (circuit net.now).inputs }
+    requires dump { DumpFits (circuit net.now) choice.now dump.now }
+    requires budget { report.now.budgets.steps ≤ MAX_STEPS }
+    requires depth { report.now.depth ≡ depth_of choice.now }
+    ensures { IfOk result (λ part. part ≡ first_failing (crash_of (recording_of net.now.raw choice.now runs.now) dump.now) (basis_for (crash_of (recording_of net.now.raw choice.now runs.now) dump.now) report.now) report.now) }
+{
+    let walk = walked(alloc, net, choice, runs, dump, report)?;
+    part_after(alloc, net, choice, dump, report, &walk)
 }
 
 /// The first part that fails.
@@ -170,8 +191,10 @@ fn failing_part(
     requires budget { report.now.budgets.steps ≤ MAX_STEPS }
     ensures { IfOk result (λ part. part ≡ first_failing (crash_of (recording_of net.now.raw choice.now runs.now) dump.now) (basis_for (crash_of (recording_of net.now.raw choice.now runs.now) dump.now) report.now) report.now) }
 {
-    let walk = walked(alloc, net, choice, runs, dump, report)?;
-    part_after(alloc, net, choice, dump, report, &walk)
+    if report.depth != choice.depth() {
+        return Ok(Some(Part::Format));
+    }
+    part_within(alloc, net, choice, runs, dump, report)
 }
 
 /// The finding on a report: it is accepted exactly where it is valid, and otherwise its first part that fails is named

@@ -1,19 +1,19 @@
 //! The log of a report: what it is checked against, and the lines of each step.
-ghost use Rattle.std.specs.Prelude.{◌≡◌, ◌+◌, ◌<◌, ◌^◌, true, length, map, IfOk};
-ghost use Rattle.bs_encode.specs.Assuming.{assumptions_for, steps_from};
+ghost use Rattle.std.specs.Prelude.{◌≡◌, ◌+◌, ◌<◌, ◌^◌, true, length, map, option_map, IfOk};
+ghost use Rattle.bs_encode.specs.Assuming.{assumptions_for, steps_from, AreWide};
 ghost use Rattle.bs_encode.specs.Tables.{lit};
 ghost use Rattle.bs_log.specs.FirstRefused.{first_refused};
 ghost use Rattle.bs_rup.specs.Verdict.{refused_by};
 ghost use Rattle.bs_good.specs.Chain.{present_of};
 ghost use Rattle.bs_good.specs.Valid.{each_step, first_of_all, log_parts};
-ghost use Rattle.bs_audit.specs.Logged.{basis_with, lines_parts, refused_part, AreFit, IsFit};
+ghost use Rattle.bs_audit.specs.Logged.{basis_with, lines_parts, refused_part, AreFit, Suits};
 ghost use Rattle.bs_audit.specs.StepLines.{undeleted};
 
 use crate::blocks::are_right_blocks;
 use crate::candidates::number;
 use crate::ends::is_right_end;
 use crate::step_lines::split_step;
-use bs_bits::{List, NoMemory};
+use bs_bits::{Bits, List, NoMemory};
 use bs_clause::{Lit, Lits, Var};
 use bs_encode::Encoding;
 use bs_good::Part;
@@ -30,13 +30,25 @@ fn guard_of(encoding: &Encoding, i: usize) -> Lit
     Lit::new(Var(encoding.vars() + (i as u32 + 1)), true)
 }
 
+/// The signature, lent, if there is one.
+fn lent(signature: &Option<Bits>) -> Option<&Bits>
+    ensures { option_map (λ bits. bits.now) result ≡ signature.now }
+{
+    match signature {
+        None => None,
+        Some(bits) => Some(bits),
+    }
+}
+
 /// What a step assumes.
 fn assumed(alloc: Global, encoding: &Encoding, guard: Lit, step: &Step) -> Result<Lits, NoMemory>
     requires present { length step.now.present ≡ length encoding.now.next }
     requires stored { length step.now.stored ≡ length encoding.now.signatures }
+    requires older { AreWide (length encoding.now.older_signatures) step.now.older }
     ensures { IfOk result (λ l. l ≡ assumptions_for encoding.now guard (present_of step.now)) }
 {
-    encoding.assumptions(alloc, guard, &step.present, &step.stored)
+    let older = lent(&step.older);
+    encoding.assumptions(alloc, guard, &step.present, &step.stored, older)
 }
 
 /// What each step assumes.
@@ -71,7 +83,7 @@ fn wrong_lines(
 ) -> Result<Option<Part>, NoMemory>
     requires width { width ≡ length encoding.now.states }
     requires room { encoding.now.variables + (i + 1) < 2 ^ 30 }
-    requires sound { IsFit (length encoding.now.states) (length encoding.now.signatures) step.now }
+    requires sound { Suits encoding.now step.now }
     ensures { IfOk result (λ part. part ≡ first_of_all (lines_parts encoding.now assumptions.now budgets.now.conflicts i step.now (undeleted lines.now))) }
 {
     let guard = guard_of(encoding, i);

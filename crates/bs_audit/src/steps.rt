@@ -1,7 +1,9 @@
 //! The steps of a report, tried by replay.
-ghost use Rattle.std.specs.Prelude.{◌≡◌, ◌<◌, ◌+◌, ◌^◌, length, option_map, All, IfOk};
+ghost use Rattle.std.specs.Prelude.{◌≡◌, ◌<◌, ◌+◌, ◌^◌, ◌∷◌, length, option_map, All, IfOk};
+ghost use Rattle.std.specs.Option.{option_to_list};
 ghost use Rattle.bs_good.specs.Step.{listed, stored_of};
-ghost use Rattle.bs_good.specs.Valid.{first_of_all, has_state, has_stored, is_right_count, same_hit};
+ghost use Rattle.bs_good.specs.Valid.{all_bits_eq, first_of_all, has_state, has_stored, is_right_count, same_hit};
+ghost use Rattle.bs_scan.specs.Dump.{signatures_of};
 ghost use Rattle.bs_scan.specs.Present.{present_in};
 ghost use Rattle.bs_audit.specs.Following.{begin_parts, line_of, IsListed, IsTried, IsWalked};
 
@@ -31,16 +33,39 @@ fn has_due_state(due: &Option<Dump>, state: &Bits) -> bool
     }
 }
 
-/// Whether a step's signature is that of the dump, if there is one.
+/// Whether two signatures are the same, or neither is there.
+fn are_same(a: &Option<Bits>, b: &Option<Bits>) -> bool
+    ensures { result ≡ all_bits_eq (option_to_list a.now) (option_to_list b.now) }
+{
+    match a {
+        None => b.is_none(),
+        Some(a) => match b {
+            None => false,
+            Some(b) => a.equals(b),
+        },
+    }
+}
+
+/// Whether a signature and the older one are all that a register holds.
+fn are_held(stored: &Bits, older: &Option<Bits>, dump: &Dump) -> bool
+    ensures { result ≡ all_bits_eq (stored.now ∷ option_to_list older.now) (signatures_of dump.now) }
+{
+    match &dump.stored {
+        Some(last) => stored.equals(last) && are_same(older, &dump.older),
+        None => match &dump.older {
+            Some(last) => stored.equals(last) && older.is_none(),
+            None => false,
+        },
+    }
+}
+
+/// Whether a step's signatures are those of the dump, if there is one.
 fn has_due_stored(due: &Option<Dump>, step: &Step) -> bool
     ensures { result ≡ has_stored (option_map present_in due.now) (stored_of step.now) }
 {
     match due {
         None => false,
-        Some(dump) => match &dump.stored {
-            None => false,
-            Some(stored) => step.stored.equals(stored),
-        },
+        Some(dump) => are_held(&step.stored, &step.older, dump),
     }
 }
 

@@ -1,19 +1,18 @@
 //! The cause of a report's stop.
 ghost use Rattle.std.specs.Prelude.{◌≡◌, ◌&&◌, nat_le, length, None, option_map};
 ghost use Rattle.std.specs.List.{last_or};
-ghost use Rattle.std.specs.Option.{option_to_list};
 ghost use Rattle.bs_good.specs.Valid.{cause_after, cause_at, cause_of_end, is_cause};
+ghost use Rattle.bs_scan.specs.Dump.{signatures_of};
 ghost use Rattle.bs_scan.specs.Present.{present_in};
 
-use bs_bits::Bits;
 use bs_report::{Budgets, ListEnd, Report, Step, Stop};
 use bs_scan::Dump;
 
 /// The cause at a dump or a hit, after so many steps.
-fn cause_at(budgets: &Budgets, count: usize, stored: &Option<Bits>) -> Option<Stop>
-    ensures { result ≡ cause_at budgets.now count (option_to_list stored.now) }
+fn cause_at(budgets: &Budgets, count: usize, dump: &Dump) -> Option<Stop>
+    ensures { result ≡ cause_at budgets.now count (signatures_of dump.now) }
 {
-    if stored.is_none() {
+    if dump.stored.is_none() && dump.older.is_none() {
         return Some(Stop::Reset);
     }
     if count as u64 == budgets.steps {
@@ -53,7 +52,7 @@ fn cause(report: &Report, due: &Option<Dump>) -> Option<Stop>
     ensures { result ≡ cause_after report.now.budgets report.now.steps (option_map present_in due.now) }
 {
     match due {
-        Some(dump) => cause_at(&report.budgets, report.steps.len(), &dump.stored),
+        Some(dump) => cause_at(&report.budgets, report.steps.len(), dump),
         None => last_cause(report.steps.slice()),
     }
 }

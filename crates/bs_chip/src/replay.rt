@@ -5,7 +5,7 @@ ghost use Rattle.bs_scan.specs.Crash.{dump_at, recording_of, IsRecording};
 ghost use Rattle.bs_scan.specs.Moments.{first_moment as first_moment_of, moment, run_of, state_of, IsMoment};
 ghost use Rattle.bs_scan.specs.Signature.{stored_at};
 ghost use Rattle.bs_chip.specs.Lockstep.{TrackShows};
-ghost use Rattle.bs_chip.specs.Replay.{in_state};
+ghost use Rattle.bs_chip.specs.Replay.{dump_holding, in_state};
 ghost use Rattle.bs_chip.specs.Stepped.{StandsAt};
 
 use crate::index::{Index, grow, start};
@@ -79,16 +79,29 @@ fn bring(
     }
 }
 
+/// A copy of a signature that is held, if one is.
+fn copy_of(held: Option<&Bits>) -> Result<Option<Bits>, NoMemory>
+    ensures { IfOk result (λ copy. copy ≡ option_map (λ bits. bits.now) held.entry) }
+{
+    match held {
+        Some(bits) => Ok(Some(bits.copy()?)),
+        None => Ok(None),
+    }
+}
+
 /// The dump of a state and of what a register holds, the state unloaded through the scan chain.
 fn dump_of(alloc: Global, state: &Bits, register: &SigReg<'_>) -> Result<Dump, NoMemory>
-    ensures { IfOk result (λ dump. dump ≡ record { state = state.now; stored = slice_get register.now.stored 0 }) }
+    ensures { IfOk result (λ dump. dump ≡ dump_holding register.now state.now) }
 {
     let state = unload(alloc, state.copy()?)?;
-    let stored = match register.stored() {
-        Some(bits) => Some(bits.copy()?),
-        None => None,
-    };
-    Ok(Dump { state, stored, older: None, depth: 1 })
+    let stored = copy_of(register.stored())?;
+    let older = copy_of(register.older())?;
+    Ok(Dump {
+        state,
+        stored,
+        older,
+        depth: register.depth(),
+    })
 }
 
 /// How many cycles may be kept of so many words each.
@@ -125,6 +138,7 @@ impl<'a> Chip<'a> {
         ensures { IfOk result (λ chip. chip.recording ≡ recording_of net.now.raw choice.now runs.now) }
     {
         let _order = net.order();
+        let _depth = choice.depth();
         let _count = runs.count();
         let player = Player::new(alloc, net, runs)?;
         let pass = Pass::new(alloc, net, runs)?;

@@ -124,7 +124,8 @@ pub fn first_moment<S: HasState>(
     }
 }
 
-/// Brings a register to what it holds at a moment of a track.
+/// Brings a register to what it holds at a moment of a track: it is clocked from as many cycles before as it keeps
+/// signatures.
 fn recall_register(
     player: &mut Player<'_>,
     register: &mut SigReg<'_>,
@@ -139,8 +140,9 @@ fn recall_register(
     ensures stored { register.new ≡ record { choice = register.old.choice; stored = stored_at player.old.circuit register.old.choice (run_of player.old.runs moment.run) moment.cycle } }
 {
     register.clear();
-    if moment.cycle > 0 {
-        player.enter(track.get(moment.cycle as usize - 1).slice(), moment.run);
+    let first = moment.cycle.saturating_sub(u32::from(register.depth()));
+    'cycles: for cycle in first..moment.cycle {
+        player.enter(track.get(cycle as usize).slice(), moment.run);
         register.clock(player.state());
     }
 }

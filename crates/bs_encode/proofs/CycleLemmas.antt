@@ -1,5 +1,5 @@
 -- One copy of the transition: the clauses are met exactly by what shows a state, an input, the next state and the signature.
-use Rattle.std.proofs.Common.{◌≡◌, ℕ, suc, ◌+◌, ◌<◌, Bool, true, false, List, [], ◌∷◌, map, length, refl, sym, ap, ◌∙◌, subst, zero-add}
+use Rattle.std.proofs.Common.{◌≡◌, ℕ, suc, ◌+◌, ◌*◌, ◌<◌, ◌^◌, Bool, true, false, List, [], ◌∷◌, map, length, refl, sym, ap, ◌∙◌, subst, zero-add}
 use Rattle.std.specs.Prelude.{slice_index_or}
 use Rattle.std.specs.List.{AllByRecursion, All, range_with_len}
 use Rattle.std.proofs.lemmas.List.{length-map}
@@ -18,6 +18,7 @@ use Rattle.bs_net.proofs.CallerLemmas.{exactly_one_fits, next_from_fits}
 use Rattle.bs_scan.specs.Signature.{parity_of}
 use Rattle.bs_encode.specs.Transition.{net_var, state_vars, item_helpers, first_next, first_item, item_vars}
 use Rattle.bs_encode.specs.Encoded.{Encoded, encoding_of}
+use Rattle.bs_encode.specs.Depth.{IsLinkable}
 use Rattle.bs_encode.specs.Meaning.{IsClosed, ShowsStep, nets_of, next_of, signature_of}
 use Rattle.bs_encode.specs.Cycle.{bits_on, ShowsCycle, IsTransition, EncodesCycles}
 use Rattle.bs_encode.proofs.PartLemmas.{OnNets, shown_by}
@@ -39,27 +40,27 @@ state_shown a v nets on [] p = refl
 state_shown a v nets on (f ∷ fs) p =
     ap (λ b. b ∷ map a (map (λ (g : Flop). net_var g.q) fs)) (on f.q.0 p.0) ∙ ap (λ bs. slice_index_or v f.q.0 false ∷ bs) (state_shown a v nets on fs p.1)
 
-on_own_nets : (c : Circuit) (a : ℕ → Bool) → OnNets a (nets_of c a) c.nets
+pub on_own_nets : (c : Circuit) (a : ℕ → Bool) → OnNets a (nets_of c a) c.nets
 on_own_nets c a n lt = sym (get_or-map-range_with_len (λ k. a (k + 1)) 0 c.nets n n false lt (zero-add n))
 
 module _ (c : Circuit) (items : List (List ℕ)) (checked : IsChecked c) (closed : IsClosed c items) where
   abbrev e : Encoded
   e = encoding_of c items
 
-  states_on : (a : ℕ → Bool) (v : List Bool) → OnNets a v c.nets → bits_on a e.states ≡ shown v (state_nets c)
+  pub states_on : (a : ℕ → Bool) (v : List Bool) → OnNets a v c.nets → bits_on a e.states ≡ shown v (state_nets c)
   states_on a v on =
       bits_of_literals a (state_vars c)
       ∙ state_shown a v c.nets on c.flops (states_in_place c items closed)
 
-  inputs_on : (a : ℕ → Bool) (v : List Bool) → OnNets a v c.nets → bits_on a e.inputs ≡ shown v c.inputs
+  pub inputs_on : (a : ℕ → Bool) (v : List Bool) → OnNets a v c.nets → bits_on a e.inputs ≡ shown v c.inputs
   inputs_on a v on =
       bits_of_literals a (map net_var c.inputs)
       ∙ shown_by a v c.nets on c.inputs (recursion_from_All (λ (m : NetId). m.0 < c.nets) c.inputs closed.inputs)
 
-  next_on : (a : ℕ → Bool) → bits_on a e.next ≡ next_of c a
+  pub next_on : (a : ℕ → Bool) → bits_on a e.next ≡ next_of c a
   next_on a = bits_of_literals a (range_with_len (first_next c) (length c.flops))
 
-  signatures_on : (a : ℕ → Bool) → bits_on a e.signatures ≡ signature_of c items a
+  pub signatures_on : (a : ℕ → Bool) → bits_on a e.signatures ≡ signature_of c items a
   signatures_on a = bits_of_literals a (item_vars (first_item c) items)
 
   cycle_leads : (value : ℕ → Bool) → All (Satisfies value) e.clauses → next c (bits_on value e.states) (bits_on value e.inputs) ≡ bits_on value e.next
@@ -120,6 +121,17 @@ module _ (c : Circuit) (items : List (List ℕ)) (checked : IsChecked c) (closed
         agrees = cycle_agrees;
         shown = cycle_is_shown;
       }
+
+pub is_linkable : (c : Circuit) (items : List (List ℕ)) (e : Encoded) → IsTransition c items e → 2 * e.variables + 1 < 2 ^ 30 → IsLinkable e
+is_linkable c items e t room = record {
+  room = room;
+  same_width = t.next_width ∙ sym t.states_width;
+  clauses = t.clauses_range;
+  states = t.states_range;
+  next = t.next_range;
+  inputs = t.inputs_range;
+  signatures = t.signatures_range;
+}
 
 pub encodes_cycles : (r : Parts) → PartsArePlaced r → IsChecked (circuit_of r) → EncodesCycles (circuit_of r)
 encodes_cycles r placed checked = record { each = λ items within. is_transition (circuit_of r) items checked (parts_placed r placed items within) }

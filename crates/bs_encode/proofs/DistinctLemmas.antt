@@ -44,18 +44,14 @@ pub weaken : {X : Type 0} (P Q : X → Type 0) → ((x : X) → P x → Q x) →
 weaken P Q f [] h = tt
 weaken P Q f (x ∷ xs) h = (f x h.0, weaken P Q f xs h.1)
 
-pub append_distinct : (k : ℕ) (xs ys : Clause) → AllByRecursion (λ (m : Literal). m.variable < k) xs → AllByRecursion (λ (m : Literal). k ≤ m.variable) ys →
+pub append_apart : (xs ys : Clause) → AllByRecursion (λ (l : Literal). AllByRecursion (λ (m : Literal). m.variable ≡ l.variable → ⊥) ys) xs →
     has_distinct_variables xs ≡ true → has_distinct_variables ys ≡ true → has_distinct_variables (xs ++ ys) ≡ true
-append_distinct k [] ys below above dx dy = dy
-append_distinct k (x ∷ xs) ys below above dx dy =
+append_apart [] ys apart dx dy = dy
+append_apart (x ∷ xs) ys apart dx dy =
     let parts = distinct_parts x xs dx in
-    let lt : x.variable < k = below.0 in
-    let past : names x.variable ys ≡ false =
-    apart_from_each x.variable ys (weaken (λ (m : Literal). k ≤ m.variable) (λ (m : Literal). m.variable ≡ x.variable → ⊥)
-    (λ m le e. omega (arith, le, lt, e)) ys above) in
     distinct_cons x (xs ++ ys) (list_any-append (λ (m : Literal). eqb m.variable x.variable) xs ys
-    ∙ or_from (names x.variable xs) (names x.variable ys) parts.0 past)
-    (append_distinct k xs ys below.1 above parts.1 dy)
+    ∙ or_from (names x.variable xs) (names x.variable ys) parts.0 (apart_from_each x.variable ys apart.0))
+    (append_apart xs ys apart.1 parts.1 dy)
 
 -- ---- a clause with each literal once, and without a literal and its negation
 
@@ -168,7 +164,7 @@ signed_distinct (l ∷ c) (b ∷ bs) h =
 
 -- ---- the next variables are a range, and the items' ascend
 
-above_numbers : (m j k : ℕ) → m ≤ j → AllByRecursion (λ (l : Literal). m ≤ l.variable) (literals (range_with_len j k))
+pub above_numbers : (m j k : ℕ) → m ≤ j → AllByRecursion (λ (l : Literal). m ≤ l.variable) (literals (range_with_len j k))
 above_numbers m j zero le = tt
 above_numbers m j (suc k) le = (le, above_numbers m (j + 1) k (omega (arith, le)))
 

@@ -1,5 +1,5 @@
 -- The clauses of small circuits, computed by the definitions.
-use Rattle.std.proofs.Common.{◌≡◌, ℕ, true, false, List, [], ◌∷◌, length, refl}
+use Rattle.std.proofs.Common.{◌≡◌, ℕ, true, false, List, [], ◌∷◌, length, refl, None, Some}
 use Rattle.bs_net.specs.declared.net.NetId.{NetId}
 use Rattle.bs_net.specs.declared.net.Kind.TheVariants.{And, Nand, Or, Nor, Not, Xnor}
 use Rattle.bs_net.specs.declared.net.Kind.{Kind}
@@ -8,13 +8,18 @@ use Rattle.bs_net.specs.declared.net.Flop.{Flop}
 use Rattle.bs_net.specs.declared.net.Mode.{Mode}
 use Rattle.bs_net.specs.declared.net.Mode.TheVariants.{Plain, Enable, Clear}
 use Rattle.bs_net.specs.Circuit.{Circuit}
+use Rattle.bs_scan.specs.Choice.{Chosen}
 use Rattle.bs_encode.specs.Tables.{lit}
 use Rattle.bs_encode.specs.Transition.{transition_clauses, variables}
-use Rattle.bs_encode.specs.Encoded.{encoding_of}
-use Rattle.bs_encode.specs.Assuming.{problem_of, basis_of}
+use Rattle.bs_encode.specs.Encoded.{Encoded, encoding_of}
+use Rattle.bs_encode.specs.Assuming.{asking, problem_of}
+use Rattle.bs_encode.specs.Depth.{encoding_by, basis_of}
 
 abbrev net : ℕ → NetId
 net n = record { 0 = n }
+
+abbrev choice : ℕ → ℕ → List (List ℕ) → Chosen
+choice width depth items = record { width = width; depth = depth; items = items }
 
 -- the inverter of q drives d: nets ck, d, q
 abbrev toggle : Circuit
@@ -42,11 +47,29 @@ toggle_steps : (problem_of (encoding_of toggle [])
     (lit 5 true ∷ lit 4 true ∷ []) ∷ (lit 6 true ∷ lit 4 false ∷ []) ∷ []
 toggle_steps = refl
 
-toggle_block_of_0 : (basis_of toggle [] []).block (false ∷ []) ≡ lit 3 true ∷ []
+toggle_block_of_0 : (basis_of toggle (choice 1 1 []) []).block (false ∷ []) ≡ lit 3 true ∷ []
 toggle_block_of_0 = refl
 
-toggle_block_of_1 : (basis_of toggle [] []).block (true ∷ []) ≡ lit 3 false ∷ []
+toggle_block_of_1 : (basis_of toggle (choice 1 1 []) []).block (true ∷ []) ≡ lit 3 false ∷ []
 toggle_block_of_1 = refl
+
+-- with a signature of two cycles: the second copy has the variables 5 to 8, and 9 is the link
+abbrev toggle_twice : Encoded
+toggle_twice = encoding_by toggle (choice 1 2 [])
+
+toggle_twice_variables : toggle_twice.variables ≡ 9
+toggle_twice_variables = refl
+
+toggle_twice_clauses : toggle_twice.clauses ≡
+    (lit 2 false ∷ lit 3 false ∷ []) ∷ (lit 2 true ∷ lit 3 true ∷ []) ∷ (lit 1 false ∷ []) ∷ (lit 4 false ∷ lit 2 true ∷ []) ∷ (lit 4 true ∷ lit 2 false ∷ [])
+    ∷ (lit 6 false ∷ lit 7 false ∷ []) ∷ (lit 6 true ∷ lit 7 true ∷ []) ∷ (lit 5 false ∷ []) ∷ (lit 8 false ∷ lit 6 true ∷ []) ∷ (lit 8 true ∷ lit 6 false ∷ [])
+    ∷ (lit 9 false ∷ lit 8 false ∷ lit 3 true ∷ []) ∷ (lit 9 false ∷ lit 8 true ∷ lit 3 false ∷ []) ∷ []
+toggle_twice_clauses = refl
+
+-- a step with an older signature, and one without
+toggle_twice_steps : (problem_of toggle_twice (asking (true ∷ []) [] (Some []) ∷ asking (true ∷ []) [] None ∷ [])).steps ≡
+    (lit 10 true ∷ lit 4 true ∷ lit 9 true ∷ []) ∷ (lit 11 true ∷ lit 4 true ∷ lit 9 false ∷ lit 3 false ∷ []) ∷ []
+toggle_twice_steps = refl
 
 -- a flip-flop that is named twice in an item makes two tautologies, which take no id
 twice_clauses : transition_clauses toggle ((0 ∷ 0 ∷ []) ∷ []) ≡
@@ -120,7 +143,7 @@ s27_steps : (problem_of (encoding_of s27 ((0 ∷ []) ∷ [])) (record { state = 
     (lit 25 true ∷ lit 21 false ∷ lit 22 true ∷ lit 23 false ∷ lit 24 true ∷ []) ∷ []
 s27_steps = refl
 
-s27_block : (basis_of s27 ((0 ∷ []) ∷ []) []).block (false ∷ true ∷ false ∷ []) ≡ lit 9 true ∷ lit 11 false ∷ lit 13 true ∷ []
+s27_block : (basis_of s27 (choice 3 1 ((0 ∷ []) ∷ [])) []).block (false ∷ true ∷ false ∷ []) ≡ lit 9 true ∷ lit 11 false ∷ lit 13 true ∷ []
 s27_block = refl
 
 -- an xnor of three inputs, one of them the constant 0: nets ck, q0, q1, d0, d1, 1'b0

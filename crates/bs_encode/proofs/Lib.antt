@@ -10,5 +10,8 @@ pub mod SignLemmas
 pub mod RangeLemmas
 pub mod DistinctLemmas
 pub mod LiteralLemmas
+pub mod CopyLemmas
 pub mod CycleLemmas
+pub mod OlderLemmas
+pub mod MeaningLemmas
 pub mod ListingLemmas

@@ -1,39 +1,19 @@
 -- The bits that an assignment shows on literals.
-use Rattle.std.proofs.Common.{◌≡◌, ℕ, ◌≤◌, Bool, true, false, not, ◌||◌, List, [], ◌∷◌, map, length, refl, ap, ◌∙◌, arith, subst}
+use Rattle.std.proofs.Common.{◌≡◌, ℕ, Bool, true, false, not, List, [], ◌∷◌, map, length, refl, ap, ◌∙◌, arith, subst}
 use Rattle.std.specs.Bool.{beq}
 use Rattle.std.specs.List.{AllByRecursion, list_any}
 use Rattle.std.proofs.lemmas.Bool.{true≢false, or_parts}
 use Rattle.std.proofs.lemmas.List.{length-map}
-use Rattle.bs_clause.specs.Literal.{Clause, literal_value, Satisfies}
+use Rattle.bs_clause.specs.Literal.{Clause, literal_value}
 use Rattle.bs_clause.proofs.Literals.{beq-true}
 use Rattle.bs_encode.specs.Tables.{lit}
 use Rattle.bs_encode.specs.Encoded.{literals}
 use Rattle.bs_encode.specs.Assuming.{signed}
 use Rattle.bs_encode.specs.Cycle.{bits_on}
 use Rattle.bs_encode.proofs.TableLemmas.{beq-refl}
-use Rattle.bs_encode.proofs.RangeLemmas.{Ranged, AllRanged}
 
 pub length-literals : (vs : List ℕ) → length (literals vs) ≡ length vs
 length-literals vs = length-map vs (λ v. lit v true)
-
--- ---- two assignments that agree on the variables 1 to n
-
-pub same_value : (a b : ℕ → Bool) (n : ℕ) → ((v : ℕ) → v ≤ n → a v ≡ b v) → (c : Clause) → Ranged n c →
-    list_any (literal_value a) c ≡ list_any (literal_value b) c
-same_value a b n same [] h = refl
-same_value a b n same (l ∷ c) h =
-    ap (λ x. beq x l.positive || list_any (literal_value a) c) (same l.variable h.0.1)
-    ∙ ap (λ x. literal_value b l || x) (same_value a b n same c h.1)
-
-pub still_met : (a b : ℕ → Bool) (n : ℕ) → ((v : ℕ) → v ≤ n → a v ≡ b v) → (cs : List Clause) → AllRanged n cs → AllByRecursion (Satisfies b) cs →
-    AllByRecursion (Satisfies a) cs
-still_met a b n same [] r h = tt
-still_met a b n same (c ∷ cs) r h = (same_value a b n same c r.0 ∙ h.0, still_met a b n same cs r.1 h.1)
-
-pub same_bits : (a b : ℕ → Bool) (n : ℕ) → ((v : ℕ) → v ≤ n → a v ≡ b v) → (c : Clause) → Ranged n c → bits_on a c ≡ bits_on b c
-same_bits a b n same [] h = refl
-same_bits a b n same (l ∷ c) h =
-    ap (λ x. x ∷ bits_on a c) (same l.variable h.0.1) ∙ ap (λ xs. b l.variable ∷ xs) (same_bits a b n same c h.1)
 
 -- ---- the bits that an assignment shows on literals
 

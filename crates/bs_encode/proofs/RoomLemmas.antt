@@ -64,9 +64,9 @@ items_few [] = omega arith
 items_few (item ∷ items) =
     omega (arith, items_few items, sum_by-cons (λ (i : List ℕ). item_helpers i + 1) item items, sum_by-cons (λ (i : List ℕ). length i) item items)
 
--- and there is room above them for the guards of a listing
+-- and there is room above those of two copies for the guards of a listing
 pub room_for_guards : (c : Circuit) (items : List (List ℕ)) → IsChecked c → IsBounded c → numbers_of items ≤ 1048576 → length items ≤ 256 →
-    variables c items + 65536 < 2 ^ 30
+    2 * variables c items + 1 + 65536 < 2 ^ 30
 room_for_guards c items checked bounded numbers count =
     omega (
       arith,

@@ -1,12 +1,11 @@
 -- What a step assumes, and what blocks a state (docs/FORMATS.md, "Clauses of the transition relation").
-use Rattle.std.specs.Prelude.{ℕ, ◌+◌, Bool, true, not, List, [], ◌∷◌, ◌++◌, map, slice_index_or}
-use Rattle.bs_clause.specs.Literal.{Literal, Clause}
+use Rattle.std.specs.Prelude.{◌≡◌, ℕ, ◌+◌, Bool, true, not, List, [], ◌∷◌, ◌++◌, map, length, slice_get, slice_index_or, All, Option, Some, None}
+use Rattle.std.specs.Option.{option_to_list}
+use Rattle.bs_clause.specs.Literal.{Literal, Clause, negation}
 use Rattle.bs_log.specs.History.{Problem}
-use Rattle.bs_log.specs.Shown.{Basis}
-use Rattle.bs_net.specs.Circuit.{Circuit}
 use Rattle.bs_scan.specs.Present.{Present}
 use Rattle.bs_encode.specs.Tables.{lit}
-use Rattle.bs_encode.specs.Encoded.{Encoded, encoding_of}
+use Rattle.bs_encode.specs.Encoded.{Encoded}
 
 -- each literal's variable with the sign of its bit
 abbrev pub signed : List Literal → List Bool → List Literal
@@ -14,10 +13,30 @@ signed [] bits = []
 signed (l ∷ ls) [] = []
 signed (l ∷ ls) (b ∷ bits) = lit l.variable b ∷ signed ls bits
 
--- what a step assumes: its guard, that the next state is the present one, and that the signature is the last one stored
+-- a state whose register holds a signature, and perhaps an older one
+abbrev pub asking : List Bool → List Bool → Option (List Bool) → Present
+asking present stored older = record { state = present; stored = stored ∷ option_to_list older }
+
+-- a signature that may be there has so many bits
+abbrev pub AreWide : ℕ → Option (List Bool) → Type 0
+AreWide items signature = All (λ t. length t ≡ items) (option_to_list signature)
+
+-- what is assumed of the cycle before, under a link: where an older signature is stored, that the other copy shows it and leads to
+-- the state, and otherwise that the state is the one at reset
+abbrev pub before_assumed : Encoded → Literal → Option (List Bool) → Clause
+before_assumed e l None = negation l ∷ e.at_reset
+before_assumed e l (Some older) = l ∷ signed e.older_signatures older
+
+-- the same where there is a second copy
+abbrev pub older_assumed : Encoded → Option Literal → Option (List Bool) → Clause
+older_assumed e None older = []
+older_assumed e (Some l) older = before_assumed e l older
+
+-- what a step assumes: its guard, that the next state is the present one, that the signature is the last one stored, and what
+-- the older one says of the cycle before
 abbrev pub assumptions_for : Encoded → Literal → Present → Clause
 assumptions_for e guard q =
-    guard ∷ (signed e.next q.state ++ signed e.signatures (slice_index_or q.stored 0 []))
+    guard ∷ (signed e.next q.state ++ (signed e.signatures (slice_index_or q.stored 0 []) ++ older_assumed e e.link (slice_get q.stored 1)))
 
 -- the state is another one
 abbrev pub block_for : Encoded → List Bool → Clause
@@ -35,12 +54,4 @@ problem_of e presents =
       vars = e.variables;
       clauses = e.clauses;
       steps = steps_from e 1 presents;
-    }
-
--- what a report's log is checked against
-abbrev pub basis_of : Circuit → List (List ℕ) → List Present → Basis
-basis_of c items presents =
-    record {
-      problem = problem_of (encoding_of c items) presents;
-      block = block_for (encoding_of c items);
     }

@@ -1,12 +1,13 @@
 -- What a contract sees of an encoding.
-use Rattle.std.specs.Prelude.{ℕ, true, List, map, length}
+use Rattle.std.specs.Prelude.{ℕ, true, List, [], map, length, Option, None}
 use Rattle.std.specs.List.{range_with_len}
 use Rattle.bs_clause.specs.Literal.{Literal, Clause}
 use Rattle.bs_net.specs.Circuit.{Circuit}
 use Rattle.bs_encode.specs.Tables.{lit}
 use Rattle.bs_encode.specs.Transition.{transition_clauses, variables, net_var, state_vars, first_next, first_item, item_vars}
 
--- the clauses, the number of variables, and the literals of the state, the next state, the signature and the inputs
+-- the clauses, the number of variables, and the literals of the state, the next state, the signature and the inputs; where there
+-- is a second copy, for the cycle before, its link and its literals, and the state literals that are true at reset
 pub record Encoded : Type 0 where
   pub clauses : List Clause
   pub variables : ℕ
@@ -14,6 +15,11 @@ pub record Encoded : Type 0 where
   pub next : List Literal
   pub signatures : List Literal
   pub inputs : List Literal
+  pub link : Option Literal
+  pub older_states : List Literal
+  pub older_inputs : List Literal
+  pub older_signatures : List Literal
+  pub at_reset : List Literal
 
 -- the literals of some variables
 abbrev pub literals : List ℕ → List Literal
@@ -29,8 +35,13 @@ joined c clauses variables signatures =
       states = literals (state_vars c);
       signatures = signatures;
       inputs = literals (map net_var c.inputs);
+      link = None;
+      older_states = [];
+      older_inputs = [];
+      older_signatures = [];
+      at_reset = [];
     }
 
--- the encoding of a circuit and of what its signature is taken of
+-- one copy: the encoding of a circuit and of what a signature is taken of
 abbrev pub encoding_of : Circuit → List (List ℕ) → Encoded
 encoding_of c items = joined c (transition_clauses c items) (variables c items) (literals (item_vars (first_item c) items))

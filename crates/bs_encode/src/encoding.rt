@@ -1,5 +1,5 @@
 //! The encoding of a netlist and what its signature is taken of.
-ghost use Rattle.std.specs.Prelude.{◌≡◌, ◌<◌, ◌≤◌, ◌+◌, ◌-◌, [], ◌∷◌, ◌++◌, true, length, map, All, IfOk, OnOk, Some, slice_get};
+ghost use Rattle.std.specs.Prelude.{◌≡◌, ◌≢◌, ◌<◌, ◌≤◌, ◌+◌, ◌-◌, [], ◌++◌, true, length, map, All, IfOk, OnOk, None, Some, option_map, slice_get};
 ghost use Rattle.std.specs.List.{range_with_len};
 ghost use Rattle.bs_net.specs.declared.limits.TheConstants.{MAX_NETS};
 ghost use Rattle.bs_clause.specs.declared.literal.TheConstants.{VARIABLE_LIMIT};
@@ -8,10 +8,13 @@ ghost use Rattle.bs_net.specs.Netlist.{circuit};
 ghost use Rattle.bs_encode.specs.Tables.{lit};
 ghost use Rattle.bs_encode.specs.Transition.{cycle_clauses, table_clauses, tidied, state_vars, net_var, item_vars, first_item, first_next, variables};
 ghost use Rattle.bs_encode.specs.Encoded.{literals, joined, encoding_of};
-ghost use Rattle.bs_encode.specs.Assuming.{assumptions_for, block_for};
+ghost use Rattle.bs_encode.specs.Assuming.{asking, AreWide, before_assumed, assumptions_for, block_for};
+ghost use Rattle.bs_encode.specs.Depth.{IsLinkable, linked, encoding_by};
 
+use crate::law::encodings_are_linkable;
+use crate::older::{Older, append, no_older, older_clauses, older_literals};
 use crate::parts::{add_gates, add_items, add_next, variable};
-use crate::signs::{push_denied, push_signed};
+use crate::signs::{push_all, push_denied, push_signed};
 use crate::tidy::tidy;
 use crate::units::{add_units, constant_table, zero_nets};
 use bs_bits::Bits;
@@ -132,7 +135,7 @@ fn net_literals(alloc: Global, nets: &[NetId]) -> Result<Lits, NoMemory>
 }
 
 /// The transition relation of a netlist as clauses, with the literals of its state, its next state,
-/// its inputs and its signature.
+/// its inputs and its signature; where two signatures are kept, with a second copy of all, for the cycle before.
 #[derive(Drop)]
 pub struct Encoding {
     clauses: Clauses,
@@ -141,6 +144,7 @@ pub struct Encoding {
     next: Lits,
     signatures: Lits,
     inputs: Lits,
+    older: Older,
 }
 
 impl Model for Encoding {
@@ -148,7 +152,7 @@ impl Model for Encoding {
 
     ghost Value = { Encoded };
 
-    ghost view = { λ e. record { clauses = e.clauses; variables = e.variables; states = e.states; next = e.next; signatures = e.signatures; inputs = e.inputs } };
+    ghost view = { λ e. record { clauses = e.clauses; variables = e.variables; states = e.states; next = e.next; signatures = e.signatures; inputs = e.inputs; link = e.older.link; older_states = e.older.states; older_inputs = e.older.inputs; older_signatures = e.older.signatures; at_reset = e.older.at_reset } };
 }
 
 /// The encoding of these clauses and signatures over the literals of a netlist.
@@ -178,22 +182,51 @@ fn join(
         next,
         signatures,
         inputs,
+        older: no_older(alloc),
     })
 }
 
+/// One copy of the transition, and the signature.
+fn one_copy(alloc: Global, net: &Netlist, choice: &Choice) -> Result<Encoding, NoMemory>
+    requires { choice.now.width ≡ length (circuit net.now).flops }
+    ensures { IfOk result (λ e. e ≡ encoding_of (circuit net.now) choice.now.items) }
+{
+    let raw = net.raw();
+    let _items = choice.items();
+    let states = state_variables(alloc, raw.flops.slice())?;
+    let mut signatures = Lits::new(alloc);
+    let laid = lay(alloc, net, states.as_slice(), choice, &mut signatures)?;
+    let encoding = join(alloc, net, states.as_slice(), &laid, signatures)?;
+    Ok(encoding)
+}
+
+/// Gives an encoding of one copy a second one, for the cycle before.
+fn link_older(alloc: Global, one: &mut Encoding, reset: &Bits) -> Result<(), NoMemory>
+    requires linkable { IsLinkable one.old }
+    requires width { length one.old.states ≡ length reset.now }
+    ensures { OnOk result (one.new ≡ linked reset.now one.old) }
+{
+    let variables = 2 * one.variables + 1;
+    let older = older_literals(alloc, one, reset)?;
+    let more = older_clauses(alloc, one)?;
+    append(&mut one.clauses, more)?;
+    one.variables = variables;
+    one.older = older;
+    Ok(())
+}
+
 impl Encoding {
-    /// The encoding of a netlist and of what its signature is taken of
+    /// The encoding of a netlist by a choice: one copy of the transition, and a second one where two signatures are kept
     /// (docs/FORMATS.md, "Clauses of the transition relation").
     pub fn new(alloc: Global, net: &Netlist, choice: &Choice) -> Result<Encoding, NoMemory>
         requires { choice.now.width ≡ length (circuit net.now).flops }
-        ensures { IfOk result (λ e. e ≡ encoding_of (circuit net.now) choice.now.items) }
+        ensures { IfOk result (λ e. e ≡ encoding_by (circuit net.now) choice.now) }
     {
-        let raw = net.raw();
-        let _items = choice.items();
-        let states = state_variables(alloc, raw.flops.slice())?;
-        let mut signatures = Lits::new(alloc);
-        let laid = lay(alloc, net, states.as_slice(), choice, &mut signatures)?;
-        let encoding = join(alloc, net, states.as_slice(), &laid, signatures)?;
+        encodings_are_linkable(net, choice);
+        let mut encoding = one_copy(alloc, net, choice)?;
+        if choice.depth() == 2 {
+            link_older(alloc, &mut encoding, net.reset())?;
+        }
         Ok(encoding)
     }
 
@@ -251,6 +284,13 @@ impl Encoding {
         self.inputs.slice()
     }
 
+    /// The literals of the signature, in the order of the items.
+    pub fn signatures(&self) -> &[Lit]
+        ensures { result.now ≡ self.now.signatures }
+    {
+        self.signatures.slice()
+    }
+
     /// The literal of a flip-flop's present bit.
     pub fn state_lit(&self, i: usize) -> Lit
         requires { i < length self.now.states }
@@ -283,23 +323,99 @@ impl Encoding {
         *self.inputs.get(i)
     }
 
+    /// The link, where there is a second copy.
+    pub fn link(&self) -> Option<Lit>
+        ensures { result ≡ self.now.link }
+    {
+        self.older.link
+    }
+
+    /// The link, which is true where the second copy leads to the first.
+    pub fn link_lit(&self) -> Lit
+        requires { self.now.link ≢ None }
+        ensures { self.now.link ≡ Some result }
+    {
+        self.older.link.unwrap()
+    }
+
+    /// The literals of the state before, in the order of the flip-flops; none where there is one copy.
+    pub fn older_states(&self) -> &[Lit]
+        ensures { result.now ≡ self.now.older_states }
+    {
+        self.older.states.slice()
+    }
+
+    /// The literals of the data inputs in the cycle before, in their order; none where there is one copy.
+    pub fn older_inputs(&self) -> &[Lit]
+        ensures { result.now ≡ self.now.older_inputs }
+    {
+        self.older.inputs.slice()
+    }
+
+    /// The literal of a flip-flop's bit before.
+    pub fn older_state_lit(&self, i: usize) -> Lit
+        requires { i < length self.now.older_states }
+        ensures { slice_get self.now.older_states i ≡ Some result }
+    {
+        *self.older.states.get(i)
+    }
+
+    /// The literal of a data input's bit in the cycle before.
+    pub fn older_input_lit(&self, i: usize) -> Lit
+        requires { i < length self.now.older_inputs }
+        ensures { slice_get self.now.older_inputs i ≡ Some result }
+    {
+        *self.older.inputs.get(i)
+    }
+
+    /// The literal of an item's bit of the signature before.
+    pub fn older_sig_lit(&self, i: usize) -> Lit
+        requires { i < length self.now.older_signatures }
+        ensures { slice_get self.now.older_signatures i ≡ Some result }
+    {
+        *self.older.signatures.get(i)
+    }
+
+    /// Puts what an older signature, or none, says of the cycle before at the end.
+    fn push_before(&self, into: &mut Lits, l: Lit, older: Option<&Bits>) -> Result<(), NoMemory>
+        requires { AreWide (length self.now.older_signatures) (option_map (λ bits. bits.now) older) }
+        ensures { OnOk result (into.new ≡ into.old ++ before_assumed self.now l (option_map (λ bits. bits.now) older.entry)) }
+    {
+        match older {
+            None => {
+                into.push(l.negate())?;
+                push_all(into, self.older.at_reset.slice())
+            }
+            Some(older) => {
+                into.push(l)?;
+                push_signed(into, self.older.signatures.slice(), older)
+            }
+        }
+    }
+
     /// What a step assumes: its guard, the next literals with the signs of the present state, and the signature literals
-    /// with the signs of the stored signature.
+    /// with the signs of the stored signature. Where there is a second copy, also what it says of the cycle before: the link
+    /// and the older signature, or the reset state and no link.
     pub fn assumptions(
         &self,
         alloc: Global,
         guard: Lit,
         present: &Bits,
         stored: &Bits,
+        older: Option<&Bits>,
     ) -> Result<Lits, NoMemory>
         requires state { length present.now ≡ length self.now.next }
         requires signature { length stored.now ≡ length self.now.signatures }
-        ensures { IfOk result (λ l. l ≡ assumptions_for self.now guard (record { state = present.now; stored = stored.now ∷ [] })) }
+        requires older { AreWide (length self.now.older_signatures) (option_map (λ bits. bits.now) older) }
+        ensures { IfOk result (λ l. l ≡ assumptions_for self.now guard (asking present.now stored.now (option_map (λ bits. bits.now) older.entry))) }
     {
         let mut all = Lits::new(alloc);
         all.push(guard)?;
         push_signed(&mut all, self.next.slice(), present)?;
         push_signed(&mut all, self.signatures.slice(), stored)?;
+        if let Some(l) = self.older.link {
+            self.push_before(&mut all, l, older)?;
+        }
         Ok(all)
     }
 

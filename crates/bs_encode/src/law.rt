@@ -1,10 +1,12 @@
 //! The laws of the transition clauses.
 ghost use Rattle.std.specs.Prelude.{◌≡◌, length};
+ghost use Rattle.bs_net.specs.Circuit.{reset_state};
 ghost use Rattle.bs_net.specs.Netlist.{circuit};
 ghost use Rattle.bs_encode.specs.Cycle.{EncodesCycles};
 ghost use Rattle.bs_encode.specs.Encoded.{encoding_of};
 ghost use Rattle.bs_encode.specs.Listing.{IsTidy, PredecessorsAreShown, SolutionsArePredecessors};
-ghost use Rattle.bs_encode.specs.Meaning.{ClausesEqualGates};
+ghost use Rattle.bs_encode.specs.Depth.{IsLinkable, encoding_by};
+ghost use Rattle.bs_encode.specs.Meaning.{ClausesEqualGates, CopiesEqualGates};
 
 use bs_net::Netlist;
 use bs_scan::Choice;
@@ -14,6 +16,26 @@ use bs_scan::Choice;
 pub fn clauses_equal_gates(net: &Netlist, choice: &Choice)
     requires { choice.now.width ≡ length (circuit net.now).flops }
     ensures { ClausesEqualGates (circuit net.now) choice.now.items }
+{
+    let _items = choice.items();
+    let _raw = net.raw();
+}
+
+/// The clauses of two copies and their link say what the gates do in two cycles: two valuations that fit, where under the link
+/// the second one's next state is the first one's state, and nothing else.
+pub fn copies_equal_gates(net: &Netlist, choice: &Choice)
+    requires { choice.now.width ≡ length (circuit net.now).flops }
+    ensures { CopiesEqualGates (circuit net.now) choice.now.items }
+{
+    let _items = choice.items();
+    let _raw = net.raw();
+}
+
+/// One copy has room for a second one above it.
+pub(crate) fn encodings_are_linkable(net: &Netlist, choice: &Choice)
+    requires { choice.now.width ≡ length (circuit net.now).flops }
+    ensures linkable { IsLinkable (encoding_of (circuit net.now) choice.now.items) }
+    ensures width { length (encoding_of (circuit net.now) choice.now.items).states ≡ length (reset_state (circuit net.now)) }
 {
     let _items = choice.items();
     let _raw = net.raw();
@@ -31,27 +53,27 @@ pub fn encodings_are_cycles(net: &Netlist)
 /// clause, in what a step assumes, or in a block.
 pub fn encodings_are_tidy(net: &Netlist, choice: &Choice)
     requires { choice.now.width ≡ length (circuit net.now).flops }
-    ensures { IsTidy (circuit net.now) choice.now.items (encoding_of (circuit net.now) choice.now.items) }
+    ensures { IsTidy (circuit net.now) choice.now (encoding_by (circuit net.now) choice.now) }
 {
     let _items = choice.items();
     let _raw = net.raw();
 }
 
-/// A state that agrees with the stored signature and leads to the present one is shown in the step of this present: an
+/// A state that agrees with the stored signatures and leads to the present one is shown in the step of this present: an
 /// assignment meets the clauses, what the step assumes, and the block of every other state.
 pub fn predecessors_are_shown(net: &Netlist, choice: &Choice)
     requires { choice.now.width ≡ length (circuit net.now).flops }
-    ensures { PredecessorsAreShown (circuit net.now) choice.now (encoding_of (circuit net.now) choice.now.items) }
+    ensures { PredecessorsAreShown (circuit net.now) choice.now (encoding_by (circuit net.now) choice.now) }
 {
     let _items = choice.items();
     let _raw = net.raw();
 }
 
-/// An assignment that meets the clauses and what a step assumes shows a state that agrees with the stored signature, and
-/// an input under which it leads to the present state.
+/// An assignment that meets the clauses and what a step assumes shows a state that agrees with the stored signatures, and
+/// an input under which it leads to the present state; and in the second copy such ones of the cycle before.
 pub fn solutions_are_predecessors(net: &Netlist, choice: &Choice)
     requires { choice.now.width ≡ length (circuit net.now).flops }
-    ensures { SolutionsArePredecessors (circuit net.now) choice.now (encoding_of (circuit net.now) choice.now.items) }
+    ensures { SolutionsArePredecessors (circuit net.now) choice.now (encoding_by (circuit net.now) choice.now) }
 {
     let _items = choice.items();
     let _raw = net.raw();

@@ -28,7 +28,13 @@ fn add_pair(alloc: Global, into: &mut Clauses, a: Lit, b: Lit) -> Result<(), NoM
 }
 
 /// A clause of three literals.
-fn add_triple(alloc: Global, into: &mut Clauses, a: Lit, b: Lit, c: Lit) -> Result<(), NoMemory>
+pub(crate) fn add_triple(
+    alloc: Global,
+    into: &mut Clauses,
+    a: Lit,
+    b: Lit,
+    c: Lit,
+) -> Result<(), NoMemory>
     ensures { OnOk result (into.new ≡ into.old ++ (a ∷ b ∷ c ∷ []) ∷ []) }
 {
     let mut clause = Lits::new(alloc);

@@ -1,34 +1,34 @@
 -- The stock after clauses have gone, and after they have moved.
-use Rattle.std.proofs.Common.{◌≡◌, ◌≢◌, ℕ, zero, suc, ◌+◌, ◌-◌, ◌<◌, ◌≤◌, arith, Bool, true, false, not, ◌&&◌, ◌||◌, cond, List, [], ◌∷◌, ◌++◌, map, length, take}
-use Rattle.std.proofs.Common.{refl, sym, ap, subst, ◌∙◌, inl, inr, ◌⊎◌, Option, Some, None, eqb, get_or}
-use Rattle.std.specs.Prelude.{All, AllPairs, Contains, slice_get, is_some, option_map, unwrap_or, count_by, IsPermutation}
+use Rattle.std.proofs.Common.{◌≡◌, ℕ, zero, suc, ◌<◌, ◌≤◌, arith, Bool, true}
+use Rattle.std.proofs.Common.{false, not, ◌||◌, cond, List, [], ◌∷◌, map, length, take}
+use Rattle.std.proofs.Common.{refl, sym, ap, subst, ◌∙◌, inl, inr, Option, Some, None, eqb, get_or}
+use Rattle.std.specs.Prelude.{AllPairs, Contains, slice_get, is_some, option_map, unwrap_or, IsPermutation}
 use Rattle.std.specs.List.{filter, list_any}
 use Rattle.std.proofs.lemmas.Bool.{cases_Bool, cases_lt, cases_eq, false≢true, true≢false, eqb-true, eq-eqb, ne_eqb}
-use Rattle.std.proofs.lemmas.List.{take-map, length-map}
 use Rattle.std.proofs.lemmas.List.Elements.{All-contains}
 use Rattle.std.proofs.lemmas.List.Sorted.{IsPermutation-refl}
 use Rattle.std.proofs.lemmas.Option.{get_or_from_slice_get}
-use Rattle.bs_clause.specs.Literal.{Literal, Clause, code_of}
+use Rattle.bs_clause.specs.Literal.{Literal, code_of}
 use Rattle.bs_log.specs.History.{Entry}
 use Rattle.bs_log.specs.Refusal.{entry_of, is_lemma_or_block}
 use Rattle.bs_arena.specs.Arena.{Held, held_at, literals_at, meaning}
 use Rattle.bs_arena.specs.Renaming.{new_name, IsRenaming}
 use Rattle.bs_watch.specs.declared.lists.Watcher.{Watcher}
 use Rattle.bs_watch.specs.Places.{Place, TrailState, renamed_place}
-use Rattle.bs_watch.specs.Lists.{row, IsIn, IsAttached, renamed, renamed_lists}
+use Rattle.bs_watch.specs.Lists.{row, IsAttached, renamed, renamed_lists}
 use Rattle.bs_watch.specs.Watch.{WatchState, Serves, renamed_watch}
 use Rattle.bs_watch.specs.Sweep.{HasSwept}
 use Rattle.bs_keep.specs.declared.row.Row.{Row}
 use Rattle.bs_keep.specs.Keeping.{AreHeld, Ascends, renamed_ref, renamed_row}
-use Rattle.bs_keep.specs.Notes.{IsNoted, GoBy, HasKilled, AreOut}
+use Rattle.bs_keep.specs.Notes.{GoBy, HasKilled, AreOut}
 use Rattle.bs_keep.specs.Rows.{IsRowOf, AreRowsOf, AreRowsAmong}
 use Rattle.bs_keep.proofs.Removals.{killed_still, first_stay}
 use Rattle.bs_book.proofs.Lists.{none_is_not_some, same_some, get_from_Contains, Contains_from_get, get_map, get_map_cases, get_take, get_within}
 use Rattle.bs_book.proofs.Clauses.{nothing_in, contains_first, cons_contains, contains_cases, filter_cases, filter_from, map_cases, map_contains, all_from}
-use Rattle.bs_book.proofs.Entries.{found_stands, found_id}
+use Rattle.bs_book.proofs.Entries.{found_id}
 use Rattle.bs_search.specs.declared.stock.Stock.{Stock}
-use Rattle.bs_search.specs.Stock.{is_live, id_in, IsClauseOf, IsStocked}
-use Rattle.bs_search.proofs.Entries.{id_of, live_id, id_is_live, rows_permuted}
+use Rattle.bs_search.specs.Stock.{is_live, id_in, IsStocked}
+use Rattle.bs_search.proofs.Entries.{id_of, id_is_live, rows_permuted}
 use Rattle.bs_search.proofs.Teachings.{held_self}
 use Rattle.bs_search.specs.Ground.{IsGround}
 use Rattle.bs_engine.specs.Dropping.{AreStaying, without_ids, marked, HasDropped, HasCompacted}
@@ -74,7 +74,8 @@ found_left : (ids : List ℕ) (es : List Entry) (id : ℕ) (e : Entry) → entry
 found_left ids [] id e found stays = absurd (none_is_not_some e found)
 found_left ids (x ∷ xs) id e found stays = by (eqb x.id id) refl found (λ rest. found_left ids xs id e rest stays)
   where
-    rest_of : (b : Bool) → eqb x.id id ≡ false → entry_of (without_ids ids xs) id ≡ Some e → entry_of (cond b (x ∷ without_ids ids xs) (without_ids ids xs)) id ≡ Some e
+    rest_of : (b : Bool) → eqb x.id id ≡ false → entry_of (without_ids ids xs) id ≡ Some e →
+        entry_of (cond b (x ∷ without_ids ids xs) (without_ids ids xs)) id ≡ Some e
     rest_of true off rest = ap (λ b. cond b (Some x) (entry_of (without_ids ids xs) id)) off ∙ rest
     rest_of false off rest = rest
 
@@ -240,7 +241,8 @@ stocked_less old new before after stock less start ids refs watched es l swept s
   few = all_from (λ r. length (literals_at after r) < 2) less.shorts.items (λ r there.
       let c = short_cases r there in
       subst (λ x. length x < 2) (sym (literals_same r c.1)) (All-contains (λ x. length (literals_at before x) < 2) stock.shorts.items r s.few c.0));
-  rows = subst (λ fs. AreRowsOf after less.rows.items fs) (sym (marked_left ids es)) (subst (λ xs. AreRowsOf after xs (without_ids ids (marked es))) (sym l.rows)
+  rows = subst (λ fs. AreRowsOf after less.rows.items fs) (sym (marked_left ids es)) (subst (λ xs. AreRowsOf after xs (without_ids ids (marked es)))
+      (sym l.rows)
       (rows_permuted before after (filter (λ (x : Row). is_some (held_at after x.clause)) stock.rows.items) (without_ids ids (marked es))
       (rows_filtered before (λ (x : Row). is_some (held_at after x.clause)) (λ (e : Entry). stays_by ids e.id) stock.rows.items (marked es) s.rows
       (λ x e there is. row_alike old.lists es before after stock less start ids refs watched l s x e there is))
@@ -390,7 +392,8 @@ get_or_rows f [] k = refl
 get_or_rows f (ws ∷ lists) zero = refl
 get_or_rows f (ws ∷ lists) (suc k) = get_or_rows f lists k
 
-attached_renamed : (names : List (ℕ × ℕ)) (lists : List (List Watcher)) (r : ℕ) → IsAttached lists r → IsAttached (renamed_lists names lists) (renamed_ref names r)
+attached_renamed : (names : List (ℕ × ℕ)) (lists : List (List Watcher)) (r : ℕ) → IsAttached lists r →
+    IsAttached (renamed_lists names lists) (renamed_ref names r)
 attached_renamed names lists r (l, there) = (
   l,
   record {

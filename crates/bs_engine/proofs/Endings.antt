@@ -1,10 +1,11 @@
 -- The end of a step.
-use Rattle.std.proofs.Common.{◌≡◌, ℕ, zero, suc, ◌+◌, ◌-◌, ◌*◌, ◌<◌, ◌≤◌, arith, Bool, true, false, not, cond, List, [], ◌∷◌, ◌++◌, map, length, take, refl, sym, ap, subst}
-use Rattle.std.proofs.Common.{◌∙◌, inl, inr, ◌⊎◌, Option, Some, None, eqb}
-use Rattle.std.specs.Prelude.{All, Contains, slice_get, count_by}
+use Rattle.std.proofs.Common.{◌≡◌, ℕ, suc, ◌≤◌, arith, Bool, true, false}
+use Rattle.std.proofs.Common.{not, cond, List, [], ◌∷◌, ◌++◌, map, length, take, refl, sym, ap, subst}
+use Rattle.std.proofs.Common.{◌∙◌, inl, inr, Some, None, eqb}
+use Rattle.std.specs.Prelude.{All, Contains, count_by}
 use Rattle.std.specs.List.{filter, list_any}
 use Rattle.std.proofs.lemmas.Bool.{cases_Bool, false≢true, eq-eqb, ne_eqb}
-use Rattle.std.proofs.lemmas.List.{append-nil, take_all}
+use Rattle.std.proofs.lemmas.List.{append-nil}
 use Rattle.std.proofs.lemmas.List.Elements.{All-contains, filter-append}
 use Rattle.std.proofs.lemmas.List.Sorted.{All-permutation}
 use Rattle.bs_clause.specs.Literal.{Literal, negation}
@@ -12,14 +13,14 @@ use Rattle.bs_clause.specs.Range.{HasVariables, IsWithin}
 use Rattle.bs_log.specs.declared.origin.Origin.{Origin}
 use Rattle.bs_log.specs.declared.origin.Origin.TheVariants.{Axiom, Learnt, Blocked as FromBlock, Retired}
 use Rattle.bs_log.specs.Kept.{is_kept}
-use Rattle.bs_log.specs.History.{Problem, Entry}
+use Rattle.bs_log.specs.History.{Entry}
 use Rattle.bs_log.specs.Refusal.{is_lemma_or_block, entry_of}
 use Rattle.bs_arena.specs.Arena.{Held, literals_at}
 use Rattle.bs_watch.specs.Watch.{WatchState, Serves}
 use Rattle.bs_keep.specs.declared.row.Row.{Row}
 use Rattle.bs_keep.specs.declared.selection.Leaving.{Leaving}
 use Rattle.bs_keep.specs.Keeping.{Ascends, AreKnown, goes, is_long_row}
-use Rattle.bs_keep.specs.Notes.{IsNoted, GoBy}
+use Rattle.bs_keep.specs.Notes.{IsNoted}
 use Rattle.bs_keep.specs.Rows.{AreInOrder, AreRowsOf, AreRowsAmong, going}
 use Rattle.bs_keep.proofs.Deletions.{leaving_ids}
 use Rattle.bs_book.specs.Book.{Book, next_id}
@@ -36,7 +37,7 @@ use Rattle.bs_engine.proofs.Droppings.{any_cases}
 use Rattle.bs_search.specs.Teaching.{IsAtRest}
 use Rattle.bs_search.proofs.Entries.{clauses_in, id_of, id_is_live}
 use Rattle.bs_engine.specs.declared.dropping.Known.{Known}
-use Rattle.bs_engine.specs.Dropping.{without_ids, marked, is_free, is_free_long, AreKnownIn, AreStaying, HasDropped, HasCompacted}
+use Rattle.bs_engine.specs.Dropping.{without_ids, marked, AreKnownIn, AreStaying, HasDropped, HasCompacted}
 use Rattle.bs_engine.specs.Ending.{unit_of, HasPrepared, HasSettled}
 use Rattle.bs_engine.proofs.Knowns.{known_rows, rows_ascend, length_rows, counted_front, counted_rows}
 
@@ -115,7 +116,8 @@ unit_stays b w clauses stock guard steps ids order s g ids_are = record {
             (filter is_lemma_or_block (entries b ++ unit_of b guard ∷ [])) e in_going).0 in
             let marked_e = filter_cases is_lemma_or_block (entries b) e (subst (λ xs. Contains xs e) (marked_unit (entries b) b guard) in_marked) in
             let found = found_still (entries b) (unit_of b guard ∷ []) e.id e (found_self (entries b) e order marked_e.0) in
-            let same : e ≡ u.entry = same_some e u.entry (sym found ∙ ap (entry_of (entries b ++ unit_of b guard ∷ [])) (is ∙ ap (id_in clauses) (sym one)) ∙ u.found) in
+            let same : e ≡ u.entry = same_some e u.entry (sym found ∙
+            ap (entry_of (entries b ++ unit_of b guard ∷ [])) (is ∙ ap (id_in clauses) (sym one)) ∙ u.found) in
             retired_is_other e (ap (λ (x : Entry). x.origin) same ∙ u.retired) marked_e.1),
       );
 }
@@ -179,7 +181,8 @@ pub settled_low : (old mid new : WatchState) (before between after : List Held) 
     start ≤ length more.rows.items
 settled_low old mid new before between after stock less more start ids es d m s =
     let one = length_rows between less.rows.items (marked (without_ids ids es)) (d.stocked es s).rows in
-    let two = length_rows after more.rows.items (marked (without_ids ids es)) (both_stocked old mid new before between after stock less more start ids es d m s).rows in
+    let two = length_rows after more.rows.items (marked (without_ids ids es)) (both_stocked old mid new before between after stock less more start ids
+    es d m s).rows in
     let low = d.low in omega (arith, one, two, low)
 
 pub settled_long : (own steps : ℕ) (known : Known) (old mid new : WatchState) (before between after : List Held) (stock less more : Stock) (start : ℕ)

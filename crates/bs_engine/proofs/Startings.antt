@@ -1,7 +1,8 @@
 -- A solver from one call to the next, over its watch and its arena.
-use Rattle.std.proofs.Common.{◌≡◌, ℕ, zero, suc, ◌+◌, ◌<◌, ◌≤◌, ◌^◌, arith, Bool, true, false, cond, List, [], ◌∷◌, ◌++◌, length, take, refl, sym, ap, subst, ◌∙◌, inl}
-use Rattle.std.proofs.Common.{inr, ◌⊎◌, Option, Some, None}
-use Rattle.std.specs.Prelude.{All, Contains, slice_get, is_some, option_map}
+use Rattle.std.proofs.Common.{◌≡◌, ℕ, zero, suc, ◌+◌, ◌<◌, ◌≤◌, ◌^◌, arith, Bool, true, false}
+use Rattle.std.proofs.Common.{cond, List, [], ◌∷◌, ◌++◌, length, take, refl, sym, ap, subst, ◌∙◌, inl}
+use Rattle.std.proofs.Common.{inr, Option, Some, None}
+use Rattle.std.specs.Prelude.{All, slice_get, is_some}
 use Rattle.std.specs.List.{filter}
 use Rattle.std.proofs.lemmas.Bool.{false≢true, ne_eqb}
 use Rattle.std.proofs.lemmas.List.{length-take-le}
@@ -10,7 +11,7 @@ use Rattle.bs_clause.specs.Literal.{Literal, Clause, negation}
 use Rattle.bs_arena.specs.Arena.{Held, held_at, literals_at, live_words}
 use Rattle.bs_watch.specs.declared.lists.Watcher.{Watcher}
 use Rattle.bs_watch.specs.Places.{Place, TrailState}
-use Rattle.bs_watch.specs.Lists.{row, IsIn, IsAttached}
+use Rattle.bs_watch.specs.Lists.{IsIn, IsAttached}
 use Rattle.bs_watch.specs.Watch.{WatchState, Serves, KeepsService, grown}
 use Rattle.bs_watch.proofs.Advancing.{shuffled_refl}
 use Rattle.bs_watch.proofs.Grown.{grown_row}
@@ -42,7 +43,7 @@ use Rattle.bs_keep.specs.Keeping.{AreHeld}
 use Rattle.bs_keep.specs.Rows.{AreRowsAmong}
 use Rattle.bs_watch.specs.Trail.{IsTrueOn, IsOpenOn}
 use Rattle.bs_learn.specs.Marks.{MarkState, IsClear, StaysClear}
-use Rattle.bs_book.specs.Places.{IsSound, literals_of as logged_literals}
+use Rattle.bs_book.specs.Places.{AreWarranted, literals_of as logged_literals}
 use Rattle.bs_search.specs.Seen.{seen}
 use Rattle.bs_search.specs.Ground.{HasStocked, IsGround, IsOff}
 use Rattle.bs_search.specs.Teaching.{IsAtRest}
@@ -172,8 +173,8 @@ kept_in book other w clauses stock same step (inr p) = inr (
       reasoned = p.1.running.reasoned;
       ground = λ v e. subst (λ es. IsGround es stock.shorts.items clauses (take v.start w.trail.places)) (sym same) (p.1.running.ground v e);
     };
-    sound = subst (λ cs. IsSound cs p.0 (assumed other) (seen w.trail.places)) (sym (ap clauses_in same))
-        (subst (λ a. IsSound (standing book) p.0 a (seen w.trail.places)) (sym step) p.1.sound);
+    sound = subst (λ cs. AreWarranted cs p.0 (assumed other) (seen w.trail.places)) (sym (ap clauses_in same))
+        (subst (λ a. AreWarranted (standing book) p.0 a (seen w.trail.places)) (sym step) p.1.sound);
     given = subst (All (IsTrueOn (logged_literals (take p.0 (seen w.trail.places))))) (sym step) p.1.given;
     low = p.1.low;
   },
@@ -256,7 +257,8 @@ pub whole_after_solve : (inside : SolverState) (a : Clause) (first : Bool) (begu
     (clauses : List Held) (stock : Stock) (marks : MarkState)
     (answer : Answer) (stage : Stage) → IsReady inside → MaySolve inside a → inside.failed ≡ false → first ≡ is_begun inside.stage →
     begun ≡ begun_book first inside.book a → SomeLemmas begun new → IsOver begun new grown_vars limit w clauses stock answer → grown_vars ≡ inside.vars →
-    stage ≡ stage_of answer → IsClear (grown_vars + 1) marks → IsWhole (record { book = new; vars = inside.vars; stage = stage; failed = false }) w clauses stock marks
+    stage ≡ stage_of answer → IsClear (grown_vars + 1) marks → IsWhole (record { book = new; vars = inside.vars; stage = stage; failed = false }) w
+    clauses stock marks
 whole_after_solve inside a first begun new limit grown_vars w clauses stock marks answer stage ready may well is_first is lemmas over grown is_stage clear =
     let o = subst (λ n. IsOver begun new n limit w clauses stock answer) grown over in
     record {

@@ -1,5 +1,5 @@
 //! An incremental solver that logs what it learns: clauses stay from one step to the next.
-ghost use Rattle.std.specs.Prelude.{◌≡◌, ◌⊎◌, ◌+◌, ◌*◌, ◌^◌, ◌<◌, ◌≤◌, [], ◌∷◌, true, false, All, IfOk, IfErr, IfSome, OnOk, OnErr};
+ghost use Rattle.std.specs.Prelude.{◌≡◌, ◌⊎◌, ◌+◌, ◌*◌, ◌^◌, ◌<◌, ◌≤◌, [], true, false, All, IfOk, IfErr, IfSome};
 ghost use Rattle.bs_log.specs.History.{step_of, guard_of, live};
 ghost use Rattle.bs_log.specs.Refusal.{has_distinct_variables, history_of, NoneRefused, IsAccepted};
 ghost use Rattle.bs_log.specs.Lean.{LemmasAreLean, StepsLeaveKept};
@@ -7,8 +7,8 @@ ghost use Rattle.bs_log.specs.LineForms.{HasText};
 ghost use Rattle.bs_book.specs.declared.stage.Stage.TheVariants.{Idle, Begun, Solved, Ended};
 ghost use Rattle.bs_clause.specs.Range.{HasVariables};
 ghost use Rattle.bs_book.specs.Book.{standing, lemma_ids};
-ghost use Rattle.bs_book.specs.Stages.{MayBegin, EndsStep, begun_book, is_begun, is_solved};
-ghost use Rattle.bs_book.specs.Solver.{MaySolve, HasSolved, HasBlocked, HasEnded, Follows, finished, retired};
+ghost use Rattle.bs_book.specs.Stages.{is_begun, is_solved};
+ghost use Rattle.bs_book.specs.Solver.{MaySolve, HasSolved, HasBlocked, HasEnded, Follows, finished};
 ghost use Rattle.bs_arena.specs.Arena.{live_words};
 ghost use Rattle.bs_engine.specs.Starting.{HoldsStanding};
 
@@ -182,8 +182,7 @@ impl Solver {
         requires end { IfSome end (λ id. self.old.failed ≡ false → self.old.stage ≡ Ended id) }
         ensures ok { IfOk result (λ _. HasEnded self.old self.new end) }
         ensures err { IfErr result (λ _. self.new.failed ≡ true) }
-        ensures lines { IfErr result (λ _. (self.new.book ≡ self.old.book) ⊎ ((self.new.book ≡ finished self.old.book end)
-            ⊎ (self.new.book ≡ retired (finished self.old.book end)))) }
+        ensures lines { IfErr result (λ _. (self.new.book ≡ self.old.book) ⊎ (self.new.book ≡ finished self.old.book end)) }
     {
         if self.failed {
             return Err(NoMemory);
@@ -207,9 +206,8 @@ impl Solver {
             guard,
         )?;
         finish(&mut self.book, end)?;
-        self.book.log_retire(guard)?;
-        self.book.holds_ids();
-        self.book.log_delete(alloc, leaving.ids.slice())?;
+        self.book.holds_end(guard);
+        self.book.log_end(alloc, leaving.ids.slice())?;
         self.known = settle(
             &mut self.watch,
             &mut self.arena,

@@ -1,5 +1,5 @@
 //! The clauses that a solver is given, and the variables that it gets.
-ghost use Rattle.std.specs.Prelude.{◌≡◌, ◌+◌, ◌^◌, ◌<◌, ◌≤◌, [], length, true, All, OnOk};
+ghost use Rattle.std.specs.Prelude.{◌≡◌, ◌+◌, ◌^◌, ◌<◌, ◌≤◌, [], true, All, OnOk};
 ghost use Rattle.bs_clause.specs.Range.{HasVariables};
 ghost use Rattle.bs_log.specs.History.{axioms_from};
 ghost use Rattle.bs_log.specs.Refusal.{has_distinct_variables};

@@ -5,6 +5,7 @@ use Rattle.std.specs.Option.{IsSomeAnd}
 use Rattle.std.specs.List.{last_or}
 use Rattle.std.proofs.lemmas.Bool.{false≢true}
 use Rattle.bs_scan.specs.Moments.{is_listed, run_of}
+use Rattle.bs_scan.specs.Choice.{depth_of}
 use Rattle.bs_scan.specs.Signature.{stored_at}
 use Rattle.bs_report.specs.declared.report.Cand.{Cand}
 use Rattle.bs_report.specs.declared.report.HitLine.{HitLine}
@@ -20,7 +21,7 @@ use Rattle.bs_good.specs.Chain.{present_of_hit, present_after, last_present}
 use Rattle.bs_good.specs.Stop.{IsFinished, StopsFor}
 use Rattle.bs_good.specs.Good.{IsGood}
 use Rattle.bs_good.specs.Law.{UnhitIsFirst, FinishedReachReset}
-use Rattle.bs_good.proofs.ProgressLemmas.{progress, all_at, hit_at}
+use Rattle.bs_good.proofs.ProgressLemmas.{progress, all_at, hit_at, none_at_reset}
 
 record Before (steps : List Step) (i : ℕ) : Type 0 where
   step : Step
@@ -86,7 +87,8 @@ only_reset crash r good n c last hits enough stops.Length s =
     last.present ∙ ap (option_map (present_of_hit crash)) h.is in
     absurd
     (subst (λ (o : Option Present). IsSomeAnd o (λ (now : Present). now.stored ≢ [])) now s.1
-    (ap (stored_at crash.circuit crash.choice (run_of crash.runs h.hit.run)) at_reset))
+    (ap (stored_at crash.circuit crash.choice (run_of crash.runs h.hit.run)) at_reset
+    ∙ none_at_reset crash.circuit crash.choice (run_of crash.runs h.hit.run) (depth_of crash.choice)))
 only_reset crash r good n c last hits enough stops.Nohit s =
     let h = hits last.last last.place in
     let none = subst (λ (o : Option Step). IsSomeAnd o (λ (step : Step). (step.hit ≡ None) × IsFinished step.end × (step.cands ≢ []))) last.is s in

@@ -4,6 +4,7 @@ use Rattle.std.specs.Prelude.{⊤, not}
 use Rattle.bs_log.specs.declared.why.Why.TheVariants.{Order as order}
 use Rattle.bs_net.specs.declared.net.NetId.{NetId}
 use Rattle.bs_net.specs.declared.net.Kind.TheVariants.{Not}
+use Rattle.bs_net.specs.declared.net.Mode.TheVariants.{Plain}
 use Rattle.bs_net.specs.Circuit.{Circuit, next, settled, all_bits}
 use Rattle.bs_scan.specs.Moments.{state_at, first_moment}
 use Rattle.bs_scan.specs.Signature.{predecessors}
@@ -29,7 +30,7 @@ toggle =
       nets = 3;
       clock = net 0;
       inputs = [];
-      flops = record { q = net 2; d = net 1; ck = net 0; reset = false } ∷ [];
+      flops = record { q = net 2; d = net 1; ck = net 0; reset = false; mode = Plain } ∷ [];
       gates = record { kind = Not; out = net 1; ins = net 2 ∷ [] } ∷ [];
       constants = [];
     }
@@ -38,9 +39,9 @@ abbrev crash : Crash
 crash =
     record {
       circuit = toggle;
-      choice = record { width = 1; items = [] };
+      choice = record { width = 1; depth = 1; items = [] };
       runs = ([] ∷ []) ∷ [];
-      dump = record { state = true ∷ []; stored = Some [] };
+      dump = record { state = true ∷ []; stored = Some []; older = None; depth = 1 };
     }
 
 abbrev basis : Basis
@@ -76,6 +77,10 @@ other_trace : first_failing crash basis (record report { inputs = [] }) ≡ Some
 unfolding computed
 other_trace = refl
 
+other_depth : first_failing crash basis (record report { depth = 2 }) ≡ Some parts.Format
+unfolding computed
+other_depth = refl
+
 no_retire : first_failing crash basis (record report { log = lines.Solve ∷ [] }) ≡ Some (parts.Log 2 order)
 unfolding computed
 no_retire = refl
@@ -88,7 +93,7 @@ shift =
       nets = 4;
       clock = net 0;
       inputs = net 1 ∷ [];
-      flops = record { q = net 2; d = net 1; ck = net 0; reset = false } ∷ record { q = net 3; d = net 2; ck = net 0; reset = false } ∷ [];
+      flops = record { q = net 2; d = net 1; ck = net 0; reset = false; mode = Plain } ∷ record { q = net 3; d = net 2; ck = net 0; reset = false; mode = Plain } ∷ [];
       gates = [];
       constants = [];
     }
@@ -100,9 +105,9 @@ abbrev shift_crash : Crash
 shift_crash =
     record {
       circuit = shift;
-      choice = record { width = 2; items = (1 ∷ []) ∷ [] };
+      choice = record { width = 2; depth = 1; items = (1 ∷ []) ∷ [] };
       runs = (one ∷ one ∷ one ∷ []) ∷ [];
-      dump = record { state = true ∷ true ∷ []; stored = Some one };
+      dump = record { state = true ∷ true ∷ []; stored = Some one; older = None; depth = 1 };
     }
 
 abbrev step_to : List Bool → Bool → List Bool → ℕ → Step
@@ -110,7 +115,8 @@ step_to present stored state cycle =
     record {
       present = present;
       stored = stored ∷ [];
-      cands = record { state = state; input = one } ∷ [];
+      older = None;
+      cands = record { state = state; input = one; before = None } ∷ [];
       end = ends.Finished 0;
       hit = Some (record { run = 1; cycle = cycle; state = state });
     }
@@ -138,6 +144,6 @@ goes_through = refl
 goes_under : trace_inputs shift_steps ≡ one ∷ one ∷ one ∷ []
 goes_under = refl
 
-lists_one : predecessors shift (record { width = 2; items = (1 ∷ []) ∷ [] }) (true ∷ true ∷ []) (one ∷ []) ≡ (true ∷ true ∷ []) ∷ []
+lists_one : predecessors shift (record { width = 2; depth = 1; items = (1 ∷ []) ∷ [] }) (true ∷ true ∷ []) (one ∷ []) ≡ (true ∷ true ∷ []) ∷ []
 unfolding computed
 lists_one = refl

@@ -2,6 +2,7 @@ pub mod SortedLemmas
 pub mod ProgressLemmas
 pub mod ExecutionLemmas
 pub mod EndLemmas
+pub mod BeforeLemmas
 pub mod ValidLemmas
 pub mod WholeLemmas
 pub mod GoodLemmas

@@ -2,7 +2,7 @@
 use Rattle.std.proofs.Common.{◌≡◌, ◌≢◌, ℕ, suc, zero, ◌<◌, ◌≤◌, ◌+◌, ◌-◌, Bool, true, false, List, [], ◌∷◌, ◌++◌, map, length, get_or, refl, ap}
 use Rattle.std.proofs.Common.{subst, sym, ◌∙◌, Option, Some, None, arith}
 use Rattle.std.specs.Prelude.{slice_get, option_map, not, ◌&&◌, ◌||◌, ◌==◌, nat_le, if◌then◌else◌}
-use Rattle.std.specs.Option.{IsSomeAnd}
+use Rattle.std.specs.Option.{IsSomeAnd, option_to_list}
 use Rattle.std.specs.List.{AllByRecursion as Each, range_with_len, last_or}
 use Rattle.std.specs.Ordering.{is_lt, bool_cmp}
 use Rattle.std.specs.Cmp.Lexicographic.{slice_cmp, pointwise_decides}
@@ -13,8 +13,9 @@ use Rattle.bs_bits.specs.Bits.{bits_eq}
 use Rattle.bs_net.proofs.NextLemmas.{bits_eq_Decides}
 use Rattle.bs_net.specs.Circuit.{all_bits}
 use Rattle.bs_scan.specs.Moments.{is_listed}
+use Rattle.bs_scan.specs.Choice.{depth_of}
 use Rattle.bs_scan.specs.Present.{Present, present_in}
-use Rattle.bs_scan.specs.Signature.{agrees, some_input_leads, predecessors}
+use Rattle.bs_scan.specs.Signature.{signature, may_hold, agrees, some_input_leads, predecessors}
 use Rattle.bs_scan.proofs.SignatureLemmas.{bits_same}
 use Rattle.bs_log.specs.declared.line.Line.{Line}
 use Rattle.bs_log.specs.declared.why.Why.{Why}
@@ -40,7 +41,7 @@ use Rattle.bs_good.specs.Trace.{trace_states, trace_inputs}
 use Rattle.bs_good.specs.Good.{IsGood}
 use Rattle.bs_good.specs.Valid.{unless, all_bits_eq, due_at, has_state, has_stored, is_right_cand, is_right_count, same_hit, step_parts, log_parts}
 use Rattle.bs_good.specs.Valid.{each_step, parts_of, first_of_all, first_failing, is_cause, cause_of, cause_at, cause_after, cause_of_end}
-use Rattle.bs_good.specs.Valid.{stop_number, cand_at, no_cand, lines_at, IsLogged, IsValid}
+use Rattle.bs_good.specs.Valid.{stop_number, cand_at, no_cand, lines_at, HaveBefores, NamesBefores, IsLogged, IsValid}
 use Rattle.bs_good.specs.ValidLaw.{GoodIsValid}
 use Rattle.bs_good.proofs.ProgressLemmas.{all_at, hit_at}
 use Rattle.bs_good.proofs.ExecutionLemmas.{leads_next, led_widths}
@@ -107,7 +108,11 @@ no_part o e = ap (option_map (λ (x : ℕ × Why). parts.Log x.0 x.1)) e
 pub valid_of_right : (crash : Crash) (basis : Basis) (r : Report) → AllIsRight crash basis r → IsValid crash basis r
 unfolding first_failing
 valid_of_right crash basis r h =
-    none_there (parts_of crash basis r) (each_joined IsRight (each_step (step_parts crash r) 0 r.steps) others steps_right others_right)
+    none_there (parts_of crash basis r) (
+      right (r.depth == depth_of crash.choice) parts.Format h.format,
+      each_joined IsRight (each_step (step_parts crash r) 0 r.steps) others steps_right
+          others_right,
+    )
   where
     others : List (Option Part)
     others =
@@ -150,13 +155,14 @@ all_same xs = (pointwise_decides bits_eq_Decides xs xs).1 refl
 
 -- ---- a candidate
 
-agrees_where_listed : (crash : Crash) (step : Step) (s : List Bool) → is_listed (asked_of crash step) s ≡ true →
-    agrees crash.circuit crash.choice (stored_of step) s ≡ true
+signature_where_listed : (crash : Crash) (step : Step) (s : List Bool) → is_listed (asked_of crash step) s ≡ true →
+    bits_eq (signature crash.choice s) step.stored ≡ true
 unfolding predecessors
-agrees_where_listed crash step s e =
+signature_where_listed crash step s e =
     let q : List Bool → Bool = λ s. agrees crash.circuit crash.choice (stored_of step) s && some_input_leads crash.circuit s step.present in
-    left (agrees crash.circuit crash.choice (stored_of step) s) (some_input_leads crash.circuit s step.present)
-    (filter_member q s (all_bits (length crash.circuit.flops)) (listed_member s (asked_of crash step) e)).0
+    left (bits_eq (signature crash.choice s) step.stored) (may_hold crash.circuit crash.choice (depth_of crash.choice - 1) (option_to_list step.older) s)
+    (left (agrees crash.circuit crash.choice (stored_of step) s) (some_input_leads crash.circuit s step.present)
+    (filter_member q s (all_bits (length crash.circuit.flops)) (listed_member s (asked_of crash step) e)).0)
   where
     left : (a b : Bool) → (a && b) ≡ true → a ≡ true
     left true b e = refl
@@ -175,9 +181,10 @@ greater_at step asc (suc k) lt =
     (sym (state_at_place step.cands (suc k) [] (omega (arith, lt, long))))
     ∙ ap is_lt (asc k (suc k) [] (omega arith) (omega (arith, lt, long))))))
 
-cand_right : (crash : Crash) → IsCrash crash → (budgets : Budgets) (step : Step) → IsRightStep crash step → length step.cands ≤ budgets.candidates →
-    (j : ℕ) → j < length step.cands → is_right_cand crash budgets step j ≡ true
-cand_right crash is budgets step h few j lt =
+cand_right : (crash : Crash) → IsCrash crash → (budgets : Budgets) (step : Step) → IsRightStep crash step →
+    HaveBefores crash.circuit crash.choice step.older step.cands →
+    length step.cands ≤ budgets.candidates → (j : ℕ) → j < length step.cands → is_right_cand crash budgets step j ≡ true
+cand_right crash is budgets step h befores few j lt =
     let cand = h.candidates j no_cand lt in
     let s : List Bool = (cand_at step j).state in
     let x : List Bool = (cand_at step j).input in
@@ -186,11 +193,13 @@ cand_right crash is budgets step h few j lt =
     (and_from _ _
     (and_from _ _
     (and_from _ _
+    (and_from _ _
     (and_from _ _ (greater_at step h.ascend j lt) (eq-eqb _ _ widths.0))
     (eq-eqb _ _ widths.1))
-    (agrees_where_listed crash step s cand.predecessor))
+    (signature_where_listed crash step s cand.predecessor))
     (ap (λ (t : List Bool). bits_eq t step.present) (leads_next crash.circuit s x step.present is.checked cand.leads) ∙ bits_same step.present))
-    (lt-ltb j budgets.candidates (omega (arith, lt, few)))
+    (lt-ltb j budgets.candidates (omega (arith, lt, few))))
+    (befores j no_cand lt)
 
 -- ---- the end of a list and its hit
 
@@ -213,16 +222,16 @@ same_self : (o : Option HitLine) → same_hit o o ≡ true
 same_self None = refl
 same_self (Some a) = and_from _ _ (and_from _ _ (eq-eqb a.run a.run refl) (eq-eqb a.cycle a.cycle refl)) (bits_same a.state)
 
-step_right : (crash : Crash) (r : Report) → IsCrash crash → IsGood crash r → (k : ℕ) (step : Step) → slice_get r.steps k ≡ Some step →
+step_right : (crash : Crash) (r : Report) → IsCrash crash → IsGood crash r → NamesBefores crash r → (k : ℕ) (step : Step) → slice_get r.steps k ≡ Some step →
     StepIsRight crash r k step
-step_right crash r is good k step e =
+step_right crash r is good names k step e =
     let h = all_at (IsRightStep crash) r.steps k step good.steps e in
     let due : due_at crash r.steps k ≡ Some (present_of step) = due_of crash (Some (present_in crash.dump)) r.steps good.chain.follow k step e in
     let few = within_budget (asked_of crash step) r.budgets.candidates r.budgets.conflicts (lines_at r k) step.cands step.end (good.ends k step e) in
     record {
       state = ap (λ (o : Option Present). has_state o step.present) due ∙ bits_same step.present;
       stored = ap (λ (o : Option Present). has_stored o (stored_of step)) due ∙ all_same (stored_of step);
-      cands = cand_right crash is r.budgets step h few;
+      cands = cand_right crash is r.budgets step h (all_at (λ (step : Step). HaveBefores crash.circuit crash.choice step.older step.cands) r.steps k step names.befores e) few;
       count = count_right (asked_of crash step) r.budgets (lines_at r k) step.cands step.end (good.ends k step e);
       hit = ap (λ (o : Option HitLine). same_hit o (hit_of crash step.cands)) h.hit ∙ same_self (hit_of crash step.cands);
     }
@@ -326,10 +335,11 @@ log_right : (basis : Basis) (r : Report) → IsLogged basis r → (k : ℕ) (ste
 log_right basis r logged k step e = (right _ (parts.Blocks (k + 1)) (logged.blocks k step e), (right _ (parts.Ended (k + 1)) (logged.finish k step e), tt))
 
 pub good_is_valid : GoodIsValid
-good_is_valid crash basis r is good logged =
+good_is_valid crash basis r is good names logged =
     valid_of_right crash basis r
     (record {
-      steps = step_right crash r is good;
+      format = eq-eqb r.depth (depth_of crash.choice) names.depth;
+      steps = step_right crash r is good names;
       few = le-leb (length r.steps) r.budgets.steps good.chain.few;
       cause = is_the_cause r.stop (cause_of crash r.budgets r.steps)
           (cause_due crash r.budgets r.steps (recursion_from_All (IsRightStep crash) r.steps good.steps) r.stop good.stop);

@@ -1,5 +1,5 @@
 -- Each later finished step hits earlier.
-use Rattle.std.proofs.Common.{◌≡◌, ℕ, suc, zero, ◌<◌, ◌+◌, ◌-◌, Bool, true, List, [], ◌∷◌, length, get_or, refl, ap, subst, sym, ◌∙◌, ◌⊎◌, inl, inr}
+use Rattle.std.proofs.Common.{◌≡◌, ℕ, suc, zero, ◌<◌, ◌≤◌, ◌+◌, ◌-◌, Bool, true, List, [], ◌∷◌, length, get_or, refl, ap, subst, sym, ◌∙◌, ◌⊎◌, inl, inr}
 use Rattle.std.proofs.Common.{Option, Some, None, arith, add-one}
 use Rattle.std.specs.Prelude.{slice_get, option_map, MatchOption, All}
 use Rattle.std.specs.List.{AllByRecursion as Each}
@@ -7,10 +7,12 @@ use Rattle.std.proofs.lemmas.List.Elements.{recursion_from_All}
 use Rattle.bs_net.specs.Circuit.{Circuit}
 use Rattle.bs_scan.specs.declared.moment.Moment.{Moment}
 use Rattle.bs_scan.specs.Moments.{Run, IsMoment, run_of, state_at, state_of, is_listed, first_moment}
-use Rattle.bs_scan.specs.Signature.{stored_at, predecessors}
+use Rattle.bs_scan.specs.Choice.{Chosen, depth_of}
+use Rattle.bs_scan.specs.Signature.{signatures_before, stored_at, predecessors}
 use Rattle.bs_scan.specs.Law.{IsBefore, IsReached, IsFirstMoment}
 use Rattle.bs_scan.proofs.MomentLemmas.{first_is_least}
 use Rattle.bs_scan.proofs.SignatureLemmas.{came_from}
+use Rattle.bs_scan.proofs.CrashLemmas.{depth_is}
 use Rattle.bs_log.specs.declared.line.Line.{Line}
 use Rattle.bs_log.specs.Steps.{steps_of}
 use Rattle.bs_report.specs.declared.report.HitLine.{HitLine}
@@ -57,20 +59,28 @@ pub record HitBelow (crash : Crash) (step : Step) (cycle : ℕ) : Type 0 where
   pub first : first_moment crash.circuit crash.runs (listed step.cands) ≡ Some moment
   pub below : moment.cycle < cycle
 
+-- the register holds nothing at reset
+pub none_at_reset : (c : Circuit) (choice : Chosen) (run : Run) (count : ℕ) → signatures_before c choice run count 0 ≡ []
+none_at_reset c choice run zero = refl
+none_at_reset c choice run (suc count) = refl
+
 -- the list of the step has the state one cycle earlier
 earlier_hit : (crash : Crash) → IsCrash crash → (run cycle : ℕ) (later : Step) → IsMoment crash.runs (record { run = run; cycle = cycle }) →
     state_at crash.circuit (run_of crash.runs run) cycle ≡ later.present →
     stored_at crash.circuit crash.choice (run_of crash.runs run) cycle ≡ stored_of later →
     listed later.cands ≡ asked_of crash later → HitBelow crash later cycle
-earlier_hit crash is run zero later im st sg all = cc
+earlier_hit crash is run zero later im st sg all =
+    let none : [] ≡ stored_of later = sym (none_at_reset crash.circuit crash.choice (run_of crash.runs run) (depth_of crash.choice)) ∙ sg in
+    cc
 earlier_hit crash is run (suc k) later im st sg all =
     let c : Circuit = crash.circuit in
     let line : Run = run_of crash.runs run in
     let before : Moment = record { run = run; cycle = k } in
     let here : IsMoment crash.runs before = record { from_one = im.from_one; recorded = im.recorded; lasts = omega (arith, im.lasts) } in
-    let width : length (get_or line k []) ≡ length c.inputs = is.inputs (run - 1) [] (omega (arith, im.from_one, im.recorded)) k [] (omega (arith, im.lasts)) in
+    let widths : (j : ℕ) → j ≤ k → length (get_or line j []) ≡ length c.inputs =
+    λ j le. is.inputs (run - 1) [] (omega (arith, im.from_one, im.recorded)) j [] (omega (arith, im.lasts, le)) in
     let come : is_listed (predecessors c crash.choice (state_at c line (suc k)) (stored_at c crash.choice line (suc k))) (state_at c line k) ≡ true =
-    came_from c crash.choice line k width in
+    came_from c crash.choice line k (depth_is c crash.choice crash.dump is.fits) widths in
     let asked : is_listed (asked_of crash later) (state_at c line k) ≡ true =
     subst (λ (p : List Bool). is_listed (predecessors c crash.choice p (stored_of later)) (state_at c line k) ≡ true) st
     (subst (λ (t : List (List Bool)). is_listed (predecessors c crash.choice (state_at c line (suc k)) t) (state_at c line k) ≡ true) sg come) in

@@ -28,8 +28,10 @@ use Rattle.std.specs.Cmp.Lexicographic.{slice_cmp}
 use Rattle.std.proofs.lemmas.List.{get_or_default}
 use Rattle.bs_net.specs.Circuit.{next}
 use Rattle.bs_net.proofs.NextLemmas.{next_is_led}
-use Rattle.bs_scan.specs.Signature.{agrees}
+use Rattle.bs_scan.specs.Choice.{depth_of}
+use Rattle.bs_scan.specs.Signature.{signature, agrees}
 use Rattle.bs_scan.proofs.SignatureLemmas.{bits_same_is, is_predecessor}
+use Rattle.bs_scan.proofs.CrashLemmas.{depth_is}
 use Rattle.bs_log.specs.declared.why.Why.{Why}
 use Rattle.bs_log.specs.FirstRefused.{first_refused}
 use Rattle.bs_good.specs.declared.part.Part.{Part}
@@ -52,7 +54,8 @@ use Rattle.bs_good.specs.Trace.{IsTrace, trace_states, trace_inputs}
 use Rattle.bs_log.specs.Shown.{Basis}
 use Rattle.bs_good.specs.Valid.{unless, all_bits_eq, due_at, has_state, has_stored, is_right_cand, is_right_count, same_hit, step_parts, log_parts}
 use Rattle.bs_good.specs.Valid.{each_step, parts_of, first_of_all, first_failing, is_cause, cause_of, cause_at, cause_after, cause_of_end}
-use Rattle.bs_good.specs.Valid.{stop_number, IsValid, cand_at, no_cand, is_right_finish, lines_at}
+use Rattle.bs_good.specs.Valid.{stop_number, IsValid, cand_at, no_cand, is_right_before, is_right_finish, lines_at}
+use Rattle.bs_good.proofs.BeforeLemmas.{agrees_where_right}
 
 abbrev pub IsRight : Option Part → Type 0
 IsRight part = part ≡ None
@@ -131,6 +134,7 @@ step_is_right crash r i step h =
 
 -- what is right of the whole report
 pub record AllIsRight (crash : Crash) (basis : Basis) (r : Report) : Type 0 where
+  pub format : (r.depth == depth_of crash.choice) ≡ true
   pub steps : (k : ℕ) (step : Step) → slice_get r.steps k ≡ Some step → StepIsRight crash r k step
   pub few : nat_le (length r.steps) r.budgets.steps ≡ true
   pub cause : is_cause r.stop (cause_of crash r.budgets r.steps) ≡ true
@@ -153,13 +157,14 @@ all_is_right crash basis r valid =
     unless (all_bits_eq r.states (trace_states crash.dump.state r.steps) && all_bits_eq r.inputs (trace_inputs r.steps)) parts.Trace ∷
     option_map (λ refused. parts.Log refused.0 refused.1) (first_refused basis.problem r.log) ∷
     each_step (log_parts basis r) 0 r.steps in
-    let front : Each IsRight steps = each_left IsRight steps others all in
-    let back : Each IsRight others = each_right IsRight steps others all in
+    let front : Each IsRight steps = each_left IsRight steps others all.1 in
+    let back : Each IsRight others = each_right IsRight steps others all.1 in
     let stop = both (nat_le (length r.steps) r.budgets.steps) (is_cause r.stop (cause_of crash r.budgets r.steps))
     (holds (nat_le (length r.steps) r.budgets.steps && is_cause r.stop (cause_of crash r.budgets r.steps)) parts.Stop back.0) in
     let trace = both (all_bits_eq r.states (trace_states crash.dump.state r.steps)) (all_bits_eq r.inputs (trace_inputs r.steps))
     (holds (all_bits_eq r.states (trace_states crash.dump.state r.steps) && all_bits_eq r.inputs (trace_inputs r.steps)) parts.Trace back.1.0) in
     record {
+      format = holds (r.depth == depth_of crash.choice) parts.Format all.0;
       steps = λ k step e. step_is_right crash r k step (at_step (step_parts crash r) 0 r.steps front k k step e (omega arith));
       few = stop.0;
       cause = stop.1;
@@ -331,24 +336,27 @@ pub record CandIsRight (crash : Crash) (budgets : Budgets) (step : Step) (j : �
   pub greater : ((j == 0) || is_lt (slice_cmp bool_cmp (cand_at step (j - 1)).state (cand_at step j).state)) ≡ true
   pub state : length (cand_at step j).state ≡ length crash.circuit.flops
   pub input : length (cand_at step j).input ≡ length crash.circuit.inputs
-  pub agree : agrees crash.circuit crash.choice (stored_of step) (cand_at step j).state ≡ true
+  pub signature : bits_eq (signature crash.choice (cand_at step j).state) step.stored ≡ true
   pub leads : next crash.circuit (cand_at step j).state (cand_at step j).input ≡ step.present
   pub within : j < budgets.candidates
+  pub before : is_right_before crash.circuit crash.choice step.older (cand_at step j).state (cand_at step j).before ≡ true
 
 pub cand_is : (crash : Crash) (budgets : Budgets) (step : Step) (j : ℕ) → is_right_cand crash budgets step j ≡ true → CandIsRight crash budgets step j
 cand_is crash budgets step j e =
-    let a = both _ (nat_lt j budgets.candidates) e in
+    let g = both _ (is_right_before crash.circuit crash.choice step.older (cand_at step j).state (cand_at step j).before) e in
+    let a = both _ (nat_lt j budgets.candidates) g.0 in
     let b = both _ (bits_eq (next crash.circuit (cand_at step j).state (cand_at step j).input) step.present) a.0 in
-    let c = both _ (agrees crash.circuit crash.choice (stored_of step) (cand_at step j).state) b.0 in
+    let c = both _ (bits_eq (signature crash.choice (cand_at step j).state) step.stored) b.0 in
     let d = both _ (length (cand_at step j).input == length crash.circuit.inputs) c.0 in
     let f = both _ (length (cand_at step j).state == length crash.circuit.flops) d.0 in
     record {
       greater = f.0;
       state = eqb-true _ _ f.1;
       input = eqb-true _ _ d.1;
-      agree = c.1;
+      signature = c.1;
       leads = bits_same_is _ _ b.1;
       within = ltb-true _ _ a.1;
+      before = g.1;
     }
 
 pub cands_are : (crash : Crash) → IsCrash crash → (budgets : Budgets) (step : Step) →
@@ -358,9 +366,12 @@ cands_are crash is budgets step h k d lt =
     let right = cand_is crash budgets step k (h k lt) in
     let s : List Bool = (cand_at step k).state in
     let x : List Bool = (cand_at step k).input in
+    let agree : agrees crash.circuit crash.choice (stored_of step) s ≡ true =
+    agrees_where_right crash.circuit crash.choice step.stored step.older s (cand_at step k).before
+    (depth_is crash.circuit crash.choice crash.dump is.fits) right.signature right.before in
     subst (IsCandidate crash.circuit crash.choice step.present (stored_of step)) (get_or_default step.cands k no_cand d lt)
     (record {
-      predecessor = is_predecessor crash.circuit crash.choice step.present (stored_of step) s x right.state right.input right.agree right.leads;
+      predecessor = is_predecessor crash.circuit crash.choice step.present (stored_of step) s x right.state right.input agree right.leads;
       leads = (next_is_led crash.circuit s x step.present is.checked right.state right.input).1 (sym right.leads);
     })
 

@@ -1,5 +1,6 @@
 -- When a step is right, and when its list has ended rightly.
 use Rattle.std.specs.Prelude.{◌≡◌, ◌<◌, ℕ, Bool, List, [], ◌∷◌, length, map, All, AllPairs, IsTrue, Option, Some, option_map, count_by}
+use Rattle.std.specs.Option.{option_to_list}
 use Rattle.std.specs.Ordering.{bool_cmp}
 use Rattle.std.specs.declared.cmp.Ordering.TheVariants.{Less}
 use Rattle.std.specs.Cmp.Lexicographic.{slice_cmp}
@@ -18,7 +19,7 @@ use Rattle.bs_scan.specs.Crash.{Crash}
 
 -- the stored signatures of a step, the last one first
 abbrev pub stored_of : Step → List (List Bool)
-stored_of step = step.stored ∷ []
+stored_of step = step.stored ∷ option_to_list step.older
 
 -- the states that a list names
 abbrev pub listed : List Cand → List (List Bool)

@@ -1,13 +1,14 @@
 -- When a report is valid: a test by replay of the runs and by the check of its log.
 use Rattle.std.specs.Prelude.{◌≡◌, ℕ, ◌+◌, ◌-◌, ◌==◌, nat_eq, nat_le, nat_lt, Bool, true, false, not, ◌&&◌, ◌||◌, List, [], ◌∷◌, ◌++◌, length, map}
-use Rattle.std.specs.Prelude.{filter_map, Option, Some, None, option_map, if◌then◌else◌, slice_get, slice_index_or}
+use Rattle.std.specs.Prelude.{filter_map, Option, Some, None, option_map, if◌then◌else◌, slice_get, slice_index_or, All, IsTrue}
 use Rattle.std.specs.Option.{option_or}
 use Rattle.std.specs.Ordering.{is_lt, bool_cmp}
 use Rattle.std.specs.Cmp.Lexicographic.{pointwise, slice_cmp}
 use Rattle.std.specs.List.{list_all, list_any, range_with_len, last_or}
 use Rattle.bs_bits.specs.Bits.{bits_eq}
-use Rattle.bs_net.specs.Circuit.{next}
-use Rattle.bs_scan.specs.Signature.{agrees}
+use Rattle.bs_net.specs.Circuit.{Circuit, next, reset_state}
+use Rattle.bs_scan.specs.Choice.{Chosen, depth_of}
+use Rattle.bs_scan.specs.Signature.{signature}
 use Rattle.bs_clause.specs.Literal.{Literal, Clause, negation, same_literal}
 use Rattle.bs_log.specs.declared.line.Line.{Line}
 use Rattle.bs_log.specs.History.{guard_of}
@@ -15,6 +16,7 @@ use Rattle.bs_log.specs.Refusal.{assumptions_of, IsAccepted}
 use Rattle.bs_log.specs.FirstRefused.{first_refused}
 use Rattle.bs_log.specs.Shown.{Basis}
 use Rattle.bs_log.specs.Steps.{steps_of, last_solve, is_spent, block_of_line, finish_of_line}
+use Rattle.bs_report.specs.declared.report.Before.{Before}
 use Rattle.bs_report.specs.declared.report.Cand.{Cand}
 use Rattle.bs_report.specs.declared.report.HitLine.{HitLine}
 use Rattle.bs_report.specs.declared.report.ListEnd.{ListEnd}
@@ -54,21 +56,34 @@ has_stored None stored = false
 has_stored (Some due) stored = all_bits_eq stored due.stored
 
 abbrev pub no_cand : Cand
-no_cand = record { state = []; input = [] }
+no_cand = record { state = []; input = []; before = None }
 
 abbrev pub cand_at : Step → ℕ → Cand
 cand_at step j = slice_index_or step.cands j no_cand
 
--- the candidate is greater than the one before, has the widths and the stored signature, leads to the present state, and is
--- within the budget
+-- whether the state before a candidate's state s is right. Where the step has an older signature, one is named, which has the
+-- widths and that signature and leads to s. Where it has none, none is named, and above depth 1 s is the reset state.
+abbrev pub is_right_before : Circuit → Chosen → Option (List Bool) → List Bool → Option Before → Bool
+is_right_before c choice None s None = (depth_of choice == 1) || bits_eq s (reset_state c)
+is_right_before c choice None s (Some before) = false
+is_right_before c choice (Some older) s None = false
+is_right_before c choice (Some older) s (Some before) =
+    (length before.state == length c.flops)
+    && (length before.input == length c.inputs)
+    && bits_eq (signature choice before.state) older
+    && bits_eq (next c before.state before.input) s
+
+-- the candidate is greater than the one before, has the widths and the stored signature, leads to the present state, is within
+-- the budget, and has the right state before it
 abbrev pub is_right_cand : Crash → Budgets → Step → ℕ → Bool
 is_right_cand crash budgets step j =
     ((j == 0) || is_lt (slice_cmp bool_cmp (cand_at step (j - 1)).state (cand_at step j).state))
     && (length (cand_at step j).state == length crash.circuit.flops)
     && (length (cand_at step j).input == length crash.circuit.inputs)
-    && agrees crash.circuit crash.choice (stored_of step) (cand_at step j).state
+    && bits_eq (signature crash.choice (cand_at step j).state) step.stored
     && bits_eq (next crash.circuit (cand_at step j).state (cand_at step j).input) step.present
     && nat_lt j budgets.candidates
+    && is_right_before crash.circuit crash.choice step.older (cand_at step j).state (cand_at step j).before
 
 abbrev pub is_right_count : Budgets → ListEnd → ℕ → Bool
 is_right_count budgets ByCandidates count = count == budgets.candidates
@@ -164,6 +179,7 @@ each_step rule i (step ∷ steps) = rule i step ++ each_step rule (i + 1) steps
 
 abbrev pub parts_of : Crash → Basis → Report → List (Option Part)
 parts_of crash basis r =
+    unless (r.depth == depth_of crash.choice) parts.Format ∷
     each_step (step_parts crash r) 0 r.steps
     ++ (unless (nat_le (length r.steps) r.budgets.steps && is_cause r.stop (cause_of crash r.budgets r.steps)) parts.Stop ∷
     unless (all_bits_eq r.states (trace_states crash.dump.state r.steps) && all_bits_eq r.inputs (trace_inputs r.steps)) parts.Trace ∷
@@ -181,6 +197,15 @@ first_failing crash basis r = first_of_all (parts_of crash basis r)
 -- no part fails
 abbrev pub IsValid : Crash → Basis → Report → Type 0
 IsValid crash basis r = first_failing crash basis r ≡ None
+
+-- the state before each candidate is right, where this is the step's older signature
+abbrev pub HaveBefores : Circuit → Chosen → Option (List Bool) → List Cand → Type 0
+HaveBefores c choice older cands = All (λ cand. IsTrue (is_right_before c choice older cand.state cand.before)) cands
+
+-- The report is of the depth of the signature, and names the right state before each candidate.
+pub record NamesBefores (crash : Crash) (r : Report) : Type 0 where
+  pub depth : r.depth ≡ depth_of crash.choice
+  pub befores : All (λ step. HaveBefores crash.circuit crash.choice step.older step.cands) r.steps
 
 -- The log is accepted, and to each step it has the blocks and the finish lines that the step's list owes.
 pub record IsLogged (basis : Basis) (r : Report) : Type 0 where

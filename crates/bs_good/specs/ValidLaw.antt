@@ -8,7 +8,7 @@ use Rattle.bs_report.specs.declared.report.Report.{Report}
 use Rattle.bs_scan.specs.Crash.{Crash, IsCrash}
 use Rattle.bs_good.specs.Step.{stored_of}
 use Rattle.bs_good.specs.Good.{IsGood}
-use Rattle.bs_good.specs.Valid.{IsLogged, IsValid}
+use Rattle.bs_good.specs.Valid.{NamesBefores, IsLogged, IsValid}
 
 -- The clauses and the steps' assumptions are those of the netlist: each predecessor is shown.
 pub record IsEncoded (crash : Crash) (basis : Basis) (steps : List Step) : Type 0 where
@@ -24,4 +24,4 @@ ValidIsGood =
 
 abbrev pub GoodIsValid : Type 0
 GoodIsValid =
-    (crash : Crash) (basis : Basis) (r : Report) → IsCrash crash → IsGood crash r → IsLogged basis r → IsValid crash basis r
+    (crash : Crash) (basis : Basis) (r : Report) → IsCrash crash → IsGood crash r → NamesBefores crash r → IsLogged basis r → IsValid crash basis r

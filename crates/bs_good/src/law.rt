@@ -18,7 +18,8 @@ pub fn a_valid_report_is_good()
     ensures { ValidIsGood }
 {}
 
-/// A good report is valid, where its log is accepted and has to each step the blocks and the finish lines that are due.
+/// A good report is valid, where it is of the depth of the signature and names the right state before each candidate, and its log
+/// is accepted and has to each step the blocks and the finish lines that are due.
 pub fn a_good_report_is_valid()
     ensures { GoodIsValid }
 {}

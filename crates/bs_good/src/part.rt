@@ -5,12 +5,14 @@ use bs_log::Why;
 /// The first part of a report that fails. Steps, candidates and log lines count from 1.
 #[derive(Clone, Copy, Debug, PartialEq, Eq)]
 pub enum Part {
+    /// The report is not of the depth of the signature.
+    Format,
     /// The present state of this step is not the one to go back from.
     Present(u64),
-    /// The stored signature of this step is not the one on the chip.
+    /// The stored signature of this step, or the older one, is not the one on the chip.
     Stored(u64),
-    /// In this step, this candidate: it does not ascend, has another width or signature, does not lead to the present state, or is
-    /// one too many.
+    /// In this step, this candidate: it does not ascend, has another width or signature, does not lead to the present state, is one
+    /// too many, or the state before it is not right.
     Candidate(u64, u64),
     /// The list of this step ends by its count with fewer candidates than were asked for, or otherwise with as many.
     Listed(u64),

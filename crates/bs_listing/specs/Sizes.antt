@@ -82,17 +82,21 @@ most_readers r = greatest (fan_outs r)
 abbrev pub most_inputs : List Gate → ℕ
 most_inputs gates = greatest (map (λ g. length g.ins) gates)
 
--- the flip-flops and ports
+-- the flip-flops, and those of each cell
+unfoldable pub flops_told : List Flop → List ℕ
+flops_told flops =
+    number_line (codes "flops ") (length flops)
+    ++ (number_line (codes "dff ") (dff_count flops)
+    ++ (number_line (codes "dffs ") (dffs_count flops)
+    ++ (number_line (codes "dffe ") (dffe_count flops)
+    ++ number_line (codes "dffr ") (dffr_count flops))))
+
+-- the ports and nets
 unfoldable pub ports_told : Parts → List ℕ
 ports_told r =
-    number_line (codes "flops ") (length r.flops)
-    ++ (number_line (codes "dff ") (dff_count r.flops)
-    ++ (number_line (codes "dffs ") (dffs_count r.flops)
-    ++ (number_line (codes "dffe ") (dffe_count r.flops)
-    ++ (number_line (codes "dffr ") (dffr_count r.flops)
-    ++ (number_line (codes "inputs ") (length (circuit_of r).inputs)
+    number_line (codes "inputs ") (length (circuit_of r).inputs)
     ++ (number_line (codes "outputs ") (length r.outputs)
-    ++ number_line (codes "nets ") (length r.names)))))))
+    ++ number_line (codes "nets ") (length r.names))
 
 -- the gates, and those of each kind
 unfoldable pub tables_told : List Gate → List ℕ
@@ -118,7 +122,7 @@ depths_told r levels =
     ++ number_line (codes "fanout ") (most_readers r))
 
 abbrev pub stats_told : Parts → List ℕ → List ℕ
-stats_told r levels = ports_told r ++ (tables_told r.gates ++ (parities_told r.gates ++ depths_told r levels))
+stats_told r levels = flops_told r.flops ++ (ports_told r ++ (tables_told r.gates ++ (parities_told r.gates ++ depths_told r levels)))
 
 -- the text tells the sizes; the depth is the greatest level of a net
 pub record TellsSizes (r : Parts) (text : List ℕ) : Type 0 where

@@ -2,7 +2,7 @@
 ghost use Rattle.std.specs.Prelude.{◌≡◌, ◌++◌, length, IfOk, OnOk, count_by, map, fold, max, not};
 ghost use Rattle.bs_net.specs.Netlist.{circuit, parts_of};
 ghost use Rattle.bs_net.specs.Parts.{PartsArePlaced};
-ghost use Rattle.bs_listing.specs.Sizes.{TellsSizes, depths_told, dff_count, dffe_count, dffr_count, dffs_count, greatest, has_clear, has_enable, is_kind, is_plain, kind_count, fan_outs, most_inputs, number_line, parities_told, ports_told, stats_told, tables_told};
+ghost use Rattle.bs_listing.specs.Sizes.{TellsSizes, depths_told, dff_count, dffe_count, dffr_count, dffs_count, flops_told, greatest, has_clear, has_enable, is_kind, is_plain, kind_count, fan_outs, most_inputs, number_line, parities_told, ports_told, stats_told, tables_told};
 
 use crate::mark::Measure;
 use crate::marking::marks;
@@ -109,18 +109,24 @@ fn most_inputs(gates: &[Gate]) -> usize
     most
 }
 
-/// Appends the lines of the flip-flops and ports.
+/// Appends the lines of the flip-flops.
+#[tactic(auto, unfolding(crate::specs::Sizes::flops_told))]
+fn push_cells(text: &mut Vec<u8>, flops: &[Flop]) -> Result<(), NoMemory>
+    ensures { OnOk result (text.new.items ≡ text.old.items ++ flops_told flops.now) }
+{
+    push_number_line(text, b"flops ", flops.len() as u64)?;
+    push_number_line(text, b"dff ", dff_count(flops) as u64)?;
+    push_number_line(text, b"dffs ", dffs_count(flops) as u64)?;
+    push_number_line(text, b"dffe ", dffe_count(flops) as u64)?;
+    push_number_line(text, b"dffr ", dffr_count(flops) as u64)
+}
+
+/// Appends the lines of the ports and nets.
 #[tactic(auto, unfolding(crate::specs::Sizes::ports_told))]
 fn push_ports(text: &mut Vec<u8>, net: &Netlist) -> Result<(), NoMemory>
     ensures { OnOk result (text.new.items ≡ text.old.items ++ ports_told net.now.raw) }
 {
     let raw = net.raw();
-    let flops = raw.flops.slice();
-    push_number_line(text, b"flops ", flops.len() as u64)?;
-    push_number_line(text, b"dff ", dff_count(flops) as u64)?;
-    push_number_line(text, b"dffs ", dffs_count(flops) as u64)?;
-    push_number_line(text, b"dffe ", dffe_count(flops) as u64)?;
-    push_number_line(text, b"dffr ", dffr_count(flops) as u64)?;
     push_number_line(text, b"inputs ", net.data_inputs().len() as u64)?;
     push_number_line(text, b"outputs ", raw.outputs.len() as u64)?;
     push_number_line(text, b"nets ", u64::from(raw.names.len()))
@@ -183,6 +189,7 @@ fn push_stats(
     ensures { OnOk result (text.new.items ≡ text.old.items ++ stats_told net.now.raw levels.now) }
 {
     let raw = net.raw();
+    push_cells(text, raw.flops.slice())?;
     push_ports(text, net)?;
     push_tables(text, raw.gates.slice())?;
     push_parities(text, raw.gates.slice())?;

@@ -72,9 +72,10 @@ fn a_log_keeps_its_lines(rt: HostRuntime) -> Result<(), Fail> {
     let alloc = rt.alloc();
     let mut log = Log::new(alloc);
     log.push(Line::Solve)?;
-    log.push(Line::Retire { id: 8 })?;
-    assert_eq!(rt; log.len(), 2);
-    assert!(rt; matches!(log.get(1), Line::Retire { id: 8 }));
+    log.push_two(Line::Finish { id: 7 }, Line::Retire { id: 8 })?;
+    assert_eq!(rt; log.len(), 3);
+    assert!(rt; matches!(log.get(1), Line::Finish { id: 7 }));
+    assert!(rt; matches!(log.get(2), Line::Retire { id: 8 }));
     Ok(())
 }
 

@@ -11,10 +11,12 @@ use Rattle.bs_log.specs.Steps.{steps_of}
 use Rattle.bs_log.specs.Lean.{IsLean}
 use Rattle.bs_log.specs.Refusal.{assumptions_of, history_of, IsAccepted}
 use Rattle.bs_scan.specs.declared.dump.Dump.{Dump}
+use Rattle.bs_scan.specs.Choice.{depth_of}
 use Rattle.bs_scan.specs.Crash.{Recording, IsRecording, Crash, crash_of, DumpFits}
 use Rattle.bs_scan.proofs.CrashLemmas.{crash_is}
 use Rattle.bs_encode.specs.Tables.{lit}
-use Rattle.bs_encode.specs.Assuming.{assumptions_for, steps_from, problem_of, basis_of}
+use Rattle.bs_encode.specs.Assuming.{assumptions_for, steps_from, problem_of}
+use Rattle.bs_encode.specs.Depth.{basis_of}
 use Rattle.bs_encode.proofs.AssumingLemmas.{assumptions_at}
 use Rattle.bs_scan.specs.Present.{Present}
 use Rattle.bs_report.specs.declared.report.Step.{Step}
@@ -34,6 +36,7 @@ use Rattle.bs_loop.specs.Way.{HasEnded}
 -- the report of a way that has ended
 pub record IsReportOf (crash : Crash) (budgets : Budgets) (s : PreimageState) (r : Report) : Type 0 where
   pub ended : HasEnded crash budgets r.steps s r.stop
+  pub depth : r.depth ≡ depth_of crash.choice
   pub asked : r.budgets ≡ budgets
   pub trace : IsTrace crash r
   pub log : history_of r.log ≡ s.history
@@ -73,7 +76,7 @@ problem_is crash budgets s r of = ap (λ (p : PreimageState). p.problem) of.ende
 
 pub is_logged : (crash : Crash) (budgets : Budgets) (s : PreimageState) (r : Report) → IsReportOf crash budgets s r →
     (s.failed ≡ false → IsAccepted s.problem r.log) →
-    IsLogged (basis_of crash.circuit crash.choice.items (map present_of r.steps)) r
+    IsLogged (basis_of crash.circuit crash.choice (map present_of r.steps)) r
 is_logged crash budgets s r of accepted =
     record {
       accepted =
@@ -93,10 +96,10 @@ is_lean crash budgets s r of lean =
 
 pub is_valid : (r : Recording) (dump : Dump) (budgets : Budgets) (s : PreimageState) (report : Report) → IsRecording r →
     DumpFits r.circuit r.choice dump → IsReportOf (crash_of r dump) budgets s report →
-    (s.failed ≡ false → IsAccepted s.problem report.log) → IsValid (crash_of r dump) (basis_of r.circuit r.choice.items (map present_of report.steps)) report
+    (s.failed ≡ false → IsAccepted s.problem report.log) → IsValid (crash_of r dump) (basis_of r.circuit r.choice (map present_of report.steps)) report
 is_valid r dump budgets s report sound fits of accepted =
-    good_is_valid (crash_of r dump) (basis_of r.circuit r.choice.items (map present_of report.steps)) report (crash_is r dump sound fits)
-    (is_good (crash_of r dump) budgets s report of) (is_logged (crash_of r dump) budgets s report of accepted)
+    good_is_valid (crash_of r dump) (basis_of r.circuit r.choice (map present_of report.steps)) report (crash_is r dump sound fits)
+    (is_good (crash_of r dump) budgets s report of) (record { depth = of.depth; befores = of.ended.made.befores }) (is_logged (crash_of r dump) budgets s report of accepted)
 
 pub has_bound : (crash : Crash) (budgets : Budgets) (s : PreimageState) (r : Report) → IsReportOf crash budgets s r →
     HasBound (problem_of (encoding_in crash) (map present_of r.steps)) r

@@ -1,7 +1,8 @@
 -- One more step of a backtrace.
-use Rattle.std.proofs.Common.{◌≡◌, ℕ, suc, zero, ◌+◌, ◌-◌, ◌<◌, ◌^◌, Bool, true, Option, List, [], ◌∷◌, ◌++◌, map, length, reverse, ap, subst, sym}
+use Rattle.std.proofs.Common.{◌≡◌, ℕ, suc, zero, ◌+◌, ◌-◌, ◌<◌, ◌^◌, Bool, true, Option, List, [], ◌∷◌, ◌++◌, map, length, reverse, refl, ap, subst, sym}
 use Rattle.std.proofs.Common.{◌∙◌, Some, arith}
 use Rattle.std.specs.Prelude.{slice_get, slice_index_or}
+use Rattle.std.specs.Option.{option_to_list}
 use Rattle.std.proofs.lemmas.List.{length-append, length-map, map-append}
 use Rattle.std.proofs.lemmas.List.Elements.{All-append, All-from_recursion}
 use Rattle.bs_clause.specs.UnitRun.{IsUnitRun}
@@ -10,9 +11,10 @@ use Rattle.bs_clause.specs.Range.{HasVariables}
 use Rattle.bs_log.specs.declared.line.Line.{Line}
 use Rattle.bs_log.specs.Steps.{steps_of}
 use Rattle.bs_scan.specs.declared.dump.Dump.{Dump}
+use Rattle.bs_scan.specs.Choice.{depth_of}
 use Rattle.bs_scan.specs.Dump.{signatures_of}
 use Rattle.bs_scan.specs.Present.{Present, present_in}
-use Rattle.bs_scan.specs.Crash.{Recording, Crash, crash_of}
+use Rattle.bs_scan.specs.Crash.{Recording, Crash, crash_of, DumpFits}
 use Rattle.bs_chip.specs.declared.replay.Hit.{Hit}
 use Rattle.bs_encode.specs.Tables.{lit}
 use Rattle.bs_encode.specs.Assuming.{assumptions_for, block_for, steps_from, problem_of}
@@ -20,9 +22,10 @@ use Rattle.bs_encode.proofs.AssumingLemmas.{length_steps_from, steps_from_more}
 use Rattle.bs_report.specs.declared.report.ListEnd.TheVariants.{Conflicts}
 use Rattle.bs_report.specs.declared.report.Step.{Step}
 use Rattle.bs_report.specs.declared.report.Budgets.{Budgets}
+use Rattle.bs_report.specs.Text.{IsOfDepth}
 use Rattle.bs_good.specs.Step.{IsRightStep}
 use Rattle.bs_good.specs.Chain.{present_of}
-use Rattle.bs_good.specs.Valid.{blocks_due, are_right_blocks, blocks_in, is_right_finish, finishes_in}
+use Rattle.bs_good.specs.Valid.{HaveBefores, blocks_due, are_right_blocks, blocks_in, is_right_finish, finishes_in}
 use Rattle.bs_good.proofs.LoopLemmas.{follow_more}
 use Rattle.bs_preimage.specs.declared.listing.Listing.{Listing}
 use Rattle.bs_preimage.specs.Preimage.{PreimageState, next_guard}
@@ -65,15 +68,16 @@ problem_more crash steps step =
 
 step_made : (r : Recording) (dump : Dump) (budgets : Budgets) (steps : List Step) (old new : PreimageState) (now : Dump) (stored : List Bool)
     (listing : Listing) (hit : Option Hit) →
-    HasMade (crash_of r dump) budgets steps old → StandsAt (crash_of r dump) steps now → signatures_of now ≡ stored ∷ [] →
+    HasMade (crash_of r dump) budgets steps old → StandsAt (crash_of r dump) steps now → DumpFits r.circuit r.choice now →
+    signatures_of now ≡ stored ∷ option_to_list now.older →
     HasLookedBack r budgets old new now stored listing hit →
     HasMade (crash_of r dump) budgets (steps ++ step_of now stored listing hit ∷ []) new
-step_made r dump budgets steps old new now stored listing hit made stands held back =
+step_made r dump budgets steps old new now stored listing hit made stands fits held back =
     let crash : Crash = crash_of r dump in
     let step : Step = step_of now stored listing hit in
     let more : List Step = steps ++ step ∷ [] in
-    let l : HasListed (state_after crash steps old.history) new now.state stored budgets.candidates budgets.conflicts listing =
-    subst (λ (s : PreimageState). HasListed s new now.state stored budgets.candidates budgets.conflicts listing) made.state back.listed in
+    let l : HasListed (state_after crash steps old.history) new now.state stored now.older budgets.candidates budgets.conflicts listing =
+    subst (λ (s : PreimageState). HasListed s new now.state stored now.older budgets.candidates budgets.conflicts listing) made.state back.listed in
     let problem : new.problem ≡ problem_of (encoding_in crash) (map present_of more) =
     λ i. record { vars = l.goes_on.vars i; clauses = l.goes_on.clauses i; steps = (l.steps ∙ problem_more crash steps step) i } in
     let calls : new.calls ≡ length more =
@@ -105,6 +109,10 @@ step_made r dump budgets steps old new now stored listing hit made stands held b
       };
       right = All-append (IsRightStep crash) steps (step ∷ []) made.right
           (All-from_recursion (IsRightStep crash) (step ∷ []) (record { ascend = l.ascend; candidates = l.candidates; hit = back.line }, tt));
+      older = All-append (λ (step : Step). IsOfDepth (depth_of crash.choice) step.older) steps (step ∷ []) made.older
+          (All-from_recursion (λ (step : Step). IsOfDepth (depth_of crash.choice) step.older) (step ∷ []) (λ one. fits.sound.alone (fits.depth ∙ one), tt));
+      befores = All-append (λ (step : Step). HaveBefores crash.circuit crash.choice step.older step.cands) steps (step ∷ []) made.befores
+          (All-from_recursion (λ (step : Step). HaveBefores crash.circuit crash.choice step.older step.cands) (step ∷ []) (l.befores, tt));
       follow = follow_more crash (Some (present_in crash.dump)) steps step made.follow (stands ∙ ap Some present);
       count =
           ap length l.step_lines
@@ -118,8 +126,9 @@ step_made r dump budgets steps old new now stored listing hit made stands held b
     }
 
 pub made_more : (r : Recording) (dump : Dump) (budgets : Budgets) (steps : List Step) (old new : PreimageState) (now : Dump) (step : Step) (hit : Option Hit) →
-    HasMade (crash_of r dump) budgets steps old → StandsAt (crash_of r dump) steps now → IsStepBack r budgets old new now step hit →
+    HasMade (crash_of r dump) budgets steps old → StandsAt (crash_of r dump) steps now → DumpFits r.circuit r.choice now →
+    IsStepBack r budgets old new now step hit →
     HasMade (crash_of r dump) budgets (steps ++ step ∷ []) new
-made_more r dump budgets steps old new now step hit made stands is =
+made_more r dump budgets steps old new now step hit made stands fits is =
     subst (λ (s : Step). HasMade (crash_of r dump) budgets (steps ++ s ∷ []) new) (sym is.step_is)
-    (step_made r dump budgets steps old new now is.stored is.listing hit made stands is.held is.back)
+    (step_made r dump budgets steps old new now is.stored is.listing hit made stands fits is.held is.back)

@@ -1,21 +1,25 @@
 -- The ranges that a report's text asks for.
 use Rattle.std.proofs.Common.{◌≡◌, ℕ, suc, zero, ◌-◌, ◌<◌, ◌≤◌, ◌^◌, Bool, true, List, [], ◌∷◌, length, get_or, refl, ap, subst, sym, ◌∙◌, Option}
 use Rattle.std.proofs.Common.{Some, None, arith}
-use Rattle.std.specs.Prelude.{slice_get, slice_index_or, filter_map, nat_eq, All}
+use Rattle.std.specs.Prelude.{slice_get, slice_index_or, filter_map, nat_eq, All, IsTrue}
 use Rattle.std.specs.List.{AllByRecursion as Each, cons_option}
 use Rattle.std.specs.Cmp.Lexicographic.{pointwise, same_text}
 use Rattle.std.proofs.lemmas.Bool.{false≢true}
 use Rattle.std.proofs.lemmas.List.{length-reverse}
-use Rattle.std.proofs.lemmas.List.Elements.{All-from_recursion, All-get_or, recursion_from_All}
+use Rattle.std.proofs.lemmas.List.Elements.{All-from_recursion, All-get_or, All-weaker, recursion_from_All}
 use Rattle.bs_log.specs.declared.line.Line.{Line}
 use Rattle.bs_log.specs.declared.line.Line.TheVariants.{Solve, Lemma, Block, Finish, Retire, Delete}
 use Rattle.bs_log.specs.LineForms.{IsId, HasText}
 use Rattle.bs_log.specs.Steps.{onto_step, steps_of, finish_of_line}
-use Rattle.bs_scan.specs.Crash.{Recording, IsRecording, crash_of}
+use Rattle.bs_net.specs.Circuit.{Circuit}
+use Rattle.bs_scan.specs.Choice.{Chosen, depth_of, IsDepth}
+use Rattle.bs_scan.specs.Crash.{Recording, IsRecording, Crash, crash_of}
 use Rattle.bs_scan.specs.declared.dump.Dump.{Dump}
 use Rattle.bs_scan.proofs.MomentLemmas.{each_from}
 use Rattle.bs_scan.specs.Moments.{Run, run_of}
 use Rattle.bs_report.specs.declared.limits.TheConstants.{MAX_STEPS}
+use Rattle.bs_report.specs.declared.report.Before.{Before}
+use Rattle.bs_report.specs.declared.report.Cand.{Cand}
 use Rattle.bs_report.specs.declared.report.HitLine.{HitLine}
 use Rattle.bs_report.specs.declared.report.ListEnd.{ListEnd}
 use Rattle.bs_report.specs.declared.report.ListEnd.TheVariants.{Finished, Candidates, Conflicts}
@@ -26,8 +30,8 @@ use Rattle.bs_clause.specs.Literal.{Clause}
 use Rattle.bs_encode.specs.Assuming.{assumptions_for}
 use Rattle.bs_good.specs.Chain.{present_of}
 use Rattle.bs_good.specs.Step.{IsRightStep}
-use Rattle.bs_report.specs.Text.{HasEndText, HasHitText, HasStepText, HasReportText}
-use Rattle.bs_good.specs.Valid.{finishes_in, is_right_finish}
+use Rattle.bs_report.specs.Text.{IsOfDepth, HasEndText, HasHitText, HasStepText, HasReportText}
+use Rattle.bs_good.specs.Valid.{is_right_before, HaveBefores, finishes_in, is_right_finish}
 use Rattle.bs_good.proofs.ProgressLemmas.{hit_at, all_at}
 use Rattle.bs_preimage.specs.Preimage.{PreimageState}
 use Rattle.bs_loop.specs.Budget.{IsBudget}
@@ -101,12 +105,33 @@ no_longer f (step ∷ steps) = by (f step) refl (no_longer f steps)
         ap (λ (o : Option (List Bool)). length (cons_option o (filter_map f steps))) e in
         omega (arith, same, less)
 
+no_before : (c : Circuit) (choice : Chosen) (older : Option (List Bool)) (s : List Bool) (before : Option Before) → older ≡ None →
+    is_right_before c choice older s before ≡ true → before ≡ None
+no_before c choice older s None e right = refl
+no_before c choice None s (Some before) e right = absurd (false≢true right)
+no_before c choice (Some older) s (Some before) e right = cc
+
+-- where the depth is 1, no state before a candidate is named
+unnamed : (crash : Crash) (step : Step) (depth : ℕ) → IsOfDepth depth step.older → HaveBefores crash.circuit crash.choice step.older step.cands →
+    All (λ cand. IsOfDepth depth cand.before) step.cands
+unnamed crash step depth older befores =
+    All-weaker (λ (cand : Cand). IsTrue (is_right_before crash.circuit crash.choice step.older cand.state cand.before))
+    (λ (cand : Cand). IsOfDepth depth cand.before)
+    (λ cand right one. no_before crash.circuit crash.choice step.older cand.state cand.before (older one) right) step.cands befores
+
 step_text : (chip : Recording) (dump : Dump) (budgets : Budgets) (s : PreimageState) (r : Report) → IsRecording chip →
     IsReportOf (crash_of chip dump) budgets s r → Each HasText r.log →
-    (i : ℕ) (step : Step) → slice_get r.steps i ≡ Some step → HasStepText step
+    (i : ℕ) (step : Step) → slice_get r.steps i ≡ Some step → HasStepText r.depth step
 step_text chip dump budgets s r sound of texts i step is =
     let lines : List Line = slice_index_or (steps_of r.log) i [] in
+    let crash : Crash = crash_of chip dump in
+    let older : IsOfDepth (depth_of crash.choice) step.older =
+    all_at (λ (step : Step). IsOfDepth (depth_of crash.choice) step.older) r.steps i step of.ended.made.older is in
+    let befores : HaveBefores crash.circuit crash.choice step.older step.cands =
+    all_at (λ (step : Step). HaveBefores crash.circuit crash.choice step.older step.cands) r.steps i step of.ended.made.befores is in
     record {
+      older = λ one. older (sym of.depth ∙ one);
+      befores = unnamed crash step r.depth (λ one. older (sym of.depth ∙ one)) befores;
       list =
           end_text r.budgets.conflicts
           (assumptions_for (encoding_in (crash_of chip dump)) (guard_at (crash_of chip dump) i) (present_of step)) lines step.end (step_texts r.log texts i)
@@ -124,6 +149,7 @@ readable chip dump budgets s r sound range of texts lines =
     let inputs : length r.inputs ≡ length (filter_map input_behind r.steps) = ap length of.trace.inputs ∙ length-reverse (filter_map input_behind r.steps) in
     let fewer : length (filter_map input_behind r.steps) ≤ length r.steps = no_longer input_behind r.steps in
     record {
+      depth = subst IsDepth (sym of.depth) sound.kept;
       some_steps = asked.steps.0;
       max_steps = asked.steps.1;
       some_candidates = asked.candidates.0;
@@ -131,8 +157,8 @@ readable chip dump budgets s r sound range of texts lines =
       some_conflicts = asked.conflicts.0;
       max_conflicts = asked.conflicts.1;
       each_step =
-          All-from_recursion HasStepText r.steps
-          (each_from HasStepText r.steps (step_text chip dump budgets s r sound of (recursion_from_All HasText r.log texts)));
+          All-from_recursion (HasStepText r.depth) r.steps
+          (each_from (HasStepText r.depth) r.steps (step_text chip dump budgets s r sound of (recursion_from_All HasText r.log texts)));
       few_steps = omega (arith, steps, most);
       one_state_more = one_state_more (crash_of chip dump) r (is_good (crash_of chip dump) budgets s r of);
       few_inputs = omega (arith, steps, most, inputs, fewer);

@@ -6,7 +6,7 @@ use Rattle.std.specs.List.{last_or}
 use Rattle.std.proofs.lemmas.Bool.{false≢true, eqb-true}
 use Rattle.std.proofs.lemmas.List.{nil_from_length}
 use Rattle.bs_scan.specs.declared.dump.Dump.{Dump}
-use Rattle.bs_scan.specs.Dump.{signatures_of}
+use Rattle.bs_scan.specs.Dump.{signatures_of, IsDump}
 use Rattle.bs_scan.specs.Present.{Present}
 use Rattle.bs_report.specs.declared.report.Cand.{Cand}
 use Rattle.bs_report.specs.declared.report.ListEnd.{ListEnd}
@@ -50,19 +50,21 @@ stops_unhit crash budgets steps step none = by step.end refl
     by ByConflicts e = last_is (λ (step : Step). (step.hit ≡ None) × (step.end ≡ ByConflicts)) steps step (none, e)
 
 -- at a present without a stored signature
-pub stops_at_reset : (crash : Crash) (budgets : Budgets) (steps : List Step) (now : Dump) → StandsAt crash steps now → now.stored ≡ None →
+pub stops_at_reset : (crash : Crash) (budgets : Budgets) (steps : List Step) (now : Dump) → StandsAt crash steps now → IsDump now → now.stored ≡ None →
     StopsFor crash budgets steps Reset
-stops_at_reset crash budgets steps now stands none =
-    subst (λ (o : Option Present). IsSomeAnd o (λ (p : Present). p.stored ≡ [])) (sym stands) (ap option_to_list none)
+stops_at_reset crash budgets steps now stands sound none =
+    let held : signatures_of now ≡ [] =
+    ap (λ (o : Option (List Bool)). option_to_list o ++ option_to_list now.older) none ∙ ap option_to_list (sound.behind none) in
+    subst (λ (o : Option Present). IsSomeAnd o (λ (p : Present). p.stored ≡ [])) (sym stands) held
 
 -- where all steps are made
-pub stops_here : (crash : Crash) (budgets : Budgets) (steps : List Step) (now : Dump) (stop : Stop) → StandsAt crash steps now → length steps ≡ budgets.steps →
-    MatchOption now.stored (stop ≡ Reset) (λ _. stop ≡ Length) → StopsFor crash budgets steps stop
-stops_here crash budgets steps now stop stands all cause = by now.stored refl cause
+pub stops_here : (crash : Crash) (budgets : Budgets) (steps : List Step) (now : Dump) (stop : Stop) → StandsAt crash steps now → IsDump now →
+    length steps ≡ budgets.steps → MatchOption now.stored (stop ≡ Reset) (λ _. stop ≡ Length) → StopsFor crash budgets steps stop
+stops_here crash budgets steps now stop stands sound all cause = by now.stored refl cause
   where
     by : (o : Option (List Bool)) → now.stored ≡ o → MatchOption o (stop ≡ Reset) (λ _. stop ≡ Length) → StopsFor crash budgets steps stop
-    by None e s = subst (StopsFor crash budgets steps) (sym s) (stops_at_reset crash budgets steps now stands e)
+    by None e s = subst (StopsFor crash budgets steps) (sym s) (stops_at_reset crash budgets steps now stands sound e)
     by (Some t) e s =
-        let held : signatures_of now ≡ t ∷ [] = ap option_to_list e in
+        let held : signatures_of now ≡ t ∷ option_to_list now.older = ap (λ (o : Option (List Bool)). option_to_list o ++ option_to_list now.older) e in
         subst (StopsFor crash budgets steps) (sym s)
-        (all, subst (λ (o : Option Present). IsSomeAnd o (λ (p : Present). p.stored ≢ [])) (sym stands) (λ empty. let h : t ∷ [] ≡ [] = sym held ∙ empty in cc))
+        (all, subst (λ (o : Option Present). IsSomeAnd o (λ (p : Present). p.stored ≢ [])) (sym stands) (λ empty. let h : t ∷ option_to_list now.older ≡ [] = sym held ∙ empty in cc))

@@ -1,6 +1,7 @@
 -- One turn of a backtrace.
 use Rattle.std.proofs.Common.{◌≡◌, inr, Bool, List, [], ◌∷◌, ◌++◌, refl, subst, sym, Option, Some, None}
 use Rattle.std.specs.Prelude.{Result, Ok, Err, IfOk, MatchOption}
+use Rattle.std.specs.Option.{option_to_list}
 use Rattle.bs_scan.specs.declared.dump.Dump.{Dump}
 use Rattle.bs_scan.specs.Crash.{Recording}
 use Rattle.bs_scan.specs.Dump.{signatures_of}
@@ -16,7 +17,7 @@ use Rattle.bs_loop.specs.Turn.{step_of, HasLookedBack, HasStepped, HasStopped}
 -- what a turn has done, where the step stands behind the others, and the present is the moment hit
 turned_here : (r : Recording) (budgets : Budgets) (steps more : List Step) (old new : PreimageState) (now next : Dump) (stored : List Bool)
     (listing : Listing) (step : Step) (hit : Option Hit) (stop : Option Stop) →
-    signatures_of now ≡ stored ∷ [] → HasLookedBack r budgets old new now stored listing hit → step ≡ step_of now stored listing hit →
+    signatures_of now ≡ stored ∷ option_to_list now.older → HasLookedBack r budgets old new now stored listing hit → step ≡ step_of now stored listing hit →
     more ≡ steps ++ step ∷ [] →
     MatchOption hit (stop ≡ Some (cause_of_end step step.end)) (λ hit. (stop ≡ None) × (next ≡ hit.dump)) →
     MatchOption stop (HasStepped r budgets steps more old new now next) (HasStopped r budgets steps more old new now)
@@ -42,7 +43,7 @@ turned_here r budgets steps more old new now next stored listing step (Some hit)
 
 pub turned : {E : Type 0} (r : Recording) (budgets : Budgets) (steps more : List Step) (old new : PreimageState) (now next : Dump) (stored : List Bool)
     (listing : Listing) (step : Step) (hit : Option Hit) (result : Result (Option Stop) E) →
-    signatures_of now ≡ stored ∷ [] → HasLookedBack r budgets old new now stored listing hit → step ≡ step_of now stored listing hit →
+    signatures_of now ≡ stored ∷ option_to_list now.older → HasLookedBack r budgets old new now stored listing hit → step ≡ step_of now stored listing hit →
     IfOk result (λ _. more ≡ steps ++ step ∷ []) →
     IfOk result (λ stop. MatchOption hit (stop ≡ Some (cause_of_end step step.end)) (λ hit. (stop ≡ None) × (next ≡ hit.dump))) →
     IfOk result (λ stop. MatchOption stop (HasStepped r budgets steps more old new now next) (HasStopped r budgets steps more old new now))

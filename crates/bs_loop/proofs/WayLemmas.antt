@@ -4,6 +4,8 @@ use Rattle.std.specs.Prelude.{MatchOption, option_map}
 use Rattle.std.proofs.lemmas.List.{length-append}
 use Rattle.std.proofs.lemmas.List.Elements.{All-from_recursion}
 use Rattle.bs_scan.specs.declared.dump.Dump.{Dump}
+use Rattle.bs_scan.specs.Choice.{depth_of, IsDepth}
+use Rattle.bs_scan.proofs.CrashLemmas.{depth_is}
 use Rattle.bs_scan.specs.Present.{present_in}
 use Rattle.bs_chip.specs.declared.replay.Hit.{Hit}
 use Rattle.bs_scan.specs.Crash.{Recording, crash_of, DumpFits}
@@ -12,7 +14,9 @@ use Rattle.bs_report.specs.declared.report.Step.{Step}
 use Rattle.bs_report.specs.declared.report.Stop.{Stop}
 use Rattle.bs_report.specs.declared.report.Stop.TheVariants.{Reset, Length}
 use Rattle.bs_report.specs.declared.report.Budgets.{Budgets}
+use Rattle.bs_report.specs.Text.{IsOfDepth}
 use Rattle.bs_good.specs.Step.{IsRightStep}
+use Rattle.bs_good.specs.Valid.{HaveBefores}
 use Rattle.bs_good.specs.Chain.{present_of_hit, present_after}
 use Rattle.bs_good.specs.Stop.{StopsFor}
 use Rattle.bs_good.proofs.LoopLemmas.{last_present_more}
@@ -30,6 +34,8 @@ none_made r dump budgets =
     record {
       state = refl;
       right = All-from_recursion (IsRightStep (crash_of r dump)) [] tt;
+      older = All-from_recursion (λ (step : Step). IsOfDepth (depth_of r.choice) step.older) [] tt;
+      befores = All-from_recursion (λ (step : Step). HaveBefores r.circuit r.choice step.older step.cands) [] tt;
       follow = tt;
       count = refl;
       logged = λ i step is. cc;
@@ -43,22 +49,23 @@ starts r dump budgets s now new same fits =
     (record { made = subst (HasMade (crash_of r dump) budgets []) (sym new) (none_made r dump budgets); stands = refl; fits = fits; count = refl })
 
 -- the moment hit is the next present
-step_stands : (r : Recording) (dump next : Dump) (step : Step) (hit : Hit) → step.hit ≡ Some (line_of hit) → HasItsDump r hit → next ≡ hit.dump →
+step_stands : (r : Recording) (dump next : Dump) (step : Step) (hit : Hit) → IsDepth (depth_of r.choice) → step.hit ≡ Some (line_of hit) → HasItsDump r hit → next ≡ hit.dump →
     present_after (crash_of r dump) step ≡ Some (present_in next)
-step_stands r dump next step hit line is there =
-    ap (option_map (present_of_hit (crash_of r dump))) line ∙ ap Some (met r dump hit is ∙ ap present_in (sym there))
+step_stands r dump next step hit kept line is there =
+    ap (option_map (present_of_hit (crash_of r dump))) line ∙ ap Some (met r dump hit kept is ∙ ap present_in (sym there))
 
 pub stepped : (r : Recording) (dump : Dump) (budgets : Budgets) (steps more : List Step) (old new : PreimageState) (now next : Dump) (n : ℕ) →
     IsUnderWay r dump budgets steps old now n → HasStepped r budgets steps more old new now next → IsUnderWay r dump budgets more new next (n + 1)
 stepped r dump budgets steps more old new now next n way s =
     let is : HasItsDump r s.hit = s.back.back.dump s.hit refl in
+    let kept : IsDepth (depth_of r.choice) = depth_is r.circuit r.choice now way.fits in
     subst (λ (l : List Step). IsUnderWay r dump budgets l new next (n + 1)) (sym s.made)
     (record {
-      made = made_more r dump budgets steps old new now s.step (Some s.hit) way.made way.stands s.back;
+      made = made_more r dump budgets steps old new now s.step (Some s.hit) way.made way.stands way.fits s.back;
       stands =
           last_present_more (crash_of r dump) (Some (present_in dump)) steps s.step
-          ∙ step_stands r dump next s.step s.hit (ap (λ (step : Step). step.hit) s.back.step_is) is s.there;
-      fits = subst (DumpFits r.circuit r.choice) (sym s.there) (hit_fits r s.hit is);
+          ∙ step_stands r dump next s.step s.hit kept (ap (λ (step : Step). step.hit) s.back.step_is) is s.there;
+      fits = subst (DumpFits r.circuit r.choice) (sym s.there) (hit_fits r s.hit kept is);
       count = length-append steps (s.step ∷ []) ∙ ap (λ (k : ℕ). k + 1) way.count;
     })
 
@@ -67,7 +74,7 @@ at_reset : (r : Recording) (dump : Dump) (budgets : Budgets) (steps more : List 
 at_reset r dump budgets steps more old new now n stop way below s =
     let count : length steps ≡ n = way.count in
     let cause : StopsFor (crash_of r dump) budgets steps stop =
-    subst (StopsFor (crash_of r dump) budgets steps) (sym s.cause) (stops_at_reset (crash_of r dump) budgets steps now way.stands s.none) in
+    subst (StopsFor (crash_of r dump) budgets steps) (sym s.cause) (stops_at_reset (crash_of r dump) budgets steps now way.stands way.fits.sound s.none) in
     let old_ended : HasEnded (crash_of r dump) budgets steps old stop = record { made = way.made; few = omega (arith, below, count); cause = cause } in
     subst (λ (l : List Step). HasEnded (crash_of r dump) budgets l new stop) (sym s.same)
     (subst (λ (p : PreimageState). HasEnded (crash_of r dump) budgets steps p stop) (sym s.rest) old_ended)
@@ -80,7 +87,7 @@ unhit r dump budgets steps more old new now n stop way below s =
     let longer : length (steps ++ s.step ∷ []) ≡ length steps + 1 = length-append steps (s.step ∷ []) in
     subst (λ (l : List Step). HasEnded (crash_of r dump) budgets l new stop) (sym s.made)
     (record {
-      made = made_more r dump budgets steps old new now s.step None way.made way.stands s.back;
+      made = made_more r dump budgets steps old new now s.step None way.made way.stands way.fits s.back;
       few = omega (arith, below, count, longer);
       cause =
           subst (StopsFor (crash_of r dump) budgets (steps ++ s.step ∷ [])) (sym s.cause)
@@ -99,7 +106,7 @@ pub all_made : (r : Recording) (dump : Dump) (budgets : Budgets) (steps : List S
     HasEnded (crash_of r dump) budgets steps s stop
 all_made r dump budgets steps s now stop way cause =
     let count : length steps ≡ budgets.steps = way.count in
-    record { made = way.made; few = omega (arith, count); cause = stops_here (crash_of r dump) budgets steps now stop way.stands way.count cause }
+    record { made = way.made; few = omega (arith, count); cause = stops_here (crash_of r dump) budgets steps now stop way.stands way.fits.sound way.count cause }
 
 -- what the next turn asks for
 pub record IsReady (r : Recording) (budgets : Budgets) (s : PreimageState) : Type 0 where

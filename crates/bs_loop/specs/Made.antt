@@ -7,22 +7,25 @@ use Rattle.bs_log.specs.declared.line.Line.{Line}
 use Rattle.bs_log.specs.History.{History}
 use Rattle.bs_log.specs.Steps.{steps_of}
 use Rattle.bs_scan.specs.declared.dump.Dump.{Dump}
+use Rattle.bs_scan.specs.Choice.{depth_of}
 use Rattle.bs_scan.specs.Present.{present_in}
 use Rattle.bs_encode.specs.Tables.{lit}
-use Rattle.bs_encode.specs.Encoded.{Encoded, encoding_of}
+use Rattle.bs_encode.specs.Encoded.{Encoded}
+use Rattle.bs_encode.specs.Depth.{encoding_by}
 use Rattle.bs_encode.specs.Assuming.{assumptions_for, block_for, problem_of}
 use Rattle.bs_report.specs.declared.report.ListEnd.TheVariants.{Conflicts}
 use Rattle.bs_report.specs.declared.report.Step.{Step}
 use Rattle.bs_report.specs.declared.report.Budgets.{Budgets}
+use Rattle.bs_report.specs.Text.{IsOfDepth}
 use Rattle.bs_scan.specs.Crash.{Crash}
 use Rattle.bs_good.specs.Step.{asked_of, IsRightStep, IsRightEnd}
 use Rattle.bs_good.specs.Chain.{present_of, last_present, Follow}
-use Rattle.bs_good.specs.Valid.{blocks_due, are_right_blocks, blocks_in, is_right_finish, finishes_in}
+use Rattle.bs_good.specs.Valid.{HaveBefores, blocks_due, are_right_blocks, blocks_in, is_right_finish, finishes_in}
 use Rattle.bs_preimage.specs.Preimage.{PreimageState}
 
 -- the clauses of the crash's circuit and signature
 abbrev pub encoding_in : Crash → Encoded
-encoding_in crash = encoding_of crash.circuit crash.choice.items
+encoding_in crash = encoding_by crash.circuit crash.choice
 
 -- the guard of a step, counted from 0
 abbrev pub guard_at : Crash → ℕ → Literal
@@ -54,6 +57,8 @@ state_after crash steps history =
 pub record HasMade (crash : Crash) (budgets : Budgets) (steps : List Step) (s : PreimageState) : Type 0 where
   pub state : s ≡ state_after crash steps s.history
   pub right : All (IsRightStep crash) steps
+  pub older : All (λ step. IsOfDepth (depth_of crash.choice) step.older) steps
+  pub befores : All (λ step. HaveBefores crash.circuit crash.choice step.older step.cands) steps
   pub follow : Follow crash (Some (present_in crash.dump)) steps
   pub count : length (steps_of (reverse s.history)) ≡ length steps
   pub logged : (i : ℕ) (step : Step) → slice_get steps i ≡ Some step →

@@ -1,5 +1,6 @@
 -- What one turn of a backtrace does.
 use Rattle.std.specs.Prelude.{◌≡◌, ◌⊎◌, ◌+◌, Bool, List, [], ◌∷◌, ◌++◌, Option, Some, None, option_map}
+use Rattle.std.specs.Option.{option_to_list}
 use Rattle.bs_scan.specs.declared.dump.Dump.{Dump}
 use Rattle.bs_scan.specs.Crash.{Recording, crash_of, dump_at}
 use Rattle.bs_scan.specs.Dump.{signatures_of}
@@ -24,10 +25,10 @@ line_of hit = record { run = hit.run; cycle = hit.cycle; state = hit.dump.state 
 abbrev pub HasItsDump : Recording → Hit → Type 0
 HasItsDump r hit = hit.dump ≡ dump_at r (moment hit.run hit.cycle)
 
--- a list for a present and its one stored signature, and the first moment of a run in a listed state
+-- a list for a present and its stored signatures, and the first moment of a run in a listed state
 pub record HasLookedBack (r : Recording) (budgets : Budgets) (old new : PreimageState) (now : Dump) (stored : List Bool) (listing : Listing)
     (hit : Option Hit) : Type 0 where
-  pub listed : HasListed old new now.state stored budgets.candidates budgets.conflicts listing
+  pub listed : HasListed old new now.state stored now.older budgets.candidates budgets.conflicts listing
   pub calls : new.calls ≡ old.calls + 1
   pub line : option_map line_of hit ≡ hit_of (crash_of r now) listing.cands
   pub dump : (h : Hit) → hit ≡ Some h → HasItsDump r h
@@ -35,12 +36,12 @@ pub record HasLookedBack (r : Recording) (budgets : Budgets) (old new : Preimage
 -- the step of a list and of the moment that it hit
 abbrev pub step_of : Dump → List Bool → Listing → Option Hit → Step
 step_of now stored listing hit =
-    record { present = now.state; stored = stored; cands = listing.cands; end = listing.end; hit = option_map line_of hit }
+    record { present = now.state; stored = stored; older = now.older; cands = listing.cands; end = listing.end; hit = option_map line_of hit }
 
 -- a step back from a present, and the moment that it hit
 pub record IsStepBack (r : Recording) (budgets : Budgets) (old new : PreimageState) (now : Dump) (step : Step) (hit : Option Hit) : Type 0 where
   pub stored : List Bool
-  pub held : signatures_of now ≡ stored ∷ []
+  pub held : signatures_of now ≡ stored ∷ option_to_list now.older
   pub listing : Listing
   pub back : HasLookedBack r budgets old new now stored listing hit
   pub step_is : step ≡ step_of now stored listing hit

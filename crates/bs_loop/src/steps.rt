@@ -1,5 +1,6 @@
 //! One step back: the list of the states before the present one, and the first moment of a run in a listed state.
 ghost use Rattle.std.specs.Prelude.{◌≡◌, ◌<◌, ◌∷◌, ◌++◌, [], IfOk, MatchOption, option_map};
+ghost use Rattle.std.specs.Option.{option_to_list};
 ghost use Rattle.bs_scan.specs.Crash.{DumpFits};
 ghost use Rattle.bs_scan.specs.Dump.{signatures_of};
 ghost use Rattle.bs_good.specs.Valid.{cause_of_end};
@@ -21,6 +22,16 @@ struct Back {
     hit: Option<Hit>,
 }
 
+/// The signature, lent, if there is one.
+fn lent(signature: &Option<Bits>) -> Option<&Bits>
+    ensures { option_map (λ bits. bits.now) result ≡ signature.now }
+{
+    match signature {
+        None => None,
+        Some(bits) => Some(bits),
+    }
+}
+
 /// The states before a present that has a stored signature, and the first moment of a run in one of them.
 fn look_back(
     alloc: Global,
@@ -33,7 +44,7 @@ fn look_back(
     requires circuit { preimage.old.circuit ≡ chip.old.recording.circuit }
     requires choice { preimage.old.choice ≡ chip.old.recording.choice }
     requires dump { DumpFits chip.old.recording.circuit chip.old.recording.choice now.now }
-    requires stored { signatures_of now.now ≡ stored.now ∷ [] }
+    requires stored { signatures_of now.now ≡ stored.now ∷ option_to_list now.now.older }
     requires budgets { IsBudget budgets.now }
     requires calls { preimage.old.calls < MAX_STEPS }
     ensures back { IfOk result (λ back. HasLookedBack chip.old.recording budgets.now preimage.old preimage.new now.now stored.now back.listing back.hit) }
@@ -43,11 +54,22 @@ fn look_back(
         alloc,
         &now.state,
         stored,
+        lent(&now.older),
         budgets.candidates,
         budgets.conflicts,
     )?;
     let hit = chip.first(alloc, listing.cands.slice())?;
     Ok(Back { listing, hit })
+}
+
+/// An equal signature of its own, or none.
+fn copy_of(signature: &Option<Bits>) -> Result<Option<Bits>, NoMemory>
+    ensures { IfOk result (λ copy. copy ≡ signature.now) }
+{
+    match signature {
+        None => Ok(None),
+        Some(bits) => Ok(Some(bits.copy()?)),
+    }
 }
 
 /// The line of a hit.
@@ -69,10 +91,12 @@ fn step_of(now: &Dump, stored: Bits, listing: Listing, hit: &Option<Hit>) -> Res
     ensures { IfOk result (λ step. step ≡ step_of now.now stored listing hit.now) }
 {
     let present = now.state.copy()?;
+    let older = copy_of(&now.older)?;
     let hit = line_of(hit)?;
     Ok(Step {
         present,
         stored,
+        older,
         cands: listing.cands,
         end: listing.end,
         hit,

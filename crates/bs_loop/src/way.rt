@@ -4,7 +4,7 @@ ghost use Rattle.bs_log.specs.LineForms.{HasText};
 ghost use Rattle.bs_log.specs.Refusal.{history_of, IsAccepted};
 ghost use Rattle.bs_log.specs.Lean.{IsLean};
 ghost use Rattle.bs_scan.specs.Crash.{crash_of, DumpFits};
-ghost use Rattle.bs_encode.specs.Assuming.{basis_of};
+ghost use Rattle.bs_encode.specs.Depth.{basis_of};
 ghost use Rattle.bs_good.specs.Chain.{present_of};
 ghost use Rattle.bs_good.specs.Stop.{StopsFor};
 ghost use Rattle.bs_good.specs.Good.{IsGood};
@@ -98,11 +98,11 @@ pub fn backtrace(
     requires budgets { IsBudget budgets.now }
     ensures budgets { IfOk result (λ r. r.budgets ≡ budgets.now) }
     ensures good { IfOk result (IsGood (crash_of chip.old.recording dump.now)) }
-    ensures valid { IfOk result (λ r. IsValid (crash_of chip.old.recording dump.now) (basis_of chip.old.recording.circuit chip.old.recording.choice.items (map present_of r.steps)) r) }
-    ensures bound { IfOk result (λ r. HasBound (basis_of chip.old.recording.circuit chip.old.recording.choice.items (map present_of r.steps)).problem r) }
+    ensures valid { IfOk result (λ r. IsValid (crash_of chip.old.recording dump.now) (basis_of chip.old.recording.circuit chip.old.recording.choice (map present_of r.steps)) r) }
+    ensures bound { IfOk result (λ r. HasBound (basis_of chip.old.recording.circuit chip.old.recording.choice (map present_of r.steps)).problem r) }
     ensures readable { IfOk result HasReportText }
     ensures trace { IfOk result (λ r. length r.states ≡ length r.inputs + 1) }
-    ensures lean { IfOk result (λ r. IsLean (basis_of chip.old.recording.circuit chip.old.recording.choice.items (map present_of r.steps)).problem (history_of r.log)) }
+    ensures lean { IfOk result (λ r. IsLean (basis_of chip.old.recording.circuit chip.old.recording.choice (map present_of r.steps)).problem (history_of r.log)) }
     ensures chip { chip.new.recording ≡ chip.old.recording }
 {
     let mut preimage = preimage;
@@ -112,6 +112,7 @@ pub fn backtrace(
     let log = log_of(preimage);
     chip.is_recording();
     Ok(Report {
+        depth: dump.depth,
         budgets: *budgets,
         steps: way.steps,
         stop: way.stop,

@@ -1,11 +1,12 @@
 -- A step of the log is a right list.
-use Rattle.std.proofs.Common.{◌≡◌, ◌≢◌, ℕ, ◌+◌, ◌-◌, ◌<◌, ◌≤◌, Bool, true, false, List, [], ◌∷◌, ◌++◌, length, reverse, get_or, refl, ap, subst, sym}
+use Rattle.std.proofs.Common.{◌≡◌, ◌≢◌, ℕ, ◌+◌, ◌-◌, ◌<◌, ◌≤◌, Bool, true, false, cond, List, [], ◌∷◌, ◌++◌, length, reverse, get_or, refl, ap, subst, sym}
 use Rattle.std.proofs.Common.{◌∙◌, ◌⊎◌, inl, inr, append_assoc, arith, Option, Some, None}
 use mathlib.Core.List.{reverse_aux}
-use Rattle.std.specs.Prelude.{◌^◌, Contains, All, ◌||◌, ◌&&◌, filter_map, slice_get, IsTrue}
+use Rattle.std.specs.Prelude.{◌^◌, Contains, All, ◌==◌, ◌||◌, ◌&&◌, filter_map, slice_get, IsTrue}
+use Rattle.std.specs.Option.{option_to_list}
 use Rattle.std.specs.List.{AllByRecursion as Each}
 use Rattle.std.specs.List.Sorted.{IsPermutation}
-use Rattle.std.proofs.lemmas.Bool.{true≢false}
+use Rattle.std.proofs.lemmas.Bool.{true≢false, and_from, or_right, eq-eqb}
 use Rattle.std.proofs.lemmas.List.{length-append, reverse-reverse}
 use Rattle.std.proofs.lemmas.List.Elements.{All-weaker, All-map, All-from_recursion, recursion_from_All, Contains-append_left, Contains-push}
 use Rattle.std.proofs.lemmas.List.Sorted.{length_permutation, All-permutation}
@@ -22,9 +23,9 @@ use Rattle.bs_log.specs.Shown.{Shown}
 use Rattle.bs_log.specs.Steps.{steps_of, block_of_line, finish_of_line}
 use Rattle.bs_log.proofs.Laws.{finished_steps_are_refuted}
 use Rattle.bs_log.proofs.StepLemmas.{finish_at}
-use Rattle.bs_net.specs.Circuit.{Circuit, next, all_bits}
+use Rattle.bs_net.specs.Circuit.{Circuit, next, reset_state, all_bits}
 use Rattle.bs_net.proofs.NextLemmas.{Member}
-use Rattle.bs_scan.specs.Choice.{Chosen}
+use Rattle.bs_scan.specs.Choice.{Chosen, depth_of, IsDepth}
 use Rattle.bs_scan.specs.Present.{Present}
 use Rattle.bs_scan.specs.Moments.{is_listed}
 use Rattle.bs_scan.specs.Signature.{agrees, some_input_leads, predecessors}
@@ -32,20 +33,21 @@ use Rattle.bs_scan.proofs.MomentLemmas.{each_member}
 use Rattle.bs_scan.proofs.SignatureLemmas.{bits_same, bits_same_is, is_predecessor}
 use Rattle.bs_book.specs.Book.{Book, standing, next_id}
 use Rattle.bs_book.specs.Solver.{SolverState, finished, retired, leaving}
-use Rattle.bs_encode.specs.Encoded.{Encoded, encoding_of}
-use Rattle.bs_encode.specs.Assuming.{assumptions_for, block_for}
+use Rattle.bs_encode.specs.Encoded.{Encoded}
+use Rattle.bs_encode.specs.Depth.{encoding_by}
+use Rattle.bs_encode.specs.Assuming.{assumptions_for, block_for, asking, AreWide}
 use Rattle.bs_encode.specs.Cycle.{bits_on}
-use Rattle.bs_encode.specs.Listing.{IsTidy, PredecessorsAreShown, SolutionsArePredecessors, IsPredecessor}
+use Rattle.bs_encode.specs.Listing.{IsTidy, PredecessorsAreShown, SolutionsArePredecessors, IsPredecessor, IsBefore, joins}
 use Rattle.bs_report.specs.declared.report.Cand.{Cand}
 use Rattle.bs_report.specs.declared.report.ListEnd.{ListEnd}
 use Rattle.bs_report.specs.declared.report.ListEnd.TheVariants.{Finished, Conflicts}
 use Rattle.bs_good.specs.Step.{listed, IsCandidate}
-use Rattle.bs_good.specs.Valid.{blocks_due, are_right_blocks, is_right_finish, blocks_in, finishes_in}
+use Rattle.bs_good.specs.Valid.{is_right_before, HaveBefores, blocks_due, are_right_blocks, is_right_finish, blocks_in, finishes_in}
 use Rattle.bs_good.proofs.SortedLemmas.{asc_of_pairs, asc_filter, asc_all_bits, same_lists}
 use Rattle.bs_good.proofs.ValidLemmas.{both}
 use Rattle.bs_good.proofs.GoodLemmas.{listed_member, filter_member, passing, all_bits_length}
 use Rattle.bs_preimage.specs.declared.listing.Listing.{Listing}
-use Rattle.bs_preimage.specs.Preimage.{next_guard, asking}
+use Rattle.bs_preimage.specs.Preimage.{next_guard}
 use Rattle.bs_preimage.specs.Rest.{IsAbout, IsAtRest, AreWholeSteps}
 use Rattle.bs_preimage.specs.Turn.{IsReadable, IsShownIn, guard_in}
 use Rattle.bs_preimage.specs.Order.{IsInOrder}
@@ -67,6 +69,7 @@ pub record Sought : Type 0 where
   pub new : SolverState
   pub present : List Bool
   pub stored : List Bool
+  pub older : Option (List Bool)
   pub k : ℕ
   pub b : ℕ
   pub found : List Cand
@@ -76,7 +79,10 @@ pub record Sought : Type 0 where
   pub rest : IsAtRest old
   pub state : length present ≡ length c.flops
   pub signature : length stored ≡ length choice.items
-  pub sought : HasSought e old new present stored k b found end
+  pub older_wide : AreWide (length choice.items) older
+  pub alone : depth_of choice ≡ 1 → older ≡ None
+  pub kept : IsDepth (depth_of choice)
+  pub sought : HasSought e old new present stored older k b found end
   pub order : IsInOrder found cands
   pub accepted : IsAccepted new.book.problem (reverse new.book.history)
   pub shown : PredecessorsAreShown c choice e
@@ -93,10 +99,10 @@ finished_history b None = refl
 finished_history b (Some id) = refl
 
 abbrev asked : Sought → Present
-asked t = asking t.present t.stored
+asked t = asking t.present t.stored t.older
 
 abbrev assumed_by : Sought → Clause
-assumed_by t = assumptions_at t.e t.old.book t.present t.stored
+assumed_by t = assumptions_at t.e t.old.book t.present t.stored t.older
 
 -- the lines of the step, the newest first, without its retire line
 abbrev lines_by : Sought → List Line
@@ -180,27 +186,88 @@ rests t =
 
 -- ---- the candidates
 
-one_stored : (s : List Bool) → 0 < length (s ∷ [])
-one_stored s = omega arith
+one_stored : (s : List Bool) (ts : List (List Bool)) → 0 < length (s ∷ ts)
+one_stored s ts = omega arith
 
-shows : (t : Sought) (cand : Cand) → IsShownIn t.e (assumed_by t) cand → IsPredecessor t.c t.choice (asked t) cand.state cand.input
+both_wide : (t : Sought) → All (λ u. length u ≡ length t.choice.items) (t.stored ∷ option_to_list t.older)
+both_wide t =
+    All-from_recursion (λ (u : List Bool). length u ≡ length t.choice.items) (t.stored ∷ option_to_list t.older)
+    (t.signature, recursion_from_All (λ (u : List Bool). length u ≡ length t.choice.items) (option_to_list t.older) t.older_wide)
+
+-- what a candidate shows, with what it shows of the cycle before
+record ShowsPredecessor (t : Sought) (cand : Cand) : Type 0 where
+  state : List Bool
+  input : List Bool
+  joined : Bool
+  is : IsPredecessor t.c t.choice (asked t) cand.state cand.input state input joined
+  before : cand.before ≡ cond joined (Some (record { state = state; input = input })) None
+
+shows : (t : Sought) (cand : Cand) → IsShownIn t.e (assumed_by t) cand → ShowsPredecessor t cand
 shows t cand h =
-    subst (λ (s : List Bool). IsPredecessor t.c t.choice (asked t) s cand.input) (sym h.state)
-    (subst (λ (x : List Bool). IsPredecessor t.c t.choice (asked t) (bits_on h.value t.e.states) x) (sym h.input)
-    (t.solutions h.value (next_guard t.old.book.problem) (asked t) t.state (one_stored t.stored) t.signature h.clauses h.holds))
-
-all_show : (t : Sought) → All (λ cand. IsPredecessor t.c t.choice (asked t) cand.state cand.input) t.cands
-all_show t =
-    All-permutation (λ (cand : Cand). IsPredecessor t.c t.choice (asked t) cand.state cand.input) t.found t.cands t.order.same
-    (All-weaker (IsShownIn t.e (assumed_by t)) (λ (cand : Cand). IsPredecessor t.c t.choice (asked t) cand.state cand.input)
-    (shows t) t.found t.sought.search.cands.shown)
-
-candidate_of : (t : Sought) (cand : Cand) → IsPredecessor t.c t.choice (asked t) cand.state cand.input → IsCandidate t.c t.choice t.present (t.stored ∷ []) cand
-candidate_of t cand p =
     record {
-      predecessor = is_predecessor t.c t.choice t.present (t.stored ∷ []) cand.state cand.input p.state_width p.input_width p.agrees p.next;
+      state = bits_on h.value t.e.older_states;
+      input = bits_on h.value t.e.older_inputs;
+      joined = joins h.value t.e.link;
+      is =
+          subst (λ (s : List Bool). IsPredecessor t.c t.choice (asked t) s cand.input (bits_on h.value t.e.older_states) (bits_on h.value t.e.older_inputs)
+          (joins h.value t.e.link)) (sym h.state)
+          (subst (λ (x : List Bool). IsPredecessor t.c t.choice (asked t) (bits_on h.value t.e.states) x (bits_on h.value t.e.older_states)
+          (bits_on h.value t.e.older_inputs) (joins h.value t.e.link)) (sym h.input)
+          (t.solutions h.value (next_guard t.old.book.problem) (asked t) t.state (one_stored t.stored (option_to_list t.older)) (both_wide t)
+          h.clauses h.holds));
+      before = h.before;
+    }
+
+all_show : (t : Sought) → All (ShowsPredecessor t) t.cands
+all_show t =
+    All-permutation (ShowsPredecessor t) t.found t.cands t.order.same
+    (All-weaker (IsShownIn t.e (assumed_by t)) (ShowsPredecessor t) (shows t) t.found t.sought.search.cands.shown)
+
+candidate_of : (t : Sought) (cand : Cand) → ShowsPredecessor t cand → IsCandidate t.c t.choice t.present (t.stored ∷ option_to_list t.older) cand
+candidate_of t cand shown =
+    let p = shown.is in
+    record {
+      predecessor = is_predecessor t.c t.choice t.present (t.stored ∷ option_to_list t.older) cand.state cand.input p.state_width p.input_width p.agrees p.next;
       leads = p.leads;
     }
+
+-- ---- the states before the candidates
+
+named_right : (c : Circuit) (choice : Chosen) (older s u y : List Bool) → IsBefore c choice older s u y →
+    is_right_before c choice (Some older) s (Some (record { state = u; input = y })) ≡ true
+named_right c choice older s u y h =
+    and_from _ _
+    (and_from _ _ (and_from _ _ (eq-eqb (length u) (length c.flops) h.state_width) (eq-eqb (length y) (length c.inputs) h.input_width))
+    (ap (λ (t : List Bool). bits_eq t older) h.signature ∙ bits_same older))
+    (ap (λ (t : List Bool). bits_eq t s) h.next ∙ bits_same s)
+
+right_before : (c : Circuit) (choice : Chosen) (older : Option (List Bool)) (q : Present) (s x u y : List Bool) (joined : Bool) → IsDepth (depth_of choice) →
+    (depth_of choice ≡ 1 → older ≡ None) → slice_get q.stored 1 ≡ older → IsPredecessor c choice q s x u y joined →
+    is_right_before c choice older s (cond joined (Some (record { state = u; input = y })) None) ≡ true
+right_before c choice None q s x u y joined (inl one) alone held p =
+    ap (λ (b : Bool). is_right_before c choice None s (cond b (Some (record { state = u; input = y })) None)) (p.alone one)
+    ∙ ap (λ (b : Bool). b || bits_eq s (reset_state c)) (eq-eqb (depth_of choice) 1 one)
+right_before c choice (Some older) q s x u y joined (inl one) alone held p = let none : Some older ≡ None = alone one in absurd (cc)
+right_before c choice None q s x u y joined (inr two) alone held p =
+    let first = p.first two held in
+    ap (λ (b : Bool). is_right_before c choice None s (cond b (Some (record { state = u; input = y })) None)) first.0
+    ∙ or_right (depth_of choice == 1) (bits_eq s (reset_state c)) (ap (λ (t : List Bool). bits_eq t (reset_state c)) first.1 ∙ bits_same (reset_state c))
+right_before c choice (Some older) q s x u y joined (inr two) alone held p =
+    let later = p.later older two held in
+    ap (λ (b : Bool). is_right_before c choice (Some older) s (cond b (Some (record { state = u; input = y })) None)) later.0
+    ∙ named_right c choice older s u y later.1
+
+second_held : (stored : List Bool) (older : Option (List Bool)) → slice_get (stored ∷ option_to_list older) 1 ≡ older
+second_held stored None = refl
+second_held stored (Some older) = refl
+
+befores : (t : Sought) → HaveBefores t.c t.choice t.older t.cands
+befores t =
+    All-weaker (ShowsPredecessor t) (λ (cand : Cand). IsTrue (is_right_before t.c t.choice t.older cand.state cand.before))
+    (λ cand h.
+    ap (is_right_before t.c t.choice t.older cand.state) h.before
+    ∙ right_before t.c t.choice t.older (asked t) cand.state cand.input h.state h.input h.joined t.kept t.alone (second_held t.stored t.older) h.is)
+    t.cands (all_show t)
 
 -- ---- the blocks
 
@@ -234,7 +301,7 @@ blocks_hold t v s out f =
     let g : Literal = next_guard t.old.book.problem in
     let apart : All (λ cand. cand.state ≢ s) t.cands = All-from_recursion (λ (cand : Cand). cand.state ≢ s) t.cands (not_listed t.cands s out) in
     let each : All (λ cand. Satisfies v (negation g ∷ block_for t.e cand.state)) t.cands = λ i d lt.
-    f (get_or t.cands i d).state (all_show t i d lt).state_width (apart i d lt) in
+    f (get_or t.cands i d).state (all_show t i d lt).is.state_width (apart i d lt) in
     recursion_from_All (Satisfies v) (blocks_in (reverse (lines_by t)))
     (All-permutation (Satisfies v) (blocks_due g (block_for t.e) t.cands) (blocks_in (reverse (lines_by t))) (due_blocks t)
     (All-map (Satisfies v) (λ (s : List Bool). negation g ∷ block_for t.e s) (listed t.cands)
@@ -251,7 +318,7 @@ lines_now t =
     ∙ get_last (steps_of (reverse t.old.book.history)) (reverse (lines_by t)) (length t.old.book.problem.steps) [] (sym t.rest.count)
 
 refuted : (t : Sought) (id : ℕ) → t.end ≡ Finished id → (s x : List Bool) → length s ≡ length t.c.flops → length x ≡ length t.c.inputs →
-    agrees t.c t.choice (t.stored ∷ []) s ≡ true → next t.c s x ≡ t.present → is_listed (listed t.cands) s ≡ false → ⊥
+    agrees t.c t.choice (t.stored ∷ option_to_list t.older) s ≡ true → next t.c s x ≡ t.present → is_listed (listed t.cands) s ≡ false → ⊥
 refuted t id fin s x ls lx ag nx out =
     let p : Problem = t.new.book.problem in
     let i : ℕ = length t.old.book.problem.steps in
@@ -283,17 +350,16 @@ each_listed : (asked : List (List Bool)) (cands : List Cand) → Each (λ cand. 
 each_listed asked [] h = tt
 each_listed asked (c ∷ cs) h = (h.0, each_listed asked cs h.1)
 
-candidates : (t : Sought) → All (IsCandidate t.c t.choice t.present (t.stored ∷ [])) t.cands
+candidates : (t : Sought) → All (IsCandidate t.c t.choice t.present (t.stored ∷ option_to_list t.older)) t.cands
 candidates t =
-    All-weaker (λ (cand : Cand). IsPredecessor t.c t.choice (asked t) cand.state cand.input) (IsCandidate t.c t.choice t.present (t.stored ∷ []))
-    (candidate_of t) t.cands (all_show t)
+    All-weaker (ShowsPredecessor t) (IsCandidate t.c t.choice t.present (t.stored ∷ option_to_list t.older)) (candidate_of t) t.cands (all_show t)
 
-whole : (t : Sought) (id : ℕ) → t.end ≡ Finished id → listed t.cands ≡ predecessors t.c t.choice t.present (t.stored ∷ [])
+whole : (t : Sought) (id : ℕ) → t.end ≡ Finished id → listed t.cands ≡ predecessors t.c t.choice t.present (t.stored ∷ option_to_list t.older)
 unfolding predecessors
 whole t id fin =
-    let q : List Bool → Bool = λ s. agrees t.c t.choice (t.stored ∷ []) s && some_input_leads t.c s t.present in
+    let q : List Bool → Bool = λ s. agrees t.c t.choice (t.stored ∷ option_to_list t.older) s && some_input_leads t.c s t.present in
     let all : List (List Bool) = all_bits (length t.c.flops) in
-    let asked_for : List (List Bool) = predecessors t.c t.choice t.present (t.stored ∷ []) in
+    let asked_for : List (List Bool) = predecessors t.c t.choice t.present (t.stored ∷ option_to_list t.older) in
     same_lists (listed t.cands) asked_for
     (asc_of_pairs (listed t.cands) (in_order_ascend t.found t.cands t.order t.sought.search.cands.apart))
     (asc_filter q all (asc_all_bits (length t.c.flops)))
@@ -304,7 +370,7 @@ whole t id fin =
     (recursion_from_All (λ (cand : Cand). is_listed asked_for cand.state ≡ true) t.cands (λ i d lt. (candidates t i d lt).predecessor))) m))
     (λ s m.
     let found = filter_member q s all m in
-    let tests = both (agrees t.c t.choice (t.stored ∷ []) s) (some_input_leads t.c s t.present) found.0 in
+    let tests = both (agrees t.c t.choice (t.stored ∷ option_to_list t.older) s) (some_input_leads t.c s t.present) found.0 in
     let x = passing (λ (x : List Bool). bits_eq (next t.c s x) t.present) (all_bits (length t.c.inputs)) tests.1 in
     by s (is_listed (listed t.cands) s) refl
     (refuted t id fin s x.item (all_bits_length (length t.c.flops) s found.1) (all_bits_length (length t.c.inputs) x.item x.member) tests.0
@@ -329,8 +395,8 @@ bounded t ended run range unit =
 -- ---- the step
 
 pub made_step : (t : Sought) (listing : Listing) → listing ≡ record { cands = t.cands; end = t.end } →
-    HasMadeStep t.c t.choice t.old t.new t.present t.stored t.k t.b listing
-made_step t listing e = subst (HasMadeStep t.c t.choice t.old t.new t.present t.stored t.k t.b) (sym e) (record {
+    HasMadeStep t.c t.choice t.old t.new t.present t.stored t.older t.k t.b listing
+made_step t listing e = subst (HasMadeStep t.c t.choice t.old t.new t.present t.stored t.older t.k t.b) (sym e) (record {
   rest = rests t;
   count = one_longer t;
   listed = record {
@@ -349,7 +415,8 @@ made_step t listing e = subst (HasMadeStep t.c t.choice t.old t.new t.present t.
     step_lines = step_lines t;
     ascend = in_order_ascend t.found t.cands t.order t.sought.search.cands.apart;
     candidates = candidates t;
-    ends = end_is (predecessors t.c t.choice t.present (t.stored ∷ [])) t.k t.b (assumed_by t) t.sought.middle t.sought.search.logged.lines
+    befores = befores t;
+    ends = end_is (predecessors t.c t.choice t.present (t.stored ∷ option_to_list t.older)) t.k t.b (assumed_by t) t.sought.middle t.sought.search.logged.lines
         (length t.found) t.cands t.end
         (length_permutation t.found t.cands t.order.same) t.sought.search.ended (whole t);
     blocks =
@@ -370,31 +437,42 @@ made_step t listing e = subst (HasMadeStep t.c t.choice t.old t.new t.present t.
 
 -- ---- what the laws of the encoding give
 
-pub readable_by : (c : Circuit) (items : List (List ℕ)) (e : Encoded) → e ≡ encoding_of c items → IsTidy c items (encoding_of c items) → IsReadable e
-readable_by c items e is tidy = subst IsReadable (sym is) (record {
+pub readable_by : (c : Circuit) (choice : Chosen) (e : Encoded) → e ≡ encoding_by c choice → IsTidy c choice (encoding_by c choice) → IsReadable e
+readable_by c choice e is tidy = subst IsReadable (sym is) (record {
   room = tidy.room;
   assumptions_range = tidy.assumptions_range;
   assumptions_distinct = tidy.assumptions_distinct;
   states = tidy.states_range;
   inputs = tidy.inputs_range;
+  link = tidy.link_range;
+  older_states = tidy.older_states_range;
+  older_inputs = tidy.older_inputs_range;
   block_range = tidy.block_range;
   block_distinct = tidy.block_distinct;
 })
 
-pub next_width : (c : Circuit) (items : List (List ℕ)) (e : Encoded) → e ≡ encoding_of c items → IsTidy c items (encoding_of c items) → (n : ℕ) →
+pub next_width : (c : Circuit) (choice : Chosen) (e : Encoded) → e ≡ encoding_by c choice → IsTidy c choice (encoding_by c choice) → (n : ℕ) →
     n ≡ length c.flops → n ≡ length e.next
-next_width c items e is tidy n w = w ∙ (sym tidy.next_width ∙ ap (λ (e : Encoded). length e.next) (sym is))
+next_width c choice e is tidy n w = w ∙ (sym tidy.next_width ∙ ap (λ (e : Encoded). length e.next) (sym is))
 
-pub signature_width : (c : Circuit) (items : List (List ℕ)) (e : Encoded) → e ≡ encoding_of c items → IsTidy c items (encoding_of c items) → (n : ℕ) →
-    n ≡ length items → n ≡ length e.signatures
-signature_width c items e is tidy n w = w ∙ (sym tidy.signatures_width ∙ ap (λ (e : Encoded). length e.signatures) (sym is))
+pub signature_width : (c : Circuit) (choice : Chosen) (e : Encoded) → e ≡ encoding_by c choice → IsTidy c choice (encoding_by c choice) → (n : ℕ) →
+    n ≡ length choice.items → n ≡ length e.signatures
+signature_width c choice e is tidy n w = w ∙ (sym tidy.signatures_width ∙ ap (λ (e : Encoded). length e.signatures) (sym is))
 
-pub shown_by : (c : Circuit) (choice : Chosen) (e : Encoded) → e ≡ encoding_of c choice.items → PredecessorsAreShown c choice (encoding_of c choice.items) →
+pub older_width : (c : Circuit) (choice : Chosen) (e : Encoded) (older : Option (List Bool)) → e ≡ encoding_by c choice →
+    IsTidy c choice (encoding_by c choice) → IsDepth (depth_of choice) → (depth_of choice ≡ 1 → older ≡ None) → AreWide (length choice.items) older →
+    AreWide (length e.older_signatures) older
+older_width c choice e older is tidy (inl one) alone wide =
+    subst (AreWide (length e.older_signatures)) (sym (alone one)) (All-from_recursion (λ (t : List Bool). length t ≡ length e.older_signatures) [] tt)
+older_width c choice e older is tidy (inr two) alone wide =
+    subst (λ (n : ℕ). AreWide n older) (sym (tidy.older_signatures_width two) ∙ ap (λ (e : Encoded). length e.older_signatures) (sym is)) wide
+
+pub shown_by : (c : Circuit) (choice : Chosen) (e : Encoded) → e ≡ encoding_by c choice → PredecessorsAreShown c choice (encoding_by c choice) →
     PredecessorsAreShown c choice e
 shown_by c choice e is h = subst (λ (e : Encoded). PredecessorsAreShown c choice e) (sym is) h
 
-pub solutions_by : (c : Circuit) (choice : Chosen) (e : Encoded) → e ≡ encoding_of c choice.items →
-    SolutionsArePredecessors c choice (encoding_of c choice.items) → SolutionsArePredecessors c choice e
+pub solutions_by : (c : Circuit) (choice : Chosen) (e : Encoded) → e ≡ encoding_by c choice →
+    SolutionsArePredecessors c choice (encoding_by c choice) → SolutionsArePredecessors c choice e
 solutions_by c choice e is h = subst (λ (e : Encoded). SolutionsArePredecessors c choice e) (sym is) h
 
 pub accepted_by : (p : Problem) (h : History) (log : List Line) → history_of log ≡ h → IsAccepted p log → IsAccepted p (reverse h)

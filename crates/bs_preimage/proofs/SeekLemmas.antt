@@ -12,8 +12,8 @@ use Rattle.bs_book.specs.Solver.{SolverState, HasEnded, finished, retired, leavi
 use Rattle.bs_book.specs.Stages.{is_begun}
 use Rattle.bs_book.proofs.Clauses.{contains_first}
 use Rattle.bs_encode.specs.Encoded.{Encoded}
-use Rattle.bs_encode.specs.Assuming.{assumptions_for}
-use Rattle.bs_preimage.specs.Preimage.{asking, next_guard}
+use Rattle.bs_encode.specs.Assuming.{assumptions_for, asking}
+use Rattle.bs_preimage.specs.Preimage.{next_guard}
 use Rattle.bs_preimage.specs.Rest.{IsAtRest}
 use Rattle.bs_preimage.specs.Turn.{Extends, IsReadable, MayTurn, guard_in}
 use Rattle.bs_preimage.specs.Step.{begun, assumptions_at}
@@ -25,36 +25,36 @@ begun_is_not_blocked e = true≢false (ap is_begun e)
 guard_is : (old : SolverState) → IsAtRest old → guard_in old.book ≡ next_guard old.book.problem
 guard_is old rest = ap (guard_of old.book.problem) rest.number
 
-may_start : (e : Encoded) (old : SolverState) (present stored : List Bool) → IsReadable e → old.book.problem.vars ≡ e.variables →
+may_start : (e : Encoded) (old : SolverState) (present stored : List Bool) (older : Option (List Bool)) → IsReadable e → old.book.problem.vars ≡ e.variables →
     old.book.problem.clauses ≡ e.clauses → IsAtRest old →
-    MayTurn e (begun old) (assumptions_at e old.book present stored)
-may_start e old present stored readable vars clauses rest =
+    MayTurn e (begun old) (assumptions_at e old.book present stored older)
+may_start e old present stored older readable vars clauses rest =
     let guard : Literal = next_guard old.book.problem in
     let above : e.variables < guard.variable = omega (arith, vars) in
     let last : guard.variable ≡ old.vars + 1 = omega (arith, rest.guards) in
     record {
       may = record { stage = λ _. inl refl; again = λ k. absurd (begun_is_not_blocked k) };
-      range = subst (λ (n : ℕ). HasVariables n (assumptions_at e old.book present stored)) last
-          (readable.assumptions_range guard (asking present stored) above);
-      distinct = readable.assumptions_distinct guard (asking present stored) above;
-      guard = subst (Contains (assumptions_at e old.book present stored)) (sym (guard_is old rest)) (contains_first guard _);
+      range = subst (λ (n : ℕ). HasVariables n (assumptions_at e old.book present stored older)) last
+          (readable.assumptions_range guard (asking present stored older) above);
+      distinct = readable.assumptions_distinct guard (asking present stored older) above;
+      guard = subst (Contains (assumptions_at e old.book present stored older)) (sym (guard_is old rest)) (contains_first guard _);
       vars = vars;
       guards = omega (arith, rest.guards, vars);
       clauses = clauses;
       stand = rest.stand;
     }
 
-assumptions_are : (e : Encoded) (old : SolverState) (present stored : List Bool) (guard : Literal) (a : Clause) → IsAtRest old → guard ≡ guard_in old.book →
-    a ≡ assumptions_for e guard (asking present stored) → a ≡ assumptions_at e old.book present stored
-assumptions_are e old present stored guard a rest g is = is ∙ ap (λ (g : Literal). assumptions_for e g (asking present stored)) (g ∙ guard_is old rest)
+assumptions_are : (e : Encoded) (old : SolverState) (present stored : List Bool) (older : Option (List Bool)) (guard : Literal) (a : Clause) → IsAtRest old → guard ≡ guard_in old.book →
+    a ≡ assumptions_for e guard (asking present stored older) → a ≡ assumptions_at e old.book present stored older
+assumptions_are e old present stored older guard a rest g is = is ∙ ap (λ (g : Literal). assumptions_for e g (asking present stored older)) (g ∙ guard_is old rest)
 
-pub may_seek : (e : Encoded) (old s : SolverState) (present stored : List Bool) (guard : Literal) (a : Clause) → IsReadable e →
+pub may_seek : (e : Encoded) (old s : SolverState) (present stored : List Bool) (older : Option (List Bool)) (guard : Literal) (a : Clause) → IsReadable e →
     old.book.problem.vars ≡ e.variables →
-    old.book.problem.clauses ≡ e.clauses → IsAtRest old → s ≡ begun old → guard ≡ guard_in old.book → a ≡ assumptions_for e guard (asking present stored) →
+    old.book.problem.clauses ≡ e.clauses → IsAtRest old → s ≡ begun old → guard ≡ guard_in old.book → a ≡ assumptions_for e guard (asking present stored older) →
     MayTurn e s a
-may_seek e old s present stored guard a readable vars clauses rest new g is =
-    subst (λ (a : Clause). MayTurn e s a) (sym (assumptions_are e old present stored guard a rest g is))
-    (subst (λ (s : SolverState). MayTurn e s (assumptions_at e old.book present stored)) (sym new) (may_start e old present stored readable vars clauses rest))
+may_seek e old s present stored older guard a readable vars clauses rest new g is =
+    subst (λ (a : Clause). MayTurn e s a) (sym (assumptions_are e old present stored older guard a rest g is))
+    (subst (λ (s : SolverState). MayTurn e s (assumptions_at e old.book present stored older)) (sym new) (may_start e old present stored older readable vars clauses rest))
 
 -- ---- extensions
 
@@ -81,23 +81,22 @@ finished_extends : (old new : Book) (end : Option ℕ) → new ≡ finished old 
 finished_extends old new None e = extends_same false old new [] e
 finished_extends old new (Some id) e = extends_line false old new (Finish id) [] e
 
-pub failed_extends : (old new : Book) (end : Option ℕ) → (new ≡ old) ⊎ (new ≡ finished old end) ⊎ (new ≡ retired (finished old end)) → Extends false old new []
+pub failed_extends : (old new : Book) (end : Option ℕ) → (new ≡ old) ⊎ (new ≡ finished old end) → Extends false old new []
 failed_extends old new end (inl e) = extends_same false old new [] e
-failed_extends old new end (inr (inl e)) = finished_extends old new end e
-failed_extends old new end (inr (inr e)) = retired_extends old new end e
+failed_extends old new end (inr e) = finished_extends old new end e
 
 -- a search in a step that has just begun
-pub sought_extends : (e : Encoded) (old s new : SolverState) (present stored : List Bool) (guard : Literal) (a : Clause) → IsAtRest old → s ≡ begun old →
+pub sought_extends : (e : Encoded) (old s new : SolverState) (present stored : List Bool) (older : Option (List Bool)) (guard : Literal) (a : Clause) → IsAtRest old → s ≡ begun old →
     guard ≡ guard_in old.book →
-    a ≡ assumptions_for e guard (asking present stored) → Extends true s.book new.book a →
-    Extends true old.book new.book (assumptions_at e old.book present stored)
-sought_extends e old s new present stored guard a rest is g assumed x =
+    a ≡ assumptions_for e guard (asking present stored older) → Extends true s.book new.book a →
+    Extends true old.book new.book (assumptions_at e old.book present stored older)
+sought_extends e old s new present stored older guard a rest is g assumed x =
     let p = ap (λ (s : SolverState). s.book.problem) is in
     let h = ap (λ (s : SolverState). s.book.history) is in
-    extends_from old.book s.book new.book (assumptions_at e old.book present stored) true p [] h
-    (subst (λ (a : Clause). Extends true s.book new.book a) (assumptions_are e old present stored guard a rest g assumed) x)
+    extends_from old.book s.book new.book (assumptions_at e old.book present stored older) true p [] h
+    (subst (λ (a : Clause). Extends true s.book new.book a) (assumptions_are e old present stored older guard a rest g assumed) x)
 
 -- a step that was begun, and no more
-pub begun_extends : (e : Encoded) (old s : SolverState) (present stored : List Bool) → s ≡ begun old →
-    Extends true old.book s.book (assumptions_at e old.book present stored)
-begun_extends e old s present stored is = extends_same true old.book s.book (assumptions_at e old.book present stored) (ap (λ (s : SolverState). s.book) is)
+pub begun_extends : (e : Encoded) (old s : SolverState) (present stored : List Bool) (older : Option (List Bool)) → s ≡ begun old →
+    Extends true old.book s.book (assumptions_at e old.book present stored older)
+begun_extends e old s present stored older is = extends_same true old.book s.book (assumptions_at e old.book present stored older) (ap (λ (s : SolverState). s.book) is)

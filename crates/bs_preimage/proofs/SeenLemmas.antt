@@ -1,5 +1,5 @@
 -- A step of the log, as a contract of the lists sees it.
-use Rattle.std.proofs.Common.{◌≡◌, ℕ, Bool, false, List, refl, subst}
+use Rattle.std.proofs.Common.{◌≡◌, ℕ, Bool, false, List, Option, refl, subst}
 use Rattle.bs_net.specs.Circuit.{Circuit}
 use Rattle.bs_scan.specs.Choice.{Chosen}
 use Rattle.bs_book.specs.Book.{Book}
@@ -20,11 +20,11 @@ viewed c choice book calls failed =
       failed = failed;
     }
 
-listed_seen : (c : Circuit) (choice : Chosen) (before after : Book) (failed : Bool) (n m : ℕ) (present stored : List Bool) (k b : ℕ) (listing : Listing) →
+listed_seen : (c : Circuit) (choice : Chosen) (before after : Book) (failed : Bool) (n m : ℕ) (present stored : List Bool) (older : Option (List Bool)) (k b : ℕ) (listing : Listing) →
     failed ≡ false →
-    HasListed (seen c choice before) (seen c choice after) present stored k b listing →
-    HasListed (viewed c choice before n failed) (viewed c choice after m false) present stored k b listing
-listed_seen c choice before after failed n m present stored k b listing well h =
+    HasListed (seen c choice before) (seen c choice after) present stored older k b listing →
+    HasListed (viewed c choice before n failed) (viewed c choice after m false) present stored older k b listing
+listed_seen c choice before after failed n m present stored older k b listing well h =
     record {
       was_well = well;
       well = refl;
@@ -41,6 +41,7 @@ listed_seen c choice before after failed n m present stored k b listing well h =
       step_lines = h.step_lines;
       ascend = h.ascend;
       candidates = h.candidates;
+      befores = h.befores;
       ends = h.ends;
       blocks = h.blocks;
       finish = h.finish;
@@ -48,10 +49,10 @@ listed_seen c choice before after failed n m present stored k b listing well h =
     }
 
 -- a list, where its old state is so seen
-pub listed_again : (c : Circuit) (choice : Chosen) (before after : Book) (old : PreimageState) (failed : Bool) (n m : ℕ) (present stored : List Bool)
+pub listed_again : (c : Circuit) (choice : Chosen) (before after : Book) (old : PreimageState) (failed : Bool) (n m : ℕ) (present stored : List Bool) (older : Option (List Bool))
     (k b : ℕ) (listing : Listing) →
-    viewed c choice before n failed ≡ old → failed ≡ false → HasListed (seen c choice before) (seen c choice after) present stored k b listing →
-    HasListed old (viewed c choice after m false) present stored k b listing
-listed_again c choice before after old failed n m present stored k b listing is well h =
-    subst (λ (s : PreimageState). HasListed s (viewed c choice after m false) present stored k b listing) is
-    (listed_seen c choice before after failed n m present stored k b listing well h)
+    viewed c choice before n failed ≡ old → failed ≡ false → HasListed (seen c choice before) (seen c choice after) present stored older k b listing →
+    HasListed old (viewed c choice after m false) present stored older k b listing
+listed_again c choice before after old failed n m present stored older k b listing is well h =
+    subst (λ (s : PreimageState). HasListed s (viewed c choice after m false) present stored older k b listing) is
+    (listed_seen c choice before after failed n m present stored older k b listing well h)

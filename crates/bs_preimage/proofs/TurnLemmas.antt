@@ -171,6 +171,7 @@ found_shows e a old middle new limit values cand may s shown =
         holds = holds;
         state = shown.state;
         input = shown.input;
+        before = shown.before;
       };
       apart = λ t there.
           shown_is_open v e (guard_in old.book) cand.state t (All-contains (λ l. literal_value v l ≡ true) a (guard_in old.book) holds may.guard) shown.state

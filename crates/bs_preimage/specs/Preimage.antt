@@ -1,13 +1,13 @@
 -- What makes lists of candidates, as a contract sees it.
-use Rattle.std.specs.Prelude.{◌≡◌, ◌⊎◌, ℕ, ◌+◌, Bool, false, List, [], ◌∷◌, ◌++◌, length}
+use Rattle.std.specs.Prelude.{◌≡◌, ◌⊎◌, ℕ, ◌+◌, Bool, false, List, [], ◌∷◌, ◌++◌, length, Option}
 use Rattle.bs_clause.specs.Literal.{Literal, Clause}
 use Rattle.bs_log.specs.declared.line.Line.{Line}
 use Rattle.bs_log.specs.History.{Problem, History, guard_of}
 use Rattle.bs_net.specs.Circuit.{Circuit}
 use Rattle.bs_scan.specs.Choice.{Chosen}
-use Rattle.bs_scan.specs.Present.{Present}
-use Rattle.bs_encode.specs.Encoded.{Encoded, encoding_of}
-use Rattle.bs_encode.specs.Assuming.{assumptions_for, problem_of}
+use Rattle.bs_encode.specs.Encoded.{Encoded}
+use Rattle.bs_encode.specs.Assuming.{assumptions_for, asking, problem_of}
+use Rattle.bs_encode.specs.Depth.{encoding_by}
 
 -- the circuit and what its signature is taken of; what the log is about, and its lines, the newest first; how many lists were
 -- asked for; and whether memory ran out
@@ -20,7 +20,7 @@ pub record PreimageState : Type 0 where
   pub failed : Bool
 
 abbrev pub encoding_in : PreimageState → Encoded
-encoding_in s = encoding_of s.circuit s.choice.items
+encoding_in s = encoding_by s.circuit s.choice
 
 -- before the first list
 abbrev pub fresh : Circuit → Chosen → PreimageState
@@ -28,23 +28,19 @@ fresh c choice =
     record {
       circuit = c;
       choice = choice;
-      problem = problem_of (encoding_of c choice.items) [];
+      problem = problem_of (encoding_by c choice) [];
       history = [];
       calls = 0;
       failed = false;
     }
-
--- a state whose register holds one signature
-abbrev pub asking : List Bool → List Bool → Present
-asking present stored = record { state = present; stored = stored ∷ [] }
 
 -- the guard of the next step
 abbrev pub next_guard : Problem → Literal
 next_guard p = guard_of p (length p.steps + 1)
 
 -- what the next step assumes
-abbrev pub assumptions_in : PreimageState → List Bool → List Bool → Clause
-assumptions_in s present stored = assumptions_for (encoding_in s) (next_guard s.problem) (asking present stored)
+abbrev pub assumptions_in : PreimageState → List Bool → List Bool → Option (List Bool) → Clause
+assumptions_in s present stored older = assumptions_for (encoding_in s) (next_guard s.problem) (asking present stored older)
 
 -- further lines were logged, about the same clauses
 pub record GoesOn (old new : PreimageState) : Type 0 where

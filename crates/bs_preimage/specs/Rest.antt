@@ -6,7 +6,8 @@ use Rattle.bs_log.specs.History.{step_of, guard_of}
 use Rattle.bs_log.specs.Steps.{steps_of}
 use Rattle.bs_net.specs.Circuit.{Circuit}
 use Rattle.bs_scan.specs.Choice.{Chosen}
-use Rattle.bs_encode.specs.Encoded.{Encoded, encoding_of}
+use Rattle.bs_encode.specs.Encoded.{Encoded}
+use Rattle.bs_encode.specs.Depth.{encoding_by}
 use Rattle.bs_book.specs.declared.stage.Stage.TheVariants.{Idle}
 use Rattle.bs_book.specs.Book.{Book, standing}
 use Rattle.bs_book.specs.Solver.{SolverState}
@@ -38,7 +39,7 @@ pub record IsAtRest (s : SolverState) : Type 0 where
 -- the log is about the clauses of the circuit's encoding
 pub record IsAbout (c : Circuit) (choice : Chosen) (e : Encoded) (b : Book) : Type 0 where
   pub width : choice.width ≡ length c.flops
-  pub encoding : e ≡ encoding_of c choice.items
+  pub encoding : e ≡ encoding_by c choice
   pub vars : b.problem.vars ≡ e.variables
   pub clauses : b.problem.clauses ≡ e.clauses
 

@@ -4,7 +4,7 @@ use Rattle.bs_clause.specs.Literal.{Clause}
 use Rattle.bs_net.specs.Circuit.{Circuit}
 use Rattle.bs_scan.specs.Choice.{Chosen}
 use Rattle.bs_encode.specs.Encoded.{Encoded}
-use Rattle.bs_encode.specs.Assuming.{assumptions_for}
+use Rattle.bs_encode.specs.Assuming.{assumptions_for, asking}
 use Rattle.bs_report.specs.declared.report.Cand.{Cand}
 use Rattle.bs_report.specs.declared.report.ListEnd.{ListEnd}
 use Rattle.bs_report.specs.declared.report.ListEnd.TheVariants.{Finished, Candidates, Conflicts}
@@ -12,7 +12,7 @@ use Rattle.bs_book.specs.declared.stage.Stage.TheVariants.{Begun}
 use Rattle.bs_book.specs.Book.{Book}
 use Rattle.bs_book.specs.Solver.{SolverState, HasEnded}
 use Rattle.bs_preimage.specs.declared.listing.Listing.{Listing}
-use Rattle.bs_preimage.specs.Preimage.{PreimageState, next_guard, asking}
+use Rattle.bs_preimage.specs.Preimage.{PreimageState, next_guard}
 use Rattle.bs_preimage.specs.Listed.{HasListed}
 use Rattle.bs_preimage.specs.Rest.{IsAtRest}
 use Rattle.bs_preimage.specs.Finding.{HasEndedSearch}
@@ -27,14 +27,14 @@ ending_of Conflicts = None
 abbrev pub begun : SolverState → SolverState
 begun s = record { book = s.book; vars = s.vars + 1; stage = Begun; failed = false }
 
--- what the next step assumes of a state and a stored signature
-abbrev pub assumptions_at : Encoded → Book → List Bool → List Bool → Clause
-assumptions_at e b present stored = assumptions_for e (next_guard b.problem) (asking present stored)
+-- what the next step assumes of a state and its stored signatures
+abbrev pub assumptions_at : Encoded → Book → List Bool → List Bool → Option (List Bool) → Clause
+assumptions_at e b present stored older = assumptions_for e (next_guard b.problem) (asking present stored older)
 
 -- a step was begun, searched and ended
-pub record HasSought (e : Encoded) (old new : SolverState) (present stored : List Bool) (k b : ℕ) (found : List Cand) (end : ListEnd) : Type 0 where
+pub record HasSought (e : Encoded) (old new : SolverState) (present stored : List Bool) (older : Option (List Bool)) (k b : ℕ) (found : List Cand) (end : ListEnd) : Type 0 where
   pub middle : SolverState
-  pub search : HasEndedSearch e (assumptions_at e old.book present stored) k b (begun old) middle found end
+  pub search : HasEndedSearch e (assumptions_at e old.book present stored older) k b (begun old) middle found end
   pub ended : HasEnded middle new (ending_of end)
 
 -- a book of a circuit and its signature
@@ -50,7 +50,7 @@ seen c choice book =
     }
 
 -- the solver rests again, with one step more, which is that of the list
-pub record HasMadeStep (c : Circuit) (choice : Chosen) (old new : SolverState) (present stored : List Bool) (k b : ℕ) (listing : Listing) : Type 0 where
+pub record HasMadeStep (c : Circuit) (choice : Chosen) (old new : SolverState) (present stored : List Bool) (older : Option (List Bool)) (k b : ℕ) (listing : Listing) : Type 0 where
   pub rest : IsAtRest new
   pub count : length new.book.problem.steps ≡ length old.book.problem.steps + 1
-  pub listed : HasListed (seen c choice old.book) (seen c choice new.book) present stored k b listing
+  pub listed : HasListed (seen c choice old.book) (seen c choice new.book) present stored older k b listing

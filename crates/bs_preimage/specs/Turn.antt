@@ -1,5 +1,6 @@
 -- A turn of a search for candidates: one solve, and what comes of it.
-use Rattle.std.specs.Prelude.{◌≡◌, ◌≢◌, ◌⊎◌, ℕ, ◌+◌, ◌-◌, ◌^◌, ◌<◌, ◌≤◌, Bool, true, false, cond, List, [], ◌∷◌, ◌++◌, length, Option, All, Contains}
+use Rattle.std.specs.Prelude.{◌≡◌, ◌≢◌, ◌⊎◌, ℕ, ◌+◌, ◌-◌, ◌^◌, ◌<◌, ◌≤◌, Bool, true, false, cond, List, [], ◌∷◌, ◌++◌, length, Option, Some, None, All, Contains, if◌then◌else◌}
+use Rattle.std.specs.Option.{option_to_list}
 use Rattle.std.specs.List.{AllByRecursion}
 use Rattle.bs_clause.specs.declared.literal.TheConstants.{VARIABLE_LIMIT}
 use Rattle.bs_clause.specs.Literal.{Literal, Clause, negation, literal_value, Satisfies}
@@ -14,7 +15,9 @@ use Rattle.bs_encode.specs.declared.encoding.TheConstants.{MAX_GUARDS}
 use Rattle.bs_encode.specs.Encoded.{Encoded}
 use Rattle.bs_encode.specs.Assuming.{block_for, assumptions_for}
 use Rattle.bs_encode.specs.Cycle.{bits_on}
+use Rattle.bs_encode.specs.Listing.{joins}
 use Rattle.bs_scan.specs.Present.{Present}
+use Rattle.bs_report.specs.declared.report.Before.{Before}
 use Rattle.bs_report.specs.declared.report.Cand.{Cand}
 use Rattle.bs_book.specs.declared.stage.Stage.TheVariants.{Ended, Stopped}
 use Rattle.bs_book.specs.Book.{Book, standing}
@@ -29,13 +32,19 @@ use Rattle.bs_preimage.specs.Rest.{AxiomsStand}
 
 -- ---- what an assignment shows
 
--- some assignment meets the clauses and the assumptions, and shows this state and this input
+-- the state and the input of the cycle before that an assignment shows, where it joins the copies
+abbrev pub before_on : Encoded → (ℕ → Bool) → Option Before
+before_on e value =
+    if joins value e.link then Some (record { state = bits_on value e.older_states; input = bits_on value e.older_inputs }) else None
+
+-- some assignment meets the clauses and the assumptions, and shows this state and this input, and those of the cycle before
 pub record IsShownIn (e : Encoded) (assumptions : Clause) (cand : Cand) : Type 0 where
   pub value : ℕ → Bool
   pub clauses : All (Satisfies value) e.clauses
   pub holds : All (λ l. literal_value value l ≡ true) assumptions
   pub state : cand.state ≡ bits_on value e.states
   pub input : cand.input ≡ bits_on value e.inputs
+  pub before : cand.before ≡ before_on e value
 
 -- ---- the book
 
@@ -86,6 +95,9 @@ pub record IsReadable (e : Encoded) : Type 0 where
   pub assumptions_distinct : (guard : Literal) (q : Present) → e.variables < guard.variable → has_distinct_variables (assumptions_for e guard q) ≡ true
   pub states : HasVariables e.variables e.states
   pub inputs : HasVariables e.variables e.inputs
+  pub link : HasVariables e.variables (option_to_list e.link)
+  pub older_states : HasVariables e.variables e.older_states
+  pub older_inputs : HasVariables e.variables e.older_inputs
   pub block_range : (state : List Bool) → HasVariables e.variables (block_for e state)
   pub block_distinct : (state : List Bool) → has_distinct_variables (block_for e state) ≡ true
 
@@ -104,6 +116,7 @@ pub record MayTurn (e : Encoded) (s : SolverState) (assumptions : Clause) : Type
 pub record HasShownCand (e : Encoded) (values : List (Option Bool)) (old new : SolverState) (cand : Cand) : Type 0 where
   pub state : cand.state ≡ bits_on (value_of values) e.states
   pub input : cand.input ≡ bits_on (value_of values) e.inputs
+  pub before : cand.before ≡ before_on e (value_of values)
   pub id : ℕ
   pub blocked : HasBlocked old new (block_for e cand.state) id
 

@@ -1,13 +1,17 @@
 //! The candidate that an assignment shows.
 ghost use Rattle.std.specs.Prelude.{◌≡◌, ◌<◌, ◌≤◌, length, IfOk};
+ghost use Rattle.std.specs.Option.{option_to_list};
+ghost use Rattle.bs_clause.specs.Literal.{literal_value};
 ghost use Rattle.bs_clause.specs.Range.{HasVariables};
 ghost use Rattle.bs_book.specs.Values.{value_of};
 ghost use Rattle.bs_encode.specs.Cycle.{bits_on};
+ghost use Rattle.bs_encode.specs.Listing.{joins};
+ghost use Rattle.bs_preimage.specs.Turn.{before_on};
 
 use bs_bits::Bits;
 use bs_clause::{Assignment, Lit, NoMemory, Var};
 use bs_encode::Encoding;
-use bs_report::Cand;
+use bs_report::{Before, Cand};
 use std::alloc::Global;
 
 /// The value of a variable, false where it is open.
@@ -30,7 +34,45 @@ fn bits(alloc: Global, literals: &[Lit], values: &Assignment) -> Result<Bits, No
     Ok(bits)
 }
 
-/// The state and the input that an assignment shows.
+/// Whether a literal is true, where what is open counts as false.
+fn holds(values: &Assignment, literal: Lit) -> bool
+    requires { (1 ≤ literal.variable) × (literal.variable ≤ length values.now) }
+    ensures { result ≡ literal_value (value_of values.now) literal }
+{
+    value(values, literal.var()) == literal.positive()
+}
+
+/// Whether an assignment joins the second copy to the first.
+fn is_joined(encoding: &Encoding, values: &Assignment) -> bool
+    requires { HasVariables (length values.now) (option_to_list encoding.now.link) }
+    ensures { result ≡ joins (value_of values.now) encoding.now.link }
+{
+    match encoding.link() {
+        None => false,
+        Some(link) => holds(values, link),
+    }
+}
+
+/// The state and the input of the cycle before that an assignment shows, where it joins the copies.
+fn before(
+    alloc: Global,
+    encoding: &Encoding,
+    values: &Assignment,
+) -> Result<Option<Before>, NoMemory>
+    requires link { HasVariables (length values.now) (option_to_list encoding.now.link) }
+    requires states { HasVariables (length values.now) encoding.now.older_states }
+    requires inputs { HasVariables (length values.now) encoding.now.older_inputs }
+    ensures { IfOk result (λ before. before ≡ before_on encoding.now (value_of values.now)) }
+{
+    if !is_joined(encoding, values) {
+        return Ok(None);
+    }
+    let state = bits(alloc, encoding.older_states(), values)?;
+    let input = bits(alloc, encoding.older_inputs(), values)?;
+    Ok(Some(Before { state, input }))
+}
+
+/// The state and the input that an assignment shows, and those of the cycle before.
 pub(crate) fn candidate(
     alloc: Global,
     encoding: &Encoding,
@@ -38,10 +80,19 @@ pub(crate) fn candidate(
 ) -> Result<Cand, NoMemory>
     requires states { HasVariables (length values.now) encoding.now.states }
     requires inputs { HasVariables (length values.now) encoding.now.inputs }
+    requires link { HasVariables (length values.now) (option_to_list encoding.now.link) }
+    requires older_states { HasVariables (length values.now) encoding.now.older_states }
+    requires older_inputs { HasVariables (length values.now) encoding.now.older_inputs }
     ensures state { IfOk result (λ cand. cand.state ≡ bits_on (value_of values.now) encoding.now.states) }
     ensures input { IfOk result (λ cand. cand.input ≡ bits_on (value_of values.now) encoding.now.inputs) }
+    ensures before { IfOk result (λ cand. cand.before ≡ before_on encoding.now (value_of values.now)) }
 {
     let state = bits(alloc, encoding.states(), values)?;
     let input = bits(alloc, encoding.inputs(), values)?;
-    Ok(Cand { state, input })
+    let before = before(alloc, encoding, values)?;
+    Ok(Cand {
+        state,
+        input,
+        before,
+    })
 }

@@ -1,11 +1,13 @@
 //! Lists of candidates by one solver, whose log goes on from list to list.
-ghost use Rattle.std.specs.Prelude.{◌≡◌, ◌+◌, ◌<◌, ◌≤◌, true, false, length, All, IfOk, IfErr};
+ghost use Rattle.std.specs.Prelude.{◌≡◌, ◌+◌, ◌<◌, ◌≤◌, true, false, length, All, IfOk, IfErr, None, option_map};
 ghost use Rattle.bs_net.specs.Netlist.{circuit};
 ghost use Rattle.bs_log.specs.Refusal.{has_distinct_variables, history_of, NoneRefused, IsAccepted};
 ghost use Rattle.bs_log.specs.Lean.{LemmasAreLean, StepsLeaveKept};
 ghost use Rattle.bs_log.specs.LineForms.{HasText};
 ghost use Rattle.bs_clause.specs.declared.literal.TheConstants.{VARIABLE_LIMIT};
 ghost use Rattle.bs_clause.specs.Range.{HasVariables};
+ghost use Rattle.bs_scan.specs.Choice.{depth_of};
+ghost use Rattle.bs_encode.specs.Assuming.{AreWide};
 ghost use Rattle.bs_encode.specs.declared.encoding.TheConstants.{MAX_GUARDS};
 ghost use Rattle.bs_preimage.specs.Preimage.{fresh, assumptions_in, GoesOn, MayHaveStep};
 ghost use Rattle.bs_preimage.specs.Rest.{made};
@@ -93,26 +95,30 @@ impl<'a> Preimage<'a> {
         })
     }
 
-    /// Lists the states with the stored signature that lead to the present one, each with an input under which it does: all
-    /// of them, or `k` of them, or those that are found until a solve has logged `b` lemmas. After want of memory every later
+    /// Lists the states that agree with the stored signature and the older one, which is none where the register keeps one,
+    /// and that lead to the present state, each with an input under which it does, and with a state and an input before it
+    /// where there is an older signature: all of them, or `k` of them, or those that are found until a solve has logged `b` lemmas. After want of memory every later
     /// list answers it and logs nothing.
     pub fn list(
         &mut self,
         alloc: Global,
         present: &Bits,
         stored: &Bits,
+        older: Option<&Bits>,
         k: u64,
         b: u64,
     ) -> Result<Listing, NoMemory>
         requires state { length present.now ≡ length self.old.circuit.flops }
         requires signature { length stored.now ≡ length self.old.choice.items }
+        requires older { AreWide (length self.old.choice.items) (option_map (λ bits. bits.now) older) }
+        requires alone { depth_of self.old.choice ≡ 1 → option_map (λ bits. bits.now) older ≡ None }
         requires candidates { 1 ≤ k }
         requires conflicts { 1 ≤ b }
         requires calls { self.old.calls < MAX_GUARDS }
-        ensures ok { IfOk result (HasListed self.old self.new present.now stored.now k b) }
+        ensures ok { IfOk result (HasListed self.old self.new present.now stored.now (option_map (λ bits. bits.now) older.entry) k b) }
         ensures err { IfErr result (λ _. self.new.failed ≡ true) }
         ensures goes_on { GoesOn self.old self.new }
-        ensures steps { MayHaveStep self.old self.new (assumptions_in self.old present.now stored.now) }
+        ensures steps { MayHaveStep self.old self.new (assumptions_in self.old present.now stored.now (option_map (λ bits. bits.now) older.entry)) }
         ensures stays { self.old.failed ≡ true → (self.new.problem ≡ self.old.problem) × (self.new.history ≡ self.old.history) }
         ensures calls { self.new.calls ≡ self.old.calls + 1 }
     {
@@ -124,6 +130,7 @@ impl<'a> Preimage<'a> {
         let asked = Question {
             present,
             stored,
+            older,
             k,
             b,
         };

@@ -1,6 +1,8 @@
 //! A step of the log: the list of candidates for one present state.
-ghost use Rattle.std.specs.Prelude.{◌≡◌, ◌≤◌, ◌<◌, [], true, length, IfOk};
+ghost use Rattle.std.specs.Prelude.{◌≡◌, ◌≤◌, ◌<◌, [], true, length, IfOk, None, option_map};
 ghost use Rattle.bs_net.specs.Netlist.{circuit};
+ghost use Rattle.bs_scan.specs.Choice.{depth_of};
+ghost use Rattle.bs_encode.specs.Assuming.{AreWide};
 ghost use Rattle.bs_encode.specs.declared.encoding.TheConstants.{MAX_GUARDS};
 ghost use Rattle.bs_preimage.specs.Rest.{IsAbout, IsAtRest};
 ghost use Rattle.bs_preimage.specs.Turn.{IsReadable, Extends};
@@ -18,12 +20,13 @@ use bs_report::{Cand, ListEnd};
 use bs_scan::Choice;
 use std::alloc::Global;
 
-/// What is asked: which states with the stored signature lead to the present one, at most `k` of them, with at most `b`
-/// lemmas in a solve.
+/// What is asked: which states that agree with the stored signature and the older one lead to the present one, at most `k`
+/// of them, with at most `b` lemmas in a solve.
 #[derive(Clone, Copy)]
 pub(crate) struct Question<'a> {
     pub(crate) present: &'a Bits,
     pub(crate) stored: &'a Bits,
+    pub(crate) older: Option<&'a Bits>,
     pub(crate) k: u64,
     pub(crate) b: u64,
 }
@@ -54,14 +57,15 @@ fn seek(
     requires few { length solver.old.book.problem.steps < MAX_GUARDS }
     requires state { length asked.now.present.now ≡ length encoding.now.next }
     requires signature { length asked.now.stored.now ≡ length encoding.now.signatures }
+    requires older { AreWide (length encoding.now.older_signatures) (option_map (λ bits. bits.now) asked.now.older) }
     requires candidates { 1 ≤ asked.now.k }
     requires conflicts { 1 ≤ asked.now.b }
     requires none { found.old.items ≡ [] }
-    ensures ok { IfOk result (HasSought encoding.now solver.old solver.new asked.now.present.now asked.now.stored.now asked.now.k asked.now.b found.new.items) }
-    ensures lines { Extends true solver.old.book solver.new.book (assumptions_at encoding.now solver.old.book asked.now.present.now asked.now.stored.now) }
+    ensures ok { IfOk result (HasSought encoding.now solver.old solver.new asked.now.present.now asked.now.stored.now (option_map (λ bits. bits.now) asked.now.older) asked.now.k asked.now.b found.new.items) }
+    ensures lines { Extends true solver.old.book solver.new.book (assumptions_at encoding.now solver.old.book asked.now.present.now asked.now.stored.now (option_map (λ bits. bits.now) asked.now.older)) }
 {
     let guard = solver.begin_step()?;
-    let assumptions = encoding.assumptions(alloc, guard, asked.present, asked.stored)?;
+    let assumptions = encoding.assumptions(alloc, guard, asked.present, asked.stored, asked.older)?;
     let end = find(
         alloc,
         encoding,
@@ -89,14 +93,17 @@ pub(crate) fn list_step(
     requires few { length solver.old.book.problem.steps < MAX_GUARDS }
     requires state { length asked.now.present.now ≡ length (circuit net.now).flops }
     requires signature { length asked.now.stored.now ≡ length choice.now.items }
+    requires older { AreWide (length choice.now.items) (option_map (λ bits. bits.now) asked.now.older) }
+    requires alone { depth_of choice.now ≡ 1 → option_map (λ bits. bits.now) asked.now.older ≡ None }
     requires candidates { 1 ≤ asked.now.k }
     requires conflicts { 1 ≤ asked.now.b }
-    ensures ok { IfOk result (HasMadeStep (circuit net.now) choice.now solver.old solver.new asked.now.present.now asked.now.stored.now asked.now.k asked.now.b) }
-    ensures lines { Extends true solver.old.book solver.new.book (assumptions_at encoding.now solver.old.book asked.now.present.now asked.now.stored.now) }
+    ensures ok { IfOk result (HasMadeStep (circuit net.now) choice.now solver.old solver.new asked.now.present.now asked.now.stored.now (option_map (λ bits. bits.now) asked.now.older) asked.now.k asked.now.b) }
+    ensures lines { Extends true solver.old.book solver.new.book (assumptions_at encoding.now solver.old.book asked.now.present.now asked.now.stored.now (option_map (λ bits. bits.now) asked.now.older)) }
 {
     encodings_are_tidy(net, choice);
     predecessors_are_shown(net, choice);
     solutions_are_predecessors(net, choice);
+    let _items = choice.items();
     let mut found = Vec::new(alloc);
     let end = seek(alloc, encoding, solver, asked, &mut found)?;
     let _log = solver.log();

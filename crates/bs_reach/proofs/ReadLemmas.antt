@@ -5,7 +5,7 @@ use Rattle.std.proofs.lemmas.List.Elements.{All-weaker}
 use Rattle.bs_clause.specs.Literal.{Literal}
 use Rattle.bs_clause.specs.Range.{IsWithin, HasVariables}
 use Rattle.bs_unroll.specs.declared.limits.TheConstants.{MAX_COPY_VARIABLES}
-use Rattle.bs_unroll.specs.Room.{HasRoom}
+use Rattle.bs_encode.specs.Copy.{HasRoom}
 use Rattle.bs_unroll.proofs.UnrollLemmas.{base_fits, copies_fit, room_above}
 
 pub read_room : (n k c by : ℕ) (ls from : List Literal) → HasVariables n ls → c < k → k * n ≤ MAX_COPY_VARIABLES → by ≡ c * n → from ≡ ls → HasRoom by from

@@ -2,8 +2,9 @@
 ghost use Rattle.std.specs.Prelude.{◌≡◌, ◌+◌, ◌*◌, ◌<◌, ◌≤◌, length, All, IfOk};
 ghost use Rattle.bs_book.specs.Values.{value_of};
 ghost use Rattle.bs_encode.specs.Cycle.{bits_on};
-ghost use Rattle.bs_unroll.specs.Room.{HasRoom, IsUnrollable};
-ghost use Rattle.bs_unroll.specs.Unrolled.{raised_all, states_at, inputs_at, next_at};
+ghost use Rattle.bs_encode.specs.Copy.{raised_all, HasRoom};
+ghost use Rattle.bs_unroll.specs.Room.{IsUnrollable};
+ghost use Rattle.bs_unroll.specs.Unrolled.{states_at, inputs_at, next_at};
 ghost use Rattle.bs_unroll.specs.Laws.{states_shown, inputs_shown};
 ghost use Rattle.bs_reach.specs.Told.{EndFits, Tells};
 

@@ -1,5 +1,5 @@
 -- The text of a report, computed.
-use Rattle.std.proofs.Common.{◌≡◌, ℕ, true, false, [], ◌∷◌, ◌++◌, refl, Some}
+use Rattle.std.proofs.Common.{◌≡◌, ℕ, true, false, [], ◌∷◌, ◌++◌, refl, Some, None}
 use Rattle.std.specs.Prelude.{codes}
 use Rattle.std.specs.Fmt.{digits}
 use Rattle.bs_clause.specs.Literal.{Literal}
@@ -18,11 +18,13 @@ not_ v = record { variable = v; positive = false }
 abbrev pub report : Report
 report =
     record {
+      depth = 1;
       budgets = record { steps = 64; candidates = 256; conflicts = 100000 };
       steps = record {
         present = true ∷ [];
         stored = [];
-        cands = record { state = false ∷ []; input = [] } ∷ [];
+        older = None;
+        cands = record { state = false ∷ []; input = []; before = None } ∷ [];
         end = ends.Finished 7;
         hit = Some (record { run = 1; cycle = 0; state = false ∷ [] });
       } ∷ [];
@@ -40,3 +42,43 @@ spells : report_text report ≡
     ++ codes "log 7\ns\nb 6 -5 3 0\ns\n7 -5 -4 0 4 1 6 0\ne 7\nr 8\nd 6 7 0\nend\n"))
 unfolding head_text tail_text digits
 spells = refl
+
+-- two steps of a chip whose register keeps the signatures of two cycles
+abbrev pub deeper : Report
+deeper =
+    record {
+      depth = 2;
+      budgets = record { steps = 64; candidates = 256; conflicts = 100000 };
+      steps = record {
+        present = true ∷ true ∷ [];
+        stored = true ∷ [];
+        older = Some (false ∷ []);
+        cands =
+            record {
+              state = true ∷ true ∷ [];
+              input = true ∷ [];
+              before = Some (record { state = true ∷ false ∷ []; input = true ∷ [] });
+            } ∷ [];
+        end = ends.Finished 30;
+        hit = Some (record { run = 1; cycle = 1; state = true ∷ true ∷ [] });
+      } ∷ record {
+        present = true ∷ true ∷ [];
+        stored = false ∷ [];
+        older = None;
+        cands = record { state = false ∷ false ∷ []; input = true ∷ []; before = None } ∷ [];
+        end = ends.Finished 40;
+        hit = None;
+      } ∷ [];
+      stop = stops.Nohit;
+      states = (true ∷ true ∷ []) ∷ [];
+      inputs = [];
+      log = [];
+    }
+
+spells_deeper : report_text deeper ≡
+    codes "backspace 2\nasked 64 candidates 256 conflicts 100000\n"
+    ++ (codes "step 1\npresent 11\nstored 1\nolder 0\ncand 11 input 1 from 10 input 1\nlist finished 30\nhit 1 1 11\n"
+    ++ (codes "step 2\npresent 11\nstored 0\nolder none\ncand 00 input 1\nlist finished 40\nnohit\nstop nohit\n"
+    ++ codes "trace 0\nstate 11\nlog 0\nend\n"))
+unfolding head_text tail_text digits
+spells_deeper = refl

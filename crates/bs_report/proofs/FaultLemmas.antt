@@ -15,6 +15,7 @@ use Rattle.bs_bits.proofs.LineTextLemmas.{Lacks, piece_first}
 use Rattle.bs_log.specs.declared.line.Line.TheVariants as lines
 use Rattle.bs_report.specs.declared.fault.ReportFault.{ReportFault}
 use Rattle.bs_report.specs.declared.fault.ReportFault.TheVariants as faults
+use Rattle.bs_report.specs.declared.place.Begun.{Begun}
 use Rattle.bs_report.specs.declared.place.Place.{Place}
 use Rattle.bs_report.specs.declared.place.Place.TheVariants as places
 use Rattle.bs_report.specs.declared.report.Cand.{Cand}
@@ -23,7 +24,7 @@ use Rattle.bs_report.specs.declared.report.ListEnd.TheVariants as ends
 use Rattle.bs_report.specs.declared.report.Report.{Report}
 use Rattle.bs_report.specs.declared.report.Stop.TheVariants as stops
 use Rattle.bs_report.specs.Reading.{Reached, behind_state, log_place, taken, is_done, line_or_fault, followed, ended, report_from, nothing_read}
-use Rattle.bs_report.specs.Reading.{report_in, with_step}
+use Rattle.bs_report.specs.Reading.{report_in, begun, behind_stored, with_step}
 use Rattle.bs_report.specs.Text.{report_text}
 use Rattle.bs_report.specs.FaultLaw.{line_count, first_lines, Begins, IsWrongLine, IsShort, HasExtra, WrongLinesAreNamed, ShortTextsAreNamed}
 use Rattle.bs_report.specs.FaultLaw.{ExtraBytesAreNamed}
@@ -250,16 +251,23 @@ from_trace r = by_line places.Trace r (codes "trace 0") (places.State 0, r) refl
 from_turn : (r : Report) → Completes places.Turn r
 from_turn r = by_line places.Turn r (codes "stop reset") (places.Trace, record r { stop = stops.Reset }) refl (from_trace (record r { stop = stops.Reset }))
 
-from_hit : (p s : List Bool) (cands : List Cand) (e : ListEnd) (r : Report) → Completes (places.Hit p s cands e) r
-from_hit p s cands e r =
-    by_line (places.Hit p s cands e) r (codes "nohit") (places.Turn, with_step r p s cands e None) refl (from_turn (with_step r p s cands e None))
+from_hit : (b : Begun) (cands : List Cand) (e : ListEnd) (r : Report) → Completes (places.Hit b cands e) r
+from_hit b cands e r =
+    by_line (places.Hit b cands e) r (codes "nohit") (places.Turn, with_step r b cands e None) refl (from_turn (with_step r b cands e None))
 
-from_listing : (p s : List Bool) (cands : List Cand) (r : Report) → Completes (places.Listing p s cands) r
-from_listing p s cands r =
-    by_line (places.Listing p s cands) r (codes "list candidates") (places.Hit p s cands ends.Candidates, r) refl (from_hit p s cands ends.Candidates r)
+from_listing : (b : Begun) (cands : List Cand) (r : Report) → Completes (places.Listing b cands) r
+from_listing b cands r =
+    by_line (places.Listing b cands) r (codes "list candidates") (places.Hit b cands ends.Candidates, r) refl (from_hit b cands ends.Candidates r)
+
+from_older : (p s : List Bool) (r : Report) → Completes (places.Older p s) r
+from_older p s r = by_line (places.Older p s) r (codes "older none") (places.Listing (begun p s None) [], r) refl (from_listing (begun p s None) [] r)
 
 from_stored : (p : List Bool) (r : Report) → Completes (places.Stored p) r
-from_stored p r = by_line (places.Stored p) r (codes "stored .") (places.Listing p [] [], r) refl (from_listing p [] [] r)
+from_stored p r = by_line (places.Stored p) r (codes "stored .") (behind_stored r.depth p [], r) refl (by (r.depth == 1))
+  where
+    by : (one : Bool) → Completes (cond one (places.Listing (begun p [] None) []) (places.Older p [])) r
+    by true = from_listing (begun p [] None) [] r
+    by false = from_older p [] r
 
 from_present : (r : Report) → Completes places.Present r
 from_present r = by_line places.Present r (codes "present .") (places.Stored [], r) refl (from_stored [] r)
@@ -271,13 +279,15 @@ from_asked : (r : Report) → Completes places.Asked r
 from_asked r = by_line places.Asked r (codes "asked 1 candidates 1 conflicts 1") (places.Turn, with_least r) refl (from_turn (with_least r))
 
 completes : (place : Place) (r : Report) → Completes place r
-completes places.Title r = by_line places.Title r (codes "backspace 1") (places.Asked, r) refl (from_asked r)
+completes places.Title r =
+    by_line places.Title r (codes "backspace 1") (places.Asked, record r { depth = 1 }) refl (from_asked (record r { depth = 1 }))
 completes places.Asked r = from_asked r
 completes places.Turn r = from_turn r
 completes places.Present r = from_present r
 completes (places.Stored p) r = from_stored p r
-completes (places.Listing p s cands) r = from_listing p s cands r
-completes (places.Hit p s cands e) r = from_hit p s cands e r
+completes (places.Older p s) r = from_older p s r
+completes (places.Listing b cands) r = from_listing b cands r
+completes (places.Hit b cands e) r = from_hit b cands e r
 completes places.Trace r = from_trace r
 completes (places.State left) r = from_state left r
 completes (places.Input left) r = from_input left r
@@ -291,15 +301,15 @@ completes places.Done r = from_done r
 abbrev same_bytes : {bytes other : List ℕ} → other ≡ bytes → Begins bytes → Begins other
 same_bytes e b = record { report = b.report; has_text = b.has_text; rest = b.rest; spells = b.spells ∙ ap (λ (t : List ℕ). t ++ b.rest) (sym e) }
 
-record Begun (ls : List (List ℕ)) (y : Reached) : Type 0 where
+record Opened (ls : List (List ℕ)) (y : Reached) : Type 0 where
   begins : Begins (flat_map line ls)
   goes_on : is_done y.0 ≡ false → begins.rest ≢ []
 
 some_bytes : (a rest : List ℕ) → line a ++ rest ≢ []
 some_bytes a rest e = absurd (omega (arith, ap length e, length-append (line a) rest, length-append a (10 ∷ [])))
 
-begun : (ls : List (List ℕ)) (y : Reached) → lines_on places.Title nothing_read ls ≡ Some y → Begun ls y
-begun ls y e =
+opened : (ls : List (List ℕ)) (y : Reached) → lines_on places.Title nothing_read ls ≡ Some y → Opened ls y
+opened ls y e =
     let c = completes y.0 y.1 in
     let fits = lines_fit (ls ++ c.more) places.Title nothing_read [] (places.Done, c.all) (refl, refl)
     (lines_on_append places.Title nothing_read ls c.more y e ∙ c.to_end) in
@@ -447,7 +457,7 @@ wrong_line text n e =
     by before y piece [] k parts passed counted here = absurd (never_line n y piece here)
     by before y piece (q ∷ qs) k parts passed counted here =
         let r = refused n k y piece here in
-        let g = begun before y passed in
+        let g = opened before y passed in
         let front : first_lines (n - 1) text ≡ flat_map line before =
         ap (flat_map line) (front_is before piece (q ∷ qs) text (n - 1) parts (omega (arith, r.number, counted))) in
         let lacks : Each (Lacks 10) (before ++ piece ∷ []) =
@@ -511,7 +521,7 @@ is_wrong_line text n w =
         let on : lines_on places.Title nothing_read (ls ++ piece ∷ []) ≡ Some z =
         lines_on_append places.Title nothing_read ls (piece ∷ []) y passed ∙ ap (option_and_then (λ (y : Reached). lines_on y.0 y.1 [])) t in
         let lines : first_lines n text ≡ flat_map line (ls ++ piece ∷ []) = ap (flat_map line) (with_next ls piece (next ∷ behind) text n parts long) in
-        absurd (w.wrong (same_bytes lines (begun (ls ++ piece ∷ []) z on).begins))
+        absurd (w.wrong (same_bytes lines (opened (ls ++ piece ∷ []) z on).begins))
 
 pub wrong_lines : WrongLinesAreNamed
 wrong_lines text n = (λ e. wrong_line text n e, λ w. is_wrong_line text n w)
@@ -545,7 +555,7 @@ short text e =
     by : (before : List (List ℕ)) (y : Reached) (piece : List ℕ) (behind : List (List ℕ)) (k : ℕ) → pieces_of text ≡ before ++ piece ∷ behind →
         lines_on places.Title nothing_read before ≡ Some y → Here (Err faults.Short) k y piece behind → IsShort text
     by before y piece [] k parts passed here =
-        let g = begun before y passed in
+        let g = opened before y passed in
         let front : first_lines (line_count text) text ≡ flat_map line before =
         ap (flat_map line) (front_is before piece [] text (line_count text) parts (omega (arith, ap length parts, length-append before (piece ∷ [])))) in
         record { before = same_bytes front g.begins; goes_on = g.goes_on (short_undone y piece here) }

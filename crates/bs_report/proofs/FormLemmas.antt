@@ -1,9 +1,10 @@
 -- Each line of a report's text is read back, and lacks line feeds.
-use Rattle.std.proofs.Common.{◌≡◌, ℕ, ◌<◌, ◌≤◌, ◌+◌, ◌^◌, Bool, true, false, cond, not, ◌&&◌, List, [], ◌∷◌, ◌++◌, refl, arith, ap, ◌∙◌, Option, Some, None}
+use Rattle.std.proofs.Common.{◌≡◌, ℕ, ◌<◌, ◌≤◌, ◌+◌, ◌^◌, Bool, true, false, cond, not, ◌&&◌, List, [], ◌∷◌, ◌++◌, refl, arith, ap, sym, subst, ◌∙◌, ◌⊎◌, inl, inr, Option, Some, None}
 use Rattle.std.specs.Prelude.{◌==◌, codes, decimal, nat_le, nat_lt, option_map}
 use Rattle.std.specs.List.{AllByRecursion as Each, flat_map, list_all}
 use Rattle.std.specs.Str.{bytes_eq}
-use Rattle.std.proofs.lemmas.Bool.{and_from, le-leb, lt-ltb}
+use Rattle.std.proofs.lemmas.Bool.{and_from, eqb-true, le-leb, lt-ltb}
+use Rattle.std.proofs.lemmas.List.{append-nil}
 use Rattle.bs_bits.specs.Text.{bits_text, bits_of}
 use Rattle.bs_bits.specs.Lines.{words_of, number_in, digits_in}
 use Rattle.bs_bits.proofs.TextLemmas.{bits_again}
@@ -19,15 +20,18 @@ use Rattle.bs_log.proofs.WordLemmas.{id_of_decimal, IsWord, words_joined}
 use Rattle.bs_stim.specs.declared.limits.TheConstants.{MAX_RUNS, MAX_CYCLES}
 use Rattle.bs_report.specs.declared.limits.TheConstants.{MAX_STEPS, MAX_CANDIDATES, MAX_CONFLICTS}
 use Rattle.bs_report.specs.declared.report.Budgets.{Budgets}
+use Rattle.bs_scan.specs.Choice.{IsDepth}
+use Rattle.bs_scan.specs.DumpText.{signature_text}
+use Rattle.bs_report.specs.declared.report.Before.{Before}
 use Rattle.bs_report.specs.declared.report.Cand.{Cand}
 use Rattle.bs_report.specs.declared.report.HitLine.{HitLine}
 use Rattle.bs_report.specs.declared.report.ListEnd.{ListEnd}
 use Rattle.bs_report.specs.declared.report.ListEnd.TheVariants.{Finished, Candidates as ByCandidates, Conflicts as ByConflicts}
 use Rattle.bs_report.specs.declared.report.Stop.{Stop}
 use Rattle.bs_report.specs.declared.report.Stop.TheVariants.{Reset, Length, Nohit, Empty, Candidates, Conflicts}
-use Rattle.bs_report.specs.Forms.{◌>>=◌, next_in, behind, at_end, within, number_within, number_behind, bits_behind, count_in, bits_in, budgets_in}
-use Rattle.bs_report.specs.Forms.{cand_in, end_of, end_in, moment_in, hit_in, stop_in}
-use Rattle.bs_report.specs.Text.{end_word, stop_word, HasEndText}
+use Rattle.bs_report.specs.Forms.{◌>>=◌, next_in, behind, at_end, within, number_within, number_behind, bits_behind, bits_next, count_in, bits_in}
+use Rattle.bs_report.specs.Forms.{budgets_in, depth_in, older_in, source_in, before_in, cand_in, end_of, end_in, moment_in, hit_in, stop_in}
+use Rattle.bs_report.specs.Text.{title, before_text, cand_words, end_word, stop_word, IsOfDepth, HasEndText}
 
 -- ---- words
 
@@ -129,23 +133,110 @@ budgets_again b sl su cl cu fl fu =
           ),
         )
 
-pub cand_again : (c : Cand) → cand_in (codes "cand " ++ (bits_text c.state ++ (codes " input " ++ bits_text c.input))) ≡ Some c
-cand_again c =
-    ap (λ (ws : List (List ℕ)). bits_behind (codes "cand") ws >>= first) words
-    ∙ (given _ (c.state, codes "input" ∷ bits_text c.input ∷ []) first (bits_behind_again (codes "cand") c.state (codes "input" ∷ bits_text c.input ∷ []) refl)
-    ∙ given _ (c.input, []) (second c.state) (bits_behind_again (codes "input") c.input [] refl))
+pub title_again : (depth : ℕ) → IsDepth depth → depth_in (title depth) ≡ Some depth
+title_again depth (inl e) = subst (λ (d : ℕ). depth_in (title d) ≡ Some d) (sym e) refl
+title_again depth (inr e) = subst (λ (d : ℕ). depth_in (title d) ≡ Some d) (sym e) refl
+
+pub title_lacks : (depth : ℕ) → Lacks 10 (title depth)
+title_lacks depth = by (depth == 1)
   where
-    second : List Bool → List Bool × List (List ℕ) → Option Cand
+    by : (one : Bool) → Lacks 10 (cond one (codes "backspace 1") (codes "backspace 2"))
+    by true = (refl, (refl, (refl, (refl, (refl, (refl, (refl, (refl, (refl, (refl, (refl, tt)))))))))))
+    by false = (refl, (refl, (refl, (refl, (refl, (refl, (refl, (refl, (refl, (refl, (refl, tt)))))))))))
+
+bits_next_again : (bs : List Bool) (ws : List (List ℕ)) → bits_next (bits_text bs ∷ ws) ≡ Some (bs, ws)
+bits_next_again bs ws = given (bits_of (bits_text bs)) bs (λ bits. Some (bits, ws)) (bits_again bs)
+
+not_none : (bs : List Bool) → bytes_eq (codes "older " ++ bits_text bs) (codes "older none") ≡ false
+not_none [] = refl
+not_none (false ∷ bs) = refl
+not_none (true ∷ bs) = refl
+
+pub older_again : (older : Option (List Bool)) → older_in (codes "older " ++ signature_text older) ≡ Some older
+older_again None = refl
+older_again (Some bs) =
+    ap (λ (b : Bool). cond {A = Option (Option (List Bool))} b (Some None)
+    (option_map (λ (bits : List Bool). Some bits) (bits_in (codes "older") (codes "older " ++ bits_text bs)))) (not_none bs)
+    ∙ ap (option_map (λ (bits : List Bool). Some bits))
+    (bits_line_again (codes "older") (codes "older " ++ bits_text bs) bs (words_joined (codes "older") (bits_text bs ∷ []) (refl, (bits_word bs, tt))) refl)
+
+pub older_lacks : (older : Option (List Bool)) → Lacks 10 (codes "older " ++ signature_text older)
+older_lacks older = lacks_append 10 (codes "older ") (signature_text older) (refl, (refl, (refl, (refl, (refl, (refl, tt)))))) (by older)
+  where
+    by : (older : Option (List Bool)) → Lacks 10 (signature_text older)
+    by None = (refl, (refl, (refl, (refl, tt))))
+    by (Some bs) = bits_lack 10 bs (omega arith)
+
+-- the words of the state before a candidate
+abbrev before_words : Option Before → List (List ℕ)
+before_words None = []
+before_words (Some before) = codes "from" ∷ bits_text before.state ∷ codes "input" ∷ bits_text before.input ∷ []
+
+source_again : (before : Before) → source_in (bits_text before.state ∷ codes "input" ∷ bits_text before.input ∷ []) ≡ Some before
+source_again before =
+    given _ (before.state, codes "input" ∷ bits_text before.input ∷ []) first (bits_next_again before.state (codes "input" ∷ bits_text before.input ∷ []))
+    ∙ given _ (before.input, []) (second before.state) (bits_behind_again (codes "input") before.input [] refl)
+  where
+    second : List Bool → List Bool × List (List ℕ) → Option Before
     second state input = at_end input.1 (record { state = state; input = input.0 })
+
+    first : List Bool × List (List ℕ) → Option Before
+    first state = bits_behind (codes "input") state.1 >>= second state.0
+
+before_again : (depth : ℕ) (before : Option Before) → IsOfDepth depth before → before_in depth (before_words before) ≡ Some before
+before_again depth None h = refl
+before_again depth (Some before) h = by (depth == 1) refl
+  where
+    by : (one : Bool) → (depth == 1) ≡ one →
+        cond {A = Option (Option Before)} one None (option_map (λ (before : Before). Some before)
+        (source_in (bits_text before.state ∷ codes "input" ∷ bits_text before.input ∷ []))) ≡ Some (Some before)
+    by true z = let none : Some before ≡ None = h (eqb-true depth 1 z) in absurd (cc)
+    by false z = ap (option_map (λ (before : Before). Some before)) (source_again before)
+
+pub cand_again : (depth : ℕ) (c : Cand) → IsOfDepth depth c.before → cand_in depth (cand_words c) ≡ Some c
+cand_again depth c h =
+    ap (λ (ws : List (List ℕ)). bits_behind (codes "cand") ws >>= first) (words c.before)
+    ∙ (given _ (c.state, codes "input" ∷ bits_text c.input ∷ before_words c.before) first
+    (bits_behind_again (codes "cand") c.state (codes "input" ∷ bits_text c.input ∷ before_words c.before) refl)
+    ∙ (given _ (c.input, before_words c.before) (second c.state) (bits_behind_again (codes "input") c.input (before_words c.before) refl)
+    ∙ given _ c.before (third c.state c.input) (before_again depth c.before h)))
+  where
+    third : List Bool → List Bool → Option Before → Option Cand
+    third state input before = Some (record { state = state; input = input; before = before })
+
+    second : List Bool → List Bool × List (List ℕ) → Option Cand
+    second state input = before_in depth input.1 >>= third state input.0
 
     first : List Bool × List (List ℕ) → Option Cand
     first state = bits_behind (codes "input") state.1 >>= second state.0
 
-    words : words_of (codes "cand " ++ (bits_text c.state ++ (codes " input " ++ bits_text c.input))) ≡ codes "cand" ∷ bits_text c.state ∷ codes "input"
-        ∷ bits_text c.input ∷ []
-    words =
-        words_joined (codes "cand") (bits_text c.state ∷ codes "input" ∷ bits_text c.input ∷ [])
+    words : (before : Option Before) →
+        words_of (codes "cand " ++ (bits_text c.state ++ (codes " input " ++ (bits_text c.input ++ before_text before)))) ≡ codes "cand" ∷ bits_text c.state
+        ∷ codes "input" ∷ bits_text c.input ∷ before_words before
+    words None =
+        ap (λ (t : List ℕ). words_of (codes "cand " ++ (bits_text c.state ++ (codes " input " ++ t)))) (append-nil (bits_text c.input))
+        ∙ words_joined (codes "cand") (bits_text c.state ∷ codes "input" ∷ bits_text c.input ∷ [])
         (refl, (bits_word c.state, (refl, (bits_word c.input, tt))))
+    words (Some before) =
+        words_joined (codes "cand")
+        (bits_text c.state ∷ codes "input" ∷ bits_text c.input ∷ codes "from" ∷ bits_text before.state ∷ codes "input" ∷ bits_text before.input ∷ [])
+        (refl, (bits_word c.state, (refl, (bits_word c.input, (refl, (bits_word before.state, (refl, (bits_word before.input, tt))))))))
+
+pub cand_lacks : (c : Cand) → Lacks 10 (cand_words c)
+cand_lacks c =
+    lacks_append 10 (codes "cand ") _ (refl, (refl, (refl, (refl, (refl, tt)))))
+    (lacks_append 10 (bits_text c.state) _ (bits_lack 10 c.state (omega arith))
+    (lacks_append 10 (codes " input ") _ input_lacks (lacks_append 10 (bits_text c.input) _ (bits_lack 10 c.input (omega arith)) (by c.before))))
+  where
+    input_lacks : Lacks 10 (codes " input ")
+    input_lacks = (refl, (refl, (refl, (refl, (refl, (refl, (refl, tt)))))))
+
+    by : (before : Option Before) → Lacks 10 (before_text before)
+    by None = tt
+    by (Some before) =
+        lacks_append 10 (codes " from ") _ (refl, (refl, (refl, (refl, (refl, (refl, tt))))))
+        (lacks_append 10 (bits_text before.state) _ (bits_lack 10 before.state (omega arith))
+        (lacks_append 10 (codes " input ") (bits_text before.input) input_lacks (bits_lack 10 before.input (omega arith))))
 
 pub end_again : (e : ListEnd) → HasEndText e → end_in (codes "list " ++ end_word e) ≡ Some e
 end_again (Finished id) h =

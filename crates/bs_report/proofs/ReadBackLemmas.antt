@@ -1,9 +1,9 @@
 -- A report that has a text is read back from it.
-use Rattle.std.proofs.Common.{◌≡◌, ℕ, suc, ◌<◌, ◌+◌, ◌-◌, ◌^◌, Bool, false, cond, List, [], ◌∷◌, ◌++◌, length, get_or, refl, arith, ap, sym, subst}
+use Rattle.std.proofs.Common.{◌≡◌, ℕ, suc, ◌<◌, ◌+◌, ◌-◌, ◌^◌, Bool, true, false, cond, List, [], ◌∷◌, ◌++◌, length, get_or, refl, arith, ap, sym, subst}
 use Rattle.std.proofs.Common.{◌∙◌, Option, Some, None, append_assoc}
-use Rattle.std.specs.Prelude.{codes, decimal, option_map, Err}
+use Rattle.std.specs.Prelude.{◌==◌, codes, decimal, option_map, Err}
 use Rattle.std.specs.List.{AllByRecursion as Each, flat_map, range_with_len}
-use Rattle.std.proofs.lemmas.Bool.{eq-eqb, ne_eqb}
+use Rattle.std.proofs.lemmas.Bool.{eq-eqb, eqb-true, ne_eqb}
 use Rattle.std.proofs.lemmas.List.{append-nil, length-append}
 use Rattle.std.proofs.lemmas.List.Elements.{recursion_from_All}
 use Rattle.bs_bits.specs.Text.{bits_text}
@@ -15,6 +15,8 @@ use Rattle.bs_log.specs.LineForms.{HasText}
 use Rattle.bs_log.specs.LineText.{line_text}
 use Rattle.bs_log.proofs.RoundTrip.{lines_read_back}
 use Rattle.bs_report.specs.declared.fault.ReportFault.{ReportFault}
+use Rattle.bs_scan.specs.DumpText.{signature_text}
+use Rattle.bs_report.specs.declared.place.Begun.{Begun}
 use Rattle.bs_report.specs.declared.place.Place.{Place}
 use Rattle.bs_report.specs.declared.place.Place.TheVariants as places
 use Rattle.bs_report.specs.declared.report.Budgets.{Budgets}
@@ -26,13 +28,13 @@ use Rattle.bs_report.specs.declared.report.Stop.{Stop}
 use Rattle.bs_report.specs.declared.report.Stop.TheVariants as stops
 use Rattle.bs_report.specs.declared.report.Step.{Step}
 use Rattle.bs_report.specs.declared.report.Report.{Report}
-use Rattle.bs_report.specs.Reading.{Reached, begins, turned, more_listed, with_step, behind_state, log_place, taken, is_done, line_or_fault, ended}
-use Rattle.bs_report.specs.Reading.{report_from, nothing_read, report_in}
-use Rattle.bs_report.specs.Text.{cand_text, end_word, hit_text, step_text, steps_text, stop_word, state_text, move_text, trace_text, budgets_text}
-use Rattle.bs_report.specs.Text.{head_text, tail_text, HasEndText, HasHitText, HasStepText, HasReportText}
+use Rattle.bs_report.specs.Reading.{Reached, begins, turned, begun, behind_stored, more_listed, with_step, behind_state, log_place, taken, is_done}
+use Rattle.bs_report.specs.Reading.{line_or_fault, ended, report_from, nothing_read, report_in}
+use Rattle.bs_report.specs.Text.{title, cand_words, cand_text, older_text, end_word, hit_text, step_text, steps_text, stop_word, state_text, move_text}
+use Rattle.bs_report.specs.Text.{trace_text, budgets_text, head_text, tail_text, IsOfDepth, HasEndText, HasHitText, HasStepText, HasReportText}
 use Rattle.bs_report.specs.ReadingLaw.{ReportsReadBack}
-use Rattle.bs_report.proofs.FormLemmas.{count_again, bits_line_again, budgets_again, cand_again, end_again, hit_again, stop_again, words_of_count}
-use Rattle.bs_report.proofs.FormLemmas.{words_of_bits, log_line_lacks}
+use Rattle.bs_report.proofs.FormLemmas.{count_again, bits_line_again, budgets_again, title_again, title_lacks, older_again, older_lacks, cand_again}
+use Rattle.bs_report.proofs.FormLemmas.{cand_lacks, end_again, hit_again, stop_again, words_of_count, words_of_bits, log_line_lacks}
 use Rattle.bs_report.proofs.ReadingLemmas.{line_from}
 
 -- ---- lines one after another
@@ -75,31 +77,39 @@ one_of place next r after a b rest lacks undone t =
 
 -- ---- a step
 
-cands_go : (p s : List Bool) (done cands : List Cand) (r : Report) (rest : List ℕ) →
-    Goes (places.Listing p s done) r (flat_map cand_text cands ++ rest) (places.Listing p s (done ++ cands)) r rest
-cands_go p s done [] r rest = subst (λ (cs : List Cand). Goes (places.Listing p s done) r rest (places.Listing p s cs) r rest) (sym (append-nil done))
-    (stays (places.Listing p s done) r rest)
-cands_go p s done (c ∷ cs) r rest =
-    on
-    (one_of (places.Listing p s done) (places.Listing p s (done ++ c ∷ [])) r r
-    (codes "cand " ++ (bits_text c.state ++ (codes " input " ++ bits_text c.input))) (flat_map cand_text cs) rest lacks refl
-    (ap (λ (o : Option Cand). option_map (λ (place : Place). (place, r))
-    (more_listed p s done (codes "cand " ++ (bits_text c.state ++ (codes " input " ++ bits_text c.input))) o)) (cand_again c)))
-    (subst (λ (all : List Cand). Goes (places.Listing p s (done ++ c ∷ [])) r (flat_map cand_text cs ++ rest) (places.Listing p s all) r rest)
-    (append_assoc done (c ∷ []) cs)
-    (cands_go p s (done ++ c ∷ []) cs r rest))
+-- behind the stored signature
+older_goes : (r : Report) (p s : List Bool) (older : Option (List Bool)) (b rest : List ℕ) → IsOfDepth r.depth older →
+    Goes (behind_stored r.depth p s) r ((older_text r.depth older ++ b) ++ rest) (places.Listing (begun p s older) []) r (b ++ rest)
+older_goes r p s older b rest h = by (r.depth == 1) refl
   where
-    lacks : Lacks 10 (codes "cand " ++ (bits_text c.state ++ (codes " input " ++ bits_text c.input)))
-    lacks =
-        lacks_append 10 (codes "cand ") _ (refl, (refl, (refl, (refl, (refl, tt)))))
-        (lacks_append 10 (bits_text c.state) _ (bits_lack 10 c.state (omega arith))
-        (lacks_append 10 (codes " input ") (bits_text c.input) (refl, (refl, (refl, (refl, (refl, (refl, (refl, tt))))))) (bits_lack 10 c.input (omega arith))))
+    by : (one : Bool) → (r.depth == 1) ≡ one →
+        Goes (cond one (places.Listing (begun p s None) []) (places.Older p s)) r
+        ((cond one [] (line (codes "older " ++ signature_text older)) ++ b) ++ rest) (places.Listing (begun p s older) []) r (b ++ rest)
+    by true z =
+        subst (λ (o : Option (List Bool)). Goes (places.Listing (begun p s None) []) r (b ++ rest) (places.Listing (begun p s o) []) r (b ++ rest))
+        (sym (h (eqb-true r.depth 1 z))) (stays (places.Listing (begun p s None) []) r (b ++ rest))
+    by false z =
+        one_of (places.Older p s) (places.Listing (begun p s older) []) r r (codes "older " ++ signature_text older) b rest (older_lacks older) refl
+        (ap (λ (o : Option (Option (List Bool))). option_map (λ (place : Place). (place, r))
+        (option_map (λ (older : Option (List Bool)). places.Listing (begun p s older) []) o)) (older_again older))
 
-list_goes : (p s : List Bool) (cands : List Cand) (e : ListEnd) (r : Report) (b rest : List ℕ) → HasEndText e →
-    Goes (places.Listing p s cands) r ((line (codes "list " ++ end_word e) ++ b) ++ rest) (places.Hit p s cands e) r (b ++ rest)
-list_goes p s cands e r b rest h =
-    one_of (places.Listing p s cands) (places.Hit p s cands e) r r (codes "list " ++ end_word e) b rest (lacks e h) refl
-    (ap (λ (o : Option ListEnd). option_map (λ (place : Place). (place, r)) (option_map (λ (ended : ListEnd). places.Hit p s cands ended) o)) (end_again e h))
+cands_go : (h : Begun) (done cands : List Cand) (r : Report) (rest : List ℕ) → Each (λ cand. IsOfDepth r.depth cand.before) cands →
+    Goes (places.Listing h done) r (flat_map cand_text cands ++ rest) (places.Listing h (done ++ cands)) r rest
+cands_go h done [] r rest of = subst (λ (cs : List Cand). Goes (places.Listing h done) r rest (places.Listing h cs) r rest) (sym (append-nil done))
+    (stays (places.Listing h done) r rest)
+cands_go h done (c ∷ cs) r rest of =
+    on
+    (one_of (places.Listing h done) (places.Listing h (done ++ c ∷ [])) r r (cand_words c) (flat_map cand_text cs) rest (cand_lacks c) refl
+    (ap (λ (o : Option Cand). option_map (λ (place : Place). (place, r)) (more_listed h done (cand_words c) o)) (cand_again r.depth c of.0)))
+    (subst (λ (all : List Cand). Goes (places.Listing h (done ++ c ∷ [])) r (flat_map cand_text cs ++ rest) (places.Listing h all) r rest)
+    (append_assoc done (c ∷ []) cs)
+    (cands_go h (done ++ c ∷ []) cs r rest of.1))
+
+list_goes : (head : Begun) (cands : List Cand) (e : ListEnd) (r : Report) (b rest : List ℕ) → HasEndText e →
+    Goes (places.Listing head cands) r ((line (codes "list " ++ end_word e) ++ b) ++ rest) (places.Hit head cands e) r (b ++ rest)
+list_goes head cands e r b rest h =
+    one_of (places.Listing head cands) (places.Hit head cands e) r r (codes "list " ++ end_word e) b rest (lacks e h) refl
+    (ap (λ (o : Option ListEnd). option_map (λ (place : Place). (place, r)) (option_map (λ (ended : ListEnd). places.Hit head cands ended) o)) (end_again e h))
   where
     lacks : (e : ListEnd) → HasEndText e → Lacks 10 (codes "list " ++ end_word e)
     lacks (Finished id) h = (
@@ -109,14 +119,14 @@ list_goes p s cands e r b rest h =
     lacks ByCandidates h = (refl, (refl, (refl, (refl, (refl, (refl, (refl, (refl, (refl, (refl, (refl, (refl, (refl, (refl, (refl, tt)))))))))))))))
     lacks ByConflicts h = (refl, (refl, (refl, (refl, (refl, (refl, (refl, (refl, (refl, (refl, (refl, (refl, (refl, (refl, tt))))))))))))))
 
-hit_goes : (p s : List Bool) (cands : List Cand) (e : ListEnd) (hit : Option HitLine) (r : Report) (rest : List ℕ) → HasHitText hit →
-    Goes (places.Hit p s cands e) r (hit_text hit ++ rest) places.Turn (with_step r p s cands e hit) rest
-hit_goes p s cands e None r rest h =
-    one (places.Hit p s cands e) places.Turn r (with_step r p s cands e None) (codes "nohit") rest (refl, (refl, (refl, (refl, (refl, tt))))) refl refl
-hit_goes p s cands e (Some hit) r rest h =
-    one (places.Hit p s cands e) places.Turn r (with_step r p s cands e (Some hit))
+hit_goes : (head : Begun) (cands : List Cand) (e : ListEnd) (hit : Option HitLine) (r : Report) (rest : List ℕ) → HasHitText hit →
+    Goes (places.Hit head cands e) r (hit_text hit ++ rest) places.Turn (with_step r head cands e hit) rest
+hit_goes head cands e None r rest h =
+    one (places.Hit head cands e) places.Turn r (with_step r head cands e None) (codes "nohit") rest (refl, (refl, (refl, (refl, (refl, tt))))) refl refl
+hit_goes head cands e (Some hit) r rest h =
+    one (places.Hit head cands e) places.Turn r (with_step r head cands e (Some hit))
     (codes "hit " ++ (decimal hit.run ++ (codes " " ++ (decimal hit.cycle ++ (codes " " ++ bits_text hit.state))))) rest lacks refl
-    (ap (option_map (λ (hit : Option HitLine). (places.Turn, with_step r p s cands e hit))) (hit_again hit h.0 h.1 h.2))
+    (ap (option_map (λ (hit : Option HitLine). (places.Turn, with_step r head cands e hit))) (hit_again hit h.0 h.1 h.2))
   where
     lacks : Lacks 10 (codes "hit " ++ (decimal hit.run ++ (codes " " ++ (decimal hit.cycle ++ (codes " " ++ bits_text hit.state)))))
     lacks =
@@ -129,12 +139,12 @@ hit_goes p s cands e (Some hit) r rest h =
 abbrev with_steps : Report → List Step → Report
 with_steps r steps = record r { steps = steps }
 
-step_goes : (r : Report) (number : ℕ) (step : Step) (rest : List ℕ) → HasStepText step → number ≡ length r.steps + 1 → number < 2 ^ 64 →
-    Goes places.Turn r (step_text number step ++ rest) places.Turn (with_steps r (r.steps ++ step ∷ [])) rest
+step_goes : (r : Report) (number : ℕ) (step : Step) (rest : List ℕ) → HasStepText r.depth step → number ≡ length r.steps + 1 → number < 2 ^ 64 →
+    Goes places.Turn r (step_text r.depth number step ++ rest) places.Turn (with_steps r (r.steps ++ step ∷ [])) rest
 step_goes r number step rest h e small =
     on
     (one_of places.Turn places.Present r r (codes "step " ++ decimal number) rest1 rest
-    (lacks_append 10 (codes "step ") (decimal number) (refl, (refl, (refl, (refl, (refl, tt))))) (number_lacks 10 number (omega arith) small)) refl begun)
+    (lacks_append 10 (codes "step ") (decimal number) (refl, (refl, (refl, (refl, (refl, tt))))) (number_lacks 10 number (omega arith) small)) refl begins_it)
     (on
     (one_of places.Present (places.Stored step.present) r r (codes "present " ++ bits_text step.present) rest2 rest
     (lacks_append 10 (codes "present ") (bits_text step.present) (refl, (refl, (refl, (refl, (refl, (refl, (refl, (refl, tt))))))))
@@ -142,22 +152,31 @@ step_goes r number step rest h e small =
     (ap (λ (o : Option (List Bool)). option_map (λ (place : Place). (place, r)) (option_map (λ (s : List Bool). places.Stored s) o))
     (bits_line_again (codes "present") (codes "present " ++ bits_text step.present) step.present (words_of_bits (codes "present") step.present refl) refl)))
     (on
-    (one_of (places.Stored step.present) (places.Listing step.present step.stored []) r r (codes "stored " ++ bits_text step.stored) rest3 rest
+    (one_of (places.Stored step.present) (behind_stored r.depth step.present step.stored) r r (codes "stored " ++ bits_text step.stored) rest3 rest
     (lacks_append 10 (codes "stored ") (bits_text step.stored) (refl, (refl, (refl, (refl, (refl, (refl, (refl, tt)))))))
     (bits_lack 10 step.stored (omega arith))) refl
-    (ap (λ (o : Option (List Bool)). option_map (λ (place : Place). (place, r)) (option_map (λ (s : List Bool). places.Listing step.present s []) o))
+    (ap (λ (o : Option (List Bool)). option_map (λ (place : Place). (place, r))
+    (option_map (λ (s : List Bool). behind_stored r.depth step.present s) o))
     (bits_line_again (codes "stored") (codes "stored " ++ bits_text step.stored) step.stored (words_of_bits (codes "stored") step.stored refl) refl)))
+    (on (older_goes r step.present step.stored step.older rest4 rest h.older)
     (on
-    (subst (λ (text : List ℕ). Goes (places.Listing step.present step.stored []) r text (places.Listing step.present step.stored step.cands) r (rest4 ++ rest))
-    (sym (append_assoc (flat_map cand_text step.cands) rest4 rest)) (cands_go step.present step.stored [] step.cands r (rest4 ++ rest)))
-    (on (list_goes step.present step.stored step.cands step.end r (hit_text step.hit) rest h.list)
-    (hit_goes step.present step.stored step.cands step.end step.hit r rest h.hit)))))
+    (subst (λ (text : List ℕ). Goes (places.Listing head []) r text (places.Listing head step.cands) r (rest5 ++ rest))
+    (sym (append_assoc (flat_map cand_text step.cands) rest5 rest))
+    (cands_go head [] step.cands r (rest5 ++ rest) (recursion_from_All (λ (cand : Cand). IsOfDepth r.depth cand.before) step.cands h.befores)))
+    (on (list_goes head step.cands step.end r (hit_text step.hit) rest h.list)
+    (hit_goes head step.cands step.end step.hit r rest h.hit))))))
   where
+    head : Begun
+    head = begun step.present step.stored step.older
+
+    rest5 : List ℕ
+    rest5 = line (codes "list " ++ end_word step.end) ++ hit_text step.hit
+
     rest4 : List ℕ
-    rest4 = line (codes "list " ++ end_word step.end) ++ hit_text step.hit
+    rest4 = flat_map cand_text step.cands ++ rest5
 
     rest3 : List ℕ
-    rest3 = flat_map cand_text step.cands ++ rest4
+    rest3 = older_text r.depth step.older ++ rest4
 
     rest2 : List ℕ
     rest2 = line (codes "stored " ++ bits_text step.stored) ++ rest3
@@ -165,24 +184,24 @@ step_goes r number step rest h e small =
     rest1 : List ℕ
     rest1 = line (codes "present " ++ bits_text step.present) ++ rest2
 
-    begun : taken places.Turn r (codes "step " ++ decimal number) ≡ Some (places.Present, r)
-    begun =
+    begins_it : taken places.Turn r (codes "step " ++ decimal number) ≡ Some (places.Present, r)
+    begins_it =
         ap (λ (o : Option ℕ). cond {A = Option Reached} (begins (length r.steps + 1) o) (Some (places.Present, r)) None)
         (count_again (codes "step") (codes "step " ++ decimal number) number (words_of_count (codes "step") number refl small) refl small)
         ∙ ap (λ (b : Bool). cond {A = Option Reached} b (Some (places.Present, r)) None) (eq-eqb number (length r.steps + 1) e)
 
-steps_go : (r : Report) (number : ℕ) (steps : List Step) (rest : List ℕ) → Each HasStepText steps → number ≡ length r.steps + 1 →
+steps_go : (r : Report) (number : ℕ) (steps : List Step) (rest : List ℕ) → Each (HasStepText r.depth) steps → number ≡ length r.steps + 1 →
     length r.steps + length steps < 2 ^ 64 →
-    Goes places.Turn r (steps_text number steps ++ rest) places.Turn (with_steps r (r.steps ++ steps)) rest
+    Goes places.Turn r (steps_text r.depth number steps ++ rest) places.Turn (with_steps r (r.steps ++ steps)) rest
 steps_go r number [] rest h e few =
     subst (λ (steps : List Step). Goes places.Turn r rest places.Turn (with_steps r steps) rest) (sym (append-nil r.steps)) (stays places.Turn r rest)
 steps_go r number (s ∷ ss) rest h e few =
     let longer : length (r.steps ++ s ∷ []) ≡ length r.steps + 1 = length-append r.steps (s ∷ []) in
     on
-    (subst (λ (text : List ℕ). Goes places.Turn r text places.Turn (with_steps r (r.steps ++ s ∷ [])) (steps_text (number + 1) ss ++ rest))
-    (sym (append_assoc (step_text number s) (steps_text (number + 1) ss) rest))
-    (step_goes r number s (steps_text (number + 1) ss ++ rest) h.0 e (omega (arith, few, e))))
-    (subst (λ (steps : List Step). Goes places.Turn (with_steps r (r.steps ++ s ∷ [])) (steps_text (number + 1) ss ++ rest) places.Turn
+    (subst (λ (text : List ℕ). Goes places.Turn r text places.Turn (with_steps r (r.steps ++ s ∷ [])) (steps_text r.depth (number + 1) ss ++ rest))
+    (sym (append_assoc (step_text r.depth number s) (steps_text r.depth (number + 1) ss) rest))
+    (step_goes r number s (steps_text r.depth (number + 1) ss ++ rest) h.0 e (omega (arith, few, e))))
+    (subst (λ (steps : List Step). Goes places.Turn (with_steps r (r.steps ++ s ∷ [])) (steps_text r.depth (number + 1) ss ++ rest) places.Turn
     (with_steps r steps) rest) (append_assoc r.steps (s ∷ []) ss)
     (steps_go (with_steps r (r.steps ++ s ∷ [])) (number + 1) ss rest h.1 (omega (arith, e, longer)) (omega (arith, few, longer))))
 
@@ -298,33 +317,40 @@ with_budgets r b = record r { budgets = b }
 abbrev with_stop : Report → Stop → Report
 with_stop r stop = record r { stop = stop }
 
+abbrev with_depth : Report → ℕ → Report
+with_depth r depth = record r { depth = depth }
+
+-- before the budgets
+abbrev titled : Report → Report
+titled r = with_depth nothing_read r.depth
+
 head_goes : (r : Report) (rest : List ℕ) → HasReportText r →
-    Goes places.Title nothing_read (head_text r ++ rest) places.Trace (with_stop (with_steps (with_budgets nothing_read r.budgets) r.steps) r.stop) rest
+    Goes places.Title nothing_read (head_text r ++ rest) places.Trace (with_stop (with_steps (with_budgets (titled r) r.budgets) r.steps) r.stop) rest
 unfolding head_text
 head_goes r rest h =
     on
-    (one_of places.Title places.Asked nothing_read nothing_read (codes "backspace 1") rest1 rest
-    (refl, (refl, (refl, (refl, (refl, (refl, (refl, (refl, (refl, (refl, (refl, tt))))))))))) refl refl)
+    (one_of places.Title places.Asked nothing_read (titled r) (title r.depth) rest1 rest (title_lacks r.depth) refl
+    (ap (option_map (λ (depth : ℕ). (places.Asked, with_depth nothing_read depth))) (title_again r.depth h.depth)))
     (on
-    (one_of places.Asked places.Turn nothing_read (with_budgets nothing_read r.budgets) asked rest2 rest asked_lacks refl
-    (ap (option_map (λ (b : Budgets). (places.Turn, with_budgets nothing_read b)))
+    (one_of places.Asked places.Turn (titled r) (with_budgets (titled r) r.budgets) asked rest2 rest asked_lacks refl
+    (ap (option_map (λ (b : Budgets). (places.Turn, with_budgets (titled r) b)))
     (budgets_again r.budgets h.some_steps h.max_steps h.some_candidates h.max_candidates h.some_conflicts h.max_conflicts)))
     (on
-    (subst (λ (text : List ℕ). Goes places.Turn (with_budgets nothing_read r.budgets) text places.Turn
-    (with_steps (with_budgets nothing_read r.budgets) r.steps) (rest3 ++ rest))
-    (sym (append_assoc (steps_text 1 r.steps) rest3 rest))
-    (steps_go (with_budgets nothing_read r.budgets) 1 r.steps (rest3 ++ rest) (recursion_from_All HasStepText r.steps h.each_step) refl
+    (subst (λ (text : List ℕ). Goes places.Turn (with_budgets (titled r) r.budgets) text places.Turn
+    (with_steps (with_budgets (titled r) r.budgets) r.steps) (rest3 ++ rest))
+    (sym (append_assoc (steps_text r.depth 1 r.steps) rest3 rest))
+    (steps_go (with_budgets (titled r) r.budgets) 1 r.steps (rest3 ++ rest) (recursion_from_All (HasStepText r.depth) r.steps h.each_step) refl
     (omega (arith, h.few_steps))))
-    (one places.Turn places.Trace (with_steps (with_budgets nothing_read r.budgets) r.steps)
-    (with_stop (with_steps (with_budgets nothing_read r.budgets) r.steps) r.stop)
+    (one places.Turn places.Trace (with_steps (with_budgets (titled r) r.budgets) r.steps)
+    (with_stop (with_steps (with_budgets (titled r) r.budgets) r.steps) r.stop)
     (codes "stop " ++ stop_word r.stop) rest (stop_lacks r.stop) refl
-    (ap (turned (with_steps (with_budgets nothing_read r.budgets) r.steps) (codes "stop " ++ stop_word r.stop)) (stop_again r.stop)))))
+    (ap (turned (with_steps (with_budgets (titled r) r.budgets) r.steps) (codes "stop " ++ stop_word r.stop)) (stop_again r.stop)))))
   where
     rest3 : List ℕ
     rest3 = line (codes "stop " ++ stop_word r.stop)
 
     rest2 : List ℕ
-    rest2 = steps_text 1 r.steps ++ rest3
+    rest2 = steps_text r.depth 1 r.steps ++ rest3
 
     rest1 : List ℕ
     rest1 = budgets_text r.budgets ++ rest2
@@ -426,5 +452,5 @@ tail_goes q r h no_states no_inputs no_log =
 pub read_back : ReportsReadBack
 unfolding report_in
 read_back r h =
-    let g = on (head_goes r (tail_text r) h) (tail_goes (with_stop (with_steps (with_budgets nothing_read r.budgets) r.steps) r.stop) r h refl refl refl) in
+    let g = on (head_goes r (tail_text r) h) (tail_goes (with_stop (with_steps (with_budgets (titled r) r.budgets) r.steps) r.stop) r h refl refl refl) in
     (g.to 1).1

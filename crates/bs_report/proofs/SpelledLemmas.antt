@@ -17,6 +17,9 @@ use Rattle.bs_log.specs.LineReading.{line_in}
 use Rattle.bs_log.specs.LineText.{line_text}
 use Rattle.bs_report.specs.declared.fault.ReportFault.{ReportFault}
 use Rattle.bs_report.specs.declared.fault.ReportFault.TheVariants.{Extra as extra, Short as short}
+use Rattle.bs_scan.specs.Choice.{IsDepth}
+use Rattle.bs_scan.specs.DumpText.{signature_text}
+use Rattle.bs_report.specs.declared.place.Begun.{Begun}
 use Rattle.bs_report.specs.declared.place.Place.{Place}
 use Rattle.bs_report.specs.declared.place.Place.TheVariants as places
 use Rattle.bs_report.specs.declared.report.Budgets.{Budgets}
@@ -26,25 +29,26 @@ use Rattle.bs_report.specs.declared.report.ListEnd.{ListEnd}
 use Rattle.bs_report.specs.declared.report.Stop.{Stop}
 use Rattle.bs_report.specs.declared.report.Step.{Step}
 use Rattle.bs_report.specs.declared.report.Report.{Report}
-use Rattle.bs_report.specs.Forms.{count_in, bits_in, cand_in, end_in, hit_in, stop_in, budgets_in}
-use Rattle.bs_report.specs.Reading.{Reached, begins, turned, more_listed, with_step, behind_state, log_place, taken, is_done, line_or_fault, ended}
-use Rattle.bs_report.specs.Reading.{report_from, nothing_read, report_in}
-use Rattle.bs_report.specs.Text.{cand_text, end_word, step_text, steps_text, stop_word, state_text, move_text, trace_text, budgets_text, head_text}
-use Rattle.bs_report.specs.Text.{tail_text, report_text, HasEndText, HasStepText, HasReportText}
+use Rattle.bs_report.specs.Forms.{depth_in, count_in, bits_in, older_in, cand_in, end_in, hit_in, stop_in, budgets_in}
+use Rattle.bs_report.specs.Reading.{Reached, begins, turned, begun, behind_stored, more_listed, step_of, with_step, behind_state, log_place, taken}
+use Rattle.bs_report.specs.Reading.{is_done, line_or_fault, ended, report_from, nothing_read, report_in}
+use Rattle.bs_report.specs.Text.{title, cand_text, older_text, end_word, step_text, steps_text, stop_word, state_text, move_text, trace_text}
+use Rattle.bs_report.specs.Text.{budgets_text, head_text, tail_text, report_text, IsOfDepth, HasEndText, HasStepText, HasReportText}
 use Rattle.bs_report.specs.ReadingLaw.{TextsAreReports}
 use Rattle.bs_report.proofs.TextLemmas.{steps_text_append}
 use Rattle.bs_report.proofs.ReadBackLemmas.{moves_text, range_moves, first_state}
 use Rattle.bs_report.proofs.ReadingLemmas.{some_piece}
-use Rattle.bs_report.proofs.SpellingLemmas.{unmap, same_text, count_is, bits_line_is, AreBudgets, budgets_are, cand_is, end_is, hit_is, stop_is, log_line_is}
+use Rattle.bs_report.proofs.SpellingLemmas.{unmap, same_text, count_is, bits_line_is, AreBudgets, budgets_are, depth_is, older_is, cand_is, end_is}
+use Rattle.bs_report.proofs.SpellingLemmas.{hit_is, stop_is, log_line_is}
 
 -- ---- the text so far
 
-abbrev title : List ℕ
-title = line (codes "backspace 1")
+abbrev title_line : ℕ → List ℕ
+title_line depth = line (title depth)
 
 -- the lines up to the last whole step
 abbrev top : Report → List ℕ
-top r = title ++ (budgets_text r.budgets ++ steps_text 1 r.steps)
+top r = title_line r.depth ++ (budgets_text r.budgets ++ steps_text r.depth 1 r.steps)
 
 abbrev step_line : Report → List ℕ
 step_line r = line (codes "step " ++ decimal (length r.steps + 1))
@@ -81,7 +85,8 @@ pub record HasHead (r : Report) : Type 0 where
   pub budgets : AreBudgets (codes "asked "
       ++ (decimal r.budgets.steps ++ (codes " candidates " ++ (decimal r.budgets.candidates ++ (codes " conflicts " ++ decimal r.budgets.conflicts)))))
       r.budgets
-  pub steps : Each HasStepText r.steps
+  pub depth : IsDepth r.depth
+  pub steps : Each (HasStepText r.depth) r.steps
   pub few : length r.steps < 2 ^ 64
 
 -- nothing is read behind the head
@@ -105,16 +110,30 @@ pub record BehindTrace (r : Report) : Type 0 where
   pub small : length r.inputs < 2 ^ 64
   pub more : length r.states ≡ length r.inputs + 1
 
+-- nothing but the first line is read
+abbrev pub titled : ℕ → Report
+titled depth = record nothing_read { depth = depth }
+
+-- the list of a step so far, in a report of this depth
+pub record InList (depth : ℕ) (h : Begun) (cands : List Cand) : Type 0 where
+  pub older : IsOfDepth depth h.older
+  pub befores : Each (λ cand. IsOfDepth depth cand.before) cands
+
 -- what is read, and the text of it
 abbrev pub Fits : Place → Report → List ℕ → Type 0
 Fits places.Title r text = (r ≡ nothing_read) × (text ≡ [])
-Fits places.Asked r text = (r ≡ nothing_read) × (text ≡ title)
+Fits places.Asked r text = (r ≡ titled r.depth) × IsDepth r.depth × (text ≡ title_line r.depth)
 Fits places.Turn r text = HasHead r × NoTail r × (text ≡ top r)
 Fits places.Present r text = InStep r × (text ≡ top r ++ step_line r)
 Fits (places.Stored p) r text = InStep r × (text ≡ top r ++ (step_line r ++ present_line p))
-Fits (places.Listing p s cands) r text = InStep r × (text ≡ top r ++ (step_line r ++ (present_line p ++ (stored_line s ++ flat_map cand_text cands))))
-Fits (places.Hit p s cands e) r text =
-    InStep r × HasEndText e × (text ≡ top r ++ (step_line r ++ (present_line p ++ (stored_line s ++ (flat_map cand_text cands ++ list_line e)))))
+Fits (places.Older p s) r text = InStep r × ((r.depth == 1) ≡ false) × (text ≡ top r ++ (step_line r ++ (present_line p ++ stored_line s)))
+Fits (places.Listing h cands) r text =
+    InStep r × InList r.depth h cands
+    × (text ≡ top r ++ (step_line r ++ (present_line h.present ++ (stored_line h.stored ++ (older_text r.depth h.older ++ flat_map cand_text cands)))))
+Fits (places.Hit h cands e) r text =
+    InStep r × InList r.depth h cands × HasEndText e
+    × (text ≡ top r ++ (step_line r ++ (present_line h.present
+    ++ (stored_line h.stored ++ (older_text r.depth h.older ++ (flat_map cand_text cands ++ list_line e))))))
 Fits places.Trace r text = HasHead r × NoTail r × (text ≡ head_text r)
 Fits (places.State left) r text =
     InTrace r (length r.inputs + left) × (length r.states ≡ length r.inputs)
@@ -150,6 +169,9 @@ five t p q r s u a e = four t p q r (s ++ u) a e ∙ ap (λ x. p ++ (q ++ (r ++ 
 
 six : (t p q r s u v a : List ℕ) → t ≡ p ++ (q ++ (r ++ (s ++ (u ++ v)))) → t ++ a ≡ p ++ (q ++ (r ++ (s ++ (u ++ (v ++ a)))))
 six t p q r s u v a e = five t p q r s (u ++ v) a e ∙ ap (λ x. p ++ (q ++ (r ++ (s ++ x)))) (append_assoc u v a)
+
+seven : (t p q r s u v w a : List ℕ) → t ≡ p ++ (q ++ (r ++ (s ++ (u ++ (v ++ w))))) → t ++ a ≡ p ++ (q ++ (r ++ (s ++ (u ++ (v ++ (w ++ a))))))
+seven t p q r s u v w a e = six t p q r s u (v ++ w) a e ∙ ap (λ x. p ++ (q ++ (r ++ (s ++ (u ++ x))))) (append_assoc v w a)
 
 flat_more : {X : Type 0} (f : X → List ℕ) (xs : List X) (x : X) → flat_map f (xs ++ x ∷ []) ≡ flat_map f xs ++ f x
 flat_more f [] x = append-nil (f x)
@@ -210,8 +232,12 @@ if_so false x y e = cc
 
 at_title : (r : Report) (text a : List ℕ) (y : Reached) → Fits places.Title r text → taken places.Title r a ≡ Some y → Next y text a
 at_title r text a y h e =
-    let z = if_so (bytes_eq a (codes "backspace 1")) (places.Asked, r) y e in
-    subst (λ (y : Reached). Next y text a) z.1 (h.0, ap (λ t. t ++ line a) h.1 ∙ ap line (same_text a (codes "backspace 1") z.0))
+    let m = unmap (λ (depth : ℕ). (places.Asked, record r { depth = depth })) (depth_in a) y e in
+    let gives : Some (places.Asked, record r { depth = m.value }) ≡ Some y = m.gives in
+    let same : (places.Asked, record r { depth = m.value }) ≡ y = cc in
+    let d = depth_is a m.value m.is in
+    subst (λ (y : Reached). Next y text a) same
+    (ap (λ (r : Report). record r { depth = m.value }) h.0, d.0, ap (λ t. t ++ line a) h.1 ∙ ap line d.1)
 
 at_asked : (r : Report) (text a : List ℕ) (y : Reached) → Fits places.Asked r text → taken places.Asked r a ≡ Some y → Next y text a
 at_asked r text a y h e =
@@ -219,12 +245,12 @@ at_asked r text a y h e =
     let gives : Some (places.Turn, record r { budgets = m.value }) ≡ Some y = m.gives in
     let same : (places.Turn, record r { budgets = m.value }) ≡ y = cc in
     let b = budgets_are a m.value m.is in
-    let none : r ≡ nothing_read = h.0 in
-    let is_text : text ++ line a ≡ title ++ (budgets_text m.value ++ []) =
-    ap (λ t. t ++ line a) h.1 ∙ (ap (λ t. title ++ line t) b.spells ∙ ap (λ t. title ++ t) (sym (append-nil (budgets_text m.value)))) in
+    let is_text : text ++ line a ≡ title_line r.depth ++ (budgets_text m.value ++ []) =
+    ap (λ t. t ++ line a) h.2
+    ∙ (ap (λ t. title_line r.depth ++ line t) b.spells ∙ ap (λ t. title_line r.depth ++ t) (sym (append-nil (budgets_text m.value)))) in
     subst (λ (y : Reached). Next y text a) same
     (subst (λ (q : Report). HasHead (record q { budgets = m.value }) × NoTail (record q { budgets = m.value })
-    × (text ++ line a ≡ top (record q { budgets = m.value }))) (sym none)
+    × (text ++ line a ≡ top (record q { budgets = m.value }))) (sym h.0)
     ((
       record {
         budgets = record {
@@ -236,6 +262,7 @@ at_asked r text a y h e =
           some_conflicts = b.some_conflicts;
           max_conflicts = b.max_conflicts;
         };
+        depth = h.1;
         steps = tt;
         few = omega arith;
       },
@@ -260,10 +287,10 @@ at_turn r text a y h e = by (stop_in a) refl e
         let same : (places.Trace, record r { stop = stop }) ≡ y = cc in
         let spells : a ≡ codes "stop " ++ stop_word stop = stop_is a stop s in
         let is_text : text ++ line a ≡ head_text (record r { stop = stop }) =
-        three text title (budgets_text r.budgets) (steps_text 1 r.steps) (line a) h.2
-        ∙ ap (λ t. title ++ (budgets_text r.budgets ++ (steps_text 1 r.steps ++ line t))) spells in
+        three text (title_line r.depth) (budgets_text r.budgets) (steps_text r.depth 1 r.steps) (line a) h.2
+        ∙ ap (λ t. title_line r.depth ++ (budgets_text r.budgets ++ (steps_text r.depth 1 r.steps ++ line t))) spells in
         subst (λ (y : Reached). Next y text a) same
-        (record { budgets = h.0.budgets; steps = h.0.steps; few = h.0.few }, record { states = h.1.states; inputs = h.1.inputs; log = h.1.log }, is_text)
+        (record { budgets = h.0.budgets; depth = h.0.depth; steps = h.0.steps; few = h.0.few }, record { states = h.1.states; inputs = h.1.inputs; log = h.1.log }, is_text)
 
 at_present : (r : Report) (text a : List ℕ) (y : Reached) → Fits places.Present r text → taken places.Present r a ≡ Some y → Next y text a
 at_present r text a y h e =
@@ -279,67 +306,114 @@ at_present r text a y h e =
 
 at_stored : (p : List Bool) (r : Report) (text a : List ℕ) (y : Reached) → Fits (places.Stored p) r text → taken (places.Stored p) r a ≡ Some y → Next y text a
 at_stored p r text a y h e =
-    let m = unmap (λ (place : Place). (place, r)) (option_map (λ (s : List Bool). places.Listing p s []) (bits_in (codes "stored") a)) y e in
-    let k = unmap (λ (s : List Bool). places.Listing p s []) (bits_in (codes "stored") a) m.value m.is in
+    let m = unmap (λ (place : Place). (place, r)) (option_map (λ (s : List Bool). behind_stored r.depth p s) (bits_in (codes "stored") a)) y e in
+    let k = unmap (λ (s : List Bool). behind_stored r.depth p s) (bits_in (codes "stored") a) m.value m.is in
     let gives : Some (m.value, r) ≡ Some y = m.gives in
-    let gives_place : Some (places.Listing p k.value []) ≡ Some m.value = k.gives in
-    let place : places.Listing p k.value [] ≡ m.value = cc in
+    let gives_place : Some (behind_stored r.depth p k.value) ≡ Some m.value = k.gives in
+    let place : behind_stored r.depth p k.value ≡ m.value = cc in
     let reached : (m.value, r) ≡ y = cc in
-    let same : (places.Listing p k.value [], r) ≡ y = ap (λ (p : Place). (p, r)) place ∙ reached in
-    let no_cands : line a ≡ stored_line k.value ++ [] = ap line (bits_line_is (codes "stored") a k.value k.is) ∙ sym (append-nil (stored_line k.value)) in
-    subst (λ (y : Reached). Next y text a) same
-    (h.0, three text (top r) (step_line r) (present_line p) (line a) h.1 ∙ ap (λ t. top r ++ (step_line r ++ (present_line p ++ t))) no_cands)
-
-at_listing : (p s : List Bool) (cands : List Cand) (r : Report) (text a : List ℕ) (y : Reached) → Fits (places.Listing p s cands) r text →
-    taken (places.Listing p s cands) r a ≡ Some y → Next y text a
-at_listing p s cands r text a y h e = by (cand_in a) refl e
+    let same : (behind_stored r.depth p k.value, r) ≡ y = ap (λ (p : Place). (p, r)) place ∙ reached in
+    let is_text : text ++ line a ≡ top r ++ (step_line r ++ (present_line p ++ stored_line k.value)) =
+    three text (top r) (step_line r) (present_line p) (line a) h.1
+    ∙ ap (λ t. top r ++ (step_line r ++ (present_line p ++ line t))) (bits_line_is (codes "stored") a k.value k.is) in
+    subst (λ (y : Reached). Next y text a) same (by (r.depth == 1) refl k.value is_text)
   where
-    by : (o : Option Cand) → cand_in a ≡ o → option_map (λ (place : Place). (place, r)) (more_listed p s cands a o) ≡ Some y → Next y text a
+    by : (one : Bool) → (r.depth == 1) ≡ one → (s : List Bool) → text ++ line a ≡ top r ++ (step_line r ++ (present_line p ++ stored_line s)) →
+        Fits (cond one (places.Listing (begun p s None) []) (places.Older p s)) r (text ++ line a)
+    by true z s t =
+        let no_older : [] ≡ older_text r.depth None =
+        ap (λ (b : Bool). cond {A = List ℕ} b [] (line (codes "older " ++ signature_text None))) (sym z) in (
+          h.0,
+          record { older = λ _. refl; befores = tt },
+          t ∙ ap (λ t. top r ++ (step_line r ++ (present_line p ++ t)))
+              (sym (append-nil (stored_line s)) ∙ ap (λ t. stored_line s ++ t) (no_older ∙ sym (append-nil (older_text r.depth None)))),
+        )
+    by false z s t = (h.0, z, t)
+
+at_older : (p s : List Bool) (r : Report) (text a : List ℕ) (y : Reached) → Fits (places.Older p s) r text → taken (places.Older p s) r a ≡ Some y →
+    Next y text a
+at_older p s r text a y h e =
+    let m = unmap (λ (place : Place). (place, r))
+    (option_map (λ (older : Option (List Bool)). places.Listing (begun p s older) []) (older_in a)) y e in
+    let k = unmap (λ (older : Option (List Bool)). places.Listing (begun p s older) []) (older_in a) m.value m.is in
+    let gives : Some (m.value, r) ≡ Some y = m.gives in
+    let gives_place : Some (places.Listing (begun p s k.value) []) ≡ Some m.value = k.gives in
+    let place : places.Listing (begun p s k.value) [] ≡ m.value = cc in
+    let reached : (m.value, r) ≡ y = cc in
+    let same : (places.Listing (begun p s k.value) [], r) ≡ y = ap (λ (p : Place). (p, r)) place ∙ reached in
+    let older : line a ≡ older_text r.depth k.value =
+    ap line (older_is a k.value k.is) ∙ ap (λ (b : Bool). cond {A = List ℕ} b [] (line (codes "older " ++ signature_text k.value))) (sym h.1) in
+    let no_cands : line a ≡ older_text r.depth k.value ++ [] = older ∙ sym (append-nil (older_text r.depth k.value)) in
+    subst (λ (y : Reached). Next y text a) same (
+      h.0,
+      record { older = λ one. absurd (eqb-false r.depth 1 h.1 one); befores = tt },
+      four text (top r) (step_line r) (present_line p) (stored_line s) (line a) h.2
+          ∙ ap (λ t. top r ++ (step_line r ++ (present_line p ++ (stored_line s ++ t)))) no_cands,
+    )
+
+at_listing : (b : Begun) (cands : List Cand) (r : Report) (text a : List ℕ) (y : Reached) → Fits (places.Listing b cands) r text →
+    taken (places.Listing b cands) r a ≡ Some y → Next y text a
+at_listing b cands r text a y h e = by (cand_in r.depth a) refl e
+  where
+    by : (o : Option Cand) → cand_in r.depth a ≡ o → option_map (λ (place : Place). (place, r)) (more_listed b cands a o) ≡ Some y → Next y text a
     by None c e =
-        let m = unmap (λ (place : Place). (place, r)) (option_map (λ (ended : ListEnd). places.Hit p s cands ended) (end_in a)) y e in
-        let k = unmap (λ (ended : ListEnd). places.Hit p s cands ended) (end_in a) m.value m.is in
+        let m = unmap (λ (place : Place). (place, r)) (option_map (λ (ended : ListEnd). places.Hit b cands ended) (end_in a)) y e in
+        let k = unmap (λ (ended : ListEnd). places.Hit b cands ended) (end_in a) m.value m.is in
         let gives : Some (m.value, r) ≡ Some y = m.gives in
-        let gives_place : Some (places.Hit p s cands k.value) ≡ Some m.value = k.gives in
-        let place : places.Hit p s cands k.value ≡ m.value = cc in
+        let gives_place : Some (places.Hit b cands k.value) ≡ Some m.value = k.gives in
+        let place : places.Hit b cands k.value ≡ m.value = cc in
         let reached : (m.value, r) ≡ y = cc in
-        let same : (places.Hit p s cands k.value, r) ≡ y = ap (λ (p : Place). (p, r)) place ∙ reached in
+        let same : (places.Hit b cands k.value, r) ≡ y = ap (λ (p : Place). (p, r)) place ∙ reached in
         let l = end_is a k.value k.is in
         subst (λ (y : Reached). Next y text a) same (
           h.0,
+          h.1,
           l.0,
-          five text (top r) (step_line r) (present_line p) (stored_line s) (flat_map cand_text cands) (line a) h.1
-              ∙ ap (λ t. top r ++ (step_line r ++ (present_line p ++ (stored_line s ++ (flat_map cand_text cands ++ line t))))) l.1,
+          six text (top r) (step_line r) (present_line b.present) (stored_line b.stored) (older_text r.depth b.older) (flat_map cand_text cands) (line a) h.2
+              ∙ ap (λ t. top r ++ (step_line r ++ (present_line b.present
+              ++ (stored_line b.stored ++ (older_text r.depth b.older ++ (flat_map cand_text cands ++ line t)))))) l.1,
         )
     by (Some cand) c e =
-        let same : (places.Listing p s (cands ++ cand ∷ []), r) ≡ y = cc in
+        let same : (places.Listing b (cands ++ cand ∷ []), r) ≡ y = cc in
+        let l = cand_is r.depth a cand c in
         subst (λ (y : Reached). Next y text a) same (
           h.0,
-          five text (top r) (step_line r) (present_line p) (stored_line s) (flat_map cand_text cands) (line a) h.1
-              ∙ ap (λ t. top r ++ (step_line r ++ (present_line p ++ (stored_line s ++ t))))
-              (ap (λ t. flat_map cand_text cands ++ line t) (cand_is a cand c) ∙ sym (flat_more cand_text cands cand)),
+          record { older = h.1.older; befores = each_more (λ cand. IsOfDepth r.depth cand.before) cands cand h.1.befores l.0 },
+          six text (top r) (step_line r) (present_line b.present) (stored_line b.stored) (older_text r.depth b.older) (flat_map cand_text cands) (line a) h.2
+              ∙ ap (λ t. top r ++ (step_line r ++ (present_line b.present ++ (stored_line b.stored ++ (older_text r.depth b.older ++ t)))))
+              (ap (λ t. flat_map cand_text cands ++ line t) l.1 ∙ sym (flat_more cand_text cands cand)),
         )
 
-at_hit : (p s : List Bool) (cands : List Cand) (e : ListEnd) (r : Report) (text a : List ℕ) (y : Reached) → Fits (places.Hit p s cands e) r text →
-    taken (places.Hit p s cands e) r a ≡ Some y → Next y text a
-at_hit p s cands e r text a y h t =
-    let m = unmap (λ (hit : Option HitLine). (places.Turn, with_step r p s cands e hit)) (hit_in a) y t in
-    let gives : Some (places.Turn, with_step r p s cands e m.value) ≡ Some y = m.gives in
-    let same : (places.Turn, with_step r p s cands e m.value) ≡ y = cc in
+at_hit : (b : Begun) (cands : List Cand) (e : ListEnd) (r : Report) (text a : List ℕ) (y : Reached) → Fits (places.Hit b cands e) r text →
+    taken (places.Hit b cands e) r a ≡ Some y → Next y text a
+at_hit b cands e r text a y h t =
+    let m = unmap (λ (hit : Option HitLine). (places.Turn, with_step r b cands e hit)) (hit_in a) y t in
+    let gives : Some (places.Turn, with_step r b cands e m.value) ≡ Some y = m.gives in
+    let same : (places.Turn, with_step r b cands e m.value) ≡ y = cc in
     let l = hit_is a m.value m.is in
-    let step : Step = record { present = p; stored = s; cands = cands; end = e; hit = m.value } in
+    let step : Step = step_of b cands e m.value in
     let place : 1 + length r.steps ≡ length r.steps + 1 = omega arith in
-    let steps : steps_text 1 (r.steps ++ step ∷ []) ≡ steps_text 1 r.steps ++ step_text (length r.steps + 1) step =
-    steps_text_append 1 r.steps step ∙ ap (λ (n : ℕ). steps_text 1 r.steps ++ step_text n step) place in
-    let is_text : text ++ line a ≡ top r ++ step_text (length r.steps + 1) step =
-    six text (top r) (step_line r) (present_line p) (stored_line s) (flat_map cand_text cands) (list_line e) (line a) h.2
-    ∙ ap (λ t. top r ++ (step_line r ++ (present_line p ++ (stored_line s ++ (flat_map cand_text cands ++ (list_line e ++ t)))))) l.1 in
-    let in_top : top r ++ step_text (length r.steps + 1) step ≡ top (with_step r p s cands e m.value) =
-    three (top r) title (budgets_text r.budgets) (steps_text 1 r.steps) (step_text (length r.steps + 1) step) refl
-    ∙ ap (λ t. title ++ (budgets_text r.budgets ++ t)) (sym steps) in
+    let steps : steps_text r.depth 1 (r.steps ++ step ∷ []) ≡ steps_text r.depth 1 r.steps ++ step_text r.depth (length r.steps + 1) step =
+    steps_text_append r.depth 1 r.steps step ∙ ap (λ (n : ℕ). steps_text r.depth 1 r.steps ++ step_text r.depth n step) place in
+    let is_text : text ++ line a ≡ top r ++ step_text r.depth (length r.steps + 1) step =
+    seven text (top r) (step_line r) (present_line b.present) (stored_line b.stored) (older_text r.depth b.older) (flat_map cand_text cands)
+    (list_line e) (line a) h.3
+    ∙ ap (λ t. top r ++ (step_line r ++ (present_line b.present
+    ++ (stored_line b.stored ++ (older_text r.depth b.older ++ (flat_map cand_text cands ++ (list_line e ++ t))))))) l.1 in
+    let in_top : top r ++ step_text r.depth (length r.steps + 1) step ≡ top (with_step r b cands e m.value) =
+    three (top r) (title_line r.depth) (budgets_text r.budgets) (steps_text r.depth 1 r.steps) (step_text r.depth (length r.steps + 1) step) refl
+    ∙ ap (λ t. title_line r.depth ++ (budgets_text r.budgets ++ t)) (sym steps) in
     subst (λ (y : Reached). Next y text a) same (
       record {
         budgets = h.0.head.budgets;
-        steps = each_more HasStepText r.steps step h.0.head.steps (record { list = h.1; hit = l.0 });
+        depth = h.0.head.depth;
+        steps =
+            each_more (HasStepText r.depth) r.steps step h.0.head.steps (record {
+              older = h.1.older;
+              befores = All-from_recursion (λ cand. IsOfDepth r.depth cand.before) cands h.1.befores;
+              list = h.2;
+              hit = l.0;
+            });
         few = let more : length (r.steps ++ step ∷ []) ≡ length r.steps + 1 = length-append r.steps (step ∷ []) in omega (arith, more, h.0.counted);
       },
       record { states = h.0.tail.states; inputs = h.0.tail.inputs; log = h.0.tail.log },
@@ -392,7 +466,7 @@ at_state left r text a y h e =
         let count : length r.inputs + left ≡ length r.inputs = omega (arith, none) in
         subst (λ (after : Report). Fits places.Log after (text ++ line a)) (sym is) (
           record {
-            head = record { budgets = h.0.head.budgets; steps = h.0.head.steps; few = h.0.head.few };
+            head = record { budgets = h.0.head.budgets; depth = h.0.head.depth; steps = h.0.head.steps; few = h.0.head.few };
             small = omega (arith, none, h.0.small);
             more =
                 more;
@@ -403,7 +477,7 @@ at_state left r text a y h e =
     by false z after s is more t =
         let some : left ≡ 0 → ⊥ = eqb-false left 0 z in
         subst (λ (after : Report). Fits (places.Input left) after (text ++ line a)) (sym is) (
-          record { head = record { budgets = h.0.head.budgets; steps = h.0.head.steps; few = h.0.head.few }; log = h.0.log; small = h.0.small },
+          record { head = record { budgets = h.0.head.budgets; depth = h.0.head.depth; steps = h.0.head.steps; few = h.0.head.few }; log = h.0.log; small = h.0.small },
           more,
           omega (arith, some),
           t,
@@ -420,7 +494,7 @@ at_input left r text a y h e =
     let count : length r.inputs + left ≡ length (r.inputs ++ m.value ∷ []) + (left - 1) = omega (arith, more, h.2) in
     subst (λ (y : Reached). Next y text a) same (
       record {
-        head = record { budgets = h.0.head.budgets; steps = h.0.head.steps; few = h.0.head.few };
+        head = record { budgets = h.0.head.budgets; depth = h.0.head.depth; steps = h.0.head.steps; few = h.0.head.few };
         log = h.0.log;
         small =
             omega (arith, h.0.small, count);
@@ -483,7 +557,7 @@ at_lines left r text a y h e =
     let count : length r.log + left ≡ length (r.log ++ m.value ∷ []) + (left - 1) = omega (arith, more, h.3) in
     subst (λ (y : Reached). Next y text a) same
     (lines_left (left - 1) after (text ++ line a)
-    (record { head = record { budgets = h.0.head.budgets; steps = h.0.head.steps; few = h.0.head.few }; small = h.0.small; more = h.0.more })
+    (record { head = record { budgets = h.0.head.budgets; depth = h.0.head.depth; steps = h.0.head.steps; few = h.0.head.few }; small = h.0.small; more = h.0.more })
     (each_more HasText r.log m.value h.1 l.0) (omega (arith, count, h.2))
     (five text (head_text r) (trace_line (length r.inputs)) (woven r.states r.inputs) (log_line (length r.log + left)) (lines_text r.log) (line a) h.4
     ∙ (ap (λ t. head_text r ++ (trace_line (length r.inputs) ++ (woven r.states r.inputs ++ (log_line (length r.log + left) ++ t))))
@@ -508,8 +582,9 @@ line_fits places.Asked r text a y h e = at_asked r text a y h e
 line_fits places.Turn r text a y h e = at_turn r text a y h e
 line_fits places.Present r text a y h e = at_present r text a y h e
 line_fits (places.Stored p) r text a y h e = at_stored p r text a y h e
-line_fits (places.Listing p s cands) r text a y h e = at_listing p s cands r text a y h e
-line_fits (places.Hit p s cands l) r text a y h e = at_hit p s cands l r text a y h e
+line_fits (places.Older p s) r text a y h e = at_older p s r text a y h e
+line_fits (places.Listing b cands) r text a y h e = at_listing b cands r text a y h e
+line_fits (places.Hit b cands l) r text a y h e = at_hit b cands l r text a y h e
 line_fits places.Trace r text a y h e = at_trace r text a y h e
 line_fits (places.State left) r text a y h e = at_state left r text a y h e
 line_fits (places.Input left) r text a y h e = at_input left r text a y h e
@@ -555,8 +630,9 @@ done_is places.Asked e = absurd (false≢true e)
 done_is places.Turn e = absurd (false≢true e)
 done_is places.Present e = absurd (false≢true e)
 done_is (places.Stored p) e = absurd (false≢true e)
-done_is (places.Listing p s cands) e = absurd (false≢true e)
-done_is (places.Hit p s cands l) e = absurd (false≢true e)
+done_is (places.Older p s) e = absurd (false≢true e)
+done_is (places.Listing b cands) e = absurd (false≢true e)
+done_is (places.Hit b cands l) e = absurd (false≢true e)
 done_is places.Trace e = absurd (false≢true e)
 done_is (places.State left) e = absurd (false≢true e)
 done_is (places.Input left) e = absurd (false≢true e)
@@ -609,13 +685,14 @@ done_is_report r bytes h =
     ap (λ t. t ++ (log_line (length r.log) ++ (lines_text r.log ++ line (codes "end")))) trace
     ∙ append_assoc (trace_line (length r.inputs)) (woven r.states r.inputs) (log_line (length r.log) ++ (lines_text r.log ++ line (codes "end"))) in (
       record {
+        depth = b.head.depth;
         some_steps = b.head.budgets.some_steps;
         max_steps = b.head.budgets.max_steps;
         some_candidates = b.head.budgets.some_candidates;
         max_candidates = b.head.budgets.max_candidates;
         some_conflicts = b.head.budgets.some_conflicts;
         max_conflicts = b.head.budgets.max_conflicts;
-        each_step = All-from_recursion HasStepText r.steps b.head.steps;
+        each_step = All-from_recursion (HasStepText r.depth) r.steps b.head.steps;
         few_steps = b.head.few;
         one_state_more = b.more;
         few_inputs = b.small;

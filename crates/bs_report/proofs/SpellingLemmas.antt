@@ -1,10 +1,11 @@
 -- A line that is read is spelled by what was read.
 use Rattle.std.proofs.Common.{◌≡◌, ℕ, ◌<◌, ◌≤◌, ◌+◌, ◌^◌, Bool, true, false, cond, ◌&&◌, List, [], ◌∷◌, ◌++◌, length, refl, arith, ap, sym, subst}
-use Rattle.std.proofs.Common.{◌∙◌, Option, Some, None}
+use Rattle.std.proofs.Common.{◌∙◌, ◌⊎◌, inl, inr, Option, Some, None}
 use Rattle.std.specs.Prelude.{◌==◌, codes, decimal, nat_le, option_map}
 use Rattle.std.specs.Str.{bytes_eq}
 use Rattle.std.specs.Cmp.Lexicographic.{pointwise_decides}
-use Rattle.std.proofs.lemmas.Bool.{and_parts, leb-true, eqb-true}
+use Rattle.std.proofs.lemmas.Bool.{and_parts, leb-true, eqb-true, eqb-false}
+use Rattle.std.proofs.lemmas.List.{append-nil}
 use Rattle.std.proofs.lemmas.Bool.Decides.{Decides-eqb}
 use Rattle.bs_bits.specs.Text.{bits_text, bits_of}
 use Rattle.bs_bits.specs.Lines.{line, words_of, number_in}
@@ -18,15 +19,19 @@ use Rattle.bs_log.proofs.RoundTrip.{texts_are_lines}
 use Rattle.bs_stim.specs.declared.limits.TheConstants.{MAX_RUNS, MAX_CYCLES}
 use Rattle.bs_report.specs.declared.limits.TheConstants.{MAX_STEPS, MAX_CANDIDATES, MAX_CONFLICTS}
 use Rattle.bs_report.specs.declared.report.Budgets.{Budgets}
+use Rattle.bs_scan.specs.Choice.{IsDepth}
+use Rattle.bs_scan.specs.DumpText.{signature_text}
+use Rattle.bs_report.specs.declared.report.Before.{Before}
 use Rattle.bs_report.specs.declared.report.Cand.{Cand}
 use Rattle.bs_report.specs.declared.report.HitLine.{HitLine}
 use Rattle.bs_report.specs.declared.report.ListEnd.{ListEnd}
 use Rattle.bs_report.specs.declared.report.ListEnd.TheVariants.{Finished, Candidates as ByCandidates, Conflicts as ByConflicts}
 use Rattle.bs_report.specs.declared.report.Stop.{Stop}
 use Rattle.bs_report.specs.declared.report.Stop.TheVariants.{Reset, Length, Nohit, Empty, Candidates, Conflicts}
-use Rattle.bs_report.specs.Forms.{◌>>=◌, next_in, behind, at_end, within, number_within, number_behind, bits_behind, count_in, bits_in, budgets_in}
-use Rattle.bs_report.specs.Forms.{cand_in, finished_end, end_of, end_in, run_cycle_in, moment_in, hit_in, stop_of, stop_in}
-use Rattle.bs_report.specs.Text.{end_word, stop_word, hit_text, HasEndText, HasHitText}
+use Rattle.bs_report.specs.Forms.{◌>>=◌, next_in, behind, at_end, within, number_within, number_behind, bits_behind, bits_next, count_in, bits_in}
+use Rattle.bs_report.specs.Forms.{budgets_in, depth_in, older_in, source_in, before_in, cand_in, finished_end, end_of, end_in, run_cycle_in, moment_in}
+use Rattle.bs_report.specs.Forms.{hit_in, stop_of, stop_in}
+use Rattle.bs_report.specs.Text.{title, before_text, cand_words, end_word, stop_word, hit_text, IsOfDepth, HasEndText, HasHitText}
 
 -- ---- parts that are there
 
@@ -192,19 +197,99 @@ budgets_are text b e =
     first : ℕ × List (List ℕ) → Option Budgets
     first steps = number_behind (codes "candidates") 1 MAX_CANDIDATES steps.1 >>= second steps.0
 
-pub cand_is : (text : List ℕ) (c : Cand) → cand_in text ≡ Some c → text ≡ codes "cand " ++ (bits_text c.state ++ (codes " input " ++ bits_text c.input))
-cand_is text c e =
+pub depth_is : (text : List ℕ) (depth : ℕ) → depth_in text ≡ Some depth → IsDepth depth × (text ≡ title depth)
+depth_is text depth e =
+    branch (bytes_eq text (codes "backspace 1")) (Some 1) _ depth e
+    (λ t e. let same : 1 ≡ depth = cc in is same (inl (sym same)) (same_text text (codes "backspace 1") t)) (λ t e.
+    branch (bytes_eq text (codes "backspace 2")) (Some 2) None depth e
+    (λ t e. let same : 2 ≡ depth = cc in is same (inr (sym same)) (same_text text (codes "backspace 2") t)) (λ t e. never depth e))
+  where
+    is : {d : ℕ} → d ≡ depth → IsDepth depth → text ≡ title d → IsDepth depth × (text ≡ title depth)
+    is same h t = (h, t ∙ ap title same)
+
+pub older_is : (text : List ℕ) (older : Option (List Bool)) → older_in text ≡ Some older → text ≡ codes "older " ++ signature_text older
+older_is text older e =
+    branch (bytes_eq text (codes "older none")) (Some None) (option_map (λ (bits : List Bool). Some bits) (bits_in (codes "older") text)) older e
+    (λ t e. let same : None ≡ older = cc in
+    subst (λ (o : Option (List Bool)). text ≡ codes "older " ++ signature_text o) same (same_text text (codes "older none") t))
+    (λ t e.
+    let m = unmap (λ (bits : List Bool). Some bits) (bits_in (codes "older") text) older e in
+    let gives : Some (Some m.value) ≡ Some older = m.gives in
+    let same : Some m.value ≡ older = cc in
+    subst (λ (o : Option (List Bool)). text ≡ codes "older " ++ signature_text o) same (bits_line_is (codes "older") text m.value m.is))
+
+bits_next_is : (ws : List (List ℕ)) (found : List Bool × List (List ℕ)) → bits_next ws ≡ Some found → ws ≡ bits_text found.0 ∷ found.1
+bits_next_is ws found e =
+    let a = bound (next_in ws) (λ found. bits_of found.0 >>= λ bits. Some (bits, found.1)) found e in
+    let b = bound (bits_of a.value.0) (λ bits. Some (bits, a.value.1)) found a.gives in
+    let gives : Some (b.value, a.value.1) ≡ Some found = b.gives in
+    let same : (b.value, a.value.1) ≡ found = cc in
+    subst (λ (found : List Bool × List (List ℕ)). ws ≡ bits_text found.0 ∷ found.1) same
+    (next_is ws a.value a.is ∙ ap (λ w. w ∷ a.value.1) (sym (text_again a.value.0 b.value b.is)))
+
+source_is : (ws : List (List ℕ)) (before : Before) → source_in ws ≡ Some before →
+    ws ≡ bits_text before.state ∷ codes "input" ∷ bits_text before.input ∷ []
+source_is ws before e =
+    let s = bound (bits_next ws) first before e in
+    let x = bound (bits_behind (codes "input") s.value.1) (second s.value.0) before s.gives in
+    let z = end_is_here x.value.1 (record { state = s.value.0; input = x.value.0 }) before x.gives in
+    subst (λ (before : Before). ws ≡ bits_text before.state ∷ codes "input" ∷ bits_text before.input ∷ []) z.1
+    (bits_next_is ws s.value s.is
+    ∙ (ap (λ ws. bits_text s.value.0 ∷ ws) (bits_behind_is (codes "input") s.value.1 x.value x.is)
+    ∙ ap (λ ws. bits_text s.value.0 ∷ codes "input" ∷ bits_text x.value.0 ∷ ws) z.0))
+  where
+    second : List Bool → List Bool × List (List ℕ) → Option Before
+    second state input = at_end input.1 (record { state = state; input = input.0 })
+
+    first : List Bool × List (List ℕ) → Option Before
+    first state = bits_behind (codes "input") state.1 >>= second state.0
+
+-- the words behind a candidate's input
+abbrev Behind : ℕ → List (List ℕ) → Option Before → Type 0
+Behind depth ws before = IsOfDepth depth before × ((s x : List Bool) → joined (codes "cand" ∷ bits_text s ∷ codes "input" ∷ bits_text x ∷ ws) ≡
+    codes "cand " ++ (bits_text s ++ (codes " input " ++ (bits_text x ++ before_text before))))
+
+before_is : (depth : ℕ) (ws : List (List ℕ)) (before : Option Before) → before_in depth ws ≡ Some before → Behind depth ws before
+before_is depth [] before e =
+    let same : None ≡ before = cc in
+    subst (Behind depth []) same
+    (λ _. refl, λ s x. ap (λ (t : List ℕ). codes "cand " ++ (bits_text s ++ (codes " input " ++ t))) (sym (append-nil (bits_text x))))
+before_is depth (w ∷ ws) before e =
+    branch (depth == 1) None (cond (bytes_eq w (codes "from")) (option_map (λ (before : Before). Some before) (source_in ws)) None) before e
+    (λ t e. never before e)
+    (λ d e.
+    branch (bytes_eq w (codes "from")) (option_map (λ (before : Before). Some before) (source_in ws)) None before e
+    (λ t e.
+    let m = unmap (λ (before : Before). Some before) (source_in ws) before e in
+    let gives : Some (Some m.value) ≡ Some before = m.gives in
+    let same : Some m.value ≡ before = cc in
+    let words : w ∷ ws ≡ codes "from" ∷ bits_text m.value.state ∷ codes "input" ∷ bits_text m.value.input ∷ [] =
+    ap (λ w. w ∷ ws) (same_text w (codes "from") t) ∙ ap (λ ws. codes "from" ∷ ws) (source_is ws m.value m.is) in
+    subst (Behind depth (w ∷ ws)) same
+    (λ one. absurd (eqb-false depth 1 d one), λ s x. ap (λ ws. joined (codes "cand" ∷ bits_text s ∷ codes "input" ∷ bits_text x ∷ ws)) words))
+    (λ t e. never before e))
+
+pub cand_is : (depth : ℕ) (text : List ℕ) (c : Cand) → cand_in depth text ≡ Some c → IsOfDepth depth c.before × (text ≡ cand_words c)
+cand_is depth text c e =
     let s = bound (bits_behind (codes "cand") (words_of text)) first c e in
     let x = bound (bits_behind (codes "input") s.value.1) (second s.value.0) c s.gives in
-    let z = end_is_here x.value.1 (record { state = s.value.0; input = x.value.0 }) c x.gives in
-    subst (λ (c : Cand). text ≡ codes "cand " ++ (bits_text c.state ++ (codes " input " ++ bits_text c.input))) z.1
-    (from_words text (codes "cand" ∷ bits_text s.value.0 ∷ codes "input" ∷ bits_text x.value.0 ∷ [])
-    (bits_behind_is (codes "cand") (words_of text) s.value s.is
-    ∙ (ap (λ ws. codes "cand" ∷ bits_text s.value.0 ∷ ws) (bits_behind_is (codes "input") s.value.1 x.value x.is)
-    ∙ ap (λ ws. codes "cand" ∷ bits_text s.value.0 ∷ codes "input" ∷ bits_text x.value.0 ∷ ws) z.0)))
+    let b = bound (before_in depth x.value.1) (third s.value.0 x.value.0) c x.gives in
+    let gives : Some (record { state = s.value.0; input = x.value.0; before = b.value }) ≡ Some c = b.gives in
+    let same : record { state = s.value.0; input = x.value.0; before = b.value } ≡ c = cc in
+    let before = before_is depth x.value.1 b.value b.is in
+    subst (λ (c : Cand). IsOfDepth depth c.before × (text ≡ cand_words c)) same (
+      before.0,
+      from_words text (codes "cand" ∷ bits_text s.value.0 ∷ codes "input" ∷ bits_text x.value.0 ∷ x.value.1)
+          (bits_behind_is (codes "cand") (words_of text) s.value s.is
+          ∙ ap (λ ws. codes "cand" ∷ bits_text s.value.0 ∷ ws) (bits_behind_is (codes "input") s.value.1 x.value x.is))
+          ∙ before.1 s.value.0 x.value.0,
+    )
   where
+    third : List Bool → List Bool → Option Before → Option Cand
+    third state input before = Some (record { state = state; input = input; before = before })
+
     second : List Bool → List Bool × List (List ℕ) → Option Cand
-    second state input = at_end input.1 (record { state = state; input = input.0 })
+    second state input = before_in depth input.1 >>= third state input.0
 
     first : List Bool × List (List ℕ) → Option Cand
     first state = bits_behind (codes "input") state.1 >>= second state.0

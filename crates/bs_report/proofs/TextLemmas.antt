@@ -6,30 +6,30 @@ use Rattle.std.proofs.lemmas.List.{take_more, append-nil, length-take-le}
 use Rattle.bs_report.specs.declared.report.Step.{Step}
 use Rattle.bs_report.specs.Text.{step_text, steps_text}
 
-pub steps_text_append : (n : ℕ) (steps : List Step) (step : Step) → steps_text n (steps ++ step ∷ []) ≡ steps_text n steps ++ step_text (n + length steps) step
-steps_text_append n [] step =
-    append-nil (step_text n step) ∙ ap (λ (k : ℕ). step_text k step) (let e : n ≡ n + 0 = omega arith in e)
-steps_text_append n (s ∷ ss) step =
+pub steps_text_append : (d n : ℕ) (steps : List Step) (step : Step) → steps_text d n (steps ++ step ∷ []) ≡ steps_text d n steps ++ step_text d (n + length steps) step
+steps_text_append d n [] step =
+    append-nil (step_text d n step) ∙ ap (λ (k : ℕ). step_text d k step) (let e : n ≡ n + 0 = omega arith in e)
+steps_text_append d n (s ∷ ss) step =
     let place : n + 1 + length ss ≡ n + suc (length ss) = omega arith in
-    ap (λ (rest : List ℕ). step_text n s ++ rest) (steps_text_append (n + 1) ss step)
-    ∙ (sym (append_assoc (step_text n s) (steps_text (n + 1) ss) (step_text (n + 1 + length ss) step))
-    ∙ ap (λ (k : ℕ). (step_text n s ++ steps_text (n + 1) ss) ++ step_text k step) place)
+    ap (λ (rest : List ℕ). step_text d n s ++ rest) (steps_text_append d (n + 1) ss step)
+    ∙ (sym (append_assoc (step_text d n s) (steps_text d (n + 1) ss) (step_text d (n + 1 + length ss) step))
+    ∙ ap (λ (k : ℕ). (step_text d n s ++ steps_text d (n + 1) ss) ++ step_text d k step) place)
 
 -- one step more
-pub steps_text_more : (steps : List Step) (i number : ℕ) (step : Step) → i < length steps → step ≡ get_or steps i step → number ≡ i + 1 →
-    steps_text 1 (take (i + 1) steps) ≡ steps_text 1 (take i steps) ++ step_text number step
-steps_text_more steps i number step lt e n =
+pub steps_text_more : (d : ℕ) (steps : List Step) (i number : ℕ) (step : Step) → i < length steps → step ≡ get_or steps i step → number ≡ i + 1 →
+    steps_text d 1 (take (i + 1) steps) ≡ steps_text d 1 (take i steps) ++ step_text d number step
+steps_text_more d steps i number step lt e n =
     let more : take (i + 1) steps ≡ take i steps ++ step ∷ [] = take_more steps i step lt ∙ ap (λ (s : Step). take i steps ++ s ∷ []) (sym e) in
     let long : 1 + length (take i steps) ≡ number = omega (arith, length-take-le i steps (omega arith)) in
-    ap (steps_text 1) more ∙ (steps_text_append 1 (take i steps) step ∙ ap (λ (k : ℕ). steps_text 1 (take i steps) ++ step_text k step) long)
+    ap (steps_text d 1) more ∙ (steps_text_append d 1 (take i steps) step ∙ ap (λ (k : ℕ). steps_text d 1 (take i steps) ++ step_text d k step) long)
 
 -- what a step appends
-pub steps_step : (old before after : List ℕ) (steps : List Step) (i number : ℕ) (step : Step) → before ≡ old ++ steps_text 1 (take i steps) →
-    after ≡ before ++ step_text number step → i < length steps → step ≡ get_or steps i step → number ≡ i + 1 → after ≡ old ++ steps_text 1 (take (i + 1) steps)
-steps_step old before after steps i number step e f lt is n =
-    f ∙ (ap (λ (t : List ℕ). t ++ step_text number step) e
-    ∙ (append_assoc old (steps_text 1 (take i steps)) (step_text number step)
-    ∙ ap (λ (t : List ℕ). old ++ t) (sym (steps_text_more steps i number step lt is n))))
+pub steps_step : (d : ℕ) (old before after : List ℕ) (steps : List Step) (i number : ℕ) (step : Step) → before ≡ old ++ steps_text d 1 (take i steps) →
+    after ≡ before ++ step_text d number step → i < length steps → step ≡ get_or steps i step → number ≡ i + 1 → after ≡ old ++ steps_text d 1 (take (i + 1) steps)
+steps_step d old before after steps i number step e f lt is n =
+    f ∙ (ap (λ (t : List ℕ). t ++ step_text d number step) e
+    ∙ (append_assoc old (steps_text d 1 (take i steps)) (step_text d number step)
+    ∙ ap (λ (t : List ℕ). old ++ t) (sym (steps_text_more d steps i number step lt is n))))
 
 range_more : (f : ℕ → List ℕ) (a n : ℕ) → flat_map f (range_with_len a (suc n)) ≡ flat_map f (range_with_len a n) ++ f (a + n)
 range_more f a zero = append-nil (f a) ∙ ap f (let e : a ≡ a + 0 = omega arith in e)

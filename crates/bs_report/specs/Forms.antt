@@ -6,6 +6,7 @@ use Rattle.bs_bits.specs.Text.{bits_of}
 use Rattle.bs_log.specs.LineReading.{id_in}
 use Rattle.bs_stim.specs.declared.limits.TheConstants.{MAX_RUNS, MAX_CYCLES}
 use Rattle.bs_report.specs.declared.limits.TheConstants.{MAX_STEPS, MAX_CANDIDATES, MAX_CONFLICTS}
+use Rattle.bs_report.specs.declared.report.Before.{Before}
 use Rattle.bs_report.specs.declared.report.Cand.{Cand}
 use Rattle.bs_report.specs.declared.report.HitLine.{HitLine}
 use Rattle.bs_report.specs.declared.report.ListEnd.{ListEnd}
@@ -55,7 +56,21 @@ bits_behind tag words = do
   bits ← bits_of found.0
   Some (bits, found.1)
 
+-- the bits that the first word is, and the words behind it
+abbrev pub bits_next : List (List ℕ) → Option (List Bool × List (List ℕ))
+bits_next words = do
+  found ← next_in words
+  bits ← bits_of found.0
+  Some (bits, found.1)
+
 -- ---- lines
+
+-- the depth that the first line names
+abbrev pub depth_in : List ℕ → Option ℕ
+depth_in text =
+    if bytes_eq text (codes "backspace 1") then Some 1
+    else if bytes_eq text (codes "backspace 2") then Some 2
+    else None
 
 -- a line of this word and a number below 2 ^ 64
 abbrev pub count_in : List ℕ → List ℕ → Option ℕ
@@ -77,11 +92,31 @@ budgets_in text = do
   conflicts ← number_behind (codes "conflicts") 1 MAX_CONFLICTS candidates.1
   at_end conflicts.1 (record { steps = steps.0; candidates = candidates.0; conflicts = conflicts.0 })
 
-abbrev pub cand_in : List ℕ → Option Cand
-cand_in text = do
-  state ← bits_behind (codes "cand") (words_of text)
+-- a signature behind `older`, or that there is none
+abbrev pub older_in : List ℕ → Option (Option (List Bool))
+older_in text = if bytes_eq text (codes "older none") then Some None else option_map (λ bits. Some bits) (bits_in (codes "older") text)
+
+-- a state and an input, behind `from`
+abbrev pub source_in : List (List ℕ) → Option Before
+source_in words = do
+  state ← bits_next words
   input ← bits_behind (codes "input") state.1
   at_end input.1 (record { state = state.0; input = input.0 })
+
+-- what the words behind a candidate's input say of the state before it: nothing, or, where the depth is not 1, a state and an input
+abbrev pub before_in : ℕ → List (List ℕ) → Option (Option Before)
+before_in depth [] = Some None
+before_in depth (w ∷ ws) =
+    if depth == 1 then None
+    else if bytes_eq w (codes "from") then option_map (λ before. Some before) (source_in ws)
+    else None
+
+abbrev pub cand_in : ℕ → List ℕ → Option Cand
+cand_in depth text = do
+  state ← bits_behind (codes "cand") (words_of text)
+  input ← bits_behind (codes "input") state.1
+  before ← before_in depth input.1
+  Some (record { state = state.0; input = input.0; before = before })
 
 -- an id behind `finished`
 abbrev pub finished_end : List ℕ → List (List ℕ) → Option ListEnd

@@ -5,6 +5,7 @@ use Rattle.std.specs.Str.{bytes_eq}
 use Rattle.bs_log.specs.LineReading.{line_in}
 use Rattle.bs_report.specs.declared.fault.ReportFault.{ReportFault}
 use Rattle.bs_report.specs.declared.fault.ReportFault.TheVariants as faults
+use Rattle.bs_report.specs.declared.place.Begun.{Begun}
 use Rattle.bs_report.specs.declared.place.Place.{Place}
 use Rattle.bs_report.specs.declared.place.Place.TheVariants as places
 use Rattle.bs_report.specs.declared.report.HitLine.{HitLine}
@@ -12,10 +13,11 @@ use Rattle.bs_report.specs.declared.report.ListEnd.{ListEnd}
 use Rattle.bs_report.specs.declared.report.Stop.{Stop}
 use Rattle.bs_report.specs.declared.report.Stop.TheVariants as stops
 use Rattle.bs_report.specs.declared.report.Cand.{Cand}
+use Rattle.bs_report.specs.declared.report.Step.{Step}
 use Rattle.bs_report.specs.declared.report.Report.{Report}
 use Rattle.bs_bits.specs.Lines.{pieces_of}
 use Rattle.bs_bits.specs.Reading.{◌>>=◌}
-use Rattle.bs_report.specs.Forms.{count_in, bits_in, budgets_in, cand_in, end_in, hit_in, stop_in}
+use Rattle.bs_report.specs.Forms.{depth_in, count_in, bits_in, budgets_in, older_in, cand_in, end_in, hit_in, stop_in}
 
 -- ---- a line at its place
 
@@ -40,24 +42,38 @@ turned r text (Some stop) = Some (places.Trace, record r { stop = stop })
 abbrev pub present_place : List ℕ → Option Place
 present_place text = option_map (λ present. places.Stored present) (bits_in (codes "present") text)
 
-abbrev pub stored_place : List Bool → List ℕ → Option Place
-stored_place present text = option_map (λ stored. places.Listing present stored []) (bits_in (codes "stored") text)
+abbrev pub begun : List Bool → List Bool → Option (List Bool) → Begun
+begun present stored older = record { present = present; stored = stored; older = older }
+
+-- behind a stored signature: at depth 1 the list, and else the older one
+abbrev pub behind_stored : ℕ → List Bool → List Bool → Place
+behind_stored depth present stored =
+    if depth == 1 then places.Listing (begun present stored None) [] else places.Older present stored
+
+abbrev pub stored_place : ℕ → List Bool → List ℕ → Option Place
+stored_place depth present text = option_map (λ stored. behind_stored depth present stored) (bits_in (codes "stored") text)
+
+abbrev pub older_place : List Bool → List Bool → List ℕ → Option Place
+older_place present stored text = option_map (λ older. places.Listing (begun present stored older) []) (older_in text)
 
 -- a candidate, or else how the list ended
-abbrev pub more_listed : List Bool → List Bool → List Cand → List ℕ → Option Cand → Option Place
-more_listed present stored cands text None = option_map (λ ended. places.Hit present stored cands ended) (end_in text)
-more_listed present stored cands text (Some cand) = Some (places.Listing present stored (cands ++ cand ∷ []))
+abbrev pub more_listed : Begun → List Cand → List ℕ → Option Cand → Option Place
+more_listed b cands text None = option_map (λ ended. places.Hit b cands ended) (end_in text)
+more_listed b cands text (Some cand) = Some (places.Listing b (cands ++ cand ∷ []))
 
-abbrev pub listed_place : List Bool → List Bool → List Cand → List ℕ → Option Place
-listed_place present stored cands text = more_listed present stored cands text (cand_in text)
+abbrev pub listed_place : ℕ → Begun → List Cand → List ℕ → Option Place
+listed_place depth b cands text = more_listed b cands text (cand_in depth text)
 
 -- the place, where nothing but what the place says is read
 abbrev pub unchanged : Report → Option Place → Option Reached
 unchanged r next = option_map (λ place. (place, r)) next
 
-abbrev pub with_step : Report → List Bool → List Bool → List Cand → ListEnd → Option HitLine → Report
-with_step r present stored cands ended hit =
-    record r { steps = r.steps ++ (record { present = present; stored = stored; cands = cands; end = ended; hit = hit }) ∷ [] }
+abbrev pub step_of : Begun → List Cand → ListEnd → Option HitLine → Step
+step_of b cands ended hit =
+    record { present = b.present; stored = b.stored; older = b.older; cands = cands; end = ended; hit = hit }
+
+abbrev pub with_step : Report → Begun → List Cand → ListEnd → Option HitLine → Report
+with_step r b cands ended hit = record r { steps = r.steps ++ step_of b cands ended hit ∷ [] }
 
 -- behind a state of the trace, where so many inputs are left
 abbrev pub behind_state : ℕ → Place
@@ -68,16 +84,17 @@ abbrev pub log_place : ℕ → Place
 log_place left = if left == 0 then places.End else places.Lines left
 
 -- What a line gives at its place; none where it is of a form that the place does not allow. The head is two lines. Then
--- each step has its lines `step`, `present` and `stored`, those of its candidates, `list`, and `hit` or `nohit`. Behind the
--- line `stop` come the trace, a state and so many times an input and a state, and so many log lines, and then `end`.
+-- each step has its lines `step`, `present`, `stored` and at depth 2 `older`, those of its candidates, `list`, and `hit` or
+-- `nohit`. Behind the line `stop` come the trace, a state and so many times an input and a state, and so many log lines, and then `end`.
 abbrev pub taken : Place → Report → List ℕ → Option Reached
-taken places.Title r text = when (bytes_eq text (codes "backspace 1")) (places.Asked, r)
+taken places.Title r text = option_map (λ depth. (places.Asked, record r { depth = depth })) (depth_in text)
 taken places.Asked r text = option_map (λ budgets. (places.Turn, record r { budgets = budgets })) (budgets_in text)
 taken places.Turn r text = turned r text (stop_in text)
 taken places.Present r text = unchanged r (present_place text)
-taken (places.Stored present) r text = unchanged r (stored_place present text)
-taken (places.Listing present stored cands) r text = unchanged r (listed_place present stored cands text)
-taken (places.Hit present stored cands ended) r text = option_map (λ hit. (places.Turn, with_step r present stored cands ended hit)) (hit_in text)
+taken (places.Stored present) r text = unchanged r (stored_place r.depth present text)
+taken (places.Older present stored) r text = unchanged r (older_place present stored text)
+taken (places.Listing b cands) r text = unchanged r (listed_place r.depth b cands text)
+taken (places.Hit b cands ended) r text = option_map (λ hit. (places.Turn, with_step r b cands ended hit)) (hit_in text)
 taken places.Trace r text = unchanged r (option_map (λ n. places.State n) (count_in (codes "trace") text))
 taken (places.State left) r text = option_map (λ s. (behind_state left, record r { states = r.states ++ s ∷ [] })) (bits_in (codes "state") text)
 taken (places.Input left) r text = option_map (λ x. (places.State (left - 1), record r { inputs = r.inputs ++ x ∷ [] })) (bits_in (codes "input") text)
@@ -115,6 +132,7 @@ report_from number place r (text ∷ next ∷ pieces) =
 abbrev pub nothing_read : Report
 nothing_read =
     record {
+      depth = 1;
       budgets = record { steps = 0; candidates = 0; conflicts = 0 };
       steps = [];
       stop = stops.Reset;

@@ -2,11 +2,12 @@
 ghost use Rattle.std.specs.Prelude.{◌≡◌, ◌≤◌, ◌^◌, ◌==◌, length, IfOk, IfSome, MatchOption, Some, None};
 ghost use Rattle.std.specs.Str.{bytes_eq};
 ghost use Rattle.bs_log.specs.LineReading.{id_in};
-ghost use Rattle.bs_report.specs.Forms.{at_end as at_end_of, behind, bits_behind, bits_in, budgets_in, cand_in, count_in, end_in, end_of};
-ghost use Rattle.bs_report.specs.Forms.{finished_end, hit_in, moment_in, number_behind, number_within, run_cycle_in, stop_in, stop_of};
+ghost use Rattle.bs_report.specs.Forms.{at_end as at_end_of, before_in, behind, bits_behind, bits_in, bits_next, budgets_in, cand_in, count_in};
+ghost use Rattle.bs_report.specs.Forms.{depth_in, end_in, end_of, finished_end, hit_in, moment_in, number_behind, number_within, older_in};
+ghost use Rattle.bs_report.specs.Forms.{run_cycle_in, source_in, stop_in, stop_of};
 
 use crate::limits::{MAX_CANDIDATES, MAX_CONFLICTS, MAX_STEPS};
-use crate::report::{Budgets, Cand, HitLine, ListEnd, Stop};
+use crate::report::{Before, Budgets, Cand, HitLine, ListEnd, Stop};
 use bs_bits::{Bits, NoMemory, Words, read_number};
 use bs_stim::{MAX_CYCLES, MAX_RUNS};
 use std::alloc::Global;
@@ -70,11 +71,34 @@ fn read_bits_behind<'a>(
     }
 }
 
+/// The bits that the next word is.
+fn read_bits_next<'a>(alloc: Global, words: &mut Words<'a>) -> Result<Option<Bits>, NoMemory>
+    ensures { IfOk result (λ found. MatchOption found (bits_next words.old ≡ None) (λ bits. bits_next words.old ≡ Some (bits, words.new))) }
+{
+    match words.next() {
+        None => Ok(None),
+        Some(word) => Bits::read_text(alloc, word),
+    }
+}
+
 /// The value, where no word is left.
 fn at_end<'a, T: Drop>(words: &mut Words<'a>, value: T) -> Option<T>
     ensures { result ≡ at_end_of words.old value }
 {
     if words.end() { Some(value) } else { None }
+}
+
+/// The depth that the first line names.
+pub fn read_depth(line: &[u8]) -> Option<u8>
+    ensures { result ≡ depth_in line.now }
+{
+    if is_text(line, b"backspace 1") {
+        Some(1)
+    } else if is_text(line, b"backspace 2") {
+        Some(2)
+    } else {
+        None
+    }
 }
 
 /// The number in a line of this word and a number below 2^64.
@@ -116,9 +140,58 @@ pub fn read_budgets(line: &[u8]) -> Option<Budgets>
     )
 }
 
+/// The older signature that a line says, or that there is none.
+pub fn read_older(alloc: Global, line: &[u8]) -> Result<Option<Option<Bits>>, NoMemory>
+    ensures { IfOk result (λ older. older ≡ older_in line.now) }
+{
+    if is_text(line, b"older none") {
+        return Ok(Some(None));
+    }
+    match read_bits(alloc, line, b"older")? {
+        None => Ok(None),
+        Some(bits) => Ok(Some(Some(bits))),
+    }
+}
+
+/// The state and the input of the words behind `from`.
+fn read_source<'a>(alloc: Global, words: &mut Words<'a>) -> Result<Option<Before>, NoMemory>
+    ensures { IfOk result (λ before. before ≡ source_in words.old) }
+{
+    let Some(state) = read_bits_next(alloc, words)? else {
+        return Ok(None);
+    };
+    let Some(input) = read_bits_behind(alloc, words, b"input")? else {
+        return Ok(None);
+    };
+    Ok(at_end(words, Before { state, input }))
+}
+
+/// The state before a candidate that the words behind its input say, or that none is named.
+fn read_before<'a>(
+    alloc: Global,
+    depth: u8,
+    words: &mut Words<'a>,
+) -> Result<Option<Option<Before>>, NoMemory>
+    ensures { IfOk result (λ before. before ≡ before_in depth words.old) }
+{
+    let Some(word) = words.next() else {
+        return Ok(Some(None));
+    };
+    if depth == 1 {
+        return Ok(None);
+    }
+    if !is_text(word, b"from") {
+        return Ok(None);
+    }
+    match read_source(alloc, words)? {
+        None => Ok(None),
+        Some(before) => Ok(Some(Some(before))),
+    }
+}
+
 /// The candidate that a line says.
-pub fn read_cand(alloc: Global, line: &[u8]) -> Result<Option<Cand>, NoMemory>
-    ensures { IfOk result (λ cand. cand ≡ cand_in line.now) }
+pub fn read_cand(alloc: Global, depth: u8, line: &[u8]) -> Result<Option<Cand>, NoMemory>
+    ensures { IfOk result (λ cand. cand ≡ cand_in depth line.now) }
 {
     let mut words = Words::of(line);
     let Some(state) = read_bits_behind(alloc, &mut words, b"cand")? else {
@@ -127,7 +200,14 @@ pub fn read_cand(alloc: Global, line: &[u8]) -> Result<Option<Cand>, NoMemory>
     let Some(input) = read_bits_behind(alloc, &mut words, b"input")? else {
         return Ok(None);
     };
-    Ok(at_end(&mut words, Cand { state, input }))
+    match read_before(alloc, depth, &mut words)? {
+        None => Ok(None),
+        Some(before) => Ok(Some(Cand {
+            state,
+            input,
+            before,
+        })),
+    }
 }
 
 /// The id that a word is.

@@ -13,4 +13,4 @@ mod text;
 pub use fault::ReportFault;
 pub use law::{faults_are_exact, reports_read_back};
 pub use limits::{MAX_CANDIDATES, MAX_CONFLICTS, MAX_REPORT_BYTES, MAX_STEPS};
-pub use report::{Budgets, Cand, HitLine, ListEnd, Report, Step, Stop};
+pub use report::{Before, Budgets, Cand, HitLine, ListEnd, Report, Step, Stop};

@@ -2,24 +2,34 @@
 ghost use Rattle.std.specs.Prelude.{◌≡◌, IfOk, codes, option_map, Some, None, if◌then◌else◌};
 ghost use Rattle.bs_report.specs.Forms.{count_in};
 ghost use Rattle.bs_bits.specs.Reading.{Answers};
-ghost use Rattle.bs_report.specs.Reading.{behind_state as behind_state_of, begins as begins_number, ended, followed, is_done as is_done_place};
-ghost use Rattle.bs_report.specs.Reading.{listed_place, log_place as log_place_of, present_place, stored_place, taken};
+ghost use Rattle.bs_report.specs.Reading.{behind_state as behind_state_of, behind_stored as behind_stored_of, begins as begins_number, ended};
+ghost use Rattle.bs_report.specs.Reading.{followed, is_done as is_done_place, listed_place, log_place as log_place_of, older_place};
+ghost use Rattle.bs_report.specs.Reading.{present_place, step_of, stored_place, taken};
 ghost use Rattle.bs_report.specs.declared.fault.ReportFault.TheVariants.{NoMemory as Want};
 ghost use Rattle.bs_report.specs.declared.place.Place.TheVariants as places;
 
 use crate::fault::ReportFault;
 use crate::forms::{
-    is_text, read_bits, read_budgets, read_cand, read_count, read_end, read_hit, read_stop,
+    is_text, read_bits, read_budgets, read_cand, read_count, read_depth, read_end, read_hit,
+    read_older, read_stop,
 };
-use crate::report::{Cand, ListEnd, Report, Step};
+use crate::report::{Cand, HitLine, ListEnd, Report, Step};
 use bs_bits::{Bits, List, NoMemory};
 use bs_log::Line;
 use std::alloc::Global;
 
+/// The first lines of a step: its present state and its stored signatures.
+#[derive(Drop)]
+pub struct Begun {
+    pub present: Bits,
+    pub stored: Bits,
+    pub older: Option<Bits>,
+}
+
 /// What the next line of a report may be, with what is read of the step under way.
 #[derive(Drop)]
 pub enum Place {
-    /// `backspace 1`
+    /// `backspace 1` or `backspace 2`
     Title,
     /// the budgets
     Asked,
@@ -29,10 +39,12 @@ pub enum Place {
     Present,
     /// its stored signature
     Stored(Bits),
+    /// its older signature, behind its present state and its stored one
+    Older(Bits, Bits),
     /// a candidate, or how the list ended
-    Listing(Bits, Bits, List<Cand>),
+    Listing(Begun, List<Cand>),
     /// the hit
-    Hit(Bits, Bits, List<Cand>, ListEnd),
+    Hit(Begun, List<Cand>, ListEnd),
     /// the number of inputs in the trace
     Trace,
     /// a state of the trace, behind which so many inputs are left
@@ -88,6 +100,19 @@ fn log_place(left: u64) -> Place
     }
 }
 
+/// The first line.
+fn take_title(report: &mut Report, line: &[u8]) -> Option<Place>
+    ensures { option_map (λ place. (place, report.new)) result ≡ taken places.Title report.old line.now }
+{
+    match read_depth(line) {
+        None => None,
+        Some(depth) => {
+            report.depth = depth;
+            Some(Place::Asked)
+        }
+    }
+}
+
 /// The line of the budgets.
 fn take_budgets(report: &mut Report, line: &[u8]) -> Option<Place>
     ensures { option_map (λ place. (place, report.new)) result ≡ taken places.Asked report.old line.now }
@@ -127,61 +152,111 @@ fn take_present(alloc: Global, line: &[u8]) -> Result<Option<Place>, NoMemory>
     }
 }
 
+/// The place behind a stored signature.
+fn behind_stored(alloc: Global, depth: u8, present: Bits, stored: Bits) -> Place
+    ensures { result ≡ behind_stored_of depth present stored }
+{
+    if depth == 1 {
+        let begun = Begun {
+            present,
+            stored,
+            older: None,
+        };
+        Place::Listing(begun, List::new(alloc))
+    } else {
+        Place::Older(present, stored)
+    }
+}
+
 /// The stored signature of a step.
-fn take_stored(alloc: Global, present: Bits, line: &[u8]) -> Result<Option<Place>, NoMemory>
-    ensures { IfOk result (λ next. next ≡ stored_place present line.now) }
+fn take_stored(
+    alloc: Global,
+    depth: u8,
+    present: Bits,
+    line: &[u8],
+) -> Result<Option<Place>, NoMemory>
+    ensures { IfOk result (λ next. next ≡ stored_place depth present line.now) }
 {
     match read_bits(alloc, line, b"stored")? {
         None => Ok(None),
-        Some(stored) => Ok(Some(Place::Listing(present, stored, List::new(alloc)))),
+        Some(stored) => Ok(Some(behind_stored(alloc, depth, present, stored))),
+    }
+}
+
+/// The older signature of a step.
+fn take_older(
+    alloc: Global,
+    present: Bits,
+    stored: Bits,
+    line: &[u8],
+) -> Result<Option<Place>, NoMemory>
+    ensures { IfOk result (λ next. next ≡ older_place present stored line.now) }
+{
+    match read_older(alloc, line)? {
+        None => Ok(None),
+        Some(older) => {
+            let begun = Begun {
+                present,
+                stored,
+                older,
+            };
+            Ok(Some(Place::Listing(begun, List::new(alloc))))
+        }
     }
 }
 
 /// A candidate, or how the list ended.
 fn take_listed(
     alloc: Global,
-    present: Bits,
-    stored: Bits,
+    depth: u8,
+    begun: Begun,
     cands: List<Cand>,
     line: &[u8],
 ) -> Result<Option<Place>, NoMemory>
-    ensures { IfOk result (λ next. next ≡ listed_place present stored cands line.now) }
+    ensures { IfOk result (λ next. next ≡ listed_place depth begun cands line.now) }
 {
     let mut cands = cands;
-    match read_cand(alloc, line)? {
+    match read_cand(alloc, depth, line)? {
         None => match read_end(line) {
             None => Ok(None),
-            Some(ended) => Ok(Some(Place::Hit(present, stored, cands, ended))),
+            Some(ended) => Ok(Some(Place::Hit(begun, cands, ended))),
         },
         Some(cand) => {
             cands.push(cand)?;
-            Ok(Some(Place::Listing(present, stored, cands)))
+            Ok(Some(Place::Listing(begun, cands)))
         }
+    }
+}
+
+/// The whole step.
+fn whole_step(begun: Begun, cands: List<Cand>, ended: ListEnd, hit: Option<HitLine>) -> Step
+    ensures { result ≡ step_of begun cands ended hit }
+{
+    Step {
+        present: begun.present,
+        stored: begun.stored,
+        older: begun.older,
+        cands,
+        end: ended,
+        hit,
     }
 }
 
 /// The hit, with which the step is whole.
 fn take_hit(
     alloc: Global,
-    present: Bits,
-    stored: Bits,
+    begun: Begun,
     cands: List<Cand>,
     ended: ListEnd,
     report: &mut Report,
     line: &[u8],
 ) -> Result<Option<Place>, NoMemory>
-    ensures { IfOk result (λ next. option_map (λ place. (place, report.new)) next ≡ taken (places.Hit present stored cands ended) report.old line.now) }
+    ensures { IfOk result (λ next. option_map (λ place. (place, report.new)) next ≡ taken (places.Hit begun cands ended) report.old line.now) }
 {
     match read_hit(alloc, line)? {
         None => Ok(None),
         Some(hit) => {
-            let step = Step {
-                present,
-                stored,
-                cands,
-                end: ended,
-                hit,
-            };
+            let step = whole_step(begun, cands, ended, hit);
             report.steps.push(step)?;
             Ok(Some(Place::Turn))
         }
@@ -268,17 +343,14 @@ fn take(
     ensures { IfOk result (λ next. option_map (λ place. (place, report.new)) next ≡ taken place report.old line.now) }
 {
     match place {
-        Place::Title => Ok(if_allowed(is_text(line, b"backspace 1"), Place::Asked)),
+        Place::Title => Ok(take_title(report, line)),
         Place::Asked => Ok(take_budgets(report, line)),
         Place::Turn => Ok(take_turn(report, line)),
         Place::Present => take_present(alloc, line),
-        Place::Stored(present) => take_stored(alloc, present, line),
-        Place::Listing(present, stored, cands) => {
-            take_listed(alloc, present, stored, cands, line)
-        }
-        Place::Hit(present, stored, cands, ended) => {
-            take_hit(alloc, present, stored, cands, ended, report, line)
-        }
+        Place::Stored(present) => take_stored(alloc, report.depth, present, line),
+        Place::Older(present, stored) => take_older(alloc, present, stored, line),
+        Place::Listing(begun, cands) => take_listed(alloc, report.depth, begun, cands, line),
+        Place::Hit(begun, cands, ended) => take_hit(alloc, begun, cands, ended, report, line),
         Place::Trace => Ok(take_trace(line)),
         Place::State(left) => take_state(alloc, left, report, line),
         Place::Input(left) => take_input(alloc, left, report, line),

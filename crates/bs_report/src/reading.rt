@@ -17,6 +17,7 @@ fn nothing(alloc: Global) -> Report
     ensures { result ≡ nothing_read }
 {
     Report {
+        depth: 1,
         budgets: Budgets {
             steps: 0,
             candidates: 0,

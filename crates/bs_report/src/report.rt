@@ -21,11 +21,20 @@ pub enum Stop {
     Conflicts,
 }
 
-/// A state that may stand before the present one, and an input that leads from it to the present one.
+/// A state that may stand before a candidate, and an input that leads from it to the candidate.
+#[derive(Drop)]
+pub struct Before {
+    pub state: Bits,
+    pub input: Bits,
+}
+
+/// A state that may stand before the present one, and an input that leads from it to the present one. Where the register keeps
+/// an older signature too, a state that has it may stand before the candidate.
 #[derive(Drop)]
 pub struct Cand {
     pub state: Bits,
     pub input: Bits,
+    pub before: Option<Before>,
 }
 
 impl HasState for Cand {
@@ -55,12 +64,13 @@ pub struct HitLine {
     pub state: Bits,
 }
 
-/// One step back: the present state with its stored signature, the candidates in ascending order, how their list ended, and
-/// the first moment of a run in a listed state.
+/// One step back: the present state with its stored signature and the older one, if the register keeps one, the candidates in
+/// ascending order, how their list ended, and the first moment of a run in a listed state.
 #[derive(Drop)]
 pub struct Step {
     pub present: Bits,
     pub stored: Bits,
+    pub older: Option<Bits>,
     pub cands: List<Cand>,
     pub end: ListEnd,
     pub hit: Option<HitLine>,
@@ -74,10 +84,11 @@ pub struct Budgets {
     pub conflicts: u64,
 }
 
-/// The whole backtrace. `states` and `inputs` are the trace: the states hit, from the last step back to the first, then the
+/// The whole backtrace. `depth` is how many signatures the register keeps, 1 or 2. `states` and `inputs` are the trace: the states hit, from the last step back to the first, then the
 /// dumped state; and between two states the input that leads from one to the next.
 #[derive(Drop)]
 pub struct Report {
+    pub depth: u8,
     pub budgets: Budgets,
     pub steps: List<Step>,
     pub stop: Stop,

@@ -4,10 +4,10 @@ ghost use Rattle.std.specs.List.{flat_map};
 ghost use Rattle.bs_bits.specs.Lines.{line};
 ghost use Rattle.bs_bits.specs.Text.{bits_text};
 ghost use Rattle.bs_log.specs.LineText.{line_text};
-ghost use Rattle.bs_report.specs.Text.{cand_text, end_word, hit_text, step_text, steps_text, stop_word, move_text, trace_text, budgets_text};
-ghost use Rattle.bs_report.specs.Text.{head_text, tail_text, report_text};
+ghost use Rattle.bs_report.specs.Text.{before_text, cand_text, end_word, hit_text, list_text, older_text, step_text, steps_text, stop_word, move_text};
+ghost use Rattle.bs_report.specs.Text.{budgets_text, head_text, report_text, tail_text, title, trace_text};
 
-use crate::report::{Budgets, Cand, HitLine, ListEnd, Report, Step, Stop};
+use crate::report::{Before, Budgets, Cand, HitLine, ListEnd, Report, Step, Stop};
 use bs_bits::{Bits, NoMemory, end_line, push_line, push_number, push_number_line, push_piece};
 use bs_log::Line;
 
@@ -20,13 +20,31 @@ fn push_bits_line(text: &mut Vec<u8>, word: &[u8], bits: &Bits) -> Result<(), No
     end_line(text)
 }
 
+/// Appends the state before a candidate, if one is named.
+fn push_before(text: &mut Vec<u8>, before: &Option<Before>) -> Result<(), NoMemory>
+    ensures { OnOk result (text.new.items ≡ text.old.items ++ before_text before.now) }
+{
+    match before {
+        None => Ok(()),
+        Some(before) => {
+            push_piece(text, b" from ")?;
+            before.state.text(text)?;
+            push_piece(text, b" input ")?;
+            before.input.text(text)
+        }
+    }
+}
+
 /// Appends the line of a candidate.
 fn push_cand(text: &mut Vec<u8>, cand: &Cand) -> Result<(), NoMemory>
     ensures { OnOk result (text.new.items ≡ text.old.items ++ cand_text cand.now) }
 {
     push_piece(text, b"cand ")?;
     cand.state.text(text)?;
-    push_bits_line(text, b" input ", &cand.input)
+    push_piece(text, b" input ")?;
+    cand.input.text(text)?;
+    push_before(text, &cand.before)?;
+    end_line(text)
 }
 
 /// Appends the lines of candidates.
@@ -71,24 +89,45 @@ fn push_hit(text: &mut Vec<u8>, hit: &Option<HitLine>) -> Result<(), NoMemory>
     }
 }
 
-/// Appends the lines of a step.
-fn push_step(text: &mut Vec<u8>, number: u64, step: &Step) -> Result<(), NoMemory>
-    ensures { OnOk result (text.new.items ≡ text.old.items ++ step_text number step.now) }
+/// Appends the line of the older signature, which stands where the depth is not 1.
+fn push_older(text: &mut Vec<u8>, depth: u8, older: &Option<Bits>) -> Result<(), NoMemory>
+    ensures { OnOk result (text.new.items ≡ text.old.items ++ older_text depth older.now) }
 {
-    push_number_line(text, b"step ", number)?;
-    push_bits_line(text, b"present ", &step.present)?;
-    push_bits_line(text, b"stored ", &step.stored)?;
+    if depth == 1 {
+        return Ok(());
+    }
+    match older {
+        None => push_line(text, b"older none"),
+        Some(bits) => push_bits_line(text, b"older ", bits),
+    }
+}
+
+/// Appends the lines of a step's list.
+fn push_list(text: &mut Vec<u8>, step: &Step) -> Result<(), NoMemory>
+    ensures { OnOk result (text.new.items ≡ text.old.items ++ list_text step.now) }
+{
     push_cands(text, step.cands.slice())?;
     push_end(text, step.end)?;
     push_hit(text, &step.hit)
 }
 
+/// Appends the lines of a step.
+fn push_step(text: &mut Vec<u8>, depth: u8, number: u64, step: &Step) -> Result<(), NoMemory>
+    ensures { OnOk result (text.new.items ≡ text.old.items ++ step_text depth number step.now) }
+{
+    push_number_line(text, b"step ", number)?;
+    push_bits_line(text, b"present ", &step.present)?;
+    push_bits_line(text, b"stored ", &step.stored)?;
+    push_older(text, depth, &step.older)?;
+    push_list(text, step)
+}
+
 /// Appends the lines of the steps.
-fn push_steps(text: &mut Vec<u8>, steps: &[Step]) -> Result<(), NoMemory>
-    ensures { OnOk result (text.new.items ≡ text.old.items ++ steps_text 1 steps.now) }
+fn push_steps(text: &mut Vec<u8>, depth: u8, steps: &[Step]) -> Result<(), NoMemory>
+    ensures { OnOk result (text.new.items ≡ text.old.items ++ steps_text depth 1 steps.now) }
 {
     for (i, step) in steps.iter().enumerate() {
-        push_step(text, i as u64 + 1, step)?;
+        push_step(text, depth, i as u64 + 1, step)?;
     }
     Ok(())
 }
@@ -154,14 +193,25 @@ fn push_budgets(text: &mut Vec<u8>, budgets: &Budgets) -> Result<(), NoMemory>
     push_number_line(text, b" conflicts ", budgets.conflicts)
 }
 
+/// Appends the first line.
+fn push_title(text: &mut Vec<u8>, depth: u8) -> Result<(), NoMemory>
+    ensures { OnOk result (text.new.items ≡ text.old.items ++ line (title depth)) }
+{
+    if depth == 1 {
+        push_line(text, b"backspace 1")
+    } else {
+        push_line(text, b"backspace 2")
+    }
+}
+
 /// Appends the lines up to the cause.
 #[tactic(auto, unfolding(crate::specs::Text::head_text))]
 fn push_head(text: &mut Vec<u8>, report: &Report) -> Result<(), NoMemory>
     ensures { OnOk result (text.new.items ≡ text.old.items ++ head_text report.now) }
 {
-    push_line(text, b"backspace 1")?;
+    push_title(text, report.depth)?;
     push_budgets(text, &report.budgets)?;
-    push_steps(text, report.steps.slice())?;
+    push_steps(text, report.depth, report.steps.slice())?;
     push_stop(text, report.stop)
 }
 

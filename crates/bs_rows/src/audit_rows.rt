@@ -56,6 +56,11 @@ fn changed_reports_are_rejected(rt: HostRuntime) -> Result<(), Fail> {
         ("finished 7", "finished 6", "rejected step 1 end\n"),
         ("b 6 -5 3 0", "b 6 -5 -3 0", "rejected log 4 NotFalse\n"),
         ("r 8", "r 9", "rejected log 6 Order\n"),
+        (
+            "backspace 1\nasked 64 candidates 256 conflicts 100000\nstep 1\npresent 1\nstored .\n",
+            "backspace 2\nasked 64 candidates 256 conflicts 100000\nstep 1\npresent 1\nstored .\nolder none\n",
+            "rejected format\n",
+        ),
     ] {
         assert!(rt; is_told(alloc, from, to, Status::Rejected, want)?, "{from}");
     }
@@ -66,6 +71,12 @@ fn changed_reports_are_rejected(rt: HostRuntime) -> Result<(), Fail> {
         ("log 7\ns\n", "log 7\ns\ns\n", "refused report Line 22\n"),
         ("log 7", "log 6", "refused report Line 21\n"),
         ("log 7", "log 8", "refused report Line 22\n"),
+        ("backspace 1", "backspace 2", "refused report Line 6\n"),
+        (
+            "cand 0 input .",
+            "cand 0 input . from 0 input .",
+            "refused report Line 6\n",
+        ),
     ] {
         assert!(rt; is_told(alloc, from, to, Status::Report, want)?, "{from}");
     }

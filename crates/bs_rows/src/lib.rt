@@ -14,6 +14,8 @@ mod limit_rows;
 #[cfg(test)]
 mod mode_rows;
 #[cfg(test)]
+mod older_rows;
+#[cfg(test)]
 mod reach_rows;
 #[cfg(test)]
 mod refusal_rows;

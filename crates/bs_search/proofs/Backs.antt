@@ -1,22 +1,19 @@
 -- How far the trail goes back for a learnt clause.
-use Rattle.std.proofs.Common.{◌≡◌, ◌≢◌, ℕ, zero, suc, ◌+◌, ◌-◌, ◌<◌, ◌≤◌, arith, true, List, [], ◌∷◌, ◌++◌, length, take, refl, sym, ap, subst, ◌∙◌}
-use Rattle.std.proofs.Common.{inl, inr, ◌⊎◌, Option, Some, None}
-use Rattle.std.specs.Prelude.{All, Contains, slice_get, is_some, IsPermutation}
+use Rattle.std.proofs.Common.{◌≡◌, ◌≢◌, ℕ, ◌-◌, ◌<◌, ◌≤◌, arith, List, [], ◌∷◌, ◌++◌, length, take, refl, sym, ap, subst, ◌∙◌}
+use Rattle.std.proofs.Common.{inl, inr, ◌⊎◌, Some}
+use Rattle.std.specs.Prelude.{Contains, slice_get, IsPermutation}
 use Rattle.std.proofs.lemmas.Bool.{cases_lt}
-use Rattle.std.proofs.lemmas.List.{length-take-le, length_push}
+use Rattle.std.proofs.lemmas.List.{length-take-le}
 use Rattle.std.proofs.lemmas.List.Elements.{All-contains}
-use Rattle.std.proofs.lemmas.List.Sorted.{IsPermutation-sym, Contains-permutation, All-permutation, length_permutation}
+use Rattle.std.proofs.lemmas.List.Sorted.{IsPermutation-sym, Contains-permutation, length_permutation}
 use Rattle.bs_clause.specs.Literal.{Literal, Clause, negation}
-use Rattle.bs_clause.specs.Range.{HasVariables, IsWithin}
-use Rattle.bs_log.specs.Refusal.{has_distinct_variables}
-use Rattle.bs_arena.specs.Arena.{Held, literals_at}
 use Rattle.bs_watch.specs.declared.watch.Level.{Level}
 use Rattle.bs_watch.specs.Trail.{IsTrueOn, IsFalseOn, IsOpenOn, IsConflict}
-use Rattle.bs_watch.specs.Places.{Place, literals_of, AreApart, IsPlaceOf, IsOnLevel}
+use Rattle.bs_watch.specs.Places.{Place, literals_of, AreApart, IsOnLevel}
 use Rattle.bs_watch.specs.Scene.{IsWatchable}
 use Rattle.bs_watch.specs.Choice.{AreHighest}
 use Rattle.bs_watch.specs.Watch.{WatchState, AreLevelled, MayAttach}
-use Rattle.bs_watch.proofs.Gets.{same_some, none_is_not_some, get_from_Contains, Contains_from_get, get_map_cases, get_map, get_take, take_get}
+use Rattle.bs_watch.proofs.Gets.{same_some, get_from_Contains, Contains_from_get, get_map_cases, get_map, get_take, take_get}
 use Rattle.bs_watch.proofs.Gets.{get_within, get_left, get_last}
 use Rattle.bs_watch.proofs.TableLemmas.{one_level}
 use Rattle.bs_watch.proofs.Advancing.{true_in_front}
@@ -24,7 +21,6 @@ use Rattle.bs_watch.proofs.CallerLemmas.{cancelled_open, cancelled_keeps, highes
 use Rattle.bs_watch.proofs.Literals.{negation-negation}
 use Rattle.bs_book.proofs.Clauses.{all_from, contains_cases, nothing_in}
 use Rattle.bs_learn.specs.Reasons.{last_start}
-use Rattle.bs_learn.specs.Point.{IsPoint}
 use Rattle.bs_search.specs.Begun.{AreBegun}
 use Rattle.bs_search.specs.Lesson.{IsBackLevel, IsLesson, IsOpenYet}
 use Rattle.bs_search.proofs.Begins.{some_at, last_level}

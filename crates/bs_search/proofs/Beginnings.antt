@@ -1,37 +1,38 @@
 -- The first level of a search, behind what stands for good.
-use Rattle.std.proofs.Common.{◌≡◌, ◌≢◌, ℕ, zero, suc, ◌+◌, ◌-◌, ◌<◌, ◌≤◌, ◌^◌, arith, Bool, true, false, not, List, [], ◌∷◌, ◌++◌, map, reverse, length, take, drop}
+use Rattle.std.proofs.Common.{◌≡◌, ◌≢◌, ℕ, zero, suc, ◌≤◌, arith, Bool}
+use Rattle.std.proofs.Common.{true, false, not, List, [], ◌∷◌, ◌++◌, length, take, drop}
 use Rattle.std.proofs.Common.{refl, sym, ap, subst, ◌∙◌, inl, inr, ◌⊎◌, Option, Some, None}
-use Rattle.std.specs.Prelude.{All, Any, Contains, slice_get, is_some, option_map, unwrap_or, IfSome, IsPermutation, IsTrue}
+use Rattle.std.specs.Prelude.{All, Contains, slice_get, is_some, option_map, IfSome, IsPermutation, IsTrue}
 use Rattle.std.specs.List.{cons_option}
 use Rattle.std.proofs.lemmas.Bool.{cases_lt, false≢true, true≢false, and_from}
-use Rattle.std.proofs.lemmas.List.{append-nil, append_assoc, take_at, take_all, length-take-le}
+use Rattle.std.proofs.lemmas.List.{append-nil, append_assoc, take_at, length-take-le}
 use Rattle.std.proofs.lemmas.List.Elements.{All-contains, All-cons, All-nil}
-use Rattle.std.proofs.lemmas.List.Sorted.{IsPermutation-sym, All-permutation}
-use Rattle.bs_clause.specs.Literal.{Literal, Clause, negation, same_literal, has_literal}
+use Rattle.std.proofs.lemmas.List.Sorted.{IsPermutation-sym}
+use Rattle.bs_clause.specs.Literal.{Literal, Clause, negation, has_literal}
 use Rattle.bs_clause.specs.Range.{IsWithin, HasVariables}
-use Rattle.bs_clause.proofs.Literals.{same_literal-refl, has-from_Contains}
+use Rattle.bs_clause.proofs.Literals.{has-from_Contains}
 use Rattle.bs_log.specs.declared.origin.Origin.TheVariants.{Learnt as FromConflict}
 use Rattle.bs_log.specs.History.{Entry, live}
 use Rattle.bs_log.specs.Refusal.{has_distinct_variables, entry_of, clauses_of, denies}
 use Rattle.bs_log.specs.Lean.{IsNew, IsResolventOf}
-use Rattle.bs_arena.specs.Arena.{Held, held_at, literals_at}
+use Rattle.bs_arena.specs.Arena.{Held, literals_at}
 use Rattle.bs_watch.specs.declared.watch.Level.{Level}
 use Rattle.bs_watch.specs.declared.lists.Watcher.{Watcher}
 use Rattle.bs_watch.specs.Trail.{IsTrueOn, IsFalseOn, IsOpenOn, Forces}
 use Rattle.bs_watch.specs.Places.{Place, TrailState, AreApart, IsForcedBy, IsPlaceOf, HasNoReason, literals_of}
 use Rattle.bs_watch.specs.Look.{HasTrue}
-use Rattle.bs_watch.specs.Scene.{Grows}
 use Rattle.bs_watch.specs.Watch.{WatchState, Serves, KeepsService, HasGoneBack, decided}
-use Rattle.bs_watch.proofs.Advancing.{shuffled_refl, stays_true, take_front}
+use Rattle.bs_watch.proofs.Advancing.{shuffled_refl, take_front}
 use Rattle.bs_learn.specs.Reasons.{IsReasoned, IsConflictAt}
 use Rattle.bs_learn.proofs.CallerLemmas.{reasoned_grows, reasoned_free}
 use Rattle.bs_book.specs.Place.{Place as LoggedPlace}
-use Rattle.bs_book.specs.Places.{IsSound, literals_of as logged_literals}
+use Rattle.bs_book.specs.Places.{AreWarranted, literals_of as logged_literals}
 use Rattle.bs_book.specs.Walk.{IsLearnt as IsLoggedLearnt}
 use Rattle.bs_book.specs.Book.{Book, standing, next_id, with_lemma}
 use Rattle.bs_book.specs.Search.{assumed}
-use Rattle.bs_book.proofs.Lists.{none_is_not_some, same_some, get_map_cases, get_map, get_within, get_take, take_get, get_left, get_from_Contains, Contains_from_get}
-use Rattle.bs_book.proofs.Clauses.{all_from, nothing_in, contains_first, contains_cases, map_contains, any_first, any_cases}
+use Rattle.bs_book.proofs.Lists.{none_is_not_some, same_some, get_map_cases, get_map, get_within}
+use Rattle.bs_book.proofs.Lists.{get_take, get_from_Contains, Contains_from_get}
+use Rattle.bs_book.proofs.Clauses.{contains_first, map_contains, any_first, any_cases}
 use Rattle.bs_book.proofs.Entries.{found_stands}
 use Rattle.bs_book.proofs.Places.{sound_grows}
 use Rattle.bs_search.specs.declared.stock.Stock.{Stock}
@@ -39,17 +40,16 @@ use Rattle.bs_search.specs.declared.laying.Start.TheVariants.{Denied, Clash, Lai
 use Rattle.bs_search.specs.Stock.{entries, is_live, id_in, IsStocked}
 use Rattle.bs_search.specs.Ground.{HasStocked, IsGround}
 use Rattle.bs_search.specs.Seen.{seen_place, seen}
-use Rattle.bs_search.specs.Begun.{AreBegun, AreLaid}
+use Rattle.bs_search.specs.Begun.{AreBegun}
 use Rattle.bs_search.specs.Laying.{HasAssumed, HasGrown, AllLaid, HasLaid}
-use Rattle.bs_search.specs.Running.{IsRunning}
 use Rattle.bs_search.specs.Teaching.{IsAtRest}
-use Rattle.bs_search.specs.Pausing.{IsPaused, IsSomePause}
-use Rattle.bs_search.specs.Searching.{IsFirstConflict, IsSomeFirstConflict, IsDenial, HasEndedBy}
+use Rattle.bs_search.specs.Pausing.{IsSomePause}
+use Rattle.bs_search.specs.Searching.{IsSomeFirstConflict, IsDenial, HasEndedBy}
 use Rattle.bs_search.proofs.Entries.{clauses_in, stands_grown}
 use Rattle.bs_search.specs.declared.laying.Start.{Start}
 use Rattle.bs_book.proofs.Searching.{learnt_range}
 use Rattle.bs_book.proofs.Walks.{negation-negation}
-use Rattle.bs_search.proofs.Seens.{literals_seen, literals_seen_take, take_seen, length_seen, grows_seen, forces_spelled}
+use Rattle.bs_search.proofs.Seens.{literals_seen_take, length_seen, grows_seen, forces_spelled}
 use Rattle.bs_search.proofs.Stocks.{distinct_gets}
 use Rattle.bs_search.proofs.Begins.{some_at, begun_first}
 use Rattle.bs_log.specs.Propagation.{hints_are_unit, last_is_false}
@@ -92,19 +92,20 @@ pub record IsLevelled (base : ℕ) (book : Book) (w new : WatchState) (clauses :
   pub serves : Serves new clauses
   pub begun : AreBegun base new.levels new.trail.places
   pub reasoned : IsReasoned clauses new.trail.places
-  pub sound : IsSound (standing book) base a (seen new.trail.places)
+  pub sound : AreWarranted (standing book) base a (seen new.trail.places)
   pub ground : IsGround (entries book) stock.shorts.items clauses (take level.start new.trail.places)
   pub forced : (k : ℕ) (p : Place) → base ≤ k → slice_get new.trail.places k ≡ Some p → is_some p.reason ≡ true
 
 sound_assumed : (st : List Clause) (lists : List (List Watcher)) (clauses : List Held) (stock : Stock) (es : List Entry) (a : Clause) (ps more : List Place) →
     clauses_in es ≡ st → IsStocked lists clauses stock es → AreApart (ps ++ more) → IsReasoned clauses (ps ++ more) →
     ((k : ℕ) (p : Place) → slice_get ps k ≡ Some p → is_some p.reason ≡ true) →
-    All (λ (p : Place). (p.reason ≡ None) × Contains a p.literal) more → IsSound st (length (ps ++ more)) a (seen (ps ++ more))
+    All (λ (p : Place). (p.reason ≡ None) × Contains a p.literal) more → AreWarranted st (length (ps ++ more)) a (seen (ps ++ more))
 sound_assumed st lists clauses stock es a ps more is_st s apart reasoned stand free = record {
   placed = λ k q e.
       let (p, at, is) = get_map_cases seen_place (ps ++ more) k q e in
       let within = get_within (ps ++ more) k p at in
-      let count : length (take k (seen (ps ++ more))) ≡ k = length-take-le k (seen (ps ++ more)) (let n = length_seen (ps ++ more) in omega (arith, n, within)) in
+      let count : length (take k (seen (ps ++ more))) ≡ k = length-take-le k (seen (ps ++ more))
+      (let n = length_seen (ps ++ more) in omega (arith, n, within)) in
       record {
         unassigned = subst (λ l. IsOpenOn (logged_literals (take k (seen (ps ++ more)))) l) (ap (λ (x : LoggedPlace). x.literal) is)
             (subst (λ ls. IsOpenOn ls p.literal) (sym (literals_seen_take k (ps ++ more))) (open_in_front (ps ++ more) k p apart at));
@@ -168,7 +169,8 @@ levelled book w mid new clauses stock a rest h apart g serves =
       reasoned = reasoned_grows clauses clauses (length mid.levels) mid.trail.places new.trail.places (shuffled_refl clauses) g.grows
           (subst (IsReasoned clauses) (sym h.places) reasoned_mid);
       sound = sound_grows (standing book) base a (seen mid.trail.places) (seen new.trail.places)
-          (subst (λ qs. IsSound (standing book) (length qs) a (seen qs)) (sym h.places) (sound_assumed (standing book) w.lists clauses stock (entries book) a ps h.more
+          (subst (λ qs. AreWarranted (standing book) (length qs) a (seen qs)) (sym h.places)
+          (sound_assumed (standing book) w.lists clauses stock (entries book) a ps h.more
           refl rest.stocked apart_both reasoned_mid (λ k p at. let u = rest.ground.each k p at in ap is_some u.reason) h.free))
           (grows_seen new.lists clauses stock (entries book) (length mid.levels) mid.trail.places new.trail.places stocked g.grows);
       ground = subst (IsGround (entries book) stock.shorts.items clauses) (sym front) rest.ground;
@@ -215,7 +217,7 @@ laid_paused book w mid new clauses stock a rest is h apart g serves given all =
           reasoned = l.reasoned;
           ground = λ v e. ground_first base book w new mid clauses stock a l v e;
         };
-        sound = subst (λ x. IsSound (standing book) base x (seen new.trail.places)) (sym is) l.sound;
+        sound = subst (λ x. AreWarranted (standing book) base x (seen new.trail.places)) (sym is) l.sound;
         given = subst (All (IsTrueOn (logged_literals (take base (seen new.trail.places))))) (sym is)
             (subst (λ ls. All (IsTrueOn ls) a) (sym (literals_seen_take base new.trail.places ∙ ap literals_of l.mid_front)) given);
         low = l.low;
@@ -255,7 +257,7 @@ laid_clashes book w mid new clauses stock a r rest is h apart g serves range dis
         stocked = l.stocked;
         serves = l.serves;
         reasoned = l.reasoned;
-        sound = subst (λ x. IsSound (standing book) base x (seen new.trail.places)) (sym is) l.sound;
+        sound = subst (λ x. AreWarranted (standing book) base x (seen new.trail.places)) (sym is) l.sound;
         forced = λ k q above e.
             let (p, at, same) = get_map_cases seen_place new.trail.places k q e in
             ap (λ (x : LoggedPlace). x.forced) (sym same) ∙ l.forced k p above at;
@@ -458,7 +460,8 @@ pub denied_range : (book : Book) (w : WatchState) (clauses : List Held) (stock :
     HasVariables w.trail.vars (literals_of w.trail.places) → HasVariables w.trail.vars (negation l ∷ [])
 denied_range book w clauses stock l d range =
     let mine = denial_place book w clauses stock l d in
-    let here = Contains_from_get (literals_of w.trail.places) mine.at d.place.literal (get_map (λ (x : Place). x.literal) w.trail.places mine.at d.place mine.there) in
+    let here = Contains_from_get (literals_of w.trail.places) mine.at d.place.literal
+    (get_map (λ (x : Place). x.literal) w.trail.places mine.at d.place mine.there) in
     All-cons (IsWithin w.trail.vars) (negation l) [] (subst (IsWithin w.trail.vars) d.is
     (All-contains (IsWithin w.trail.vars) (literals_of w.trail.places) d.place.literal range here)) (All-nil (IsWithin w.trail.vars))
 

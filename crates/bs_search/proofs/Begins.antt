@@ -1,19 +1,18 @@
 -- The levels of a search, from one turn to the next.
-use Rattle.std.proofs.Common.{◌≡◌, ◌≢◌, ℕ, zero, suc, ◌+◌, ◌-◌, ◌<◌, ◌≤◌, arith, true, List, [], ◌∷◌, ◌++◌, length, take, refl, sym, ap, subst, ◌∙◌}
-use Rattle.std.proofs.Common.{inl, inr, ◌⊎◌, Option, Some, None}
-use Rattle.std.specs.Prelude.{Contains, slice_get, is_some, option_map, unwrap_or, IsPermutation}
+use Rattle.std.proofs.Common.{◌≡◌, ℕ, zero, suc, ◌-◌, ◌<◌, ◌≤◌, arith, true, List, [], ◌∷◌, ◌++◌, length, take, refl, sym, ap, subst, ◌∙◌}
+use Rattle.std.proofs.Common.{inl, inr, Option, Some, None}
+use Rattle.std.specs.Prelude.{Contains, slice_get, is_some, option_map, unwrap_or}
 use Rattle.std.proofs.lemmas.Bool.{cases_lt, cases_eq, false≢true}
 use Rattle.std.proofs.lemmas.List.{length-take-le, length_push, take-append-le, take_at, take_all}
-use Rattle.bs_clause.specs.Literal.{Literal, Clause, negation}
+use Rattle.bs_clause.specs.Literal.{Clause}
 use Rattle.bs_arena.specs.Arena.{Held, literals_at}
 use Rattle.bs_watch.specs.declared.watch.Level.{Level}
 use Rattle.bs_watch.specs.Trail.{IsTrueOn}
 use Rattle.bs_watch.specs.Places.{Place, literals_of}
 use Rattle.bs_watch.specs.Look.{HasTrue}
 use Rattle.bs_watch.specs.Scene.{AreShuffled, Grows}
-use Rattle.bs_watch.specs.Watch.{AreLevelled}
 use Rattle.bs_watch.proofs.Advancing.{true_in_front, stays_true, true_carries, take_front}
-use Rattle.bs_book.proofs.Lists.{none_is_not_some, same_some, get_left, get_last, get_push_cases, get_take, take_get, get_within}
+use Rattle.bs_book.proofs.Lists.{same_some, get_left, get_last, get_push_cases, get_take, take_get, get_within}
 use Rattle.bs_learn.specs.Reasons.{last_start}
 use Rattle.bs_learn.specs.Point.{IsDecisionAt, IsLastDecision}
 use Rattle.bs_search.specs.Begun.{AreBegun, AreLaid}

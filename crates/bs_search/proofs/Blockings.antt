@@ -1,18 +1,18 @@
 -- A clause comes while literals are assigned.
-use Rattle.std.proofs.Common.{◌≡◌, ◌≢◌, ℕ, zero, suc, ◌+◌, ◌-◌, ◌<◌, ◌≤◌, arith, true, List, [], ◌∷◌, ◌++◌, length, take, refl, sym, ap, subst, ◌∙◌, inl, inr}
-use Rattle.std.proofs.Common.{◌⊎◌, Option, Some, None}
-use Rattle.std.specs.Prelude.{All, Contains, slice_get, is_some, option_map, unwrap_or, IfSome, IsPermutation}
-use Rattle.std.proofs.lemmas.Bool.{cases_lt, false≢true}
+use Rattle.std.proofs.Common.{◌≡◌, ◌≢◌, ℕ, ◌-◌, ◌<◌, ◌≤◌, arith, true, List, [], ◌∷◌, ◌++◌, length, take, refl, sym, ap, subst, ◌∙◌, inl, inr}
+use Rattle.std.proofs.Common.{Some, None}
+use Rattle.std.specs.Prelude.{All, Contains, slice_get, option_map, unwrap_or, IfSome, IsPermutation}
+use Rattle.std.proofs.lemmas.Bool.{cases_lt}
 use Rattle.std.proofs.lemmas.List.{length-take-le, length_push, take-append-le, take-take, take_all}
 use Rattle.std.proofs.lemmas.List.Elements.{All-contains}
 use Rattle.std.proofs.lemmas.List.Sorted.{IsPermutation-sym, Contains-permutation, All-permutation}
 use Rattle.bs_clause.specs.Literal.{Literal, Clause, negation}
-use Rattle.bs_clause.specs.Range.{HasVariables, IsWithin}
-use Rattle.bs_arena.specs.Arena.{Held, held_at, literals_at, Keeps, KeepsOthers}
+use Rattle.bs_clause.specs.Range.{IsWithin}
+use Rattle.bs_arena.specs.Arena.{Held, held_at, literals_at, KeepsOthers}
 use Rattle.bs_watch.specs.declared.watch.Level.{Level}
-use Rattle.bs_watch.specs.Trail.{IsTrueOn, IsFalseOn, IsOpenOn, IsQuiet}
+use Rattle.bs_watch.specs.Trail.{IsTrueOn, IsFalseOn, IsOpenOn}
 use Rattle.bs_watch.specs.Places.{Place, TrailState, AreApart, IsUnassigned, IsOnLevel, IsLevelOf, literals_of}
-use Rattle.bs_watch.specs.Look.{IsFirstTwo, HasTrue}
+use Rattle.bs_watch.specs.Look.{HasTrue}
 use Rattle.bs_watch.specs.Scene.{IsWatchable}
 use Rattle.bs_watch.specs.Choice.{AreHighest}
 use Rattle.bs_watch.specs.Watch.{WatchState, Serves, AreLevelled, MayAttach, HasGoneBack, assigned}
@@ -22,7 +22,7 @@ use Rattle.bs_watch.proofs.CallerLemmas.{cancelled_open, cancelled_keeps, highes
 use Rattle.bs_learn.specs.Reasons.{IsReasoned}
 use Rattle.bs_learn.proofs.CallerLemmas.{reasoned_take, reasoned_kept}
 use Rattle.bs_book.specs.Place.{Place as LoggedPlace}
-use Rattle.bs_book.specs.Places.{IsSound, literals_of as logged_literals}
+use Rattle.bs_book.specs.Places.{AreWarranted, literals_of as logged_literals}
 use Rattle.bs_book.specs.Point.{IsCut}
 use Rattle.bs_book.specs.Book.{Book, standing}
 use Rattle.bs_book.specs.Search.{assumed}
@@ -38,11 +38,9 @@ use Rattle.bs_log.specs.declared.origin.Origin.TheVariants.{Blocked}
 use Rattle.bs_log.specs.Refusal.{entry_of}
 use Rattle.bs_search.specs.declared.stock.Stock.{Stock}
 use Rattle.bs_search.specs.Stock.{entries, is_live, id_in, IsStocked, HasJoined, rows_for}
-use Rattle.bs_search.specs.Seen.{seen_place, seen}
+use Rattle.bs_search.specs.Seen.{seen}
 use Rattle.bs_search.specs.Begun.{AreBegun, AreLaid}
-use Rattle.bs_search.specs.Running.{IsRunning}
-use Rattle.bs_search.specs.Lesson.{HasTaken, IsOpenYet}
-use Rattle.bs_search.specs.Teaching.{IsAtRest}
+use Rattle.bs_search.specs.Lesson.{HasTaken}
 use Rattle.bs_search.specs.Pausing.{IsPaused, IsKept, IsGrounded}
 use Rattle.bs_search.specs.Ground.{IsGround, IsOff}
 use Rattle.bs_search.proofs.Grounds.{ground_added}
@@ -393,17 +391,17 @@ paused_taken base book other old new before after stock more id lits u p h u_in 
     (subst (λ l. IsCut places base cut l lits cut) u_is
     (record { low = k.low; high = omega arith; decided = k.decided; alone = k.alone; earlier = k.earlier })) in
     let x : LoggedPlace = record { literal = u; forced = true } in
-    let sound_u : IsSound (standing book ++ lits ∷ []) base (assumed book) (take cut places ++ x ∷ []) =
-    subst (λ l. IsSound (standing book ++ lits ∷ []) base (assumed book)
+    let sound_u : AreWarranted (standing book ++ lits ∷ []) base (assumed book) (take cut places ++ x ∷ []) =
+    subst (λ l. AreWarranted (standing book ++ lits ∷ []) base (assumed book)
     (take cut places ++ record { literal = l; forced = true } ∷ [])) (sym u_is) learning.sound in
     let after_is = seen_after old new before after stock more id Blocked lits u h in
     let count : length (take cut places) ≡ cut = length-take-le cut places (omega (arith, within_cut)) in
     record {
       running = running_after base old new before after stock more id Blocked lits u other (entries book) p.running.stocked p.running.reasoned b
           p.running.laid p.running.ground u_in free grown h;
-      sound = subst (IsSound (standing other) base (assumed other)) (sym after_is)
-          (subst (λ cs. IsSound cs base (assumed other) (take cut places ++ x ∷ [])) (sym stands)
-          (subst (λ a. IsSound (standing book ++ lits ∷ []) base a (take cut places ++ x ∷ [])) (sym same) sound_u));
+      sound = subst (AreWarranted (standing other) base (assumed other)) (sym after_is)
+          (subst (λ cs. AreWarranted cs base (assumed other) (take cut places ++ x ∷ [])) (sym stands)
+          (subst (λ a. AreWarranted (standing book ++ lits ∷ []) base a (take cut places ++ x ∷ [])) (sym same) sound_u));
       given = given_after base places (seen new.trail.places) (assumed other)
           (ap (take base) after_is ∙ take-append-le base (take cut places) (x ∷ []) (omega (arith, low, count)) ∙ take-take base cut places low)
           (subst (All (IsTrueOn (logged_literals (take base places)))) (sym same) p.given);
@@ -415,9 +413,9 @@ paused_taken base book other old new before after stock more id lits u p h u_in 
     }
 
 -- a trail without the literals is quiet with the clause wherever it was without it
-sound_with_open : (st : List Clause) (base : ℕ) (a : Clause) (places : List LoggedPlace) (lits : Clause) (l m : Literal) → IsSound st base a places →
+sound_with_open : (st : List Clause) (base : ℕ) (a : Clause) (places : List LoggedPlace) (lits : Clause) (l m : Literal) → AreWarranted st base a places →
     l ≢ m → Contains lits l → IsOpenOn (logged_literals places) l → Contains lits m → IsOpenOn (logged_literals places) m →
-    IsSound (st ++ lits ∷ []) base a places
+    AreWarranted (st ++ lits ∷ []) base a places
 sound_with_open st base a places lits l m s other l_in l_open m_in m_open = sound_clause st lits base a places s (λ k q e none above.
     let within = get_within places k q e in
     let count : length (take k places) ≡ k = length-take-le k places (omega (arith, within)) in
@@ -454,7 +452,7 @@ paused_opened base book other old new before after stock more id r lits p o h ro
     λ l is. subst (λ ls. IsOpenOn ls l) (sym (literals_seen_take cut old.trail.places)) is in
     let stands_in : (l : Literal) → Contains (literals_at after r) l → Contains lits l =
     λ l there. Contains-permutation (literals_at after r) lits l (IsPermutation-sym lits (literals_at after r) h.same) there in
-    let sound : IsSound (standing book ++ lits ∷ []) base (assumed book) (take cut (seen old.trail.places)) =
+    let sound : AreWarranted (standing book ++ lits ∷ []) base (assumed book) (take cut (seen old.trail.places)) =
     sound_with_open (standing book) base (assumed book) (take cut (seen old.trail.places)) lits o.first o.second
     (sound_take (standing book) base (assumed book) (seen old.trail.places) cut p.sound) o.other
     (stands_in o.first o.stands_first) (open_in o.first o.open_first) (stands_in o.second o.stands_second) (open_in o.second o.open_second) in
@@ -480,15 +478,16 @@ paused_opened base book other old new before after stock more id r lits p o h ro
             let at : slice_get old.levels 0 ≡ Some v = (get_take o.level old.levels 0 v (subst (λ ls. slice_get ls 0 ≡ Some v) levels e)).1 in
             let f = b.first v at in
             let below : v.start ≤ cut = let x = f.0 in omega (arith, x, low) in
-            let same : take v.start new.trail.places ≡ take v.start old.trail.places = ap (take v.start) places ∙ take-take v.start cut old.trail.places below in
+            let same : take v.start new.trail.places ≡ take v.start old.trail.places = ap (take v.start) places ∙
+            take-take v.start cut old.trail.places below in
             subst (IsGround (entries other) more.shorts.items after) (sym same)
             (subst (λ es. IsGround es more.shorts.items after (take v.start old.trail.places)) (sym grown)
             (ground_added old.lists before after stock more.shorts.items (entries book) (record { id = id; origin = Blocked; literals = lits }) r
             (take v.start old.trail.places) p.running.stocked h.others h.fresh (λ n q less found. o.joined.front n q found) (p.running.ground v at)));
       };
-      sound = subst (IsSound (standing other) base (assumed other)) (sym after_is)
-          (subst (λ cs. IsSound cs base (assumed other) (take cut (seen old.trail.places))) (sym stands)
-          (subst (λ a. IsSound (standing book ++ lits ∷ []) base a (take cut (seen old.trail.places))) (sym same) sound));
+      sound = subst (AreWarranted (standing other) base (assumed other)) (sym after_is)
+          (subst (λ cs. AreWarranted cs base (assumed other) (take cut (seen old.trail.places))) (sym stands)
+          (subst (λ a. AreWarranted (standing book ++ lits ∷ []) base a (take cut (seen old.trail.places))) (sym same) sound));
       given = given_after base (seen old.trail.places) (seen new.trail.places) (assumed other)
           (ap (take base) after_is ∙ take-take base cut (seen old.trail.places) low)
           (subst (All (IsTrueOn (logged_literals (take base (seen old.trail.places))))) (sym same) p.given);

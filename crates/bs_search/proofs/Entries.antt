@@ -1,11 +1,11 @@
 -- Entries by their ids, and the rows beside them.
 use Rattle.std.proofs.Common.{◌≡◌, ℕ, Bool, true, false, cond, List, [], ◌∷◌, ◌++◌, map, refl, sym, ap, subst, ◌∙◌, inl, inr, ◌⊎◌, Option, Some, None, eqb}
-use Rattle.std.specs.Prelude.{All, Contains, is_some, option_map, IsPermutation}
-use Rattle.std.specs.List.{filter, find}
+use Rattle.std.specs.Prelude.{Contains, is_some, option_map, IsPermutation}
+use Rattle.std.specs.List.{filter}
 use Rattle.std.proofs.lemmas.Bool.{eq-eqb}
 use Rattle.std.proofs.lemmas.List.{append-nil, map-append}
 use Rattle.std.proofs.lemmas.List.Sorted.{IsPermutation-trans}
-use Rattle.bs_clause.specs.Literal.{Literal, Clause}
+use Rattle.bs_clause.specs.Literal.{Clause}
 use Rattle.bs_log.specs.declared.origin.Origin.{Origin}
 use Rattle.bs_log.specs.declared.origin.Origin.TheVariants.{Axiom, Learnt, Blocked, Retired}
 use Rattle.bs_log.specs.History.{Entry}
@@ -13,7 +13,7 @@ use Rattle.bs_log.specs.Refusal.{entry_of, is_lemma_or_block}
 use Rattle.bs_arena.specs.Arena.{Held, held_at, literals_at}
 use Rattle.bs_keep.specs.declared.row.Row.{Row}
 use Rattle.bs_keep.specs.Rows.{IsRowOf, AreRowsOf, AreRowsAmong}
-use Rattle.bs_book.proofs.Lists.{none_is_not_some, same_some}
+use Rattle.bs_book.proofs.Lists.{none_is_not_some}
 use Rattle.bs_book.proofs.Clauses.{nothing_in, contains_first, cons_contains, contains_cases}
 use Rattle.bs_book.specs.Book.{Book, standing}
 use Rattle.bs_search.specs.Stock.{entries, rows_for}

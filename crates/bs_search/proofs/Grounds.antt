@@ -1,32 +1,31 @@
 -- What stands on the trail for good stays there.
-use Rattle.std.proofs.Common.{◌≡◌, ◌≢◌, ℕ, zero, suc, ◌+◌, ◌-◌, ◌<◌, ◌≤◌, arith, Bool, true, false, List, [], ◌∷◌, ◌++◌, map, length, take, drop, refl, sym, ap, subst}
-use Rattle.std.proofs.Common.{◌∙◌, inl, inr, ◌⊎◌, Option, Some, None}
+use Rattle.std.proofs.Common.{◌≡◌, ◌≢◌, ℕ, ◌-◌, ◌<◌, ◌≤◌, arith, true}
+use Rattle.std.proofs.Common.{List, [], ◌∷◌, ◌++◌, length, take, refl, sym, ap, subst}
+use Rattle.std.proofs.Common.{◌∙◌, inl, inr, ◌⊎◌, Some, None}
 use Rattle.std.specs.Prelude.{All, Contains, slice_get, is_some, option_map, unwrap_or, IsPermutation}
 use Rattle.std.proofs.lemmas.Bool.{cases_lt, false≢true}
 use Rattle.std.proofs.lemmas.List.Elements.{All-contains}
 use Rattle.std.proofs.lemmas.List.Sorted.{Contains-permutation, length_permutation}
 use Rattle.bs_clause.specs.Literal.{Literal, Clause, negation}
-use Rattle.bs_log.specs.History.{Problem, Entry, step_of, guard_of}
-use Rattle.bs_log.specs.Refusal.{entry_of, NoneRefused}
-use Rattle.bs_log.specs.Lean.{LemmasAreLean}
+use Rattle.bs_log.specs.History.{Entry, step_of, guard_of}
+use Rattle.bs_log.specs.Refusal.{entry_of}
 use Rattle.bs_arena.specs.Arena.{Held, held_at, literals_at, KeepsOthers}
 use Rattle.bs_watch.specs.declared.lists.Watcher.{Watcher}
 use Rattle.bs_watch.specs.Trail.{IsTrueOn, IsFalseOn, IsOpenOn, Forces}
-use Rattle.bs_watch.specs.Places.{Place, AreApart, literals_of, variable_of}
+use Rattle.bs_watch.specs.Places.{Place, AreApart, literals_of}
 use Rattle.bs_watch.specs.Scene.{AreShuffled}
-use Rattle.bs_learn.specs.Reasons.{IsReasoned}
-use Rattle.bs_book.specs.Book.{Book, standing}
-use Rattle.bs_book.proofs.Lists.{none_is_not_some, same_some, get_take, get_map_cases, get_from_Contains, Contains_from_get, get_within}
+use Rattle.bs_learn.specs.Reasons.{IsReasoned, IsSpared}
+use Rattle.bs_book.specs.Book.{Book}
+use Rattle.bs_book.proofs.Lists.{same_some, get_take, get_map_cases, get_from_Contains, Contains_from_get, get_within}
 use Rattle.bs_book.proofs.Walks.{negation-negation}
-use Rattle.bs_book.proofs.Clauses.{all_from, nothing_in, contains_first, contains_cases, map_contains}
+use Rattle.bs_book.proofs.Clauses.{all_from, nothing_in, contains_first, contains_cases}
 use Rattle.bs_book.proofs.Entries.{found_still, found_stands}
 use Rattle.bs_search.specs.declared.stock.Stock.{Stock}
 use Rattle.bs_search.specs.Stock.{entries, is_live, id_in, IsStocked}
-use Rattle.bs_search.specs.Ground.{IsUnitAt, IsGround, IsOff, IsSpared, IsOwn}
-use Rattle.bs_search.proofs.Entries.{id_of, clauses_in}
+use Rattle.bs_search.specs.Ground.{IsUnitAt, IsGround}
 use Rattle.bs_search.proofs.Seens.{id_shuffled}
 use Rattle.bs_search.proofs.Begins.{some_at}
-use Rattle.bs_search.proofs.Plains.{IsPlain, plain_live, retired_live}
+use Rattle.bs_search.proofs.Plains.{IsPlain, retired_live}
 
 -- ---- clauses of one literal
 

@@ -1,30 +1,23 @@
 -- How the first level grows.
-use Rattle.std.proofs.Common.{◌≡◌, ◌≢◌, ℕ, zero, suc, ◌+◌, ◌-◌, ◌<◌, ◌≤◌, arith, Bool, true, false, not, List, [], ◌∷◌, ◌++◌, map, length, take, refl}
-use Rattle.std.proofs.Common.{sym, ap, subst, ◌∙◌, inl, inr, ◌⊎◌, Option, Some, None}
+use Rattle.std.proofs.Common.{◌≡◌, ℕ, ◌+◌, ◌<◌, arith, Bool, true, false, not, List, [], ◌∷◌, ◌++◌, length, take, refl}
+use Rattle.std.proofs.Common.{sym, ap, subst, ◌∙◌, inl, inr, ◌⊎◌, Some, None}
 use Rattle.std.specs.Prelude.{All, Contains, slice_get, is_some}
-use Rattle.std.proofs.lemmas.Bool.{cases_lt, cases_Bool}
+use Rattle.std.proofs.lemmas.Bool.{cases_lt, cases_Bool, false≢true}
 use Rattle.std.proofs.lemmas.List.{length_push, take_at, append-nil, append_assoc}
 use Rattle.std.proofs.lemmas.List.Elements.{All-contains, All-cons, All-nil}
-use Rattle.bs_clause.specs.Literal.{Literal, Clause, negation, has_literal}
+use Rattle.bs_clause.specs.Literal.{Literal, Clause, has_literal}
 use Rattle.bs_clause.proofs.Literals.{Contains-from_has, has-from_Contains}
 use Rattle.bs_watch.proofs.Guards.{consistent}
-use Rattle.bs_clause.specs.Range.{IsWithin, HasVariables}
-use Rattle.bs_log.specs.Refusal.{has_distinct_variables}
 use Rattle.bs_arena.specs.Arena.{Held, held_at, literals_at}
 use Rattle.bs_watch.specs.Trail.{IsTrueOn, IsFalseOn, IsOpenOn, IsValueOn, IsConflict, Forces}
-use Rattle.bs_watch.specs.Places.{Place, AreApart, IsUnassigned, literals_of}
+use Rattle.bs_watch.specs.Places.{Place, AreApart, literals_of}
 use Rattle.bs_watch.specs.Look.{HasTrue}
-use Rattle.bs_watch.specs.declared.visit.Outcome.{Outcome}
-use Rattle.bs_watch.specs.declared.visit.Outcome.TheVariants.{Quiet, Conflict}
-use Rattle.bs_watch.specs.declared.watch.Level.{Level}
-use Rattle.bs_watch.specs.Lists.{IsAttached}
-use Rattle.bs_watch.specs.Scene.{Grows, IsForced, Advances, Propagated}
-use Rattle.bs_watch.specs.Watch.{WatchState, Serves, KeepsService, assigned, scene}
+use Rattle.bs_watch.specs.Tables.{HasValues, value_of}
+use Rattle.bs_watch.specs.Scene.{Grows, IsForced}
+use Rattle.bs_watch.specs.Watch.{WatchState, KeepsService, assigned}
 use Rattle.bs_watch.proofs.Advancing.{grows_refl, grows_trans, shuffled_refl, stays_true, true_in_front}
 use Rattle.bs_book.proofs.Lists.{none_is_not_some, same_some, get_push_cases, get_within, get_take, take_get, get_from_Contains, Contains_from_get}
 use Rattle.bs_book.proofs.Clauses.{all_from, contains_first, contains_cases, nothing_in}
-use Rattle.bs_book.proofs.Endings.{open_ahead}
-use Rattle.bs_learn.specs.Reasons.{IsConflictAt}
 use Rattle.bs_search.specs.Laying.{HasAssumed, IsAssumed, HasGrown, IsLaid, AllLaid}
 use Rattle.bs_search.proofs.Entries.{append_cases}
 
@@ -227,4 +220,14 @@ value_is w l true apart v = sym (has-from_Contains (literals_of w.trail.places) 
 value_is w l false apart v = elim (cases_Bool (has_literal (literals_of w.trail.places) l)) [
   | inl there ↦ absurd (consistent w.trail.places apart l (Contains-from_has (literals_of w.trail.places) l there) v)
   | inr none ↦ sym none
+]
+
+-- the value that stands by a literal's code
+pub value_by_code : (values : List Bool) (ls : List Literal) (l : Literal) → HasValues values ls → value_of values l ≡ has_literal ls l
+value_by_code values ls l h = elim (cases_Bool (value_of values l)) as (λ _. value_of values l ≡ has_literal ls l) [
+  | inl on ↦ on ∙ sym (has-from_Contains ls l (h.holds l on))
+  | inr off ↦ elim (cases_Bool (has_literal ls l)) as (λ _. value_of values l ≡ has_literal ls l) [
+    | inl has ↦ absurd (false≢true (sym off ∙ h.noted l (Contains-from_has ls l has)))
+    | inr has ↦ off ∙ sym has
+  ]
 ]

@@ -5,6 +5,7 @@ pub mod Grounds
 pub mod Stocks
 pub mod Begins
 pub mod Layings
+pub mod ValueLemmas
 pub mod Backs
 pub mod Takings
 pub mod Teachings

@@ -1,11 +1,11 @@
 -- A search goes on after a block.
-use Rattle.std.proofs.Common.{◌≡◌, ◌≢◌, ℕ, zero, suc, ◌+◌, ◌-◌, ◌<◌, ◌≤◌, arith, Bool, true, false, List, [], ◌∷◌, ◌++◌, length, take, refl, sym, ap, subst}
-use Rattle.std.proofs.Common.{◌∙◌, inl, inr, ◌⊎◌, Option, Some, None}
-use Rattle.std.specs.Prelude.{All, Contains, slice_get, is_some, option_map, IfSome}
+use Rattle.std.proofs.Common.{◌≡◌, ◌≢◌, ℕ, ◌+◌, ◌<◌, ◌≤◌, arith, true, List, length, take, refl, sym, ap, subst}
+use Rattle.std.proofs.Common.{◌∙◌, inl, inr, Option, Some, None}
+use Rattle.std.specs.Prelude.{All, slice_get, is_some, IfSome}
 use Rattle.std.proofs.lemmas.Bool.{cases_lt, cases_eq, false≢true}
 use Rattle.std.proofs.lemmas.List.{length-take-le, take_all}
 use Rattle.std.proofs.lemmas.List.Elements.{All-contains}
-use Rattle.bs_clause.specs.Literal.{Literal, Clause}
+use Rattle.bs_clause.specs.Literal.{Clause}
 use Rattle.bs_clause.specs.Range.{HasVariables}
 use Rattle.bs_log.specs.History.{phase_of}
 use Rattle.bs_log.specs.Refusal.{has_distinct_variables, in_solve}
@@ -14,29 +14,27 @@ use Rattle.bs_watch.specs.declared.visit.Outcome.{Outcome}
 use Rattle.bs_watch.specs.declared.visit.Outcome.TheVariants.{Quiet, Conflict}
 use Rattle.bs_watch.specs.declared.watch.Level.{Level}
 use Rattle.bs_watch.specs.Trail.{IsTrueOn, IsQuiet}
-use Rattle.bs_watch.specs.Places.{Place, TrailState, AreApart, literals_of}
+use Rattle.bs_watch.specs.Places.{Place, TrailState, AreApart}
 use Rattle.bs_watch.specs.Scene.{Advances, Propagated}
 use Rattle.bs_watch.specs.Watch.{WatchState, Serves, KeepsService, HasGoneBack, scene}
 use Rattle.bs_book.specs.Place.{Place as LoggedPlace}
-use Rattle.bs_book.specs.Places.{IsSound, literals_of as logged_literals}
-use Rattle.bs_book.specs.Point.{AreForced}
+use Rattle.bs_book.specs.Places.{AreWarranted, literals_of as logged_literals}
 use Rattle.bs_book.specs.Book.{Book, standing}
 use Rattle.bs_book.specs.Search.{assumed}
-use Rattle.bs_book.specs.Turn.{InSearch}
 use Rattle.bs_book.proofs.Lists.{same_some, get_map_cases, get_map, get_within}
 use Rattle.bs_book.proofs.Clauses.{all_from}
 use Rattle.bs_book.proofs.Places.{sound_grows}
-use Rattle.bs_book.proofs.Walks.{true_later, true_at_end}
+use Rattle.bs_book.proofs.Walks.{true_later}
 use Rattle.bs_book.proofs.Endings.{given_after, front_after, no_lemmas}
 use Rattle.bs_search.specs.declared.stock.Stock.{Stock}
 use Rattle.bs_search.specs.Stock.{entries}
-use Rattle.bs_search.specs.Seen.{seen_place, seen, is_quiet}
+use Rattle.bs_search.specs.Seen.{seen_place, seen}
 use Rattle.bs_search.specs.Begun.{AreBegun}
-use Rattle.bs_search.specs.Running.{IsRunning, InTurn}
+use Rattle.bs_search.specs.Running.{InTurn}
 use Rattle.bs_search.specs.Teaching.{IsAtRest}
 use Rattle.bs_search.specs.Searching.{IsFirstConflict, IsSomeFirstConflict, IsSomeTurn, HasPropagated}
 use Rattle.bs_search.specs.Pausing.{IsPaused, IsSomePause, IsKept, GoesToRest}
-use Rattle.bs_search.proofs.Seens.{length_seen, literals_seen_take}
+use Rattle.bs_search.proofs.Seens.{length_seen}
 use Rattle.bs_search.proofs.Begins.{some_at}
 use Rattle.bs_search.proofs.Turns.{running_propagated, logged_grows, logged_outcome, clashes_from}
 use Rattle.bs_search.proofs.Refutings.{at_rest}
@@ -87,8 +85,8 @@ begun_from base past levels places b low later = record {
   few = b.few;
 }
 
-sound_from : (st : List Clause) (base past : ℕ) (a : Clause) (places : List Place) → IsSound st base a (seen places) →
-    base ≤ past → AreForcedTo base past places → IsSound st past a (seen places)
+sound_from : (st : List Clause) (base past : ℕ) (a : Clause) (places : List Place) → AreWarranted st base a (seen places) →
+    base ≤ past → AreForcedTo base past places → AreWarranted st past a (seen places)
 sound_from st base past a places s low f = record {
   placed = λ k q e.
       let was = s.placed k q e in

@@ -1,8 +1,9 @@
 -- No clause of a log has a guard itself: it names guards only by their negations.
-use Rattle.std.proofs.Common.{◌≡◌, ℕ, suc, ◌+◌, ◌<◌, ◌≤◌, arith, Bool, true, false, not, List, [], ◌∷◌, ◌++◌, map, refl, sym, ap, subst, ◌∙◌, inl, inr, ◌⊎◌, Option, Some, None}
-use Rattle.std.specs.Prelude.{All, Any, Contains, nat_le, option_map}
+use Rattle.std.proofs.Common.{◌≡◌, ℕ, ◌+◌, ◌<◌, ◌≤◌, arith, Bool, true, false, not, List, []}
+use Rattle.std.proofs.Common.{◌∷◌, refl, sym, ap, subst, ◌∙◌, inl, inr, Option, Some, None}
+use Rattle.std.specs.Prelude.{All, Contains, nat_le, option_map}
 use Rattle.std.specs.List.{list_all, cons_option}
-use Rattle.std.proofs.lemmas.Bool.{false≢true, true≢false, and_parts, leb-true}
+use Rattle.std.proofs.lemmas.Bool.{false≢true, and_parts, leb-true}
 use Rattle.std.proofs.lemmas.List.Elements.{All-contains}
 use Rattle.bs_clause.specs.Literal.{Literal, Clause, negation, same_literal}
 use Rattle.bs_clause.specs.Range.{HasVariables, IsWithin}
@@ -14,7 +15,7 @@ use Rattle.bs_log.specs.History.{Problem, History, Entry, axioms_from, added, li
 use Rattle.bs_log.specs.Refusal.{NoneRefused, clauses_of, entry_of, is_block_of}
 use Rattle.bs_log.specs.Lean.{LemmasAreLean, IsResolventOf}
 use Rattle.bs_log.proofs.Tests.{right_from_none}
-use Rattle.bs_book.proofs.Clauses.{nothing_in, contains_cases, cons_contains, contains_first, all_from, filter_cases, map_contains, map_cases}
+use Rattle.bs_book.proofs.Clauses.{nothing_in, contains_cases, cons_contains, contains_first, all_from, filter_cases}
 use Rattle.bs_book.proofs.Entries.{found_stands}
 use Rattle.bs_search.specs.Ground.{IsOwn}
 use Rattle.bs_search.proofs.Entries.{push_cases}

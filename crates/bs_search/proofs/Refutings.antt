@@ -1,11 +1,11 @@
 -- The end of a search.
-use Rattle.std.proofs.Common.{◌≡◌, ◌≢◌, ℕ, zero, suc, ◌+◌, ◌-◌, ◌<◌, ◌≤◌, ◌^◌, arith, Bool, true, false, List, [], ◌∷◌, ◌++◌, map, reverse, length}
+use Rattle.std.proofs.Common.{◌≡◌, ℕ, ◌+◌, ◌≤◌, arith, Bool, true, false, List, [], ◌∷◌, ◌++◌, map, reverse, length}
 use Rattle.std.proofs.Common.{take, refl, sym, ap, subst, ◌∙◌, inl, inr, ◌⊎◌, Option, Some, None}
-use Rattle.std.specs.Prelude.{All, Contains, slice_get, is_some, option_map, IfSome}
+use Rattle.std.specs.Prelude.{All, Contains, slice_get, is_some, IfSome}
 use Rattle.std.proofs.lemmas.Bool.{true≢false}
 use Rattle.std.proofs.lemmas.List.{length_push, length-map}
 use Rattle.bs_clause.specs.Literal.{Literal, Clause, negation, has_literal}
-use Rattle.bs_clause.proofs.Literals.{Contains-from_has, has-from_Contains}
+use Rattle.bs_clause.proofs.Literals.{has-from_Contains}
 use Rattle.std.proofs.lemmas.List.Elements.{All-push, All-contains}
 use Rattle.std.proofs.lemmas.List.Sorted.{All-permutation}
 use Rattle.bs_clause.specs.Range.{IsWithin, HasVariables}
@@ -13,30 +13,27 @@ use Rattle.bs_log.specs.declared.origin.Origin.TheVariants.{Learnt as FromConfli
 use Rattle.bs_log.specs.History.{Entry, live}
 use Rattle.bs_log.specs.Refusal.{has_distinct_variables, entry_of}
 use Rattle.bs_log.specs.Lean.{IsNew}
-use Rattle.bs_log.specs.LineForms.{HasVariable}
 use Rattle.bs_arena.specs.Arena.{Held, held_at, literals_at}
 use Rattle.bs_search.specs.Laying.{AreShort}
 use Rattle.bs_watch.specs.declared.visit.Outcome.{Outcome}
 use Rattle.bs_watch.specs.declared.visit.Outcome.TheVariants.{Quiet, Conflict}
 use Rattle.bs_watch.specs.declared.watch.Level.{Level}
-use Rattle.bs_watch.specs.declared.lists.Watcher.{Watcher}
-use Rattle.bs_watch.specs.Trail.{IsTrueOn, IsFalseOn, IsOpenOn, IsAssignedOn, AreAssignedBelow}
+use Rattle.bs_watch.specs.Trail.{IsTrueOn, IsOpenOn, AreAssignedBelow}
 use Rattle.bs_watch.specs.Places.{Place, TrailState, AreApart, literals_of}
 use Rattle.bs_watch.specs.Tables.{AreDistinct}
 use Rattle.bs_watch.specs.Watch.{WatchState, Serves, HasGoneBack}
 use Rattle.bs_watch.proofs.TableLemmas.{at_most, open_apart}
 use Rattle.bs_learn.specs.Point.{IsUnforced}
 use Rattle.bs_learn.specs.Walk.{IsLearnt}
-use Rattle.bs_book.specs.Places.{literals_of as logged_literals}
 use Rattle.bs_book.specs.Point.{IsUnforced as IsLoggedUnforced}
 use Rattle.bs_book.specs.Book.{Book, standing, next_id, with_lemma}
-use Rattle.bs_book.specs.Search.{assumed, HasRefuted}
 use Rattle.bs_book.specs.Values.{positive, AreAssigned, HasValues}
 use Rattle.bs_book.specs.Ending.{SomeLemmas}
 use Rattle.bs_book.specs.declared.answer.Answer.TheVariants.{Found, Refuted, Spent}
-use Rattle.bs_book.proofs.Lists.{none_is_not_some, same_some, get_map_cases, get_map, get_within, get_take, get_push_cases, get_from_Contains, Contains_from_get}
+use Rattle.bs_book.proofs.Lists.{none_is_not_some, same_some, get_map_cases, get_map}
+use Rattle.bs_book.proofs.Lists.{get_take, get_push_cases, get_from_Contains}
 use Rattle.bs_book.proofs.Clauses.{all_from, map_contains}
-use Rattle.bs_book.proofs.Searching.{learnt_range, have_variables, ending_lemma}
+use Rattle.bs_book.proofs.Searching.{learnt_range, ending_lemma}
 use Rattle.bs_book.proofs.Endings.{search_finds, refuted_ranges, refuted_distinct, search_is_spent, learnt_ranges, learnt_distinct, some_lemmas}
 use Rattle.bs_book.proofs.Endings.{one_more, no_lemmas}
 use Rattle.bs_search.specs.declared.stock.Stock.{Stock}

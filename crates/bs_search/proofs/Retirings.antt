@@ -1,24 +1,23 @@
 -- The unit of a retired guard comes.
-use Rattle.std.proofs.Common.{◌≡◌, ◌≢◌, ℕ, zero, suc, ◌+◌, ◌<◌, ◌≤◌, arith, true, List, [], ◌∷◌, ◌++◌, length, take, refl, sym, ap, subst, ◌∙◌}
-use Rattle.std.proofs.Common.{inl, inr, ◌⊎◌, Option, Some, None}
-use Rattle.std.specs.Prelude.{All, Contains, slice_get, slice_set, is_some, option_map, unwrap_or, IsPermutation}
+use Rattle.std.proofs.Common.{◌≡◌, ◌≢◌, ℕ, zero, suc, ◌<◌, arith, List, [], ◌∷◌, ◌++◌, length, refl, sym, ap, subst, ◌∙◌}
+use Rattle.std.proofs.Common.{inl, inr, Some, None}
+use Rattle.std.specs.Prelude.{Contains, slice_get, slice_set, IsPermutation}
 use Rattle.std.proofs.lemmas.Bool.{cases_eq}
 use Rattle.std.proofs.lemmas.List.Sorted.{IsPermutation-refl}
-use Rattle.bs_clause.specs.Literal.{Literal, Clause}
+use Rattle.bs_clause.specs.Literal.{Literal}
 use Rattle.bs_log.specs.declared.origin.Origin.TheVariants.{Retired}
 use Rattle.bs_log.specs.History.{Entry}
 use Rattle.bs_log.specs.Refusal.{entry_of}
 use Rattle.bs_arena.specs.Arena.{Held, held_at, literals_at, Keeps}
 use Rattle.bs_watch.specs.Lists.{IsAttached}
 use Rattle.bs_watch.specs.Places.{Place}
-use Rattle.bs_watch.specs.Watch.{WatchState, Serves, KeepsService, assigned}
+use Rattle.bs_watch.specs.Watch.{WatchState, Serves, KeepsService, assigned, with_head}
 use Rattle.bs_watch.proofs.CallerLemmas.{serves_more}
-use Rattle.bs_book.proofs.Lists.{none_is_not_some, same_some, get_left, get_last, get_push_cases, get_from_Contains, Contains_from_get, get_within}
-use Rattle.bs_book.proofs.Clauses.{nothing_in, contains_cases, contains_first, cons_contains}
+use Rattle.bs_book.proofs.Lists.{same_some, get_left, get_last, get_push_cases, get_from_Contains, Contains_from_get, get_within}
 use Rattle.std.proofs.lemmas.List.{append-nil}
 use Rattle.bs_search.specs.declared.stock.Stock.{Stock}
-use Rattle.bs_search.specs.Stock.{is_live, id_in, IsStocked, rows_for}
-use Rattle.bs_search.specs.Ground.{IsUnitAt, IsGround}
+use Rattle.bs_search.specs.Stock.{IsStocked}
+use Rattle.bs_search.specs.Ground.{IsGround}
 use Rattle.bs_search.specs.Retiring.{IsPut, HasRetired}
 use Rattle.bs_search.proofs.Entries.{push_cases, entry_last}
 use Rattle.bs_search.proofs.Stocks.{others_added, stocked_more, literals_from, id_from, live_from}
@@ -124,3 +123,19 @@ retired old new before after stock more id r unit serves keeps added fresh found
             ];
           };
     }
+
+-- the same, where places that nobody watches have been passed over since
+pub retired_passed : (old mid new : WatchState) (before after : List Held) (stock more : Stock) (id head : ℕ) (unit : Literal) →
+    HasRetired old mid before after stock more id unit → new ≡ with_head mid head → KeepsService mid new →
+    HasRetired old new before after stock more id unit
+retired_passed old mid new before after stock more id head unit h is service = record {
+  serves = service.keeps after h.serves;
+  vars = ap (λ (x : WatchState). x.trail.vars) is ∙ h.vars;
+  levels = ap (λ (x : WatchState). x.levels) is ∙ h.levels;
+  rows = h.rows;
+  stocked = λ es free s. subst (λ ls. IsStocked ls after more (es ++ record { id = id; origin = Retired; literals = unit ∷ [] } ∷ []))
+      (sym (ap (λ (x : WatchState). x.lists) is)) (h.stocked es free s);
+  ground = λ es free s g.
+      subst (λ ps. IsGround (es ++ record { id = id; origin = Retired; literals = unit ∷ [] } ∷ []) more.shorts.items after ps)
+      (sym (ap (λ (x : WatchState). x.trail.places) is)) (h.ground es free s g);
+}

@@ -1,32 +1,32 @@
 -- What visits and the stock say of the trail as the log sees it.
-use Rattle.std.proofs.Common.{◌≡◌, ◌≢◌, ◌↔◌, ℕ, zero, suc, ◌+◌, ◌-◌, ◌<◌, ◌≤◌, arith, Bool, true, false, cond, List, [], ◌∷◌, ◌++◌, map, length, take}
-use Rattle.std.proofs.Common.{refl, sym, ap, subst, ◌∙◌, inl, inr, ◌⊎◌, Option, Some, None, eqb}
-use Rattle.std.specs.Prelude.{All, Contains, slice_get, is_some, option_map, unwrap_or, IsPermutation}
+use Rattle.std.proofs.Common.{◌≡◌, ℕ, ◌<◌, arith, Bool, true, false, cond, List, [], ◌∷◌, map, length, take}
+use Rattle.std.proofs.Common.{refl, sym, ap, subst, ◌∙◌, inl, inr, ◌⊎◌, Some, eqb}
+use Rattle.std.specs.Prelude.{Contains, is_some, option_map, unwrap_or, IsPermutation}
 use Rattle.std.specs.List.{find, filter}
-use Rattle.std.proofs.lemmas.Bool.{cases_lt, false≢true}
+use Rattle.std.proofs.lemmas.Bool.{cases_lt}
 use Rattle.std.proofs.lemmas.List.{take-map, length-map}
 use Rattle.std.proofs.lemmas.List.Elements.{All-contains}
 use Rattle.std.proofs.lemmas.List.Sorted.{IsPermutation-sym, IsPermutation-trans, Contains-permutation, All-permutation, length_permutation}
-use Rattle.bs_clause.specs.Literal.{Literal, Clause, negation}
+use Rattle.bs_clause.specs.Literal.{Literal, Clause}
 use Rattle.bs_log.specs.History.{Entry}
 use Rattle.bs_log.specs.Refusal.{entry_of, is_lemma_or_block}
 use Rattle.bs_arena.specs.Arena.{Held, held_at, literals_at}
 use Rattle.bs_watch.specs.declared.lists.Watcher.{Watcher}
-use Rattle.bs_watch.specs.Trail.{IsTrueOn, IsFalseOn, IsOpenOn, IsConflict, IsUnit, Forces, IsQuiet}
+use Rattle.bs_watch.specs.Trail.{IsTrueOn, IsFalseOn, IsConflict, IsUnit, Forces, IsQuiet}
 use Rattle.bs_watch.specs.Places.{Place, literals_of, AreApart}
 use Rattle.bs_watch.specs.Lists.{IsAttached}
 use Rattle.bs_watch.specs.Look.{HasTrue}
-use Rattle.bs_watch.specs.Scene.{Scene, trues, name_of, AreShuffled, IsForced, Grows, AreSettled}
+use Rattle.bs_watch.specs.Scene.{name_of, AreShuffled, Grows}
 use Rattle.bs_watch.proofs.Guards.{consistent}
 use Rattle.bs_keep.specs.declared.row.Row.{Row}
 use Rattle.bs_book.specs.Place.{Place as LoggedPlace}
 use Rattle.bs_book.specs.Places.{literals_of as logged_literals}
-use Rattle.bs_book.specs.Grown.{Grows as LoggedGrows, IsForced as IsLoggedForced}
+use Rattle.bs_book.specs.Grown.{Grows as LoggedGrows}
 use Rattle.bs_book.proofs.Lists.{get_map_cases}
 use Rattle.bs_book.proofs.Clauses.{all_from, map_cases, map_contains}
 use Rattle.bs_book.proofs.Entries.{found_stands}
 use Rattle.bs_search.specs.declared.stock.Stock.{Stock}
-use Rattle.bs_search.specs.Stock.{is_live, id_in, IsClauseOf, IsStocked}
+use Rattle.bs_search.specs.Stock.{is_live, id_in, IsStocked}
 use Rattle.bs_search.proofs.Entries.{id_of, clauses_in, rows_permuted}
 use Rattle.bs_search.specs.Seen.{seen_place, seen}
 

@@ -1,16 +1,14 @@
 -- A learnt clause is taken in.
-use Rattle.std.proofs.Common.{◌≡◌, ◌≢◌, ℕ, ◌+◌, ◌-◌, ◌<◌, ◌≤◌, arith, true, List, [], ◌∷◌, ◌++◌, length, take, refl, sym, ap, subst, ◌∙◌, inl, inr}
-use Rattle.std.proofs.Common.{◌⊎◌, Option, Some, None}
-use Rattle.std.specs.Prelude.{All, Contains, slice_get, is_some, option_map, unwrap_or, IfSome, IsPermutation}
+use Rattle.std.proofs.Common.{◌≡◌, ◌≢◌, ℕ, ◌≤◌, true, List, [], ◌∷◌, ◌++◌, length, take, sym, ap, subst, ◌∙◌, inl, inr}
+use Rattle.std.proofs.Common.{Some, None}
+use Rattle.std.specs.Prelude.{slice_get, is_some, option_map, unwrap_or, IfSome, IsPermutation}
 use Rattle.std.proofs.lemmas.Bool.{cases_lt, false≢true}
 use Rattle.std.proofs.lemmas.List.Elements.{All-contains}
 use Rattle.bs_clause.specs.Literal.{Literal, Clause, negation}
-use Rattle.bs_clause.specs.Range.{HasVariables, IsWithin}
+use Rattle.bs_clause.specs.Range.{IsWithin}
 use Rattle.bs_arena.specs.Arena.{Held, held_at, literals_at, Keeps, KeepsOthers}
 use Rattle.bs_watch.specs.declared.watch.Level.{Level}
-use Rattle.bs_watch.specs.Trail.{IsOpenOn}
-use Rattle.bs_watch.specs.Places.{TrailState, AreApart, IsUnassigned, literals_of}
-use Rattle.bs_watch.specs.Lists.{IsAttached}
+use Rattle.bs_watch.specs.Places.{TrailState, AreApart, IsUnassigned}
 use Rattle.bs_watch.specs.Scene.{IsWatchable}
 use Rattle.bs_watch.specs.Watch.{WatchState, Serves, AreLevelled, HasGoneBack, assigned}
 use Rattle.bs_watch.proofs.Gets.{same_some, Contains_from_get}

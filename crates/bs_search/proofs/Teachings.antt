@@ -1,12 +1,12 @@
 -- What a conflict teaches, as the log and as the watch see it.
-use Rattle.std.proofs.Common.{◌≡◌, ◌≢◌, ℕ, zero, suc, ◌+◌, ◌-◌, ◌<◌, ◌≤◌, ◌^◌, arith, Bool, true, false, cond, List, [], ◌∷◌, ◌++◌, map, reverse}
-use Rattle.std.proofs.Common.{length, take, get_or, swap, refl, sym, ap, subst, ◌∙◌, inl, inr, ◌⊎◌, Option, Some, None, eqb}
+use Rattle.std.proofs.Common.{◌≡◌, ◌≢◌, ℕ, zero, suc, ◌-◌, ◌<◌, ◌≤◌, ◌^◌, arith, true, false, cond, List, [], ◌∷◌, ◌++◌, map, reverse}
+use Rattle.std.proofs.Common.{length, take, swap, refl, sym, ap, subst, ◌∙◌, inl, inr, ◌⊎◌, Option, Some, None}
 use Rattle.std.specs.Prelude.{All, AllPairs, Contains, slice_get, is_some, option_map, unwrap_or, IsPermutation, IsTrue}
 use Rattle.std.specs.List.{cons_option}
 use Rattle.std.proofs.lemmas.Bool.{cases_Bool, cases_lt, cases_eq, eq-eqb, ne_eqb, true≢false, false≢true}
 use Rattle.std.proofs.lemmas.List.{length-take-le, map-append, reverse-append, take-append-le, take-take}
-use Rattle.std.proofs.lemmas.List.Elements.{All-contains, All-from_recursion, recursion_from_All}
-use Rattle.std.proofs.lemmas.List.Sorted.{IsPermutation-sym, IsPermutation-keeps, Contains-permutation, All-permutation, length_permutation}
+use Rattle.std.proofs.lemmas.List.Elements.{All-contains}
+use Rattle.std.proofs.lemmas.List.Sorted.{IsPermutation-sym, IsPermutation-keeps, Contains-permutation, All-permutation}
 use Rattle.std.proofs.lemmas.Option.{get_or_from_slice_get}
 use Rattle.bs_clause.specs.Literal.{Literal, Clause, negation}
 use Rattle.bs_clause.specs.Range.{HasVariables, IsWithin}
@@ -20,39 +20,37 @@ use Rattle.bs_log.specs.Propagation.{hints_are_unit, last_is_false}
 use Rattle.bs_arena.specs.Arena.{Content, IsContent, Held, held_at, literals_at, KeepsOthers}
 use Rattle.bs_watch.specs.declared.watch.Level.{Level}
 use Rattle.bs_watch.specs.declared.lists.Watcher.{Watcher}
-use Rattle.bs_watch.specs.Trail.{IsTrueOn, IsFalseOn, IsOpenOn, IsConflict, IsUnit, IsQuiet, Forces}
+use Rattle.bs_watch.specs.Trail.{IsTrueOn, IsFalseOn, IsConflict, IsUnit, IsQuiet, Forces}
 use Rattle.bs_watch.specs.Places.{Place, TrailState, literals_of}
 use Rattle.bs_watch.specs.Look.{HasTrue}
-use Rattle.bs_watch.specs.Lists.{IsAttached}
-use Rattle.bs_watch.specs.Watch.{WatchState, Serves, AreLevelled}
-use Rattle.bs_learn.specs.Reasons.{live_clauses, IsReasoned, IsConflictAt, last_start, Spells}
-use Rattle.bs_learn.specs.Point.{IsDecisionAt, IsLastDecision, IsPoint, IsUnforced}
+use Rattle.bs_watch.specs.Watch.{WatchState}
+use Rattle.bs_learn.specs.Reasons.{live_clauses, IsReasoned, last_start, Spells, IsSpared, AreSpared}
+use Rattle.bs_learn.specs.Point.{IsDecisionAt, IsLastDecision, IsPoint}
 use Rattle.bs_learn.specs.Walk.{IsLearnt}
 use Rattle.bs_learn.proofs.CallerLemmas.{reasoned_take, reasoned_push, reasoned_kept}
 use Rattle.bs_book.specs.Place.{Place as LoggedPlace}
-use Rattle.bs_book.specs.Places.{IsSound, literals_of as logged_literals}
-use Rattle.bs_book.specs.Point.{is_alone_at, IsCut, IsPoint as IsLoggedPoint, IsDecisionAt as IsLoggedDecision, IsUnforced as IsLoggedUnforced}
+use Rattle.bs_book.specs.Point.{is_alone_at, IsCut, IsPoint as IsLoggedPoint, IsDecisionAt as IsLoggedDecision}
 use Rattle.bs_book.specs.Walk.{IsLearnt as IsLoggedLearnt}
 use Rattle.bs_book.specs.Book.{Book, standing, next_id, with_lemma}
-use Rattle.bs_book.specs.Search.{assumed, HasLearnt}
-use Rattle.bs_book.proofs.Lists.{none_is_not_some, same_some, get_map_cases, get_map, get_within, get_from_Contains, Contains_from_get, get_take, take_get}
-use Rattle.bs_book.proofs.Clauses.{all_from, map_cases, map_contains, contains_first, cons_contains, distinct_parts, distinct_cons}
+use Rattle.bs_book.specs.Search.{HasLearnt}
+use Rattle.bs_book.proofs.Lists.{none_is_not_some, same_some, get_map_cases, get_map, get_within, get_from_Contains, Contains_from_get, get_take}
+use Rattle.bs_book.proofs.Clauses.{all_from, map_cases, map_contains, contains_first, cons_contains, distinct_cons}
 use Rattle.bs_book.proofs.Lessons.{others_from_alone, alone_from_others}
 use Rattle.bs_book.proofs.Searching.{learnt_range, have_variables, learnt_is_new, has_learnt}
 use Rattle.bs_book.proofs.Entries.{found_stands}
 use Rattle.bs_search.specs.declared.stock.Stock.{Stock}
-use Rattle.bs_search.specs.Stock.{entries, is_live, id_in, IsStocked, HasJoined, rows_for}
+use Rattle.bs_search.specs.Stock.{entries, is_live, id_in, IsStocked}
 use Rattle.bs_search.proofs.Entries.{clauses_in, push_cases, stands_grown}
 use Rattle.bs_search.specs.Seen.{seen_place, seen}
 use Rattle.bs_search.specs.Begun.{AreBegun, AreLaid}
 use Rattle.bs_search.specs.Running.{seen_trail, IsRunning}
-use Rattle.bs_search.specs.Lesson.{IsLesson, HasTaken, TakesLesson, IsOpenYet}
+use Rattle.bs_search.specs.Lesson.{IsLesson, HasTaken, TakesLesson}
 use Rattle.bs_search.specs.Teaching.{IsInConflict, Teaches}
 use Rattle.bs_watch.proofs.Choices.{Stood, from_swap}
 use Rattle.bs_search.proofs.Stocks.{stocked_joined, distinct_gets}
-use Rattle.bs_search.proofs.Seens.{literals_seen, take_seen, length_seen, literals_seen_take, conflict_spelled, unit_spelled}
+use Rattle.bs_search.proofs.Seens.{take_seen, length_seen, literals_seen_take, conflict_spelled, unit_spelled}
 use Rattle.bs_search.specs.Ground.{IsGround, IsOwn}
-use Rattle.bs_search.proofs.Plains.{plain_resolvent, plain_live}
+use Rattle.bs_search.proofs.Plains.{IsPlain, plain_resolvent, plain_live}
 use Rattle.bs_search.proofs.Grounds.{ground_added, plain_spared}
 use Rattle.bs_search.proofs.Begins.{begun_cut, begun_forced, laid_cut, last_level, true_left}
 
@@ -94,6 +92,22 @@ pub live_range : (a : Content) (lists : List (List Watcher)) (stock : Stock) (es
 live_range a lists stock es vars content s range = all_from (HasVariables vars) (live_clauses a.clauses) (λ c there.
     let (d, in_st, same) = live_spelled a lists stock es content s c there in
     All-permutation (IsWithin vars) d c same (All-contains (HasVariables vars) (clauses_in es) d range in_st))
+
+-- below the first level no literal of a live clause is false
+pub live_spared : (a : Content) (book : Book) (w : WatchState) (stock : Stock) → IsContent a → IsStocked w.lists a.clauses stock (entries book) →
+    1 ≤ length w.levels →
+    ((v : Level) → slice_get w.levels 0 ≡ Some v → IsGround (entries book) stock.shorts.items a.clauses (take v.start w.trail.places)) →
+    IsOwn book.problem → NoneRefused book.problem book.history → LemmasAreLean book.problem book.history →
+    AreSpared a.clauses w.levels w.trail.places
+live_spared a book w stock content s some ground own right lean = record {
+  some = some;
+  each = λ v first. all_from (IsSpared (take v.start w.trail.places)) (live_clauses a.clauses) (λ c there.
+      let (d, in_st, same) = live_spelled a w.lists stock (entries book) content s c there in
+      let (e, in_es, is) = map_cases (λ (x : Entry). x.literals) (entries book) d in_st in
+      plain_spared book w.lists a.clauses stock (take v.start w.trail.places) c s (ground v first)
+      (All-permutation (IsPlain book.problem.vars) d c same
+      (subst (All (IsPlain book.problem.vars)) is (plain_live book.problem book.history own right lean e in_es))));
+}
 
 pub live_quiet : (a : Content) (lists : List (List Watcher)) (stock : Stock) (es : List Entry) (trail : List Literal) → IsContent a →
     IsStocked lists a.clauses stock es →
@@ -404,8 +418,10 @@ running_after base old new before after stock more id origin lits u book es s re
           let count : length front ≡ h.end.start = length-take-le h.end.start old.trail.places (omega (arith, within)) in
           let below : v.start ≤ h.end.start = let low = f.0 in let high = on.0 in omega (arith, low, high) in
           let same : take v.start new.trail.places ≡ take v.start old.trail.places =
-          ap (take v.start) places ∙ take-append-le v.start front (p ∷ []) (omega (arith, below, count)) ∙ take-take v.start h.end.start old.trail.places below in
-          subst (λ ps. IsGround (entries book) more.shorts.items after ps) (sym same) (subst (λ xs. IsGround xs more.shorts.items after (take v.start old.trail.places))
+          ap (take v.start) places ∙ take-append-le v.start front (p ∷ []) (omega (arith, below, count)) ∙
+          take-take v.start h.end.start old.trail.places below in
+          subst (λ ps. IsGround (entries book) more.shorts.items after ps) (sym same)
+          (subst (λ xs. IsGround xs more.shorts.items after (take v.start old.trail.places))
           (sym stands) (ground_added old.lists before after stock more.shorts.items es (record { id = id; origin = origin; literals = lits }) h.ref
           (take v.start old.trail.places) s h.others h.fresh (λ k q less at. h.joined.front k q at) (ground v was)));
     }

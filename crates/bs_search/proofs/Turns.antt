@@ -1,34 +1,29 @@
 -- A search from one turn to the next.
-use Rattle.std.proofs.Common.{◌≡◌, ◌≢◌, ℕ, zero, suc, ◌+◌, ◌-◌, ◌<◌, ◌≤◌, ◌^◌, arith, Bool, true, false, List, [], ◌∷◌, ◌++◌, map, length, take, refl}
-use Rattle.std.proofs.Common.{sym, ap, subst, ◌∙◌, inl, inr, ◌⊎◌, Option, Some, None}
+use Rattle.std.proofs.Common.{◌≡◌, ◌≢◌, ℕ, ◌+◌, ◌<◌, ◌≤◌, arith, true, false, List, [], ◌∷◌, ◌++◌, length, take, refl}
+use Rattle.std.proofs.Common.{sym, ap, subst, ◌∙◌, inl, inr, Option, Some, None}
 use Rattle.std.proofs.lemmas.Bool.{false≢true}
-use Rattle.std.specs.Prelude.{All, Contains, slice_get, is_some, option_map}
-use Rattle.std.proofs.lemmas.List.{map-append, length_push, take-append-le}
-use Rattle.bs_clause.specs.Literal.{Literal, Clause}
+use Rattle.std.specs.Prelude.{All, slice_get, is_some}
+use Rattle.std.proofs.lemmas.List.{map-append, take-append-le}
 use Rattle.bs_clause.specs.Range.{HasVariables}
-use Rattle.bs_log.specs.History.{Entry, phase_of}
-use Rattle.bs_log.specs.Refusal.{has_distinct_variables, in_solve}
-use Rattle.bs_arena.specs.Arena.{Held, held_at, literals_at}
+use Rattle.bs_log.specs.History.{Entry}
+use Rattle.bs_arena.specs.Arena.{Held}
 use Rattle.bs_watch.specs.declared.visit.Outcome.{Outcome}
 use Rattle.bs_watch.specs.declared.visit.Outcome.TheVariants.{Quiet, Conflict}
 use Rattle.bs_watch.specs.declared.watch.Level.{Level}
-use Rattle.bs_watch.specs.declared.lists.Watcher.{Watcher}
-use Rattle.bs_watch.specs.Trail.{IsQuiet, IsOpenOn, IsConflict}
-use Rattle.bs_watch.specs.Places.{Place, TrailState, AreApart, literals_of}
-use Rattle.bs_watch.specs.Scene.{Advances, Propagated, Grows}
-use Rattle.bs_watch.specs.Watch.{WatchState, Serves, scene, decided, assigned}
-use Rattle.bs_learn.specs.Reasons.{IsReasoned, IsConflictAt}
+use Rattle.bs_watch.specs.Trail.{IsQuiet, IsOpenOn}
+use Rattle.bs_watch.specs.Places.{Place, AreApart}
+use Rattle.bs_watch.specs.Scene.{Advances, Propagated}
+use Rattle.bs_watch.specs.Watch.{WatchState, Serves, scene}
+use Rattle.bs_learn.specs.Reasons.{IsReasoned}
 use Rattle.bs_learn.proofs.CallerLemmas.{reasoned_grows, reasoned_free}
 use Rattle.bs_book.specs.Place.{Place as LoggedPlace}
-use Rattle.bs_book.specs.Places.{TrailState as LoggedTrail, IsSound, literals_of as logged_literals}
+use Rattle.bs_book.specs.Places.{literals_of as logged_literals}
 use Rattle.bs_book.specs.Grown.{Grows as LoggedGrows}
-use Rattle.bs_book.specs.Point.{AreForced}
 use Rattle.bs_book.specs.Book.{Book, standing}
-use Rattle.bs_book.specs.Search.{assumed, HasLearnt}
-use Rattle.bs_book.specs.Ending.{IsSpent}
+use Rattle.bs_book.specs.Search.{HasLearnt}
 use Rattle.bs_watch.proofs.Advancing.{take_front}
-use Rattle.bs_book.proofs.Lists.{none_is_not_some, same_some, get_push_cases, get_map_cases, get_within}
-use Rattle.bs_book.proofs.Endings.{search_decides, search_learns, search_is_spent}
+use Rattle.bs_book.proofs.Lists.{get_push_cases, get_map_cases, get_within}
+use Rattle.bs_book.proofs.Endings.{search_decides, search_learns}
 use Rattle.bs_search.specs.declared.stock.Stock.{Stock}
 use Rattle.bs_search.specs.Stock.{entries, IsStocked}
 use Rattle.bs_search.proofs.Entries.{clauses_in}

@@ -1,5 +1,5 @@
 -- A clause that comes while literals are assigned.
-use Rattle.std.specs.Prelude.{◌≡◌, ◌≢◌, ◌⊎◌, ℕ, ◌+◌, ◌-◌, ◌<◌, ◌≤◌, true, List, [], ◌∷◌, ◌++◌, take, length, Some, None, Contains, IsPermutation, slice_get}
+use Rattle.std.specs.Prelude.{◌≡◌, ◌≢◌, ◌⊎◌, ℕ, ◌<◌, ◌≤◌, List, [], ◌∷◌, ◌++◌, take, length, Some, None, Contains, slice_get}
 use Rattle.bs_clause.specs.Literal.{Literal, Clause}
 use Rattle.bs_arena.specs.Arena.{Held, literals_at}
 use Rattle.bs_watch.specs.declared.watch.Level.{Level}

@@ -1,12 +1,12 @@
 -- What stands on the trail for good: the negations of retired guards.
 use Rattle.std.specs.Prelude.{◌≡◌, ℕ, List, [], ◌∷◌, ◌++◌, Some, None, All, slice_get}
-use Rattle.bs_clause.specs.Literal.{Literal, Clause}
+use Rattle.bs_clause.specs.Literal.{Clause}
 use Rattle.bs_log.specs.declared.origin.Origin.TheVariants.{Retired}
 use Rattle.bs_log.specs.History.{Problem, Entry}
 use Rattle.bs_log.specs.Refusal.{entry_of}
 use Rattle.bs_clause.specs.Range.{HasVariables}
 use Rattle.bs_arena.specs.Arena.{Held, literals_at}
-use Rattle.bs_watch.specs.Trail.{IsOpenOn, IsFalseOn}
+use Rattle.bs_watch.specs.Trail.{IsOpenOn}
 use Rattle.bs_watch.specs.Places.{Place, literals_of}
 use Rattle.bs_watch.specs.declared.lists.Watcher.{Watcher}
 use Rattle.bs_search.specs.declared.stock.Stock.{Stock}
@@ -29,10 +29,6 @@ pub record IsGround (es : List Entry) (shorts : List ℕ) (clauses : List Held) 
 -- no literal of the clause has a variable that stands there
 abbrev pub IsOff : List Place → Clause → Type 0
 IsOff places c = All (IsOpenOn (literals_of places)) c
-
--- no literal of the clause is false there
-abbrev pub IsSpared : List Place → Clause → Type 0
-IsSpared places c = All (λ l. ¬ IsFalseOn (literals_of places) l) c
 
 -- the clauses that a log is about are over its own variables
 abbrev pub IsOwn : Problem → Type 0

@@ -65,7 +65,8 @@ Lays clauses w shorts (Conflict r) = IsConflictAt clauses (literals_of w.trail.p
 -- an assumption is false, or a short clause, or all of both are true
 abbrev pub Starts : List Held → WatchState → WatchState → List ℕ → Clause → Start → Type 0
 Starts clauses mid new shorts assumptions (Denied l) = Contains assumptions l × IsFalseOn (literals_of mid.trail.places) l
-Starts clauses mid new shorts assumptions (Clash r) = All (IsTrueOn (literals_of mid.trail.places)) assumptions × IsConflictAt clauses (literals_of new.trail.places) r
+Starts clauses mid new shorts assumptions (Clash r) = All (IsTrueOn (literals_of mid.trail.places)) assumptions ×
+    IsConflictAt clauses (literals_of new.trail.places) r
 Starts clauses mid new shorts assumptions Laid = All (IsTrueOn (literals_of mid.trail.places)) assumptions × AllLaid clauses new shorts
 
 -- the assumptions came, and then the literals of the short clauses

@@ -1,6 +1,6 @@
 -- A learnt clause in the arena and on the trail.
 use Rattle.std.specs.Prelude.{◌≡◌, ◌≢◌, ◌⊎◌, ℕ, ◌<◌, ◌≤◌, true, List, [], ◌∷◌, ◌++◌, take, length, Some, None, Contains, IsPermutation, slice_get}
-use Rattle.bs_clause.specs.Literal.{Literal, Clause, negation}
+use Rattle.bs_clause.specs.Literal.{Literal, Clause}
 use Rattle.bs_clause.specs.Range.{HasVariables}
 use Rattle.bs_log.specs.Refusal.{has_distinct_variables}
 use Rattle.bs_arena.specs.Arena.{Held, held_at, literals_at, KeepsOthers}
@@ -8,7 +8,7 @@ use Rattle.bs_watch.specs.declared.watch.Level.{Level}
 use Rattle.bs_watch.specs.Trail.{IsFalseOn, IsOpenOn}
 use Rattle.bs_watch.specs.Places.{Place, literals_of, IsOnLevel}
 use Rattle.bs_watch.specs.Choice.{AreHighest}
-use Rattle.bs_watch.specs.Watch.{WatchState, Serves}
+use Rattle.bs_watch.specs.Watch.{WatchState}
 use Rattle.bs_learn.specs.Reasons.{last_start}
 use Rattle.bs_learn.specs.Point.{IsPoint}
 use Rattle.bs_log.specs.declared.origin.Origin.{Origin}
@@ -16,7 +16,7 @@ use Rattle.bs_log.specs.declared.origin.Origin.TheVariants.{Learnt}
 use Rattle.bs_search.specs.declared.stock.Stock.{Stock}
 use Rattle.bs_search.specs.Stock.{is_live, id_in, HasJoined, rows_for}
 use Rattle.bs_search.specs.Begun.{AreBegun}
-use Rattle.bs_search.specs.Ground.{IsSpared}
+use Rattle.bs_learn.specs.Reasons.{IsSpared}
 
 -- the level on which the second literal became false, the first two being those that became so last, or the first level for a
 -- clause of one literal

@@ -5,7 +5,7 @@ use Rattle.bs_arena.specs.Arena.{Held}
 use Rattle.bs_watch.specs.declared.watch.Level.{Level}
 use Rattle.bs_watch.specs.Trail.{IsTrueOn}
 use Rattle.bs_watch.specs.Watch.{WatchState}
-use Rattle.bs_book.specs.Places.{IsSound, literals_of as logged_literals}
+use Rattle.bs_book.specs.Places.{AreWarranted, literals_of as logged_literals}
 use Rattle.bs_book.specs.Book.{Book, standing}
 use Rattle.bs_book.specs.Search.{assumed}
 use Rattle.bs_book.specs.declared.answer.Answer.{Answer}
@@ -19,7 +19,7 @@ use Rattle.bs_search.specs.Teaching.{IsAtRest}
 -- the trail is sound for the clauses that stand, and the assumptions are true on its first `base` places
 pub record IsPaused (base : ℕ) (book : Book) (w : WatchState) (clauses : List Held) (stock : Stock) : Type 0 where
   pub running : IsRunning base book w clauses stock
-  pub sound : IsSound (standing book) base (assumed book) (seen w.trail.places)
+  pub sound : AreWarranted (standing book) base (assumed book) (seen w.trail.places)
   pub given : All (IsTrueOn (logged_literals (take base (seen w.trail.places)))) (assumed book)
   pub low : base ≤ length w.trail.places
 

@@ -1,6 +1,6 @@
 -- A search between two turns, over its watch and its arena.
 use Rattle.std.specs.Prelude.{◌≡◌, ℕ, List, Some, take, slice_get}
-use Rattle.bs_arena.specs.Arena.{Held, literals_at}
+use Rattle.bs_arena.specs.Arena.{Held}
 use Rattle.bs_watch.specs.declared.visit.Outcome.{Outcome}
 use Rattle.bs_watch.specs.declared.visit.Outcome.TheVariants.{Quiet, Conflict}
 use Rattle.bs_watch.specs.declared.watch.Level.{Level}

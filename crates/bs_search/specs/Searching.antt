@@ -10,7 +10,7 @@ use Rattle.bs_watch.specs.Places.{Place, IsUnassigned, AreApart, literals_of}
 use Rattle.bs_watch.specs.Scene.{Advances, Propagated}
 use Rattle.bs_watch.specs.Watch.{WatchState, Serves, KeepsService, decided, assigned, scene}
 use Rattle.bs_learn.specs.Reasons.{IsReasoned, IsConflictAt}
-use Rattle.bs_book.specs.Places.{IsSound}
+use Rattle.bs_book.specs.Places.{AreWarranted}
 use Rattle.bs_book.specs.Point.{AreForced}
 use Rattle.bs_book.specs.Book.{Book, standing}
 use Rattle.bs_book.specs.declared.answer.Answer.{Answer}
@@ -30,7 +30,7 @@ pub record IsFirstConflict (base : ℕ) (book : Book) (w : WatchState) (clauses 
   pub stocked : IsStocked w.lists clauses stock (entries book)
   pub serves : Serves w clauses
   pub reasoned : IsReasoned clauses w.trail.places
-  pub sound : IsSound (standing book) base (assumed book) (seen w.trail.places)
+  pub sound : AreWarranted (standing book) base (assumed book) (seen w.trail.places)
   pub forced : AreForced (seen w.trail.places) base
   pub range : All (HasVariables w.trail.vars) (standing book)
   pub distinct : All (λ c. has_distinct_variables c ≡ true) (standing book)

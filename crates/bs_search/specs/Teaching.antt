@@ -1,5 +1,5 @@
 -- A conflict in a search, and what it teaches.
-use Rattle.std.specs.Prelude.{◌≡◌, ℕ, ◌≤◌, true, List, [], take, length, All}
+use Rattle.std.specs.Prelude.{◌≡◌, ℕ, true, List, [], take, All}
 use Rattle.bs_clause.specs.Range.{HasVariables}
 use Rattle.bs_log.specs.Refusal.{has_distinct_variables}
 use Rattle.bs_arena.specs.Arena.{Held}
@@ -7,7 +7,7 @@ use Rattle.bs_watch.specs.Trail.{IsTrueOn}
 use Rattle.bs_watch.specs.Places.{literals_of}
 use Rattle.bs_watch.specs.Watch.{WatchState, Serves}
 use Rattle.bs_learn.specs.Reasons.{IsConflictAt}
-use Rattle.bs_book.specs.Places.{IsSound, literals_of as logged_literals}
+use Rattle.bs_book.specs.Places.{AreWarranted, literals_of as logged_literals}
 use Rattle.bs_book.specs.Book.{Book, standing}
 use Rattle.bs_book.specs.Search.{assumed, HasLearnt}
 use Rattle.bs_search.specs.Stock.{IsStocked, entries}
@@ -19,7 +19,7 @@ use Rattle.bs_search.specs.Running.{seen_trail, IsRunning}
 -- a search whose trail makes a clause false
 pub record IsInConflict (base : ℕ) (book : Book) (w : WatchState) (clauses : List Held) (stock : Stock) (conflict : ℕ) : Type 0 where
   pub running : IsRunning base book w clauses stock
-  pub sound : IsSound (standing book) base (assumed book) (seen w.trail.places)
+  pub sound : AreWarranted (standing book) base (assumed book) (seen w.trail.places)
   pub given : All (IsTrueOn (logged_literals (take base (seen w.trail.places)))) (assumed book)
   pub range : All (HasVariables w.trail.vars) (standing book)
   pub distinct : All (λ c. has_distinct_variables c ≡ true) (standing book)

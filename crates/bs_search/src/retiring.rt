@@ -34,6 +34,7 @@ fn put_in(refs: &mut Vec<Ref>, at: usize, r: Ref) -> Result<(), NoMemory>
 }
 
 /// Adds the unit of a retired guard, whose literal is true from then on: it stands behind those that do, and no level undoes it.
+/// Where nobody watches the guard, no later propagation looks at it.
 pub fn retire(
     watch: &mut Watch,
     arena: &mut Arena,
@@ -51,5 +52,6 @@ pub fn retire(
     let r = arena.add(id, &[unit])?;
     put_in(&mut stock.shorts, stand, r)?;
     watch.assign(unit, Some(r));
+    watch.pass();
     Ok(())
 }

@@ -1,5 +1,5 @@
 //! The clauses that stand, in an arena and in watch lists.
-ghost use Rattle.std.specs.Prelude.{◌≡◌, ◌+◌, ◌<◌, ◌≤◌, ◌++◌, ◌∷◌, [], length, true, IfOk, OnOk, IsSome};
+ghost use Rattle.std.specs.Prelude.{◌≡◌, ◌+◌, ◌<◌, ◌≤◌, ◌++◌, ◌∷◌, [], length, true, OnOk, IsSome};
 ghost use Rattle.bs_clause.specs.Range.{HasVariables};
 ghost use Rattle.bs_log.specs.Refusal.{has_distinct_variables};
 ghost use Rattle.bs_arena.specs.Arena.{held_at, literals_at, live_words};

@@ -77,6 +77,7 @@ pub fn refute(
     conflict: Ref,
 ) -> Result<u64, NoMemory>
     requires some { IsSomeFirstConflict book.old watch.old arena.old.clauses stock.old conflict }
+    requires own { IsOwn book.old.problem }
     requires bound { watch.old.trail.vars < 2 ^ 30 }
     requires phase { in_solve (phase_of book.old.history) ≡ true }
     requires clear { IsClear (watch.old.trail.vars + 1) marks.old }
@@ -86,6 +87,7 @@ pub fn refute(
 {
     arena.holds_clauses();
     watch.holds_levels();
+    let _ = book.log();
     let learnt = to_unforced(alloc, watch, arena, marks, conflict)?;
     let hints = ids_of(alloc, arena, learnt.hints.as_slice())?;
     let id = book.next_id()?;

@@ -5,7 +5,7 @@ use Rattle.bs_scan.specs.declared.dump.Dump.{Dump}
 use Rattle.bs_scan.specs.Crash.{Recording, Crash, crash_of, IsCrash}
 use Rattle.bs_log.specs.Lean.{IsLean}
 use Rattle.bs_log.specs.Refusal.{history_of}
-use Rattle.bs_encode.specs.Assuming.{basis_of}
+use Rattle.bs_encode.specs.Depth.{basis_of}
 use Rattle.bs_report.specs.declared.report.Budgets.{Budgets}
 use Rattle.bs_report.specs.declared.report.Report.{Report}
 use Rattle.bs_report.specs.Text.{HasReportText}
@@ -36,9 +36,9 @@ sound_is crash r crashed good valid = record {
 pub record IsMade (chip : Recording) (dump : Dump) (budgets : Budgets) (r : Report) : Type 0 where
   pub asked : r.budgets ≡ budgets
   pub good : IsGood (crash_of chip dump) r
-  pub valid : IsValid (crash_of chip dump) (basis_of chip.circuit chip.choice.items (map present_of r.steps)) r
-  pub lean : IsLean (basis_of chip.circuit chip.choice.items (map present_of r.steps)).problem (history_of r.log)
-  pub bound : HasBound (basis_of chip.circuit chip.choice.items (map present_of r.steps)).problem r
+  pub valid : IsValid (crash_of chip dump) (basis_of chip.circuit chip.choice (map present_of r.steps)) r
+  pub lean : IsLean (basis_of chip.circuit chip.choice (map present_of r.steps)).problem (history_of r.log)
+  pub bound : HasBound (basis_of chip.circuit chip.choice (map present_of r.steps)).problem r
   pub readable : HasReportText r
 
 made_alike : (chip : Recording) (dump : Dump) (budgets : Budgets) (r : Report) → IsCrash (crash_of chip dump) → IsMade chip dump budgets r →
@@ -55,9 +55,9 @@ made_alike chip dump budgets r crashed made = record {
 pub backtrace_ok : {E : Type 0} (recorded chip : Recording) (dump : Dump) (budgets : Budgets) (r : Result Report E) → chip ≡ recorded →
     IsCrash (crash_of recorded dump) →
     IfOk r (λ report. report.budgets ≡ budgets) → IfOk r (IsGood (crash_of chip dump)) →
-    IfOk r (λ report. IsValid (crash_of chip dump) (basis_of chip.circuit chip.choice.items (map present_of report.steps)) report) →
-    IfOk r (λ report. IsLean (basis_of chip.circuit chip.choice.items (map present_of report.steps)).problem (history_of report.log)) →
-    IfOk r (λ report. HasBound (basis_of chip.circuit chip.choice.items (map present_of report.steps)).problem report) → IfOk r HasReportText →
+    IfOk r (λ report. IsValid (crash_of chip dump) (basis_of chip.circuit chip.choice (map present_of report.steps)) report) →
+    IfOk r (λ report. IsLean (basis_of chip.circuit chip.choice (map present_of report.steps)).problem (history_of report.log)) →
+    IfOk r (λ report. HasBound (basis_of chip.circuit chip.choice (map present_of report.steps)).problem report) → IfOk r HasReportText →
     IfOk r (IsBacktrace (crash_of recorded dump) budgets)
 backtrace_ok recorded chip dump budgets (Ok report) is crashed asked good valid lean bound readable =
     made_alike recorded dump budgets report crashed

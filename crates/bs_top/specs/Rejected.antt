@@ -24,6 +24,7 @@ step_words step what = codes "step " ++ (decimal step ++ what)
 
 -- the words for a part that fails
 abbrev pub part_words : Part → List ℕ
+part_words parts.Format = codes "format"
 part_words (parts.Present step) = step_words step (codes " present")
 part_words (parts.Stored step) = step_words step (codes " stored")
 part_words (parts.Candidate step candidate) = step_words step (codes " candidate ") ++ decimal candidate

@@ -69,6 +69,7 @@ fn push_part(text: &mut Vec<u8>, part: Part) -> Result<(), NoMemory>
     ensures { OnOk result (text.new.items ≡ text.old.items ++ part_words part) }
 {
     match part {
+        Part::Format => push_piece(text, b"format"),
         Part::Present(step) => push_step(text, step, b" present"),
         Part::Stored(step) => push_step(text, step, b" stored"),
         Part::Candidate(step, candidate) => push_candidate(text, step, candidate),
@@ -121,6 +122,7 @@ pub fn find(alloc: Global, claimed: &Claimed) -> Result<Finding, NoMemory>
     let setup = &crashed.setup;
     let _order = setup.net.order();
     let _count = setup.runs.count();
+    let _depth = setup.choice.depth();
     bs_audit::audit(
         alloc,
         &setup.net,

@@ -49,6 +49,7 @@ pub fn report_of(
 {
     let _order = setup.net.order();
     let _count = setup.runs.count();
+    let _depth = setup.choice.depth();
     let mut chip = Chip::new(alloc, &setup.net, &setup.choice, &setup.runs)?;
     let preimage = Preimage::new(alloc, &setup.net, &setup.choice)?;
     backtrace(alloc, &mut chip, preimage, dump, budgets)

@@ -6,7 +6,8 @@ ghost use Rattle.bs_entry.specs.Refusals.{CheckSays};
 ghost use Rattle.bs_words.specs.Job.{Dump as DumpWords};
 ghost use Rattle.bs_top.specs.Work.{dump_names, plan_of, to_dump};
 ghost use Rattle.bs_top.specs.Words.{dump_job};
-ghost use Rattle.bs_scan.specs.Crash.{dump_at};
+ghost use Rattle.bs_net.specs.Netlist.{circuit};
+ghost use Rattle.bs_scan.specs.Crash.{dump_at, DumpFits};
 ghost use Rattle.bs_entry.specs.Entry.{recording_in};
 ghost use Rattle.bs_top.specs.Finishes.{finishes};
 
@@ -20,9 +21,11 @@ use std::alloc::Global;
 
 /// The dump of a moment.
 pub fn dump_of(alloc: Global, placed: &Placed) -> Result<Dump, NoMemory>
-    ensures { IfOk result (λ dump. dump ≡ dump_at (recording_in (placed_in placed.now).setup) (placed_in placed.now).moment) }
+    ensures dump { IfOk result (λ dump. dump ≡ dump_at (recording_in (placed_in placed.now).setup) (placed_in placed.now).moment) }
+    ensures fits { IfOk result (DumpFits (circuit placed.now.setup.net) placed.now.setup.choice) }
 {
     let setup = &placed.setup;
+    let _depth = setup.choice.depth();
     let mut chip = Chip::new(alloc, &setup.net, &setup.choice, &setup.runs)?;
     chip.dump_at(alloc, placed.moment.run, placed.moment.cycle)
 }

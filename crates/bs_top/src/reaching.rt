@@ -39,7 +39,6 @@ fn search(alloc: Global, target: &Target, conflicts: u64) -> Result<Reach, NoMem
 }
 
 /// What is written for a state.
-#[tactic(auto, using(bs_reach::proofs::CallerLemmas::reach_has_states))]
 fn reached(alloc: Global, target: &Target, conflicts: u64) -> Result<Reply, NoMemory>
     requires cycles { target.now.cycles ≤ MAX_COPIES }
     requires limit { 1 ≤ conflicts }

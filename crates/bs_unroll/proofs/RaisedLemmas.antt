@@ -1,8 +1,7 @@
--- Raised clauses: their variables, and that none stands twice.
-use Rattle.std.proofs.Common.{◌≡◌, ℕ, ◌+◌, ◌*◌, ◌<◌, ◌≤◌, Bool, true, not, ◌&&◌, ◌||◌, eqb, List, [], ◌∷◌}
-use Rattle.std.proofs.Common.{refl, ap, sym, subst, ◌∙◌, inl, inr, arith}
-use Rattle.std.specs.List.{AllByRecursion, list_any}
-use Rattle.std.proofs.lemmas.Bool.{cases_eq, eq-eqb, ne_eqb}
+-- The variables of what a length assumes, and of what is read of a copy.
+use Rattle.std.proofs.Common.{◌≡◌, ℕ, ◌+◌, ◌*◌, ◌<◌, ◌≤◌, Bool, true, List, ◌∷◌}
+use Rattle.std.proofs.Common.{ap, sym, subst, ◌∙◌, arith}
+use Rattle.std.specs.List.{AllByRecursion}
 use Rattle.std.proofs.lemmas.List.Elements.{recursion_from_All, All-from_recursion}
 use Rattle.bs_clause.specs.Literal.{Literal, Clause}
 use Rattle.bs_clause.specs.Range.{IsWithin, HasVariables}
@@ -12,43 +11,11 @@ use Rattle.bs_encode.specs.Encoded.{Encoded}
 use Rattle.bs_encode.specs.Assuming.{signed}
 use Rattle.bs_encode.proofs.RangeLemmas.{InRange}
 use Rattle.bs_encode.proofs.DistinctLemmas.{apart_from_each, weaken, distinct_cons, signed_all}
-use Rattle.bs_unroll.specs.Unrolled.{raised_all, base_of, next_at}
+use Rattle.bs_encode.specs.Copy.{raised_all}
+use Rattle.bs_encode.proofs.CopyLemmas.{raised_within, distinct_raised, signed_raised}
+use Rattle.bs_unroll.specs.Unrolled.{base_of, next_at}
 use Rattle.bs_unroll.specs.Room.{IsUnrollable}
 use Rattle.bs_unroll.proofs.UnrollLemmas.{copies_fit}
-
-eqb_raised : (by a b : ℕ) → eqb (by + a) (by + b) ≡ eqb a b
-eqb_raised by a b = elim (cases_eq a b) [
-  | inl same ↦ eq-eqb (by + a) (by + b) (ap (λ n. by + n) same) ∙ sym (eq-eqb a b same)
-  | inr other ↦ ne_eqb (by + a) (by + b) (λ e. other (omega (arith, e))) ∙ sym (ne_eqb a b other)
-]
-
-any_raised : (by v : ℕ) (c : Clause) → list_any (λ (m : Literal). eqb m.variable (by + v)) (raised_all by c) ≡ list_any (λ (m : Literal). eqb m.variable v) c
-any_raised by v [] = refl
-any_raised by v (l ∷ c) =
-    ap (λ b. b || list_any (λ (m : Literal). eqb m.variable (by + v)) (raised_all by c)) (eqb_raised by l.variable v)
-    ∙ ap (λ b. eqb l.variable v || b) (any_raised by v c)
-
-pub distinct_raised : (by : ℕ) (c : Clause) → has_distinct_variables (raised_all by c) ≡ has_distinct_variables c
-distinct_raised by [] = refl
-distinct_raised by (l ∷ c) =
-    ap (λ b. not b && has_distinct_variables (raised_all by c)) (any_raised by l.variable c)
-    ∙ ap (λ b. not (list_any (λ (m : Literal). eqb m.variable l.variable) c) && b) (distinct_raised by c)
-
-pub signed_raised : (by : ℕ) (ls : List Literal) (bs : List Bool) → signed (raised_all by ls) bs ≡ raised_all by (signed ls bs)
-signed_raised by [] bs = refl
-signed_raised by (l ∷ ls) [] = refl
-signed_raised by (l ∷ ls) (b ∷ bs) = ap (λ c. lit (by + l.variable) b ∷ c) (signed_raised by ls bs)
-
--- above a base, and up to a bound
-abbrev pub IsIn : ℕ → ℕ → Literal → Type 0
-IsIn by m l = (by < l.variable) × (l.variable ≤ m)
-
-pub raised_in : (by n m : ℕ) (ls : List Literal) → AllByRecursion (IsWithin n) ls → by + n ≤ m → AllByRecursion (IsIn by m) (raised_all by ls)
-raised_in by n m [] h fits = tt
-raised_in by n m (l ∷ ls) h fits = ((omega (arith, h.0.0), omega (arith, h.0.1, fits)), raised_in by n m ls h.1 fits)
-
-pub raised_within : (by n m : ℕ) (ls : List Literal) → AllByRecursion (IsWithin n) ls → by + n ≤ m → AllByRecursion (IsWithin m) (raised_all by ls)
-raised_within by n m ls h fits = weaken (IsIn by m) (IsWithin m) (λ l w. (omega (arith, w.0), w.1)) (raised_all by ls) (raised_in by n m ls h fits)
 
 -- ---- what the step of a length assumes
 

@@ -1,15 +1,14 @@
 -- What is reached in some cycles is shown by an assignment that meets the unrolled clauses.
-use Rattle.std.proofs.Common.{◌≡◌, ℕ, zero, suc, ◌+◌, ◌-◌, ◌*◌, ◌<◌, ◌≤◌, Bool, true, false, ◌||◌, ◌&&◌, cond, ltb, leb, List, [], ◌∷◌, ◌++◌, length}
+use Rattle.std.proofs.Common.{◌≡◌, ℕ, zero, suc, ◌+◌, ◌-◌, ◌*◌, ◌<◌, ◌≤◌, Bool, true, false, List, [], ◌∷◌, ◌++◌, length}
 use Rattle.std.proofs.Common.{get_or, replicate, refl, sym, ap, ◌∙◌, ◌⊎◌, inl, inr, arith, subst}
 use Rattle.std.specs.Prelude.{IsTrue}
-use Rattle.std.specs.Bool.{beq}
-use Rattle.std.specs.List.{AllByRecursion, All, list_any, range_with_len, flat_map}
-use Rattle.std.proofs.lemmas.Bool.{lt-ltb, le-leb, le-ltb, lt-leb, cases_eq, cases_lt, and_from, and_left, and_right, cond-true, cond-false}
+use Rattle.std.specs.List.{AllByRecursion, All, range_with_len, flat_map}
+use Rattle.std.proofs.lemmas.Bool.{cases_eq, cases_lt}
 use Rattle.std.proofs.lemmas.List.{get_or_past, length-replicate, length-map}
 use Rattle.std.proofs.lemmas.List.Elements.{recursion_from_All, All-from_recursion}
 use Rattle.std.proofs.lemmas.Nat.{mul-add-lt}
 use Rattle.std.proofs.Math.Nat.{suc-mul, mul_comm}
-use Rattle.bs_clause.specs.Literal.{Literal, Clause, literal_value, Satisfies}
+use Rattle.bs_clause.specs.Literal.{literal_value, Satisfies}
 use Rattle.bs_clause.specs.Range.{IsWithin, HasVariables}
 use Rattle.bs_net.specs.Circuit.{Circuit, next, reset_state}
 use Rattle.bs_scan.specs.Moments.{Run, state_at}
@@ -21,26 +20,12 @@ use Rattle.bs_encode.proofs.LiteralLemmas.{signs_true}
 use Rattle.bs_encode.proofs.RangeLemmas.{join}
 use Rattle.bs_unroll.specs.Unrolled.{base_of, copy_of, states_at, next_at, links_of, reset_units, unrolled}
 use Rattle.bs_unroll.specs.Laws.{ReachedIsShown}
-use Rattle.bs_unroll.proofs.ClauseLemmas.{lowered, raised_met, raised_bits, flat_of, links_met, units_met}
+use Rattle.bs_encode.specs.Copy.{lowered}
+use Rattle.bs_encode.proofs.CopyLemmas.{raised_met, raised_bits, links_met, overlay, inside, below, beyond, Agree, still_met, same_bits}
+use Rattle.bs_unroll.proofs.ClauseLemmas.{flat_of, units_met}
 use Rattle.bs_unroll.proofs.SolutionLemmas.{zero_base}
 
 -- ---- one assignment of several
-
--- f on the n variables above one, and g on the others
-abbrev overlay : ℕ → ℕ → (ℕ → Bool) → (ℕ → Bool) → ℕ → Bool
-overlay by n f g v = cond (ltb by v && leb v (by + n)) (f (v - by)) (g v)
-
-inside : (by n : ℕ) (f g : ℕ → Bool) (v w : ℕ) → v ≡ by + w → 1 ≤ w → w ≤ n → overlay by n f g v ≡ f w
-inside by n f g v w is low high =
-    cond-true (ltb by v && leb v (by + n)) (f (v - by)) (g v)
-    (and_from (ltb by v) (leb v (by + n)) (lt-ltb by v (omega (arith, is, low))) (le-leb v (by + n) (omega (arith, is, high))))
-    ∙ ap f (omega (arith, is))
-
-below : (by n : ℕ) (f g : ℕ → Bool) (v : ℕ) → v ≤ by → overlay by n f g v ≡ g v
-below by n f g v le = cond-false (ltb by v && leb v (by + n)) (f (v - by)) (g v) (and_left (ltb by v) (leb v (by + n)) (le-ltb by v le))
-
-beyond : (by n : ℕ) (f g : ℕ → Bool) (v : ℕ) → by + n < v → overlay by n f g v ≡ g v
-beyond by n f g v lt = cond-false (ltb by v && leb v (by + n)) (f (v - by)) (g v) (and_right (ltb by v) (leb v (by + n)) (lt-leb v (by + n) lt))
 
 -- each f i on the n variables of copy i, below k, and g above
 abbrev joined : ℕ → (ℕ → ℕ → Bool) → (ℕ → Bool) → ℕ → ℕ → Bool
@@ -67,26 +52,6 @@ joined_above n f g zero v lt = refl
 joined_above n f g (suc k) v lt =
     let more : suc k * n ≡ k * n + n = suc-mul k n in
     beyond (k * n) n (f k) (joined n f g k) v (omega (arith, lt, more)) ∙ joined_above n f g k v (omega (arith, lt, more))
-
--- ---- clauses over variables on which two assignments agree
-
-abbrev Agree : ℕ → (ℕ → Bool) → (ℕ → Bool) → Type 0
-Agree n a b = (w : ℕ) → 1 ≤ w → w ≤ n → a w ≡ b w
-
-same_value : (n : ℕ) (a b : ℕ → Bool) → Agree n a b → (c : Clause) → AllByRecursion (IsWithin n) c → list_any (literal_value a) c ≡ list_any (literal_value b) c
-same_value n a b same [] h = refl
-same_value n a b same (l ∷ c) h =
-    ap (λ x. beq x l.positive || list_any (literal_value a) c) (same l.variable h.0.0 h.0.1)
-    ∙ ap (λ x. literal_value b l || x) (same_value n a b same c h.1)
-
-still_met : (n : ℕ) (a b : ℕ → Bool) → Agree n a b → (cs : List Clause) → AllByRecursion (HasVariables n) cs → AllByRecursion (Satisfies b) cs →
-    AllByRecursion (Satisfies a) cs
-still_met n a b same [] r h = tt
-still_met n a b same (c ∷ cs) r h = (same_value n a b same c (recursion_from_All (IsWithin n) c r.0) ∙ h.0, still_met n a b same cs r.1 h.1)
-
-same_bits : (n : ℕ) (a b : ℕ → Bool) → Agree n a b → (ls : List Literal) → AllByRecursion (IsWithin n) ls → bits_on a ls ≡ bits_on b ls
-same_bits n a b same [] h = refl
-same_bits n a b same (l ∷ ls) h = ap (λ x. x ∷ bits_on a ls) (same l.variable h.0.0 h.0.1) ∙ ap (λ xs. b l.variable ∷ xs) (same_bits n a b same ls h.1)
 
 -- ---- the states under inputs that go on for ever
 

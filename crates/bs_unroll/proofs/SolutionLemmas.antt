@@ -15,7 +15,9 @@ use Rattle.bs_encode.proofs.LiteralLemmas.{AllTrue, bits_shown}
 use Rattle.bs_unroll.specs.Execution.{IsExecution}
 use Rattle.bs_unroll.specs.Unrolled.{base_of, copy_of, states_at, inputs_at, next_at, links_of, reset_units, unrolled}
 use Rattle.bs_unroll.specs.Laws.{inputs_shown, SolutionsAreExecutions}
-use Rattle.bs_unroll.proofs.ClauseLemmas.{lowered, lowered_met, raised_bits, length-bits_on, length-raised_all, part_of_flat, links_say, units_say}
+use Rattle.bs_encode.specs.Copy.{lowered}
+use Rattle.bs_encode.proofs.CopyLemmas.{lowered_met, raised_bits, length-bits_on, length-raised_all, links_say}
+use Rattle.bs_unroll.proofs.ClauseLemmas.{part_of_flat, units_say}
 
 -- ---- states that follow each other
 

@@ -1,6 +1,5 @@
 -- Unrolling, one more at a time, and the room for it.
-use Rattle.std.proofs.Common.{◌≡◌, ℕ, zero, suc, ◌+◌, ◌*◌, ◌<◌, ◌≤◌, List, [], ◌∷◌, ◌++◌, length, take, get_or, refl, ap, sym, ◌∙◌}
-use Rattle.std.proofs.Common.{arith, add-one}
+use Rattle.std.proofs.Common.{◌≡◌, ℕ, suc, ◌+◌, ◌*◌, ◌<◌, ◌≤◌, List, [], ◌∷◌, ◌++◌, ap, sym, ◌∙◌, arith}
 use Rattle.std.specs.List.{All, range_with_len, flat_map}
 use Rattle.std.proofs.lemmas.List.{append_assoc, append-nil}
 use Rattle.std.proofs.lemmas.List.Elements.{All-weaker}
@@ -13,33 +12,8 @@ use Rattle.bs_encode.specs.Encoded.{Encoded}
 use Rattle.std.proofs.lemmas.List.Concat.{flat_map-append}
 use Rattle.bs_net.proofs.CallerLemmas.{range_push}
 use Rattle.bs_unroll.specs.declared.limits.TheConstants.{MAX_COPY_VARIABLES}
-use Rattle.bs_unroll.specs.Unrolled.{link, links}
-use Rattle.bs_unroll.specs.Room.{HasRoom, HasRooms, IsUnrollable}
-
-more : (ns ss : List Literal) (i : ℕ) (d : Literal) → i < length ns → i < length ss →
-    links (take (suc i) ns) (take (suc i) ss) ≡ links (take i ns) (take i ss) ++ link (get_or ns i d).variable (get_or ss i d).variable
-more [] ss i d ln ls = absurd (omega arith)
-more (n ∷ ns) [] i d ln ls = absurd (omega arith)
-more (n ∷ ns) (s ∷ ss) zero d ln ls = refl
-more (n ∷ ns) (s ∷ ss) (suc i) d ln ls = ap (λ r. link n.variable s.variable ++ r) (more ns ss i d (omega arith) (omega arith))
-
-pub links_step : (base into next : List Clause) (ns ss : List Literal) (i : ℕ) (n s : Literal) → length ns ≡ length ss → i < length ns → n ≡ get_or ns i n →
-    s ≡ get_or ss i s →
-    next ≡ into ++ link n.variable s.variable → into ≡ base ++ links (take i ns) (take i ss) → next ≡ base ++ links (take (i + 1) ns) (take (i + 1) ss)
-links_step base into next ns ss i n s same lt is_n is_s grown so_far =
-    let L : List Clause = links (take i ns) (take i ss) in
-    let other : get_or ss i s ≡ get_or ss i n = any ss i s n (omega (arith, same, lt)) in
-    rw add-one
-    (grown ∙ (ap (λ u. u ++ link n.variable s.variable) so_far
-    ∙ (append_assoc base L (link n.variable s.variable)
-    ∙ ap (λ u. base ++ u)
-    (ap (λ (m : Literal). L ++ link m.variable s.variable) is_n
-    ∙ (ap (λ (m : Literal). L ++ link (get_or ns i n).variable m.variable) (is_s ∙ other) ∙ sym (more ns ss i n lt (omega (arith, same, lt))))))))
-  where
-    any : (xs : List Literal) (k : ℕ) (a b : Literal) → k < length xs → get_or xs k a ≡ get_or xs k b
-    any [] k a b h = absurd (omega arith)
-    any (x ∷ xs) zero a b h = refl
-    any (x ∷ xs) (suc k) a b h = any xs k a b (omega arith)
+use Rattle.bs_encode.specs.Copy.{HasRoom, HasRooms}
+use Rattle.bs_unroll.specs.Room.{IsUnrollable}
 
 -- one place more
 flat_more : {X : Type 0} (f : ℕ → List X) (k : ℕ) → flat_map f (range_with_len 0 (k + 1)) ≡ flat_map f (range_with_len 0 k) ++ f k

@@ -1,14 +1,12 @@
 -- The unrolled clauses are over the variables of the copies, and no variable stands twice in one of them.
-use Rattle.std.proofs.Common.{◌≡◌, ℕ, zero, suc, ◌+◌, ◌-◌, ◌*◌, ◌<◌, ◌≤◌, Bool, true, false, not, ◌&&◌, ◌||◌, List, [], ◌∷◌, ◌++◌, map, length}
+use Rattle.std.proofs.Common.{◌≡◌, ℕ, zero, suc, ◌+◌, ◌-◌, ◌*◌, ◌<◌, ◌≤◌, Bool, true, List, [], ◌∷◌, ◌++◌, map, length}
 use Rattle.std.proofs.Common.{refl, ap, sym, subst, ◌∙◌, arith}
 use Rattle.std.specs.List.{AllByRecursion, All, range_with_len, flat_map}
-use Rattle.std.proofs.lemmas.Bool.{ne_eqb}
 use Rattle.std.proofs.lemmas.List.Elements.{recursion_from_All, All-from_recursion, All-nil}
 use Rattle.std.proofs.Math.Nat.{suc-mul}
 use Rattle.bs_clause.specs.Literal.{Literal, Clause}
 use Rattle.bs_clause.specs.Range.{IsWithin, HasVariables}
 use Rattle.bs_log.specs.Refusal.{has_distinct_variables}
-use Rattle.bs_encode.specs.Tables.{lit}
 use Rattle.bs_net.specs.Circuit.{Circuit}
 use Rattle.bs_encode.specs.Encoded.{Encoded, encoding_of}
 use Rattle.bs_encode.specs.Cycle.{IsTransition, EncodesCycles}
@@ -16,11 +14,11 @@ use Rattle.bs_encode.specs.Assuming.{signed}
 use Rattle.bs_encode.proofs.RangeLemmas.{InRange, join}
 use Rattle.bs_encode.proofs.DistinctLemmas.{weaken, signed_all}
 use Rattle.bs_unroll.specs.declared.limits.TheConstants.{MAX_COPIES, MAX_COPY_VARIABLES}
-use Rattle.bs_unroll.specs.Unrolled.{raised_all, base_of, copy_of, states_at, next_at, links, links_of, reset_units, unrolled}
+use Rattle.bs_encode.proofs.CopyLemmas.{raised_in, raised_within, raised_range, raised_distinct, links_range, links_distinct}
+use Rattle.bs_unroll.specs.Unrolled.{base_of, copy_of, states_at, next_at, links_of, reset_units, unrolled}
 use Rattle.bs_unroll.specs.Room.{IsUnrollable}
 use Rattle.bs_unroll.proofs.ClauseLemmas.{flat_of}
 use Rattle.bs_unroll.proofs.UnrollLemmas.{copies_fit}
-use Rattle.bs_unroll.proofs.RaisedLemmas.{IsIn, raised_in, raised_within, distinct_raised}
 
 -- ---- one copy
 
@@ -47,22 +45,9 @@ Distinct d = has_distinct_variables d ≡ true
 
 -- ---- ranges
 
-raised_range : (by n m : ℕ) (cs : List Clause) → AllByRecursion (HasVariables n) cs → by + n ≤ m → AllByRecursion (HasVariables m) (map (raised_all by) cs)
-raised_range by n m [] h fits = tt
-raised_range by n m (c ∷ cs) h fits =
-    (All-from_recursion (IsWithin m) (raised_all by c) (raised_within by n m c (recursion_from_All (IsWithin n) c h.0) fits), raised_range by n m cs h.1 fits)
-
 units_range : (m : ℕ) (ls : List Literal) → AllByRecursion (IsWithin m) ls → AllByRecursion (HasVariables m) (map (λ (l : Literal). l ∷ []) ls)
 units_range m [] h = tt
 units_range m (l ∷ ls) h = (All-from_recursion (IsWithin m) (l ∷ []) (h.0, tt), units_range m ls h.1)
-
-links_range : (m : ℕ) (ns ss : List Literal) → AllByRecursion (IsWithin m) ns → AllByRecursion (IsWithin m) ss → AllByRecursion (HasVariables m) (links ns ss)
-links_range m [] ss h g = tt
-links_range m (n ∷ ns) [] h g = tt
-links_range m (n ∷ ns) (s ∷ ss) h g = (
-  All-from_recursion (IsWithin m) (lit n.variable false ∷ lit s.variable true ∷ []) (h.0, (g.0, tt)),
-  (All-from_recursion (IsWithin m) (lit n.variable true ∷ lit s.variable false ∷ []) (h.0, (g.0, tt)), links_range m ns ss h.1 g.1),
-)
 
 reset_range : (e : Encoded) (reset : List Bool) (k : ℕ) → HasVariables e.variables e.states →
     AllByRecursion (HasVariables (k * e.variables)) (reset_units e reset k)
@@ -94,23 +79,9 @@ unrolled_range e reset k u =
 
 -- ---- no variable twice
 
-raised_distinct : (by : ℕ) (cs : List Clause) → AllByRecursion Distinct cs → AllByRecursion Distinct (map (raised_all by) cs)
-raised_distinct by [] h = tt
-raised_distinct by (c ∷ cs) h = (distinct_raised by c ∙ h.0, raised_distinct by cs h.1)
-
 units_distinct : (ls : List Literal) → AllByRecursion Distinct (map (λ (l : Literal). l ∷ []) ls)
 units_distinct [] = tt
 units_distinct (l ∷ ls) = (refl, units_distinct ls)
-
-pair_distinct : (n s : ℕ) (a b : Bool) → (s ≡ n → ⊥) → Distinct (lit n a ∷ lit s b ∷ [])
-pair_distinct n s a b differ = ap (λ t. not (t || false) && (not false && true)) (ne_eqb s n differ)
-
-links_distinct : (x y z : ℕ) (ns ss : List Literal) → AllByRecursion (IsIn x y) ns → AllByRecursion (IsIn y z) ss → AllByRecursion Distinct (links ns ss)
-links_distinct x y z [] ss h g = tt
-links_distinct x y z (n ∷ ns) [] h g = tt
-links_distinct x y z (n ∷ ns) (s ∷ ss) h g =
-    let differ : s.variable ≡ n.variable → ⊥ = λ same. omega (arith, same, h.0.1, g.0.0) in
-    (pair_distinct n.variable s.variable false true differ, (pair_distinct n.variable s.variable true false differ, links_distinct x y z ns ss h.1 g.1))
 
 reset_distinct : (e : Encoded) (reset : List Bool) (k : ℕ) → AllByRecursion Distinct (reset_units e reset k)
 reset_distinct e reset zero = tt

@@ -1,19 +1,10 @@
 -- What has room to be raised.
-use Rattle.std.specs.Prelude.{◌≡◌, ℕ, ◌+◌, ◌*◌, ◌<◌, ◌≤◌, Bool, true, List, length, All}
-use Rattle.bs_clause.specs.declared.literal.TheConstants.{VARIABLE_LIMIT}
-use Rattle.bs_clause.specs.Literal.{Clause}
+use Rattle.std.specs.Prelude.{◌≡◌, ℕ, ◌*◌, ◌≤◌, Bool, true, List, length, All}
 use Rattle.bs_clause.specs.Range.{HasVariables}
 use Rattle.bs_log.specs.Refusal.{has_distinct_variables}
 use Rattle.bs_encode.specs.Encoded.{Encoded}
 use Rattle.bs_encode.specs.Assuming.{signed}
 use Rattle.bs_unroll.specs.declared.limits.TheConstants.{MAX_COPIES, MAX_COPY_VARIABLES}
-
--- each variable that is so much higher is one
-abbrev pub HasRoom : ℕ → Clause → Type 0
-HasRoom by c = All (λ l. by + l.variable < VARIABLE_LIMIT) c
-
-abbrev pub HasRooms : ℕ → List Clause → Type 0
-HasRooms by cs = All (HasRoom by) cs
 
 -- k copies have room, with the guards of their lengths
 pub record IsUnrollable (e : Encoded) (k : ℕ) : Type 0 where

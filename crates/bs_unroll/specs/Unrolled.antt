@@ -1,19 +1,13 @@
 -- The unrolled clauses: a copy of the transition clauses for each cycle, the units of the reset state, and the links between
 -- copies (docs/FORMATS.md, "Unrolled clauses").
-use Rattle.std.specs.Prelude.{ℕ, zero, suc, ◌+◌, ◌-◌, ◌*◌, Bool, true, false, List, [], ◌∷◌, ◌++◌, map}
+use Rattle.std.specs.Prelude.{ℕ, zero, suc, ◌+◌, ◌-◌, ◌*◌, Bool, true, List, [], ◌∷◌, ◌++◌, map}
 use Rattle.std.specs.List.{range_with_len, flat_map}
 use Rattle.bs_clause.specs.Literal.{Literal, Clause}
 use Rattle.bs_log.specs.History.{Problem}
 use Rattle.bs_encode.specs.Tables.{lit}
 use Rattle.bs_encode.specs.Encoded.{Encoded}
 use Rattle.bs_encode.specs.Assuming.{signed}
-
--- the literal of the variable that is so much higher
-abbrev pub raised : ℕ → Literal → Literal
-raised by l = record { variable = by + l.variable; positive = l.positive }
-
-abbrev pub raised_all : ℕ → List Literal → List Literal
-raised_all by ls = map (raised by) ls
+use Rattle.bs_encode.specs.Copy.{raised_all, links}
 
 -- how much higher the variables of copy number c are, from 0
 abbrev pub base_of : Encoded → ℕ → ℕ
@@ -32,15 +26,6 @@ inputs_at e c = raised_all (base_of e c) e.inputs
 
 abbrev pub next_at : Encoded → ℕ → List Literal
 next_at e c = raised_all (base_of e c) e.next
-
--- both variables have the same value
-abbrev pub link : ℕ → ℕ → List Clause
-link n s = (lit n false ∷ lit s true ∷ []) ∷ (lit n true ∷ lit s false ∷ []) ∷ []
-
-abbrev pub links : List Literal → List Literal → List Clause
-links [] ss = []
-links (n ∷ ns) [] = []
-links (n ∷ ns) (s ∷ ss) = link n.variable s.variable ++ links ns ss
 
 -- the next state of a copy is the state of the copy behind it
 abbrev pub links_of : Encoded → ℕ → List Clause

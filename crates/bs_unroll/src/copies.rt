@@ -1,44 +1,12 @@
-//! Copies of clauses over higher variables.
-ghost use Rattle.std.specs.Prelude.{◌≡◌, ◌+◌, ◌<◌, ◌++◌, map, IfOk, OnOk};
+//! The clauses of all copies.
+ghost use Rattle.std.specs.Prelude.{◌≡◌, ◌++◌, OnOk};
 ghost use Rattle.std.specs.List.{flat_map, range_with_len};
-ghost use Rattle.bs_clause.specs.declared.literal.TheConstants.{VARIABLE_LIMIT};
-ghost use Rattle.bs_unroll.specs.Unrolled.{raised, raised_all, copy_of};
-ghost use Rattle.bs_unroll.specs.Room.{HasRoom, HasRooms, IsUnrollable};
+ghost use Rattle.bs_unroll.specs.Unrolled.{copy_of};
+ghost use Rattle.bs_unroll.specs.Room.{IsUnrollable};
 
-use bs_clause::{Clauses, Lit, Lits, NoMemory, Var};
-use bs_encode::Encoding;
+use bs_clause::{Clauses, NoMemory};
+use bs_encode::{Encoding, add_copy};
 use std::alloc::Global;
-
-/// The literal of the variable that is so much higher.
-fn raise(l: Lit, by: u32) -> Lit
-    requires { by + l.variable < VARIABLE_LIMIT }
-    ensures { result ≡ raised by l }
-{
-    Lit::new(Var(by + l.var().0), l.positive())
-}
-
-/// The literals of the variables that are so much higher.
-pub(crate) fn raise_all(alloc: Global, literals: &[Lit], by: u32) -> Result<Lits, NoMemory>
-    requires { HasRoom by literals.now }
-    ensures { IfOk result (λ all. all ≡ raised_all by literals.now) }
-{
-    let mut all = Lits::new(alloc);
-    'literals: for l in literals {
-        all.push(raise(*l, by))?;
-    }
-    Ok(all)
-}
-
-/// Puts clauses over the variables that are so much higher at the end.
-fn add_copy(alloc: Global, into: &mut Clauses, clauses: &[Lits], by: u32) -> Result<(), NoMemory>
-    requires { HasRooms by clauses.now }
-    ensures { OnOk result (into.new ≡ into.old ++ map (raised_all by) clauses.now) }
-{
-    'clauses: for clause in clauses {
-        into.push(raise_all(alloc, clause.slice(), by)?)?;
-    }
-    Ok(())
-}
 
 /// Puts the clauses of so many copies at the end.
 pub(crate) fn add_copies(

@@ -2,12 +2,12 @@
 ghost use Rattle.std.specs.Prelude.{◌≡◌, ◌+◌, ◌-◌, ◌<◌, ◌≤◌, ◌++◌, [], ◌∷◌, length, IfOk, OnOk};
 ghost use Rattle.std.specs.List.{flat_map, range_with_len};
 ghost use Rattle.bs_clause.specs.Literal.{IsVariable};
-ghost use Rattle.bs_unroll.specs.Unrolled.{link, links, links_of};
+ghost use Rattle.bs_encode.specs.Copy.{link, links};
+ghost use Rattle.bs_unroll.specs.Unrolled.{links_of};
 ghost use Rattle.bs_unroll.specs.Room.{IsUnrollable};
 
-use crate::copies::raise_all;
 use bs_clause::{Clauses, Lit, Lits, NoMemory, Var};
-use bs_encode::Encoding;
+use bs_encode::{Encoding, raise_all};
 use std::alloc::Global;
 
 /// A clause of two literals.

@@ -4,11 +4,11 @@ ghost use Rattle.bs_encode.specs.Assuming.{signed};
 ghost use Rattle.bs_unroll.specs.Unrolled.{next_at, unrolled};
 ghost use Rattle.bs_unroll.specs.Room.{IsUnrollable};
 
-use crate::copies::{add_copies, raise_all};
+use crate::copies::add_copies;
 use crate::links::add_all_links;
 use bs_bits::Bits;
 use bs_clause::{Clauses, Lit, Lits, NoMemory};
-use bs_encode::{Encoding, push_signed};
+use bs_encode::{Encoding, push_signed, raise_all};
 use std::alloc::Global;
 
 /// Puts a unit of each literal at the end.

@@ -1,15 +1,12 @@
+use Rattle.std.proofs.lemmas.Bool.{ne_eqb}
+use Rattle.bs_scan.specs.Choice.{depth_of}
 use Rattle.bs_scan.specs.Crash.{crash_of, recording_of}
 use Rattle.bs_audit.specs.Finding.{basis_for}
-use Rattle.bs_audit.proofs.WholeLemmas.{leaves_fit, parts_are}
+use Rattle.bs_audit.proofs.WholeLemmas.{format_fails}
 use Rattle.bs_audit.proofs.finding.failing_part.Goals as goal
 
-pub part_after-requires-clause-sound : goal.part_after-requires-clause-sound
-part_after-requires-clause-sound c =
-    leaves_fit (crash_of (recording_of c.args.net.now.raw c.args.choice.now c.args.runs.now) c.args.dump.now) c.args.report.now c.in_ok-walk.walk
-    c.requires.dump c.in_ok-walk.ensures
-
-pub returns : goal.returns
-returns c =
-    parts_are (crash_of (recording_of c.args.net.now.raw c.args.choice.now c.args.runs.now) c.args.dump.now)
+pub returns-then-branch : goal.returns-then-branch
+returns-then-branch c =
+    format_fails (crash_of (recording_of c.args.net.now.raw c.args.choice.now c.args.runs.now) c.args.dump.now)
     (basis_for (crash_of (recording_of c.args.net.now.raw c.args.choice.now c.args.runs.now) c.args.dump.now) c.args.report.now) c.args.report.now
-    c.in_ok-walk.walk c.part_after.result c.in_ok-walk.ensures c.part_after.ensures
+    (c.if-branch.true)

@@ -1,4 +1,4 @@
-use Rattle.std.proofs.Common.{◌≡◌, ◌∙◌, ℕ, List, ◌++◌, ap}
+use Rattle.std.proofs.Common.{◌∙◌, ℕ, List, ◌++◌, ap}
 use Rattle.std.specs.List.{flat_map, range_with_len}
 use Rattle.bs_clause.specs.Literal.{Clause}
 use Rattle.bs_net.specs.Netlist.{circuit}

@@ -17,6 +17,7 @@ returns c =
     let way = c.in_ok-way.ensures in
     let r : Report =
     record {
+      depth = dump.depth;
       budgets = budgets;
       steps = c.in_ok-way.way.steps;
       stop = c.in_ok-way.way.stop;
@@ -27,6 +28,7 @@ returns c =
     let of : IsReportOf (crash_of chip dump) budgets state r =
     record {
       ended = record { made = way.made; few = way.few; cause = way.stop };
+      depth = c.requires.dump.depth;
       asked = refl;
       trace = record {
         states = c.in_ok-states.ensures ∙ ap (trace_states dump.state) c.slice.ensures;

@@ -1,12 +1,18 @@
 use Rattle.std.proofs.Common.{refl}
+use Rattle.std.specs.Prelude.{option_map}
 use Rattle.bs_net.specs.Netlist.{circuit}
-use Rattle.bs_preimage.proofs.ListedLemmas.{readable_by, shown_by, solutions_by, accepted_by, made_step}
+use Rattle.bs_preimage.proofs.ListedLemmas.{readable_by, older_width, shown_by, solutions_by, accepted_by, made_step}
 use Rattle.bs_preimage.proofs.step.list_step.Goals as goal
 
 -- src/step.rt:109:15
 pub seek-requires-clause-readable : goal.seek-requires-clause-readable
 seek-requires-clause-readable c =
-    readable_by (circuit c.args.net.now) c.args.choice.now.items c.args.encoding.now c.requires.about.encoding c.encodings_are_tidy.ensures
+    readable_by (circuit c.args.net.now) c.args.choice.now c.args.encoding.now c.requires.about.encoding c.encodings_are_tidy.ensures
+
+pub seek-requires-clause-older : goal.seek-requires-clause-older
+seek-requires-clause-older c =
+    older_width (circuit c.args.net.now) c.args.choice.now c.args.encoding.now (option_map (λ bits. bits.now) c.args.asked.now.older)
+    c.requires.about.encoding c.encodings_are_tidy.ensures c.items-_items.ensures.sound.kept c.requires.alone c.requires.older
 
 -- src/step.rt:89:1
 pub returns-clause-ok : goal.returns-clause-ok
@@ -20,6 +26,7 @@ returns-clause-ok c =
       new = c.seek.new.solver;
       present = c.args.asked.now.present.now;
       stored = c.args.asked.now.stored.now;
+      older = option_map (λ bits. bits.now) c.args.asked.now.older;
       k = c.args.asked.now.k;
       b = c.args.asked.now.b;
       found = c.seek.new.found.items;
@@ -29,6 +36,9 @@ returns-clause-ok c =
       rest = c.requires.rest;
       state = c.requires.state;
       signature = c.requires.signature;
+      older_wide = c.requires.older;
+      alone = c.requires.alone;
+      kept = c.items-_items.ensures.sound.kept;
       sought = c.in_ok-end.ensures.ok;
       order = c.in_ok-cands.ensures;
       accepted = accepted_by c.seek.new.solver.book.problem c.seek.new.solver.book.history c.log-log.result.now c.log-log.ensures.lines

@@ -1,4 +1,4 @@
-use Rattle.std.proofs.Common.{◌≡◌, ◌≤◌, length, ap, sym, subst}
+use Rattle.std.proofs.Common.{◌≤◌, length, sym, subst}
 use Rattle.std.specs.Prelude.{IsPermutation}
 use Rattle.bs_arena.specs.Arena.{literals_at}
 use Rattle.bs_watch.specs.Scene.{IsWatchable}

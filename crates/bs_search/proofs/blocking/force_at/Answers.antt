@@ -1,6 +1,5 @@
-use Rattle.std.proofs.Common.{◌≡◌, ◌≤◌, ◌<◌, length, sym, subst, arith}
+use Rattle.std.proofs.Common.{arith}
 use Rattle.bs_arena.specs.Arena.{literals_at}
-use Rattle.bs_watch.proofs.Gets.{get_within}
 use Rattle.bs_search.proofs.Backs.{may_attach_back}
 use Rattle.bs_search.proofs.Blockings.{back_forced, first_is_open, levels_forced, places_forced, has_forced}
 use Rattle.bs_search.proofs.blocking.force_at.Goals as goal

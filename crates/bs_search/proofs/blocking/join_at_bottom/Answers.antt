@@ -1,4 +1,3 @@
-use Rattle.std.proofs.Common.{◌≡◌, ◌≤◌, ◌<◌, length, arith}
 use Rattle.bs_arena.specs.Arena.{literals_at}
 use Rattle.bs_search.proofs.Stocks.{may_attach_off}
 use Rattle.bs_search.proofs.Blockings.{emptied, has_emptied}

@@ -1,4 +1,4 @@
-use Rattle.std.proofs.Common.{◌≡◌, ◌≤◌, ◌<◌, length, sym, subst, arith}
+use Rattle.std.proofs.Common.{arith}
 use Rattle.bs_arena.specs.Arena.{literals_at}
 use Rattle.bs_search.proofs.Blockings.{back_open, may_attach_opened, has_opened}
 use Rattle.bs_search.proofs.blocking.open_at.Goals as goal

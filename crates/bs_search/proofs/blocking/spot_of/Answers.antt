@@ -1,8 +1,7 @@
-use Rattle.std.proofs.Common.{◌≡◌, ◌≤◌, ◌<◌, length, inr, sym, subst, arith}
+use Rattle.std.proofs.Common.{inr, sym, subst}
 use Rattle.std.specs.Prelude.{Contains}
 use Rattle.bs_clause.proofs.Literals.{Contains-from_has}
 use Rattle.bs_arena.specs.Arena.{literals_at}
-use Rattle.bs_watch.specs.Trail.{IsFalseOn}
 use Rattle.bs_watch.specs.Places.{literals_of}
 use Rattle.bs_search.proofs.Blockings.{spot_from, second_lost}
 use Rattle.bs_search.proofs.blocking.spot_of.Goals as goal

@@ -1,4 +1,3 @@
-use Rattle.std.proofs.Common.{◌≡◌}
 use Rattle.bs_search.proofs.Layings.{assumed_one, one_is_true, assumed_none, assumed_value}
 use Rattle.bs_search.proofs.laying.assume_one.Goals as goal
 

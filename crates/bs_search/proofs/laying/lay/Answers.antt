@@ -1,4 +1,4 @@
-use Rattle.std.proofs.Common.{sym, subst, refl, length}
+use Rattle.std.proofs.Common.{subst, refl, length}
 use Rattle.std.proofs.lemmas.Option.{slice_get_read}
 use Rattle.bs_search.specs.Laying.{IsLaid}
 use Rattle.bs_search.proofs.Layings.{grown_trans, laid_next}

@@ -1,4 +1,3 @@
-use Rattle.std.proofs.Common.{arith}
 use Rattle.bs_search.proofs.Layings.{sole, laid_open, grown_refl, laid_value}
 use Rattle.bs_arena.specs.Arena.{literals_at}
 use Rattle.bs_search.proofs.laying.lay_one.Goals as goal

@@ -1,7 +1,6 @@
 use Rattle.std.proofs.Common.{◌≡◌, ◌<◌, map, length, ap, ◌∙◌, sym, arith}
 use Rattle.std.specs.Prelude.{slice_get}
 use Rattle.std.proofs.lemmas.List.{length-map}
-use Rattle.bs_clause.specs.Literal.{code_of}
 use Rattle.bs_arena.specs.Arena.{literal_of, literals_at}
 use Rattle.bs_watch.proofs.Codes.{read_code, literals_back}
 use Rattle.bs_search.proofs.reading.literal_in.Goals as goal

@@ -1,7 +1,7 @@
-use Rattle.std.proofs.Common.{◌≡◌, ◌<◌, ◌∷◌, ◌++◌, [], length, ap, sym, refl, ◌∙◌, arith, Some}
+use Rattle.std.proofs.Common.{◌≡◌, ◌<◌, length, ap, refl, ◌∙◌, arith, Some}
 use Rattle.std.specs.Prelude.{slice_get, slice_set}
 use Rattle.std.proofs.lemmas.Option.{slice_get_read}
-use Rattle.bs_search.proofs.Retirings.{put_last, put_inside}
+use Rattle.bs_search.proofs.Retirings.{put_inside}
 use Rattle.bs_search.proofs.retiring.put_in.Goals as goal
 
 pub returns : goal.returns

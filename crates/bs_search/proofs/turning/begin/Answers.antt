@@ -1,6 +1,4 @@
-use Rattle.std.proofs.Common.{◌≡◌, ◌≤◌, ◌∙◌, length, sym, subst, ap, drop}
-use Rattle.bs_clause.specs.Range.{HasVariables}
-use Rattle.bs_book.specs.Book.{standing}
+use Rattle.std.proofs.Common.{◌≤◌, length, sym, subst, drop}
 use Rattle.bs_search.specs.declared.laying.Start.TheVariants.{Denied, Clash, Laid}
 use Rattle.bs_search.specs.Stock.{entries}
 use Rattle.bs_search.specs.Laying.{AreShort, HasLaid}

@@ -1,5 +1,5 @@
 use Rattle.std.proofs.Common.{◌≡◌, ◌≤◌, false, length, None, refl, ap, ◌∙◌, sym, subst}
-use Rattle.bs_watch.specs.Places.{TrailState, IsUnassigned}
+use Rattle.bs_watch.specs.Places.{IsUnassigned}
 use Rattle.bs_watch.specs.Watch.{WatchState, Serves, decided, assigned}
 use Rattle.bs_search.proofs.Refutings.{all_assigned, level_room}
 use Rattle.bs_search.proofs.turning.decide.Goals as goal

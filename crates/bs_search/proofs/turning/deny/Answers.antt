@@ -1,16 +1,15 @@
-use Rattle.std.proofs.Common.{◌≡◌, ◌≤◌, ◌∙◌, length, sym, subst, arith, true, ap, map, reverse, ◌∷◌, []}
-use Rattle.std.specs.Prelude.{All, is_some}
-use Rattle.std.proofs.lemmas.List.Elements.{All-contains, All-cons, All-nil}
+use Rattle.std.proofs.Common.{◌≡◌, ◌∙◌, length, sym, subst, arith, true, ap, ◌∷◌, []}
+use Rattle.std.specs.Prelude.{is_some}
+use Rattle.std.proofs.lemmas.List.Elements.{All-cons, All-nil}
 use Rattle.bs_clause.specs.Literal.{negation}
-use Rattle.bs_clause.specs.Range.{HasVariables, IsWithin}
+use Rattle.bs_clause.specs.Range.{HasVariables}
 use Rattle.bs_arena.specs.Arena.{held_at}
 use Rattle.bs_log.specs.declared.origin.Origin.TheVariants.{Learnt as FromConflict}
-use Rattle.bs_book.specs.Book.{with_lemma}
-use Rattle.bs_book.specs.Walk.{IsLearnt as IsLoggedLearnt}
 use Rattle.bs_book.proofs.Searching.{have_variables}
 use Rattle.bs_search.specs.Stock.{entries, id_in}
 use Rattle.bs_search.specs.Ground.{HasStocked}
-use Rattle.bs_search.proofs.Beginnings.{IsUnitFor, denial_reason, denial_unit, denied_range, denied_by, denied_is_new, learnt_unit, denied_variable, denied_vars}
+use Rattle.bs_search.proofs.Beginnings.{denial_reason, denial_unit, denied_range}
+use Rattle.bs_search.proofs.Beginnings.{denied_by, denied_is_new, learnt_unit, denied_variable, denied_vars}
 use Rattle.bs_search.proofs.turning.deny.Goals as goal
 
 pub unit_of-unit-requires-clause-range : goal.unit_of-unit-requires-clause-range

@@ -1,13 +1,14 @@
-use Rattle.std.proofs.Common.{◌≡◌, ◌∙◌, reverse, map, length, ap, sym, subst}
+use Rattle.std.proofs.Common.{◌≡◌, ◌∙◌, reverse, map, ap, sym, subst}
 use Rattle.bs_clause.specs.Range.{HasVariables}
-use Rattle.bs_log.specs.Refusal.{has_distinct_variables}
+use Rattle.bs_log.specs.Refusal.{NoneRefused}
+use Rattle.bs_log.specs.Lean.{LemmasAreLean}
 use Rattle.bs_book.specs.Walk.{IsLearnt as IsLoggedLearnt}
 use Rattle.bs_book.specs.Book.{with_lemma}
 use Rattle.bs_book.proofs.Searching.{have_variables}
 use Rattle.bs_log.specs.declared.origin.Origin.TheVariants.{Learnt as FromConflict}
 use Rattle.bs_search.specs.Stock.{entries, id_in}
 use Rattle.bs_search.specs.Ground.{HasStocked, IsOff}
-use Rattle.bs_search.proofs.Teachings.{live_range, live_distinct, logged_learnt}
+use Rattle.bs_search.proofs.Teachings.{live_range, live_distinct, live_spared, logged_learnt}
 use Rattle.bs_search.proofs.Refutings.{gone_vars, lemma_off, last_learnt, last_is_new, ended_by}
 use Rattle.bs_search.proofs.turning.refute.Goals as goal
 
@@ -21,6 +22,13 @@ pub to_unforced-requires-clause-distinct : goal.to_unforced-requires-clause-dist
 to_unforced-requires-clause-distinct c =
     let s = c.requires.some.1 in
     live_distinct c.args.arena.now c.args.watch.now.lists c.args.stock.now (entries c.args.book.now) c.holds_clauses.ensures s.stocked s.distinct
+
+pub to_unforced-requires-clause-spared : goal.to_unforced-requires-clause-spared
+to_unforced-requires-clause-spared c =
+    let s = c.requires.some.1 in
+    live_spared c.args.arena.now c.args.book.now c.args.watch.now c.args.stock.now c.holds_clauses.ensures s.stocked s.some s.ground c.requires.own
+    (subst (NoneRefused c.args.book.now.problem) c.log.ensures.lines c.log.ensures.right)
+    (subst (LemmasAreLean c.args.book.now.problem) c.log.ensures.lines c.log.ensures.lean)
 
 pub add_clause-requires-clause-off : goal.add_clause-requires-clause-off
 add_clause-requires-clause-off c = λ two.

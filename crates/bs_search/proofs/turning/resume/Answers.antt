@@ -1,5 +1,4 @@
-use Rattle.std.proofs.Common.{◌≡◌, ◌∙◌, ◌<◌, ◌≤◌, length, ap, sym, subst, arith}
-use Rattle.bs_watch.specs.declared.visit.Outcome.TheVariants.{Quiet, Conflict}
+use Rattle.std.proofs.Common.{subst, arith}
 use Rattle.bs_search.specs.Searching.{HasPropagated}
 use Rattle.bs_search.proofs.Pausings.{quiet_resumes, conflict_resumes, conflict_ends}
 use Rattle.bs_book.proofs.Endings.{no_lemmas, some_and_last}

@@ -1,4 +1,4 @@
-use Rattle.std.proofs.Common.{◌≡◌, ◌∙◌, length, ap, sym, subst}
+use Rattle.std.proofs.Common.{◌∙◌, sym, subst}
 use Rattle.bs_clause.specs.Range.{HasVariables}
 use Rattle.bs_search.proofs.Pausings.{rests_at_nothing, waits_above}
 use Rattle.bs_search.proofs.turning.search.Goals as goal

@@ -1,9 +1,8 @@
-use Rattle.std.proofs.Common.{◌≡◌, ◌≤◌, ◌+◌, length, ap, ◌∙◌, sym, subst, arith}
+use Rattle.std.proofs.Common.{◌≤◌, ◌+◌, length, sym, subst, arith}
 use Rattle.bs_learn.specs.Marks.{IsClear}
 use Rattle.bs_book.specs.declared.answer.Answer.TheVariants.{Found, Refuted, Spent}
 use Rattle.bs_book.specs.Ending.{SomeLemmas}
 use Rattle.bs_book.proofs.Endings.{some_lemmas, some_and_last}
-use Rattle.bs_watch.specs.Watch.{Serves}
 use Rattle.bs_search.specs.Searching.{IsSomeTurn, IsOver}
 use Rattle.bs_search.proofs.Turns.{conflict_in, first_conflict_in, turn_decides, turn_learns}
 use Rattle.bs_search.proofs.Refutings.{over_found, over_spent, over_refuted, logged_after}

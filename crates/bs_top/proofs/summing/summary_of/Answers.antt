@@ -1,8 +1,6 @@
-use Rattle.std.proofs.Common.{refl, rules, subst, sym}
-use Rattle.bs_net.specs.Netlist.{circuit_of}
+use Rattle.std.proofs.Common.{refl, rules, subst}
 use Rattle.bs_scan.specs.declared.dump.Dump.{Dump}
-use Rattle.bs_scan.specs.Crash.{crash_of, DumpFits}
-use Rattle.bs_scan.proofs.CrashLemmas.{dump_at_fits}
+use Rattle.bs_scan.specs.Crash.{crash_of}
 use Rattle.bs_entry.specs.Entry.{recording_in}
 use Rattle.bs_entry.specs.Ready.{placed_in}
 use Rattle.bs_top.specs.Finishes.{demo_budgets, IsBacktrace}
@@ -11,10 +9,8 @@ use Rattle.bs_top.proofs.summing.summary_of.Goals as goal
 
 pub report_of-requires : goal.report_of-requires
 report_of-requires c =
-    let placed = placed_in c.args.placed.now in
     record {
-      dump = subst (DumpFits (circuit_of placed.setup.raw) placed.setup.choice) (sym c.in_ok-dump.ensures)
-          (dump_at_fits (recording_in placed.setup) placed.moment);
+      dump = c.in_ok-dump.ensures.fits;
       budgets = demo_budget;
     }
 
@@ -32,7 +28,7 @@ returns c =
     record {
       report = c.in_ok-report.report;
       backtrace = subst (λ (d : Dump). IsBacktrace
-          (crash_of (recording_in placed.setup) d) demo_budgets c.in_ok-report.report) c.in_ok-dump.ensures c.in_ok-report.ensures.backtrace;
+          (crash_of (recording_in placed.setup) d) demo_budgets c.in_ok-report.report) c.in_ok-dump.ensures.dump c.in_ok-report.ensures.backtrace;
       written = search rules;
       answered = refl;
     }

@@ -1,6 +1,6 @@
 use Rattle.std.proofs.Common.{◌≡◌, ◌++◌, rules}
-use Rattle.bs_unroll.specs.Unrolled.{link}
-use Rattle.bs_unroll.proofs.UnrollLemmas.{links_step}
+use Rattle.bs_encode.specs.Copy.{link}
+use Rattle.bs_encode.proofs.CopyLemmas.{links_step}
 use Rattle.bs_unroll.proofs.links.add_links.Goals as goal
 
 pub places-preserved : goal.places-preserved

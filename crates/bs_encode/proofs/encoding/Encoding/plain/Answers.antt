@@ -1,4 +1,4 @@
-use Rattle.std.proofs.Common.{◌≡◌, ◌+◌, ◌-◌, ◌≤◌, ◌<◌, ◌^◌, ◌∙◌, ℕ, List, [], ap, arith}
+use Rattle.std.proofs.Common.{◌≡◌, ◌-◌, ◌<◌, ◌^◌, ◌∙◌, ℕ, List, [], ap, arith}
 use Rattle.bs_clause.specs.Literal.{Literal, Clause}
 use Rattle.bs_net.specs.Circuit.{Circuit}
 use Rattle.bs_net.specs.Netlist.{circuit}

@@ -1,17 +1,13 @@
-use Rattle.std.proofs.Common.{◌≡◌, ◌+◌, ◌-◌, ◌∷◌, ◌++◌, [], List, ℕ, length, map, ap, ◌∙◌, sym, subst, refl, arith, true, false, None}
+use Rattle.std.proofs.Common.{◌≡◌, ◌-◌, ◌∷◌, ◌++◌, [], ap, ◌∙◌, sym, subst, refl, arith}
 use Rattle.std.specs.Prelude.{All}
 use Rattle.bs_clause.specs.Literal.{negation}
 use Rattle.bs_clause.specs.Range.{HasVariables}
-use Rattle.bs_log.specs.declared.line.Line.TheVariants.{Delete}
-use Rattle.bs_log.specs.History.{state_of}
-use Rattle.bs_log.specs.Refusal.{refusal}
 use Rattle.bs_book.specs.Book.{standing, without}
-use Rattle.bs_book.specs.Solver.{SolverState, leaving}
+use Rattle.bs_book.specs.Solver.{SolverState, leaving, retired}
 use Rattle.bs_book.proofs.Solving.{step_facts, ends_step, guard_is_new}
-use Rattle.bs_book.proofs.StepEnds.{leaving_is_right, ready_after_end}
+use Rattle.bs_book.proofs.StepEnds.{ready_after_end}
 use Rattle.bs_search.specs.Stock.{entries}
-use Rattle.bs_search.proofs.Entries.{clauses_in}
-use Rattle.bs_engine.specs.Dropping.{marked, without_ids, AreKnownIn}
+use Rattle.bs_engine.specs.Dropping.{without_ids, AreKnownIn}
 use Rattle.bs_engine.specs.Ending.{unit_of}
 use Rattle.bs_engine.proofs.Startings.{watch_vars, rested, step_solved, guard_range}
 use Rattle.bs_engine.proofs.Endings.{marked_unit}
@@ -30,17 +26,15 @@ finish-requires c =
     let inside : SolverState = record { book = c.self.inside.book; vars = c.self.inside.vars; stage = c.self.inside.stage; failed = c.self.inside.failed } in
     ends_step inside _ c.self.view_is c.self.invariant.whole.ready c.if-self.false c.args.end c.requires.end
 
-pub log_delete-requires : goal.log_delete-requires
-log_delete-requires c =
+pub log_end-requires-clause-leaving : goal.log_end-requires-clause-leaving
+log_end-requires-clause-leaving c =
     let inside : SolverState = record { book = c.self.inside.book; vars = c.self.inside.vars; stage = c.self.inside.stage; failed = c.self.inside.failed } in
     let facts = step_facts inside _ c.self.view_is c.self.invariant.whole.ready c.if-self.false c.requires.stage in
     let ids : c.in_ok-leaving.leaving.ids ≡ leaving c.finish.new.book =
-    noted_leave c.self.inside.book c.finish.new.book c.log_retire.new.self c.args.end c.self.inside.vars c.self.inside.own
-    (c.self.inside.vars - c.self.inside.own) c.new-guard.result c.in_ok-leaving.leaving.ids c.in_ok-finish.ensures.ok c.in_ok-log_retire.ensures.line
-    c.in_ok-log_retire.ensures.stands facts.0 (c.self.invariant.own_is c.if-self.false) refl c.in_ok-leaving.ensures.ids in
-    subst (λ (xs : List ℕ). refusal c.log_retire.new.self.problem (state_of c.log_retire.new.self.problem c.log_retire.new.self.history) (Delete xs) ≡ None)
-    (sym (c.slice.ensures ∙ ids))
-    (leaving_is_right c.finish.new.book c.log_retire.new.self c.in_ok-log_retire.ensures.line c.holds_ids.ensures)
+    noted_leave c.self.inside.book c.finish.new.book (retired c.finish.new.book) c.args.end c.self.inside.vars c.self.inside.own
+    (c.self.inside.vars - c.self.inside.own) c.new-guard.result c.in_ok-leaving.leaving.ids c.in_ok-finish.ensures.ok refl
+    c.holds_end.ensures facts.0 (c.self.invariant.own_is c.if-self.false) refl c.in_ok-leaving.ensures.ids in
+    c.slice.ensures ∙ ids
 
 pub prepare-requires-clause-free : goal.prepare-requires-clause-free
 prepare-requires-clause-free c =
@@ -76,22 +70,22 @@ invariant_of-self-2 c =
     let inside : SolverState = record { book = c.self.inside.book; vars = c.self.inside.vars; stage = c.self.inside.stage; failed = c.self.inside.failed } in
     let facts = step_facts inside _ c.self.view_is c.self.invariant.whole.ready c.if-self.false c.requires.stage in
     let ids : c.in_ok-leaving.leaving.ids ≡ leaving c.finish.new.book =
-    noted_leave c.self.inside.book c.finish.new.book c.log_retire.new.self c.args.end c.self.inside.vars c.self.inside.own
-    (c.self.inside.vars - c.self.inside.own) c.new-guard.result c.in_ok-leaving.leaving.ids c.in_ok-finish.ensures.ok c.in_ok-log_retire.ensures.line
-    c.in_ok-log_retire.ensures.stands facts.0 (c.self.invariant.own_is c.if-self.false) refl c.in_ok-leaving.ensures.ids in
-    let is_new : c.log_delete.new.self ≡ without c.log_retire.new.self c.in_ok-leaving.leaving.ids =
-    c.in_ok-log_delete.ensures.line ∙ ap (without c.log_retire.new.self) c.slice.ensures in
-    engine_ended inside c.finish.new.book c.log_retire.new.self c.log_delete.new.self c.args.end c.new-guard.result c.in_ok-leaving.leaving.ids
+    noted_leave c.self.inside.book c.finish.new.book (retired c.finish.new.book) c.args.end c.self.inside.vars c.self.inside.own
+    (c.self.inside.vars - c.self.inside.own) c.new-guard.result c.in_ok-leaving.leaving.ids c.in_ok-finish.ensures.ok refl
+    c.holds_end.ensures facts.0 (c.self.invariant.own_is c.if-self.false) refl c.in_ok-leaving.ensures.ids in
+    let is_new : c.log_end.new.self ≡ without (retired c.finish.new.book) c.in_ok-leaving.leaving.ids =
+    c.in_ok-log_end.ensures.lines ∙ ap (without (retired c.finish.new.book)) (sym ids) in
+    engine_ended inside c.finish.new.book (retired c.finish.new.book) c.log_end.new.self c.args.end c.new-guard.result c.in_ok-leaving.leaving.ids
     (c.self.inside.vars - c.self.inside.own) c.self.inside.watch c.rest.new.watch c.prepare.new.watch c.settle-self-inside.new.watch c.self.inside.arena
     c.prepare.new.arena.clauses c.settle-self-inside.new.arena c.self.inside.stock c.prepare.new.stock c.settle-self-inside.new.stock
     c.self.inside.marks c.self.inside.own c.self.inside.known c.settle-self-inside.result c.self.invariant c.if-self.false facts.0
     (step_solved inside _ c.self.view_is c.if-self.false c.requires.stage) c.rest.ensures.vars
     (rested inside c.self.inside.watch c.rest.new.watch c.self.inside.arena.clauses c.self.inside.stock c.self.inside.marks c.self.invariant.whole
-    c.if-self.false c.rest.ensures) c.in_ok-finish.ensures.ok c.in_ok-log_retire.ensures.line is_new c.in_ok-log_retire.ensures.stands
-    (c.in_ok-log_delete.ensures.stands ∙ ap (λ xs. without_ids xs (entries c.log_retire.new.self)) c.slice.ensures) refl
+    c.if-self.false c.rest.ensures) c.in_ok-finish.ensures.ok refl is_new c.holds_end.ensures
+    (c.in_ok-log_end.ensures.stands ∙ ap (λ xs. without_ids xs (entries (retired c.finish.new.book))) c.slice.ensures) refl
     c.in_ok-leaving.ensures.stocked c.in_ok-leaving.ensures.vars c.in_ok-leaving.ensures.ground c.in_ok-leaving.ensures.levels
     c.settle-self-inside.ensures.settled
     c.settle-self-inside.ensures.words
-    (ready_after_end inside c.finish.new.book c.log_retire.new.self c.log_delete.new.self c.args.end c.new-guard.result c.in_ok-leaving.leaving.ids
-    c.self.invariant.whole.ready c.if-self.false facts.0 facts.1 c.in_ok-finish.ensures.ok c.new-guard.ensures c.in_ok-log_retire.ensures.line
-    c.in_ok-log_retire.ensures.stands c.holds_ids.ensures ids is_new)
+    (ready_after_end inside c.finish.new.book (retired c.finish.new.book) c.log_end.new.self c.args.end c.new-guard.result c.in_ok-leaving.leaving.ids
+    c.self.invariant.whole.ready c.if-self.false facts.0 facts.1 c.in_ok-finish.ensures.ok c.new-guard.ensures refl
+    c.holds_end.ensures c.in_ok-log_end.ensures.order ids is_new)

@@ -4,14 +4,15 @@ use Rattle.bs_clause.specs.Literal.{Clause}
 use Rattle.bs_net.specs.Circuit.{Circuit}
 use Rattle.bs_net.specs.Netlist.{circuit}
 use Rattle.bs_scan.specs.Choice.{Chosen}
-use Rattle.bs_encode.specs.Encoded.{Encoded, encoding_of}
+use Rattle.bs_encode.specs.Encoded.{Encoded}
+use Rattle.bs_encode.specs.Depth.{encoding_by}
 use Rattle.bs_book.specs.Solver.{SolverState}
 use Rattle.bs_book.proofs.CallerLemmas.{axioms_stand}
 use Rattle.bs_preimage.specs.Rest.{IsPrepared, made}
 use Rattle.bs_preimage.proofs.preimage.Preimage.new.Goals as goal
 
 -- a solver that was just made is prepared
-made_prepared : (c : Circuit) (choice : Chosen) (e : Encoded) (s : SolverState) → choice.width ≡ length c.flops → e ≡ encoding_of c choice.items → s ≡ made e →
+made_prepared : (c : Circuit) (choice : Chosen) (e : Encoded) (s : SolverState) → choice.width ≡ length c.flops → e ≡ encoding_by c choice → s ≡ made e →
     IsPrepared c choice e s 0 false
 made_prepared c choice e s width encoded is = subst (λ x. IsPrepared c choice e x 0 false) (sym is) (record {
   about = record { width = width; encoding = encoded; vars = refl; clauses = refl };

@@ -1,7 +1,7 @@
-use Rattle.std.proofs.Common.{◌≡◌, ◌<◌, ◌∙◌, arith}
+use Rattle.std.proofs.Common.{arith}
 use Rattle.bs_net.specs.Netlist.{circuit}
 use Rattle.bs_encode.proofs.RoomLemmas.{few_variables, short_items}
-use Rattle.bs_encode.proofs.encoding.Encoding.new.Goals as goal
+use Rattle.bs_encode.proofs.encoding.one_copy.Goals as goal
 
 pub lay-requires-clause-few : goal.lay-requires-clause-few
 lay-requires-clause-few c = short_items c.args.choice.now.items c.items-items.ensures.sound.few_numbers

@@ -1,0 +1,136 @@
+//! The second copy, for the cycle before, and its link to the first.
+ghost use Rattle.std.specs.Prelude.{◌≡◌, ◌++◌, [], length, IfOk, OnOk, None, Some};
+ghost use Rattle.bs_clause.specs.Literal.{IsVariable};
+ghost use Rattle.bs_clause.specs.Range.{HasVariables};
+ghost use Rattle.bs_encode.specs.Assuming.{signed};
+ghost use Rattle.bs_encode.specs.Copy.{raised_all, link, links, under};
+ghost use Rattle.bs_encode.specs.Depth.{IsLinkable, link_of, older_clauses};
+
+use crate::copies::{add_copy, raise_all};
+use crate::encoding::Encoding;
+use crate::signs::push_signed;
+use crate::table::add_triple;
+use bs_bits::Bits;
+use bs_clause::{Clauses, Lit, Lits, NoMemory, Var};
+use std::alloc::Global;
+
+/// Puts the clauses that under a literal two variables have the same value at the end.
+fn add_link(alloc: Global, into: &mut Clauses, l: Lit, n: Var, s: Var) -> Result<(), NoMemory>
+    requires next { IsVariable n.0 }
+    requires state { IsVariable s.0 }
+    ensures { OnOk result (into.new ≡ into.old ++ under l (link n.0 s.0)) }
+{
+    let off = l.negate();
+    add_triple(alloc, into, off, Lit::new(n, false), Lit::new(s, true))?;
+    add_triple(alloc, into, off, Lit::new(n, true), Lit::new(s, false))
+}
+
+/// Puts the links of two lists of literals under a literal at the end.
+fn add_links(
+    alloc: Global,
+    into: &mut Clauses,
+    l: Lit,
+    next: &[Lit],
+    states: &[Lit],
+) -> Result<(), NoMemory>
+    requires { length next.now ≡ length states.now }
+    ensures { OnOk result (into.new ≡ into.old ++ under l (links next.now states.now)) }
+{
+    'places: for i in 0..next.len() {
+        add_link(alloc, into, l, next[i].var(), states[i].var())?;
+    }
+    Ok(())
+}
+
+/// The literals of the variables of the second copy.
+fn raise_copy(alloc: Global, one: &Encoding, literals: &[Lit]) -> Result<Lits, NoMemory>
+    requires linkable { IsLinkable one.now }
+    requires range { HasVariables one.now.variables literals.now }
+    ensures { IfOk result (λ all. all ≡ raised_all one.now.variables literals.now) }
+{
+    let all = raise_all(alloc, literals, one.vars())?;
+    Ok(all)
+}
+
+/// The link of a second copy and its literals, and those of the first that are true at reset; no link and none where there is
+/// one copy.
+#[derive(Drop)]
+pub(crate) struct Older {
+    pub(crate) link: Option<Lit>,
+    pub(crate) states: Lits,
+    pub(crate) inputs: Lits,
+    pub(crate) signatures: Lits,
+    pub(crate) at_reset: Lits,
+}
+
+/// There is no second copy.
+pub(crate) fn no_older(alloc: Global) -> Older
+    ensures link { result.link ≡ None }
+    ensures states { result.states ≡ [] }
+    ensures inputs { result.inputs ≡ [] }
+    ensures signatures { result.signatures ≡ [] }
+    ensures at_reset { result.at_reset ≡ [] }
+{
+    Older {
+        link: None,
+        states: Lits::new(alloc),
+        inputs: Lits::new(alloc),
+        signatures: Lits::new(alloc),
+        at_reset: Lits::new(alloc),
+    }
+}
+
+/// The literal that links the copies.
+fn link_lit(one: &Encoding) -> Lit
+    requires { IsLinkable one.now }
+    ensures { result ≡ link_of one.now }
+{
+    Lit::new(Var(2 * one.vars() + 1), true)
+}
+
+/// The link and the literals of a second copy.
+pub(crate) fn older_literals(alloc: Global, one: &Encoding, reset: &Bits) -> Result<Older, NoMemory>
+    requires linkable { IsLinkable one.now }
+    requires width { length one.now.states ≡ length reset.now }
+    ensures link { IfOk result (λ o. o.link ≡ Some (link_of one.now)) }
+    ensures states { IfOk result (λ o. o.states ≡ raised_all one.now.variables one.now.states) }
+    ensures inputs { IfOk result (λ o. o.inputs ≡ raised_all one.now.variables one.now.inputs) }
+    ensures signatures { IfOk result (λ o. o.signatures ≡ raised_all one.now.variables one.now.signatures) }
+    ensures at_reset { IfOk result (λ o. o.at_reset ≡ signed one.now.states reset.now) }
+{
+    let link = Some(link_lit(one));
+    let states = raise_copy(alloc, one, one.states())?;
+    let inputs = raise_copy(alloc, one, one.inputs())?;
+    let signatures = raise_copy(alloc, one, one.signatures())?;
+    let mut at_reset = Lits::new(alloc);
+    push_signed(&mut at_reset, one.states(), reset)?;
+    Ok(Older {
+        link,
+        states,
+        inputs,
+        signatures,
+        at_reset,
+    })
+}
+
+/// The clauses of the second copy, and of its link to the first.
+pub(crate) fn older_clauses(alloc: Global, one: &Encoding) -> Result<Clauses, NoMemory>
+    requires { IsLinkable one.now }
+    ensures { IfOk result (λ all. all ≡ older_clauses one.now) }
+{
+    let next = raise_copy(alloc, one, one.next())?;
+    let mut all = Clauses::new(alloc);
+    add_copy(alloc, &mut all, one.clauses().slice(), one.vars())?;
+    add_links(alloc, &mut all, link_lit(one), next.slice(), one.states())?;
+    Ok(all)
+}
+
+/// Puts the clauses at the end of others.
+pub(crate) fn append(into: &mut Clauses, more: Clauses) -> Result<(), NoMemory>
+    ensures { OnOk result (into.new ≡ into.old ++ more) }
+{
+    'clauses: for clause in more.into_vec() {
+        into.push(clause)?;
+    }
+    Ok(())
+}
