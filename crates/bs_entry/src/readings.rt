@@ -55,7 +55,7 @@ fn asks_two(bytes: &[u8]) -> bool
     ensures { result ≡ keeps_two (lines_of bytes.now) }
 {
     match next_line(bytes) {
-        Some((line, _)) => line == b"cycles 2",
+        Some((line, _)) => line == b"cycles 2".as_slice(),
         None => false,
     }
 }
