@@ -1,35 +1,34 @@
 -- The stock after clauses have gone, and after they have moved.
-use Rattle.std.proofs.Common.{◌≡◌, ◌≢◌, ℕ, zero, suc, ◌+◌, ◌-◌, ◌<◌, ◌≤◌, arith, Bool, true}
-use Rattle.std.proofs.Common.{false, not, ◌&&◌, ◌||◌, cond, List, [], ◌∷◌, ◌++◌, map, length, take}
-use Rattle.std.proofs.Common.{refl, sym, ap, subst, ◌∙◌, inl, inr, ◌⊎◌, Option, Some, None, eqb, get_or}
-use Rattle.std.specs.Prelude.{All, AllPairs, Contains, slice_get, is_some, option_map, unwrap_or, count_by, IsPermutation}
+use Rattle.std.proofs.Common.{◌≡◌, ℕ, zero, suc, ◌<◌, ◌≤◌, arith, Bool, true}
+use Rattle.std.proofs.Common.{false, not, ◌||◌, cond, List, [], ◌∷◌, map, length, take}
+use Rattle.std.proofs.Common.{refl, sym, ap, subst, ◌∙◌, inl, inr, Option, Some, None, eqb, get_or}
+use Rattle.std.specs.Prelude.{AllPairs, Contains, slice_get, is_some, option_map, unwrap_or, IsPermutation}
 use Rattle.std.specs.List.{filter, list_any}
 use Rattle.std.proofs.lemmas.Bool.{cases_Bool, cases_lt, cases_eq, false≢true, true≢false, eqb-true, eq-eqb, ne_eqb}
-use Rattle.std.proofs.lemmas.List.{take-map, length-map}
 use Rattle.std.proofs.lemmas.List.Elements.{All-contains}
 use Rattle.std.proofs.lemmas.List.Sorted.{IsPermutation-refl}
 use Rattle.std.proofs.lemmas.Option.{get_or_from_slice_get}
-use Rattle.bs_clause.specs.Literal.{Literal, Clause, code_of}
+use Rattle.bs_clause.specs.Literal.{Literal, code_of}
 use Rattle.bs_log.specs.History.{Entry}
 use Rattle.bs_log.specs.Refusal.{entry_of, is_lemma_or_block}
 use Rattle.bs_arena.specs.Arena.{Held, held_at, literals_at, meaning}
 use Rattle.bs_arena.specs.Renaming.{new_name, IsRenaming}
 use Rattle.bs_watch.specs.declared.lists.Watcher.{Watcher}
 use Rattle.bs_watch.specs.Places.{Place, TrailState, renamed_place}
-use Rattle.bs_watch.specs.Lists.{row, IsIn, IsAttached, renamed, renamed_lists}
+use Rattle.bs_watch.specs.Lists.{row, IsAttached, renamed, renamed_lists}
 use Rattle.bs_watch.specs.Watch.{WatchState, Serves, renamed_watch}
 use Rattle.bs_watch.specs.Sweep.{HasSwept}
 use Rattle.bs_keep.specs.declared.row.Row.{Row}
 use Rattle.bs_keep.specs.Keeping.{AreHeld, Ascends, renamed_ref, renamed_row}
-use Rattle.bs_keep.specs.Notes.{IsNoted, GoBy, HasKilled, AreOut}
+use Rattle.bs_keep.specs.Notes.{GoBy, HasKilled, AreOut}
 use Rattle.bs_keep.specs.Rows.{IsRowOf, AreRowsOf, AreRowsAmong}
 use Rattle.bs_keep.proofs.Removals.{killed_still, first_stay}
 use Rattle.bs_book.proofs.Lists.{none_is_not_some, same_some, get_from_Contains, Contains_from_get, get_map, get_map_cases, get_take, get_within}
 use Rattle.bs_book.proofs.Clauses.{nothing_in, contains_first, cons_contains, contains_cases, filter_cases, filter_from, map_cases, map_contains, all_from}
-use Rattle.bs_book.proofs.Entries.{found_stands, found_id}
+use Rattle.bs_book.proofs.Entries.{found_id}
 use Rattle.bs_search.specs.declared.stock.Stock.{Stock}
-use Rattle.bs_search.specs.Stock.{is_live, id_in, IsClauseOf, IsStocked}
-use Rattle.bs_search.proofs.Entries.{id_of, live_id, id_is_live, rows_permuted}
+use Rattle.bs_search.specs.Stock.{is_live, id_in, IsStocked}
+use Rattle.bs_search.proofs.Entries.{id_of, id_is_live, rows_permuted}
 use Rattle.bs_search.proofs.Teachings.{held_self}
 use Rattle.bs_search.specs.Ground.{IsGround}
 use Rattle.bs_engine.specs.Dropping.{AreStaying, without_ids, marked, HasDropped, HasCompacted}

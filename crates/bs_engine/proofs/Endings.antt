@@ -1,11 +1,11 @@
 -- The end of a step.
-use Rattle.std.proofs.Common.{◌≡◌, ℕ, zero, suc, ◌+◌, ◌-◌, ◌*◌, ◌<◌, ◌≤◌, arith, Bool, true, false}
+use Rattle.std.proofs.Common.{◌≡◌, ℕ, suc, ◌≤◌, arith, Bool, true, false}
 use Rattle.std.proofs.Common.{not, cond, List, [], ◌∷◌, ◌++◌, map, length, take, refl, sym, ap, subst}
-use Rattle.std.proofs.Common.{◌∙◌, inl, inr, ◌⊎◌, Option, Some, None, eqb}
-use Rattle.std.specs.Prelude.{All, Contains, slice_get, count_by}
+use Rattle.std.proofs.Common.{◌∙◌, inl, inr, Some, None, eqb}
+use Rattle.std.specs.Prelude.{All, Contains, count_by}
 use Rattle.std.specs.List.{filter, list_any}
 use Rattle.std.proofs.lemmas.Bool.{cases_Bool, false≢true, eq-eqb, ne_eqb}
-use Rattle.std.proofs.lemmas.List.{append-nil, take_all}
+use Rattle.std.proofs.lemmas.List.{append-nil}
 use Rattle.std.proofs.lemmas.List.Elements.{All-contains, filter-append}
 use Rattle.std.proofs.lemmas.List.Sorted.{All-permutation}
 use Rattle.bs_clause.specs.Literal.{Literal, negation}
@@ -13,14 +13,14 @@ use Rattle.bs_clause.specs.Range.{HasVariables, IsWithin}
 use Rattle.bs_log.specs.declared.origin.Origin.{Origin}
 use Rattle.bs_log.specs.declared.origin.Origin.TheVariants.{Axiom, Learnt, Blocked as FromBlock, Retired}
 use Rattle.bs_log.specs.Kept.{is_kept}
-use Rattle.bs_log.specs.History.{Problem, Entry}
+use Rattle.bs_log.specs.History.{Entry}
 use Rattle.bs_log.specs.Refusal.{is_lemma_or_block, entry_of}
 use Rattle.bs_arena.specs.Arena.{Held, literals_at}
 use Rattle.bs_watch.specs.Watch.{WatchState, Serves}
 use Rattle.bs_keep.specs.declared.row.Row.{Row}
 use Rattle.bs_keep.specs.declared.selection.Leaving.{Leaving}
 use Rattle.bs_keep.specs.Keeping.{Ascends, AreKnown, goes, is_long_row}
-use Rattle.bs_keep.specs.Notes.{IsNoted, GoBy}
+use Rattle.bs_keep.specs.Notes.{IsNoted}
 use Rattle.bs_keep.specs.Rows.{AreInOrder, AreRowsOf, AreRowsAmong, going}
 use Rattle.bs_keep.proofs.Deletions.{leaving_ids}
 use Rattle.bs_book.specs.Book.{Book, next_id}
@@ -37,7 +37,7 @@ use Rattle.bs_engine.proofs.Droppings.{any_cases}
 use Rattle.bs_search.specs.Teaching.{IsAtRest}
 use Rattle.bs_search.proofs.Entries.{clauses_in, id_of, id_is_live}
 use Rattle.bs_engine.specs.declared.dropping.Known.{Known}
-use Rattle.bs_engine.specs.Dropping.{without_ids, marked, is_free, is_free_long, AreKnownIn, AreStaying, HasDropped, HasCompacted}
+use Rattle.bs_engine.specs.Dropping.{without_ids, marked, AreKnownIn, AreStaying, HasDropped, HasCompacted}
 use Rattle.bs_engine.specs.Ending.{unit_of, HasPrepared, HasSettled}
 use Rattle.bs_engine.proofs.Knowns.{known_rows, rows_ascend, length_rows, counted_front, counted_rows}
 

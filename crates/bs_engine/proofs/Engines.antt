@@ -1,8 +1,8 @@
 -- A solver with what it knows of its lemmas, from one call to the next.
-use Rattle.std.proofs.Common.{◌≡◌, ℕ, zero, suc, ◌+◌, ◌-◌, ◌*◌, ◌<◌, ◌≤◌, ◌^◌, arith, Bool}
+use Rattle.std.proofs.Common.{◌≡◌, ℕ, ◌+◌, ◌-◌, ◌*◌, ◌<◌, ◌≤◌, ◌^◌, arith, Bool}
 use Rattle.std.proofs.Common.{true, false, not, ◌&&◌, ◌||◌, List, [], ◌∷◌, ◌++◌, map, length, take}
 use Rattle.std.proofs.Common.{refl, sym, ap, subst, ◌∙◌, inl, inr, ◌⊎◌, Option, Some, None}
-use Rattle.std.specs.Prelude.{All, Contains, slice_get, count_by}
+use Rattle.std.specs.Prelude.{All, Contains, count_by}
 use Rattle.std.specs.List.{filter, list_any, AllByRecursion}
 use Rattle.std.proofs.lemmas.Bool.{true≢false, false≢true, and_parts}
 use Rattle.std.proofs.lemmas.List.{append-nil, append_assoc, take_all, map-append}
@@ -20,21 +20,20 @@ use Rattle.bs_log.specs.Lean.{is_block, LeavesKept, StepsLeaveKept}
 use Rattle.bs_log.specs.Steps.{is_lemma_line}
 use Rattle.bs_log.proofs.Laws.{step_of-positive}
 use Rattle.bs_arena.specs.Arena.{Content, Held, live_words}
-use Rattle.bs_watch.specs.Watch.{WatchState, Serves}
+use Rattle.bs_watch.specs.Watch.{WatchState}
 use Rattle.bs_learn.specs.Marks.{MarkState, IsClear}
-use Rattle.bs_watch.specs.declared.watch.Level.{Level}
 use Rattle.bs_watch.specs.declared.lists.Watcher.{Watcher}
 use Rattle.bs_watch.specs.Trail.{IsOpenOn}
 use Rattle.bs_watch.specs.Places.{Place, IsUnassigned, literals_of}
 use Rattle.bs_keep.specs.Keeping.{over}
 use Rattle.bs_keep.specs.Rows.{going}
 use Rattle.bs_book.specs.declared.stage.Stage.{Stage}
-use Rattle.bs_book.specs.declared.stage.Stage.TheVariants.{Idle, Begun, Solved, Blocked, Ended, Stopped}
+use Rattle.bs_book.specs.declared.stage.Stage.TheVariants.{Idle, Begun}
 use Rattle.bs_book.specs.declared.answer.Answer.{Answer}
 use Rattle.bs_book.specs.declared.answer.Answer.TheVariants.{Found, Refuted, Spent}
-use Rattle.bs_book.specs.Book.{Book, standing, with_line, without}
+use Rattle.bs_book.specs.Book.{Book, standing, without}
 use Rattle.bs_book.specs.Ending.{SomeLemmas}
-use Rattle.bs_book.specs.Stages.{is_begun, is_solved, stage_of, begun_book, IsIdle, IsInside, Fits}
+use Rattle.bs_book.specs.Stages.{is_solved, stage_of, begun_book, IsIdle, IsInside, Fits}
 use Rattle.bs_book.specs.Solver.{SolverState, IsReady, finished, retired, leaving}
 use Rattle.bs_book.proofs.Lists.{get_from_Contains, get_map_cases, get_within}
 use Rattle.bs_book.proofs.Clauses.{nothing_in, contains_cases, contains_first, all_from, filter_cases, filter_from, map_contains}
@@ -47,8 +46,8 @@ use Rattle.bs_search.proofs.Grounds.{ground_literal}
 use Rattle.bs_search.proofs.Entries.{clauses_in}
 use Rattle.bs_engine.specs.declared.dropping.Known.{Known}
 use Rattle.bs_engine.specs.Dropping.{marked, without_ids, is_free, is_free_long, AreKnownIn}
-use Rattle.bs_engine.specs.Ending.{unit_of, HasPrepared, HasSettled}
-use Rattle.bs_engine.specs.Starting.{new_variables, IsLeftAt, IsWhole, IsEngine}
+use Rattle.bs_engine.specs.Ending.{unit_of, HasSettled}
+use Rattle.bs_engine.specs.Starting.{IsWhole, IsEngine}
 use Rattle.bs_engine.proofs.Startings.{begun_entries, finished_entries, watch_vars, whole_begun, failed_whole}
 use Rattle.bs_engine.proofs.Knowns.{known_grows, known_with_guard}
 

@@ -1,14 +1,13 @@
 -- What is known of the lemmas, by rows and by entries.
-use Rattle.std.proofs.Common.{◌≡◌, ℕ, zero, suc, ◌+◌, ◌-◌, ◌<◌, ◌≤◌, arith, Bool, true, false, not, ◌&&◌, ◌||◌, cond, List, [], ◌∷◌, ◌++◌, map, length, take}
-use Rattle.std.proofs.Common.{refl, sym, ap, subst, ◌∙◌, inl, inr, ◌⊎◌, Option, Some, None, eqb, ltb, leb}
-use Rattle.std.specs.Prelude.{All, Contains, slice_get, count_by, IsPermutation}
-use Rattle.std.specs.List.{filter, list_any}
+use Rattle.std.proofs.Common.{◌≡◌, ℕ, zero, suc, ◌+◌, ◌≤◌, arith, Bool, true, not, ◌&&◌, ◌||◌, cond, List, [], ◌∷◌, ◌++◌, length, take}
+use Rattle.std.proofs.Common.{refl, sym, ap, subst, ◌∙◌, inl, inr, Some, ltb, leb}
+use Rattle.std.specs.Prelude.{All, Contains, slice_get, count_by}
 use Rattle.std.proofs.lemmas.Bool.{le-leb}
 use Rattle.std.proofs.lemmas.List.{take_all, take-append-le, length-append}
 use Rattle.std.proofs.lemmas.List.Elements.{All-contains, filter-append}
 use Rattle.std.proofs.lemmas.List.Sums.{sum_by-cons}
 use Rattle.std.proofs.lemmas.List.Sorted.{list_any-IsPermutation, length_permutation}
-use Rattle.bs_clause.specs.Literal.{Literal, Clause}
+use Rattle.bs_clause.specs.Literal.{Literal}
 use Rattle.bs_clause.specs.Range.{HasVariables, IsWithin}
 use Rattle.bs_log.specs.History.{Entry}
 use Rattle.bs_log.specs.Refusal.{is_lemma, is_lemma_or_block}
@@ -20,8 +19,8 @@ use Rattle.bs_keep.specs.Rows.{IsRowOf, AreRowsOf, AreInOrder}
 use Rattle.bs_keep.proofs.Rules.{lemma_back}
 use Rattle.bs_keep.proofs.Deletions.{chain_of, chain_filter}
 use Rattle.bs_book.proofs.Entries.{order_of}
-use Rattle.bs_book.proofs.Lists.{none_is_not_some, same_some, get_from_Contains}
-use Rattle.bs_book.proofs.Clauses.{contains_first, cons_contains, contains_cases, nothing_in, filter_cases, all_from, map_contains}
+use Rattle.bs_book.proofs.Lists.{none_is_not_some, same_some}
+use Rattle.bs_book.proofs.Clauses.{contains_first, cons_contains, contains_cases, nothing_in, all_from}
 use Rattle.bs_engine.specs.Dropping.{marked, is_free, is_free_long, AreKnownIn}
 
 -- ---- a row and its entry pass alike

@@ -1,8 +1,8 @@
 -- A solver from one call to the next, over its watch and its arena.
 use Rattle.std.proofs.Common.{◌≡◌, ℕ, zero, suc, ◌+◌, ◌<◌, ◌≤◌, ◌^◌, arith, Bool, true, false}
 use Rattle.std.proofs.Common.{cond, List, [], ◌∷◌, ◌++◌, length, take, refl, sym, ap, subst, ◌∙◌, inl}
-use Rattle.std.proofs.Common.{inr, ◌⊎◌, Option, Some, None}
-use Rattle.std.specs.Prelude.{All, Contains, slice_get, is_some, option_map}
+use Rattle.std.proofs.Common.{inr, Option, Some, None}
+use Rattle.std.specs.Prelude.{All, slice_get, is_some}
 use Rattle.std.specs.List.{filter}
 use Rattle.std.proofs.lemmas.Bool.{false≢true, ne_eqb}
 use Rattle.std.proofs.lemmas.List.{length-take-le}
@@ -11,7 +11,7 @@ use Rattle.bs_clause.specs.Literal.{Literal, Clause, negation}
 use Rattle.bs_arena.specs.Arena.{Held, held_at, literals_at, live_words}
 use Rattle.bs_watch.specs.declared.lists.Watcher.{Watcher}
 use Rattle.bs_watch.specs.Places.{Place, TrailState}
-use Rattle.bs_watch.specs.Lists.{row, IsIn, IsAttached}
+use Rattle.bs_watch.specs.Lists.{IsIn, IsAttached}
 use Rattle.bs_watch.specs.Watch.{WatchState, Serves, KeepsService, grown}
 use Rattle.bs_watch.proofs.Advancing.{shuffled_refl}
 use Rattle.bs_watch.proofs.Grown.{grown_row}

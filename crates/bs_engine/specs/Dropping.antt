@@ -8,9 +8,8 @@ use Rattle.bs_arena.specs.Arena.{Held, held_at}
 use Rattle.bs_watch.specs.Places.{Place}
 use Rattle.bs_watch.specs.Watch.{WatchState, Serves}
 use Rattle.bs_keep.specs.Keeping.{over}
-use Rattle.bs_book.specs.Book.{Book}
 use Rattle.bs_search.specs.declared.stock.Stock.{Stock}
-use Rattle.bs_search.specs.Stock.{entries, id_in, IsStocked}
+use Rattle.bs_search.specs.Stock.{id_in, IsStocked}
 use Rattle.bs_search.specs.Ground.{IsGround}
 
 -- the entries without those of some ids

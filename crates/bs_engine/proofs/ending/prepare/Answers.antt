@@ -1,4 +1,4 @@
-use Rattle.std.proofs.Common.{◌≡◌, ◌≤◌, ◌++◌, ◌∷◌, [], length, take, ◌∙◌, sym, subst}
+use Rattle.std.proofs.Common.{◌≡◌, ◌≤◌, ◌++◌, ◌∷◌, [], length, take, sym, subst}
 use Rattle.std.specs.List.{filter}
 use Rattle.bs_keep.specs.Keeping.{Ascends, AreKnown, goes}
 use Rattle.bs_keep.specs.Notes.{IsNoted}

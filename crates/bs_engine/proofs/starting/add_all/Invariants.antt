@@ -1,4 +1,4 @@
-use Rattle.std.proofs.Common.{◌≡◌, [], take}
+use Rattle.std.proofs.Common.{◌≡◌, take}
 use Rattle.bs_log.specs.History.{axioms_from}
 use Rattle.bs_arena.specs.Arena.{live_words}
 use Rattle.bs_watch.specs.Watch.{Serves}

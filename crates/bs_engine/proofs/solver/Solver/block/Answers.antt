@@ -1,11 +1,10 @@
-use Rattle.std.proofs.Common.{◌≡◌, ◌∷◌, [], length, ap, ◌∙◌, sym, subst, refl, arith, true, false}
+use Rattle.std.proofs.Common.{◌≡◌, ◌∷◌, [], ap, ◌∙◌, sym, subst, refl, arith, false}
 use Rattle.std.specs.Prelude.{All}
 use Rattle.bs_log.specs.Refusal.{has_distinct_variables, is_block_of}
 use Rattle.bs_log.specs.History.{step_of}
 use Rattle.bs_log.specs.LineForms.{HasVariable}
 use Rattle.bs_clause.specs.Range.{HasVariables}
 use Rattle.bs_book.specs.declared.stage.Stage.TheVariants.{Blocked}
-use Rattle.bs_book.specs.Stages.{is_solved}
 use Rattle.bs_book.specs.Solver.{SolverState}
 use Rattle.bs_book.proofs.Solving.{solved_inside, guard_is_new, block_distinct, block_fits, block_range, ready_blocked, has_blocked}
 use Rattle.bs_book.proofs.Searching.{have_variables}

@@ -1,4 +1,4 @@
-use Rattle.std.proofs.Common.{◌≡◌, ◌+◌, ◌-◌, ◌∷◌, ◌++◌, [], List, ℕ, length, map, ap, ◌∙◌, sym, subst, refl, arith}
+use Rattle.std.proofs.Common.{◌≡◌, ◌-◌, ◌∷◌, ◌++◌, [], ap, ◌∙◌, sym, subst, refl, arith}
 use Rattle.std.specs.Prelude.{All}
 use Rattle.bs_clause.specs.Literal.{negation}
 use Rattle.bs_clause.specs.Range.{HasVariables}
@@ -7,8 +7,7 @@ use Rattle.bs_book.specs.Solver.{SolverState, leaving, retired}
 use Rattle.bs_book.proofs.Solving.{step_facts, ends_step, guard_is_new}
 use Rattle.bs_book.proofs.StepEnds.{ready_after_end}
 use Rattle.bs_search.specs.Stock.{entries}
-use Rattle.bs_search.proofs.Entries.{clauses_in}
-use Rattle.bs_engine.specs.Dropping.{marked, without_ids, AreKnownIn}
+use Rattle.bs_engine.specs.Dropping.{without_ids, AreKnownIn}
 use Rattle.bs_engine.specs.Ending.{unit_of}
 use Rattle.bs_engine.proofs.Startings.{watch_vars, rested, step_solved, guard_range}
 use Rattle.bs_engine.proofs.Endings.{marked_unit}

@@ -2,7 +2,6 @@ use Rattle.std.proofs.Common.{◌≡◌, ◌<◌, ◌+◌, ◌^◌, ◌∙◌, t
 use Rattle.std.specs.Prelude.{All}
 use Rattle.bs_clause.specs.Range.{HasVariables}
 use Rattle.bs_log.specs.Refusal.{has_distinct_variables}
-use Rattle.bs_book.specs.Book.{standing}
 use Rattle.bs_book.specs.Stages.{is_begun}
 use Rattle.bs_book.specs.Solver.{SolverState, MaySolve, Follows}
 use Rattle.bs_book.proofs.Solving.{follows_lemmas}
