@@ -6,3 +6,4 @@ pub mod LookLemmas
 pub mod InputLemmas
 pub mod StepLemmas
 pub mod TrackLemmas
+pub mod IndexLemmas

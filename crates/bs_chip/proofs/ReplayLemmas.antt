@@ -10,6 +10,7 @@ use Rattle.bs_scan.specs.Moments.{Run, moment, run_of, state_of, state_at}
 use Rattle.bs_scan.specs.Signature.{stored_at}
 use Rattle.bs_scan.specs.Register.{Register, clocked}
 use Rattle.bs_scan.proofs.ChainLemmas.{parts}
+use Rattle.bs_scan.proofs.SignatureLemmas.{stored_after}
 use Rattle.bs_chip.specs.Replay.{Played, in_state}
 
 -- ---- cycles
@@ -44,7 +45,7 @@ played_more p net runs old new x run cycle same here e f =
 pub register_more : (c : Circuit) (choice : Chosen) (run : Run) (k : ℕ) (r : Register) (s : List Bool) →
     r ≡ record { choice = choice; stored = stored_at c choice run k } → s ≡ state_at c run k →
     clocked r s ≡ record { choice = choice; stored = stored_at c choice run (k + 1) }
-register_more c choice run k r s e f = rw (e, f, add-one) refl
+register_more c choice run k r s e f = rw (e, f, add-one) (λ i. record { choice = choice; stored = sym (stored_after c choice run k) i })
 
 -- ---- shifts
 

@@ -1,15 +1,21 @@
 -- The track of planes, one cycle on.
-use Rattle.std.proofs.Common.{◌≡◌, ℕ, suc, zero, ◌<◌, ◌≤◌, ◌+◌, ◌-◌, ◌*◌, Bool, List, [], ◌∷◌, ◌++◌, length, get_or, refl, arith, sym, subst, ◌∙◌, ◌⊎◌, inl, inr, ⊎_elim, max, length-append}
+use Rattle.std.proofs.Common.{◌≡◌, ℕ, suc, zero, ◌<◌, ◌≤◌, ◌+◌, ◌-◌, ◌*◌, Bool, List, [], ◌∷◌, ◌++◌, length, take, get_or, refl, arith}
+use Rattle.std.proofs.Common.{ap, sym, subst, ◌∙◌, ◌⊎◌, inl, inr, ⊎_elim, max, length-append}
 use Rattle.std.specs.Prelude.{Result, Ok, Err, IfOk}
 use Rattle.std.proofs.lemmas.Bool.{cases_eq, cases_lt}
+use Rattle.std.proofs.lemmas.List.{take_all}
 use Rattle.bs_net.specs.Circuit.{Circuit}
 use Rattle.bs_stim.specs.declared.limits.TheConstants.{MAX_CYCLES}
-use Rattle.bs_scan.specs.Choice.{Chosen}
+use Rattle.bs_scan.specs.Choice.{Chosen, depth_of}
 use Rattle.bs_scan.specs.Crash.{Recording, IsRecording}
 use Rattle.bs_scan.specs.Moments.{Run, moment, run_of, state_at}
 use Rattle.bs_scan.specs.Register.{Register, cleared, clocked}
-use Rattle.bs_scan.specs.Signature.{stored_at}
-use Rattle.bs_chip.specs.Lockstep.{IsChip, Passing, ShowsCycle, TrackShows, Extends, IsFirstIn, IsLongest, IsLowest, NoneAmong, NoneBefore, NoneReached}
+use Rattle.bs_scan.specs.Signature.{signature, signatures_before, stored_at}
+use Rattle.bs_scan.proofs.CrashLemmas.{few_before}
+use Rattle.bs_chip.specs.declared.index.Index.{Index}
+use Rattle.bs_chip.specs.Chip.{IsChip}
+use Rattle.bs_chip.proofs.IndexLemmas.{cycles_none}
+use Rattle.bs_chip.specs.Lockstep.{Passing, ShowsCycle, TrackShows, Extends, IsFirstIn, IsLongest, IsLowest, NoneAmong, NoneBefore, NoneReached}
 
 pub ok_weaker : {A E : Type 0} (P Q : A → Type 0) (r : Result A E) → ((a : A) → P a → Q a) → IfOk r P → IfOk r Q
 ok_weaker P Q (Ok a) f h = f a h
@@ -93,23 +99,65 @@ behind_all c runs states at most le longest none =
 
 -- ---- the register
 
-pub stored_first : (c : Circuit) (choice : Chosen) (run : Run) (cycle : ℕ) (r old : Register) → cycle ≡ 0 → r ≡ cleared old → choice ≡ old.choice →
-    r ≡ record { choice = choice; stored = stored_at c choice run cycle }
-stored_first c choice run cycle r old e f g = f ∙ (rw (e, g) refl)
+abbrev filled : Circuit → Chosen → Run → ℕ → ℕ → Register
+filled c choice run count k = record { choice = choice; stored = signatures_before c choice run count k }
 
-pub stored_more : (c : Circuit) (choice : Chosen) (run : Run) (cycle : ℕ) (r mid old : Register) (s : List Bool) → 0 < cycle → mid ≡ cleared old →
-    choice ≡ old.choice → s ≡ state_at c run (cycle - 1) → r ≡ clocked mid s → r ≡ record { choice = choice; stored = stored_at c choice run cycle }
-stored_more c choice run zero r mid old s lt e f g h = absurd (omega (arith, lt))
-stored_more c choice run (suc k) r mid old s lt e f g h =
-    let back : suc k - 1 ≡ k = omega arith in
-    h ∙ (rw (e, f, g, back) refl)
+-- a register that is cleared has been clocked from no cycle
+pub filled_none : (c : Circuit) (run : Run) (k : ℕ) (r old : Register) → r ≡ cleared old → r ≡ filled c old.choice run (k - k) k
+filled_none c run k r old e =
+    let none : 0 ≡ k - k = omega arith in
+    let P : ℕ → Type 0 = λ n. r ≡ filled c old.choice run n k in
+    subst P none e
+
+-- it is clocked once more, as long as it keeps what it has
+pub filled_more : (c : Circuit) (choice : Chosen) (run : Run) (first k : ℕ) (r next : Register) (s : List Bool) → first ≤ k →
+    k + 1 - first ≤ depth_of choice → r ≡ filled c choice run (k - first) k → s ≡ state_at c run k → next ≡ clocked r s →
+    next ≡ filled c choice run (k + 1 - first) (k + 1)
+filled_more c choice run first k r next s le fits e f g =
+    let t : List (List Bool) = signatures_before c choice run (k - first) k in
+    let few : length t ≤ k - first = few_before c choice run (k - first) k in
+    let all : take (depth_of choice) (signature choice (state_at c run k) ∷ t) ≡ signature choice (state_at c run k) ∷ t =
+    sym (take_all (depth_of choice) (signature choice (state_at c run k) ∷ t) (omega (arith, few, fits, le))) in
+    let count : suc (k - first) ≡ k + 1 - first = omega (arith, le) in
+    let later : suc k ≡ k + 1 = omega arith in
+    let put : clocked r s ≡ record { choice = choice; stored = signature choice (state_at c run k) ∷ t } =
+    (λ i. clocked (e i) (f i)) ∙ (λ i. record { choice = choice; stored = all i }) in
+    g ∙ (put ∙ (λ i. filled c choice run (count i) (later i)))
+
+-- all cycles, where it keeps more signatures than there are
+from_reset : (c : Circuit) (choice : Chosen) (run : Run) (n k : ℕ) → k ≤ n → signatures_before c choice run k k ≡ signatures_before c choice run n k
+from_reset c choice run zero zero h = refl
+from_reset c choice run (suc n) zero h = refl
+from_reset c choice run zero (suc k) h = absurd (omega (arith, h))
+from_reset c choice run (suc n) (suc k) h = ap (λ (l : List (List Bool)). signature choice (state_at c run k) ∷ l) (from_reset c choice run n k (omega (arith, h)))
+
+-- it has been clocked from as many cycles before as it keeps signatures, or from reset
+pub filled_all : (c : Circuit) (choice : Chosen) (run : Run) (first cycle k : ℕ) (r : Register) → first ≡ cycle - depth_of choice → k ≡ cycle →
+    r ≡ filled c choice run (k - first) k → r ≡ record { choice = choice; stored = stored_at c choice run cycle }
+filled_all c choice run first cycle k r e same f =
+    f ∙ (λ i. record { choice = choice; stored = held i })
+  where
+    here : (P : ℕ → ℕ → Type 0) → P (cycle - (cycle - depth_of choice)) cycle → P (k - first) k
+    here P p = subst (λ (n : ℕ). P (n - first) n) (sym same) (subst (λ (n : ℕ). P (cycle - n) cycle) (sym e) p)
+
+    by : (cycle < depth_of choice) ⊎ (depth_of choice ≤ cycle) →
+        signatures_before c choice run (cycle - (cycle - depth_of choice)) cycle ≡ stored_at c choice run cycle
+    by (inl less) =
+        let whole : cycle - (cycle - depth_of choice) ≡ cycle = omega (arith, less) in
+        ap (λ (n : ℕ). signatures_before c choice run n cycle) whole ∙ from_reset c choice run (depth_of choice) cycle (omega (arith, less))
+    by (inr le) =
+        let depth : cycle - (cycle - depth_of choice) ≡ depth_of choice = omega (arith, le) in
+        ap (λ (n : ℕ). signatures_before c choice run n cycle) depth
+
+    held : signatures_before c choice run (k - first) k ≡ stored_at c choice run cycle
+    held = here (λ n m. signatures_before c choice run n m ≡ stored_at c choice run cycle) (by (cases_lt cycle (depth_of choice)))
 
 -- ---- a chip
 
 -- a new chip stands at reset and keeps that cycle
-pub new_chip : (made : Recording) (p : Passing) (kept : List ℕ) (track : List (List ℕ)) → IsRecording made → p.circuit ≡ made.circuit →
-    p.runs ≡ made.runs → p.cycle ≡ 0 → ShowsCycle p.circuit p.runs kept p.cycle → track ≡ kept ∷ [] → IsChip made p track
-new_chip made p kept track recording e f g shows t =
+pub new_chip : (made : Recording) (p : Passing) (kept : List ℕ) (track : List (List ℕ)) (index : Index) → IsRecording made → p.circuit ≡ made.circuit →
+    p.runs ≡ made.runs → p.cycle ≡ 0 → ShowsCycle p.circuit p.runs kept p.cycle → track ≡ kept ∷ [] → index.cycles ≡ 0 → IsChip made p track index
+new_chip made p kept track index recording e f g shows t none =
     let P : Circuit → Type 0 = λ c. ShowsCycle c p.runs kept p.cycle in
     let Q : List Run → Type 0 = λ runs. ShowsCycle made.circuit runs kept p.cycle in
     let R : ℕ → Type 0 = λ n. ShowsCycle made.circuit made.runs kept n in
@@ -118,4 +166,6 @@ new_chip made p kept track recording e f g shows t =
       circuit = e;
       runs = f;
       shows = first_shows made.circuit made.runs kept track (subst R g (subst Q f (subst P e shows))) t;
+      within = omega (arith, none);
+      notes = cycles_none made.circuit made.runs index.first index.cycles none;
     }

@@ -5,3 +5,6 @@ pub mod Replay
 pub mod Live
 pub mod Lockstep
 pub mod Inputs
+pub mod Prints
+pub mod Index
+pub mod Chip

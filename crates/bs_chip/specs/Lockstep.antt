@@ -107,10 +107,3 @@ pub record ShowsPass (p : Passing) (lanes : LaneTable) : Type 0 where
   pub net : circuit lanes.net ≡ p.circuit
   pub wide : lanes.wide ≡ wide_of (length p.runs)
   pub shows : ShowsCycle p.circuit p.runs lanes.flops p.cycle
-
--- what a chip keeps: a recording, a pass over its runs, and the planes of the first cycles
-pub record IsChip (r : Recording) (p : Passing) (track : List (List ℕ)) : Type 0 where
-  pub recording : IsRecording r
-  pub circuit : p.circuit ≡ r.circuit
-  pub runs : p.runs ≡ r.runs
-  pub shows : TrackShows r.circuit r.runs track

@@ -26,7 +26,7 @@ pub fn wide_for(runs: &Runs) -> usize
 }
 
 /// A bit of a word.
-fn bit_of(words: &[u64], at: usize, low: usize) -> bool
+pub fn bit_of(words: &[u64], at: usize, low: usize) -> bool
     requires word { at < length words.now }
     requires low { low < 64 }
     ensures { result ≡ bit_in words.now (at * 64 + low) }

@@ -33,7 +33,7 @@ impl<'a> Model for Live<'a> {
 }
 
 /// How many cycles a run has.
-fn cycles_of(runs: &Runs, run: u32) -> u32
+pub fn cycles_of(runs: &Runs, run: u32) -> u32
     requires from_one { 1 ≤ run }
     requires there { run ≤ length runs.now.runs }
     ensures count { result ≡ length (run_of (inputs_of runs.now) run) }

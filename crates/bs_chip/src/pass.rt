@@ -1,14 +1,16 @@
 //! All runs in lock step: the lanes at one cycle, and at the next.
-ghost use Rattle.std.specs.Prelude.{◌≡◌, ◌<◌, ◌≤◌, ◌*◌, ◌+◌, length, min, IfOk, MatchOption};
+ghost use Rattle.std.specs.Prelude.{◌≡◌, ◌<◌, ◌≤◌, ◌*◌, ◌+◌, length, min, IfOk, MatchOption, OnOk};
 ghost use Rattle.bs_net.specs.Netlist.{circuit};
 ghost use Rattle.bs_scan.specs.Crash.{Recording};
 ghost use Rattle.bs_stim.specs.Runs.{inputs_of};
+ghost use Rattle.bs_chip.specs.Index.{Keeps, NotesCycle};
 ghost use Rattle.bs_chip.specs.Lockstep.{IsLongest, IsLowest, NoneAmong, ShowsCycle, ShowsPass};
 
 use crate::inputs::put_inputs;
 use crate::lanes::wide_for;
 use crate::live::{Live, longest};
 use crate::looking::lowest_run;
+use crate::notes::note_lanes;
 use bs_bits::NoMemory;
 use bs_break::Bank;
 use bs_lanes::Lanes;
@@ -16,6 +18,7 @@ use bs_net::Netlist;
 use bs_scan::HasState;
 use bs_stim::{MAX_CYCLES, Runs};
 use std::alloc::Global;
+use std::collections::HashMap;
 use std::marker::Model;
 
 /// All runs of a netlist, which stand at one cycle. Contracts see the machine, the runs and the cycle.
@@ -100,6 +103,30 @@ impl<'a> Pass<'a> {
     {
         let _planes = self.lanes.flops();
         &self.lanes
+    }
+
+    /// How many looks at a cycle cost about as much as noting one does.
+    pub fn price(&self, width: usize) -> u64 {
+        (width as u64 / 8)
+            .saturating_add(2)
+            .saturating_mul(u64::from(self.runs.count()))
+    }
+
+    /// Notes the prints of the states that planes show at a cycle.
+    pub fn note(
+        &self,
+        first: &mut HashMap<u64, u32>,
+        planes: &[u64],
+        width: usize,
+        cycle: u32,
+    ) -> Result<(), NoMemory>
+        requires few { cycle ≤ MAX_CYCLES }
+        requires width { width ≡ length self.now.circuit.flops }
+        requires shows { ShowsCycle self.now.circuit self.now.runs planes.now cycle }
+        ensures keeps { Keeps first.old first.new }
+        ensures notes { OnOk result (NotesCycle self.now.circuit self.now.runs first.new cycle) }
+    {
+        note_lanes(first, self.runs, planes, width, cycle)
     }
 
     /// Goes to a cycle that planes show.

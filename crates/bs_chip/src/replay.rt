@@ -5,9 +5,10 @@ ghost use Rattle.bs_scan.specs.Crash.{dump_at, recording_of, IsRecording};
 ghost use Rattle.bs_scan.specs.Moments.{first_moment as first_moment_of, moment, run_of, state_of, IsMoment};
 ghost use Rattle.bs_scan.specs.Signature.{stored_at};
 ghost use Rattle.bs_chip.specs.Lockstep.{TrackShows};
-ghost use Rattle.bs_chip.specs.Replay.{in_state};
+ghost use Rattle.bs_chip.specs.Replay.{dump_holding, in_state};
 ghost use Rattle.bs_chip.specs.Stepped.{StandsAt};
 
+use crate::index::{Index, grow, start};
 use crate::moments::{replay, unload};
 use crate::pass::Pass;
 use crate::player::Player;
@@ -34,7 +35,8 @@ pub const MAX_TRACK_BYTES: usize = 536_870_912;
 
 /// A chip that replays recorded runs. It steps all runs in lock step and keeps the flip-flops' planes of each cycle, so
 /// that a cycle is stepped once and looked at many times; cycles beyond its bound are stepped again. Contracts see the
-/// recording, and the cycle at which the lanes stand.
+/// recording, and the cycle at which the lanes stand. An index of the states at the first of these cycles says where a look
+/// may begin. It is made as fast as looks at cycles pay for it.
 #[derive(Drop)]
 pub struct Chip<'a> {
     player: Player<'a>,
@@ -42,17 +44,19 @@ pub struct Chip<'a> {
     pass: Pass<'a>,
     track: List<List<u64>>,
     most: usize,
+    index: Index,
+    credit: u64,
 }
 
 impl<'a> Model for Chip<'a> {
-    ghost use Rattle.bs_chip.specs.Lockstep.{IsChip};
+    ghost use Rattle.bs_chip.specs.Chip.{IsChip};
     ghost use Rattle.bs_chip.specs.Stepped.{Stepped};
 
     ghost Value = { Stepped };
 
     ghost view = { λ chip. record { recording = record { circuit = chip.player.circuit; choice = chip.register.choice; runs = chip.player.runs }; at = chip.pass.cycle } };
 
-    ghost invariant = { λ chip. IsChip (record { circuit = chip.player.circuit; choice = chip.register.choice; runs = chip.player.runs }) chip.pass chip.track };
+    ghost invariant = { λ chip. IsChip (record { circuit = chip.player.circuit; choice = chip.register.choice; runs = chip.player.runs }) chip.pass chip.track chip.index };
 }
 
 /// Brings a player and a register to a moment: out of the track, or else by a replay of the run from reset.
@@ -75,16 +79,29 @@ fn bring(
     }
 }
 
+/// A copy of a signature that is held, if one is.
+fn copy_of(held: Option<&Bits>) -> Result<Option<Bits>, NoMemory>
+    ensures { IfOk result (λ copy. copy ≡ option_map (λ bits. bits.now) held.entry) }
+{
+    match held {
+        Some(bits) => Ok(Some(bits.copy()?)),
+        None => Ok(None),
+    }
+}
+
 /// The dump of a state and of what a register holds, the state unloaded through the scan chain.
 fn dump_of(alloc: Global, state: &Bits, register: &SigReg<'_>) -> Result<Dump, NoMemory>
-    ensures { IfOk result (λ dump. dump ≡ record { state = state.now; stored = slice_get register.now.stored 0 }) }
+    ensures { IfOk result (λ dump. dump ≡ dump_holding register.now state.now) }
 {
     let state = unload(alloc, state.copy()?)?;
-    let stored = match register.stored() {
-        Some(bits) => Some(bits.copy()?),
-        None => None,
-    };
-    Ok(Dump { state, stored })
+    let stored = copy_of(register.stored())?;
+    let older = copy_of(register.older())?;
+    Ok(Dump {
+        state,
+        stored,
+        older,
+        depth: register.depth(),
+    })
 }
 
 /// How many cycles may be kept of so many words each.
@@ -121,6 +138,7 @@ impl<'a> Chip<'a> {
         ensures { IfOk result (λ chip. chip.recording ≡ recording_of net.now.raw choice.now runs.now) }
     {
         let _order = net.order();
+        let _depth = choice.depth();
         let _count = runs.count();
         let player = Player::new(alloc, net, runs)?;
         let pass = Pass::new(alloc, net, runs)?;
@@ -133,6 +151,8 @@ impl<'a> Chip<'a> {
             pass,
             track,
             most,
+            index: Index::new(alloc),
+            credit: 0,
         })
     }
 
@@ -185,8 +205,12 @@ impl<'a> Chip<'a> {
         ensures stands { IfOk result (λ found. IfSome found (λ moment. self.new.at ≡ moment.cycle)) }
         ensures kept { self.new.recording ≡ self.old.recording }
     {
-        let bank = Bank::load(alloc, list, self.player.width())?;
-        first_moment(alloc, &mut self.pass, &bank, &mut self.track, self.most)
+        let width = self.player.width();
+        grow(&mut self.index, &self.pass, &self.track, width, &mut self.credit)?;
+        let from = start(&self.index, list);
+        self.credit = self.credit.saturating_add((self.track.len() - from) as u64);
+        let bank = Bank::load(alloc, list, width)?;
+        first_moment(alloc, &mut self.pass, &bank, &mut self.track, self.most, from)
     }
 
     /// The chip's lanes. Each run that lasts to the cycle at which they stand is in its state there: after a `first` that

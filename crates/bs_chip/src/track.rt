@@ -1,5 +1,5 @@
 //! The track: the flip-flops' planes of the first cycles, which are stepped once and looked at many times.
-ghost use Rattle.std.specs.Prelude.{◌≡◌, ◌<◌, ◌+◌, ◌∷◌, [], length, IfOk, IfSome, MatchOption};
+ghost use Rattle.std.specs.Prelude.{◌≡◌, ◌<◌, ◌≤◌, ◌+◌, ◌∷◌, [], length, IfOk, IfSome, MatchOption};
 ghost use Rattle.bs_scan.specs.Moments.{IsMoment, first_moment as first_moment_of, run_of, state_of};
 ghost use Rattle.bs_scan.specs.Signature.{stored_at};
 ghost use Rattle.bs_chip.specs.Lockstep.{Extends, IsFirstIn, IsSamePass, NoneBefore, NoneReached, TrackShows};
@@ -39,19 +39,22 @@ fn keep(
     track.push(copy)
 }
 
-/// The first moment of the cycles of a track that is in a listed state.
+/// The first moment of the cycles of a track that is in a listed state, where none is before a cycle.
 fn first_tracked<S: HasState>(
     pass: &mut Pass<'_>,
     bank: &Bank<'_, S>,
     track: &List<List<u64>>,
+    from: usize,
 ) -> Option<Moment>
+    requires within { from ≤ length track.now }
+    requires none { NoneBefore pass.old.circuit pass.old.runs bank.now.states from }
     requires width { bank.now.width ≡ length pass.old.circuit.flops }
     requires shows { TrackShows pass.old.circuit pass.old.runs track.now }
     ensures kept { pass.new ≡ pass.old }
     ensures first { MatchOption result (NoneBefore pass.old.circuit pass.old.runs bank.now.states (length track.now)) (IsFirstIn pass.old.circuit pass.old.runs bank.now.states) }
     ensures tracked { IfSome result (λ moment. moment.cycle < length track.now) }
 {
-    'cycles: for at in 0..track.len() {
+    'cycles: for at in from..track.len() {
         let cycle = at as u32;
         if let Some(run) = pass.lowest_in(bank, track.get(at).slice(), cycle) {
             return Some(Moment { run, cycle });
@@ -92,15 +95,18 @@ fn first_behind<S: HasState>(
     Ok(None)
 }
 
-/// The first moment that is in a listed state, at whose cycle the runs stand then. The track grows by the cycles that are
-/// stepped, up to so many.
+/// The first moment that is in a listed state, where none is before a cycle. The runs stand at its cycle then. The track
+/// grows by the cycles that are stepped, up to so many.
 pub fn first_moment<S: HasState>(
     alloc: Global,
     pass: &mut Pass<'_>,
     bank: &Bank<'_, S>,
     track: &mut List<List<u64>>,
     most: usize,
+    from: usize,
 ) -> Result<Option<Moment>, NoMemory>
+    requires within { from ≤ length track.old }
+    requires none { NoneBefore pass.old.circuit pass.old.runs bank.now.states from }
     requires width { bank.now.width ≡ length pass.old.circuit.flops }
     requires shows { TrackShows pass.old.circuit pass.old.runs track.old }
     ensures same { IsSamePass pass.old pass.new }
@@ -109,7 +115,7 @@ pub fn first_moment<S: HasState>(
     ensures found { IfOk result (λ found. IfSome found (IsMoment pass.old.runs)) }
     ensures stands { IfOk result (λ found. IfSome found (λ moment. pass.new.cycle ≡ moment.cycle)) }
 {
-    match first_tracked(pass, bank, track) {
+    match first_tracked(pass, bank, track, from) {
         Some(moment) => {
             pass.load(track.get(moment.cycle as usize).slice(), moment.cycle);
             Ok(Some(moment))
@@ -118,7 +124,8 @@ pub fn first_moment<S: HasState>(
     }
 }
 
-/// Brings a register to what it holds at a moment of a track.
+/// Brings a register to what it holds at a moment of a track: it is clocked from as many cycles before as it keeps
+/// signatures.
 fn recall_register(
     player: &mut Player<'_>,
     register: &mut SigReg<'_>,
@@ -133,8 +140,9 @@ fn recall_register(
     ensures stored { register.new ≡ record { choice = register.old.choice; stored = stored_at player.old.circuit register.old.choice (run_of player.old.runs moment.run) moment.cycle } }
 {
     register.clear();
-    if moment.cycle > 0 {
-        player.enter(track.get(moment.cycle as usize - 1).slice(), moment.run);
+    let first = moment.cycle.saturating_sub(u32::from(register.depth()));
+    'cycles: for cycle in first..moment.cycle {
+        player.enter(track.get(cycle as usize).slice(), moment.run);
         register.clock(player.state());
     }
 }

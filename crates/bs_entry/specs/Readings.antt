@@ -4,11 +4,13 @@ use Rattle.bs_bits.specs.Lines.{lines_of}
 use Rattle.bs_net.specs.Circuit.{reset_state}
 use Rattle.bs_net.specs.Netlist.{circuit_of}
 use Rattle.bs_net.specs.Parts.{Parts}
-use Rattle.bs_scan.specs.Choice.{Chosen}
-use Rattle.bs_scan.specs.ChoiceText.{choice_of}
+use Rattle.bs_scan.specs.Choice.{Chosen, depth_of}
+use Rattle.bs_scan.specs.ChoiceText.{choice_of, keeps_two}
 use Rattle.bs_scan.specs.DumpText.{dump_of}
 use Rattle.bs_scan.specs.Moments.{Moment, moment}
 use Rattle.bs_scan.specs.declared.dump.Dump.{Dump}
+use Rattle.bs_scan.specs.declared.fault.ChoiceFault.{ChoiceFault}
+use Rattle.bs_scan.specs.declared.fault.ChoiceFault.TheVariants.{Line}
 use Rattle.bs_stim.specs.Runs.{Stimulus, run_at}
 use Rattle.bs_stim.specs.StimulusText.{stimulus_of}
 use Rattle.bs_net.specs.Decided.{passes}
@@ -32,9 +34,13 @@ checked_of (Err reason) = Err reason
 abbrev pub netlist_in : List ℕ → Result Parts (Reason Parts)
 netlist_in bytes = checked_of (with_reason netlist_text_reason (netlist_text bytes))
 
--- the items of a signature, by the keys of a netlist's flip-flops
+-- what the lines of a signature file say: two cycles are not taken
+abbrev pub choice_in : Parts → List (List ℕ) → Result Chosen ChoiceFault
+choice_in raw texts = if keeps_two texts then Err (Line 1) else choice_of raw texts
+
+-- what a signature is taken of, by the keys of a netlist's flip-flops
 abbrev pub signature_in : Parts → List ℕ → Result Chosen (Reason Parts)
-signature_in raw bytes = with_reason signature_reason (choice_of raw (lines_of bytes))
+signature_in raw bytes = with_reason signature_reason (choice_in raw (lines_of bytes))
 
 -- the runs of a stimulus, with so many bits in an input line
 abbrev pub stimulus_in : ℕ → List ℕ → Result Stimulus (Reason Parts)
@@ -43,7 +49,7 @@ stimulus_in width bytes = with_reason stimulus_reason (stimulus_of width (lines_
 -- a dump of a netlist and of what its signatures are taken of
 abbrev pub dump_in : Parts → Chosen → List ℕ → Result Dump (Reason Parts)
 dump_in raw choice bytes =
-    with_reason dump_reason (dump_of (reset_state (circuit_of raw)) (length choice.items) (lines_of bytes))
+    with_reason dump_reason (dump_of (reset_state (circuit_of raw)) (depth_of choice) (length choice.items) (lines_of bytes))
 
 -- whether the runs have the moment: a run from 1, and a cycle from 0 to the run's number of cycles
 abbrev pub has_moment : Stimulus → ℕ → ℕ → Bool

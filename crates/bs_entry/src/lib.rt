@@ -8,6 +8,7 @@ mod refusals;
 mod walks;
 
 pub use limits::MAX_WAVE_VALUES;
+pub use readings::read_choice;
 pub use ready::{Claimed, Crashed, FileNames, Placed, Setup};
 pub use refusals::worded;
 pub use walks::{take_claimed, take_crashed, take_drawn, take_netlist, take_placed};

@@ -1,16 +1,19 @@
 //! What a reader makes of the bytes of a file, with the words of its refusal.
 ghost use Rattle.std.specs.Prelude.{◌≡◌, ◌≤◌, length, true, IfOk};
 ghost use Rattle.std.specs.Bool.{OnTrue};
+ghost use Rattle.bs_bits.specs.Lines.{lines_of};
+ghost use Rattle.bs_bits.specs.Reading.{Answers};
 ghost use Rattle.bs_net.specs.Netlist.{parts_of, circuit};
 ghost use Rattle.bs_job.specs.declared.limits.TheConstants.{MAX_NETLIST_BYTES, MAX_REPORT_BYTES, MAX_SIGNATURE_BYTES, MAX_STIMULUS_BYTES};
 ghost use Rattle.bs_stim.specs.declared.limits.TheConstants.{MAX_CYCLES, MAX_RUNS};
 ghost use Rattle.bs_stim.specs.Runs.{inputs_of, run_at};
 ghost use Rattle.bs_report.specs.declared.limits.TheConstants.{MAX_STEPS};
 ghost use Rattle.bs_scan.specs.Crash.{DumpFits};
+ghost use Rattle.bs_scan.specs.ChoiceText.{keeps_two};
 ghost use Rattle.bs_scan.specs.Moments.{IsMoment};
 ghost use Rattle.bs_job.specs.Walks.{Reads};
 ghost use Rattle.bs_entry.specs.Entry.{input_width};
-ghost use Rattle.bs_entry.specs.Readings.{checked_in, dump_in, has_moment, is_drawable, moment_in, netlist_in, report_read, signature_in, size_in, stimulus_in};
+ghost use Rattle.bs_entry.specs.Readings.{checked_in, choice_in, dump_in, has_moment, is_drawable, moment_in, netlist_in, report_read, signature_in, size_in, stimulus_in};
 ghost use Rattle.bs_entry.specs.Refusals.{CheckSays};
 
 use crate::limits::MAX_WAVE_VALUES;
@@ -18,10 +21,11 @@ use crate::refusals::{
     check_refusal, dump_refusal, netlist_text_refusal, range_refusal, report_refusal,
     signature_refusal, stimulus_refusal, too_large_refusal,
 };
+use bs_bits::next_line;
 use bs_job::Refusal;
 use bs_net::{Netlist, Raw};
 use bs_report::Report;
-use bs_scan::{Choice, Dump, Moment};
+use bs_scan::{Choice, ChoiceFault, Dump, Moment};
 use bs_stim::Runs;
 use std::alloc::Global;
 
@@ -46,13 +50,34 @@ fn check_netlist(alloc: Global, raw: Raw) -> Result<Netlist, Refusal>
     }
 }
 
+/// Whether the first line of a signature file asks for two cycles.
+fn asks_two(bytes: &[u8]) -> bool
+    ensures { result ≡ keeps_two (lines_of bytes.now) }
+{
+    match next_line(bytes) {
+        Some((line, _)) => line == b"cycles 2",
+        None => false,
+    }
+}
+
+/// What a signature is taken of: two cycles are not taken.
+pub fn read_choice(alloc: Global, bytes: &[u8], net: &Netlist) -> Result<Choice, ChoiceFault>
+    requires { length bytes.now ≤ MAX_SIGNATURE_BYTES }
+    ensures { Answers ChoiceFault.NoMemory (λ choice. choice) result (choice_in net.now.raw (lines_of bytes.now)) }
+{
+    if asks_two(bytes) {
+        return Err(ChoiceFault::Line(1));
+    }
+    Choice::read(alloc, bytes, net)
+}
+
 /// The items of a signature.
 pub fn read_signature(alloc: Global, bytes: &[u8], net: &Netlist) -> Result<Choice, Refusal>
     requires { length bytes.now ≤ MAX_SIGNATURE_BYTES }
     ensures reads { Reads CheckSays (λ choice. choice) (signature_in net.now.raw bytes.now) result }
     ensures width { IfOk result (λ choice. choice.width ≡ length (circuit net.now).flops) }
 {
-    match Choice::read(alloc, bytes, net) {
+    match read_choice(alloc, bytes, net) {
         Ok(choice) => Ok(choice),
         Err(fault) => Err(signature_refusal(alloc, fault)),
     }

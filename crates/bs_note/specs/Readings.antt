@@ -7,8 +7,7 @@ use Rattle.bs_net.specs.Netlist.{circuit_of}
 use Rattle.bs_net.specs.Parts.{Parts}
 use Rattle.bs_syntax.specs.declared.fault.VerilogFault.{VerilogFault}
 use Rattle.bs_verilog.specs.Netlist.{netlist_text}
-use Rattle.bs_scan.specs.Choice.{Chosen}
-use Rattle.bs_scan.specs.ChoiceText.{choice_of}
+use Rattle.bs_scan.specs.Choice.{Chosen, depth_of}
 use Rattle.bs_scan.specs.DumpText.{dump_of}
 use Rattle.bs_scan.specs.declared.dump.Dump.{Dump}
 use Rattle.bs_scan.specs.declared.fault.DumpFault.{DumpFault}
@@ -18,7 +17,7 @@ use Rattle.bs_report.specs.Reading.{report_in}
 use Rattle.bs_report.specs.declared.report.Report.{Report}
 use Rattle.bs_job.specs.declared.file.File.TheVariants as files
 use Rattle.bs_job.specs.Plan.{Reason, exactly, any_of}
-use Rattle.bs_entry.specs.Readings.{has_moment, is_drawable}
+use Rattle.bs_entry.specs.Readings.{choice_in, has_moment, is_drawable}
 use Rattle.bs_refusal.specs.declared.dump.Widths.{Widths}
 use Rattle.bs_refusal.specs.Kinds.{mistaken}
 use Rattle.bs_told.specs.Faults.{large_text, range_text}
@@ -54,7 +53,7 @@ netlist_noted path text = parsed_noted path text (netlist_text text)
 -- the items of a signature
 abbrev pub signature_noted : Parts → List ℕ → List ℕ → Result Chosen (Reason Case)
 signature_noted r path text =
-    noted (λ fault. told_as files.Signature path (mistaken files.Signature text) (in_signature path text r fault)) (choice_of r (lines_of text))
+    noted (λ fault. told_as files.Signature path (mistaken files.Signature text) (in_signature path text r fault)) (choice_in r (lines_of text))
 
 -- the runs of a stimulus, with so many bits in an input line
 abbrev pub stimulus_noted : ℕ → List ℕ → List ℕ → Result Stimulus (Reason Case)
@@ -63,13 +62,13 @@ stimulus_noted width path text =
 
 -- what a dump is due to have
 abbrev pub widths_of : Parts → Chosen → Widths
-widths_of r choice = record { flops = length (circuit_of r).flops; items = length choice.items }
+widths_of r choice = record { flops = length (circuit_of r).flops; depth = depth_of choice; items = length choice.items }
 
 -- a dump of a netlist and of what its signatures are taken of
 abbrev pub dump_noted : Parts → Chosen → List ℕ → List ℕ → Result Dump (Reason Case)
 dump_noted r choice path text =
     noted (λ (fault : DumpFault). told_as files.Dump path (mistaken files.Dump text) (in_dump path text (widths_of r choice) fault))
-    (dump_of (reset_state (circuit_of r)) (length choice.items) (lines_of text))
+    (dump_of (reset_state (circuit_of r)) (depth_of choice) (length choice.items) (lines_of text))
 
 -- whether the runs have the moment
 abbrev pub moment_noted : Stimulus → ℕ → ℕ → Result Bool (Reason Case)

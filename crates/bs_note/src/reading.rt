@@ -23,7 +23,7 @@ ghost use Rattle.bs_encode.specs.Transition.{variables};
 ghost use Rattle.bs_told.specs.Searches.{room_text};
 
 use bs_bits::NoMemory;
-use bs_entry::MAX_WAVE_VALUES;
+use bs_entry::{MAX_WAVE_VALUES, read_choice};
 use bs_job::{File, Refusal};
 use bs_net::{NetFault, Netlist, Raw};
 use bs_reach::size;
@@ -128,7 +128,7 @@ pub fn read_signature(
     requires { length text.now ≤ MAX_SIGNATURE_BYTES }
     ensures { Reads NoteSays (λ choice. choice) (signature_noted net.now.raw path.now text.now) result }
 {
-    match Choice::read(alloc, text, net) {
+    match read_choice(alloc, text, net) {
         Ok(choice) => Ok(choice),
         Err(fault) => Err(signature_refusal(alloc, path, text, net, fault)),
     }
@@ -173,6 +173,7 @@ fn widths_of(net: &Netlist, choice: &Choice) -> Widths
 {
     Widths {
         flops: net.width(),
+        depth: choice.depth(),
         items: choice.items(),
     }
 }

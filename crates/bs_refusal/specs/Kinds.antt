@@ -12,10 +12,11 @@ kind_of text =
     if starts_with nat_eq text (codes "module ") then Some Netlist
     else (if starts_with nat_eq text (codes "bit ") then Some Signature
     else (if starts_with nat_eq text (codes "xor ") then Some Signature
+    else (if starts_with nat_eq text (codes "cycles ") then Some Signature
     else (if starts_with nat_eq text (codes "run ") then Some Stimulus
     else (if starts_with nat_eq text (codes "state ") then Some Dump
     else (if starts_with nat_eq text (codes "backspace ") then Some Report
-    else None)))))
+    else None))))))
 
 -- the place of a file among the names of a job
 abbrev pub rank : File → ℕ

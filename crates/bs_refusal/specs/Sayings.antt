@@ -111,13 +111,26 @@ cycles_saying = saying (codes "a run has at most 65536 cycles") (codes "split it
 
 -- ---- a dump
 
--- the form of a line
-abbrev pub dump_saying : ℕ → Saying
-dump_saying number =
+-- the form of a line behind that of the last signature, where one is kept
+abbrev pub end_saying : ℕ → Saying
+end_saying number =
+    if number == 3 then saying (codes "the third line of a dump is `end`") (codes "and nothing follows it")
+    else saying (codes "nothing follows the line `end` of a dump") (codes "take it out")
+
+-- the same where two are kept
+abbrev pub older_saying : ℕ → Saying
+older_saying number =
+    if number == 3 then saying (codes "the third line of a dump of two cycles is `old BITS` or `old none`")
+    (codes "a bit for each item of the signature, and `old none` behind `sig none`")
+    else (if number == 4 then saying (codes "the fourth line of a dump of two cycles is `end`") (codes "and nothing follows it")
+    else saying (codes "nothing follows the line `end` of a dump") (codes "take it out"))
+
+-- the form of a line of a dump, of a register that keeps so many signatures
+abbrev pub dump_saying : ℕ → ℕ → Saying
+dump_saying depth number =
     if number == 1 then saying (codes "the first line of a dump is `state BITS`") (codes "a bit for each flip-flop, in the order of the netlist")
     else (if number == 2 then saying (codes "the second line of a dump is `sig BITS` or `sig none`") (codes "a bit for each item of the signature")
-    else (if number == 3 then saying (codes "the third line of a dump is `end`") (codes "and nothing follows it")
-    else saying (codes "nothing follows the line `end` of a dump") (codes "take it out")))
+    else (if depth == 2 then older_saying number else end_saying number))
 
 abbrev pub reset_saying : Saying
 reset_saying =
@@ -140,7 +153,7 @@ abbrev pub item_saying : Saying
 item_saying = saying (codes "`bit` takes one name") (codes "write `xor NAME NAME ..` for the parity of several, or a line for each")
 
 abbrev pub items_saying : Saying
-items_saying = saying (codes "a signature has at most 256 items") (codes "this is the 257th line")
+items_saying = saying (codes "a signature has at most 256 items") (codes "this is the 257th")
 
 abbrev pub line_saying : Saying
 line_saying =

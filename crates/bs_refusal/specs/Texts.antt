@@ -31,7 +31,7 @@ abbrev pub bits_saying : Widths → ℕ → List ℕ → Saying
 bits_saying widths number line = saying (bits_text widths number line) (codes "is the dump of this netlist, with this signature?")
 
 abbrev pub IsDumpNote : List ℕ → List ℕ → Widths → DumpFault → List ℕ → Type 0
-IsDumpNote path text widths (dump.Line number) note = IsLineNote path text number (λ line. dump_saying number) note
+IsDumpNote path text widths (dump.Line number) note = IsLineNote path text number (λ line. dump_saying widths.depth number) note
 IsDumpNote path text widths (dump.Width number) note = IsStartNote path text number (bits_saying widths number) note
 IsDumpNote path text widths dump.NotReset note = IsNoteOn path text 0 reset_saying note
 IsDumpNote path text widths dump.NoMemory note = note ≡ file_text path (codes "memory ran out")

@@ -2,7 +2,7 @@
 ghost use Rattle.std.specs.Prelude.{◌≡◌, IfOk};
 ghost use Rattle.bs_refusal.specs.Flaws.{IsStartNote};
 ghost use Rattle.bs_refusal.specs.Notes.{IsNoteOn, said};
-ghost use Rattle.bs_refusal.specs.Sayings.{bits_in, dump_saying, width_text};
+ghost use Rattle.bs_refusal.specs.Sayings.{bits_in, dump_saying, end_saying, older_saying, width_text};
 ghost use Rattle.bs_refusal.specs.Parts.{behind};
 ghost use Rattle.bs_refusal.specs.Texts.{bits_saying, bits_text, IsDumpNote};
 
@@ -14,16 +14,49 @@ use bs_bits::NoMemory;
 use bs_scan::DumpFault;
 use std::alloc::Global;
 
-/// What a dump is due to have: so many bits of the state, and so many of the signature.
+/// What a dump is due to have: so many bits of the state, and so many signatures, each of so many bits.
 #[derive(Clone, Copy, Debug)]
 pub struct Widths {
     pub flops: usize,
+    pub depth: u8,
     pub items: usize,
 }
 
-/// The form of a line of a dump.
-fn form_of(number: u32) -> Message<'static>
-    ensures { said result ≡ dump_saying number }
+/// The form of a line behind that of the last signature, where one is kept.
+fn end_form(number: u32) -> Message<'static>
+    ensures { said result ≡ end_saying number }
+{
+    if number == 3 {
+        return say(
+            "the third line of a dump is `end`",
+            "and nothing follows it",
+        );
+    }
+    say("nothing follows the line `end` of a dump", "take it out")
+}
+
+/// The same where two are kept.
+fn older_form(number: u32) -> Message<'static>
+    ensures { said result ≡ older_saying number }
+{
+    if number == 3 {
+        return say(
+            "the third line of a dump of two cycles is `old BITS` or `old none`",
+            "a bit for each item of the signature, and `old none` behind `sig none`",
+        );
+    }
+    if number == 4 {
+        return say(
+            "the fourth line of a dump of two cycles is `end`",
+            "and nothing follows it",
+        );
+    }
+    say("nothing follows the line `end` of a dump", "take it out")
+}
+
+/// The form of a line of a dump, of a register that keeps so many signatures.
+fn form_of(depth: u8, number: u32) -> Message<'static>
+    ensures { said result ≡ dump_saying depth number }
 {
     if number == 1 {
         return say(
@@ -37,13 +70,11 @@ fn form_of(number: u32) -> Message<'static>
             "a bit for each item of the signature",
         );
     }
-    if number == 3 {
-        return say(
-            "the third line of a dump is `end`",
-            "and nothing follows it",
-        );
+    if depth == 2 {
+        older_form(number)
+    } else {
+        end_form(number)
     }
-    say("nothing follows the line `end` of a dump", "take it out")
 }
 
 /// How many bits a line of a dump has, and how many are due.
@@ -111,7 +142,7 @@ pub fn dump_note(
 {
     match fault {
         DumpFault::Line(number) => {
-            line_note(alloc, path, text, u64::from(number), form_of(number))
+            line_note(alloc, path, text, u64::from(number), form_of(widths.depth, number))
         }
         DumpFault::Width(number) => width_note(alloc, path, text, widths, number),
         DumpFault::NotReset => note_on(

@@ -20,6 +20,9 @@ fn kind_of_text(text: &[u8]) -> Option<File>
     if text.starts_with(b"xor ".as_slice()) {
         return Some(File::Signature);
     }
+    if text.starts_with(b"cycles ".as_slice()) {
+        return Some(File::Signature);
+    }
     if text.starts_with(b"run ".as_slice()) {
         return Some(File::Stimulus);
     }

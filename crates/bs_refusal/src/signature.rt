@@ -194,7 +194,7 @@ pub fn signature_note(
             u64::from(number),
             say(
                 "a signature has at most 256 items",
-                "this is the 257th line",
+                "this is the 257th",
             ),
         ),
         ChoiceFault::UnknownFlop(number) => {

@@ -1,0 +1,192 @@
+-- Prints of states, notes of them, and where a look may begin.
+use Rattle.std.proofs.Common.{◌≡◌, ℕ, ◌<◌, ◌≤◌, ◌+◌, ◌-◌, ◌*◌, ◌/◌, ◌%◌, Bool, true, false, List, [], ◌∷◌, ◌++◌, length, map, take, get_or, refl, arith, ap, ap₂, sym, subst, ◌∙◌, ⊎_elim, Option, Some, None, min, cond, fold}
+use Rattle.std.specs.Prelude.{nat_eq, All}
+use Rattle.std.specs.HashMap.{get, HashMap}
+use Rattle.std.specs.Map.{lookup}
+use Rattle.std.specs.Option.{unwrap_or}
+use Rattle.std.proofs.lemmas.Bool.{cases_eq}
+use Rattle.std.proofs.lemmas.List.{take_more}
+use Rattle.std.proofs.lemmas.List.Elements.{All-more, All-map, All-weaker, All-take}
+use Rattle.std.specs.List.{list_any}
+use Rattle.std.proofs.lemmas.List.Folds.{list_any_none}
+use Rattle.std.proofs.lemmas.List.FromFn.{map-range_with_len_more}
+use Rattle.std.proofs.lemmas.List.Sums.{fold-append}
+use Rattle.bs_bits.specs.Bits.{bits_eq}
+use Rattle.bs_net.specs.Circuit.{Circuit}
+use Rattle.bs_stim.specs.Packing.{bit_in}
+use Rattle.bs_plane.specs.Planes.{lane, bit_place}
+use Rattle.bs_scan.specs.Moments.{Run, run_of, state_at}
+use Rattle.bs_scan.proofs.SignatureLemmas.{bits_same_is}
+use Rattle.bs_chip.specs.Index.{HasBy, Keeps, NotesLanes, NotesCycle, NotesCycles, HasNoneBefore}
+use Rattle.bs_chip.specs.Lockstep.{wide_of, ShowsCycle, NoneAmong, NoneBefore}
+use Rattle.bs_chip.specs.Prints.{print_more, print_of}
+use Rattle.bs_chip.proofs.LaneLemmas.{place_of}
+
+-- ---- prints
+
+print_snoc : (bits : List Bool) (bit : Bool) → print_of (bits ++ bit ∷ []) ≡ print_more (print_of bits) bit
+print_snoc bits bit = fold-append print_more 0 bits (bit ∷ [])
+
+pub print_next : (bits : List Bool) (i print next : ℕ) (bit : Bool) → i < length bits → bit ≡ get_or bits i false → print ≡ print_of (take i bits) →
+    next ≡ print_more print bit → next ≡ print_of (take (i + 1) bits)
+print_next bits i print next bit lt e h n =
+    n ∙ (ap₂ print_more h e ∙ (sym (print_snoc (take i bits) (get_or bits i false)) ∙ sym (ap print_of (take_more bits i false lt))))
+
+pub lane_next : (wide i r print next : ℕ) (words : List ℕ) (bit : Bool) → bit ≡ bit_in words ((i * wide + r / 64) * 64 + r % 64) →
+    print ≡ print_of (lane wide i words r) → next ≡ print_more print bit → next ≡ print_of (lane wide (i + 1) words r)
+lane_next wide i r print next words bit e h n =
+    let f : ℕ → Bool = λ plane. bit_in words (bit_place wide plane r) in
+    let here : bit ≡ f i = e ∙ ap (bit_in words) (place_of wide i r) in
+    n
+    ∙ (ap₂ print_more h here
+    ∙ (sym (print_snoc (lane wide i words r) (f i)) ∙ sym (ap print_of (map-range_with_len_more f 0 i i (omega arith)))))
+
+-- ---- notes
+
+same_number : (a b : ℕ) → nat_eq a b ≡ true → a ≡ b
+same_number a b e = ⊎_elim (λ (same : a ≡ b). same) (λ (other : a ≡ b → ⊥). absurd (grind (arith, e, other))) (cases_eq a b)
+
+sooner : (o : Option ℕ) (cycle k : ℕ) → cycle < unwrap_or o (cycle + 1) → unwrap_or o (k + 1) ≤ k → cycle ≤ k
+sooner None cycle k late h = absurd (omega (arith, h))
+sooner (Some c) cycle k late h = omega (arith, late, h)
+
+before_all : (o : Option ℕ) (from k : ℕ) → k < min from (unwrap_or o from) → unwrap_or o (k + 1) ≤ k → ⊥
+before_all None from k lt h = omega (arith, h)
+before_all (Some c) from k lt h = omega (arith, lt, h)
+
+module _ {S : Type 0} where
+  pub keeps_same : (old : HashMap ℕ ℕ S) → Keeps old old
+  keeps_same old = record { each = λ print cycle h. h }
+
+  pub keeps_more : (old mid new : HashMap ℕ ℕ S) → Keeps old mid → Keeps mid new → Keeps old new
+  keeps_more old mid new f g = record { each = λ print cycle h. g.each print cycle (f.each print cycle h) }
+
+  pub keeps_unchanged : (old new : HashMap ℕ ℕ S) → new.entries ≡ old.entries → Keeps old new
+  keeps_unchanged old new e =
+      record {
+        each = λ print cycle h.
+            let P : List (ℕ × ℕ) → Type 0 = λ es. unwrap_or (lookup (nat_eq print) es) (cycle + 1) ≤ cycle in subst P (sym e) h;
+      }
+
+  pub put_keeps : (old new : HashMap ℕ ℕ S) (print cycle : ℕ) → cycle < unwrap_or (get nat_eq old print) (cycle + 1) →
+      ((q : ℕ) → get nat_eq new q ≡ cond (nat_eq print q) (Some cycle) (get nat_eq old q)) → Keeps old new
+  put_keeps old new print cycle late puts = record { each = each }
+    where
+      by : (b : Bool) (q k : ℕ) → nat_eq print q ≡ b → unwrap_or (get nat_eq old q) (k + 1) ≤ k →
+          unwrap_or (cond {A = Option ℕ} b (Some cycle) (get nat_eq old q)) (k + 1) ≤ k
+      by true q k e h =
+          let P : ℕ → Type 0 = λ n. cycle < unwrap_or (get nat_eq old n) (cycle + 1) in
+          sooner (get nat_eq old q) cycle k (subst P (same_number print q e) late) h
+      by false q k e h = h
+
+      each : (q k : ℕ) → HasBy old q k → HasBy new q k
+      each q k h =
+          let P : Option ℕ → Type 0 = λ o. unwrap_or o (k + 1) ≤ k in
+          subst P (sym (puts q)) (by (nat_eq print q) q k refl h)
+
+  pub put_notes : (new : HashMap ℕ ℕ S) (print cycle : ℕ) → get nat_eq new print ≡ Some cycle → HasBy new print cycle
+  put_notes new print cycle e = (let P : Option ℕ → Type 0 = λ o. unwrap_or o (cycle + 1) ≤ cycle in subst P (sym e) (omega arith))
+
+  pub lanes_none : (runs : List Run) (first : HashMap ℕ ℕ S) (planes : List ℕ) (width cycle : ℕ) → NotesLanes runs first planes width cycle 0
+  lanes_none runs first planes width cycle = record { each = λ r from below last. absurd (omega (arith, from, below)) }
+
+  pub lanes_keep : (runs : List Run) (old new : HashMap ℕ ℕ S) (planes : List ℕ) (width cycle below : ℕ) → Keeps old new →
+      NotesLanes runs old planes width cycle below → NotesLanes runs new planes width cycle below
+  lanes_keep runs old new planes width cycle below keeps h = record { each = λ r from within last. keeps.each _ cycle (h.each r from within last) }
+
+  pub lanes_more : (runs : List Run) (old new : HashMap ℕ ℕ S) (planes : List ℕ) (width cycle at wide print : ℕ) → wide ≡ wide_of (length runs) →
+      print ≡ print_of (lane wide width planes at) → Keeps old new → HasBy new print cycle → NotesLanes runs old planes width cycle at →
+      NotesLanes runs new planes width cycle (at + 1)
+  lanes_more runs old new planes width cycle at wide print w p keeps here h =
+      let back : at ≡ at + 1 - 1 = omega arith in
+      let P : ℕ → Type 0 = λ n. HasBy new (print_of (lane (wide_of (length runs)) width planes n)) cycle in
+      let Q : ℕ → Type 0 = λ n. HasBy new (print_of (lane n width planes at)) cycle in
+      let R : ℕ → Type 0 = λ n. HasBy new n cycle in
+      let mine : P (at + 1 - 1) = subst P back (subst Q w (subst R p here)) in
+      record {
+        each = λ r from within last.
+            ⊎_elim (λ (same : r ≡ at + 1). (let T : ℕ → Type 0 = λ n. P (n - 1) in subst T (sym same) mine))
+            (λ (other : r ≡ at + 1 → ⊥). keeps.each _ cycle (h.each r from (omega (arith, within, other)) last))
+            (cases_eq r (at + 1));
+      }
+
+  pub lanes_ended : (runs : List Run) (first : HashMap ℕ ℕ S) (planes : List ℕ) (width cycle at : ℕ) → length (run_of runs (at + 1)) < cycle →
+      NotesLanes runs first planes width cycle at → NotesLanes runs first planes width cycle (at + 1)
+  lanes_ended runs first planes width cycle at ended h =
+      record {
+        each = λ r from within last.
+            ⊎_elim
+            (λ (same : r ≡ at + 1).
+            let long : cycle ≤ length (run_of runs (at + 1)) = (let T : ℕ → Type 0 = λ n. cycle ≤ length (run_of runs n) in subst T same last) in
+            absurd (omega (arith, long, ended)))
+            (λ (other : r ≡ at + 1 → ⊥). h.each r from (omega (arith, within, other)) last)
+            (cases_eq r (at + 1));
+      }
+
+  pub lanes_shown : (c : Circuit) (runs : List Run) (first : HashMap ℕ ℕ S) (planes : List ℕ) (width cycle : ℕ) → width ≡ length c.flops →
+      ShowsCycle c runs planes cycle → NotesLanes runs first planes width cycle (length runs) → NotesCycle c runs first cycle
+  lanes_shown c runs first planes width cycle w shows h =
+      record {
+        each = λ r from there last.
+            let P : ℕ → Type 0 = λ n. HasBy first (print_of (lane (wide_of (length runs)) n planes (r - 1))) cycle in
+            let Q : List Bool → Type 0 = λ s. HasBy first (print_of s) cycle in
+            subst Q (shows.each r from there last) (subst P w (h.each r from there last));
+      }
+
+  -- ---- cycles
+
+  pub cycles_none : (c : Circuit) (runs : List Run) (first : HashMap ℕ ℕ S) (cycles : ℕ) → cycles ≡ 0 → NotesCycles c runs first cycles
+  cycles_none c runs first cycles e = record { each = λ k lt. absurd (omega (arith, lt, e)) }
+
+  pub cycles_keep : (c : Circuit) (runs : List Run) (old new : HashMap ℕ ℕ S) (cycles : ℕ) → Keeps old new → NotesCycles c runs old cycles →
+      NotesCycles c runs new cycles
+  cycles_keep c runs old new cycles keeps h =
+      record { each = λ k lt. record { each = λ r from there last. keeps.each _ k ((h.each k lt).each r from there last) } }
+
+  pub cycles_more : (c : Circuit) (runs : List Run) (old new : HashMap ℕ ℕ S) (at : ℕ) → Keeps old new → NotesCycle c runs new at →
+      NotesCycles c runs old at → NotesCycles c runs new (at + 1)
+  cycles_more c runs old new at keeps here h =
+      record {
+        each = λ k lt.
+            ⊎_elim (λ (same : k ≡ at). (let P : ℕ → Type 0 = λ n. NotesCycle c runs new n in subst P (sym same) here))
+            (λ (other : k ≡ at → ⊥). (cycles_keep c runs old new at keeps h).each k (omega (arith, lt, other)))
+            (cases_eq k at);
+      }
+
+  -- ---- where a look may begin
+
+  pub start_more : {X : Type 0} (f : X → List Bool) (first : HashMap ℕ ℕ S) (xs : List X) (i from next print cycle : ℕ) (x : X) (s : List Bool) → i < length xs →
+      x ≡ get_or xs i x → s ≡ f x → print ≡ print_of s → cycle ≡ unwrap_or (get nat_eq first print) from → next ≡ min from cycle →
+      All (λ x. HasNoneBefore first from (print_of (f x))) (take i xs) → All (λ x. HasNoneBefore first next (print_of (f x))) (take (i + 1) xs)
+  start_more {X} f first xs i from next print cycle x s lt is same p e n h =
+      let P : X → Type 0 = λ x. HasNoneBefore first from (print_of (f x)) in
+      let Q : X → Type 0 = λ x. HasNoneBefore first next (print_of (f x)) in
+      let less : next ≤ from = omega (arith, n) in
+      let R : ℕ → Type 0 = λ q. HasNoneBefore first next q in
+      let mine : R print =
+      record {
+        each = λ k below has.
+            before_all (get nat_eq first print) from k (let T : ℕ → Type 0 = λ c. k < min from c in subst T e (let U : ℕ → Type 0 = λ m. k < m in subst U n below)) has;
+      } in
+      let here : Q x = subst R (p ∙ ap print_of same) mine in
+      All-more Q xs i x lt
+      (All-weaker P Q (λ y g. record { each = λ k below has. g.each k (omega (arith, below, less)) has }) (take i xs) h)
+      (subst Q is here)
+
+  pub none_started : {X : Type 0} (f : X → List Bool) (c : Circuit) (runs : List Run) (first : HashMap ℕ ℕ S) (xs : List X) (cycles from : ℕ) → from ≤ cycles →
+      NotesCycles c runs first cycles → All (λ x. HasNoneBefore first from (print_of (f x))) xs → NoneBefore c runs (map f xs) from
+  none_started f c runs first xs cycles from le notes none = record { each = λ k lt. record { each = λ r behind below there last. each k r lt behind there last } }
+    where
+      unlike : (s t : List Bool) (k : ℕ) (b : Bool) → bits_eq s t ≡ b → k < from → HasBy first (print_of s) k → HasNoneBefore first from (print_of t) → b ≡ false
+      unlike s t k false e lt has without = refl
+      unlike s t k true e lt has without =
+          let P : List Bool → Type 0 = λ u. HasBy first (print_of u) k in
+          absurd (without.each k lt (subst P (bits_same_is s t e) has))
+
+      each : (k r : ℕ) → k < from → 0 < r → r ≤ length runs → k ≤ length (run_of runs r) → list_any (bits_eq (state_at c (run_of runs r) k)) (map f xs) ≡ false
+      each k r lt behind there last =
+          let s = state_at c (run_of runs r) k in
+          let has : HasBy first (print_of s) k = (notes.each k (omega (arith, lt, le))).each r (omega (arith, behind)) there last in
+          list_any_none (bits_eq s) (map f xs)
+          (All-weaker (λ t. HasNoneBefore first from (print_of t)) (λ t. bits_eq s t ≡ false) (λ t without. unlike s t k (bits_eq s t) refl lt has without) (map f xs)
+          (All-map (λ t. HasNoneBefore first from (print_of t)) f xs none))

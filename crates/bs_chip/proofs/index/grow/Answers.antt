@@ -1,0 +1,19 @@
+use Rattle.std.proofs.Common.{ℕ, refl, subst}
+use Rattle.bs_chip.specs.Index.{NotesCycles}
+use Rattle.bs_chip.proofs.IndexLemmas.{cycles_keep, cycles_more}
+use Rattle.bs_chip.proofs.index.grow.Goals as goal
+
+pub returns-in_err-note-clause-notes : goal.returns-in_err-note-clause-notes
+returns-in_err-note-clause-notes c =
+    cycles_keep c.args.pass.now.circuit c.args.pass.now.runs c.cycles.index.first c.note.new.first c.cycles.index.cycles c.in_err-note.ensures.keeps
+    c.cycles.invariant.notes
+
+pub cycles-preserved : goal.cycles-preserved
+cycles-preserved c =
+    let p = c.args.pass.now in
+    record {
+      at = refl;
+      notes =
+          cycles_more p.circuit p.runs c.cycles.index.first c.note.new.first c.cycles.at c.in_ok-note.ensures.keeps c.in_ok-note.ensures.notes
+          (subst (λ (n : ℕ). NotesCycles p.circuit p.runs c.cycles.index.first n) c.cycles.invariant.at c.cycles.invariant.notes);
+    }

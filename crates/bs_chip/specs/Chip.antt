@@ -1,0 +1,15 @@
+-- What a chip keeps.
+use Rattle.std.specs.Prelude.{◌≡◌, ℕ, ◌≤◌, List, length}
+use Rattle.bs_scan.specs.Crash.{Recording, IsRecording}
+use Rattle.bs_chip.specs.declared.index.Index.{Index}
+use Rattle.bs_chip.specs.Index.{NotesCycles}
+use Rattle.bs_chip.specs.Lockstep.{Passing, TrackShows}
+
+-- a recording, a pass over its runs, the planes of the first cycles, and an index of the states at some of them
+pub record IsChip (r : Recording) (p : Passing) (track : List (List ℕ)) (index : Index) : Type 0 where
+  pub recording : IsRecording r
+  pub circuit : p.circuit ≡ r.circuit
+  pub runs : p.runs ≡ r.runs
+  pub shows : TrackShows r.circuit r.runs track
+  pub within : index.cycles ≤ length track
+  pub notes : NotesCycles r.circuit r.runs index.first index.cycles

@@ -1,0 +1,77 @@
+//! The index of states: a cycle before which no run is in a listed state, by the prints of the states of the first
+//! cycles. It only says where a look may begin; whether a state is listed is for the bank to say.
+ghost use Rattle.std.specs.Prelude.{◌≡◌, ◌≤◌, length, All};
+ghost use Rattle.bs_chip.specs.Index.{HasNoneBefore, NotesCycles};
+ghost use Rattle.bs_chip.specs.Lockstep.{TrackShows};
+ghost use Rattle.bs_chip.specs.Prints.{print_of};
+
+use crate::notes::cycle_of;
+use crate::pass::Pass;
+use crate::prints::print_of;
+use bs_bits::{List, NoMemory};
+use bs_scan::HasState;
+use std::alloc::Global;
+use std::collections::HashMap;
+
+/// How many prints an index has when it takes no more cycles.
+pub const MAX_PRINTS: usize = 2_097_152;
+
+/// For each print of a state of the first so many cycles, the first of these cycles at which a state has it.
+#[derive(Drop)]
+pub struct Index {
+    pub first: HashMap<u64, u32>,
+    pub cycles: u32,
+}
+
+impl Index {
+    /// An index of no cycles.
+    pub fn new(alloc: Global) -> Index
+        ensures { result.cycles ≡ 0 }
+    {
+        Index {
+            first: HashMap::new(alloc),
+            cycles: 0,
+        }
+    }
+}
+
+/// A cycle before which no state of a list has a print.
+pub fn start<S: HasState>(index: &Index, list: &[S]) -> usize
+    ensures within { result ≤ index.now.cycles }
+    ensures before { All (λ listed. HasNoneBefore index.now.first result (print_of (S.shown listed))) list.now }
+{
+    let mut from = index.cycles;
+    'states: for i in 0..list.len() {
+        let print = print_of(list[i].state());
+        from = from.min(cycle_of(&index.first, print, from));
+    }
+    from as usize
+}
+
+/// Notes further cycles of a track, as many as a credit pays for: the number of cycles that were looked at so far and not
+/// paid with yet.
+pub fn grow(
+    index: &mut Index,
+    pass: &Pass<'_>,
+    track: &List<List<u64>>,
+    width: usize,
+    credit: &mut u64,
+) -> Result<(), NoMemory>
+    requires width { width ≡ length pass.now.circuit.flops }
+    requires shows { TrackShows pass.now.circuit pass.now.runs track.now }
+    requires within { index.old.cycles ≤ length track.now }
+    requires notes { NotesCycles pass.now.circuit pass.now.runs index.old.first index.old.cycles }
+    ensures within { index.new.cycles ≤ length track.now }
+    ensures notes { NotesCycles pass.now.circuit pass.now.runs index.new.first index.new.cycles }
+{
+    let price = pass.price(width);
+    'cycles: for at in index.cycles as usize..track.len() {
+        if *credit < price || index.first.len() >= MAX_PRINTS {
+            return Ok(());
+        }
+        *credit -= price;
+        pass.note(&mut index.first, track.get(at).slice(), width, at as u32)?;
+        index.cycles = at as u32 + 1;
+    }
+    Ok(())
+}
