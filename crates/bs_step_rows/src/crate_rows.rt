@@ -320,6 +320,7 @@ fn are_of_toggle(alloc: Global, wanted: &[&[i32]]) -> bool {
 fn netlists_are_encoded(rt: HostRuntime) -> Result<(), Fail> {
     let alloc = rt.alloc();
     assert_eq!(rt; sizes(alloc, TOGGLE, ""), Some((4, 5)));
+    assert_eq!(rt; sizes(alloc, TOGGLE, "cycles 2\n"), Some((9, 12)));
     assert_eq!(rt; sizes(alloc, S27, "bit G5\n"), Some((24, 37)));
     assert_eq!(rt; sizes(alloc, XNOR, ""), Some((9, 16)));
     let toggle: [&[i32]; 5] = [&[-2, -3], &[2, 3], &[-1], &[-4, 2], &[4, -2]];
