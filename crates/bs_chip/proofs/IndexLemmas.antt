@@ -190,3 +190,7 @@ module _ {S : Type 0} where
           list_any_none (bits_eq s) (map f xs)
           (All-weaker (λ t. HasNoneBefore first from (print_of t)) (λ t. bits_eq s t ≡ false) (λ t without. unlike s t k (bits_eq s t) refl lt has without) (map f xs)
           (All-map (λ t. HasNoneBefore first from (print_of t)) f xs none))
+
+pub none_sooner : (c : Circuit) (runs : List Run) (states : List (List Bool)) (late from : ℕ) → from ≤ late → NoneBefore c runs states late →
+    NoneBefore c runs states from
+none_sooner c runs states late from le h = record { each = λ k lt. h.each k (omega (arith, lt, le)) }

@@ -171,6 +171,5 @@ new_chip made p kept track index recording e f g shows t none =
       circuit = e;
       runs = f;
       shows = first_shows made.circuit made.runs kept track (subst R g (subst Q f (subst P e shows))) t;
-      within = omega (arith, none);
       notes = cycles_none made.circuit made.runs index.first index.cycles none;
     }
