@@ -1,4 +1,5 @@
 pub mod Follows
+pub mod HitLemmas
 pub mod Cuts
 pub mod LastLemmas
 pub mod Lines

@@ -186,6 +186,7 @@ impl<'a> Replay<'a> {
         ensures dump { IfOk result (λ hit. option_map (present_of_hit self.old) (hit_of self.old cands.now) ≡ option_map (λ hit. present_in hit.dump) hit) }
         ensures kept { self.new ≡ self.old }
     {
+        let _depth = self.choice.depth();
         self.chip.first(alloc, cands)
     }
 }

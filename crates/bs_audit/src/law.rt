@@ -17,5 +17,6 @@ pub fn valid_reports_are_good(net: &Netlist, choice: &Choice, runs: &Runs)
 {
     predecessors_are_shown(net, choice);
     let _raw = net.raw();
+    let _depth = choice.depth();
     let _count = runs.count();
 }

@@ -1,5 +1,6 @@
 -- What the shared bits and the others leave of a mask.
-use Rattle.std.proofs.Common.{◌≡◌, ℕ, suc, zero, ◌<◌, ◌≤◌, ◌+◌, ◌*◌, ◌/◌, ◌%◌, Bool, true, false, not, cond, ◌&&◌, ◌||◌, List, [], ◌∷◌, length, map, get_or, refl, arith, ap, ap₂, sym, subst, ◌∙◌, set, length-set, get_or-set_same, get_or-set_other, ⊎_elim}
+use Rattle.std.proofs.Common.{◌≡◌, ℕ, suc, zero, ◌<◌, ◌≤◌, ◌+◌, ◌*◌, ◌/◌, ◌%◌, Bool, true, false, not, cond, ◌&&◌, ◌||◌, List, [], ◌∷◌, length, map}
+use Rattle.std.proofs.Common.{get_or, refl, arith, ap, ap₂, sym, subst, ◌∙◌, set, length-set, get_or-set_same, get_or-set_other, ⊎_elim}
 use Rattle.std.specs.Prelude.{filter, ◌==◌}
 use Rattle.std.specs.Bool.{beq}
 use Rattle.std.specs.Int.{bit_at}

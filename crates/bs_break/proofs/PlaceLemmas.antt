@@ -1,5 +1,6 @@
 -- Places that are shared, and ranges of places.
-use Rattle.std.proofs.Common.{◌≡◌, ℕ, suc, zero, ◌<◌, ◌≤◌, ◌+◌, Bool, true, false, not, cond, ◌&&◌, List, [], ◌∷◌, ◌++◌, length, map, take, get_or, set, replicate, refl, arith, ap, ap₂, sym, subst, ◌∙◌, ⊎_elim, add-one, length-set, get_or-set_same, get_or-set_other}
+use Rattle.std.proofs.Common.{◌≡◌, ℕ, suc, zero, ◌<◌, ◌≤◌, ◌+◌, Bool, true, false, not, cond, ◌&&◌, List, [], ◌∷◌, ◌++◌, length, map, take, get_or}
+use Rattle.std.proofs.Common.{set, replicate, refl, arith, ap, ap₂, sym, subst, ◌∙◌, ⊎_elim, add-one, length-set, get_or-set_same, get_or-set_other}
 use Rattle.std.specs.Prelude.{filter}
 use Rattle.std.specs.Bool.{beq}
 use Rattle.std.specs.List.{All, list_all, range_with_len}

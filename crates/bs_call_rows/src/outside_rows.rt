@@ -223,7 +223,10 @@ fn pipes(rt: HostRuntime) -> Result<(), Fail> {
     drop(writer);
     let name = format!(in alloc; "/proc/self/fd/{}", reader.as_raw_fd())?;
     let mut into = Vec::new(alloc);
-    assert_eq!(rt; FileShelf::new(&rt).fetch(name.as_str(), 5, &mut into), Fetch::Done);
+    assert_eq!(rt;
+        FileShelf::new(&rt).fetch(name.as_str(), 5, &mut into),
+        Fetch::Done
+    );
     assert_eq!(rt; into.as_slice(), b"hello".as_slice());
     Ok(())
 }

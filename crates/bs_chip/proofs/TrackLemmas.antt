@@ -1,7 +1,7 @@
 -- The track of planes, one cycle on.
 use Rattle.std.proofs.Common.{◌≡◌, ℕ, suc, zero, ◌<◌, ◌≤◌, ◌+◌, ◌-◌, ◌*◌, Bool, List, [], ◌∷◌, ◌++◌, length, take, get_or, refl, arith}
 use Rattle.std.proofs.Common.{ap, sym, subst, ◌∙◌, ◌⊎◌, inl, inr, ⊎_elim, max, length-append}
-use Rattle.std.specs.Prelude.{Result, Ok, Err, IfOk}
+use Rattle.std.specs.Prelude.{Result, Ok, Err, IfOk, Some, slice_get}
 use Rattle.std.proofs.lemmas.Bool.{cases_eq, cases_lt}
 use Rattle.std.proofs.lemmas.List.{take_all}
 use Rattle.bs_net.specs.Circuit.{Circuit}
@@ -99,6 +99,11 @@ behind_all c runs states at most le longest none =
 
 -- ---- the register
 
+pub track_at : (track : List (List ℕ)) (k : ℕ) (planes : List ℕ) → slice_get track k ≡ Some planes → get_or track k [] ≡ planes
+track_at [] k planes e = absurd (cc)
+track_at (p ∷ track) zero planes e = cc
+track_at (p ∷ track) (suc k) planes e = track_at track k planes e
+
 abbrev filled : Circuit → Chosen → Run → ℕ → ℕ → Register
 filled c choice run count k = record { choice = choice; stored = signatures_before c choice run count k }
 
@@ -117,7 +122,7 @@ filled_more c choice run first k r next s le fits e f g =
     let t : List (List Bool) = signatures_before c choice run (k - first) k in
     let few : length t ≤ k - first = few_before c choice run (k - first) k in
     let all : take (depth_of choice) (signature choice (state_at c run k) ∷ t) ≡ signature choice (state_at c run k) ∷ t =
-    sym (take_all (depth_of choice) (signature choice (state_at c run k) ∷ t) (omega (arith, few, fits, le))) in
+    take_all (depth_of choice) (signature choice (state_at c run k) ∷ t) (omega (arith, few, fits, le)) in
     let count : suc (k - first) ≡ k + 1 - first = omega (arith, le) in
     let later : suc k ≡ k + 1 = omega arith in
     let put : clocked r s ≡ record { choice = choice; stored = signature choice (state_at c run k) ∷ t } =

@@ -206,11 +206,24 @@ impl<'a> Chip<'a> {
         ensures kept { self.new.recording ≡ self.old.recording }
     {
         let width = self.player.width();
-        grow(&mut self.index, &self.pass, &self.track, width, &mut self.credit)?;
+        grow(
+            &mut self.index,
+            &self.pass,
+            &self.track,
+            width,
+            &mut self.credit,
+        )?;
         let from = start(&self.index, list);
         self.credit = self.credit.saturating_add((self.track.len() - from) as u64);
         let bank = Bank::load(alloc, list, width)?;
-        first_moment(alloc, &mut self.pass, &bank, &mut self.track, self.most, from)
+        first_moment(
+            alloc,
+            &mut self.pass,
+            &bank,
+            &mut self.track,
+            self.most,
+            from,
+        )
     }
 
     /// The chip's lanes. Each run that lasts to the cycle at which they stand is in its state there: after a `first` that

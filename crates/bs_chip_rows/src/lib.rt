@@ -3,3 +3,5 @@
 
 #[cfg(test)]
 mod bank_rows;
+#[cfg(test)]
+mod moment_rows;

@@ -157,7 +157,8 @@ pub raised_distinct : (by : ℕ) (cs : List Clause) → AllByRecursion Distinct 
 raised_distinct by [] h = tt
 raised_distinct by (c ∷ cs) h = (distinct_raised by c ∙ h.0, raised_distinct by cs h.1)
 
-pub links_range : (m : ℕ) (ns ss : List Literal) → AllByRecursion (IsWithin m) ns → AllByRecursion (IsWithin m) ss → AllByRecursion (HasVariables m) (links ns ss)
+pub links_range : (m : ℕ) (ns ss : List Literal) → AllByRecursion (IsWithin m) ns → AllByRecursion (IsWithin m) ss →
+    AllByRecursion (HasVariables m) (links ns ss)
 links_range m [] ss h g = tt
 links_range m (n ∷ ns) [] h g = tt
 links_range m (n ∷ ns) (s ∷ ss) h g = (

@@ -153,7 +153,13 @@ xnor_of_three =
       nets = 6;
       clock = net 0;
       inputs = [];
-      flops = record { q = net 1; d = net 3; ck = net 0; reset = false; mode = Plain } ∷ record { q = net 2; d = net 4; ck = net 0; reset = false; mode = Plain } ∷ [];
+      flops = record { q = net 1; d = net 3; ck = net 0; reset = false; mode = Plain } ∷ record {
+        q = net 2;
+        d = net 4;
+        ck = net 0;
+        reset = false;
+        mode = Plain;
+      } ∷ [];
       gates = gate Xnor 3 (net 1 ∷ net 2 ∷ net 5 ∷ []) ∷ gate Nand 4 (net 1 ∷ []) ∷ [];
       constants = record { net = net 5; value = false } ∷ [];
     }

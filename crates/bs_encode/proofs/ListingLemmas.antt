@@ -304,7 +304,8 @@ module _ (c : Circuit) (choice : Chosen) (checked : IsChecked c) (p : IsClosed c
       (recursion_from_All (Satisfies a) e.clauses shows.clauses) shows.state
       (join (λ l. literal_value a l ≡ true) (signed e.next q.state) (signed e.signatures stored ++ [])
       (signs_true a e.next q.state (shows.next ∙ nx))
-      (join (λ l. literal_value a l ≡ true) (signed e.signatures stored) [] (signs_true a e.signatures stored (shows.signature ∙ last_stored c choice q.stored s ag))
+      (join (λ l. literal_value a l ≡ true) (signed e.signatures stored) [] (signs_true a e.signatures stored
+      (shows.signature ∙ last_stored c choice q.stored s ag))
       tt))
 
   -- what the first copy shows, of an assignment that meets its clauses and the first assumptions

@@ -21,7 +21,8 @@ use Rattle.bs_net.specs.Circuit.{Circuit, gate_value, bit_at, shown, mode_loads,
 use Rattle.bs_net.specs.Parts.{IsModePlaced, IsFlopPlaced}
 use Rattle.bs_scan.specs.Signature.{parity_of}
 use Rattle.bs_encode.specs.Tables.{lit, gate_clauses, odd_clauses, helpers_of}
-use Rattle.bs_encode.specs.Transition.{net_var, gate_helpers, item_helpers, item_vars, state_vars, chosen, gates_clauses, unit_clauses, mode_clauses, load_clauses}
+use Rattle.bs_encode.specs.Transition.{net_var, gate_helpers, item_helpers, item_vars, state_vars, chosen, gates_clauses, unit_clauses, mode_clauses}
+use Rattle.bs_encode.specs.Transition.{load_clauses}
 use Rattle.bs_encode.specs.Transition.{next_clauses, items_clauses}
 use Rattle.bs_encode.specs.Encoded.{literals}
 use Rattle.std.proofs.Common.{◌^◌, ◌≤◌, append_assoc}

@@ -24,7 +24,8 @@ use Rattle.bs_net.proofs.NextLemmas.{range_from_below}
 use Rattle.bs_encode.specs.Tables.{lit, all_clauses, any_clauses, same_clauses, differ_clauses, either_clauses, unless_clauses, odd_from, odd_clauses}
 use Rattle.bs_encode.specs.Tables.{first_clauses, gate_clauses, helpers_of}
 use Rattle.bs_encode.specs.Transition.{net_var, gate_helpers, item_helpers, item_vars, state_vars, first_helper, first_next, first_item, variables}
-use Rattle.bs_encode.specs.Transition.{chosen, gates_clauses, unit_clauses, mode_clauses, load_clauses, next_clauses, items_clauses, table_clauses, is_tautology}
+use Rattle.bs_encode.specs.Transition.{chosen, gates_clauses, unit_clauses, mode_clauses, load_clauses, next_clauses, items_clauses, table_clauses}
+use Rattle.bs_encode.specs.Transition.{is_tautology}
 use Rattle.bs_encode.specs.Transition.{tidied, transition_clauses}
 use Rattle.bs_encode.specs.Encoded.{literals}
 use Rattle.bs_encode.specs.Meaning.{IsClosed}
@@ -163,7 +164,8 @@ mode_ranged n nets v (Enable e) d q le own load state other =
 mode_ranged n nets v (Clear r) d q le own load state other =
     unless_ranged n v (net_var r) (net_var d) own (net_var_ranged n nets r le (other 0 r (omega arith))) (net_var_ranged n nets d le load)
 
-next_ranged : (n nets m : ℕ) (fs : List Flop) → nets ≤ n → AllByRecursion (IsFlopPlaced nets) fs → 1 ≤ m → m + length fs ≤ n + 1 → AllRanged n (next_clauses m fs)
+next_ranged : (n nets m : ℕ) (fs : List Flop) → nets ≤ n → AllByRecursion (IsFlopPlaced nets) fs → 1 ≤ m → m + length fs ≤ n + 1 →
+    AllRanged n (next_clauses m fs)
 next_ranged n nets m [] le p one room = tt
 next_ranged n nets m (f ∷ fs) le p one room =
     join (Ranged n) (load_clauses m f) (next_clauses (m + 1) fs)

@@ -11,7 +11,8 @@ use Rattle.bs_clause.proofs.Literals.{beq-true}
 use Rattle.bs_net.specs.declared.net.Kind.{Kind}
 use Rattle.bs_net.specs.declared.net.Kind.TheVariants.{And, Nand, Or, Nor, Xor, Xnor, Buf, Not}
 use Rattle.bs_net.specs.Circuit.{gate_value, is_one, is_odd}
-use Rattle.bs_encode.specs.Tables.{lit, all_clauses, any_clauses, same_clauses, differ_clauses, either_clauses, unless_clauses, odd_from, odd_clauses, gate_clauses, helpers_of}
+use Rattle.bs_encode.specs.Tables.{lit, all_clauses, any_clauses, same_clauses, differ_clauses, either_clauses, unless_clauses, odd_from, odd_clauses}
+use Rattle.bs_encode.specs.Tables.{gate_clauses, helpers_of}
 use Rattle.bs_encode.proofs.TidyLemmas.{meets, meets_all}
 
 pub beq-refl : (x : Bool) → beq x x ≡ true

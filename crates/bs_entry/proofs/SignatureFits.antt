@@ -3,10 +3,9 @@ use Rattle.std.proofs.Common.{◌≡◌, ℕ, Bool, true, false, cond, List, len
 use Rattle.std.specs.Prelude.{drop}
 use Rattle.bs_net.specs.Parts.{Parts}
 use Rattle.bs_scan.specs.declared.fault.ChoiceFault.{ChoiceFault}
-use Rattle.bs_scan.specs.declared.fault.ChoiceFault.TheVariants.{Line}
 use Rattle.bs_scan.specs.Choice.{Chosen}
 use Rattle.bs_bits.specs.Reading.{◌>>=◌}
-use Rattle.bs_scan.specs.ChoiceText.{items_of, chosen, choice_from, choice_of, keeps_two}
+use Rattle.bs_scan.specs.ChoiceText.{items_of, chosen, choice_from, keeps_two}
 use Rattle.bs_entry.specs.Readings.{choice_in}
 
 ok_in : Chosen → Result Chosen ChoiceFault
@@ -23,16 +22,9 @@ from_fits raw first depth texts choice e = by (items_of raw first 1 texts) e
     by (Ok items) h = sym (ap (λ (c : Chosen). c.width) (ok_same (chosen (length raw.flops) depth items) choice h))
     by (Err fault) h = absurd (cc)
 
-choice_fits : (raw : Parts) (texts : List (List ℕ)) (choice : Chosen) → choice_of raw texts ≡ Ok choice → choice.width ≡ length raw.flops
-choice_fits raw texts choice e = by (keeps_two texts) e
+pub signature_fits : (raw : Parts) (texts : List (List ℕ)) (choice : Chosen) → choice_in raw texts ≡ Ok choice → choice.width ≡ length raw.flops
+signature_fits raw texts choice e = by (keeps_two texts) e
   where
     by : (two : Bool) → cond two (choice_from raw 2 2 (drop 1 texts)) (choice_from raw 1 1 texts) ≡ ok_in choice → choice.width ≡ length raw.flops
     by true h = from_fits raw 2 2 (drop 1 texts) choice h
     by false h = from_fits raw 1 1 texts choice h
-
-pub signature_fits : (raw : Parts) (texts : List (List ℕ)) (choice : Chosen) → choice_in raw texts ≡ Ok choice → choice.width ≡ length raw.flops
-signature_fits raw texts choice e = by (keeps_two texts) e
-  where
-    by : (two : Bool) → cond two (Err (Line 1)) (choice_of raw texts) ≡ ok_in choice → choice.width ≡ length raw.flops
-    by true h = absurd (cc)
-    by false h = choice_fits raw texts choice h

@@ -2,3 +2,4 @@ pub mod Refusals
 pub mod Readings
 pub mod Entry
 pub mod Ready
+pub mod Props

@@ -5,12 +5,11 @@ use Rattle.bs_net.specs.Circuit.{reset_state}
 use Rattle.bs_net.specs.Netlist.{circuit_of}
 use Rattle.bs_net.specs.Parts.{Parts}
 use Rattle.bs_scan.specs.Choice.{Chosen, depth_of}
-use Rattle.bs_scan.specs.ChoiceText.{choice_of, keeps_two}
+use Rattle.bs_scan.specs.ChoiceText.{choice_of}
 use Rattle.bs_scan.specs.DumpText.{dump_of}
 use Rattle.bs_scan.specs.Moments.{Moment, moment}
 use Rattle.bs_scan.specs.declared.dump.Dump.{Dump}
 use Rattle.bs_scan.specs.declared.fault.ChoiceFault.{ChoiceFault}
-use Rattle.bs_scan.specs.declared.fault.ChoiceFault.TheVariants.{Line}
 use Rattle.bs_stim.specs.Runs.{Stimulus, run_at}
 use Rattle.bs_stim.specs.StimulusText.{stimulus_of}
 use Rattle.bs_net.specs.Decided.{passes}
@@ -34,9 +33,9 @@ checked_of (Err reason) = Err reason
 abbrev pub netlist_in : List ℕ → Result Parts (Reason Parts)
 netlist_in bytes = checked_of (with_reason netlist_text_reason (netlist_text bytes))
 
--- what the lines of a signature file say: two cycles are not taken
+-- what the lines of a signature file say
 abbrev pub choice_in : Parts → List (List ℕ) → Result Chosen ChoiceFault
-choice_in raw texts = if keeps_two texts then Err (Line 1) else choice_of raw texts
+choice_in raw texts = choice_of raw texts
 
 -- what a signature is taken of, by the keys of a netlist's flip-flops
 abbrev pub signature_in : Parts → List ℕ → Result Chosen (Reason Parts)

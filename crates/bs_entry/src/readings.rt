@@ -9,7 +9,6 @@ ghost use Rattle.bs_stim.specs.declared.limits.TheConstants.{MAX_CYCLES, MAX_RUN
 ghost use Rattle.bs_stim.specs.Runs.{inputs_of, run_at};
 ghost use Rattle.bs_report.specs.declared.limits.TheConstants.{MAX_STEPS};
 ghost use Rattle.bs_scan.specs.Crash.{DumpFits};
-ghost use Rattle.bs_scan.specs.ChoiceText.{keeps_two};
 ghost use Rattle.bs_scan.specs.Moments.{IsMoment};
 ghost use Rattle.bs_job.specs.Walks.{Reads};
 ghost use Rattle.bs_entry.specs.Entry.{input_width};
@@ -21,7 +20,6 @@ use crate::refusals::{
     check_refusal, dump_refusal, netlist_text_refusal, range_refusal, report_refusal,
     signature_refusal, stimulus_refusal, too_large_refusal,
 };
-use bs_bits::next_line;
 use bs_job::Refusal;
 use bs_net::{Netlist, Raw};
 use bs_report::Report;
@@ -50,24 +48,11 @@ fn check_netlist(alloc: Global, raw: Raw) -> Result<Netlist, Refusal>
     }
 }
 
-/// Whether the first line of a signature file asks for two cycles.
-fn asks_two(bytes: &[u8]) -> bool
-    ensures { result ≡ keeps_two (lines_of bytes.now) }
-{
-    match next_line(bytes) {
-        Some((line, _)) => line == b"cycles 2",
-        None => false,
-    }
-}
-
-/// What a signature is taken of: two cycles are not taken.
+/// What a signature is taken of.
 pub fn read_choice(alloc: Global, bytes: &[u8], net: &Netlist) -> Result<Choice, ChoiceFault>
     requires { length bytes.now ≤ MAX_SIGNATURE_BYTES }
     ensures { Answers ChoiceFault.NoMemory (λ choice. choice) result (choice_in net.now.raw (lines_of bytes.now)) }
 {
-    if asks_two(bytes) {
-        return Err(ChoiceFault::Line(1));
-    }
     Choice::read(alloc, bytes, net)
 }
 

@@ -5,6 +5,8 @@ ghost use Rattle.bs_report.specs.declared.limits.TheConstants.{MAX_STEPS};
 ghost use Rattle.bs_stim.specs.Runs.{inputs_of};
 ghost use Rattle.bs_scan.specs.Crash.{DumpFits};
 ghost use Rattle.bs_scan.specs.Moments.{IsMoment};
+ghost use Rattle.std.proofs.Props.{props};
+ghost use Rattle.bs_entry.specs.Props.{depth_prop};
 
 use bs_net::Netlist;
 use bs_report::Report;
@@ -42,7 +44,7 @@ pub struct Placed {
 pub struct Crashed {
     pub setup: Setup,
     pub dump: Dump,
-    ghost fits: { DumpFits (circuit setup.net) setup.choice dump },
+    ghost fits: { DumpFits (circuit setup.net) setup.choice dump } by { Prim.hlevel (props, depth_prop) },
 }
 
 /// A crash and a report of its backtrace.

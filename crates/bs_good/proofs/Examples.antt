@@ -93,7 +93,13 @@ shift =
       nets = 4;
       clock = net 0;
       inputs = net 1 ∷ [];
-      flops = record { q = net 2; d = net 1; ck = net 0; reset = false; mode = Plain } ∷ record { q = net 3; d = net 2; ck = net 0; reset = false; mode = Plain } ∷ [];
+      flops = record { q = net 2; d = net 1; ck = net 0; reset = false; mode = Plain } ∷ record {
+        q = net 3;
+        d = net 2;
+        ck = net 0;
+        reset = false;
+        mode = Plain;
+      } ∷ [];
       gates = [];
       constants = [];
     }

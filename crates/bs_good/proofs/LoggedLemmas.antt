@@ -231,7 +231,8 @@ step_right crash r is good names k step e =
     record {
       state = ap (λ (o : Option Present). has_state o step.present) due ∙ bits_same step.present;
       stored = ap (λ (o : Option Present). has_stored o (stored_of step)) due ∙ all_same (stored_of step);
-      cands = cand_right crash is r.budgets step h (all_at (λ (step : Step). HaveBefores crash.circuit crash.choice step.older step.cands) r.steps k step names.befores e) few;
+      cands = cand_right crash is r.budgets step h (all_at (λ
+          (step : Step). HaveBefores crash.circuit crash.choice step.older step.cands) r.steps k step names.befores e) few;
       count = count_right (asked_of crash step) r.budgets (lines_at r k) step.cands step.end (good.ends k step e);
       hit = ap (λ (o : Option HitLine). same_hit o (hit_of crash step.cands)) h.hit ∙ same_self (hit_of crash step.cands);
     }

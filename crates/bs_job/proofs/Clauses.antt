@@ -211,7 +211,13 @@ refuses_first {R = R} {W = W} allows finishes told before now (Some plan) status
       (ends_as_told told before now plan h.outcome h.ends no_fault);
   some_way = λ file is.
       let r = (each file).0 is in
-      record { file = r.file; reason = r.reason; status_is = r.status_is ∙ sym is; ends = subst (λ (o : Outcome R W). Ends told before now plan o) r.is h.ends };
+      record {
+        file = r.file;
+        reason = r.reason;
+        status_is = r.status_is ∙ sym is;
+        ends = subst (λ
+            (o : Outcome R W). Ends told before now plan o) r.is h.ends;
+      };
 }
   where
     each : (file : File) → (status ≡ refusal_status file) ↔ Refuses h.outcome (refusal_status file)

@@ -1,5 +1,6 @@
 -- Writes to planes that lie in another order than the nets: each net's bit is where its plane lies.
-use Rattle.std.proofs.Common.{◌≡◌, ◌≢◌, ℕ, ◌<◌, ◌≤◌, ◌+◌, ◌*◌, ◌/◌, ◌%◌, Bool, false, cond, ◌&&◌, ◌||◌, List, [], ◌∷◌, ◌++◌, map, length, get_or, set, replicate, refl, arith, subst, ap, sym, ◌∙◌, ⊎_elim, length-set, get_or-set_same, get_or-set_other}
+use Rattle.std.proofs.Common.{◌≡◌, ◌≢◌, ℕ, ◌<◌, ◌≤◌, ◌+◌, ◌*◌, ◌/◌, ◌%◌, Bool, false, cond, ◌&&◌, ◌||◌, List, [], ◌∷◌, ◌++◌, map, length, get_or, set}
+use Rattle.std.proofs.Common.{replicate, refl, arith, subst, ap, sym, ◌∙◌, ⊎_elim, length-set, get_or-set_same, get_or-set_other}
 use Rattle.std.specs.Prelude.{◌==◌, IsTrue, nat_lt}
 use Rattle.std.specs.Int.{bit_at}
 use Rattle.std.specs.List.{All, AllByRecursion}
@@ -28,7 +29,8 @@ use Rattle.bs_stim.specs.Packing.{bit_in}
 use Rattle.bs_plane.specs.Planes.{bit_place, lane, IsWidened}
 use Rattle.bs_plane.proofs.PlaneLemmas.{bit_from, lane_at, lane_zeros, length_lane}
 use Rattle.bs_lanes.specs.declared.layout.Layout.{Layout}
-use Rattle.bs_lanes.specs.Layout.{place_of, placed_net, placed_gate, placed_const, placed_mode, placed_flop, unplaced, words_by_net, layout_steps, AreInside, IsPlacing, IsLayout, IsGateOf, SettlesAll, HasLayout}
+use Rattle.bs_lanes.specs.Layout.{place_of, placed_net, placed_gate, placed_const, placed_mode, placed_flop, unplaced, words_by_net, layout_steps}
+use Rattle.bs_lanes.specs.Layout.{AreInside, IsPlacing, IsLayout, IsGateOf, SettlesAll, HasLayout}
 use Rattle.bs_lanes.specs.Lanes.{LaneTable, is_wide, IsLaneTable, AreReset, AreStepped}
 use Rattle.bs_lanes.specs.Program.{program_gates, HasGate}
 use Rattle.bs_lanes.specs.Settling.{HasPlane, HasFlop, lane_loads, RunsAll, LoadsAll, ResetsAll}

@@ -1,5 +1,6 @@
 -- Levels of nets, and an order of the gates by level.
-use Rattle.std.proofs.Common.{◌≡◌, ◌≢◌, ℕ, true, suc, ◌<◌, ◌≤◌, ◌+◌, List, [], ◌∷◌, ◌++◌, map, length, get_or, set, drop, take, max, refl, arith, subst, ap, sym, ◌∙◌, ⊎_elim, length-set, get_or-set_same, get_or-set_other, nat_eq}
+use Rattle.std.proofs.Common.{◌≡◌, ◌≢◌, ℕ, true, suc, ◌<◌, ◌≤◌, ◌+◌, List, [], ◌∷◌, ◌++◌, map, length, get_or, set, drop, take, max, refl, arith}
+use Rattle.std.proofs.Common.{subst, ap, sym, ◌∙◌, ⊎_elim, length-set, get_or-set_same, get_or-set_other, nat_eq}
 use Rattle.std.specs.List.{All, AllByRecursion, range_with_len, list_any}
 use Rattle.std.specs.List.Sorted.{IsPermutation, IsNonDecreasing}
 use Rattle.std.proofs.lemmas.Bool.{cases_eq, cases_lt, eqb-true, false≢true, or_cases}

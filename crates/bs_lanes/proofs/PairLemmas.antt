@@ -1,5 +1,6 @@
 -- Gates of two inputs as one formula.
-use Rattle.std.proofs.Common.{◌≡◌, ℕ, suc, zero, ◌<◌, ◌+◌, ◌*◌, Bool, true, false, ◌&&◌, List, [], ◌∷◌, map, length, get_or, drop, refl, arith, subst, ap, sym, ◌∙◌, ◌⊎◌, ⊎_elim, ◌≤◌}
+use Rattle.std.proofs.Common.{◌≡◌, ℕ, suc, zero, ◌<◌, ◌+◌, ◌*◌, Bool, true, false, ◌&&◌, List, [], ◌∷◌, map, length, get_or, drop, refl, arith, subst}
+use Rattle.std.proofs.Common.{ap, sym, ◌∙◌, ◌⊎◌, ⊎_elim, ◌≤◌}
 use Rattle.std.specs.Prelude.{IsTrue}
 use Rattle.std.specs.List.{All, AllByRecursion}
 use Rattle.std.specs.Int.Bits.{bit_and, bit_xor}

@@ -32,7 +32,8 @@ placed_at places order gates i d lt =
 
 -- the first gates of the order, and one more
 pub placed_more : (places order : List ℕ) (gates : List Gate) (i : ℕ) → i < length order →
-    take (i + 1) (placed_gates places order gates) ≡ take i (placed_gates places order gates) ++ placed_gate places (get_or gates (get_or order i 0) no_gate) ∷ []
+    take (i + 1) (placed_gates places order gates) ≡ take i (placed_gates places order gates) ++ placed_gate places (get_or gates
+    (get_or order i 0) no_gate) ∷ []
 placed_more places order gates i lt =
     take_more (placed_gates places order gates) i no_gate (omega (arith, lt, length_placed places order gates))
     ∙ ap (λ g. take i (placed_gates places order gates) ++ g ∷ []) (placed_at places order gates i no_gate lt)

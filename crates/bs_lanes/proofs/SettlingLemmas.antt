@@ -1,5 +1,6 @@
 -- Planes that are written one after another, lane by lane.
-use Rattle.std.proofs.Common.{◌≡◌, ◌≢◌, ℕ, suc, zero, ◌<◌, ◌≤◌, ◌+◌, ◌*◌, ◌%◌, Bool, true, false, not, ◌&&◌, ◌||◌, List, [], ◌∷◌, ◌++◌, map, length, get_or, set, drop, take, refl, arith, subst, ap, sym, ◌∙◌, ⊎_elim}
+use Rattle.std.proofs.Common.{◌≡◌, ◌≢◌, ℕ, suc, zero, ◌<◌, ◌≤◌, ◌+◌, ◌*◌, ◌%◌, Bool, true, false, not, ◌&&◌, ◌||◌, List, [], ◌∷◌, ◌++◌, map, length}
+use Rattle.std.proofs.Common.{get_or, set, drop, take, refl, arith, subst, ap, sym, ◌∙◌, ⊎_elim}
 use Rattle.std.specs.Prelude.{◌==◌, count_by, IsTrue}
 use Rattle.std.specs.Bool.{beq}
 use Rattle.std.specs.List.{All, AllByRecursion, list_all, list_any}

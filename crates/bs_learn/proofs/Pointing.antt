@@ -274,7 +274,8 @@ pub record FinalMarks (clauses : List Held) (levels : List Level) (places : List
 
 pub final_start : (clauses : List Held) (levels : List Level) (places : List Place) (vars at : ℕ) (c : Clause) (s0 s : MarkState) (hints : List ℕ) (down : ℕ) →
     IsWalkable clauses places → IsClauseAt clauses at c → has_distinct_variables c ≡ true → IsConflict (literals_of places) c → HasVariables vars c →
-    AreSpared clauses levels places → IsClear (vars + 1) s0 → HasMarked s0 s c → down ≡ length places → hints ≡ at ∷ [] → FinalMarks clauses levels places down vars s hints
+    AreSpared clauses levels places → IsClear (vars + 1) s0 → HasMarked s0 s c → down ≡ length places → hints ≡ at ∷ [] →
+    FinalMarks clauses levels places down vars s hints
 final_start clauses levels places vars at c s0 s hints down sound there distinct conflict range spared clear marked is_down is_hints =
     let first = mark_start clauses places at c vars s0 s sound there distinct conflict range clear marked in
     subst (λ d. FinalMarks clauses levels places d vars s hints) (sym is_down)
@@ -289,7 +290,8 @@ final_start clauses levels places vars at c s0 s hints down sound there distinct
     }))
 
 -- a place without a mark, or that no clause forced
-pub final_past : (clauses : List Held) (levels : List Level) (places : List Place) (down i vars : ℕ) (s : MarkState) (hints : List ℕ) (p : Place) → down ≡ suc i →
+pub final_past : (clauses : List Held) (levels : List Level) (places : List Place) (down i vars : ℕ) (s : MarkState) (hints : List ℕ) (p : Place) →
+    down ≡ suc i →
     slice_get places i ≡ Some p →
     ((is_marked s p.literal ≡ false) ⊎ (p.reason ≡ None)) → FinalMarks clauses levels places down vars s hints → FinalMarks clauses levels places i vars s hints
 final_past clauses levels places down i vars s hints p e at past v =
@@ -315,7 +317,8 @@ final_past clauses levels places down i vars s hints p e at past v =
       flags = w.flags;
     }
 
-pub final_step : (clauses : List Held) (levels : List Level) (places : List Place) (down i vars : ℕ) (s now : MarkState) (hints more : List ℕ) (p : Place) (r : ℕ) →
+pub final_step : (clauses : List Held) (levels : List Level) (places : List Place) (down i vars : ℕ) (s now : MarkState) (hints more : List ℕ)
+    (p : Place) (r : ℕ) →
     IsWalkable clauses places → All (λ c. has_distinct_variables c ≡ true) (live_clauses clauses) → All (HasVariables vars) (live_clauses clauses) →
     AreSpared clauses levels places → down ≡ suc i → slice_get places i ≡ Some p → p.reason ≡ Some r →
     is_marked s p.literal ≡ true → HasTraded s now (literals_at clauses r) p.literal → more ≡ hints ++ r ∷ [] →

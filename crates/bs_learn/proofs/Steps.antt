@@ -155,7 +155,8 @@ found clauses places conflict start down vars s now hints ahead l lits apart rea
 pub at_first : (clauses : List Held) (levels : List Level) (places : List Place) (vars conflict : ℕ) (s0 s : MarkState) (hints : List ℕ) (down : ℕ) →
     AreApart places → IsReasoned clauses places → All (HasVariables vars) (live_clauses clauses) →
     All (λ c. has_distinct_variables c ≡ true) (live_clauses clauses) →
-    IsConflictAt clauses (literals_of places) conflict → AreSpared clauses levels places → IsClear (vars + 1) s0 → HasMarked s0 s (literals_at clauses conflict) →
+    IsConflictAt clauses (literals_of places) conflict → AreSpared clauses levels places → IsClear (vars + 1) s0 →
+    HasMarked s0 s (literals_at clauses conflict) →
     down ≡ length places → hints ≡ conflict ∷ [] → FinalMarks clauses levels places down vars s hints
 at_first clauses levels places vars conflict s0 s hints down apart reasons range distinct lost spared clear marked is_down is_hints =
     let c : Clause = literals_at clauses conflict in
@@ -176,14 +177,16 @@ past_free clauses levels places down vars s hints l above at past w =
       | inr free ↦ inr (reason_is places (down - 1) l None at free)
     ]) w
 
-pub traded_free : (clauses : List Held) (levels : List Level) (places : List Place) (down vars : ℕ) (s now : MarkState) (hints next : List ℕ) (l : Literal) (r : ℕ) → 0 < down →
+pub traded_free : (clauses : List Held) (levels : List Level) (places : List Place) (down vars : ℕ) (s now : MarkState) (hints next : List ℕ)
+    (l : Literal) (r : ℕ) → 0 < down →
     AreApart places → IsReasoned clauses places → All (HasVariables vars) (live_clauses clauses) →
     All (λ c. has_distinct_variables c ≡ true) (live_clauses clauses) → AreSpared clauses levels places →
     IsLiteralAt places (down - 1) l → IsReasonIn places (down - 1) (Some r) → is_marked s l ≡ true →
     HasTraded s now (literals_at clauses r) l → next ≡ hints ++ r ∷ [] → FinalMarks clauses levels places down vars s hints →
     FinalMarks clauses levels places (down - 1) vars now next
 traded_free clauses levels places down vars s now hints next l r above apart reasons range distinct spared at is on traded is_next w =
-    final_step clauses levels places down (down - 1) vars s now hints next at.0 r (sound clauses places apart reasons) distinct range spared (omega (arith, above)) at.1
+    final_step clauses levels places down (down - 1) vars s now hints next at.0 r (sound clauses places apart reasons) distinct range spared (omega
+    (arith, above)) at.1
     (reason_is places (down - 1) l (Some r) at is) (marked_at places (down - 1) l s at on)
     (subst (HasTraded s now (literals_at clauses r)) (sym at.2) traded) is_next w
 

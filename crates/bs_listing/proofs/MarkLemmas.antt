@@ -156,12 +156,14 @@ marks_are measure r order table o checked e =
     let placed : Placed (length start) (map gate_write gs) =
     (let P : ℕ → Type 0 = λ k. Placed k (map gate_write gs) in subst P (sym wide) (gates_placed (circuit_of r) order o checked.in_range)) in
     let right : All (λ (g : Gate). mark_at (marked measure gs start) g.out.0 ≡ gate_mark measure (marked measure gs start) g) gs =
-    All-from_recursion (λ (g : Gate). mark_at (marked measure gs start) g.out.0 ≡ gate_mark measure (marked measure gs start) g) gs (each_right measure gs start o.earlier (gates_apart (circuit_of r) order o checked.single_driver) placed) in
+    All-from_recursion (λ (g : Gate). mark_at (marked measure gs start) g.out.0 ≡ gate_mark measure (marked measure gs start) g) gs
+    (each_right measure gs start o.earlier (gates_apart (circuit_of r) order o checked.single_driver) placed) in
     let moved = gates_move r.gates order o in
     let are : AreMarks measure r (marked measure gs start) =
     record {
       every_net = length-marked measure gs start ∙ wide;
-      driven = All-permutation (λ (g : Gate). mark_at (marked measure gs start) g.out.0 ≡ gate_mark measure (marked measure gs start) g) gs r.gates (IsPermutation-sym _ _ moved) right;
+      driven = All-permutation (λ (g : Gate). mark_at (marked measure gs start) g.out.0 ≡ gate_mark measure (marked measure gs start) g) gs r.gates
+          (IsPermutation-sym _ _ moved) right;
       others = λ n lt h.
           kept measure gs start n (recursion_from_All (λ (g : Gate). g.out.0 ≢ n) gs (All-permutation (λ (g : Gate). g.out.0 ≢ n) r.gates gs moved h))
           ∙ get_or-map-range_with_len (start_mark measure) 0 (length r.names) n n 0 lt (zero-add n);

@@ -25,4 +25,5 @@ pub common_end_is : (a b : List ℕ) (n : ℕ) → n ≤ length a → n ≤ leng
 common_end_is a b n left right same end =
     common_is (reverse a) (reverse b) n (omega (arith, length-reverse a)) (omega (arith, length-reverse b))
     (λ k lt. from_end a b k true (omega arith) (omega arith) (same k lt))
-    (λ p q. from_end a b n false (omega (arith, length-reverse a)) (omega (arith, length-reverse b)) (end (omega (arith, length-reverse a)) (omega (arith, length-reverse b))))
+    (λ p q. from_end a b n false (omega (arith, length-reverse a)) (omega (arith, length-reverse b)) (end (omega (arith, length-reverse a)) (omega
+    (arith, length-reverse b))))

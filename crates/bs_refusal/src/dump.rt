@@ -142,7 +142,13 @@ pub fn dump_note(
 {
     match fault {
         DumpFault::Line(number) => {
-            line_note(alloc, path, text, u64::from(number), form_of(widths.depth, number))
+            line_note(
+                alloc,
+                path,
+                text,
+                u64::from(number),
+                form_of(widths.depth, number),
+            )
         }
         DumpFault::Width(number) => width_note(alloc, path, text, widths, number),
         DumpFault::NotReset => note_on(

@@ -192,10 +192,7 @@ pub fn signature_note(
             path,
             text,
             u64::from(number),
-            say(
-                "a signature has at most 256 items",
-                "this is the 257th",
-            ),
+            say("a signature has at most 256 items", "this is the 257th"),
         ),
         ChoiceFault::UnknownFlop(number) => {
             unknown_note(alloc, path, text, net.raw(), u64::from(number))

@@ -289,8 +289,15 @@ at_turn r text a y h e = by (stop_in a) refl e
         let is_text : text ++ line a ≡ head_text (record r { stop = stop }) =
         three text (title_line r.depth) (budgets_text r.budgets) (steps_text r.depth 1 r.steps) (line a) h.2
         ∙ ap (λ t. title_line r.depth ++ (budgets_text r.budgets ++ (steps_text r.depth 1 r.steps ++ line t))) spells in
-        subst (λ (y : Reached). Next y text a) same
-        (record { budgets = h.0.budgets; depth = h.0.depth; steps = h.0.steps; few = h.0.few }, record { states = h.1.states; inputs = h.1.inputs; log = h.1.log }, is_text)
+        subst (λ (y : Reached). Next y text a) same (
+          record { budgets = h.0.budgets; depth = h.0.depth; steps = h.0.steps; few = h.0.few },
+          record {
+            states = h.1.states;
+            inputs = h.1.inputs;
+            log = h.1.log;
+          },
+          is_text,
+        )
 
 at_present : (r : Report) (text a : List ℕ) (y : Reached) → Fits places.Present r text → taken places.Present r a ≡ Some y → Next y text a
 at_present r text a y h e =
@@ -477,7 +484,11 @@ at_state left r text a y h e =
     by false z after s is more t =
         let some : left ≡ 0 → ⊥ = eqb-false left 0 z in
         subst (λ (after : Report). Fits (places.Input left) after (text ++ line a)) (sym is) (
-          record { head = record { budgets = h.0.head.budgets; depth = h.0.head.depth; steps = h.0.head.steps; few = h.0.head.few }; log = h.0.log; small = h.0.small },
+          record {
+            head = record { budgets = h.0.head.budgets; depth = h.0.head.depth; steps = h.0.head.steps; few = h.0.head.few };
+            log = h.0.log;
+            small = h.0.small;
+          },
           more,
           omega (arith, some),
           t,
@@ -557,7 +568,11 @@ at_lines left r text a y h e =
     let count : length r.log + left ≡ length (r.log ++ m.value ∷ []) + (left - 1) = omega (arith, more, h.3) in
     subst (λ (y : Reached). Next y text a) same
     (lines_left (left - 1) after (text ++ line a)
-    (record { head = record { budgets = h.0.head.budgets; depth = h.0.head.depth; steps = h.0.head.steps; few = h.0.head.few }; small = h.0.small; more = h.0.more })
+    (record {
+      head = record { budgets = h.0.head.budgets; depth = h.0.head.depth; steps = h.0.head.steps; few = h.0.head.few };
+      small = h.0.small;
+      more = h.0.more;
+    })
     (each_more HasText r.log m.value h.1 l.0) (omega (arith, count, h.2))
     (five text (head_text r) (trace_line (length r.inputs)) (woven r.states r.inputs) (log_line (length r.log + left)) (lines_text r.log) (line a) h.4
     ∙ (ap (λ t. head_text r ++ (trace_line (length r.inputs) ++ (woven r.states r.inputs ++ (log_line (length r.log + left) ++ t))))

@@ -6,7 +6,8 @@ use Rattle.std.proofs.lemmas.List.{take_more, append-nil, length-take-le}
 use Rattle.bs_report.specs.declared.report.Step.{Step}
 use Rattle.bs_report.specs.Text.{step_text, steps_text}
 
-pub steps_text_append : (d n : ℕ) (steps : List Step) (step : Step) → steps_text d n (steps ++ step ∷ []) ≡ steps_text d n steps ++ step_text d (n + length steps) step
+pub steps_text_append : (d n : ℕ) (steps : List Step) (step : Step) →
+    steps_text d n (steps ++ step ∷ []) ≡ steps_text d n steps ++ step_text d (n + length steps) step
 steps_text_append d n [] step =
     append-nil (step_text d n step) ∙ ap (λ (k : ℕ). step_text d k step) (let e : n ≡ n + 0 = omega arith in e)
 steps_text_append d n (s ∷ ss) step =
@@ -25,7 +26,8 @@ steps_text_more d steps i number step lt e n =
 
 -- what a step appends
 pub steps_step : (d : ℕ) (old before after : List ℕ) (steps : List Step) (i number : ℕ) (step : Step) → before ≡ old ++ steps_text d 1 (take i steps) →
-    after ≡ before ++ step_text d number step → i < length steps → step ≡ get_or steps i step → number ≡ i + 1 → after ≡ old ++ steps_text d 1 (take (i + 1) steps)
+    after ≡ before ++ step_text d number step → i < length steps → step ≡ get_or steps i step → number ≡ i + 1 →
+    after ≡ old ++ steps_text d 1 (take (i + 1) steps)
 steps_step d old before after steps i number step e f lt is n =
     f ∙ (ap (λ (t : List ℕ). t ++ step_text d number step) e
     ∙ (append_assoc old (steps_text d 1 (take i steps)) (step_text d number step)

@@ -48,7 +48,8 @@ held_is word number items None w h =
 held_is word number items (Some t) w h =
     ap (λ rest. cond {A = Result (Option (List Bool)) DumpFault} (is_text (codes "none") rest) (Ok None)
     (of_width number items (option_and_then bits_of rest) >>= λ bits. Ok (Some bits))) (w.again (bits_text t))
-    ∙ (ap (λ b. cond {A = Result (Option (List Bool)) DumpFault} b (Ok None) (of_width number items (bits_of (bits_text t)) >>= λ bits. Ok (Some bits))) (not_none t)
+    ∙ (ap (λ b. cond {A = Result (Option (List Bool)) DumpFault} b (Ok None) (of_width number items (bits_of (bits_text t)) >>= λ bits. Ok
+    (Some bits))) (not_none t)
     ∙ ap (λ r. r >>= λ bits. Ok (Some bits)) (width_is number items t (recursion_from_All (λ (t : List Bool). length t ≡ items) (t ∷ []) h).0))
 
 old_is : (items : ℕ) (stored older : Option (List Bool)) → (stored ≡ None → older ≡ None) → All (λ t. length t ≡ items) (option_to_list older) →

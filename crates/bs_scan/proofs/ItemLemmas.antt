@@ -59,10 +59,12 @@ pub item_step : (whole : Items) (net : Parts) (at number : ℕ) (items : List (L
 unfolding items_of
 item_step whole net at number items lines more line item e l r =
     e ∙ (ap (λ ls. with_front items (items_of net at number ls)) l
-    ∙ (ap (λ o. with_front items (o >>= λ item. items_of net (at + 1) (number + 1) more >>= put item)) r ∙ front_more items item (items_of net (at + 1) (number + 1) more)))
+    ∙ (ap (λ o. with_front items (o >>= λ item. items_of net (at + 1) (number + 1) more >>= put item)) r ∙ front_more items item (items_of net
+    (at + 1) (number + 1) more)))
 
 pub item_refused : (whole : Items) (net : Parts) (at number : ℕ) (items : List (List ℕ)) (lines more : List (List ℕ)) (line : List ℕ) (f : ChoiceFault) →
-    whole ≡ with_front items (items_of net at number lines) → lines ≡ line ∷ more → (f ≡ NoMemory) ⊎ (item_of net at number (names_of (words_of line)) ≡ Err f) →
+    whole ≡ with_front items (items_of net at number lines) → lines ≡ line ∷ more →
+    (f ≡ NoMemory) ⊎ (item_of net at number (names_of (words_of line)) ≡ Err f) →
     (f ≡ NoMemory) ⊎ (whole ≡ Err f)
 unfolding items_of
 item_refused whole net at number items lines more line f e l (inl none) = inl none

@@ -20,14 +20,16 @@ onto_zero (count ∷ counts) = ap (λ (k : ℕ). k ∷ counts) (let e : 0 + coun
 abbrev counts_of : List (List Line) → List ℕ
 counts_of steps = map (λ lines. count_by is_lemma_line lines) steps
 
-onto_lemma : (n : ℕ) (line : Line) (steps : List (List Line)) → is_lemma_line line ≡ true → onto_count (n + 1) (counts_of steps) ≡ onto_count n (counts_of (onto_step line steps))
+onto_lemma : (n : ℕ) (line : Line) (steps : List (List Line)) → is_lemma_line line ≡ true →
+    onto_count (n + 1) (counts_of steps) ≡ onto_count n (counts_of (onto_step line steps))
 onto_lemma n line [] is = refl
 onto_lemma n line (step ∷ steps) is =
     let more : count_by is_lemma_line (line ∷ step) ≡ 1 + count_by is_lemma_line step =
     sum_by-cons (λ (l : Line). cond (is_lemma_line l) 1 0) line step ∙ ap (λ b. cond b 1 0 + count_by is_lemma_line step) is in
     ap (λ (k : ℕ). k ∷ counts_of steps) (let e : n + 1 + count_by is_lemma_line step ≡ n + count_by is_lemma_line (line ∷ step) = omega (arith, more) in e)
 
-onto_other : (n : ℕ) (line : Line) (steps : List (List Line)) → is_lemma_line line ≡ false → onto_count n (counts_of steps) ≡ onto_count n (counts_of (onto_step line steps))
+onto_other : (n : ℕ) (line : Line) (steps : List (List Line)) → is_lemma_line line ≡ false →
+    onto_count n (counts_of steps) ≡ onto_count n (counts_of (onto_step line steps))
 onto_other n line [] is = refl
 onto_other n line (step ∷ steps) is =
     let more : count_by is_lemma_line (line ∷ step) ≡ 0 + count_by is_lemma_line step =

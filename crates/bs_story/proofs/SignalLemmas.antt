@@ -1,5 +1,6 @@
 -- The bits and the lines of signals, one after another; and how many bits a signal has.
-use Rattle.std.proofs.Common.{◌≡◌, ◌≤◌, ℕ, suc, ◌<◌, ◌+◌, ◌^◌, Bool, true, false, List, [], ◌∷◌, ◌++◌, length, map, take, get_or, refl, ap, sym, ◌∙◌, arith, append_assoc, Option}
+use Rattle.std.proofs.Common.{◌≡◌, ◌≤◌, ℕ, suc, ◌<◌, ◌+◌, ◌^◌, Bool, true, false, List, [], ◌∷◌, ◌++◌, length, map, take, get_or, refl, ap, sym, ◌∙◌}
+use Rattle.std.proofs.Common.{arith, append_assoc, Option}
 use Rattle.std.specs.Prelude.{Vec, Result, IfOk, if◌then◌else◌}
 use Rattle.std.specs.List.{All, flat_map}
 use Rattle.std.specs.declared.alloc.Global.{Global}
@@ -28,7 +29,8 @@ signals_more kind cycle before now signals i d old text after lt e f =
     let piece : Signal → List ℕ = signal_piece kind cycle before now in
     let more : map signal_in (take (i + 1) signals) ≡ map signal_in (take i signals) ++ signal_in (get_or signals i d) ∷ [] =
     ap (map signal_in) (take_more signals i d lt) ∙ map-append signal_in (take i signals) (get_or signals i d ∷ []) in
-    let put : flat_map piece (map signal_in (take (i + 1) signals)) ≡ flat_map piece (map signal_in (take i signals)) ++ piece (signal_in (get_or signals i d)) =
+    let put : flat_map piece (map signal_in (take (i + 1) signals)) ≡ flat_map piece (map signal_in (take i signals)) ++ piece (signal_in
+    (get_or signals i d)) =
     ap (flat_map piece) more
     ∙ (flat_map-append piece (map signal_in (take i signals)) (signal_in (get_or signals i d) ∷ [])
     ∙ ap (λ (t : List ℕ). flat_map piece (map signal_in (take i signals)) ++ t) (append-nil (piece (signal_in (get_or signals i d))))) in

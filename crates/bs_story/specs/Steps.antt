@@ -1,5 +1,6 @@
 -- The steps of a report, a line each (docs/FORMATS.md, "Texts of `backspace_inspect`").
-use Rattle.std.specs.Prelude.{◌≡◌, ℕ, ◌+◌, Bool, false, not, List, [], ◌∷◌, ◌++◌, length, codes, decimal, count_by, slice_index_or, slice_get, Option, Some, None, if◌then◌else◌}
+use Rattle.std.specs.Prelude.{◌≡◌, ℕ, ◌+◌, Bool, false, not, List, [], ◌∷◌, ◌++◌, length, codes, decimal, count_by, slice_index_or, slice_get, Option}
+use Rattle.std.specs.Prelude.{Some, None, if◌then◌else◌}
 use Rattle.std.specs.Bool.{beq}
 use Rattle.std.specs.List.{flat_map, list_any, range_with_len}
 use Rattle.bs_bits.specs.Lines.{line}

@@ -431,7 +431,13 @@ mode_more n m (modes.Clear r) le w = nets_more n m (r ∷ []) le w
 
 flops_more : (n m : ℕ) (fs : List Flop) → n ≤ m → All (IsFlopPlaced n) fs → All (IsFlopPlaced m) fs
 flops_more n m fs le all =
-    All-weaker (IsFlopPlaced n) (IsFlopPlaced m) (λ f w. (omega (arith, w.0, le), omega (arith, w.1, le), omega (arith, w.2, le), mode_more n m f.mode le w.3)) fs
+    All-weaker (IsFlopPlaced n) (IsFlopPlaced m) (λ f w. (
+      omega (arith, w.0, le),
+      omega (arith, w.1, le),
+      omega
+          (arith, w.2, le),
+      mode_more n m f.mode le w.3,
+    )) fs
     all
 
 abbrev no_nets : Made → List NetId × Made

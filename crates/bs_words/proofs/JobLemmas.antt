@@ -1,5 +1,6 @@
 -- The job that words spell is the one that is read of them.
-use Rattle.std.proofs.Common.{◌≡◌, ◌⊎◌, inl, inr, ⊎_elim, ℕ, ◌^◌, ◌-◌, Bool, true, false, cond, ◌||◌, List, [], ◌∷◌, ◌++◌, map, refl, arith, ap, sym, subst, ◌∙◌}
+use Rattle.std.proofs.Common.{◌≡◌, ◌⊎◌, inl, inr, ⊎_elim, ℕ, ◌^◌, ◌-◌, Bool, true, false, cond, ◌||◌, List, [], ◌∷◌, ◌++◌, map, refl, arith, ap, sym}
+use Rattle.std.proofs.Common.{subst, ◌∙◌}
 use Rattle.std.proofs.Common.{Option, Some, None, append-nil}
 use Rattle.std.specs.Prelude.{codes, decimal, ◌==◌, ◌≢◌, MatchOption}
 use Rattle.std.specs.List.{flat_map, list_all}
@@ -16,7 +17,8 @@ use Rattle.bs_words.specs.declared.line.Mode.TheVariants.{Plain}
 use Rattle.bs_words.specs.Options.{number_between}
 use Rattle.bs_words.specs.Line.{Line, read_all, start}
 use Rattle.bs_words.specs.Job.{RunJob, AuditJob, DumpJob, ReachJob, Job, Run, Audit, Dump, Demo, Wave, Reach}
-use Rattle.bs_words.specs.Job.{is_bit, is_state, reach_of, reach_at, reach_if, reach_job, wave_at, wave_job, run_at, run_job, audit_at, audit_job, dump_of, dump_at}
+use Rattle.bs_words.specs.Job.{is_bit, is_state, reach_of, reach_at, reach_if, reach_job, wave_at, wave_job, run_at, run_job, audit_at, audit_job}
+use Rattle.bs_words.specs.Job.{dump_of, dump_at}
 use Rattle.bs_words.specs.Job.{dump_job, demo_at, demo_job, job_of}
 use Rattle.bs_words.specs.Spelling.{spelling, positions_of, options_of, given, values_of, listed, IsLine, plain, IsRun, IsDump, IsDemo}
 use Rattle.bs_words.specs.Spelling.{IsStateWord, IsReach, IsJob}

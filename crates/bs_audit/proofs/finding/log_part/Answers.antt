@@ -13,7 +13,7 @@ assumptions-requires c =
     record {
       sound =
           rw c.slice.ensures (tidy_fit
-          (circuit c.args.net.now) c.args.choice.now c.in_ok-encoding.encoding c.args.report.now.steps c.depth-_depth.ensures.sound.kept
+          (circuit c.args.net.now) c.args.choice.now c.in_ok-encoding.encoding c.args.report.now.steps c.depth-depth.ensures.sound.kept
           c.in_ok-encoding.ensures.tidy c.requires.sound);
       next = c.in_ok-encoding.ensures.tidy.next_width ∙ sym c.in_ok-encoding.ensures.tidy.states_width;
       room = omega (arith, c.in_ok-encoding.ensures.tidy.room, c.requires.few, ap length c.slice.ensures);
@@ -25,7 +25,7 @@ logged_part-requires c =
       width = c.width.ensures ∙ sym c.in_ok-encoding.ensures.tidy.states_width;
       room = omega (arith, c.in_ok-encoding.ensures.tidy.room, c.requires.few);
       sound =
-          tidy_fit (circuit c.args.net.now) c.args.choice.now c.in_ok-encoding.encoding c.args.report.now.steps c.depth-_depth.ensures.sound.kept
+          tidy_fit (circuit c.args.net.now) c.args.choice.now c.in_ok-encoding.encoding c.args.report.now.steps c.depth-depth.ensures.sound.kept
           c.in_ok-encoding.ensures.tidy c.requires.sound;
       assumptions =
           ap length (rw c.slice.ensures at c.in_ok-assumptions.ensures)

@@ -6,5 +6,6 @@ use Rattle.bs_audit.proofs.law.valid_reports_are_good.Goals as goal
 pub returns : goal.returns
 returns c =
     valid_good (recording_of c.args.net.now.raw c.args.choice.now c.args.runs.now)
-    (recording_is c.args.net.now.raw c.args.choice.now c.args.runs.now c.raw-raw.ensures.checked c.count-count.ensures.sound c.requires.choice c.requires.runs)
+    (recording_is c.args.net.now.raw c.args.choice.now c.args.runs.now c.raw-raw.ensures.checked c.depth-depth.ensures.sound.kept
+    c.count-count.ensures.sound c.requires.choice c.requires.runs)
     c.predecessors_are_shown.ensures

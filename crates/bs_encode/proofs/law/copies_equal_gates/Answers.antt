@@ -14,7 +14,8 @@ returns c =
     let placed = parts_placed c.args.net.now.raw c.raw-raw.ensures.placed c.args.choice.now.items (subst P c.requires c.items-items.ensures.sound.in_range) in
     let room =
     (room_for_guards (circuit c.args.net.now)
-    c.args.choice.now.items c.raw-raw.ensures.checked c.raw-raw.ensures.bounded c.items-items.ensures.sound.few_numbers c.items-items.ensures.sound.few_items) in
+    c.args.choice.now.items c.raw-raw.ensures.checked c.raw-raw.ensures.bounded c.items-items.ensures.sound.few_numbers
+    c.items-items.ensures.sound.few_items) in
     let t = is_transition (circuit c.args.net.now) c.args.choice.now.items c.raw-raw.ensures.checked placed in
     copies_equal (circuit c.args.net.now) c.args.choice.now.items c.raw-raw.ensures.checked placed
     (is_linkable (circuit c.args.net.now) c.args.choice.now.items (encoding_of (circuit c.args.net.now) c.args.choice.now.items) t (omega (arith, room)))

@@ -11,7 +11,8 @@ stretches-preserved c =
     let whole : take (length c.args.order.now - c.stretches.at) rest ≡ rest =
     take_all (length c.args.order.now - c.stretches.at) rest (omega (arith, length-drop c.stretches.at c.args.order.now)) in
     let Q : List ℕ → Type 0 = λ is. IsFirst (placed_gates c.args.places.now is c.args.gates.now) c.in_ok-stretch.stretch c.in_ok-stretch.count in
-    let first : IsFirst (placed_gates c.args.places.now rest c.args.gates.now) c.in_ok-stretch.stretch c.in_ok-stretch.count = subst Q whole c.in_ok-stretch.ensures in
+    let first : IsFirst (placed_gates c.args.places.now rest c.args.gates.now) c.in_ok-stretch.stretch c.in_ok-stretch.count = subst Q whole
+    c.in_ok-stretch.ensures in
     record {
       within = omega
           (arith, first.few, length_placed c.args.places.now rest c.args.gates.now, length-drop c.stretches.at c.args.order.now, c.stretches.invariant.within);

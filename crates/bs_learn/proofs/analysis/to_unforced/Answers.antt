@@ -21,14 +21,18 @@ walk-init c =
 
 pub walk-preserved : goal.walk-preserved
 walk-preserved c =
-    past_free c.args.arena.now.clauses c.args.watch.now.levels c.args.watch.now.trail.places c.walk.down c.args.watch.now.trail.vars c.walk.marks c.walk.hints.items
-    c.literal_at-pivot.result (c.goes_on.ensures.some c.walk-test.true) c.literal_at-pivot.ensures.literal (inl (sym c.has.ensures ∙ c.if-has.false)) c.walk.invariant
+    past_free c.args.arena.now.clauses c.args.watch.now.levels c.args.watch.now.trail.places c.walk.down c.args.watch.now.trail.vars c.walk.marks
+    c.walk.hints.items
+    c.literal_at-pivot.result (c.goes_on.ensures.some c.walk-test.true) c.literal_at-pivot.ensures.literal (inl
+    (sym c.has.ensures ∙ c.if-has.false)) c.walk.invariant
 
 pub walk-preserved-in-None : goal.walk-preserved-in-None
 walk-preserved-in-None c =
     let is : IsReasonIn c.args.watch.now.trail.places (c.walk.down - 1) c.reason_at.result = c.reason_at.ensures in
-    past_free c.args.arena.now.clauses c.args.watch.now.levels c.args.watch.now.trail.places c.walk.down c.args.watch.now.trail.vars c.walk.marks c.walk.hints.items
-    c.literal_at-pivot.result (c.goes_on.ensures.some c.walk-test.true) c.literal_at-pivot.ensures.literal (inr (is.0, is.1, is.2 ∙ c.in-None.is)) c.walk.invariant
+    past_free c.args.arena.now.clauses c.args.watch.now.levels c.args.watch.now.trail.places c.walk.down c.args.watch.now.trail.vars c.walk.marks
+    c.walk.hints.items
+    c.literal_at-pivot.result (c.goes_on.ensures.some c.walk-test.true) c.literal_at-pivot.ensures.literal (inr
+    (is.0, is.1, is.2 ∙ c.in-None.is)) c.walk.invariant
 
 pub trade-requires-clause-live : goal.trade-requires-clause-live
 trade-requires-clause-live c =
@@ -54,17 +58,24 @@ trade-requires-clause-known c =
 pub walk-preserved-in_ok-trade-in-Some : goal.walk-preserved-in_ok-trade-in-Some
 walk-preserved-in_ok-trade-in-Some c =
     let is : IsReasonIn c.args.watch.now.trail.places (c.walk.down - 1) c.reason_at.result = c.reason_at.ensures in
-    traded_free c.args.arena.now.clauses c.args.watch.now.levels c.args.watch.now.trail.places c.walk.down c.args.watch.now.trail.vars c.walk.marks c.trade.new.marks
-    c.walk.hints.items c.trade.new.hints.items c.literal_at-pivot.result c.in-Some.reason (c.goes_on.ensures.some c.walk-test.true) c.holds_levels.ensures.apart c.requires.reasoned
-    c.requires.range c.requires.distinct c.requires.spared c.literal_at-pivot.ensures.literal (is.0, is.1, is.2 ∙ c.in-Some.is) (sym c.has.ensures ∙ c.if-has.true)
+    traded_free c.args.arena.now.clauses c.args.watch.now.levels c.args.watch.now.trail.places c.walk.down c.args.watch.now.trail.vars c.walk.marks
+    c.trade.new.marks
+    c.walk.hints.items c.trade.new.hints.items c.literal_at-pivot.result c.in-Some.reason
+    (c.goes_on.ensures.some c.walk-test.true) c.holds_levels.ensures.apart c.requires.reasoned
+    c.requires.range c.requires.distinct c.requires.spared c.literal_at-pivot.ensures.literal (is.0, is.1, is.2 ∙ c.in-Some.is)
+    (sym c.has.ensures ∙ c.if-has.true)
     c.in_ok-trade-in-Some.ensures.marks c.in_ok-trade-in-Some.ensures.hints c.walk.invariant
 
 pub returns-clause-learnt : goal.returns-clause-learnt
 returns-clause-learnt c =
-    (done c.args.arena.now.clauses c.args.watch.now.levels c.args.watch.now.trail.places c.walk.down c.args.watch.now.trail.vars c.walk.marks c.marked_lits.new.marks
-    c.walk.hints.items c.in_ok-lits.lits (c.goes_on.ensures.none c.walk-test.false) c.requires.spared c.holds_levels.ensures.apart c.requires.reasoned c.in_ok-lits.ensures c.walk.invariant).learnt
+    (done c.args.arena.now.clauses c.args.watch.now.levels c.args.watch.now.trail.places c.walk.down c.args.watch.now.trail.vars c.walk.marks
+    c.marked_lits.new.marks
+    c.walk.hints.items c.in_ok-lits.lits (c.goes_on.ensures.none c.walk-test.false) c.requires.spared c.holds_levels.ensures.apart
+    c.requires.reasoned c.in_ok-lits.ensures c.walk.invariant).learnt
 
 pub returns-clause-unforced : goal.returns-clause-unforced
 returns-clause-unforced c =
-    (done c.args.arena.now.clauses c.args.watch.now.levels c.args.watch.now.trail.places c.walk.down c.args.watch.now.trail.vars c.walk.marks c.marked_lits.new.marks
-    c.walk.hints.items c.in_ok-lits.lits (c.goes_on.ensures.none c.walk-test.false) c.requires.spared c.holds_levels.ensures.apart c.requires.reasoned c.in_ok-lits.ensures c.walk.invariant).unforced
+    (done c.args.arena.now.clauses c.args.watch.now.levels c.args.watch.now.trail.places c.walk.down c.args.watch.now.trail.vars c.walk.marks
+    c.marked_lits.new.marks
+    c.walk.hints.items c.in_ok-lits.lits (c.goes_on.ensures.none c.walk-test.false) c.requires.spared c.holds_levels.ensures.apart
+    c.requires.reasoned c.in_ok-lits.ensures c.walk.invariant).unforced

@@ -12,7 +12,7 @@ seek-requires-clause-readable c =
 pub seek-requires-clause-older : goal.seek-requires-clause-older
 seek-requires-clause-older c =
     older_width (circuit c.args.net.now) c.args.choice.now c.args.encoding.now (option_map (λ bits. bits.now) c.args.asked.now.older)
-    c.requires.about.encoding c.encodings_are_tidy.ensures c.items-_items.ensures.sound.kept c.requires.alone c.requires.older
+    c.requires.about.encoding c.encodings_are_tidy.ensures c.items-items.ensures.sound.kept c.requires.alone c.requires.older
 
 -- src/step.rt:89:1
 pub returns-clause-ok : goal.returns-clause-ok
@@ -38,7 +38,7 @@ returns-clause-ok c =
       signature = c.requires.signature;
       older_wide = c.requires.older;
       alone = c.requires.alone;
-      kept = c.items-_items.ensures.sound.kept;
+      kept = c.items-items.ensures.sound.kept;
       sought = c.in_ok-end.ensures.ok;
       order = c.in_ok-cands.ensures;
       accepted = accepted_by c.seek.new.solver.book.problem c.seek.new.solver.book.history c.log-log.result.now c.log-log.ensures.lines

@@ -24,7 +24,8 @@ pub returns-in_err-read_item-clause-reads : goal.returns-in_err-read_item-clause
 returns-in_err-read_item-clause-reads c =
     let p = err_from_is_err_and c.from_residual.result c.from_residual.ensures.1 in
     rw (p.1, p.2)
-    (item_refused (items_of c.args.flops.now c.args.first 1 (lines_of c.args.bytes.now)) c.args.flops.now c.lines.at c.lines.number c.lines.items (lines_of c.lines.rest.now)
+    (item_refused (items_of c.args.flops.now c.args.first 1 (lines_of c.args.bytes.now)) c.args.flops.now c.lines.at c.lines.number c.lines.items
+    (lines_of c.lines.rest.now)
     (lines_of c.in-Some.behind.now) c.in-Some.line.now _
     c.lines.invariant.whole c.in-Some.ensures c.in_err-read_item.ensures.reads)
 
@@ -51,5 +52,6 @@ lines-preserved c =
 
 pub returns-clause-reads : goal.returns-clause-reads
 returns-clause-reads c =
-    items_end (items_of c.args.flops.now c.args.first 1 (lines_of c.args.bytes.now)) c.args.flops.now c.lines.at c.lines.number c.lines.items (lines_of c.lines.rest.now)
+    items_end (items_of c.args.flops.now c.args.first 1 (lines_of c.args.bytes.now)) c.args.flops.now c.lines.at c.lines.number c.lines.items
+    (lines_of c.lines.rest.now)
     c.lines.invariant.whole c.in_default.ensures

@@ -9,6 +9,6 @@ returns c =
     let setup = crashed.setup in
     finds_ok _ _ _
     (crash_is (recording_of setup.net.raw setup.choice setup.runs) crashed.dump
-    (recording_is setup.net.raw setup.choice setup.runs c.order-order.ensures.checked c.depth-_depth.ensures.sound.kept
+    (recording_is setup.net.raw setup.choice setup.runs c.order-order.ensures.checked c.depth-depth.ensures.sound.kept
     c.count-count.ensures.sound setup.states setup.inputs) crashed.fits)
     c.audit.ensures.finding c.audit.ensures.good

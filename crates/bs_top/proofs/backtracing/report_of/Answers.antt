@@ -9,7 +9,7 @@ returns-clause-backtrace c =
     let recorded = recording_of setup.net.raw setup.choice setup.runs in
     backtrace_ok recorded _ c.args.dump.now c.args.budgets.now _ c.in_ok-chip.ensures
     (crash_is recorded c.args.dump.now
-    (recording_is setup.net.raw setup.choice setup.runs c.order-order.ensures.checked c.depth-_depth.ensures.sound.kept
+    (recording_is setup.net.raw setup.choice setup.runs c.order-order.ensures.checked c.depth-depth.ensures.sound.kept
     c.count-count.ensures.sound setup.states setup.inputs)
     c.requires.dump)
     c.backtrace.ensures.budgets c.backtrace.ensures.good c.backtrace.ensures.valid c.backtrace.ensures.lean c.backtrace.ensures.bound
