@@ -29,7 +29,8 @@ first-requires c =
     let cands : List Cand = c.in_ok-listing.listing.cands in
     subst (All (λ (cand : Cand). length cand.state ≡ length c.args.chip.now.recording.circuit.flops)) (sym c.slice.ensures)
     (subst (λ (k : Circuit). All (λ (cand : Cand). length cand.state ≡ length k.flops) cands) c.requires.circuit
-    (candidate_widths old.circuit old.choice c.args.now.now.state (c.args.stored.now ∷ option_to_list c.args.now.now.older) cands c.in_ok-listing.ensures.ok.candidates))
+    (candidate_widths old.circuit old.choice c.args.now.now.state
+    (c.args.stored.now ∷ option_to_list c.args.now.now.older) cands c.in_ok-listing.ensures.ok.candidates))
 
 pub returns-clause-back : goal.returns-clause-back
 returns-clause-back c =
@@ -37,6 +38,7 @@ returns-clause-back c =
     record {
       listed = c.in_ok-listing.ensures.ok;
       calls = c.list.ensures.calls;
-      line = hit_is c.args.chip.now.recording c.args.now.now c.in_ok-listing.listing.cands c.in_ok-hit.hit (rw c.slice.ensures at c.in_ok-hit.ensures.first) dump;
+      line = hit_is c.args.chip.now.recording c.args.now.now c.in_ok-listing.listing.cands c.in_ok-hit.hit
+          (rw c.slice.ensures at c.in_ok-hit.ensures.first) dump;
       dump = dump;
     }
