@@ -19,8 +19,7 @@ step_text first steps second = pair_text (first ++ (codes " " ++ decimal steps))
 abbrev pub empty_text : ℕ → List ℕ
 empty_text steps =
     if steps == 1 then pair_text (codes "no state with the stored signature leads to the dumped state")
-    (codes "look at the dump: its bits are in the order of the netlist's flip-flops, the first on the left; is it of this netlist, and `sig` of this
-      signature?")
+    (codes "look at the dump: its bits are in the order of the netlist's flip-flops, the first on the left; is it of this netlist, and `sig` of this signature?")
     else step_text (codes "no state with the stored signature leads to the state of the hit before step") steps
     (codes "a recorded run reached that state another way: are the netlist and the signature those of the chip?")
 

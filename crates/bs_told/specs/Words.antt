@@ -49,8 +49,7 @@ usage command =
     else (if bytes_eq command (codes "dump") then codes "usage: backspace dump NETLIST SIGNATURE STIMULUS RUN CYCLE"
     else (if bytes_eq command (codes "demo") then codes "usage: backspace demo NUMBER"
     else (if bytes_eq command (codes "reach") then codes "usage: backspace reach NETLIST STATE CYCLES [--conflicts B]"
-    else codes "usage: backspace run NETLIST SIGNATURE STIMULUS DUMP [options], audit NETLIST SIGNATURE STIMULUS DUMP REPORT, wave NETLIST SIGNATURE
-      STIMULUS DUMP REPORT, dump NETLIST SIGNATURE STIMULUS RUN CYCLE, reach NETLIST STATE CYCLES [--conflicts B], or demo NUMBER")))))
+    else codes "usage: backspace run NETLIST SIGNATURE STIMULUS DUMP [options], audit NETLIST SIGNATURE STIMULUS DUMP REPORT, wave NETLIST SIGNATURE STIMULUS DUMP REPORT, dump NETLIST SIGNATURE STIMULUS RUN CYCLE, reach NETLIST STATE CYCLES [--conflicts B], or demo NUMBER")))))
 
 -- what else may be wrong where each word is of its form and their number is right
 abbrev pub rest_sentence : List ℕ → List ℕ
