@@ -135,8 +135,8 @@ from_reset : (c : Circuit) (choice : Chosen) (run : Run) (n k : ℕ) → k ≤ n
 from_reset c choice run zero zero h = refl
 from_reset c choice run (suc n) zero h = refl
 from_reset c choice run zero (suc k) h = absurd (omega (arith, h))
-from_reset c choice run (suc n) (suc k) h = ap (λ (l : List (List Bool)). signature choice (state_at c run k) ∷ l) (from_reset c choice run n k
-    (omega (arith, h)))
+from_reset c choice run (suc n) (suc k) h =
+    ap (λ (l : List (List Bool)). signature choice (state_at c run k) ∷ l) (from_reset c choice run n k (omega (arith, h)))
 
 -- it has been clocked from as many cycles before as it keeps signatures, or from reset
 pub filled_all : (c : Circuit) (choice : Chosen) (run : Run) (first cycle k : ℕ) (r : Register) → first ≡ cycle - depth_of choice → k ≡ cycle →
