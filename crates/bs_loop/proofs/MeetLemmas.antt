@@ -25,9 +25,9 @@ pub hit_fits : (r : Recording) (hit : Hit) → IsDepth (depth_of r.choice) → H
 hit_fits r hit kept is = subst (DumpFits r.circuit r.choice) (sym is) (dump_at_fits r (moment hit.run hit.cycle) kept)
 
 -- what is asked of a present whose register holds a signature
-pub record IsHeld (c : Circuit) (choice : Chosen) (now : Dump) (stored : List Bool) : Type 0 where
+pub record IsHeld (c : Circuit) (choice : Chosen) (now : Dump) (t : List Bool) : Type 0 where
   pub state : length now.state ≡ length c.flops
-  pub stored : length stored ≡ length choice.items
+  pub stored : length t ≡ length choice.items
   pub older : AreWide (length choice.items) now.older
   pub alone : depth_of choice ≡ 1 → now.older ≡ None
 
