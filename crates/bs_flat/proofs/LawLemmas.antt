@@ -1,7 +1,7 @@
 -- The flat parts keep the meaning of the design.
 use Rattle.std.proofs.Common.{◌≡◌, ◌≢◌, ℕ, ◌<◌, Bool, true, false, not, cond, ◌||◌, List, [], map, length, get_or, refl, subst, ap, sym, ◌∙◌, ⊎_elim}
 use Rattle.std.proofs.Common.{nat_eq, eq-eqb, ne_eqb, zero-add}
-use Rattle.std.specs.List.{AllByRecursion, All, Contains, IsDistinct, range_with_len}
+use Rattle.std.specs.List.{AllByRecursion, range_with_len}
 use Rattle.std.proofs.lemmas.Bool.{true≢false, eqb-true, cases_eq}
 use Rattle.std.proofs.lemmas.List.{length-map, get_or-map}
 use Rattle.std.proofs.lemmas.List.FromFn.{length-range_with_len, get_or-range_with_len}
@@ -19,7 +19,7 @@ use Rattle.bs_net.specs.Netlist.{circuit_of}
 use Rattle.bs_net.proofs.CallerLemmas.{passes_checked, exactly_one_fits, undriven_zero, zero_undriven, next_from_fits}
 use Rattle.bs_flat.specs.Design.{Design, Path, At, PathNet, net_on, own, path_nets, flops, gates, constants, joins, outer, inner, Join}
 use Rattle.bs_flat.specs.Meaning.{driven, clock, data_inputs, IsUndriven, Valuation, IsSettledAt, FitsDesign, mode_loads_on, loaded_on, loaded_by}
-use Rattle.bs_flat.specs.Flat.{IsDesign, flat_nets, flat_number, flat_net, flat_gate, flat_mode, flat_flop, flat_const, flat_parts, is_repeat}
+use Rattle.bs_flat.specs.Flat.{IsDesign, flat_nets, flat_number, flat_net, flat_gate, flat_mode, flat_flop, flat_const, flat_parts}
 use Rattle.bs_flat.specs.Law.{FlatMeans, FlatKeepsMeaning}
 use Rattle.bs_flat.proofs.MemberLemmas.{Member, all_member, all_of, filtered, member_map, mapped, map_twice, map_same, contained, member_at}
 use Rattle.bs_flat.proofs.RootLemmas.{Valid, member_valid, valid_member, wire_root}

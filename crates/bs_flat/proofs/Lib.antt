@@ -4,3 +4,4 @@ pub mod HomeLemmas
 pub mod DriverLemmas
 pub mod LawLemmas
 pub mod PathLemmas
+pub mod Examples

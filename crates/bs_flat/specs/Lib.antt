@@ -5,3 +5,8 @@ pub mod Flat
 pub mod Law
 -- What the list of its paths is.
 pub mod Paths
+-- The design that a text of several modules is, or its first refusal.
+pub mod Pieces
+pub mod Instancing
+pub mod Connecting
+pub mod Reading
