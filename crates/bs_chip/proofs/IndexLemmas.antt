@@ -1,5 +1,6 @@
 -- Prints of states, notes of them, and where a look may begin.
-use Rattle.std.proofs.Common.{◌≡◌, ℕ, ◌<◌, ◌≤◌, ◌+◌, ◌-◌, ◌*◌, ◌/◌, ◌%◌, Bool, true, false, List, [], ◌∷◌, ◌++◌, length, map, take, get_or, refl, arith, ap, ap₂, sym, subst, ◌∙◌, ⊎_elim, Option, Some, None, min, cond, fold}
+use Rattle.std.proofs.Common.{◌≡◌, ℕ, ◌<◌, ◌≤◌, ◌+◌, ◌-◌, ◌*◌, ◌/◌, ◌%◌, Bool, true, false, List, [], ◌∷◌, ◌++◌, length, map, take, get_or, refl}
+use Rattle.std.proofs.Common.{arith, ap, ap₂, sym, subst, ◌∙◌, ⊎_elim, Option, Some, None, min, cond, fold}
 use Rattle.std.specs.Prelude.{nat_eq, All}
 use Rattle.std.specs.HashMap.{get, HashMap}
 use Rattle.std.specs.Map.{lookup}
@@ -155,7 +156,8 @@ module _ {S : Type 0} where
 
   -- ---- where a look may begin
 
-  pub start_more : {X : Type 0} (f : X → List Bool) (first : HashMap ℕ ℕ S) (xs : List X) (i from next print cycle : ℕ) (x : X) (s : List Bool) → i < length xs →
+  pub start_more : {X : Type 0} (f : X → List Bool) (first : HashMap ℕ ℕ S) (xs : List X) (i from next print cycle : ℕ) (x : X) (s : List Bool) →
+      i < length xs →
       x ≡ get_or xs i x → s ≡ f x → print ≡ print_of s → cycle ≡ unwrap_or (get nat_eq first print) from → next ≡ min from cycle →
       All (λ x. HasNoneBefore first from (print_of (f x))) (take i xs) → All (λ x. HasNoneBefore first next (print_of (f x))) (take (i + 1) xs)
   start_more {X} f first xs i from next print cycle x s lt is same p e n h =
@@ -166,7 +168,8 @@ module _ {S : Type 0} where
       let mine : R print =
       record {
         each = λ k below has.
-            before_all (get nat_eq first print) from k (let T : ℕ → Type 0 = λ c. k < min from c in subst T e (let U : ℕ → Type 0 = λ m. k < m in subst U n below)) has;
+            before_all (get nat_eq first print) from k (let T : ℕ → Type 0 = λ c. k < min from c in subst T e
+            (let U : ℕ → Type 0 = λ m. k < m in subst U n below)) has;
       } in
       let here : Q x = subst R (p ∙ ap print_of same) mine in
       All-more Q xs i x lt
@@ -175,9 +178,15 @@ module _ {S : Type 0} where
 
   pub none_started : {X : Type 0} (f : X → List Bool) (c : Circuit) (runs : List Run) (first : HashMap ℕ ℕ S) (xs : List X) (cycles from : ℕ) → from ≤ cycles →
       NotesCycles c runs first cycles → All (λ x. HasNoneBefore first from (print_of (f x))) xs → NoneBefore c runs (map f xs) from
-  none_started f c runs first xs cycles from le notes none = record { each = λ k lt. record { each = λ r behind below there last. each k r lt behind there last } }
+  none_started f c runs first xs cycles from le notes none = record {
+    each = λ k lt. record {
+      each = λ r behind below there last. each k r lt behind
+          there last;
+    };
+  }
     where
-      unlike : (s t : List Bool) (k : ℕ) (b : Bool) → bits_eq s t ≡ b → k < from → HasBy first (print_of s) k → HasNoneBefore first from (print_of t) → b ≡ false
+      unlike : (s t : List Bool) (k : ℕ) (b : Bool) → bits_eq s t ≡ b → k < from → HasBy first (print_of s) k →
+          HasNoneBefore first from (print_of t) → b ≡ false
       unlike s t k false e lt has without = refl
       unlike s t k true e lt has without =
           let P : List Bool → Type 0 = λ u. HasBy first (print_of u) k in
@@ -188,5 +197,10 @@ module _ {S : Type 0} where
           let s = state_at c (run_of runs r) k in
           let has : HasBy first (print_of s) k = (notes.each k (omega (arith, lt, le))).each r (omega (arith, behind)) there last in
           list_any_none (bits_eq s) (map f xs)
-          (All-weaker (λ t. HasNoneBefore first from (print_of t)) (λ t. bits_eq s t ≡ false) (λ t without. unlike s t k (bits_eq s t) refl lt has without) (map f xs)
+          (All-weaker (λ t. HasNoneBefore first from (print_of t)) (λ t. bits_eq s t ≡ false) (λ t without. unlike s t k
+          (bits_eq s t) refl lt has without) (map f xs)
           (All-map (λ t. HasNoneBefore first from (print_of t)) f xs none))
+
+pub none_sooner : (c : Circuit) (runs : List Run) (states : List (List Bool)) (late from : ℕ) → from ≤ late → NoneBefore c runs states late →
+    NoneBefore c runs states from
+none_sooner c runs states late from le h = record { each = λ k lt. h.each k (omega (arith, lt, le)) }

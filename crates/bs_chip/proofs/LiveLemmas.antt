@@ -1,5 +1,6 @@
 -- The runs that last to a cycle.
-use Rattle.std.proofs.Common.{◌≡◌, ℕ, ◌<◌, ◌≤◌, ◌+◌, ◌-◌, ◌*◌, ◌/◌, ◌%◌, Bool, true, false, ◌&&◌, List, length, get_or, arith, ap, ap₂, sym, subst, ◌∙◌, refl, ⊎_elim, min, max}
+use Rattle.std.proofs.Common.{◌≡◌, ℕ, ◌<◌, ◌≤◌, ◌+◌, ◌-◌, ◌*◌, ◌/◌, ◌%◌, Bool, true, false, ◌&&◌, List, length, get_or, arith, ap, ap₂, sym, subst}
+use Rattle.std.proofs.Common.{◌∙◌, refl, ⊎_elim, min, max}
 use Rattle.std.specs.Prelude.{◌==◌, nat_lt, nat_le, if◌then◌else◌}
 use Rattle.std.specs.Int.{bit_at}
 use Rattle.std.proofs.lemmas.Bool.{cases_eq, cases_lt, true≢false, and_parts, ltb-true, lt-ltb, le-ltb, leb-true, le-leb, leb-false, lt-leb}

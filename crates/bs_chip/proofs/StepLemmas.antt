@@ -29,7 +29,8 @@ of_table c d e w v u old new inputs q dc ec vw uw h =
     let D : ℕ → Type 0 = λ u. lane u (length c.flops) new q ≡ next c (lane w (length c.flops) old q) (lane w (length c.inputs) inputs q) in
     subst D uw (subst C vw (subst B dc (subst A ec h)))
 
-pub stepped : (c : Circuit) (runs : List Run) (old new : LaneTable) (inputs before : List ℕ) (cycle : ℕ) → IsLockstep c runs old before → ShowsCycle c runs old.flops cycle → AreInputs c runs cycle inputs → IsSameTable old new →
+pub stepped : (c : Circuit) (runs : List Run) (old new : LaneTable) (inputs before : List ℕ) (cycle : ℕ) → IsLockstep c runs old before →
+    ShowsCycle c runs old.flops cycle → AreInputs c runs cycle inputs → IsSameTable old new →
     AreStepped old new inputs → length new.flops ≡ length (circuit new.net).flops * new.wide → ShowsCycle c runs new.flops (cycle + 1)
 stepped c runs old new inputs before cycle lock here ins same step size =
     let wide : new.wide ≡ wide_of (length runs) = same.wide ∙ lock.wide in
@@ -38,7 +39,8 @@ stepped c runs old new inputs before cycle lock here ins same step size =
       size = size ∙ ap₂ (λ (c : Circuit) (w : ℕ). length c.flops * w) net wide;
       each = λ r from there last.
           let in_lanes : r - 1 < 64 * old.wide = omega (arith, from, there, lock.room, lock.wide) in
-          of_table c (circuit old.net) (circuit new.net) (wide_of (length runs)) old.wide new.wide old.flops new.flops inputs (r - 1) lock.net net lock.wide wide
+          of_table c (circuit old.net) (circuit new.net) (wide_of (length runs)) old.wide new.wide old.flops new.flops inputs
+          (r - 1) lock.net net lock.wide wide
           (step.state (r - 1) in_lanes)
           ∙ state_more c (run_of runs r) cycle _ _ (here.each r from there (omega (arith, last)))
           (ins.each r from there (omega (arith, last)));
@@ -87,7 +89,8 @@ stands r p lanes e f h =
     let here : ShowsPass (record { circuit = r.circuit; runs = r.runs; cycle = p.cycle }) lanes = subst Q f (subst P e h) in
     record {
       each = λ n from there last.
-          in_table r.circuit (circuit lanes.net) (wide_of (length r.runs)) lanes.wide lanes.flops (n - 1) _ here.net here.wide (here.shows.each n from there last);
+          in_table r.circuit (circuit lanes.net) (wide_of (length r.runs)) lanes.wide lanes.flops (n - 1) _ here.net here.wide
+          (here.shows.each n from there last);
     }
 
 -- ---- a pass

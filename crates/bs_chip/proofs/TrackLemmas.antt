@@ -86,7 +86,8 @@ pub behind_hit : (c : Circuit) (runs : List Run) (states : List (List Bool)) (at
 behind_hit c runs states at cycle r e none low =
     record { lowest = low; before = record { each = λ k lt. none.each k (omega (arith, lt, e)) } }
 
-pub behind_all : (c : Circuit) (runs : List Run) (states : List (List Bool)) (at most : ℕ) → most ≤ at → IsLongest runs most → NoneBefore c runs states (at + 1) →
+pub behind_all : (c : Circuit) (runs : List Run) (states : List (List Bool)) (at most : ℕ) → most ≤ at → IsLongest runs most →
+    NoneBefore c runs states (at + 1) →
     NoneReached c runs states
 behind_all c runs states at most le longest none =
     record {
@@ -134,7 +135,8 @@ from_reset : (c : Circuit) (choice : Chosen) (run : Run) (n k : ℕ) → k ≤ n
 from_reset c choice run zero zero h = refl
 from_reset c choice run (suc n) zero h = refl
 from_reset c choice run zero (suc k) h = absurd (omega (arith, h))
-from_reset c choice run (suc n) (suc k) h = ap (λ (l : List (List Bool)). signature choice (state_at c run k) ∷ l) (from_reset c choice run n k (omega (arith, h)))
+from_reset c choice run (suc n) (suc k) h =
+    ap (λ (l : List (List Bool)). signature choice (state_at c run k) ∷ l) (from_reset c choice run n k (omega (arith, h)))
 
 -- it has been clocked from as many cycles before as it keeps signatures, or from reset
 pub filled_all : (c : Circuit) (choice : Chosen) (run : Run) (first cycle k : ℕ) (r : Register) → first ≡ cycle - depth_of choice → k ≡ cycle →
@@ -171,6 +173,5 @@ new_chip made p kept track index recording e f g shows t none =
       circuit = e;
       runs = f;
       shows = first_shows made.circuit made.runs kept track (subst R g (subst Q f (subst P e shows))) t;
-      within = omega (arith, none);
       notes = cycles_none made.circuit made.runs index.first index.cycles none;
     }

@@ -1,5 +1,5 @@
 -- What a chip keeps.
-use Rattle.std.specs.Prelude.{◌≡◌, ℕ, ◌≤◌, List, length}
+use Rattle.std.specs.Prelude.{◌≡◌, ℕ, List}
 use Rattle.bs_scan.specs.Crash.{Recording, IsRecording}
 use Rattle.bs_chip.specs.declared.index.Index.{Index}
 use Rattle.bs_chip.specs.Index.{NotesCycles}
@@ -11,5 +11,4 @@ pub record IsChip (r : Recording) (p : Passing) (track : List (List ℕ)) (index
   pub circuit : p.circuit ≡ r.circuit
   pub runs : p.runs ≡ r.runs
   pub shows : TrackShows r.circuit r.runs track
-  pub within : index.cycles ≤ length track
   pub notes : NotesCycles r.circuit r.runs index.first index.cycles

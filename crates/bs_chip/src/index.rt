@@ -59,10 +59,8 @@ pub fn grow(
 ) -> Result<(), NoMemory>
     requires width { width ≡ length pass.now.circuit.flops }
     requires shows { TrackShows pass.now.circuit pass.now.runs track.now }
-    requires within { index.old.cycles ≤ length track.now }
     requires notes { NotesCycles pass.now.circuit pass.now.runs index.old.first index.old.cycles }
-    ensures within { index.new.cycles ≤ length track.now }
-    ensures notes { NotesCycles pass.now.circuit pass.now.runs index.new.first index.new.cycles }
+    ensures { NotesCycles pass.now.circuit pass.now.runs index.new.first index.new.cycles }
 {
     let price = pass.price(width);
     'cycles: for at in index.cycles as usize..track.len() {

@@ -213,7 +213,7 @@ impl<'a> Chip<'a> {
             width,
             &mut self.credit,
         )?;
-        let from = start(&self.index, list);
+        let from = start(&self.index, list).min(self.track.len());
         self.credit = self.credit.saturating_add((self.track.len() - from) as u64);
         let bank = Bank::load(alloc, list, width)?;
         first_moment(

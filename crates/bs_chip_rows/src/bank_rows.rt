@@ -18,7 +18,7 @@ fn state(alloc: Global, number: u8) -> Result<Bits, NoMemory>
 }
 
 /// The states of some numbers.
-pub fn states(alloc: Global, numbers: &[u8]) -> Result<Vec<Bits>, NoMemory>
+fn states(alloc: Global, numbers: &[u8]) -> Result<Vec<Bits>, NoMemory>
     ensures { IfOk result (λ states. All (λ s. length s ≡ 3) states.items) }
 {
     let mut states = Vec::new(alloc);

@@ -3,5 +3,3 @@
 
 #[cfg(test)]
 mod bank_rows;
-#[cfg(test)]
-mod moment_rows;

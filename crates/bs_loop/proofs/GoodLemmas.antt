@@ -99,7 +99,8 @@ pub is_valid : (r : Recording) (dump : Dump) (budgets : Budgets) (s : PreimageSt
     (s.failed ≡ false → IsAccepted s.problem report.log) → IsValid (crash_of r dump) (basis_of r.circuit r.choice (map present_of report.steps)) report
 is_valid r dump budgets s report sound fits of accepted =
     good_is_valid (crash_of r dump) (basis_of r.circuit r.choice (map present_of report.steps)) report (crash_is r dump sound fits)
-    (is_good (crash_of r dump) budgets s report of) (record { depth = of.depth; befores = of.ended.made.befores }) (is_logged (crash_of r dump) budgets s report of accepted)
+    (is_good (crash_of r dump) budgets s report of) (record { depth = of.depth; befores = of.ended.made.befores }) (is_logged
+    (crash_of r dump) budgets s report of accepted)
 
 pub has_bound : (crash : Crash) (budgets : Budgets) (s : PreimageState) (r : Report) → IsReportOf crash budgets s r →
     HasBound (problem_of (encoding_in crash) (map present_of r.steps)) r

@@ -59,7 +59,8 @@ has_its_dump r None is h e = cc
 has_its_dump r (Some hit) is h e = let same : hit ≡ h = cc in subst (HasItsDump r) same is
 
 -- its dump is the next present
-pub met : (r : Recording) (now : Dump) (hit : Hit) → IsDepth (depth_of r.choice) → HasItsDump r hit → present_of_hit (crash_of r now) (line_of hit) ≡ present_in hit.dump
+pub met : (r : Recording) (now : Dump) (hit : Hit) → IsDepth (depth_of r.choice) → HasItsDump r hit →
+    present_of_hit (crash_of r now) (line_of hit) ≡ present_in hit.dump
 met r now hit kept is =
     let m : Moment = moment hit.run hit.cycle in
     let state : hit.dump.state ≡ state_of r.circuit r.runs m = ap (λ (d : Dump). d.state) is in

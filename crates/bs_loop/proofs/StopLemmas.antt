@@ -66,5 +66,8 @@ stops_here crash budgets steps now stop stands sound all cause = by now.stored r
     by None e s = subst (StopsFor crash budgets steps) (sym s) (stops_at_reset crash budgets steps now stands sound e)
     by (Some t) e s =
         let held : signatures_of now ≡ t ∷ option_to_list now.older = ap (λ (o : Option (List Bool)). option_to_list o ++ option_to_list now.older) e in
-        subst (StopsFor crash budgets steps) (sym s)
-        (all, subst (λ (o : Option Present). IsSomeAnd o (λ (p : Present). p.stored ≢ [])) (sym stands) (λ empty. let h : t ∷ option_to_list now.older ≡ [] = sym held ∙ empty in cc))
+        subst (StopsFor crash budgets steps) (sym s) (
+          all,
+          subst (λ (o : Option Present). IsSomeAnd o (λ (p : Present). p.stored ≢ [])) (sym stands)
+              (λ empty. let h : t ∷ option_to_list now.older ≡ [] = sym held ∙ empty in cc),
+        )

@@ -49,7 +49,8 @@ starts r dump budgets s now new same fits =
     (record { made = subst (HasMade (crash_of r dump) budgets []) (sym new) (none_made r dump budgets); stands = refl; fits = fits; count = refl })
 
 -- the moment hit is the next present
-step_stands : (r : Recording) (dump next : Dump) (step : Step) (hit : Hit) → IsDepth (depth_of r.choice) → step.hit ≡ Some (line_of hit) → HasItsDump r hit → next ≡ hit.dump →
+step_stands : (r : Recording) (dump next : Dump) (step : Step) (hit : Hit) → IsDepth (depth_of r.choice) → step.hit ≡ Some (line_of hit) →
+    HasItsDump r hit → next ≡ hit.dump →
     present_after (crash_of r dump) step ≡ Some (present_in next)
 step_stands r dump next step hit kept line is there =
     ap (option_map (present_of_hit (crash_of r dump))) line ∙ ap Some (met r dump hit kept is ∙ ap present_in (sym there))
@@ -106,7 +107,12 @@ pub all_made : (r : Recording) (dump : Dump) (budgets : Budgets) (steps : List S
     HasEnded (crash_of r dump) budgets steps s stop
 all_made r dump budgets steps s now stop way cause =
     let count : length steps ≡ budgets.steps = way.count in
-    record { made = way.made; few = omega (arith, count); cause = stops_here (crash_of r dump) budgets steps now stop way.stands way.fits.sound way.count cause }
+    record {
+      made = way.made;
+      few = omega (arith, count);
+      cause = stops_here
+          (crash_of r dump) budgets steps now stop way.stands way.fits.sound way.count cause;
+    }
 
 -- what the next turn asks for
 pub record IsReady (r : Recording) (budgets : Budgets) (s : PreimageState) : Type 0 where

@@ -1,5 +1,6 @@
 -- The files of a job are looked at once more, and the note says how that ended.
-use Rattle.std.specs.Prelude.{◌≡◌, ℕ, ◌+◌, sum_by, Bool, true, false, List, [], ◌++◌, codes, decimal, length, Option, Some, None, Result, Ok, Err, if◌then◌else◌}
+use Rattle.std.specs.Prelude.{◌≡◌, ℕ, ◌+◌, sum_by, Bool, true, false, List, [], ◌++◌, codes, decimal, length, Option, Some, None, Result, Ok, Err}
+use Rattle.std.specs.Prelude.{if◌then◌else◌}
 use Rattle.std.specs.Str.{bytes_eq}
 use Rattle.bs_net.specs.Netlist.{circuit_of}
 use Rattle.bs_net.specs.Parts.{Parts}

@@ -44,17 +44,21 @@ may_start e old present stored older readable vars clauses rest =
       stand = rest.stand;
     }
 
-assumptions_are : (e : Encoded) (old : SolverState) (present stored : List Bool) (older : Option (List Bool)) (guard : Literal) (a : Clause) → IsAtRest old → guard ≡ guard_in old.book →
+assumptions_are : (e : Encoded) (old : SolverState) (present stored : List Bool) (older : Option (List Bool)) (guard : Literal) (a : Clause) →
+    IsAtRest old → guard ≡ guard_in old.book →
     a ≡ assumptions_for e guard (asking present stored older) → a ≡ assumptions_at e old.book present stored older
-assumptions_are e old present stored older guard a rest g is = is ∙ ap (λ (g : Literal). assumptions_for e g (asking present stored older)) (g ∙ guard_is old rest)
+assumptions_are e old present stored older guard a rest g is = is ∙ ap (λ (g : Literal). assumptions_for e g (asking present stored older))
+    (g ∙ guard_is old rest)
 
 pub may_seek : (e : Encoded) (old s : SolverState) (present stored : List Bool) (older : Option (List Bool)) (guard : Literal) (a : Clause) → IsReadable e →
     old.book.problem.vars ≡ e.variables →
-    old.book.problem.clauses ≡ e.clauses → IsAtRest old → s ≡ begun old → guard ≡ guard_in old.book → a ≡ assumptions_for e guard (asking present stored older) →
+    old.book.problem.clauses ≡ e.clauses → IsAtRest old → s ≡ begun old → guard ≡ guard_in old.book →
+    a ≡ assumptions_for e guard (asking present stored older) →
     MayTurn e s a
 may_seek e old s present stored older guard a readable vars clauses rest new g is =
     subst (λ (a : Clause). MayTurn e s a) (sym (assumptions_are e old present stored older guard a rest g is))
-    (subst (λ (s : SolverState). MayTurn e s (assumptions_at e old.book present stored older)) (sym new) (may_start e old present stored older readable vars clauses rest))
+    (subst (λ (s : SolverState). MayTurn e s (assumptions_at e old.book present stored older)) (sym new)
+    (may_start e old present stored older readable vars clauses rest))
 
 -- ---- extensions
 
@@ -86,7 +90,8 @@ failed_extends old new end (inl e) = extends_same false old new [] e
 failed_extends old new end (inr e) = finished_extends old new end e
 
 -- a search in a step that has just begun
-pub sought_extends : (e : Encoded) (old s new : SolverState) (present stored : List Bool) (older : Option (List Bool)) (guard : Literal) (a : Clause) → IsAtRest old → s ≡ begun old →
+pub sought_extends : (e : Encoded) (old s new : SolverState) (present stored : List Bool) (older : Option (List Bool)) (guard : Literal)
+    (a : Clause) → IsAtRest old → s ≡ begun old →
     guard ≡ guard_in old.book →
     a ≡ assumptions_for e guard (asking present stored older) → Extends true s.book new.book a →
     Extends true old.book new.book (assumptions_at e old.book present stored older)
@@ -99,4 +104,5 @@ sought_extends e old s new present stored older guard a rest is g assumed x =
 -- a step that was begun, and no more
 pub begun_extends : (e : Encoded) (old s : SolverState) (present stored : List Bool) (older : Option (List Bool)) → s ≡ begun old →
     Extends true old.book s.book (assumptions_at e old.book present stored older)
-begun_extends e old s present stored older is = extends_same true old.book s.book (assumptions_at e old.book present stored older) (ap (λ (s : SolverState). s.book) is)
+begun_extends e old s present stored older is = extends_same true old.book s.book (assumptions_at e old.book present stored older) (ap (λ
+    (s : SolverState). s.book) is)

@@ -20,7 +20,8 @@ viewed c choice book calls failed =
       failed = failed;
     }
 
-listed_seen : (c : Circuit) (choice : Chosen) (before after : Book) (failed : Bool) (n m : ℕ) (present stored : List Bool) (older : Option (List Bool)) (k b : ℕ) (listing : Listing) →
+listed_seen : (c : Circuit) (choice : Chosen) (before after : Book) (failed : Bool) (n m : ℕ) (present stored : List Bool) (older : Option
+    (List Bool)) (k b : ℕ) (listing : Listing) →
     failed ≡ false →
     HasListed (seen c choice before) (seen c choice after) present stored older k b listing →
     HasListed (viewed c choice before n failed) (viewed c choice after m false) present stored older k b listing
@@ -49,7 +50,8 @@ listed_seen c choice before after failed n m present stored older k b listing we
     }
 
 -- a list, where its old state is so seen
-pub listed_again : (c : Circuit) (choice : Chosen) (before after : Book) (old : PreimageState) (failed : Bool) (n m : ℕ) (present stored : List Bool) (older : Option (List Bool))
+pub listed_again : (c : Circuit) (choice : Chosen) (before after : Book) (old : PreimageState) (failed : Bool) (n m : ℕ)
+    (present stored : List Bool) (older : Option (List Bool))
     (k b : ℕ) (listing : Listing) →
     viewed c choice before n failed ≡ old → failed ≡ false → HasListed (seen c choice before) (seen c choice after) present stored older k b listing →
     HasListed old (viewed c choice after m false) present stored older k b listing

@@ -1,5 +1,6 @@
 -- A turn of a search for candidates: one solve, and what comes of it.
-use Rattle.std.specs.Prelude.{◌≡◌, ◌≢◌, ◌⊎◌, ℕ, ◌+◌, ◌-◌, ◌^◌, ◌<◌, ◌≤◌, Bool, true, false, cond, List, [], ◌∷◌, ◌++◌, length, Option, Some, None, All, Contains, if◌then◌else◌}
+use Rattle.std.specs.Prelude.{◌≡◌, ◌≢◌, ◌⊎◌, ℕ, ◌+◌, ◌-◌, ◌^◌, ◌<◌, ◌≤◌, Bool, true, false, cond, List, [], ◌∷◌, ◌++◌, length, Option, Some, None}
+use Rattle.std.specs.Prelude.{All, Contains, if◌then◌else◌}
 use Rattle.std.specs.Option.{option_to_list}
 use Rattle.std.specs.List.{AllByRecursion}
 use Rattle.bs_clause.specs.declared.literal.TheConstants.{VARIABLE_LIMIT}

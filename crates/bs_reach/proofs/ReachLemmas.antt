@@ -299,9 +299,3 @@ look_is c k b p reset enc s1 s log end told is starts law sound wide other fresh
     reach_is c k p law s log lines b end told sound wide other
     (subst (λ (e : Encoded). EndsAs (unrolled e (reset_state c) k) e k p b s end) is from)
     (subst (λ (e : Encoded). Tells e end told) is tells) lean texts ok
-
-pub asked_as : (c : Circuit) (p : List Bool) (k b asked : ℕ) (outcome : Outcome) (states inputs : List (List Bool)) (log : List Line) → asked ≡ k →
-    IsReach c p k b (record { asked = k; conflicts = b; outcome = outcome; states = states; inputs = inputs; log = log }) →
-    IsReach c p k b (record { asked = asked; conflicts = b; outcome = outcome; states = states; inputs = inputs; log = log })
-asked_as c p k b asked outcome states inputs log is h =
-    subst (λ (n : ℕ). IsReach c p k b (record { asked = n; conflicts = b; outcome = outcome; states = states; inputs = inputs; log = log })) (sym is) h

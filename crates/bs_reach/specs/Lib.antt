@@ -5,3 +5,4 @@ pub mod Text
 pub mod Search
 pub mod Ends
 pub mod Told
+pub mod Sought

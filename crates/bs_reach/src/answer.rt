@@ -8,10 +8,11 @@ ghost use Rattle.bs_unroll.specs.Room.{IsUnrollable};
 ghost use Rattle.bs_unroll.specs.Unrolled.{unrolled};
 ghost use Rattle.bs_reach.specs.Search.{fresh_over};
 ghost use Rattle.bs_reach.specs.Reach.{IsReach};
+ghost use Rattle.bs_reach.specs.Sought.{HasSought};
 
 use crate::reach::{Outcome, Reach};
 use crate::search::search;
-use crate::telling::tell;
+use crate::telling::{Told, tell};
 use bs_bits::{Bits, List};
 use bs_clause::NoMemory;
 use bs_encode::Encoding;
@@ -65,6 +66,43 @@ fn never(alloc: Global, net: &Netlist, state: &Bits, b: u64) -> Reach
     }
 }
 
+/// The answer with what the end of a search tells, and its log.
+fn answered(k: u32, b: u64, told: Told, log: Log) -> Reach
+    ensures { result ≡ record { asked = k; conflicts = b; outcome = told.outcome; states = told.states; inputs = told.inputs; log = log } }
+{
+    Reach {
+        asked: u64::from(k),
+        conflicts: b,
+        outcome: told.outcome,
+        states: told.states,
+        inputs: told.inputs,
+        log,
+    }
+}
+
+/// The answer of a search over the clauses of an encoding.
+fn seek(
+    alloc: Global,
+    encoding: &Encoding,
+    reset: &Bits,
+    state: &Bits,
+    k: u32,
+    b: u64,
+) -> Result<Reach, NoMemory>
+    requires some { 1 ≤ k }
+    requires unrollable { IsUnrollable encoding.now k }
+    requires starts { length encoding.now.states ≡ length reset.now }
+    requires width { length encoding.now.next ≡ length state.now }
+    requires limit { 1 ≤ b }
+    ensures { IfOk result (HasSought encoding.now reset.now state.now k b) }
+{
+    let mut solver = solver_of(alloc, encoding, reset, k)?;
+    let end = search(alloc, encoding, &mut solver, state, k, b)?;
+    let told = tell(alloc, encoding, &end, k)?;
+    let log = solver.into_log();
+    Ok(answered(k, b, told, log))
+}
+
 /// The answer for a bound of one cycle or more, where the state is another one than at reset.
 fn look(alloc: Global, net: &Netlist, state: &Bits, k: u32, b: u64) -> Result<Reach, NoMemory>
     requires width { length state.now ≡ length (circuit net.now).flops }
@@ -78,18 +116,8 @@ fn look(alloc: Global, net: &Netlist, state: &Bits, k: u32, b: u64) -> Result<Re
     unrolled_clauses_are_executions(net);
     netlists_unroll(net, k);
     let encoding = Encoding::plain(alloc, net)?;
-    let mut solver = solver_of(alloc, &encoding, net.reset(), k)?;
-    let end = search(alloc, &encoding, &mut solver, state, k, b)?;
-    let told = tell(alloc, &encoding, &end, k)?;
-    let log = solver.into_log();
-    Ok(Reach {
-        asked: u64::from(k),
-        conflicts: b,
-        outcome: told.outcome,
-        states: told.states,
-        inputs: told.inputs,
-        log,
-    })
+    let reach = seek(alloc, &encoding, net.reset(), state, k, b)?;
+    Ok(reach)
 }
 
 /// Whether the state is reached from reset in at most `k` cycles, under any inputs: an execution of as few cycles as there

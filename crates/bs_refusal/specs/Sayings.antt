@@ -8,7 +8,8 @@ use Rattle.bs_refusal.specs.Notes.{Saying, saying}
 -- ---- a line at sight
 
 abbrev pub mark_saying : Saying
-mark_saying = saying (codes "a byte that is no ASCII character, as a mark at the front of a file") (codes "save the file as plain ASCII without a byte order mark")
+mark_saying = saying (codes "a byte that is no ASCII character, as a mark at the front of a file")
+    (codes "save the file as plain ASCII without a byte order mark")
 
 abbrev pub stray_saying : ℕ → Saying
 stray_saying b =

@@ -10,7 +10,8 @@ use Rattle.bs_refusal.specs.declared.dump.Widths.{Widths}
 use Rattle.bs_refusal.specs.Notes.{Saying, saying, file_text, pair_text, IsNoteOn}
 use Rattle.bs_refusal.specs.Flaws.{IsLineNote, IsStartNote}
 use Rattle.bs_refusal.specs.Parts.{behind}
-use Rattle.bs_refusal.specs.Sayings.{run_saying, inputs_saying, count_saying, runs_saying, cycles_saying, bits_in, width_text, dump_saying, reset_saying, report_saying, short_saying}
+use Rattle.bs_refusal.specs.Sayings.{run_saying, inputs_saying, count_saying, runs_saying, cycles_saying, bits_in, width_text, dump_saying}
+use Rattle.bs_refusal.specs.Sayings.{reset_saying, report_saying, short_saying}
 
 abbrev pub IsStimNote : List ℕ → List ℕ → ℕ → StimFault → List ℕ → Type 0
 IsStimNote path text width stimulus.NoRun note = note ≡ file_text path (codes "the file has no run")

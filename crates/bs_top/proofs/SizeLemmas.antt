@@ -28,7 +28,8 @@ each_from P (step ∷ steps) h = (h 0 step refl, each_from P steps (λ i s is. h
 pub few_steps : (crash : Crash) (r : Report) → IsGood crash r → r.budgets.steps ≤ MAX_STEPS → length r.steps ≤ MAX_STEPS
 few_steps crash r good most = let few : length r.steps ≤ r.budgets.steps = good.chain.few in omega (arith, few, most)
 
-pub few_listed : (crash : Crash) (r : Report) → IsGood crash r → r.budgets.candidates ≤ MAX_CANDIDATES → All (λ step. length step.cands ≤ MAX_CANDIDATES) r.steps
+pub few_listed : (crash : Crash) (r : Report) → IsGood crash r → r.budgets.candidates ≤ MAX_CANDIDATES → All
+    (λ step. length step.cands ≤ MAX_CANDIDATES) r.steps
 few_listed crash r good most =
     All-from_recursion (λ (step : Step). length step.cands ≤ MAX_CANDIDATES) r.steps
     (each_from (λ (step : Step). length step.cands ≤ MAX_CANDIDATES) r.steps

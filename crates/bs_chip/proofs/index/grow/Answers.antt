@@ -3,8 +3,8 @@ use Rattle.bs_chip.specs.Index.{NotesCycles}
 use Rattle.bs_chip.proofs.IndexLemmas.{cycles_keep, cycles_more}
 use Rattle.bs_chip.proofs.index.grow.Goals as goal
 
-pub returns-in_err-note-clause-notes : goal.returns-in_err-note-clause-notes
-returns-in_err-note-clause-notes c =
+pub returns-in_err-note : goal.returns-in_err-note
+returns-in_err-note c =
     cycles_keep c.args.pass.now.circuit c.args.pass.now.runs c.cycles.index.first c.note.new.first c.cycles.index.cycles c.in_err-note.ensures.keeps
     c.cycles.invariant.notes
 

@@ -10,7 +10,12 @@ cycles-preserved g c =
     let cycle = c.cycles.at + 1 in
     let there : Passing = record { circuit = p.circuit; runs = p.runs; cycle = cycle } in
     let same : c.step.new.self ≡ there =
-    c.step.ensures ∙ (λ i. record { circuit = (c.cycles.invariant.same i).circuit; runs = (c.cycles.invariant.same i).runs; cycle = (c.cycles.invariant.same i).cycle + 1 }) in
+    c.step.ensures ∙ (λ i. record {
+      circuit = (c.cycles.invariant.same i).circuit;
+      runs = (c.cycles.invariant.same i).runs;
+      cycle =
+          (c.cycles.invariant.same i).cycle + 1;
+    }) in
     let here : ShowsCycle p.circuit p.runs c.planes.result.now cycle =
     subst (λ (q : Passing). ShowsCycle q.circuit q.runs c.planes.result.now q.cycle) same c.planes.ensures in
     let among : NoneAmong p.circuit p.runs states cycle 0 (length p.runs) =

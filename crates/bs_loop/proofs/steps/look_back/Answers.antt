@@ -45,6 +45,7 @@ returns-clause-back c =
           c.args.budgets.now.candidates c.args.budgets.now.conflicts c.in_ok-listing.listing)
           c.lent.ensures c.in_ok-listing.ensures.ok;
       calls = c.list.ensures.calls;
-      line = hit_is c.args.chip.now.recording c.args.now.now c.in_ok-listing.listing.cands c.in_ok-hit.hit (rw c.slice.ensures at c.in_ok-hit.ensures.first) dump;
+      line = hit_is c.args.chip.now.recording c.args.now.now c.in_ok-listing.listing.cands c.in_ok-hit.hit
+          (rw c.slice.ensures at c.in_ok-hit.ensures.first) dump;
       dump = dump;
     }

@@ -9,4 +9,5 @@ returns-in_err-bytes g c =
     rw (p.1, p.2) (fetch_stop _ c.in_err-bytes.ensures)
 
 pub returns : goal.returns
-returns g c = reads_then (signature_noted c.args.net.now.raw c.args.name.now) _ _ c.deref.ensures.value c.settle.ensures c.in_ok-bytes.ensures c.read_signature.ensures
+returns g c = reads_then (signature_noted c.args.net.now.raw c.args.name.now) _ _ c.deref.ensures.value c.settle.ensures c.in_ok-bytes.ensures
+    c.read_signature.ensures

@@ -7,14 +7,16 @@ use Rattle.bs_preimage.proofs.step.seek.Goals as goal
 -- src/step.rt:66:15
 pub find-requires-clause-may : goal.find-requires-clause-may
 find-requires-clause-may c =
-    may_seek c.args.encoding.now c.args.solver.now c.begin_step.new.self c.args.asked.now.present.now c.args.asked.now.stored.now (option_map (λ bits. bits.now) c.args.asked.now.older)
+    may_seek c.args.encoding.now c.args.solver.now c.begin_step.new.self c.args.asked.now.present.now c.args.asked.now.stored.now (option_map
+    (λ bits. bits.now) c.args.asked.now.older)
     c.in_ok-guard.guard c.in_ok-assumptions.assumptions
     c.requires.readable c.requires.vars c.requires.clauses c.requires.rest c.in_ok-guard.ensures.ok c.in_ok-guard.ensures.guard c.in_ok-assumptions.ensures
 
 -- src/step.rt:75:5
 pub returns-in_err-assumptions-clause-lines : goal.returns-in_err-assumptions-clause-lines
 returns-in_err-assumptions-clause-lines c =
-    begun_extends c.args.encoding.now c.args.solver.now c.begin_step.new.self c.args.asked.now.present.now c.args.asked.now.stored.now (option_map (λ bits. bits.now) c.args.asked.now.older) c.in_ok-guard.ensures.ok
+    begun_extends c.args.encoding.now c.args.solver.now c.begin_step.new.self c.args.asked.now.present.now c.args.asked.now.stored.now (option_map
+    (λ bits. bits.now) c.args.asked.now.older) c.in_ok-guard.ensures.ok
 
 pub returns-in_err-end-clause-lines : goal.returns-in_err-end-clause-lines
 returns-in_err-end-clause-lines c =

@@ -15,7 +15,8 @@ returns-clause-lowest g c =
     let live : c.go_to.new.self ≡ record { runs = p.runs; cycle = i.at } =
     c.go_to.ensures ∙ (λ k. record { runs = c.self.invariant.lives k; cycle = i.at }) in
     subst
-    (λ (q : Passing). MatchOption c.lowest_run.result (NoneAmong q.circuit q.runs states q.cycle 0 (length q.runs)) (IsLowest q.circuit q.runs states q.cycle 0))
+    (λ (q : Passing). MatchOption c.lowest_run.result (NoneAmong q.circuit q.runs states q.cycle 0 (length q.runs))
+    (IsLowest q.circuit q.runs states q.cycle 0))
     c.self.view_is
     (found_in p.circuit p.runs c.args.bank.now c.go_to.new.self c.flops.result.now i.at c.wide.result c.lowest_run.result
     (subst (λ (q : Passing). c.args.bank.now.width ≡ length q.circuit.flops) (sym c.self.view_is) c.requires.width) c.self.invariant.lockstep.room

@@ -19,6 +19,7 @@ invariant_of-result c =
     let same : here ≡ made = (λ i. record { circuit = circuits i; choice = choices i; runs = runs i }) in
     new_chip here c.in_ok-pass.pass c.planes.result.now c.in_ok-track.track c.new-3.result
     (subst IsRecording (sym same)
-    (recording_is net.raw c.args.choice.now c.args.runs.now c.order-order.ensures.checked c.depth-depth.ensures.sound.kept c.count-count.ensures.sound c.requires.states c.requires.inputs))
+    (recording_is net.raw c.args.choice.now c.args.runs.now c.order-order.ensures.checked c.depth-depth.ensures.sound.kept
+    c.count-count.ensures.sound c.requires.states c.requires.inputs))
     (ap (λ (p : Passing). p.circuit) c.in_ok-pass.ensures ∙ sym circuits) (ap (λ (p : Passing). p.runs) c.in_ok-pass.ensures ∙ sym runs)
     (ap (λ (p : Passing). p.cycle) c.in_ok-pass.ensures) c.planes.ensures c.in_ok-track.ensures c.new-3.ensures

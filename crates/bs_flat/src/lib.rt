@@ -1,0 +1,14 @@
+//! What a hierarchical design means, and that its flat parts mean the same.
+#![tactic(auto)]
+
+mod fault;
+mod law;
+mod limits;
+mod paths;
+mod statements;
+
+pub use fault::FlatFault;
+pub use law::flat_parts_keep_meaning;
+pub use limits::{MAX_DEPTH, MAX_KEY_BYTES, MAX_PARTS, MAX_PATHS};
+pub use paths::{Instanced, Node, add_below, all_paths};
+pub use statements::{Written, instancing};

@@ -1,0 +1,13 @@
+//! The greatest sizes of a design.
+
+/// How many instance names a path may have.
+pub const MAX_DEPTH: u32 = 256;
+
+/// How many paths have a number.
+pub const MAX_PATHS: usize = 4_294_967_295;
+
+/// How many gates, flip-flops and instances the flat parts may have together.
+pub const MAX_PARTS: usize = 400_000;
+
+/// How many bytes the keys of all flat nets may have together.
+pub const MAX_KEY_BYTES: usize = 268_435_456;

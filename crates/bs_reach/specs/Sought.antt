@@ -1,0 +1,30 @@
+-- What a search over the clauses of an encoding answers.
+use Rattle.std.specs.Prelude.{◌≡◌, ℕ, Bool, false, List, All}
+use Rattle.bs_log.specs.Refusal.{history_of, IsAccepted}
+use Rattle.bs_log.specs.Lean.{IsLean}
+use Rattle.bs_log.specs.LineForms.{HasText}
+use Rattle.bs_book.specs.declared.stage.Stage.TheVariants.{Idle}
+use Rattle.bs_book.specs.Solver.{SolverState}
+use Rattle.bs_encode.specs.Encoded.{Encoded}
+use Rattle.bs_unroll.specs.Unrolled.{unrolled}
+use Rattle.bs_reach.specs.declared.reach.Reach.{Reach}
+use Rattle.bs_reach.specs.declared.search.End.{End}
+use Rattle.bs_reach.specs.declared.telling.Told.{Told}
+use Rattle.bs_reach.specs.Search.{fresh_over}
+use Rattle.bs_reach.specs.Ends.{EndsAs}
+use Rattle.bs_reach.specs.Told.{Tells}
+
+-- the answer tells the end of a search by a solver that was made for it, and its log is the solver's
+pub record HasSought (e : Encoded) (reset p : List Bool) (k b : ℕ) (r : Reach) : Type 0 where
+  pub start : SolverState
+  pub solver : SolverState
+  pub end : End
+  pub told : Told
+  pub is : r ≡ record { asked = k; conflicts = b; outcome = told.outcome; states = told.states; inputs = told.inputs; log = r.log }
+  pub fresh : start ≡ fresh_over (unrolled e reset k) e k
+  pub ended : EndsAs start.book.problem.clauses e k p b solver end
+  pub tells : Tells e end told
+  pub lines : history_of r.log ≡ solver.book.history
+  pub lean : solver.failed ≡ false → IsLean solver.book.problem (history_of r.log)
+  pub texts : All HasText r.log
+  pub accepted : solver.failed ≡ false → solver.stage ≡ Idle → IsAccepted solver.book.problem r.log
