@@ -4,4 +4,7 @@ pub mod HomeLemmas
 pub mod DriverLemmas
 pub mod LawLemmas
 pub mod PathLemmas
+pub mod JoinLemmas
+pub mod CountLemmas
+pub mod HeightLemmas
 pub mod Examples

@@ -10,3 +10,5 @@ pub mod Pieces
 pub mod Instancing
 pub mod Connecting
 pub mod Reading
+-- How its parts and its depth are counted by modules.
+pub mod Counts
