@@ -7,4 +7,5 @@ pub mod PathLemmas
 pub mod JoinLemmas
 pub mod CountLemmas
 pub mod HeightLemmas
+pub mod NumberLemmas
 pub mod Examples

@@ -1,6 +1,7 @@
 //! The laws of flattening, as functions with empty bodies.
 ghost use Rattle.bs_flat.specs.Law.{FlatKeepsMeaning};
 ghost use Rattle.bs_flat.specs.Counts.{DepthIsHeight, PartsAreSummed};
+ghost use Rattle.bs_flat.specs.Numbers.{NumbersAreRanks};
 ghost use Rattle.bs_flat.specs.Reading.{DesignsAreWhole};
 
 /// Where the flat parts of a design pass the check, exactly one valuation fits the design for each state and input, and the
@@ -20,4 +21,10 @@ pub fn read_designs_are_whole()
 pub fn modules_count_the_design()
     ensures parts { PartsAreSummed }
     ensures depth { DepthIsHeight }
+{}
+
+/// The number of a net among the flat nets is the count of those on the paths before, and of those before it on its own path:
+/// so the nets are numbered path by path, without a table of nets.
+pub fn flat_numbers_are_ranks()
+    ensures { NumbersAreRanks }
 {}
