@@ -4,4 +4,8 @@ pub mod HomeLemmas
 pub mod DriverLemmas
 pub mod LawLemmas
 pub mod PathLemmas
+pub mod JoinLemmas
+pub mod CountLemmas
+pub mod HeightLemmas
+pub mod NumberLemmas
 pub mod Examples

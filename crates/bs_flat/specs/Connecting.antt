@@ -6,6 +6,7 @@ use Rattle.bs_net.specs.Parts.{Parts}
 use Rattle.bs_net.specs.Names.{with_key}
 use Rattle.bs_lexeme.specs.declared.lexeme.Name.{Name}
 use Rattle.bs_syntax.specs.declared.tree.Says.{Says}
+use Rattle.bs_syntax.specs.declared.tree.Range.{Range}
 use Rattle.bs_syntax.specs.declared.tree.Module as code
 use Rattle.bs_syntax.specs.declared.tree.Term.{Term}
 use Rattle.bs_syntax.specs.declared.tree.Term.TheVariants.{Constant, Named}
@@ -28,27 +29,36 @@ pub record ReadModule : Type 0 where
 
 -- ---- the nets of a term
 
+-- the key of a vector's bit, if it has that bit
+abbrev pub indexed_keys : List ℕ → Option Range → ℕ → Option (List (List ℕ))
+indexed_keys name None i = None
+indexed_keys name (Some r) i = if has_index r i then Some (bit_key name i ∷ []) else None
+
+-- the keys of a declared name: whole, or of one bit
+abbrev pub declared_keys : List ℕ → Option Range → Option ℕ → Option (List (List ℕ))
+declared_keys name range None = Some (keys name range)
+declared_keys name range (Some i) = indexed_keys name range i
+
+-- the key of a name that is not declared, which has one bit and no index
+abbrev pub undeclared_keys : List ℕ → Option ℕ → Option (List (List ℕ))
+undeclared_keys name None = Some (scalar_key name ∷ [])
+undeclared_keys name (Some i) = None
+
 -- the keys of the bits for which a term stands, from left to right; none where its index names no bit
 unfoldable pub term_keys : List (List ℕ) → (ℕ → Option Says) → Term → Option (List (List ℕ))
 term_keys table scope (Constant place b) = Some (constant_key b ∷ [])
 term_keys table scope (Named n index) =
     elim (scope n.id) as (λ _. Option (List (List ℕ))) [
-      | None ↦ if is_some index then None else Some (scalar_key (text table n) ∷ [])
-      | Some s ↦
-          elim index as (λ _. Option (List (List ℕ))) [
-            | None ↦ Some (keys (text table n) s.range)
-            | Some i ↦ elim s.range as (λ _. Option (List (List ℕ))) [
-              | None ↦ None
-              | Some r ↦ if has_index r i then Some
-                  (bit_key (text table n) i ∷ []) else None
-            ]
-          ]
+      | None ↦ undeclared_keys (text table n) index
+      | Some s ↦ declared_keys (text table n) s.range index
     ]
 
+-- where a term begins
 abbrev pub place_of : Term → ℕ
 place_of (Constant place b) = place
 place_of (Named n index) = n.at
 
+-- whether a term is a constant
 abbrev pub is_constant_term : Term → Bool
 is_constant_term (Constant place b) = true
 is_constant_term _ = false

@@ -10,3 +10,6 @@ pub mod Pieces
 pub mod Instancing
 pub mod Connecting
 pub mod Reading
+-- How its parts and its depth are counted by modules, and its nets numbered by paths.
+pub mod Counts
+pub mod Numbers

@@ -1,5 +1,6 @@
 -- The flat parts of a text, or its first refusal.
-use Rattle.std.specs.Prelude.{◌≡◌, ℕ, ◌+◌, ◌-◌, Bool, true, false, not, nat_lt, IsTrue, if◌then◌else◌, List, [], ◌∷◌, length, map, filter, sum, zip}
+use Rattle.std.specs.Prelude.{◌≡◌, ℕ, ◌+◌, ◌-◌, Bool, true, false, not, nat_lt, IsTrue, if◌then◌else◌, List, [], ◌∷◌, length, map, filter, sum, zip, All}
+use Rattle.std.specs.Prelude.{◌<◌, ◌≤◌}
 use Rattle.std.specs.Prelude.{◌==◌, unwrap_or, slice_index_or, Option, Some, None, Result, Ok, Err}
 use Rattle.std.specs.List.{flat_map, list_any, range_with_len, IsDistinct, position_or_len}
 use Rattle.std.specs.Str.{bytes_eq}
@@ -19,11 +20,12 @@ use Rattle.bs_net.specs.declared.limits.TheConstants.{MAX_NETS}
 use Rattle.bs_flat.specs.declared.limits.TheConstants.{MAX_DEPTH, MAX_PARTS, MAX_KEY_BYTES}
 use Rattle.bs_flat.specs.Design.{Design, Module, Instance, paths_from, paths, gates, flops}
 use Rattle.bs_scope.specs.Keys.{text}
-use Rattle.bs_flat.specs.Flat.{flat_parts}
+use Rattle.bs_syntax.specs.declared.tree.Says.{Says}
+use Rattle.bs_flat.specs.Flat.{flat_parts, HasNets, IsDesign}
 use Rattle.bs_flat.specs.Pieces.{Piece, modules_of, name_id, own_text, statements_of}
 use Rattle.bs_flat.specs.declared.statements.Written.{Written}
 use Rattle.bs_flat.specs.Instancing.{instancing}
-use Rattle.bs_flat.specs.Connecting.{ReadModule, Connected, connected, ports_of, connected_fault, joins_of, whole_parts}
+use Rattle.bs_flat.specs.Connecting.{ReadModule, Connected, connected, ports_of, scope_of, connected_fault, joins_of, whole_parts}
 
 -- go on with the value; a fault stays
 infixl 10 ◌then◌
@@ -224,3 +226,16 @@ IsAnswer source result =
       | Err fault ↦ (result ≡ as_verilog (netlist_text source))
       | Ok tokens ↦ TokensAnswer (nat_lt (length (modules_of (lexemes_of source tokens))) 2) source tokens result
     ]
+
+-- What a module keeps that was read: its own parts have names for their nets, its ports stand first among the nets, and a name
+-- that is declared has nets
+pub record IsRead (table : List (List ℕ)) (m : ReadModule) : Type 0 where
+  pub nets : HasNets m.own
+  pub room : All (λ p. p.first + p.width ≤ length m.own.names) (ports_of table m)
+  pub named : (id : ℕ) (s : Says) → scope_of m id ≡ Some s → 0 < length m.own.names
+
+-- the design of modules that were read, and whose connections go with their ports, keeps what the law of flattening asks for
+abbrev pub DesignsAreWhole : Type 0
+DesignsAreWhole =
+    (table : List (List ℕ)) (ms : List Piece) (ks : List ReadModule) → All (IsRead table) ks → connect_fault table ms ks ≡ None →
+    IsDesign (design_of table ms ks)

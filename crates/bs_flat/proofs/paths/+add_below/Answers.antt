@@ -16,12 +16,7 @@ add_below-requires t c =
     let s = c.index-modules-get.result in
     let here : c.len-here.result ≡ length c.instances.nodes = c.len-here.ensures in
     let pushed = c.in_ok-push.ensures.ok in
-    let longer = ap length pushed ∙ length_push c.instances.nodes (record {
-      parent = c.args.at;
-      instance = c.instances.i;
-      of =
-          get_or c.slice-instances.result.now c.instances.i 0;
-    }) in
+    let longer = ap length pushed ∙ length_push c.instances.nodes _ in
     let k : c.get.result.now.of < length c.args.modules.now =
     subst (λ (p : Node). p.of < length c.args.modules.now) (sym c.get.ensures.value) (c.requires.within c.args.at c.get.result.now c.requires.there) in
     let is : c.slice-instances.result.now ≡ s.instances = c.slice-instances.ensures ∙ ap (λ (u : Instanced). u.instances) (sym c.index-modules-get.is) in
@@ -34,13 +29,7 @@ add_below-requires t c =
         omega (arith, here, longer),
         (
           c.requires.instanced,
-          push_within c.args.modules.now c.instances.nodes c.push.new.self
-              (record {
-                parent = c.args.at;
-                instance = c.instances.i;
-                of =
-                    get_or c.slice-instances.result.now c.instances.i 0;
-              }) pushed c.instances.invariant.within of,
+          push_within c.args.modules.now c.instances.nodes c.push.new.self _ pushed c.instances.invariant.within of,
         ),
       ),
     )
@@ -53,7 +42,7 @@ instances-preserved t c =
     let here : c.len-here.result ≡ length c.instances.nodes = c.len-here.ensures in
     let pushed = c.in_ok-push.ensures.ok in
     let pl : Node = record { parent = c.args.at; instance = c.instances.i; of = m } in
-    let longer = ap length pushed ∙ length_push c.instances.nodes pl in
+    let longer = ap length pushed ∙ length_push c.instances.nodes _ in
     let read : get_or c.args.nodes.now c.args.at no_node ≡ c.get.result.now =
     node_read c.args.nodes.now c.args.at c.get.result.now c.requires.there c.get.ensures.value in
     let k : (get_or c.args.nodes.now c.args.at no_node).of < length modules = c.requires.within c.args.at no_node c.requires.there in
