@@ -1,13 +1,13 @@
 -- One cycle of a replay, and one shift of an unloading.
-use Rattle.std.proofs.Common.{◌≡◌, ℕ, ◌≤◌, ◌+◌, Bool, List, [], ◌∷◌, ◌++◌, length, get_or, refl, arith, ap, sym, subst, ◌∙◌}
+use Rattle.std.proofs.Common.{◌≡◌, ℕ, zero, suc, ◌≤◌, ◌+◌, Bool, List, [], ◌∷◌, ◌++◌, length, get_or, refl, arith, ap, sym, subst, ◌∙◌}
 use Rattle.std.proofs.Common.{add-one, append_assoc, append-nil, length-append}
 use Rattle.bs_net.specs.Circuit.{Circuit, next, reset_state}
 use Rattle.bs_net.specs.Netlist.{Checked, circuit}
 use Rattle.bs_stim.specs.Runs.{Stimulus, run_at, inputs_of}
 use Rattle.bs_scan.proofs.CrashLemmas.{run_inputs}
-use Rattle.bs_scan.specs.Choice.{Chosen}
+use Rattle.bs_scan.specs.Choice.{Chosen, depth_of}
 use Rattle.bs_scan.specs.Moments.{Run, moment, run_of, state_of, state_at}
-use Rattle.bs_scan.specs.Signature.{stored_at}
+use Rattle.bs_scan.specs.Signature.{signatures_before, stored_at}
 use Rattle.bs_scan.specs.Register.{Register, clocked}
 use Rattle.bs_scan.proofs.ChainLemmas.{parts}
 use Rattle.bs_scan.proofs.SignatureLemmas.{stored_after}
@@ -41,6 +41,15 @@ played_more p net runs old new x run cycle same here e f =
     record { circuit = circuit net; runs = inputs_of runs; state = new } ≡ in_state p (state_of p.circuit p.runs (moment run (cycle + 1)))) same
     (λ (here : old ≡ state_of (circuit net) (inputs_of runs) (moment run cycle)).
     λ i. record { circuit = circuit net; runs = inputs_of runs; state = played_here net runs old new x run cycle here e f i }) here
+
+-- before the first cycle a register of any depth holds nothing
+pub register_first : (c : Circuit) (choice : Chosen) (run : Run) (r : Register) → r ≡ record { choice = choice; stored = [] } →
+    r ≡ record { choice = choice; stored = stored_at c choice run 0 }
+register_first c choice run r e = e ∙ (λ i. record { choice = choice; stored = by (depth_of choice) i })
+  where
+    by : (d : ℕ) → [] ≡ signatures_before c choice run d 0
+    by zero = refl
+    by (suc d) = refl
 
 pub register_more : (c : Circuit) (choice : Chosen) (run : Run) (k : ℕ) (r : Register) (s : List Bool) →
     r ≡ record { choice = choice; stored = stored_at c choice run k } → s ≡ state_at c run k →
