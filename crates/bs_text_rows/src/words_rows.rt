@@ -38,6 +38,11 @@ fn shown(alloc: Global, line: &str) -> Result<String, AllocError> {
             let (dump, report) = (job.dump, job.report);
             format!(in alloc; "wave {netlist} {signature} {stimulus} {dump} {report}")
         }
+        Some(Job::Reach(job)) => {
+            let (netlist, state) = (job.netlist, job.state);
+            let (cycles, conflicts) = (job.cycles, job.conflicts);
+            format!(in alloc; "reach {netlist} {state} {cycles} {conflicts}")
+        }
         None => String::from_str(alloc, "refused"),
     }
 }
@@ -50,6 +55,10 @@ fn words_and_their_jobs(rt: HostRuntime) -> Result<(), Fail> {
         ("run n s t d", "run n s t d 64 256 100000"),
         ("run n s t d --conflicts 1", "run n s t d 64 256 1"),
         ("run n s t d --steps 1", "run n s t d 1 256 100000"),
+        ("reach n 01 1024", "reach n 01 1024 100000"),
+        ("reach n 01 0 --conflicts 7", "reach n 01 0 7"),
+        ("reach n 01 1025", "refused"),
+        ("reach n 2 1", "refused"),
         ("run n s t d --steps=65536", "run n s t d 65536 256 100000"),
         (
             "run --candidates 1 n s --steps 5 t d",
