@@ -8,7 +8,7 @@ use Rattle.bs_bits.specs.Reading.{◌>>=◌}
 use Rattle.bs_scan.specs.ChoiceText.{items_of, chosen, choice_from, keeps_two}
 use Rattle.bs_entry.specs.Readings.{choice_in}
 
-ok_in : Chosen → Result Chosen ChoiceFault
+abbrev ok_in : Chosen → Result Chosen ChoiceFault
 ok_in c = Ok c
 
 from_fits : (raw : Parts) (first depth : ℕ) (texts : List (List ℕ)) (choice : Chosen) → choice_from raw first depth texts ≡ Ok choice →
