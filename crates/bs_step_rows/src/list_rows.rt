@@ -33,7 +33,7 @@ fn list(
         return Ok(None);
     }
     let mut preimage = Preimage::new(alloc, net, choice)?;
-    let listing = preimage.list(alloc, present, stored, 256, 100_000)?;
+    let listing = preimage.list(alloc, present, stored, None, 256, 100_000)?;
     Ok(Some(listing))
 }
 
