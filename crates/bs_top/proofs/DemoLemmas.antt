@@ -1,11 +1,7 @@
 -- The backtrace of a generated job.
 use Rattle.std.proofs.Common.{◌≡◌, ◌≤◌, length, subst, sym, lit≤}
-use Rattle.std.specs.Prelude.{All, Result, Ok, Err, IfOk}
-use Rattle.bs_scan.specs.declared.dump.Dump.{Dump}
-use Rattle.bs_scan.specs.Choice.{depth_of, IsDepth}
-use Rattle.bs_scan.specs.Moments.{Moment}
-use Rattle.bs_scan.specs.Crash.{Recording, Crash, DumpFits, dump_at}
-use Rattle.bs_scan.proofs.CrashLemmas.{dump_at_fits}
+use Rattle.std.specs.Prelude.{All}
+use Rattle.bs_scan.specs.Crash.{Crash}
 use Rattle.bs_report.specs.declared.limits.TheConstants.{MAX_STEPS, MAX_CANDIDATES}
 use Rattle.bs_report.specs.declared.report.Budgets.{Budgets}
 use Rattle.bs_report.specs.declared.report.Report.{Report}
@@ -21,9 +17,3 @@ demo_steps crash r is = few_steps crash r is.sound.good (subst (λ (b : Budgets)
 
 pub demo_listed : (crash : Crash) (r : Report) → IsBacktrace crash demo_budgets r → All (λ step. length step.cands ≤ MAX_CANDIDATES) r.steps
 demo_listed crash r is = few_listed crash r is.sound.good (subst (λ (b : Budgets). b.candidates ≤ MAX_CANDIDATES) (sym is.asked) (lit≤ tt))
-
--- the dump of a moment fits the chip
-pub fits_if_ok : {E : Type 0} (result : Result Dump E) (r : Recording) (m : Moment) → IsDepth (depth_of r.choice) →
-    IfOk result (λ dump. dump ≡ dump_at r m) → IfOk result (DumpFits r.circuit r.choice)
-fits_if_ok (Ok dump) r m kept e = subst (DumpFits r.circuit r.choice) (sym e) (dump_at_fits r m kept)
-fits_if_ok (Err want) r m kept e = tt

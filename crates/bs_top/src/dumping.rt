@@ -19,15 +19,24 @@ use bs_scan::Dump;
 use bs_words::DumpJob;
 use std::alloc::Global;
 
+/// What a chip with the runs of a job dumps at its moment.
+fn dumped_at(alloc: Global, placed: &Placed) -> Result<Dump, NoMemory>
+    ensures { IfOk result (λ dump. dump ≡ dump_at (recording_in (placed_in placed.now).setup) (placed_in placed.now).moment) }
+{
+    let setup = &placed.setup;
+    let mut chip = Chip::new(alloc, &setup.net, &setup.choice, &setup.runs)?;
+    let dump = chip.dump_at(alloc, placed.moment.run, placed.moment.cycle)?;
+    Ok(dump)
+}
+
 /// The dump of a moment.
 pub fn dump_of(alloc: Global, placed: &Placed) -> Result<Dump, NoMemory>
     ensures dump { IfOk result (λ dump. dump ≡ dump_at (recording_in (placed_in placed.now).setup) (placed_in placed.now).moment) }
     ensures fits { IfOk result (DumpFits (circuit placed.now.setup.net) placed.now.setup.choice) }
 {
-    let setup = &placed.setup;
-    let _depth = setup.choice.depth();
-    let mut chip = Chip::new(alloc, &setup.net, &setup.choice, &setup.runs)?;
-    chip.dump_at(alloc, placed.moment.run, placed.moment.cycle)
+    let _depth = placed.setup.choice.depth();
+    let dump = dumped_at(alloc, placed)?;
+    Ok(dump)
 }
 
 /// The text of that dump.

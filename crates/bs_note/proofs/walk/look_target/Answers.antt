@@ -15,4 +15,4 @@ returns-in_err-_fits g c =
 pub returns : goal.returns
 returns g c =
     walks_then _ c.in_ok-net.ensures (walks_then _ (reads_walk _ _ _ c.in_ok-_fits.ensures c.check_state.ensures)
-    (reads_walk _ _ _ c.settle.ensures c.check_room-room.ensures))
+    (reads_walk _ _ _ c.settle-2.ensures c.check_room-room.ensures))

@@ -1,9 +1,13 @@
+use Rattle.std.proofs.Common.{sym, subst}
+use Rattle.bs_scan.specs.Crash.{DumpFits}
+use Rattle.bs_scan.proofs.CrashLemmas.{dump_at_fits}
 use Rattle.bs_entry.specs.Entry.{recording_in}
 use Rattle.bs_entry.specs.Ready.{placed_in}
-use Rattle.bs_top.proofs.DemoLemmas.{fits_if_ok}
 use Rattle.bs_top.proofs.dumping.dump_of.Goals as goal
 
 pub returns-clause-fits : goal.returns-clause-fits
 returns-clause-fits c =
     let placed = placed_in c.args.placed.now in
-    fits_if_ok c.dump_at.result (recording_in placed.setup) placed.moment c.depth-depth.ensures.sound.kept c.dump_at.ensures.dump
+    let recording = recording_in placed.setup in
+    subst (DumpFits recording.circuit recording.choice) (sym c.in_ok-dump.ensures)
+    (dump_at_fits recording placed.moment c.depth-depth.ensures.sound.kept)

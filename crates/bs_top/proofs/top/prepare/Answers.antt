@@ -41,13 +41,13 @@ returns-in-Some-Wave g c =
     prepared_for _ (job_of (map string_bytes c.args.words.now))
     (sym (sym c.in_ok-job.ensures.read ∙ (ap shown_job c.in-Some-Wave.is ∙ ap (λ j. Some (job_in j)) c.in-Some-Wave.field-0-is))) c.wave.ensures
 
-pub reach-requires-cycles : goal.reach-requires-cycles
-reach-requires-cycles g c =
+pub reach-requires-clause-cycles : goal.reach-requires-clause-cycles
+reach-requires-clause-cycles g c =
     cycles_fit (map string_bytes c.args.words.now) _
     (sym (sym c.in_ok-job.ensures.read ∙ (ap shown_job c.in-Some-Reach.is ∙ ap (λ j. Some (job_in j)) c.in-Some-Reach.field-0-is)))
 
-pub reach-requires-limit : goal.reach-requires-limit
-reach-requires-limit g c =
+pub reach-requires-clause-limit : goal.reach-requires-clause-limit
+reach-requires-clause-limit g c =
     conflicts_fit (map string_bytes c.args.words.now) _
     (sym (sym c.in_ok-job.ensures.read ∙ (ap shown_job c.in-Some-Reach.is ∙ ap (λ j. Some (job_in j)) c.in-Some-Reach.field-0-is)))
 
