@@ -12,7 +12,13 @@ use std::alloc::Global;
 fn finished(steps: &[Step]) -> usize
     ensures { result ≡ count_by is_finished steps.now }
 {
-    steps.iter().filter(|step| is_end(step.end)).count()
+    let mut count = 0;
+    'steps: for step in steps {
+        if is_end(step.end) {
+            count += 1;
+        }
+    }
+    count
 }
 
 /// Whether a list is finished.
