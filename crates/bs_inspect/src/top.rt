@@ -2,7 +2,7 @@
 ghost use Rattle.std.specs.Prelude.{◌≡◌, ◌≢◌, ℕ, List, Some, map, string_bytes, IfOk, OnErr};
 ghost use Rattle.std.specs.Io.KnownBytes.{Keeps};
 ghost use Rattle.bs_outside.specs.Faults.{Rose};
-ghost use Rattle.bs_job.specs.Clauses.{Answered, AnsweredAsTold, AnsweredWhole, CallByCall, CallsWanting, IsCalm, IsWordsOnlyFor, ReadFaultOf, RefusesFirstOf};
+ghost use Rattle.bs_job.specs.Clauses.{Answered, AnsweredAsTold, AnsweredWhole, CallByCall, CallsWanting, IsCalm, ReadFaultOf, RefusesFirstOf};
 ghost use Rattle.bs_entry.specs.Refusals.{CheckSays};
 ghost use Rattle.bs_request.specs.Request.{request_of};
 ghost use Rattle.bs_request.specs.Shown.{request_in};
@@ -28,7 +28,6 @@ fn answer<S: Shelf, K: Sink>(
     // Whatever the files were: what was written is what the request calls for, or its front where a put failed.
     ensures answered { IfOk result (λ status. Answered CheckSays finishes (S.held shelf.old) (S.faults shelf.old) (S.faults shelf.new)
         (Some (plan_of (request_in request.now))) (K.written out.old) (K.written out.new) status) }
-    ensures words { IfOk result (λ status. status ≢ Status.WriteFault → IsWordsOnlyFor (Some (plan_of (request_in request.now))) status) }
 
     // Where the shelf tells the files, they settle the answer, but for a fault.
     ensures told { IfOk result (λ status. status ≢ Status.ReadFault → status ≢ Status.WriteFault →
@@ -48,11 +47,6 @@ fn answer<S: Shelf, K: Sink>(
     ensures write_counted { IfOk result (λ status. status ≢ Status.WriteFault → K.faults out.new ≡ K.faults out.old) }
 
     // With no fault, the answer is whole.
-    ensures complete { IsCalm (S.held shelf.old) (S.faults shelf.old) (S.faults shelf.new) (Some (plan_of (request_in request.now)))
-        (K.faults out.old) (K.faults out.new) →
-        IfOk result (λ status. AnsweredAsTold CheckSays finishes (S.held shelf.old) (Some (plan_of (request_in request.now)))
-        (K.written out.old) (K.written out.new) status) }
-
     ensures whole { IsCalm (S.held shelf.old) (S.faults shelf.old) (S.faults shelf.new) (Some (plan_of (request_in request.now)))
         (K.faults out.old) (K.faults out.new) →
         IfOk result (λ status. AnsweredWhole CheckSays finishes (S.held shelf.old) (S.faults shelf.old) (S.faults shelf.new)
