@@ -16,8 +16,6 @@ mod mode_rows;
 #[cfg(test)]
 mod older_rows;
 #[cfg(test)]
-mod reach_rows;
-#[cfg(test)]
 mod refusal_rows;
 #[cfg(test)]
 mod run_rows;
