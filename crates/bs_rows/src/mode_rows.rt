@@ -29,11 +29,12 @@ const NONE: [&str; 3] = ["", "", ""];
 /// A report's text behind its front, with this input in the place of each `?`.
 fn filled(alloc: Global, text: &str, input: &str) -> Result<String, AllocError> {
     let mut filled = String::from_str(alloc, HEAD)?;
-    let mut front = "";
-    for piece in text.split('?') {
-        filled.push_str(front)?;
-        filled.push_str(piece)?;
-        front = input;
+    for letter in text.chars() {
+        if letter == '?' {
+            filled.push_str(input)?;
+        } else {
+            filled.push(letter)?;
+        }
     }
     Ok(filled)
 }
