@@ -9,7 +9,7 @@ use Rattle.bs_job.specs.declared.file.File.TheVariants.{Netlist, Signature, Stim
 use Rattle.bs_job.specs.declared.status.Status.{Status}
 use Rattle.bs_job.specs.declared.status.Status.TheVariants.{Words, ReadFault, WriteFault}
 use Rattle.bs_job.specs.declared.reply.Reply.{Reply}
-use Rattle.bs_job.specs.Files.{refusal_line, refusal_status, is_work_status}
+use Rattle.bs_job.specs.Files.{refusal_line, refusal_status, refused_file, is_work_status}
 use Rattle.bs_job.specs.Plan.{Tells, Counts, Reason, Plan, Outcome, ready, refused, faulted, Ends, told_end}
 use Rattle.bs_job.specs.Answers.{Answers, CallsFor, CallsByTold}
 use Rattle.bs_job.specs.Prepared.{Prepares, Prepared, IsWork}
@@ -17,7 +17,7 @@ use Rattle.bs_job.specs.Delivery.{Delivers, PutsLines}
 use Rattle.bs_job.specs.Clauses.{Answered, AnsweredAsTold, AnsweredWhole, CallByCall, CallsWanting, FailedToRead, ReadFaultOf, IsCalm, IsWordsOnlyFor}
 use Rattle.bs_job.specs.Clauses.{Refuses, RefusesFirstOf}
 use Rattle.bs_job.proofs.Plans.{ready_in, refused_in, faulted_in, ends_as_told, ends_by_fault}
-use Rattle.bs_job.proofs.Preparing.{IsPlain, work_plain, refusal_plain}
+use Rattle.bs_job.proofs.Preparing.{IsPlain, work_plain, refusal_plain, refused_again}
 use Rattle.std.specs.Option.{option_map}
 
 if_some_weaker : {A : Type 0} (o : Option A) (P Q : A → Type 0) → ((a : A) → P a → Q a) → IfSome o P → IfSome o Q
@@ -168,6 +168,12 @@ words_only {allows = allows} {finishes = finishes} {told = told} {before = befor
     subst (λ s. IsWordsOnlyFor job s) (sym (sent.whole write).0)
     (words_called allows finishes told before now plan_of job answer.status answer.text.items kind made.calls)
 
+-- a status names no file but the one that it refuses
+same_file : (file file' : File) → refusal_status file ≡ refusal_status file' → file ≡ file'
+same_file file file' e =
+    let both : Some file ≡ Some file' = sym (refused_again file) ∙ (ap refused_file e ∙ refused_again file') in
+    cc
+
 work_no_file : (status : Status) (file : File) → is_work_status status ≡ true → status ≢ refusal_status file
 work_no_file status file work is = none file (ap is_work_status (sym is) ∙ work)
   where
@@ -179,23 +185,21 @@ work_no_file status file work is = none file (ap is_work_status (sym is) ∙ wor
     none Report e = cc
     none State e = cc
 
--- the status of a refusal comes exactly where the outcome refuses something with it
+-- the status of a refusal comes exactly where the outcome refuses what it names
 refuses_exactly : {R W : Type 0} (allows : R → List ℕ → Type 0) (finishes : W → Status → List ℕ →
     Type 0) (outcome : Outcome R W) (status : Status) (text : List ℕ) → IsWork finishes → Answers allows finishes outcome status text →
-    (file : File) → (status ≡ refusal_status file) ↔ Refuses outcome (refusal_status file)
+    (file : File) → (status ≡ refusal_status file) ↔ Refuses outcome file
 refuses_exactly allows finishes (ready work) status text kind h file =
-    (λ is. absurd (work_no_file status file (kind.status work status text h) is), λ r. absurd (unready r.is))
+    (λ is. absurd (work_no_file status file (kind.status work status text h) is), λ r. absurd (unready r.1))
   where
     unready : {R W : Type 0} {work : W} {file : File} {why : Reason R} → ready_in R W work ≡ refused_in R W file why → ⊥
     unready e = cc
-refuses_exactly {R = R} {W = W} allows finishes (refused file' why) status text kind h file = (
-  λ is. record { file = file'; reason = why; status_is = sym h.0 ∙ is; is = refl },
-  λ r. h.0 ∙ (ap refusal_status (file_same R W file' r.file why r.reason r.is) ∙ r.status_is),
-)
+refuses_exactly {R = R} {W = W} allows finishes (refused file' why) status text kind h file =
+    (λ is. (why, ap (λ f. refused_in R W f why) (same_file file' file (sym h.0 ∙ is))), λ r. h.0 ∙ ap refusal_status (file_same R W file' file why r.0 r.1))
   where
     file_same : (Q V : Type 0) (f g : File) (y z : Reason Q) → refused_in Q V f y ≡ refused_in Q V g z → f ≡ g
     file_same Q V f g y z e = cc
-refuses_exactly allows finishes (faulted file') status text kind h file = (λ is. absurd ((refusal_plain status file is).read h.0), λ r. absurd (unfaulted r.is))
+refuses_exactly allows finishes (faulted file') status text kind h file = (λ is. absurd ((refusal_plain status file is).read h.0), λ r. absurd (unfaulted r.1))
   where
     unfaulted : {R W : Type 0} {f g : File} {why : Reason R} → faulted_in R W f ≡ refused_in R W g why → ⊥
     unfaulted e = cc
@@ -206,21 +210,13 @@ refuses_first : {R W : Type 0} (allows : R → List ℕ → Type 0) (finishes : 
 refuses_first allows finishes told before now None status text kind h read = λ file is. (refusal_plain status file is).words h.0
 refuses_first {R = R} {W = W} allows finishes told before now (Some plan) status text kind h read = record {
   exact =
-      if_some_weaker (told_end told plan) (λ o. h.outcome ≡ o) (λ o. (file : File) → (status ≡ refusal_status file) ↔ Refuses o (refusal_status file))
-      (λ o is. subst (λ (o' : Outcome R W). (file : File) → (status ≡ refusal_status file) ↔ Refuses o' (refusal_status file)) is each)
+      if_some_weaker (told_end told plan) (λ o. h.outcome ≡ o) (λ o. (file : File) → (status ≡ refusal_status file) ↔ Refuses o file)
+      (λ o is. subst (λ (o' : Outcome R W). (file : File) → (status ≡ refusal_status file) ↔ Refuses o' file) is each)
       (ends_as_told told before now plan h.outcome h.ends no_fault);
-  some_way = λ file is.
-      let r = (each file).0 is in
-      record {
-        file = r.file;
-        reason = r.reason;
-        status_is = r.status_is ∙ sym is;
-        ends = subst (λ
-            (o : Outcome R W). Ends told before now plan o) r.is h.ends;
-      };
+  some_way = λ file is. let r = (each file).0 is in (r.0, subst (λ (o : Outcome R W). Ends told before now plan o) r.1 h.ends);
 }
   where
-    each : (file : File) → (status ≡ refusal_status file) ↔ Refuses h.outcome (refusal_status file)
+    each : (file : File) → (status ≡ refusal_status file) ↔ Refuses h.outcome file
     each = refuses_exactly allows finishes h.outcome status text kind h.answers
 
     no_fault : (file : File) → h.outcome ≢ faulted file

@@ -10,7 +10,7 @@ use Rattle.bs_job.specs.declared.status.Status.TheVariants as T
 use Rattle.bs_job.specs.declared.reply.Reply.{Reply}
 use Rattle.bs_job.specs.declared.walk.JobFault.{JobFault}
 use Rattle.bs_job.specs.declared.walk.JobFault.TheVariants as S
-use Rattle.bs_job.specs.Files.{refusal_status, is_refusal_status, is_work_status}
+use Rattle.bs_job.specs.Files.{refusal_status, refused_file, is_work_status}
 use Rattle.bs_job.specs.Plan.{Tells, Counts, Plan, ready, refused, faulted}
 use Rattle.bs_job.specs.Walks.{WalksTo, Walks, WalksAlone}
 use Rattle.bs_job.specs.Answers.{RefusesWords}
@@ -19,13 +19,13 @@ use Rattle.bs_job.specs.Prepared.{Prepares, PreparesAlone, Prepared, AnswersStop
 use Rattle.bs_job.proofs.AskingLemmas.{along_none, along_weak}
 
 -- a status of a refusal is of no other kind
-refusal_again : (file : File) → is_refusal_status (refusal_status file) ≡ true
-refusal_again Netlist = refl
-refusal_again Signature = refl
-refusal_again Stimulus = refl
-refusal_again Dump = refl
-refusal_again Report = refl
-refusal_again State = refl
+pub refused_again : (file : File) → refused_file (refusal_status file) ≡ Some file
+refused_again Netlist = refl
+refused_again Signature = refl
+refused_again Stimulus = refl
+refused_again Dump = refl
+refused_again Report = refl
+refused_again State = refl
 
 -- a status of work is no fault, no refusal, and not Words
 pub record IsPlain (status : Status) : Type 0 where
@@ -45,14 +45,14 @@ work_plain status work = record {
 
 pub refusal_plain : (status : Status) (file : File) → status ≡ refusal_status file → IsPlain status
 refusal_plain status file is = record {
-  read = λ e. none T.ReadFault refl (ap is_refusal_status (sym is ∙ e));
-  write = λ e. none T.WriteFault refl (ap is_refusal_status (sym is ∙ e));
-  words = λ e. none T.Words refl (ap is_refusal_status (sym is ∙ e));
+  read = λ e. none T.ReadFault refl (ap refused_file (sym is ∙ e));
+  write = λ e. none T.WriteFault refl (ap refused_file (sym is ∙ e));
+  words = λ e. none T.Words refl (ap refused_file (sym is ∙ e));
 }
   where
-    none : (s : Status) → is_refusal_status s ≡ false → is_refusal_status (refusal_status file) ≡ is_refusal_status s → ⊥
-    none s other same =
-        let both : true ≡ false = sym (refusal_again file) ∙ (same ∙ other) in
+    none : (s : Status) → refused_file s ≡ None → refused_file (refusal_status file) ≡ refused_file s → ⊥
+    none s empty same =
+        let both : Some file ≡ None = sym (refused_again file) ∙ (same ∙ empty) in
         cc
 
 -- the work that a walk made ready for

@@ -36,25 +36,15 @@ pub record IsWordsOnlyFor {J : Type 0} (job : Option J) (status : Status) : Type
   pub refused : job ≡ None → status ≡ Words
   pub only : status ≡ Words → job ≡ None
 
--- the outcome refuses something with this status
-pub record Refuses {R W : Type 0} (outcome : Outcome R W) (status : Status) : Type 0 where
-  pub file : File
-  pub reason : Reason R
-  pub status_is : refusal_status file ≡ status
-  pub is : outcome ≡ refused file reason
+-- the outcome refuses this file, or this state
+abbrev pub Refuses : {R W : Type 0} → Outcome R W → File → Type 0
+Refuses {R = R} outcome file = (reason : Reason R) × (outcome ≡ refused file reason)
 
--- in some way that agrees with the shelf, the first refusal has this status
-pub record RefusesInSomeWay {R W : Type 0} (told : Tells) (before now : Counts) (plan : Plan R W) (status : Status) : Type 0 where
-  pub file : File
-  pub reason : Reason R
-  pub status_is : refusal_status file ≡ status
-  pub ends : Ends told before now plan (refused file reason)
-
--- A refusal status comes exactly where the walk's first refusal has that status: as the shelf tells, where it tells the files
+-- A refusal status comes exactly where the walk's first refusal is of that file: as the shelf tells, where it tells the files
 -- that the walk comes to, and else in some way that agrees with the shelf.
 pub record RefusesFirst {R W : Type 0} (told : Tells) (before now : Counts) (plan : Plan R W) (status : Status) : Type 0 where
-  pub exact : IfSome (told_end told plan) (λ outcome. (file : File) → (status ≡ refusal_status file) ↔ Refuses outcome (refusal_status file))
-  pub some_way : (file : File) → status ≡ refusal_status file → RefusesInSomeWay told before now plan status
+  pub exact : IfSome (told_end told plan) (λ outcome. (file : File) → (status ≡ refusal_status file) ↔ Refuses outcome file)
+  pub some_way : (file : File) → status ≡ refusal_status file → (reason : Reason R) × Ends told before now plan (refused file reason)
 
 -- the same of words: those that are no job are answered by no file's refusal
 abbrev pub RefusesFirstOf : {R W : Type 0} → Tells → (before now : Counts) → Option (Plan R W) → Status → Type 0

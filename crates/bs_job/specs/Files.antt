@@ -1,6 +1,6 @@
 -- What a job may refuse, a file or the state among its words: the word that names it, its limit, and the status of its refusal
 -- (docs/FORMATS.md, "Statuses").
-use Rattle.std.specs.Prelude.{ℕ, List, ◌++◌, codes, Bool, true, false}
+use Rattle.std.specs.Prelude.{ℕ, List, ◌++◌, codes, Bool, true, false, Option, Some, None}
 use Rattle.bs_job.specs.declared.file.File.{File}
 use Rattle.bs_job.specs.declared.file.File.TheVariants.{Netlist, Signature, Stimulus, Dump, Report, State}
 use Rattle.bs_job.specs.declared.limits.TheConstants.{MAX_NETLIST_BYTES, MAX_SIGNATURE_BYTES, MAX_STIMULUS_BYTES, MAX_DUMP_BYTES, MAX_REPORT_BYTES}
@@ -30,16 +30,17 @@ refusal_status Signature = S.Signature
 refusal_status Stimulus = S.Stimulus
 refusal_status Dump = S.Dump
 refusal_status Report = S.Report
-refusal_status State = S.Dump
+refusal_status State = S.State
 
--- a status that says something to be refused
-abbrev pub is_refusal_status : Status → Bool
-is_refusal_status S.Netlist = true
-is_refusal_status S.Signature = true
-is_refusal_status S.Stimulus = true
-is_refusal_status S.Dump = true
-is_refusal_status S.Report = true
-is_refusal_status _ = false
+-- what a status says to be refused
+abbrev pub refused_file : Status → Option File
+refused_file S.Netlist = Some Netlist
+refused_file S.Signature = Some Signature
+refused_file S.Stimulus = Some Stimulus
+refused_file S.Dump = Some Dump
+refused_file S.Report = Some Report
+refused_file S.State = Some State
+refused_file _ = None
 
 -- a status of work that is done, whatever came of it
 abbrev pub is_work_status : Status → Bool

@@ -5,7 +5,7 @@ use Rattle.bs_job.specs.declared.status.Status.{Status}
 use Rattle.bs_job.specs.declared.status.Status.TheVariants as S
 use Rattle.bs_job.specs.declared.status.TheConstants.{NO_MEMORY_CODE}
 
--- the exit code of the program
+-- the exit code of the program; a state that is refused has that of a dump
 abbrev pub code_of : Status → ℕ
 code_of S.Done = 0
 code_of S.Words = 2
@@ -17,6 +17,7 @@ code_of S.Signature = 7
 code_of S.Stimulus = 8
 code_of S.Dump = 9
 code_of S.Report = 10
+code_of S.State = 9
 code_of S.Rejected = 11
 code_of S.ReadFault = 12
 code_of S.WriteFault = 13

@@ -56,8 +56,9 @@ impl File {
             File::Netlist => Status::Netlist,
             File::Signature => Status::Signature,
             File::Stimulus => Status::Stimulus,
-            File::Dump | File::State => Status::Dump,
+            File::Dump => Status::Dump,
             File::Report => Status::Report,
+            File::State => Status::State,
         }
     }
 }

@@ -53,7 +53,7 @@ pub fn backspace<S: Shelf, K: Sink>(
         AnsweredAsTold CheckSays finishes (S.held shelf.old) (option_map plan_of (job_of (map string_bytes words.now)))
         (K.written out.old) (K.written out.new) status) }
 
-    // The status of a refusal comes exactly where the first refusal of the walk has it.
+    // The status of a refusal comes exactly where the first refusal of the walk is of the file, or the state, that it names.
     ensures refusals { IfOk result (λ status. status ≢ Status.ReadFault → status ≢ Status.WriteFault →
         RefusesFirstOf (S.held shelf.old) (S.faults shelf.old) (S.faults shelf.new) (option_map plan_of (job_of (map string_bytes words.now))) status) }
 
