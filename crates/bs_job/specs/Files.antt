@@ -30,7 +30,7 @@ refusal_status Signature = S.Signature
 refusal_status Stimulus = S.Stimulus
 refusal_status Dump = S.Dump
 refusal_status Report = S.Report
-refusal_status State = S.State
+refusal_status State = S.Target
 
 -- what a status says to be refused
 abbrev pub refused_file : Status → Option File
@@ -39,7 +39,7 @@ refused_file S.Signature = Some Signature
 refused_file S.Stimulus = Some Stimulus
 refused_file S.Dump = Some Dump
 refused_file S.Report = Some Report
-refused_file S.State = Some State
+refused_file S.Target = Some State
 refused_file _ = None
 
 -- a status of work that is done, whatever came of it

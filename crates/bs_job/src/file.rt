@@ -58,7 +58,7 @@ impl File {
             File::Stimulus => Status::Stimulus,
             File::Dump => Status::Dump,
             File::Report => Status::Report,
-            File::State => Status::State,
+            File::State => Status::Target,
         }
     }
 }

@@ -5,7 +5,7 @@ ghost use Rattle.bs_job.specs.Statuses.{code_of};
 /// The exit code for want of memory, which has no status.
 pub const NO_MEMORY_CODE: u8 = 14;
 
-/// How a call ended. A status of a name of `File` says that this is refused.
+/// How a call ended. A status of the name of a file says that this file is refused.
 #[derive(Clone, Copy, Debug, PartialEq, Eq)]
 pub enum Status {
     /// A run stopped by length or reset; a report is accepted; a dump, a summary or a wave is written; a state is reached.
@@ -25,7 +25,7 @@ pub enum Status {
     Dump,
     Report,
     /// A state among the words is refused. The exit code is that of a dump.
-    State,
+    Target,
     /// The report is not valid.
     Rejected,
     /// A fetch failed.
@@ -50,7 +50,7 @@ impl Status {
             Status::Netlist => 6,
             Status::Signature => 7,
             Status::Stimulus => 8,
-            Status::Dump | Status::State => 9,
+            Status::Dump | Status::Target => 9,
             Status::Report => 10,
             Status::Rejected => 11,
             Status::ReadFault => 12,
