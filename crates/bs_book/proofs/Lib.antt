@@ -8,6 +8,7 @@ pub mod Lessons
 pub mod Rising
 pub mod Entries
 pub mod Standing
+pub mod Solutions
 pub mod Books
 pub mod Searching
 pub mod Endings

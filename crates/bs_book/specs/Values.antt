@@ -1,5 +1,5 @@
 -- The values that a trail gives to the variables.
-use Rattle.std.specs.Prelude.{◌≡◌, ◌⊎◌, ℕ, ◌-◌, ◌≤◌, Bool, true, false, List, length, Option, Some, None, slice_index_or, unwrap_or, All}
+use Rattle.std.specs.Prelude.{◌≡◌, ◌⊎◌, ℕ, ◌-◌, ◌≤◌, Bool, true, false, List, ◌++◌, map, replicate, length, Option, Some, None, slice_index_or, unwrap_or, All}
 use Rattle.bs_clause.specs.Literal.{Literal, Clause, negation, has_literal, literal_value, Satisfies, value_at}
 
 -- the literal of a variable
@@ -25,3 +25,7 @@ pub record IsSolution (vars : ℕ) (clauses : List Clause) (assumptions : Clause
   pub total : (v : ℕ) → 1 ≤ v → v ≤ vars → value_at values v ≡ Some (Some (value_of values v))
   pub clauses_met : All (Satisfies (value_of values)) clauses
   pub assumptions_met : All (λ l. literal_value (value_of values) l ≡ true) assumptions
+
+-- the values of the first variables, of so many that are false, and of the rest
+abbrev pub values_of : List Bool → ℕ → List Bool → List (Option Bool)
+values_of front falses back = map Some (front ++ (replicate falses false ++ back))

@@ -7,10 +7,12 @@ mod ids;
 mod law;
 mod opening;
 mod recording;
+mod solution;
 mod stage;
 
 pub use answer::Answer;
 pub use law::{quiet_trails, trails_are_numbers};
 pub use opening::{begin_solve, finish, guarded};
 pub use recording::Recording;
+pub use solution::Solution;
 pub use stage::{Stage, is_begun, stage_after};

@@ -9,13 +9,14 @@ ghost use Rattle.bs_encode.specs.Listing.{joins};
 ghost use Rattle.bs_preimage.specs.Turn.{before_on};
 
 use bs_bits::Bits;
-use bs_clause::{Assignment, Lit, NoMemory, Var};
+use bs_book::Solution;
+use bs_clause::{Lit, NoMemory, Var};
 use bs_encode::Encoding;
 use bs_report::{Before, Cand};
 use std::alloc::Global;
 
 /// The value of a variable, false where it is open.
-fn value(values: &Assignment, v: Var) -> bool
+fn value(values: &Solution, v: Var) -> bool
     requires { (1 ≤ v.0) × (v.0 ≤ length values.now) }
     ensures { result ≡ value_of values.now v.0 }
 {
@@ -23,7 +24,7 @@ fn value(values: &Assignment, v: Var) -> bool
 }
 
 /// The values of the literals' variables.
-fn bits(alloc: Global, literals: &[Lit], values: &Assignment) -> Result<Bits, NoMemory>
+fn bits(alloc: Global, literals: &[Lit], values: &Solution) -> Result<Bits, NoMemory>
     requires { HasVariables (length values.now) literals.now }
     ensures { IfOk result (λ bits. bits ≡ bits_on (value_of values.now) literals.now) }
 {
@@ -35,7 +36,7 @@ fn bits(alloc: Global, literals: &[Lit], values: &Assignment) -> Result<Bits, No
 }
 
 /// Whether a literal is true, where what is open counts as false.
-fn holds(values: &Assignment, literal: Lit) -> bool
+fn holds(values: &Solution, literal: Lit) -> bool
     requires { (1 ≤ literal.variable) × (literal.variable ≤ length values.now) }
     ensures { result ≡ literal_value (value_of values.now) literal }
 {
@@ -43,7 +44,7 @@ fn holds(values: &Assignment, literal: Lit) -> bool
 }
 
 /// Whether an assignment joins the second copy to the first.
-fn is_joined(encoding: &Encoding, values: &Assignment) -> bool
+fn is_joined(encoding: &Encoding, values: &Solution) -> bool
     requires { HasVariables (length values.now) (option_to_list encoding.now.link) }
     ensures { result ≡ joins (value_of values.now) encoding.now.link }
 {
@@ -57,7 +58,7 @@ fn is_joined(encoding: &Encoding, values: &Assignment) -> bool
 fn before(
     alloc: Global,
     encoding: &Encoding,
-    values: &Assignment,
+    values: &Solution,
 ) -> Result<Option<Before>, NoMemory>
     requires link { HasVariables (length values.now) (option_to_list encoding.now.link) }
     requires states { HasVariables (length values.now) encoding.now.older_states }
@@ -76,7 +77,7 @@ fn before(
 pub(crate) fn candidate(
     alloc: Global,
     encoding: &Encoding,
-    values: &Assignment,
+    values: &Solution,
 ) -> Result<Cand, NoMemory>
     requires states { HasVariables (length values.now) encoding.now.states }
     requires inputs { HasVariables (length values.now) encoding.now.inputs }

@@ -5,8 +5,8 @@ ghost use Rattle.bs_book.specs.declared.stage.Stage.TheVariants.{Solved};
 ghost use Rattle.bs_preimage.specs.Turn.{IsReadable, MayTurn, TurnsTo, Extends, HasShown};
 
 use crate::candidate::candidate;
-use bs_book::Answer;
-use bs_clause::{Assignment, Lits, NoMemory};
+use bs_book::{Answer, Solution};
+use bs_clause::{Lits, NoMemory};
 use bs_encode::Encoding;
 use bs_engine::Solver;
 use bs_report::Cand;
@@ -49,7 +49,7 @@ fn list_one(
     alloc: Global,
     encoding: &Encoding,
     solver: &mut Solver,
-    values: &Assignment,
+    values: &Solution,
 ) -> Result<TurnEnd, NoMemory>
     requires readable { IsReadable encoding.now }
     requires stage { solver.old.failed ≡ false → solver.old.stage ≡ Solved }

@@ -4,8 +4,8 @@ ghost use Rattle.bs_unroll.specs.Room.{IsUnrollable};
 ghost use Rattle.bs_reach.specs.Search.{IsBetween, TriesTo};
 
 use bs_bits::Bits;
-use bs_book::Answer;
-use bs_clause::{Assignment, NoMemory};
+use bs_book::{Answer, Solution};
+use bs_clause::NoMemory;
 use bs_encode::Encoding;
 use bs_engine::Solver;
 use bs_unroll::assume_length;
@@ -15,7 +15,7 @@ use std::alloc::Global;
 #[derive(Drop)]
 pub(crate) enum Trial {
     /// These values show an execution of this length.
-    Shown(Assignment),
+    Shown(Solution),
     /// There is none.
     Refuted,
     /// The limit of lemmas was reached.

@@ -6,7 +6,8 @@ ghost use Rattle.bs_reach.specs.Ends.{EndsAs};
 
 use crate::length::{Trial, try_length};
 use bs_bits::Bits;
-use bs_clause::{Assignment, NoMemory};
+use bs_book::Solution;
+use bs_clause::NoMemory;
 use bs_encode::Encoding;
 use bs_engine::Solver;
 use std::alloc::Global;
@@ -15,7 +16,7 @@ use std::alloc::Global;
 #[derive(Drop)]
 pub(crate) enum End {
     /// These values show an execution.
-    Reached(u32, Assignment),
+    Reached(u32, Solution),
     /// Each length is refuted.
     Unreached,
     /// The limit of lemmas was reached.

@@ -11,7 +11,8 @@ ghost use Rattle.bs_reach.specs.Told.{EndFits, Tells};
 use crate::reach::Outcome;
 use crate::search::End;
 use bs_bits::{Bits, List};
-use bs_clause::{Assignment, Lit, NoMemory, Var};
+use bs_book::Solution;
+use bs_clause::{Lit, NoMemory, Var};
 use bs_encode::Encoding;
 use std::alloc::Global;
 
@@ -24,7 +25,7 @@ pub(crate) struct Told {
 }
 
 /// The value of a variable, false where it is open.
-fn value(values: &Assignment, v: Var) -> bool
+fn value(values: &Solution, v: Var) -> bool
     requires { (1 ≤ v.0) × (v.0 ≤ length values.now) }
     ensures { result ≡ value_of values.now v.0 }
 {
@@ -36,7 +37,7 @@ fn bits_above(
     alloc: Global,
     literals: &[Lit],
     by: u32,
-    values: &Assignment,
+    values: &Solution,
 ) -> Result<Bits, NoMemory>
     requires room { HasRoom by literals.now }
     requires wide { All (λ l. by + l.variable ≤ length values.now) literals.now }
@@ -53,7 +54,7 @@ fn bits_above(
 fn state_at(
     alloc: Global,
     encoding: &Encoding,
-    values: &Assignment,
+    values: &Solution,
     c: u32,
     k: u32,
 ) -> Result<Bits, NoMemory>
@@ -70,7 +71,7 @@ fn state_at(
 fn input_at(
     alloc: Global,
     encoding: &Encoding,
-    values: &Assignment,
+    values: &Solution,
     c: u32,
     k: u32,
 ) -> Result<Bits, NoMemory>
@@ -87,7 +88,7 @@ fn input_at(
 fn next_state_at(
     alloc: Global,
     encoding: &Encoding,
-    values: &Assignment,
+    values: &Solution,
     c: u32,
     k: u32,
 ) -> Result<Bits, NoMemory>
@@ -104,7 +105,7 @@ fn next_state_at(
 fn states_of(
     alloc: Global,
     encoding: &Encoding,
-    values: &Assignment,
+    values: &Solution,
     c: u32,
     k: u32,
 ) -> Result<List<Bits>, NoMemory>
@@ -125,7 +126,7 @@ fn states_of(
 fn inputs_of(
     alloc: Global,
     encoding: &Encoding,
-    values: &Assignment,
+    values: &Solution,
     c: u32,
     k: u32,
 ) -> Result<List<Bits>, NoMemory>

@@ -1,5 +1,6 @@
 pub mod Stock
 pub mod Ground
+pub mod Between
 pub mod Seen
 pub mod Begun
 pub mod Running

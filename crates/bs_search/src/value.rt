@@ -3,8 +3,10 @@ ghost use Rattle.std.specs.Prelude.{◌≡◌, ◌*◌, ◌<◌, ◌≤◌, ◌^
 ghost use Rattle.bs_clause.specs.Literal.{has_literal, code_of};
 ghost use Rattle.bs_watch.specs.Places.{literals_of};
 ghost use Rattle.bs_book.specs.Values.{positive, HasValues};
+ghost use Rattle.bs_search.specs.Between.{AreBetween};
 
-use bs_clause::{Assignment, Lit, NoMemory, Var};
+use bs_book::Solution;
+use bs_clause::{Lit, NoMemory, Var};
 use bs_watch::Watch;
 use std::alloc::Global;
 
@@ -30,16 +32,37 @@ fn is_set(trues: &[bool], number: u32) -> bool
     trues[Lit::new(Var(number), true).code() as usize]
 }
 
-/// The values of all variables.
-pub fn values(alloc: Global, watch: &Watch, vars: u32) -> Result<Assignment, NoMemory>
+// The values of the variables from one to before another, by the values of all literals.
+fn values_between(
+    alloc: Global,
+    trues: &[bool],
+    first: u32,
+    past: u32,
+) -> Result<Vec<bool>, NoMemory>
+    requires low { 1 ≤ first }
+    requires order { first ≤ past }
+    requires high { past ≤ 2 ^ 30 }
+    requires within { 2 * past ≤ length trues.now }
+    ensures { IfOk result (λ values. AreBetween trues.now first past values.items) }
+{
+    let mut values = Vec::new(alloc);
+    values.reserve((past - first) as usize)?;
+    'numbers: for number in first..past {
+        values.push(is_set(trues, number))?;
+    }
+    Ok(values)
+}
+
+/// The values of all variables. Those of the watch's span are not looked at.
+pub fn values(alloc: Global, watch: &Watch, vars: u32) -> Result<Solution, NoMemory>
     requires vars { watch.now.trail.vars ≡ vars }
     requires range { vars < 2 ^ 30 }
     ensures { IfOk result (HasValues (literals_of watch.now.trail.places) vars) }
 {
+    watch.holds_levels();
     let trues = watch.values();
-    let mut assignment = Assignment::new(alloc, vars)?;
-    for number in 1..vars + 1 {
-        assignment.set(Var(number), Some(is_set(trues, number)));
-    }
-    Ok(assignment)
+    let span = watch.span();
+    let front = values_between(alloc, trues, 1, span.first)?;
+    let back = values_between(alloc, trues, span.past, vars + 1)?;
+    Ok(Solution::new(front, span.past - span.first, back))
 }

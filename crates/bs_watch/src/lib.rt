@@ -8,11 +8,13 @@ mod lists;
 mod look;
 mod propagation;
 mod renaming;
+mod span;
 mod sweep;
 mod tables;
 mod trail;
 mod visit;
 mod watch;
 
+pub use span::Span;
 pub use visit::Outcome;
 pub use watch::{Level, Watch};

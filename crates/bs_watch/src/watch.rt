@@ -6,6 +6,7 @@ ghost use Rattle.bs_watch.specs.Scene.{IsWatchable, Advances, Propagated, KeepsR
 ghost use Rattle.bs_clause.specs.Range.{HasVariables};
 ghost use Rattle.bs_watch.specs.Choice.{AreHighest};
 ghost use Rattle.bs_watch.specs.Passing.{ArePassed};
+ghost use Rattle.bs_watch.specs.Spans.{IsSpan};
 ghost use Rattle.bs_watch.specs.Tables.{HasValues};
 ghost use Rattle.bs_watch.specs.Sweep.{HasServed, HasSwept};
 ghost use Rattle.bs_watch.specs.Lists.{IsAttached};
@@ -17,6 +18,7 @@ use crate::attachment::join_two;
 use crate::choice::lift;
 use crate::lists::Lists;
 use crate::propagation::{first_watched, look_on};
+use crate::span::{Span, cut, longer};
 use crate::sweep::sweep_lists;
 use crate::trail::Trail;
 use crate::visit::Outcome;
@@ -40,17 +42,19 @@ pub struct Watch {
     levels: Vec<Level>,
     head: usize,
     lists: Lists,
+    span: Span,
 }
 
 impl Model for Watch {
     ghost use Rattle.std.specs.Prelude.{vec_capacity};
-    ghost use Rattle.bs_watch.specs.Watch.{WatchState, IsWatch};
+    ghost use Rattle.bs_watch.specs.Watch.{WatchState};
+    ghost use Rattle.bs_watch.specs.Spans.{IsSpanned};
 
     ghost Value = { WatchState };
 
     ghost view = { λ w. record { trail = w.trail; levels = w.levels.items; head = w.head; lists = w.lists } };
 
-    ghost invariant = { λ w. IsWatch (record { trail = w.trail; levels = w.levels.items; head = w.head; lists = w.lists }) (vec_capacity w.levels) };
+    ghost invariant = { λ w. IsSpanned (record { trail = w.trail; levels = w.levels.items; head = w.head; lists = w.lists }) (vec_capacity w.levels) w.span };
 }
 
 impl Watch {
@@ -71,6 +75,11 @@ impl Watch {
             levels,
             head: 0,
             lists,
+            span: Span {
+                first: vars + 1,
+                past: vars + 1,
+                places: 0,
+            },
         })
     }
 
@@ -269,13 +278,22 @@ impl Watch {
     }
 
     /// Counts the next places of the trail as looked at, up to the first whose negated literal is watched. What nobody will
-    /// watch is so passed once, and not again by each propagation after a return. It takes no memory.
+    /// watch is so passed once, and not again by each propagation after a return. The span grows by the variable of the last
+    /// literal, if that is its next one and is false. It takes no memory.
     pub fn pass(&mut self)
         ensures new { self.new ≡ with_head self.old self.new.head }
         ensures passed { ArePassed self.old.lists self.old.trail.places self.old.head self.new.head }
         ensures serves { KeepsService self.old self.new }
     {
         self.head = first_watched(&self.trail, &self.lists, self.head);
+        self.span = longer(&self.trail, self.span);
+    }
+
+    /// Variables in a row that are false, which need no look at each. It begins behind those of `new`.
+    pub fn span(&self) -> Span
+        ensures { IsSpan self.now.trail result }
+    {
+        self.span
     }
 
     /// Goes back to the end of a level.
@@ -292,6 +310,7 @@ impl Watch {
             self.levels.truncate(level as usize);
             self.trail.cut(begun.start);
             self.head = begun.looked;
+            self.span = cut(self.span, begun.start);
         }
     }
 

@@ -1,17 +1,11 @@
-use Rattle.std.proofs.Common.{◌-◌, ◌∙◌, arith}
+use Rattle.std.proofs.Common.{subst, sym}
 use Rattle.bs_watch.specs.Places.{literals_of}
-use Rattle.bs_book.specs.Values.{positive}
-use Rattle.bs_search.proofs.Layings.{value_by_code}
-use Rattle.bs_search.proofs.ValueLemmas.{given_more, length_more}
+use Rattle.bs_book.specs.Values.{HasValues}
+use Rattle.bs_search.proofs.ValueLemmas.{shown}
 use Rattle.bs_search.proofs.value.values.Goals as goal
 
-pub loop-number-preserved : goal.loop-number-preserved
-loop-number-preserved c =
-    let n = c.loop-number.number in
-    let long = c.loop-number.invariant.length_is in
-    record {
-      length_is = length_more c.loop-number.assignment c.set.new.self (n - 1) c.args.vars c.is_set.result long c.set.ensures;
-      given = given_more c.loop-number.assignment c.set.new.self (literals_of c.args.watch.now.trail.places) n c.is_set.result (omega arith)
-          (omega (arith, long)) c.loop-number.invariant.given c.set.ensures
-          (c.is_set.ensures ∙ value_by_code c.values-trues.result.now (literals_of c.args.watch.now.trail.places) (positive n) c.values-trues.ensures.values);
-    }
+pub returns : goal.returns
+returns c =
+    subst (HasValues (literals_of c.args.watch.now.trail.places) c.args.vars) (sym c.new.ensures)
+    (shown c.values-trues.result.now c.args.watch.now.trail c.span-span.result c.args.vars c.in_ok-front.front.items c.in_ok-back.back.items
+    c.requires.vars c.values-trues.ensures.values c.holds_levels.ensures.apart c.span-span.ensures c.in_ok-front.ensures c.in_ok-back.ensures)

@@ -2,8 +2,10 @@ use Rattle.std.proofs.Common.{◌≡◌, ◌≤◌, ◌<◌, length, take, ap, r
 use Rattle.std.specs.Prelude.{vec_capacity, slice_get, IfSome}
 use Rattle.std.proofs.lemmas.Option.{slice_get_read, slice_get_past}
 use Rattle.bs_watch.specs.Watch.{WatchState, KeepsService, HasGoneBack}
+use Rattle.bs_watch.specs.Spans.{IsSpan}
 use Rattle.bs_watch.proofs.Services.{cancelled_serves}
 use Rattle.bs_watch.proofs.Levels.{cancelled_watch}
+use Rattle.bs_watch.proofs.Spans.{cut_span}
 use Rattle.bs_watch.proofs.watch.Watch.cancel_to.Goals as goal
 
 pub returns-then-level-len-clause-serves : goal.returns-then-level-len-clause-serves
@@ -14,7 +16,7 @@ returns-then-level-len-clause-serves c =
     record { trail = c.cut.new.self; levels = c.truncate.new.self.items; head = c.index-begun.result.now.looked; lists = c.self.inside.lists } in
     let within : c.args.level < length c.self.inside.levels.items = omega (arith, c.len.ensures, c.self.inside.levels.ok.0) in
     subst (λ w. KeepsService w new) c.self.view_is
-    (cancelled_serves (vec_capacity c.self.inside.levels) old new c.args.level c.index-begun.result.now c.self.invariant
+    (cancelled_serves (vec_capacity c.self.inside.levels) old new c.args.level c.index-begun.result.now c.self.invariant.is
     (slice_get_read c.self.inside.levels.items (length c.self.inside.levels.items) c.args.level c.index-begun.result.now (omega arith) within
     c.index-begun.ensures)
     c.cut.ensures c.truncate.ensures.items refl refl)
@@ -32,9 +34,17 @@ invariant_of-self c =
     let new : WatchState =
     record { trail = c.cut.new.self; levels = c.truncate.new.self.items; head = c.index-begun.result.now.looked; lists = c.self.inside.lists } in
     let within : c.args.level < length c.self.inside.levels.items = omega (arith, c.len.ensures, c.self.inside.levels.ok.0) in
-    cancelled_watch old new (vec_capacity c.self.inside.levels) (vec_capacity c.truncate.new.self) c.args.level c.index-begun.result.now c.self.invariant
-    (slice_get_read c.self.inside.levels.items (length c.self.inside.levels.items) c.args.level c.index-begun.result.now refl within c.index-begun.ensures)
-    (omega (arith, c.truncate.ensures.capacity)) c.cut.ensures c.truncate.ensures.items refl
+    let there : slice_get c.self.inside.levels.items c.args.level ≡ Some c.index-begun.result.now =
+    slice_get_read c.self.inside.levels.items (length c.self.inside.levels.items) c.args.level c.index-begun.result.now refl within c.index-begun.ensures in
+    record {
+      is =
+          cancelled_watch old new (vec_capacity c.self.inside.levels) (vec_capacity c.truncate.new.self) c.args.level c.index-begun.result.now
+          c.self.invariant.is there (omega (arith, c.truncate.ensures.capacity)) c.cut.ensures c.truncate.ensures.items refl;
+      span =
+          subst (λ t. IsSpan t c.cut-self-inside.result) (sym c.cut.ensures)
+          (cut_span c.self.inside.trail c.index-begun.result.now.start c.self.inside.span c.cut-self-inside.result
+          (c.self.invariant.is.begun c.args.level c.index-begun.result.now there).0 c.cut-self-inside.ensures c.self.invariant.span);
+    }
 
 pub returns-then-level-len-clause-back : goal.returns-then-level-len-clause-back
 returns-then-level-len-clause-back c =
