@@ -7,7 +7,7 @@ use Rattle.bs_outside.specs.Faults.{Rose}
 use Rattle.bs_job.specs.declared.status.Status.{Status}
 use Rattle.bs_job.specs.declared.status.Status.TheVariants.{Words, ReadFault, WriteFault}
 use Rattle.bs_job.specs.Plan.{Tells, Counts, Plan}
-use Rattle.bs_job.specs.Clauses.{Answered, AnsweredAsTold, AnsweredWhole, CallByCall, CallsWanting, IsCalm, ReadFaultOf, RefusesFirstOf}
+use Rattle.bs_job.specs.Clauses.{Answered, AnsweredAsTold, AnsweredWhole, CallByCall, CallsWanting, IsCalm, IsWordsOnlyFor, ReadFaultOf, RefusesFirstOf}
 use Rattle.bs_job.specs.Delivery.{Delivers, PutsLines}
 use Rattle.bs_net.specs.Parts.{Parts}
 use Rattle.bs_request.specs.Request.{Request}
@@ -22,6 +22,7 @@ pub record AnswersPlan {S K : Type 0} (held : S → Tells) (faults : S → Count
     (answer : Result Status NoMemory) : Type 0 where
   pub answered : IfOk answer (λ status. Answered CheckSays finishes (held shelf_before) (faults shelf_before) (faults shelf_now) (Some plan)
       (written sink_before) (written sink_now) status)
+  pub words : IfOk answer (λ status. status ≢ WriteFault → IsWordsOnlyFor (Some plan) status)
   pub told : IfOk answer (λ status. status ≢ ReadFault → status ≢ WriteFault →
       AnsweredAsTold CheckSays finishes (held shelf_before) (Some plan) (written sink_before) (written sink_now) status)
   pub refusals : IfOk answer (λ status. status ≢ ReadFault → status ≢ WriteFault →
@@ -31,6 +32,8 @@ pub record AnswersPlan {S K : Type 0} (held : S → Tells) (faults : S → Count
   pub read_counted : IfOk answer (λ status. status ≢ ReadFault → status ≢ WriteFault → (name : List ℕ) → faults shelf_now name ≡ faults shelf_before name)
   pub write_fault : IfOk answer (λ status. status ≡ WriteFault → Rose (sink_faults sink_before) (sink_faults sink_now))
   pub write_counted : IfOk answer (λ status. status ≢ WriteFault → sink_faults sink_now ≡ sink_faults sink_before)
+  pub complete : IsCalm (held shelf_before) (faults shelf_before) (faults shelf_now) (Some plan) (sink_faults sink_before) (sink_faults sink_now) →
+      IfOk answer (λ status. AnsweredAsTold CheckSays finishes (held shelf_before) (Some plan) (written sink_before) (written sink_now) status)
   pub whole : IsCalm (held shelf_before) (faults shelf_before) (faults shelf_now) (Some plan) (sink_faults sink_before) (sink_faults sink_now) →
       IfOk answer (λ status. AnsweredWhole CheckSays finishes (held shelf_before) (faults shelf_before) (faults shelf_now) (Some plan)
       (written sink_before) (written sink_now) status)

@@ -2,11 +2,11 @@
 ghost use Rattle.std.specs.Prelude.{◌≡◌, ◌≢◌, ℕ, List, Some, map, string_bytes, IfOk, OnErr};
 ghost use Rattle.std.specs.Io.KnownBytes.{Keeps};
 ghost use Rattle.bs_outside.specs.Faults.{Rose};
-ghost use Rattle.bs_job.specs.Clauses.{Answered, AnsweredAsTold, AnsweredWhole, CallByCall, CallsWanting, IsCalm, ReadFaultOf, RefusesFirstOf};
+ghost use Rattle.bs_job.specs.Clauses.{Answered, AnsweredAsTold, AnsweredWhole, CallByCall, CallsWanting, IsCalm, IsWordsOnlyFor, ReadFaultOf, RefusesFirstOf};
 ghost use Rattle.bs_entry.specs.Refusals.{CheckSays};
 ghost use Rattle.bs_request.specs.Request.{request_of};
 ghost use Rattle.bs_request.specs.Shown.{request_in};
-ghost use Rattle.bs_inspect.specs.Answers.{AnswersRequest, ShowsUsage};
+ghost use Rattle.bs_inspect.specs.Answers.{AnswersPlan, AnswersRequest, ShowsUsage};
 ghost use Rattle.bs_inspect.specs.Work.{plan_of};
 ghost use Rattle.bs_inspect.specs.Finishes.{finishes};
 ghost use Rattle.bs_inspect.specs.Usage.{usage_text};
@@ -28,6 +28,7 @@ fn answer<S: Shelf, K: Sink>(
     // Whatever the files were: what was written is what the request calls for, or its front where a put failed.
     ensures answered { IfOk result (λ status. Answered CheckSays finishes (S.held shelf.old) (S.faults shelf.old) (S.faults shelf.new)
         (Some (plan_of (request_in request.now))) (K.written out.old) (K.written out.new) status) }
+    ensures words { IfOk result (λ status. status ≢ Status.WriteFault → IsWordsOnlyFor (Some (plan_of (request_in request.now))) status) }
 
     // Where the shelf tells the files, they settle the answer, but for a fault.
     ensures told { IfOk result (λ status. status ≢ Status.ReadFault → status ≢ Status.WriteFault →
@@ -47,6 +48,11 @@ fn answer<S: Shelf, K: Sink>(
     ensures write_counted { IfOk result (λ status. status ≢ Status.WriteFault → K.faults out.new ≡ K.faults out.old) }
 
     // With no fault, the answer is whole.
+    ensures complete { IsCalm (S.held shelf.old) (S.faults shelf.old) (S.faults shelf.new) (Some (plan_of (request_in request.now)))
+        (K.faults out.old) (K.faults out.new) →
+        IfOk result (λ status. AnsweredAsTold CheckSays finishes (S.held shelf.old) (Some (plan_of (request_in request.now)))
+        (K.written out.old) (K.written out.new) status) }
+
     ensures whole { IsCalm (S.held shelf.old) (S.faults shelf.old) (S.faults shelf.new) (Some (plan_of (request_in request.now)))
         (K.faults out.old) (K.faults out.new) →
         IfOk result (λ status. AnsweredWhole CheckSays finishes (S.held shelf.old) (S.faults shelf.old) (S.faults shelf.new)
@@ -63,6 +69,18 @@ fn answer<S: Shelf, K: Sink>(
 {
     let answer = prepare(alloc, request, shelf)?;
     Ok(deliver(&answer, out))
+}
+
+/// The answer to a request, as one fact.
+fn answer_plan<S: Shelf, K: Sink>(
+    alloc: Global,
+    request: &Request<'_>,
+    shelf: &mut S,
+    out: &mut K,
+) -> Result<Status, NoMemory>
+    ensures { AnswersPlan S.held S.faults S.leads shelf.old shelf.new K.written K.faults K.leads out.old out.new (plan_of (request_in request.now)) result }
+{
+    answer(alloc, request, shelf, out)
 }
 
 /// The answer to words that are no request.
@@ -104,7 +122,7 @@ pub fn inspect<S: Shelf, K: Sink>(
         Err(_) => return Err(NoMemory),
     };
     match asked {
-        Some(request) => answer(alloc, &request, shelf, out),
+        Some(request) => answer_plan(alloc, &request, shelf, out),
         None => show_usage(alloc, shelf, out),
     }
 }

@@ -6,6 +6,9 @@ use Rattle.bs_inspect.proofs.top.answer.Goals as goal
 pub returns-clause-answered : goal.returns-clause-answered
 returns-clause-answered g c = answered c.in_ok-answer.ensures.answer c.deliver.ensures.sent
 
+pub returns-clause-words : goal.returns-clause-words
+returns-clause-words g c = λ write. words_only (λ plan. plan) _ is_work c.in_ok-answer.ensures.answer c.deliver.ensures.sent write
+
 pub returns-clause-told : goal.returns-clause-told
 returns-clause-told g c = λ read write. answered_as_told c.in_ok-answer.ensures.answer c.deliver.ensures.sent read write
 
@@ -17,6 +20,9 @@ returns-clause-read_fault g c = λ is. read_fault_of is_work c.in_ok-answer.ensu
 
 pub returns-clause-read_counted : goal.returns-clause-read_counted
 returns-clause-read_counted g c = λ read write. read_counted c.in_ok-answer.ensures.answer c.deliver.ensures.sent read write
+
+pub returns-clause-complete : goal.returns-clause-complete
+returns-clause-complete g c = λ calm. complete is_work c.in_ok-answer.ensures.answer c.deliver.ensures.sent calm
 
 pub returns-clause-whole : goal.returns-clause-whole
 returns-clause-whole g c = λ calm. complete_whole is_work c.in_ok-answer.ensures.answer c.deliver.ensures.sent calm
