@@ -1,15 +1,16 @@
 -- Prints of states, notes of them, and where a look may begin.
 use Rattle.std.proofs.Common.{◌≡◌, ℕ, ◌<◌, ◌≤◌, ◌+◌, ◌-◌, ◌*◌, ◌/◌, ◌%◌, Bool, true, false, List, [], ◌∷◌, ◌++◌, length, map, take, get_or, refl}
-use Rattle.std.proofs.Common.{arith, ap, ap₂, sym, subst, ◌∙◌, ⊎_elim, Option, Some, None, min, cond, fold}
+use Rattle.std.proofs.Common.{arith, ap, ap₂, sym, subst, ◌∙◌, ⊎_elim, Option, Some, None, min, cond, suc, inl, inr, ◌||◌}
+use Rattle.std.proofs.Math.Nat.{mul-suc}
 use Rattle.std.specs.Prelude.{nat_eq, All}
 use Rattle.std.specs.HashMap.{get, HashMap}
 use Rattle.std.specs.Map.{lookup}
 use Rattle.std.specs.Option.{unwrap_or}
-use Rattle.std.proofs.lemmas.Bool.{cases_eq}
-use Rattle.std.proofs.lemmas.List.{take_more}
-use Rattle.std.proofs.lemmas.List.Elements.{All-more, All-map, All-weaker, All-take}
+use Rattle.std.proofs.lemmas.Bool.{cases_eq, cases_lt}
+use Rattle.std.proofs.lemmas.List.{take_all, take_more}
+use Rattle.std.proofs.lemmas.List.Elements.{All-more, All-map, All-weaker}
 use Rattle.std.specs.List.{list_any}
-use Rattle.std.proofs.lemmas.List.Folds.{list_any_none}
+use Rattle.std.proofs.lemmas.List.Folds.{list_any_kept, list_any_more, list_any_none}
 use Rattle.std.proofs.lemmas.List.FromFn.{map-range_with_len_more}
 use Rattle.std.proofs.lemmas.List.Sums.{fold-append}
 use Rattle.bs_bits.specs.Bits.{bits_eq}
@@ -18,8 +19,8 @@ use Rattle.bs_stim.specs.Packing.{bit_in}
 use Rattle.bs_plane.specs.Planes.{lane, bit_place}
 use Rattle.bs_scan.specs.Moments.{Run, run_of, state_at}
 use Rattle.bs_scan.proofs.SignatureLemmas.{bits_same_is}
-use Rattle.bs_chip.specs.Index.{HasBy, Keeps, NotesLanes, NotesCycle, NotesCycles, HasNoneBefore}
-use Rattle.bs_chip.specs.Lockstep.{wide_of, ShowsCycle, NoneAmong, NoneBefore}
+use Rattle.bs_chip.specs.Index.{HasBy, Keeps, NotesLanes, NotesCycle, NotesCycles, HasNoneBefore, IsNoted, IsPaid, is_cycle}
+use Rattle.bs_chip.specs.Lockstep.{wide_of, ShowsCycle, NoneBefore}
 use Rattle.bs_chip.specs.Prints.{print_more, print_of}
 use Rattle.bs_chip.proofs.LaneLemmas.{place_of}
 
@@ -204,3 +205,66 @@ module _ {S : Type 0} where
 pub none_sooner : (c : Circuit) (runs : List Run) (states : List (List Bool)) (late from : ℕ) → from ≤ late → NoneBefore c runs states late →
     NoneBefore c runs states from
 none_sooner c runs states late from le h = record { each = λ k lt. h.each k (omega (arith, lt, le)) }
+
+-- ---- the cycle at which a look begins
+
+or_true : (b : Bool) → (b || true) ≡ true
+or_true true = refl
+or_true false = refl
+
+module _ {S X : Type 0} where
+  noted_still : (first : HashMap ℕ ℕ S) (print : X → ℕ) (xs : List X) (i cycles from next : ℕ) → next ≡ from →
+      IsNoted first cycles from print (take i xs) → IsNoted first cycles next print (take (i + 1) xs)
+  noted_still first print xs i cycles from next e h =
+      let R : ℕ → Type 0 = λ q. IsNoted first cycles q print (take (i + 1) xs) in
+      let p : X → Bool = λ x. is_cycle (get nat_eq first (print x)) from in
+      subst R (sym e)
+      (record {
+        either =
+            ⊎_elim (λ (same : from ≡ cycles). inl same)
+            (λ (there : list_any p (take i xs) ≡ true). inr (list_any_kept p xs i there)) h.either;
+      })
+
+  noted_here : (first : HashMap ℕ ℕ S) (print : X → ℕ) (xs : List X) (i cycles next : ℕ) (x : X) → i < length xs → x ≡ get_or xs i x →
+      is_cycle (get nat_eq first (print x)) next ≡ true → IsNoted first cycles next print (take (i + 1) xs)
+  noted_here first print xs i cycles next x lt is e =
+      let p : X → Bool = λ y. is_cycle (get nat_eq first (print y)) next in
+      let more : Bool → Bool = λ b. list_any p (take i xs) || b in
+      record {
+        either =
+            inr (list_any_more p xs i x lt ∙ (ap (λ y. more (p y)) (sym is) ∙ (ap more e ∙ or_true (list_any p (take i xs)))));
+      }
+
+  pub noted_more : (first : HashMap ℕ ℕ S) (print : X → ℕ) (xs : List X) (i cycles from next mark cycle : ℕ) (x : X) → i < length xs →
+      x ≡ get_or xs i x → mark ≡ print x → cycle ≡ unwrap_or (get nat_eq first mark) from → next ≡ min from cycle →
+      IsNoted first cycles from print (take i xs) → IsNoted first cycles next print (take (i + 1) xs)
+  noted_more first print xs i cycles from next mark cycle x lt is m e n h = by (get nat_eq first mark) refl
+    where
+      by : (o : Option ℕ) → get nat_eq first mark ≡ o → IsNoted first cycles next print (take (i + 1) xs)
+      by None g =
+          let same : cycle ≡ from = e ∙ ap (λ o. unwrap_or o from) g in
+          noted_still first print xs i cycles from next (omega (arith, n, same)) h
+      by (Some c) g =
+          let same : cycle ≡ c = e ∙ ap (λ o. unwrap_or o from) g in
+          ⊎_elim
+          (λ (less : c < from).
+          noted_here first print xs i cycles next x lt is
+          (ap (λ q. is_cycle (get nat_eq first q) next) (sym m) ∙ (ap (λ o. is_cycle o next) g ∙ grind (arith, n, same, less))))
+          (λ (more : from ≤ c). noted_still first print xs i cycles from next (omega (arith, n, same, more)) h)
+          (cases_lt c from)
+
+  pub noted_all : (first : HashMap ℕ ℕ S) (print : X → ℕ) (xs : List X) (i cycles from : ℕ) → length xs ≤ i →
+      IsNoted first cycles from print (take i xs) → IsNoted first cycles from print xs
+  noted_all first print xs i cycles from le h =
+      let R : List X → Type 0 = λ ys. IsNoted first cycles from print ys in
+      subst R (take_all i xs le) h
+
+-- ---- the price of notes
+
+after_one : (from to : ℕ) → from ≤ to → to + 1 - from ≡ suc (to - from)
+after_one from to le = omega (arith, le)
+
+pub paid_more : (price credit left from to : ℕ) → price ≤ left → IsPaid price credit left from to → IsPaid price credit (left - price) from (to + 1)
+paid_more price credit left from to le p =
+    let more : price * (to + 1 - from) ≡ price * (to - from) + price = ap (λ n. price * n) (after_one from to p.grown) ∙ mul-suc price (to - from) in
+    record { grown = omega (arith, p.grown); paid = omega (arith, le, more, p.paid) }

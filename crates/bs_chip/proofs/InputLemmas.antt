@@ -1,8 +1,8 @@
 -- The planes of the data inputs, word by word.
-use Rattle.std.proofs.Common.{◌≡◌, ◌≢◌, ℕ, ◌<◌, ◌≤◌, ◌+◌, ◌-◌, ◌*◌, ◌/◌, ◌%◌, ◌^◌, Bool, true, false, ◌||◌, List, [], length, get_or, set, refl}
+use Rattle.std.proofs.Common.{◌≡◌, ℕ, ◌<◌, ◌≤◌, ◌+◌, ◌-◌, ◌*◌, ◌/◌, ◌%◌, ◌^◌, Bool, true, false, ◌||◌, List, [], length, get_or, set, refl}
 use Rattle.std.proofs.Common.{arith, ap, sym, subst, ◌∙◌, ⊎_elim, min, get_or-set_same, get_or-set_other}
 use Rattle.std.specs.Prelude.{◌==◌}
-use Rattle.std.specs.Int.{bit_at, w64}
+use Rattle.std.specs.Int.{w64}
 use Rattle.std.specs.Int.Bits.{bit_or}
 use Rattle.std.proofs.lemmas.Bool.{cases_eq, or_right, true≢false}
 use Rattle.std.proofs.lemmas.List.{length-map}
@@ -13,7 +13,7 @@ use Rattle.std.proofs.lemmas.Nat.Bits.{bit_at-zero, bit_at_set_same, bit_at_set_
 use Rattle.bs_net.specs.Circuit.{Circuit}
 use Rattle.bs_stim.specs.Packing.{bit_in}
 use Rattle.bs_stim.specs.Runs.{Recorded, Stimulus, IsRecorded, IsStimulus, inputs_of, no_run, run_at}
-use Rattle.bs_plane.specs.Planes.{bit_place, lane}
+use Rattle.bs_plane.specs.Planes.{bit_place}
 use Rattle.bs_plane.proofs.PlaneLemmas.{bit_from}
 use Rattle.bs_scan.specs.Moments.{Run, run_of}
 use Rattle.bs_scan.proofs.CrashLemmas.{run_inputs}

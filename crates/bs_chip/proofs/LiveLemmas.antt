@@ -3,8 +3,7 @@ use Rattle.std.proofs.Common.{◌≡◌, ℕ, ◌<◌, ◌≤◌, ◌+◌, ◌-�
 use Rattle.std.proofs.Common.{◌∙◌, refl, ⊎_elim, min, max}
 use Rattle.std.specs.Prelude.{◌==◌, nat_lt, nat_le, if◌then◌else◌}
 use Rattle.std.specs.Int.{bit_at}
-use Rattle.std.proofs.lemmas.Bool.{cases_eq, cases_lt, true≢false, and_parts, ltb-true, lt-ltb, le-ltb, leb-true, le-leb, leb-false, lt-leb}
-use Rattle.bs_stim.specs.declared.limits.TheConstants.{MAX_RUNS}
+use Rattle.std.proofs.lemmas.Bool.{cases_eq, cases_lt, and_parts, ltb-true, lt-ltb, le-ltb, leb-true, le-leb, lt-leb}
 use Rattle.bs_stim.specs.Packing.{bit_in, HasPut, IsClear}
 use Rattle.bs_scan.specs.Moments.{Run, run_of}
 use Rattle.bs_break.specs.Masks.{has}

@@ -1,13 +1,13 @@
 -- The lowest run in a listed state: bits of a mask, words of planes, and cycles.
-use Rattle.std.proofs.Common.{◌≡◌, ℕ, ◌<◌, ◌≤◌, ◌+◌, ◌-◌, ◌*◌, ◌^◌, Bool, true, false, ◌&&◌, List, length, arith, ap, sym, subst, ◌∙◌, ⊎_elim, Option}
+use Rattle.std.proofs.Common.{◌≡◌, ℕ, ◌<◌, ◌≤◌, ◌+◌, ◌-◌, ◌*◌, Bool, true, false, ◌&&◌, List, length, arith, ap, sym, subst, ◌∙◌, ⊎_elim, Option}
 use Rattle.std.proofs.Common.{Some, None}
-use Rattle.std.specs.Prelude.{◌==◌, MatchOption, nat_lt, nat_le}
-use Rattle.std.specs.Int.{bit_at, trailing_zeros, w64}
+use Rattle.std.specs.Prelude.{◌==◌, MatchOption}
+use Rattle.std.specs.Int.{trailing_zeros, w64}
 use Rattle.std.proofs.lemmas.Bool.{cases_eq, cases_lt, and_parts}
 use Rattle.std.proofs.lemmas.Nat.Bits.{bit_at-trailing_zeros, bit_at-zero}
 use Rattle.bs_net.specs.Circuit.{Circuit}
 use Rattle.bs_plane.specs.Planes.{lane}
-use Rattle.bs_scan.specs.Moments.{Run, run_of, state_at, is_listed}
+use Rattle.bs_scan.specs.Moments.{Run, run_of, is_listed}
 use Rattle.bs_break.specs.Bank.{Banked, Hits}
 use Rattle.bs_break.specs.Masks.{has}
 use Rattle.bs_chip.specs.Live.{Lasting, lasts, IsLiveWord}

@@ -1,9 +1,7 @@
 -- All lanes, one cycle on.
-use Rattle.std.proofs.Common.{◌≡◌, ℕ, ◌<◌, ◌≤◌, ◌+◌, ◌-◌, ◌*◌, Bool, List, [], length, get_or, refl, arith, ap, ap₂, sym, subst, ◌∙◌, ⊎_elim}
-use Rattle.std.proofs.lemmas.Bool.{cases_eq}
+use Rattle.std.proofs.Common.{◌≡◌, ℕ, ◌<◌, ◌≤◌, ◌+◌, ◌-◌, ◌*◌, Bool, List, length, refl, arith, ap, ap₂, sym, subst, ◌∙◌}
 use Rattle.bs_net.specs.Circuit.{Circuit, next, reset_state}
 use Rattle.bs_net.specs.Netlist.{circuit}
-use Rattle.bs_stim.specs.declared.limits.TheConstants.{MAX_RUNS}
 use Rattle.bs_stim.specs.Runs.{Stimulus, IsStimulus, inputs_of}
 use Rattle.bs_plane.specs.Planes.{lane}
 use Rattle.bs_lanes.specs.Lanes.{LaneTable, IsSameTable, AreReset, AreStepped}

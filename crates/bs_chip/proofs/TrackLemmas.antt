@@ -1,6 +1,6 @@
 -- The track of planes, one cycle on.
-use Rattle.std.proofs.Common.{◌≡◌, ℕ, suc, zero, ◌<◌, ◌≤◌, ◌+◌, ◌-◌, ◌*◌, Bool, List, [], ◌∷◌, ◌++◌, length, take, get_or, refl, arith}
-use Rattle.std.proofs.Common.{ap, sym, subst, ◌∙◌, ◌⊎◌, inl, inr, ⊎_elim, max, length-append}
+use Rattle.std.proofs.Common.{◌≡◌, ℕ, suc, zero, ◌<◌, ◌≤◌, ◌+◌, ◌-◌, Bool, List, [], ◌∷◌, ◌++◌, length, take, get_or, refl, arith}
+use Rattle.std.proofs.Common.{ap, sym, subst, ◌∙◌, ◌⊎◌, inl, inr, ⊎_elim, length-append}
 use Rattle.std.specs.Prelude.{Result, Ok, Err, IfOk, Some, slice_get}
 use Rattle.std.proofs.lemmas.Bool.{cases_eq, cases_lt}
 use Rattle.std.proofs.lemmas.List.{take_all}
@@ -8,7 +8,7 @@ use Rattle.bs_net.specs.Circuit.{Circuit}
 use Rattle.bs_stim.specs.declared.limits.TheConstants.{MAX_CYCLES}
 use Rattle.bs_scan.specs.Choice.{Chosen, depth_of}
 use Rattle.bs_scan.specs.Crash.{Recording, IsRecording}
-use Rattle.bs_scan.specs.Moments.{Run, moment, run_of, state_at}
+use Rattle.bs_scan.specs.Moments.{Run, moment, state_at}
 use Rattle.bs_scan.specs.Register.{Register, cleared, clocked}
 use Rattle.bs_scan.specs.Signature.{signature, signatures_before, stored_at}
 use Rattle.bs_scan.proofs.CrashLemmas.{few_before}

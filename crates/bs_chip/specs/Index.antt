@@ -1,14 +1,38 @@
 -- The index of states: for the print of each state of the first cycles, a cycle that is no later.
-use Rattle.std.specs.Prelude.{◌≡◌, ℕ, ◌<◌, ◌≤◌, ◌+◌, ◌-◌, nat_eq, List, All, length}
+use Rattle.std.specs.Prelude.{◌≡◌, ◌⊎◌, ℕ, ◌<◌, ◌≤◌, ◌+◌, ◌-◌, ◌*◌, ◌/◌, ◌^◌, ◌==◌, min, nat_eq, Bool, true, false, Option, Some, None, List, length}
+use Rattle.std.specs.List.{list_any}
 use Rattle.std.specs.HashMap.{get, HashMap}
 use Rattle.std.specs.Option.{unwrap_or}
 use Rattle.bs_net.specs.Circuit.{Circuit}
 use Rattle.bs_plane.specs.Planes.{lane}
 use Rattle.bs_scan.specs.Moments.{Run, run_of, state_at}
+use Rattle.bs_chip.specs.declared.index.TheConstants.{MAX_PRINTS}
 use Rattle.bs_chip.specs.Lockstep.{wide_of}
 use Rattle.bs_chip.specs.Prints.{print_of}
 
+-- how many looks at a cycle pay for the notes of one, where each of so many runs has a state of so many bits
+abbrev pub price_of : ℕ → ℕ → ℕ
+price_of width runs = min ((width / 8 + 2) * runs) (2 ^ 64 - 1)
+
+-- the cycles from one to another are paid for out of a credit, each by a price, and the rest is left
+pub record IsPaid (price credit left from to : ℕ) : Type 0 where
+  pub grown : from ≤ to
+  pub paid : price * (to - from) + left ≡ credit
+
+-- so many kept cycles are all noted, or the credit does not pay for the next one, or there are as many prints as there may be
+pub record IsSpent (price left kept cycles prints : ℕ) : Type 0 where
+  pub either : (kept ≤ cycles) ⊎ ((left < price) ⊎ (MAX_PRINTS ≤ prints))
+
+-- whether this is the cycle that a print has
+abbrev pub is_cycle : Option ℕ → ℕ → Bool
+is_cycle None cycle = false
+is_cycle (Some c) cycle = c == cycle
+
 module _ {S : Type 0} where
+  -- a cycle is that of one of the prints, or lies behind all that are noted
+  pub record IsNoted (first : HashMap ℕ ℕ S) (cycles from : ℕ) {X : Type 0} (print : X → ℕ) (xs : List X) : Type 0 where
+    pub either : (from ≡ cycles) ⊎ (list_any (λ x. is_cycle (get nat_eq first (print x)) from) xs ≡ true)
+
   -- a print has a cycle, and none later than this one
   abbrev pub HasBy : HashMap ℕ ℕ S → ℕ → ℕ → Type 0
   HasBy first print cycle = unwrap_or (get nat_eq first print) (cycle + 1) ≤ cycle

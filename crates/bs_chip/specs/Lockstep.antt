@@ -6,7 +6,6 @@ use Rattle.bs_stim.specs.declared.limits.TheConstants.{MAX_CYCLES}
 use Rattle.bs_stim.specs.Runs.{Stimulus, IsStimulus, inputs_of}
 use Rattle.bs_plane.specs.Planes.{lane}
 use Rattle.bs_lanes.specs.Lanes.{LaneTable}
-use Rattle.bs_scan.specs.Crash.{Recording, IsRecording}
 use Rattle.bs_scan.specs.Moments.{Run, Moment, run_of, state_at, is_listed}
 use Rattle.bs_break.specs.Bank.{Banked}
 use Rattle.bs_chip.specs.Live.{Lasting, lasts}

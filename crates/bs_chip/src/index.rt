@@ -1,7 +1,8 @@
 //! The index of states: a cycle before which no run is in a listed state, by the prints of the states of the first
 //! cycles. It only says where a look may begin; whether a state is listed is for the bank to say.
-ghost use Rattle.std.specs.Prelude.{◌≡◌, ◌≤◌, length, All};
-ghost use Rattle.bs_chip.specs.Index.{HasNoneBefore, NotesCycles};
+ghost use Rattle.std.specs.Prelude.{◌≡◌, ◌≤◌, length, All, OnOk};
+ghost use Rattle.std.specs.HashMap.{hash_map_len};
+ghost use Rattle.bs_chip.specs.Index.{HasNoneBefore, IsNoted, IsPaid, IsSpent, NotesCycles, price_of};
 ghost use Rattle.bs_chip.specs.Lockstep.{TrackShows};
 ghost use Rattle.bs_chip.specs.Prints.{print_of};
 
@@ -35,10 +36,12 @@ impl Index {
     }
 }
 
-/// A cycle before which no state of a list has a print.
+/// A cycle before which no state of a list has a print: the least cycle that a state of the list has in the index, or the
+/// number of its cycles.
 pub fn start<S: HasState>(index: &Index, list: &[S]) -> usize
     ensures within { result ≤ index.now.cycles }
     ensures before { All (λ listed. HasNoneBefore index.now.first result (print_of (S.shown listed))) list.now }
+    ensures noted { IsNoted index.now.first index.now.cycles result (λ listed. print_of (S.shown listed)) list.now }
 {
     let mut from = index.cycles;
     'states: for i in 0..list.len() {
@@ -49,7 +52,7 @@ pub fn start<S: HasState>(index: &Index, list: &[S]) -> usize
 }
 
 /// Notes further cycles of a track, as many as a credit pays for: the number of cycles that were looked at so far and not
-/// paid with yet.
+/// paid with yet. It ends before, where there are as many prints as there may be.
 pub fn grow(
     index: &mut Index,
     pass: &Pass<'_>,
@@ -60,7 +63,9 @@ pub fn grow(
     requires width { width ≡ length pass.now.circuit.flops }
     requires shows { TrackShows pass.now.circuit pass.now.runs track.now }
     requires notes { NotesCycles pass.now.circuit pass.now.runs index.old.first index.old.cycles }
-    ensures { NotesCycles pass.now.circuit pass.now.runs index.new.first index.new.cycles }
+    ensures notes { NotesCycles pass.now.circuit pass.now.runs index.new.first index.new.cycles }
+    ensures paid { OnOk result (IsPaid (price_of width (length pass.now.runs)) credit.old credit.new index.old.cycles index.new.cycles) }
+    ensures spent { OnOk result (IsSpent (price_of width (length pass.now.runs)) credit.new (length track.now) index.new.cycles (hash_map_len index.new.first)) }
 {
     let price = pass.price(width);
     'cycles: for at in index.cycles as usize..track.len() {

@@ -3,7 +3,7 @@ ghost use Rattle.std.specs.Prelude.{◌≡◌, ◌<◌, ◌≤◌, ◌*◌, ◌+
 ghost use Rattle.bs_net.specs.Netlist.{circuit};
 ghost use Rattle.bs_scan.specs.Crash.{Recording};
 ghost use Rattle.bs_stim.specs.Runs.{inputs_of};
-ghost use Rattle.bs_chip.specs.Index.{Keeps, NotesCycle};
+ghost use Rattle.bs_chip.specs.Index.{Keeps, NotesCycle, price_of};
 ghost use Rattle.bs_chip.specs.Lockstep.{IsLongest, IsLowest, NoneAmong, ShowsCycle, ShowsPass};
 
 use crate::inputs::put_inputs;
@@ -105,11 +105,11 @@ impl<'a> Pass<'a> {
         &self.lanes
     }
 
-    /// How many looks at a cycle cost about as much as noting one does.
-    pub fn price(&self, width: usize) -> u64 {
-        (width as u64 / 8)
-            .saturating_add(2)
-            .saturating_mul(u64::from(self.runs.count()))
+    /// How many looks at a cycle cost about as much as noting one does, where a state has so many bits.
+    pub fn price(&self, width: usize) -> u64
+        ensures { result ≡ price_of width (length self.now.runs) }
+    {
+        (width as u64 / 8 + 2).saturating_mul(u64::from(self.runs.count()))
     }
 
     /// Notes the prints of the states that planes show at a cycle.

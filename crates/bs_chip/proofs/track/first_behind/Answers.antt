@@ -1,5 +1,5 @@
-use Rattle.std.proofs.Common.{◌∙◌, ◌+◌, ◌≡◌, ℕ, List, length, refl, subst, arith}
-use Rattle.bs_chip.specs.Lockstep.{Extends, IsLongest, NoneAmong, Passing, ShowsCycle}
+use Rattle.std.proofs.Common.{◌∙◌, ◌+◌, ◌≡◌, length, subst, arith}
+use Rattle.bs_chip.specs.Lockstep.{IsLongest, NoneAmong, Passing, ShowsCycle}
 use Rattle.bs_chip.proofs.TrackLemmas.{still_shows, behind_more, behind_all}
 use Rattle.bs_chip.proofs.track.first_behind.Goals as goal
 

@@ -1,4 +1,4 @@
-use Rattle.std.proofs.Common.{◌≡◌, ◌∙◌, ◌<◌, ◌≤◌, ◌+◌, ◌-◌, ℕ, Bool, List, [], length, get_or, ap, arith, sym}
+use Rattle.std.proofs.Common.{◌≡◌, ◌∙◌, ◌-◌, ℕ, [], length, get_or, ap, arith, sym}
 use Rattle.bs_net.specs.Circuit.{Circuit}
 use Rattle.bs_plane.specs.Planes.{lane}
 use Rattle.bs_plane.proofs.PlaneLemmas.{length_lane}

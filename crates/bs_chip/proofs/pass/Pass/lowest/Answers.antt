@@ -2,7 +2,6 @@ use Rattle.std.proofs.Common.{◌∙◌, ◌≡◌, ℕ, List, subst, sym}
 use Rattle.std.specs.Prelude.{MatchOption, length}
 use Rattle.bs_net.specs.Netlist.{circuit}
 use Rattle.bs_stim.specs.Runs.{inputs_of}
-use Rattle.bs_chip.specs.Live.{Lasting}
 use Rattle.bs_chip.specs.Lockstep.{Passing, IsLowest, NoneAmong, ShowsCycle}
 use Rattle.bs_chip.proofs.LookLemmas.{found_in}
 use Rattle.bs_chip.proofs.pass.Pass.lowest.Goals as goal

@@ -10,4 +10,4 @@ first_moment-requires-clause-none g c =
     subst (λ (b : Banked). NoneBefore p.circuit p.runs b.states c.min-from.result) (sym c.in_ok-bank.ensures)
     (none_sooner p.circuit p.runs _ c.start.result c.min-from.result (omega (arith, c.min-from.ensures))
     (none_started g.S.HasState.shown p.circuit p.runs c.grow.new.index.first c.args.list.now c.grow.new.index.cycles c.start.result
-    c.start.ensures.within c.in_ok-grow.ensures c.start.ensures.before))
+    c.start.ensures.within c.in_ok-grow.ensures.notes c.start.ensures.before))
