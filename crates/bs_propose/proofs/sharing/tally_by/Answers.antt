@@ -4,9 +4,13 @@ use Rattle.bs_propose.proofs.sharing.tally_by.Goals as goal
 
 pub overflow_add-tally : goal.overflow_add-tally
 overflow_add-tally c =
-    omega
-    (arith, c.rows.invariant.few, c.requires.few, c.rows-test.true,
-    share_few c.args.counts.now c.args.rows.now c.in_ok-key.key c.counted-share.result c.requires.counts c.requires.few c.counted-share.ensures)
+    omega (
+      arith,
+      c.rows.invariant.few,
+      c.requires.few,
+      c.rows-test.true,
+      share_few c.args.counts.now c.args.rows.now c.in_ok-key.key c.counted-share.result c.requires.counts c.requires.few c.counted-share.ensures,
+    )
 
 pub rows-preserved : goal.rows-preserved
 rows-preserved c = record {
