@@ -1,8 +1,8 @@
 -- Bounded heights and sums of modules decide whether a design is too deep, and whether it has too many parts.
-use Rattle.std.proofs.Common.{◌≡◌, ℕ, zero, suc, ◌<◌, ◌≤◌, ◌+◌, ◌-◌, max, min, Bool, true, false, List, [], ◌∷◌, length, get_or, nat_lt, refl, arith, subst}
+use Rattle.std.proofs.Common.{◌≡◌, ℕ, zero, suc, ◌<◌, ◌+◌, ◌-◌, max, min, Bool, true, false, List, [], ◌∷◌, length, get_or, nat_lt, refl, arith}
 use Rattle.std.proofs.Common.{ap, sym, ◌∙◌, lt-ltb, le-ltb}
 use Rattle.std.proofs.lemmas.Bool.{ltb-true, ltb-false}
-use Rattle.bs_flat.specs.Design.{Design, Module, Instance, Path, no_module, no_instance, instance_in, module_in, paths, gates, flops}
+use Rattle.bs_flat.specs.Design.{Design, Instance, Path, no_module, no_instance, instance_in, module_in, paths, gates, flops}
 use Rattle.bs_flat.specs.Counts.{sum_of, total, IsTotal, tallest, height, IsHeight, parts_in}
 use Rattle.bs_flat.specs.Reading.{is_deep, part_count}
 use Rattle.bs_flat.specs.declared.limits.TheConstants.{MAX_DEPTH, MAX_PARTS}

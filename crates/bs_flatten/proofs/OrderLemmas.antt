@@ -1,12 +1,12 @@
 -- A table that is filled along an order follows its rule.
-use Rattle.std.proofs.Common.{◌≡◌, ℕ, suc, ◌<◌, ◌≤◌, ◌+◌, min, List, [], ◌∷◌, map, length, get_or, set, refl, arith, subst, ap, sym, ◌∙◌, ⊎_elim, nat_eq}
+use Rattle.std.proofs.Common.{◌≡◌, ℕ, ◌<◌, ◌≤◌, ◌+◌, min, List, [], ◌∷◌, map, length, get_or, set, refl, arith, subst, ap, sym, ◌∙◌, ⊎_elim, nat_eq}
 use Rattle.std.proofs.Common.{get_or-set_same, get_or-set_other}
 use Rattle.std.proofs.lemmas.Bool.{cases_lt, eqb-true}
 use Rattle.std.proofs.lemmas.List.{get_or_past, get_or-map, length-map}
 use Rattle.std.specs.List.{All}
 use Rattle.std.proofs.lemmas.List.Sums.{passes_at_first}
 use Rattle.bs_flat.specs.Design.{Module, Instance, instance_in, no_module, no_instance}
-use Rattle.bs_flat.specs.Counts.{sum_of, tallest, parts_in}
+use Rattle.bs_flat.specs.Counts.{sum_of, tallest}
 use Rattle.bs_flatten.specs.Blocks.{instance_of, module_of}
 use Rattle.bs_flatten.specs.declared.blocks.Block.{Block}
 use Rattle.bs_flatten.specs.declared.blocks.Child.{Child}

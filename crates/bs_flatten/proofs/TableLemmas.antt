@@ -1,5 +1,5 @@
 -- Tables that are filled along an order, and what their bounded sums and heights say.
-use Rattle.std.proofs.Common.{◌≡◌, ℕ, zero, suc, ◌<◌, ◌≤◌, ◌+◌, max, min, List, [], ◌∷◌, ◌++◌, length, get_or, take, map, refl, arith, ap, sym, ◌∙◌}
+use Rattle.std.proofs.Common.{◌≡◌, ℕ, ◌<◌, ◌+◌, max, List, [], ◌∷◌, ◌++◌, length, get_or, take, refl, arith, ap, ◌∙◌}
 use Rattle.std.proofs.lemmas.List.{take_more}
 use Rattle.bs_flat.specs.Counts.{sum_of, tallest}
 

@@ -1,6 +1,5 @@
-use Rattle.std.proofs.Common.{◌≡◌, ℕ, ◌+◌, ◌<◌, min, length, get_or, List, [], arith, ap, sym, subst}
+use Rattle.std.proofs.Common.{ℕ, ◌<◌, length, arith, ap, sym, subst}
 use Rattle.std.proofs.lemmas.List.{get_or_default}
-use Rattle.bs_flat.specs.Counts.{sum_of}
 use Rattle.bs_flatten.specs.Tables.{count_at}
 use Rattle.bs_flatten.specs.declared.blocks.Child.{Child}
 use Rattle.bs_flatten.proofs.TableLemmas.{sum_none, sum_more}

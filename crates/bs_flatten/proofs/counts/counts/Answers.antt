@@ -1,4 +1,4 @@
-use Rattle.std.proofs.Common.{◌≡◌, ℕ, ◌+◌, ◌<◌, ◌≤◌, min, length, get_or, map, List, arith, ap, sym, ◌∙◌, subst, refl, length-set}
+use Rattle.std.proofs.Common.{◌≡◌, ℕ, ◌+◌, ◌<◌, min, length, get_or, map, List, arith, ap, sym, ◌∙◌, subst, refl, length-set}
 use Rattle.bs_flat.specs.Counts.{sum_of}
 use Rattle.bs_flatten.specs.Blocks.{module_of}
 use Rattle.bs_flatten.specs.Order.{module_in}

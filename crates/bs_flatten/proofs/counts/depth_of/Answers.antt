@@ -1,5 +1,4 @@
-use Rattle.std.proofs.Common.{◌≡◌, ℕ, ◌+◌, min, length, get_or, arith, ap, sym}
-use Rattle.bs_flat.specs.Counts.{tallest}
+use Rattle.std.proofs.Common.{ℕ, min, arith, ap, sym}
 use Rattle.bs_flatten.specs.Tables.{depth_at}
 use Rattle.bs_flatten.specs.declared.blocks.Child.{Child}
 use Rattle.bs_flatten.proofs.TableLemmas.{tallest_none, tallest_more}

@@ -1,4 +1,4 @@
-use Rattle.std.proofs.Common.{◌≡◌, ℕ, ◌<◌, length, get_or, List, nat_lt, arith, ap, ◌∙◌}
+use Rattle.std.proofs.Common.{◌≡◌, ℕ, length, get_or, List, nat_lt, arith, ap, ◌∙◌}
 use Rattle.bs_flatten.specs.Blocks.{design_of}
 use Rattle.bs_flatten.proofs.BoundLemmas.{depth_decides}
 use Rattle.bs_flatten.proofs.counts.is_deep.Goals as goal
