@@ -23,7 +23,8 @@ tallest_same f g [] d h = refl
 tallest_same f g (x ∷ xs) d h =
     ap (λ n. max (1 + n) (tallest f xs)) (h 0 (omega arith)) ∙ ap (max (1 + g x)) (tallest_same f g xs d (λ i lt. h (suc i) (omega (arith, lt))))
 
-sum_members : {A : Type 0} (f g : A → ℕ) (xs : List A) (d : A) → ((i : ℕ) → i < length xs → f (get_or xs i d) ≡ g (get_or xs i d)) → sum_of f xs ≡ sum_of g xs
+pub sum_members : {A : Type 0} (f g : A → ℕ) (xs : List A) (d : A) → ((i : ℕ) → i < length xs → f (get_or xs i d) ≡ g (get_or xs i d)) →
+    sum_of f xs ≡ sum_of g xs
 unfolding sum_of
 sum_members f g [] d h = refl
 sum_members f g (x ∷ xs) d h =

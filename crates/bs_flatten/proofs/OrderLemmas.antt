@@ -111,7 +111,7 @@ unfolding tallest
 tallest_map f g [] = refl
 tallest_map f g (x ∷ xs) = let rest = tallest_map f g xs in omega (arith, rest)
 
-sum_map : {A B : Type 0} (f : B → ℕ) (g : A → B) (xs : List A) → sum_of f (map g xs) ≡ sum_of (λ x. f (g x)) xs
+pub sum_map : {A B : Type 0} (f : B → ℕ) (g : A → B) (xs : List A) → sum_of f (map g xs) ≡ sum_of (λ x. f (g x)) xs
 unfolding sum_of
 sum_map f g [] = refl
 sum_map f g (x ∷ xs) = ap (λ n. f (g x) + n) (sum_map f g xs)
