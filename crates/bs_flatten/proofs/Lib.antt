@@ -1,0 +1,9 @@
+pub mod TableLemmas
+pub mod OrderLemmas
+pub mod BoundLemmas
+pub mod NetLemmas
+pub mod JoinedLemmas
+pub mod RunLemmas
+pub mod SumLemmas
+pub mod BitLemmas
+pub mod WeightLemmas

@@ -1,0 +1,36 @@
+-- The design that modules in code are.
+use Rattle.std.specs.Prelude.{ℕ, ◌+◌, List, map, string_bytes}
+use Rattle.std.specs.List.{flat_map, range_with_len}
+use Rattle.bs_net.specs.Parts.{Parts}
+use Rattle.bs_flat.specs.Design.{Design, Module, Instance, Join}
+use Rattle.bs_flatten.specs.declared.blocks.Run.{Run}
+use Rattle.bs_flatten.specs.declared.blocks.Child.{Child}
+use Rattle.bs_flatten.specs.declared.blocks.Block.{Block}
+
+-- the joined bits of a run
+abbrev pub bits_of : Run → List Join
+bits_of r = map (λ k. record { outer = record { 0 = r.outer + k }; inner = record { 0 = r.inner + k } }) (range_with_len 0 r.width)
+
+-- the instance that a child is
+abbrev pub instance_of : Child → Instance
+instance_of c = record { name = string_bytes c.name; of = c.of; joins = flat_map bits_of c.joins }
+
+-- a module's own parts
+abbrev pub own_of : Block → Parts
+own_of b =
+    record {
+      names = map string_bytes b.names;
+      inputs = b.inputs;
+      outputs = b.outputs;
+      consts = b.consts;
+      gates = b.gates;
+      flops = b.flops;
+    }
+
+-- the module that a block is
+abbrev pub module_of : Block → Module
+module_of b = record { own = own_of b; instances = map instance_of b.children }
+
+-- the design of blocks, of which one is the top
+abbrev pub design_of : List Block → ℕ → Design
+design_of blocks top = record { modules = map module_of blocks; top = top }

@@ -1,0 +1,14 @@
+//! The flat parts of a design, made module by module and path by path.
+#![tactic(auto)]
+
+mod blocks;
+mod constants;
+mod counts;
+mod joined;
+mod sums;
+
+pub use blocks::{Block, Child, Run};
+pub use constants::{Bit, all_bits, block_bits};
+pub use counts::{has_many_parts, is_deep};
+pub use joined::{Sort, weight};
+pub use sums::has_many_nets;
