@@ -55,11 +55,7 @@ fn is_joined(encoding: &Encoding, values: &Solution) -> bool
 }
 
 /// The state and the input of the cycle before that an assignment shows, where it joins the copies.
-fn before(
-    alloc: Global,
-    encoding: &Encoding,
-    values: &Solution,
-) -> Result<Option<Before>, NoMemory>
+fn before(alloc: Global, encoding: &Encoding, values: &Solution) -> Result<Option<Before>, NoMemory>
     requires link { HasVariables (length values.now) (option_to_list encoding.now.link) }
     requires states { HasVariables (length values.now) encoding.now.older_states }
     requires inputs { HasVariables (length values.now) encoding.now.older_inputs }

@@ -33,12 +33,7 @@ fn value(values: &Solution, v: Var) -> bool
 }
 
 /// The values of the variables that are so much higher than those of the literals.
-fn bits_above(
-    alloc: Global,
-    literals: &[Lit],
-    by: u32,
-    values: &Solution,
-) -> Result<Bits, NoMemory>
+fn bits_above(alloc: Global, literals: &[Lit], by: u32, values: &Solution) -> Result<Bits, NoMemory>
     requires room { HasRoom by literals.now }
     requires wide { All (λ l. by + l.variable ≤ length values.now) literals.now }
     ensures { IfOk result (λ bits. bits ≡ bits_on (value_of values.now) (raised_all by literals.now)) }
