@@ -1,0 +1,141 @@
+//! Searches of netlists that are given as texts.
+ghost use Rattle.std.specs.Prelude.{◌≡◌, ◌*◌, ◌<◌, ◌≤◌, [], length, IfOk, IfSome};
+ghost use Rattle.std.specs.Bool.{OnTrue};
+ghost use Rattle.bs_net.specs.Netlist.{circuit};
+ghost use Rattle.bs_encode.specs.Transition.{variables};
+ghost use Rattle.bs_unroll.specs.declared.limits.TheConstants.{MAX_COPIES, MAX_COPY_VARIABLES};
+ghost use Rattle.bs_unroll.specs.Room.{IsUnrollable};
+
+use crate::checks::{accepts, goes};
+use bs_bits::{Bits, NoMemory};
+use bs_net::Netlist;
+use bs_reach::{Outcome, Reach, bounded, size};
+use bs_sim::Sim;
+use bs_unroll::{MAX_COPIES, MAX_COPY_VARIABLES};
+use std::alloc::Global;
+
+/// What is seen of an answer: the outcome, whether the checker accepts the log, and whether a simulation from reset under its
+/// inputs goes through its states.
+pub type Seen = (Outcome, bool, bool);
+
+/// The netlist of a text, if it is read and checked.
+pub fn netlist(alloc: Global, text: &[u8]) -> Option<Netlist> {
+    if text.len() > 1_000_000 {
+        return None;
+    }
+    match bs_verilog::read(alloc, text) {
+        Ok(raw) => Netlist::check(alloc, raw).ok(),
+        Err(_) => None,
+    }
+}
+
+/// Bits that are a state of the netlist.
+fn fitting(bits: Bits, net: &Netlist) -> Option<Bits>
+    ensures { IfSome result (λ state. length state ≡ length (circuit net.now).flops) }
+{
+    if bits.len() == net.width() {
+        Some(bits)
+    } else {
+        None
+    }
+}
+
+/// Whether so many copies of clauses have few enough variables.
+fn has_room(variables: u64, cycles: u64) -> bool
+    ensures { OnTrue result (cycles * variables ≤ MAX_COPY_VARIABLES) }
+{
+    match cycles.checked_mul(variables) {
+        Some(all) => all <= u64::from(MAX_COPY_VARIABLES),
+        None => false,
+    }
+}
+
+/// Whether a search of so many cycles is small enough.
+fn is_small(alloc: Global, net: &Netlist, cycles: u32) -> Result<bool, NoMemory>
+    ensures { IfOk result (λ small. OnTrue small (cycles * variables (circuit net.now) [] ≤ MAX_COPY_VARIABLES)) }
+{
+    let variables = size(alloc, net)?;
+    Ok(has_room(variables, u64::from(cycles)))
+}
+
+/// How many lengths were tried.
+fn tried(reach: &Reach) -> u64 {
+    match reach.outcome {
+        Outcome::Reached(j) => j,
+        Outcome::Unreached => reach.asked,
+        Outcome::Unknown(j) => j,
+    }
+}
+
+/// Whether the checker accepts an answer's log on the unrolled clauses of one cycle or more.
+fn is_accepted(
+    alloc: Global,
+    net: &Netlist,
+    state: &Bits,
+    reach: &Reach,
+    k: u32,
+) -> Result<bool, NoMemory>
+    requires width { length state.now ≡ length (circuit net.now).flops }
+    requires cycles { k ≤ MAX_COPIES }
+    requires room { k * variables (circuit net.now) [] ≤ MAX_COPY_VARIABLES }
+{
+    let count = tried(reach);
+    if k < 1 || count > u64::from(k) {
+        return Ok(false);
+    }
+    let accepted = accepts(alloc, net, state, &reach.log, count as u32, k)?;
+    Ok(accepted)
+}
+
+/// Whether a simulation from reset under an answer's inputs goes through its states.
+fn is_replayed(alloc: Global, net: &Netlist, reach: &Reach) -> Result<bool, NoMemory> {
+    let mut sim = Sim::new(alloc, net)?;
+    let (states, inputs) = (reach.states.slice(), reach.inputs.slice());
+    if states.len() <= inputs.len() {
+        return Ok(false);
+    }
+    Ok(goes(&mut sim, net.data_inputs().len(), states, inputs))
+}
+
+/// What is seen of the answer for a state of the netlist.
+fn seen(
+    alloc: Global,
+    net: &Netlist,
+    state: &Bits,
+    k: u32,
+    conflicts: u64,
+) -> Result<Seen, NoMemory>
+    requires width { length state.now ≡ length (circuit net.now).flops }
+    requires cycles { k ≤ MAX_COPIES }
+    requires room { k * variables (circuit net.now) [] ≤ MAX_COPY_VARIABLES }
+    requires limit { 1 ≤ conflicts }
+{
+    let reach = bounded(alloc, net, state, u64::from(k), conflicts)?;
+    let accepted = is_accepted(alloc, net, state, &reach, k)?;
+    let replayed = is_replayed(alloc, net, &reach)?;
+    Ok((reach.outcome, accepted, replayed))
+}
+
+/// The same for a word, if it is a state and the search is small enough.
+pub fn asked(
+    alloc: Global,
+    net: &Netlist,
+    word: &str,
+    cycles: u32,
+    conflicts: u64,
+) -> Result<Option<Seen>, NoMemory> {
+    if conflicts < 1 || cycles > MAX_COPIES || !is_small(alloc, net, cycles)? {
+        return Ok(None);
+    }
+    let bits = match Bits::read_text(alloc, word.as_bytes())? {
+        Some(bits) => bits,
+        None => return Ok(None),
+    };
+    match fitting(bits, net) {
+        Some(state) => {
+            let seen = seen(alloc, net, &state, cycles, conflicts)?;
+            Ok(Some(seen))
+        }
+        None => Ok(None),
+    }
+}
