@@ -55,7 +55,12 @@ fn states_are_reached_or_not(rt: HostRuntime) -> Result<(), Fail> {
             Status::Spent,
             "reach 1\nasked 3 conflicts 1\nresult unknown 1\nlog 3\ns\n63 2 -6 -7 -5 0 1 9 6 0\nr 64\nend\n",
         ),
-        ("reach n 1 5", SHIFT, Status::Target, "refused state Width\n"),
+        (
+            "reach n 1 5",
+            SHIFT,
+            Status::Target,
+            "refused state Width\n",
+        ),
         (
             "reach n 11 1024",
             WIDE,
