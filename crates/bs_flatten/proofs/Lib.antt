@@ -1,6 +1,7 @@
 pub mod TableLemmas
 pub mod OrderLemmas
 pub mod BoundLemmas
+pub mod NodeLemmas
 pub mod NetLemmas
 pub mod JoinedLemmas
 pub mod RunLemmas

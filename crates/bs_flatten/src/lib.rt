@@ -5,10 +5,12 @@ mod blocks;
 mod constants;
 mod counts;
 mod joined;
+mod nodes;
 mod sums;
 
 pub use blocks::{Block, Child, Run};
 pub use constants::{Bit, all_bits, block_bits};
 pub use counts::{has_many_parts, is_deep};
-pub use joined::{Sort, weight};
+pub use joined::{Sort, outer_of, weight};
+pub use nodes::path_nodes;
 pub use sums::has_many_nets;
