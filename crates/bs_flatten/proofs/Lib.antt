@@ -8,3 +8,4 @@ pub mod RunLemmas
 pub mod SumLemmas
 pub mod BitLemmas
 pub mod WeightLemmas
+pub mod ClimbLemmas

@@ -2,6 +2,7 @@
 #![tactic(auto)]
 
 mod blocks;
+mod climbing;
 mod constants;
 mod counts;
 mod joined;
@@ -9,6 +10,7 @@ mod nodes;
 mod sums;
 
 pub use blocks::{Block, Child, Run};
+pub use climbing::{Place, root_of};
 pub use constants::{Bit, all_bits, block_bits};
 pub use counts::{has_many_parts, is_deep};
 pub use joined::{Sort, outer_of, weight};

@@ -2,6 +2,7 @@
 ghost use Rattle.std.specs.Prelude.{◌≡◌, ◌<◌, length, map, All, IfOk};
 ghost use Rattle.bs_flat.specs.Design.{paths};
 ghost use Rattle.bs_flat.specs.Paths.{ArePaths};
+ghost use Rattle.bs_flatten.specs.Climbing.{AreClimbable};
 ghost use Rattle.bs_flatten.specs.Blocks.{design_of, AreThere, numbers_of, shape_of};
 
 use crate::blocks::{Block, Child};
@@ -38,6 +39,7 @@ pub fn path_nodes(alloc: Global, blocks: &[Block], top: u32) -> Result<List<Node
     requires there { AreThere blocks.now }
     ensures all { IfOk result (λ nodes. ArePaths (design_of blocks.now top) nodes (paths (design_of blocks.now top))) }
     ensures within { IfOk result (λ nodes. All (λ p. p.of < length blocks.now) nodes) }
+    ensures climb { IfOk result (λ nodes. AreClimbable blocks.now nodes) }
 {
     let shapes = shapes(alloc, blocks)?;
     let nodes = all_paths(alloc, shapes.slice(), top)?;
