@@ -48,7 +48,7 @@ pub bit_noted : (names : List (List ℕ)) (ks : List Const) (table after : List 
     (get_or ks i d).net.0 < length table →
     ((n : ℕ) → n < length names → get_or table n None ≡ bit_in names (take i ks) n) →
     after ≡ cond (is_named names (get_or ks i d))
-        (set table (get_or ks i d).net.0 (Some (unwrap_or (get_or table (get_or ks i d).net.0 None) (get_or ks i d).value))) table →
+    (set table (get_or ks i d).net.0 (Some (unwrap_or (get_or table (get_or ks i d).net.0 None) (get_or ks i d).value))) table →
     (n : ℕ) → n < length names → get_or after n None ≡ bit_in names (take (i + 1) ks) n
 bit_noted names ks table after i d lt wide before e n ln =
     let k = get_or ks i d in

@@ -9,7 +9,6 @@ use Rattle.bs_flatten.specs.Blocks.{design_of, instance_of, module_of, AreThere,
 use Rattle.bs_flatten.specs.declared.blocks.Block.{Block}
 use Rattle.bs_flatten.specs.declared.blocks.Child.{Child}
 
-
 -- the instances of a block and of its shape
 same_count : (b : Block) → length (module_of b).instances ≡ length (shape_of b).instances
 same_count b = length-map b.children instance_of ∙ sym (length-map b.children (λ (c : Child). c.of))

@@ -119,7 +119,12 @@ fn total(
 }
 
 /// Whether the flat nets of a design that is not too deep are more than `MAX_NETS`.
-pub fn has_many_nets(alloc: Global, blocks: &[Block], order: &[u32], top: u32) -> Result<bool, NoMemory>
+pub fn has_many_nets(
+    alloc: Global,
+    blocks: &[Block],
+    order: &[u32],
+    top: u32,
+) -> Result<bool, NoMemory>
     requires order { IsChildrenFirst (map module_of blocks.now) order.now }
     requires top { top < length blocks.now }
     requires shallow { reading.is_deep (design_of blocks.now top) ≡ false }
@@ -128,7 +133,21 @@ pub fn has_many_nets(alloc: Global, blocks: &[Block], order: &[u32], top: u32) -
 {
     let bits = all_bits(alloc, blocks)?;
     let plain = total(alloc, Sort::Plain, blocks, bits.slice(), order, top)?;
-    let zeros = total(alloc, Sort::Constant(false), blocks, bits.slice(), order, top)?;
-    let ones = total(alloc, Sort::Constant(true), blocks, bits.slice(), order, top)?;
+    let zeros = total(
+        alloc,
+        Sort::Constant(false),
+        blocks,
+        bits.slice(),
+        order,
+        top,
+    )?;
+    let ones = total(
+        alloc,
+        Sort::Constant(true),
+        blocks,
+        bits.slice(),
+        order,
+        top,
+    )?;
     Ok(plain + (zeros.min(1) + ones.min(1)) > MAX_NETS as usize)
 }
