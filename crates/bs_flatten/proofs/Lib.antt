@@ -9,3 +9,4 @@ pub mod SumLemmas
 pub mod BitLemmas
 pub mod WeightLemmas
 pub mod ClimbLemmas
+pub mod LevelLemmas
