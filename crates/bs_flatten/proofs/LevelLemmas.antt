@@ -1,20 +1,19 @@
 -- An order of gates that stand for modules has each module after those that it instances.
-use Rattle.std.proofs.Common.{◌≡◌, ℕ, zero, suc, ◌<◌, ◌≤◌, ◌+◌, Bool, true, false, ◌||◌, cond, not, List, [], ◌∷◌, map, length, get_or, drop, refl, arith}
+use Rattle.std.proofs.Common.{◌≡◌, ℕ, zero, suc, ◌<◌, ◌≤◌, ◌+◌, Bool, true, false, ◌||◌, cond, not, List, [], ◌∷◌, length, get_or, refl, arith}
 use Rattle.std.proofs.Common.{subst, ap, sym, ◌∙◌, ⊎_elim, inl, inr, nat_eq}
-use Rattle.std.specs.List.{All, AllByRecursion, IsDistinct, list_any, range_with_len, position_or_len, Contains}
+use Rattle.std.specs.List.{All, IsDistinct, list_any, range_with_len, position_or_len, Contains}
 use Rattle.std.proofs.lemmas.Bool.{false≢true, cases_lt, cases_Bool, eqb-true, eqb-false, eq-eqb}
 use Rattle.std.proofs.lemmas.List.{length-map, get_or-map, get_or_past}
-use Rattle.std.proofs.lemmas.List.Elements.{recursion_from_All}
 use Rattle.std.proofs.lemmas.List.FromFn.{get_or-range_with_len, length-range_with_len}
 use Rattle.std.proofs.lemmas.List.Sums.{passes_at_first, position_or_len_is}
 use Rattle.std.proofs.lemmas.List.Sorted.{All-permutation, list_any-IsPermutation}
-use Rattle.std.proofs.lemmas.Map.Keys.{IsDistinct-head, IsDistinct-tail, IsDistinct-cons, IsDistinct-IsPermutation}
+use Rattle.std.proofs.lemmas.Map.Keys.{IsDistinct-head, IsDistinct-tail, IsDistinct-IsPermutation}
 use Rattle.bs_net.specs.declared.net.NetId.{NetId}
 use Rattle.bs_net.specs.declared.net.Gate.{Gate}
-use Rattle.bs_net.specs.Order.{IsLevelled, IsOrder, gates_in, no_gate}
+use Rattle.bs_net.specs.Order.{IsLevelled, gates_in, no_gate}
 use Rattle.bs_flat.specs.Design.{Module, instance_in, no_module}
 use Rattle.bs_flat.proofs.MemberLemmas.{Member, all_member, all_of, ranged}
-use Rattle.bs_flatten.specs.Order.{module_in, place_in, IsChildrenFirst, AreGatesOf, LevelledIsChildrenFirst}
+use Rattle.bs_flatten.specs.Order.{module_in, place_in, LevelledIsChildrenFirst}
 
 any_place : (t : ℕ → Bool) (xs : List ℕ) → list_any t xs ≡ true → position_or_len t xs < length xs
 any_place t [] e = absurd (false≢true e)
