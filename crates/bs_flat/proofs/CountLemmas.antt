@@ -8,24 +8,25 @@ use Rattle.bs_flat.specs.declared.limits.TheConstants.{MAX_DEPTH}
 use Rattle.bs_flat.specs.Design.{Design, Module, Instance, Path, At, on, own, no_instance, instance_in, module_in, module_at, paths_from, paths, gates, flops}
 use Rattle.bs_flat.specs.Counts.{sum_of, total, IsTotal, parts_in, PartsAreSummed}
 
-sum_append : {A : Type 0} (f : A → ℕ) (xs ys : List A) → sum_of f (xs ++ ys) ≡ sum_of f xs + sum_of f ys
+pub sum_append : {A : Type 0} (f : A → ℕ) (xs ys : List A) → sum_of f (xs ++ ys) ≡ sum_of f xs + sum_of f ys
 unfolding sum_of
 sum_append f [] ys = let none : sum_of f ys ≡ 0 + sum_of f ys = omega arith in none
 sum_append f (x ∷ xs) ys =
     let rest = sum_append f xs ys in
     omega (arith, rest)
 
-sum_flat : {A B : Type 0} (g : A → ℕ) (f : B → List A) (xs : List B) → sum_of g (flat_map f xs) ≡ sum_of (λ x. sum_of g (f x)) xs
+pub sum_flat : {A B : Type 0} (g : A → ℕ) (f : B → List A) (xs : List B) → sum_of g (flat_map f xs) ≡ sum_of (λ x. sum_of g (f x)) xs
 unfolding sum_of
 sum_flat g f [] = refl
 sum_flat g f (x ∷ xs) = sum_append g (f x) (flat_map f xs) ∙ ap (λ n. sum_of g (f x) + n) (sum_flat g f xs)
 
-sum_same : {A : Type 0} (f g : A → ℕ) (xs : List A) → ((x : A) → f x ≡ g x) → sum_of f xs ≡ sum_of g xs
+pub sum_same : {A : Type 0} (f g : A → ℕ) (xs : List A) → ((x : A) → f x ≡ g x) → sum_of f xs ≡ sum_of g xs
 unfolding sum_of
 sum_same f g [] h = refl
 sum_same f g (x ∷ xs) h = ap (λ n. n + sum_of f xs) (h x) ∙ ap (λ n. g x + n) (sum_same f g xs h)
 
-sum_members : {A : Type 0} (f g : A → ℕ) (xs : List A) (d : A) → ((i : ℕ) → i < length xs → f (get_or xs i d) ≡ g (get_or xs i d)) → sum_of f xs ≡ sum_of g xs
+pub sum_members : {A : Type 0} (f g : A → ℕ) (xs : List A) (d : A) → ((i : ℕ) → i < length xs → f (get_or xs i d) ≡ g (get_or xs i d)) →
+    sum_of f xs ≡ sum_of g xs
 unfolding sum_of
 sum_members f g [] d h = refl
 sum_members f g (x ∷ xs) d h =
@@ -48,7 +49,7 @@ counted d (p ∷ ps) =
     omega (arith, gs, fs, g, f, rest)
 
 -- a sum over places is a sum over members
-sum_places : {A : Type 0} (g : A → ℕ) (d : A) (xs front : List A) (a : ℕ) → length front ≡ a →
+pub sum_places : {A : Type 0} (g : A → ℕ) (d : A) (xs front : List A) (a : ℕ) → length front ≡ a →
     sum_of (λ i. g (get_or (front ++ xs) i d)) (range_with_len a (length xs)) ≡ sum_of g xs
 unfolding sum_of
 sum_places g d [] front a e = refl

@@ -92,7 +92,7 @@ deep_is b (suc n) d p =
     ∙ any_places (λ (x : Instance). nat_lt b (suc (length p) + height n d (module_in d x.of))) no_instance m.instances [] 0 refl))
     ∙ any_tallest b (length p) (λ (x : Instance). height n d (module_in d x.of)) m.instances
 
-tallest_same : {A : Type 0} (f g : A → ℕ) (xs : List A) (d : A) → ((i : ℕ) → i < length xs → f (get_or xs i d) ≡ g (get_or xs i d)) →
+pub tallest_same : {A : Type 0} (f g : A → ℕ) (xs : List A) (d : A) → ((i : ℕ) → i < length xs → f (get_or xs i d) ≡ g (get_or xs i d)) →
     tallest f xs ≡ tallest g xs
 unfolding tallest
 tallest_same f g [] d h = refl

@@ -4,19 +4,15 @@ use Rattle.std.proofs.Common.{append-nil}
 use Rattle.std.proofs.Common.{append_assoc}
 use Rattle.std.specs.List.{All, range_with_len, flat_map}
 use Rattle.std.proofs.lemmas.Bool.{cases_lt}
-use Rattle.std.proofs.lemmas.List.{length-map, get_or_append_left, get_or_push, get_or-map, get_or_default, length_push}
+use Rattle.std.proofs.lemmas.List.{get_or_append_left, get_or_push, get_or_default, length_push}
 use Rattle.std.proofs.lemmas.List.Elements.{All-push}
 use Rattle.std.proofs.lemmas.List.Concat.{flat_map-append}
 use Rattle.bs_net.proofs.CallerLemmas.{range_push}
 use Rattle.bs_flat.specs.declared.paths.Instanced.{Instanced}
 use Rattle.bs_flat.specs.declared.paths.Node.{Node}
 use Rattle.bs_flat.specs.declared.limits.TheConstants.{MAX_DEPTH}
-use Rattle.bs_flat.specs.Design.{Design, Module, Instance, Path, no_module, no_instance, instance_in, module_at, module_in, paths_from, paths}
-use Rattle.bs_flat.specs.Paths.{bare, bare_module, AreModules, AreWithin, no_node, StandsFor, ArePaths, ArePathsOf, below, Adds, AddsFirst}
-
-bare_at : (modules : List Instanced) (n : ℕ) (s : Instanced) → n < length modules → s ≡ get_or modules n s → (top : ℕ) →
-    module_in (bare modules top) n ≡ bare_module s
-bare_at modules n s lt e top = get_or-map bare_module modules n s no_module lt ∙ ap bare_module (sym e)
+use Rattle.bs_flat.specs.Design.{Design, Module, Path, instance_in, module_at, module_in, paths_from, paths}
+use Rattle.bs_flat.specs.Paths.{no_instanced, IsOf, AreModules, AreWithin, no_node, StandsFor, ArePaths, ArePathsOf, below, Adds, AddsFirst}
 
 -- ---- one node more
 
@@ -65,15 +61,14 @@ push_nodes d nodes ps at i m a lt same =
 -- ---- the loop
 
 pub adds_none : (modules : List Instanced) (nodes : List Node) (at levels : ℕ) → AddsFirst modules nodes nodes at levels 0
-adds_none modules nodes at levels = record { adds = λ top ps a. subst (λ (qs : List Path). ArePaths (bare modules top) nodes qs) (sym (append-nil ps)) a }
+adds_none modules nodes at levels = record { adds = λ d ps f a. subst (λ (qs : List Path). ArePaths d nodes qs) (sym (append-nil ps)) a }
 
 pub adds_nothing : (modules : List Instanced) (nodes : List Node) (at : ℕ) → Adds modules nodes nodes at 0
 unfolding paths_from
 adds_nothing modules nodes at =
     record {
       adds =
-          λ top ps a.
-          let d = bare modules top in
+          λ d ps f a.
           subst (λ (qs : List Path). ArePaths d nodes qs)
           (sym (ap (λ (u : List Path). ps ++ u) (empty d (get_or ps at []) (range_with_len 0 (length (module_at d (get_or ps at [])).instances)))
           ∙ append-nil ps)) a;
@@ -83,15 +78,22 @@ adds_nothing modules nodes at =
     empty d p [] = refl
     empty d p (n ∷ ns) = empty d p ns
 
--- the module of a node, by its number
-node_module : (modules : List Instanced) (nodes : List Node) (at : ℕ) (s : Instanced) (top : ℕ) (ps : List Path) → at < length nodes →
-    (get_or nodes at no_node).of < length modules → s ≡ get_or modules (get_or nodes at no_node).of s → ArePaths (bare modules top) nodes ps →
-    module_at (bare modules top) (get_or ps at []) ≡ bare_module s
-node_module modules nodes at s top ps lt within e a =
-    sym (a.each at lt).same ∙ bare_at modules (get_or nodes at no_node).of s within e top
+-- a module has the instances with these numbers
+record Has (m : Module) (s : Instanced) : Type 0 where
+  count : length m.instances ≡ length s.instances
+  of : (i : ℕ) → i < length s.instances → (instance_in m i).of ≡ get_or s.instances i 0
 
-instance_of : (s : Instanced) (i n : ℕ) → i < length s.instances → n ≡ get_or s.instances i n → (instance_in (bare_module s) i).of ≡ n
-instance_of s i n lt e = ap (λ (x : Instance). x.of) (get_or-map (λ (k : ℕ). record { name = []; of = k; joins = [] }) s.instances i n no_instance lt) ∙ sym e
+has_at : (modules : List Instanced) (d : Design) (k : ℕ) (s : Instanced) → IsOf modules d → k < length modules → s ≡ get_or modules k s → Has (module_in d k) s
+has_at modules d k s f lt e =
+    let same : get_or modules k no_instanced ≡ s = get_or_default modules k no_instanced s lt ∙ sym e in
+    subst (λ (u : Instanced). Has (module_in d k) u) same (record { count = f.count k lt; of = λ i li. f.of k i lt li })
+
+-- the module of a node, by its number
+node_module : (modules : List Instanced) (nodes : List Node) (at : ℕ) (s : Instanced) (d : Design) (ps : List Path) → at < length nodes →
+    (get_or nodes at no_node).of < length modules → s ≡ get_or modules (get_or nodes at no_node).of s → IsOf modules d → ArePaths d nodes ps →
+    Has (module_at d (get_or ps at [])) s
+node_module modules nodes at s d ps lt within e f a =
+    subst (λ (m : Module). Has m s) (a.each at lt).same (has_at modules d (get_or nodes at no_node).of s f within e)
 
 paths_one : (n : ℕ) (d : Design) (p : Path) → paths_from (suc n) d p ≡ p ∷ below n d p
 unfolding paths_from
@@ -105,21 +107,20 @@ unfolding module_at
 adds_more modules old now after at n i m s lt le within e li em first rest =
     record {
       adds =
-          λ top ps a.
-          let d = bare modules top in
+          λ d ps f a.
           let p = get_or ps at [] in
           let F : ℕ → List Path = λ k. paths_from (suc n) d (k ∷ p) in
           let qs = ps ++ flat_map F (range_with_len 0 i) in
-          let a1 : ArePaths d now qs = first.adds top ps a in
+          let a1 : ArePaths d now qs = first.adds d ps f a in
           let here : get_or qs at [] ≡ p = get_or_append_left ps (flat_map F (range_with_len 0 i)) [] at (subst (λ k. at < k) a.count lt) in
           let there : at < length now = omega (arith, lt, le) in
-          let shape : module_at d p ≡ bare_module s = node_module modules old at s top ps lt within e a in
+          let shape : Has (module_at d p) s = node_module modules old at s d ps lt within e f a in
           let one : (instance_in (module_at d (get_or qs at [])) i).of ≡ m = ap (λ (q : Path). (instance_in (module_at d q) i).of) here
-          ∙ (ap (λ (k : Module). (instance_in k i).of) shape ∙ instance_of s i m li em) in
+          ∙ (shape.of i li ∙ (get_or_default s.instances i 0 m li ∙ sym em)) in
           let a2 = push_nodes d now qs at i m a1 there (ap (module_in d) (sym one)) in
           let last : get_or (qs ++ (i ∷ get_or qs at []) ∷ []) (length now) [] ≡ i ∷ p =
           get_or_push qs (i ∷ get_or qs at []) [] (length now) (sym a1.count) ∙ ap (λ (q : Path). i ∷ q) here in
-          let a3 = rest.adds top (qs ++ (i ∷ get_or qs at []) ∷ []) a2 in
+          let a3 = rest.adds d (qs ++ (i ∷ get_or qs at []) ∷ []) f a2 in
           let lists : (qs ++ (i ∷ get_or qs at []) ∷ []) ++ below n d (get_or (qs ++ (i ∷ get_or qs at []) ∷ []) (length now) []) ≡ ps ++ flat_map F
           (range_with_len 0 (i + 1)) =
           ap (λ (q : Path). (qs ++ (i ∷ get_or qs at []) ∷ []) ++ below n d q) last
@@ -138,12 +139,10 @@ pub adds_all : (modules : List Instanced) (old after : List Node) (at levels i :
 adds_all modules old after at levels i s lt within e all first =
     record {
       adds =
-          λ top ps a.
-          let d = bare modules top in
-          let shape : module_at d (get_or ps at []) ≡ bare_module s = node_module modules old at s top ps lt within e a in
-          let count : i ≡ length (module_at d (get_or ps at [])).instances = all
-          ∙ (sym (length-map s.instances (λ (n : ℕ). record { name = []; of = n; joins = [] })) ∙ ap (λ (m : Module). length m.instances) (sym shape)) in
-          subst (λ n. ArePaths d after (ps ++ flat_map (λ k. paths_from levels d (k ∷ get_or ps at [])) (range_with_len 0 n))) count (first.adds top ps a);
+          λ d ps f a.
+          let shape : Has (module_at d (get_or ps at [])) s = node_module modules old at s d ps lt within e f a in
+          let count : i ≡ length (module_at d (get_or ps at [])).instances = all ∙ sym shape.count in
+          subst (λ n. ArePaths d after (ps ++ flat_map (λ k. paths_from levels d (k ∷ get_or ps at [])) (range_with_len 0 n))) count (first.adds d ps f a);
     }
 
 pub push_within : (modules : List Instanced) (nodes after : List Node) (pl : Node) → after ≡ nodes ++ pl ∷ [] → AreWithin modules nodes →
@@ -165,15 +164,15 @@ node_read nodes at p lt e = sym (e ∙ get_or_default nodes at p no_node lt)
 abbrev top_node : ℕ → Node
 top_node top = record { parent = 0; instance = 0; of = top }
 
-top_stands : (modules : List Instanced) (top k : ℕ) → k < length (top_node top ∷ []) → StandsFor (bare modules top) (top_node top ∷ []) ([] ∷ []) k
+top_stands : (d : Design) (top k : ℕ) → d.top ≡ top → k < length (top_node top ∷ []) → StandsFor d (top_node top ∷ []) ([] ∷ []) k
 unfolding module_at
-top_stands modules top zero lt =
+top_stands d top zero e lt =
     record {
-      same = refl;
+      same = ap (module_in d) (sym e);
       parent = λ pos. absurd (omega (arith, pos));
       path = λ pos. absurd (omega (arith, pos));
     }
-top_stands modules top (suc k) lt = absurd (omega (arith, lt))
+top_stands d top (suc k) e lt = absurd (omega (arith, lt))
 
 paths_more : (n : ℕ) (d : Design) (p : Path) → paths_from (n + 1) d p ≡ p ∷ below n d p
 paths_more n d p = rw add-one (paths_one n d p)
@@ -186,7 +185,10 @@ paths_are d = sym (paths_more MAX_DEPTH d [])
 pub all_below_top : (modules : List Instanced) (top : ℕ) (start after : List Node) → start ≡ top_node top ∷ [] →
     Adds modules start after 0 MAX_DEPTH → ArePathsOf modules top after
 all_below_top modules top start after e added =
-    let d = bare modules top in
-    let one : ArePaths d (top_node top ∷ []) ([] ∷ []) = record { count = refl; each = λ k lt. top_stands modules top k lt } in
-    let first : ArePaths d start ([] ∷ []) = subst (λ (ns : List Node). ArePaths d ns ([] ∷ [])) (sym e) one in
-    record { all = subst (λ (ps : List Path). ArePaths d after ps) (paths_are d) (added.adds top ([] ∷ []) first) }
+    record {
+      all =
+          λ d f et.
+          let one : ArePaths d (top_node top ∷ []) ([] ∷ []) = record { count = refl; each = λ k lt. top_stands d top k et lt } in
+          let first : ArePaths d start ([] ∷ []) = subst (λ (ns : List Node). ArePaths d ns ([] ∷ [])) (sym e) one in
+          subst (λ (ps : List Path). ArePaths d after ps) (paths_are d) (added.adds d ([] ∷ []) f first);
+    }

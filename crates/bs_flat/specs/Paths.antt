@@ -1,16 +1,19 @@
 -- The paths of a design as a list of nodes.
-use Rattle.std.specs.Prelude.{◌≡◌, ℕ, ◌<◌, List, [], ◌∷◌, ◌++◌, length, map, slice_index_or, All}
+use Rattle.std.specs.Prelude.{◌≡◌, ℕ, ◌<◌, List, [], ◌∷◌, ◌++◌, length, slice_index_or, All}
 use Rattle.std.specs.List.{flat_map, range_with_len}
 use Rattle.bs_flat.specs.declared.paths.Instanced.{Instanced}
 use Rattle.bs_flat.specs.declared.paths.Node.{Node}
-use Rattle.bs_flat.specs.Design.{Design, Module, Path, no_module, module_at, module_in, paths_from, paths}
+use Rattle.bs_flat.specs.Design.{Design, Path, instance_in, module_at, module_in, paths_from, paths}
 
--- a module of which the instances alone are known, and a design of such modules
-abbrev pub bare_module : Instanced → Module
-bare_module s = record { own = no_module.own; instances = map (λ n. record { name = []; of = n; joins = [] }) s.instances }
+-- a module without instances, which stands past the end of a list
+abbrev pub no_instanced : Instanced
+no_instanced = record { instances = [] }
 
-abbrev pub bare : List Instanced → ℕ → Design
-bare modules top = record { modules = map bare_module modules; top = top }
+-- a design whose modules have these instances
+pub record IsOf (modules : List Instanced) (d : Design) : Type 0 where
+  pub count : (k : ℕ) → k < length modules → length (module_in d k).instances ≡ length (slice_index_or modules k no_instanced).instances
+  pub of : (k i : ℕ) → k < length modules → i < length (slice_index_or modules k no_instanced).instances
+      → (instance_in (module_in d k) i).of ≡ slice_index_or (slice_index_or modules k no_instanced).instances i 0
 
 -- each instance is of a module of the list, and so is each node
 abbrev pub AreModules : List Instanced → Type 0
@@ -40,14 +43,14 @@ below levels d p = flat_map (λ i. paths_from levels d (i ∷ p)) (range_with_le
 
 -- the nodes after stand for the paths before and those below one of them, in its first instances
 pub record AddsFirst (modules : List Instanced) (old new : List Node) (at levels count : ℕ) : Type 0 where
-  pub adds : (top : ℕ) (ps : List Path) → ArePaths (bare modules top) old ps
-      → ArePaths (bare modules top) new (ps ++ flat_map (λ i. paths_from levels (bare modules top) (i ∷ slice_index_or ps at [])) (range_with_len 0 count))
+  pub adds : (d : Design) (ps : List Path) → IsOf modules d → ArePaths d old ps
+      → ArePaths d new (ps ++ flat_map (λ i. paths_from levels d (i ∷ slice_index_or ps at [])) (range_with_len 0 count))
 
 -- the nodes after stand for the paths before and those below one of them
 pub record Adds (modules : List Instanced) (old new : List Node) (at levels : ℕ) : Type 0 where
-  pub adds : (top : ℕ) (ps : List Path) → ArePaths (bare modules top) old ps
-      → ArePaths (bare modules top) new (ps ++ below levels (bare modules top) (slice_index_or ps at []))
+  pub adds : (d : Design) (ps : List Path) → IsOf modules d → ArePaths d old ps
+      → ArePaths d new (ps ++ below levels d (slice_index_or ps at []))
 
--- the nodes stand for all paths of a design
+-- the nodes stand for all paths of each design of such modules
 pub record ArePathsOf (modules : List Instanced) (top : ℕ) (nodes : List Node) : Type 0 where
-  pub all : ArePaths (bare modules top) nodes (paths (bare modules top))
+  pub all : (d : Design) → IsOf modules d → d.top ≡ top → ArePaths d nodes (paths d)

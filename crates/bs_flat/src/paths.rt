@@ -63,6 +63,7 @@ pub fn all_paths(alloc: Global, modules: &[Instanced], top: u32) -> Result<List<
     requires there { top < length modules.now }
     requires instanced { AreModules modules.now }
     ensures all { IfOk result (λ nodes. ArePathsOf modules.now top nodes) }
+    ensures within { IfOk result (λ nodes. AreWithin modules.now nodes) }
 {
     let mut nodes = List::new(alloc);
     nodes.push(Node {

@@ -1,34 +1,21 @@
 -- Bounded heights and sums of modules decide whether a design is too deep, and whether it has too many parts.
-use Rattle.std.proofs.Common.{◌≡◌, ℕ, zero, suc, ◌<◌, ◌+◌, ◌-◌, max, min, Bool, true, false, List, [], ◌∷◌, length, get_or, nat_lt, refl, arith}
+use Rattle.std.proofs.Common.{◌≡◌, ℕ, zero, suc, ◌<◌, ◌+◌, ◌-◌, min, Bool, true, false, List, [], ◌∷◌, length, get_or, nat_lt, refl, arith}
 use Rattle.std.proofs.Common.{ap, sym, ◌∙◌, lt-ltb, le-ltb}
 use Rattle.std.proofs.lemmas.Bool.{ltb-true, ltb-false}
 use Rattle.bs_flat.specs.Design.{Design, Instance, Path, no_module, no_instance, instance_in, module_in, paths, gates, flops}
 use Rattle.bs_flat.specs.Counts.{sum_of, total, IsTotal, tallest, height, IsHeight, parts_in}
 use Rattle.bs_flat.specs.Reading.{is_deep, part_count}
 use Rattle.bs_flat.specs.declared.limits.TheConstants.{MAX_DEPTH, MAX_PARTS}
-use Rattle.bs_flat.proofs.CountLemmas.{parts_are_summed}
-use Rattle.bs_flat.proofs.HeightLemmas.{depth_is_height}
+use Rattle.bs_flat.proofs.CountLemmas.{sum_members, parts_are_summed}
+use Rattle.bs_flat.proofs.HeightLemmas.{tallest_same, depth_is_height}
 use Rattle.bs_flat.proofs.MemberLemmas.{Member}
 use Rattle.bs_flat.proofs.RootLemmas.{top_is_path}
 use Rattle.bs_flatten.specs.Order.{place_in, IsChildrenFirst}
 use Rattle.bs_flatten.specs.Tables.{Follows, depth_by, count_by_parts}
+use Rattle.bs_flatten.proofs.TableLemmas.{tallest_none, sum_none}
 use Rattle.bs_flatten.proofs.OrderLemmas.{IsLocal}
 
 -- ---- lists
-
-tallest_same : {A : Type 0} (f g : A → ℕ) (xs : List A) (d : A) → ((i : ℕ) → i < length xs → f (get_or xs i d) ≡ g (get_or xs i d)) →
-    tallest f xs ≡ tallest g xs
-unfolding tallest
-tallest_same f g [] d h = refl
-tallest_same f g (x ∷ xs) d h =
-    ap (λ n. max (1 + n) (tallest f xs)) (h 0 (omega arith)) ∙ ap (max (1 + g x)) (tallest_same f g xs d (λ i lt. h (suc i) (omega (arith, lt))))
-
-pub sum_members : {A : Type 0} (f g : A → ℕ) (xs : List A) (d : A) → ((i : ℕ) → i < length xs → f (get_or xs i d) ≡ g (get_or xs i d)) →
-    sum_of f xs ≡ sum_of g xs
-unfolding sum_of
-sum_members f g [] d h = refl
-sum_members f g (x ∷ xs) d h =
-    ap (λ n. n + sum_of f xs) (h 0 (omega arith)) ∙ ap (λ n. g x + n) (sum_members f g xs d (λ i lt. h (suc i) (omega (arith, lt))))
 
 tallest_above : {A : Type 0} (f : A → ℕ) (xs : List A) (i : ℕ) (d : A) → i < length xs → f (get_or xs i d) < tallest f xs
 unfolding tallest
@@ -46,14 +33,6 @@ unfolding sum_of
 bounded_sum b f [] = refl
 bounded_sum b f (x ∷ xs) = let rest = bounded_sum b f xs in omega (arith, rest)
 
-tallest_of_none : {A : Type 0} (f : A → ℕ) → tallest f [] ≡ 0
-unfolding tallest
-tallest_of_none f = refl
-
-sum_of_none : {A : Type 0} (f : A → ℕ) → sum_of f [] ≡ 0
-unfolding sum_of
-sum_of_none f = refl
-
 -- ---- the rules
 
 pub depth_is_local : (b : ℕ) → IsLocal (depth_by b)
@@ -67,10 +46,10 @@ count_is_local b =
     }
 
 pub depth_past : (b : ℕ) (v : ℕ → ℕ) → depth_by b v no_module ≡ 0
-depth_past b v = let none = tallest_of_none (λ (i : Instance). v i.of) in omega (arith, none)
+depth_past b v = let none = tallest_none (λ (i : Instance). v i.of) in omega (arith, none)
 
 pub count_past : (b : ℕ) (v : ℕ → ℕ) → 0 < b → count_by_parts b v no_module ≡ 1
-count_past b v pos = let none = sum_of_none (λ (i : Instance). v i.of) in omega (arith, none, pos)
+count_past b v pos = let none = sum_none (λ (i : Instance). v i.of) in omega (arith, none, pos)
 
 -- ---- heights and sums without a bound
 

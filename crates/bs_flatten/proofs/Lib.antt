@@ -1,9 +1,12 @@
 pub mod TableLemmas
 pub mod OrderLemmas
 pub mod BoundLemmas
+pub mod NodeLemmas
 pub mod NetLemmas
 pub mod JoinedLemmas
 pub mod RunLemmas
 pub mod SumLemmas
 pub mod BitLemmas
 pub mod WeightLemmas
+pub mod ClimbLemmas
+pub mod LevelLemmas

@@ -1,54 +1,26 @@
 -- The flat nets of a design are its plain nets, and each constant once.
-use Rattle.std.proofs.Common.{◌≡◌, ℕ, zero, suc, ◌+◌, min, Bool, true, false, cond, ◌&&◌, ◌||◌, List, [], ◌∷◌, ◌++◌, map, length, get_or, refl, arith}
+use Rattle.std.proofs.Common.{◌≡◌, ℕ, zero, suc, ◌+◌, min, Bool, true, false, cond, ◌&&◌, ◌||◌, List, [], ◌∷◌, ◌++◌, map, length, refl, arith}
 use Rattle.std.proofs.Common.{subst, ap, sym, ◌∙◌, inl, inr, ⊎_elim, Option, Some, None, length-append, add-one}
 use Rattle.std.specs.Prelude.{find, filter, unwrap_or, is_none}
 use Rattle.std.specs.List.{range_with_len, flat_map}
 use Rattle.std.proofs.lemmas.Bool.{false≢true, cases_Bool}
-use Rattle.std.proofs.lemmas.List.{length-map, get_or_at, length_push, append_assoc}
+use Rattle.std.proofs.lemmas.List.{length-map}
 use Rattle.std.proofs.lemmas.List.Elements.{filter-append}
 use Rattle.bs_net.specs.Parts.{Parts}
 use Rattle.bs_flat.specs.declared.limits.TheConstants.{MAX_DEPTH}
 use Rattle.bs_flat.specs.Design.{Design, Module, Instance, Join, Path, PathNet, on, own, no_instance, joins_at, instance_in, module_in}
 use Rattle.bs_flat.specs.Design.{module_at, paths_from, paths, path_nets}
 use Rattle.bs_flat.specs.Meaning.{is_same}
-use Rattle.bs_flat.specs.Flat.{IsDesign, bit_of, is_root, is_bit, first_constant, home, flat_nets}
+use Rattle.bs_flat.specs.Flat.{IsDesign, bit_of, is_root, is_bit, first_constant, home, flat_nets, flat_key, flat_parts}
 use Rattle.bs_flat.specs.Counts.{sum_of}
-use Rattle.bs_flat.proofs.CountLemmas.{module_below}
+use Rattle.bs_flat.proofs.CountLemmas.{sum_flat, sum_same, sum_places, module_below}
 use Rattle.bs_flat.proofs.MemberLemmas.{Member, flattened, ranged, mapped, filter_same, filter_map_comm}
 use Rattle.bs_flat.proofs.RootLemmas.{same_from, same_to, member_valid, root_bare}
 use Rattle.bs_flat.proofs.HomeLemmas.{home_is, home_none, home_some}
 use Rattle.bs_flat.proofs.NumberLemmas.{Apart, apart_append, paths_apart}
-use Rattle.bs_flatten.specs.Nets.{plain_count, constant_count, below_sum, plain_weight, constant_weight}
-
--- ---- sums of lists
-
-sum_append : {A : Type 0} (f : A → ℕ) (xs ys : List A) → sum_of f (xs ++ ys) ≡ sum_of f xs + sum_of f ys
-unfolding sum_of
-sum_append f [] ys = omega arith
-sum_append f (x ∷ xs) ys = let rest = sum_append f xs ys in omega (arith, rest)
-
-sum_flat : {A B : Type 0} (g : A → ℕ) (f : B → List A) (xs : List B) → sum_of g (flat_map f xs) ≡ sum_of (λ x. sum_of g (f x)) xs
-unfolding sum_of
-sum_flat g f [] = refl
-sum_flat g f (x ∷ xs) = sum_append g (f x) (flat_map f xs) ∙ ap (λ n. sum_of g (f x) + n) (sum_flat g f xs)
-
-sum_same : {A : Type 0} (f g : A → ℕ) (xs : List A) → ((x : A) → f x ≡ g x) → sum_of f xs ≡ sum_of g xs
-unfolding sum_of
-sum_same f g [] h = refl
-sum_same f g (x ∷ xs) h = ap (λ n. n + sum_of f xs) (h x) ∙ ap (λ n. g x + n) (sum_same f g xs h)
-
--- a sum over places is a sum over members
-sum_places : {A : Type 0} (g : A → ℕ) (d : A) (xs front : List A) (a : ℕ) → length front ≡ a →
-    sum_of (λ i. g (get_or (front ++ xs) i d)) (range_with_len a (length xs)) ≡ sum_of g xs
-unfolding sum_of
-sum_places g d [] front a e = refl
-sum_places {A} g d (x ∷ xs) front a e =
-    let here : get_or (front ++ x ∷ xs) a d ≡ x = get_or_at front x xs d a e in
-    let next : length (front ++ x ∷ []) ≡ a + 1 = length_push front x ∙ ap (λ n. n + 1) e in
-    let lists : (front ++ x ∷ []) ++ xs ≡ front ++ x ∷ xs = append_assoc front (x ∷ []) xs in
-    ap (λ y. g y + sum_of (λ i. g (get_or (front ++ x ∷ xs) i d)) (range_with_len (a + 1) (length xs))) here
-    ∙ ap (λ n. g x + n) (ap (λ (l : List A). sum_of (λ i. g (get_or l i d)) (range_with_len (a + 1) (length xs))) (sym lists)
-    ∙ sum_places g d xs (front ++ x ∷ []) (a + 1) next)
+use Rattle.bs_flatten.specs.Nets.{plain_count, constant_count, below_sum}
+use Rattle.bs_flatten.specs.Sums.{top_sum}
+use Rattle.bs_flatten.specs.declared.joined.Sort.TheVariants.{Plain, Constant}
 
 -- ---- counts of lists
 
@@ -273,20 +245,21 @@ constant_paths d h b = count_by_path d (constant d h b)
 
 -- the flat nets: the plain nets of the top and below it, and each constant once
 pub nets_counted : (d : Design) → IsDesign d →
-    length (flat_nets d) ≡ (plain_count (own d []) [] + below_sum MAX_DEPTH d (plain_weight d) (module_at d []))
-    + (min 1 (constant_count false (own d []) [] + below_sum MAX_DEPTH d (constant_weight false d) (module_at d []))
-    + min 1 (constant_count true (own d []) [] + below_sum MAX_DEPTH d (constant_weight true d) (module_at d [])))
+    length (flat_nets d) ≡ top_sum Plain d + (min 1 (top_sum (Constant false) d) + min 1 (top_sum (Constant true) d))
 nets_counted d h =
-    let P = plain_count (own d []) [] + below_sum MAX_DEPTH d (plain_weight d) (module_at d []) in
-    let C : Bool → ℕ = λ b. constant_count b (own d []) [] + below_sum MAX_DEPTH d (constant_weight b d) (module_at d []) in
     let N : Bool → ℕ = λ b. length (filter (constant d h b) (path_nets d)) in
     nets_are d h
     ∙ (ap (λ n. n + (min 1 (N false) + min 1 (N true))) plain_by_path
-    ∙ (ap (λ n. P + (min 1 n + min 1 (N true))) (constant_by_path false) ∙ ap (λ n. P + (min 1 (C false) + min 1 n)) (constant_by_path true)))
+    ∙ (ap (λ n. top_sum Plain d + (min 1 n + min 1 (N true))) (constant_by_path false)
+    ∙ ap (λ n. top_sum Plain d + (min 1 (top_sum (Constant false) d) + min 1 n)) (constant_by_path true)))
   where
-    plain_by_path : length (filter (plain d h) (path_nets d)) ≡ plain_count (own d []) [] + below_sum MAX_DEPTH d (plain_weight d) (module_at d [])
+    plain_by_path : length (filter (plain d h) (path_nets d)) ≡ top_sum Plain d
     plain_by_path = plain_paths d h ∙ all_sum d plain_count
 
-    constant_by_path : (b : Bool) → length (filter (constant d h b) (path_nets d)) ≡ constant_count b (own d []) []
-        + below_sum MAX_DEPTH d (constant_weight b d) (module_at d [])
+    constant_by_path : (b : Bool) → length (filter (constant d h b) (path_nets d)) ≡ top_sum (Constant b) d
     constant_by_path b = constant_paths d h b ∙ all_sum d (constant_count b)
+
+-- each flat net has a key
+pub names_counted : (d : Design) → length (flat_parts d).names ≡ length (flat_nets d)
+unfolding flat_parts
+names_counted d = length-map (flat_nets d) (flat_key d)

@@ -5,12 +5,14 @@ use Rattle.bs_flat.specs.Design.{Design, Instance, no_module, no_instance, insta
 use Rattle.bs_flat.specs.Counts.{sum_of, IsHeight}
 use Rattle.bs_flat.specs.Reading.{is_deep}
 use Rattle.bs_flat.specs.declared.limits.TheConstants.{MAX_DEPTH}
+use Rattle.bs_flat.proofs.CountLemmas.{sum_members}
 use Rattle.bs_flat.proofs.HeightLemmas.{depth_is_height}
 use Rattle.bs_flatten.specs.Order.{place_in, IsChildrenFirst}
 use Rattle.bs_flatten.specs.Tables.{Follows}
 use Rattle.bs_flatten.specs.Nets.{below_sum, sum_below}
+use Rattle.bs_flatten.proofs.TableLemmas.{sum_none}
 use Rattle.bs_flatten.proofs.OrderLemmas.{IsLocal}
-use Rattle.bs_flatten.proofs.BoundLemmas.{sum_members, height_of, heights_are, falls_by_height}
+use Rattle.bs_flatten.proofs.BoundLemmas.{height_of, heights_are, falls_by_height}
 
 -- ---- the rule
 
@@ -24,12 +26,8 @@ sum_is_local b g =
           (λ i lt. ap (λ n. g (instance_in m i) + n) (h i lt)));
     }
 
-sum_of_none : {A : Type 0} (f : A → ℕ) → sum_of f [] ≡ 0
-unfolding sum_of
-sum_of_none f = refl
-
 pub sum_past : (b : ℕ) (g : Instance → ℕ) (v : ℕ → ℕ) → sum_below b g v no_module ≡ 0
-sum_past b g v = let none = sum_of_none (λ (i : Instance). g i + v i.of) in omega (arith, none)
+sum_past b g v = let none = sum_none (λ (i : Instance). g i + v i.of) in omega (arith, none)
 
 -- ---- levels
 

@@ -7,7 +7,7 @@ use Rattle.std.proofs.lemmas.Bool.{ltb-true, ltb-false}
 use Rattle.std.proofs.lemmas.List.{length-map, get_or-map}
 use Rattle.bs_net.specs.declared.net.Const.{Const}
 use Rattle.bs_flat.specs.Design.{Design, Module, Instance, Join, no_module, no_instance, own, module_at}
-use Rattle.bs_flat.specs.Flat.{IsDesign, IsModule, IsInstance, flat_nets}
+use Rattle.bs_flat.specs.Flat.{IsDesign, IsModule, IsInstance, flat_parts}
 use Rattle.bs_flat.specs.Counts.{sum_of}
 use Rattle.bs_flatten.specs.Blocks.{bits_of, own_of, instance_of, module_of, design_of}
 use Rattle.bs_flatten.specs.Constants.{bits_in}
@@ -20,7 +20,7 @@ use Rattle.bs_flatten.specs.declared.constants.Bit.{Bit}
 use Rattle.bs_flatten.specs.declared.blocks.Block.{Block}
 use Rattle.bs_flatten.specs.declared.blocks.Child.{Child}
 use Rattle.bs_flatten.proofs.OrderLemmas.{block_is, sum_map}
-use Rattle.bs_flatten.proofs.NetLemmas.{nets_counted}
+use Rattle.bs_flatten.proofs.NetLemmas.{nets_counted, names_counted}
 
 -- ---- what a design of blocks keeps
 
@@ -80,10 +80,6 @@ pub top_own : (blocks : List Block) (top : ℕ) (b : Block) → top < length blo
 unfolding module_at
 top_own blocks top b lt e = ap (λ (m : Module). m.own) (block_is blocks top b lt e)
 
-pub nets_are_sums : (d : Design) → IsDesign d →
-    length (flat_nets d) ≡ top_sum Plain d + (min 1 (top_sum (Constant false) d) + min 1 (top_sum (Constant true) d))
-nets_are_sums d h = nets_counted d h
-
 ends_above : (m p q r : ℕ) → nat_lt m (min (m + 1) p + (min 1 (min (m + 1) q) + min 1 (min (m + 1) r))) ≡ nat_lt m (p + (min 1 q + min 1 r))
 ends_above m p q r = by (nat_lt m (p + (min 1 q + min 1 r))) refl
   where
@@ -92,12 +88,12 @@ ends_above m p q r = by (nat_lt m (p + (min 1 q + min 1 r))) refl
     by false e = let le = ltb-false m (p + (min 1 q + min 1 r)) e in le-ltb m _ (omega (arith, le))
 
 pub nets_decide : (d : Design) (m p q r : ℕ) → IsDesign d → p ≡ min (m + 1) (top_sum Plain d) → q ≡ min (m + 1) (top_sum (Constant false) d) →
-    r ≡ min (m + 1) (top_sum (Constant true) d) → nat_lt m (p + (min 1 q + min 1 r)) ≡ nat_lt m (length (flat_nets d))
+    r ≡ min (m + 1) (top_sum (Constant true) d) → nat_lt m (p + (min 1 q + min 1 r)) ≡ nat_lt m (length (flat_parts d).names)
 nets_decide d m p q r h ep eq er =
     ap (λ n. nat_lt m (n + (min 1 q + min 1 r))) ep
     ∙ (ap (λ n. nat_lt m (min (m + 1) (top_sum Plain d) + (min 1 n + min 1 r))) eq
     ∙ (ap (λ n. nat_lt m (min (m + 1) (top_sum Plain d) + (min 1 (min (m + 1) (top_sum (Constant false) d)) + min 1 n))) er
-    ∙ (ends_above m (top_sum Plain d) (top_sum (Constant false) d) (top_sum (Constant true) d) ∙ ap (nat_lt m) (sym (nets_are_sums d h)))))
+    ∙ (ends_above m (top_sum Plain d) (top_sum (Constant false) d) (top_sum (Constant true) d) ∙ ap (nat_lt m) (sym (names_counted d ∙ nets_counted d h)))))
 
 pub nothing_distinct : IsDistinct nat_eq []
 unfolding IsDistinct

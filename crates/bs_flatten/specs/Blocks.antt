@@ -1,8 +1,9 @@
 -- The design that modules in code are.
-use Rattle.std.specs.Prelude.{ℕ, ◌+◌, List, map, string_bytes}
+use Rattle.std.specs.Prelude.{ℕ, ◌+◌, ◌<◌, List, length, map, All, string_bytes}
 use Rattle.std.specs.List.{flat_map, range_with_len}
 use Rattle.bs_net.specs.Parts.{Parts}
 use Rattle.bs_flat.specs.Design.{Design, Module, Instance, Join}
+use Rattle.bs_flat.specs.declared.paths.Instanced.{Instanced}
 use Rattle.bs_flatten.specs.declared.blocks.Run.{Run}
 use Rattle.bs_flatten.specs.declared.blocks.Child.{Child}
 use Rattle.bs_flatten.specs.declared.blocks.Block.{Block}
@@ -34,3 +35,15 @@ module_of b = record { own = own_of b; instances = map instance_of b.children }
 -- the design of blocks, of which one is the top
 abbrev pub design_of : List Block → ℕ → Design
 design_of blocks top = record { modules = map module_of blocks; top = top }
+
+-- each instance is of a block of the list
+abbrev pub AreThere : List Block → Type 0
+AreThere blocks = All (λ b. All (λ c. c.of < length blocks) b.children) blocks
+
+-- the modules of some instances, by their numbers
+abbrev pub numbers_of : List Child → List ℕ
+numbers_of cs = map (λ c. c.of) cs
+
+-- a block as its instances alone
+abbrev pub shape_of : Block → Instanced
+shape_of b = record { instances = numbers_of b.children }

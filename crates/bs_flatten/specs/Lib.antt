@@ -9,3 +9,5 @@ pub mod Tables
 pub mod Constants
 -- What sums over the modules of blocks are.
 pub mod Sums
+-- How nets are climbed.
+pub mod Climbing

@@ -35,13 +35,6 @@ unfoldable pub below_sum : ℕ → Design → (Instance → ℕ) → Module → 
 below_sum zero d g m = 0
 below_sum (suc n) d g m = sum_of (λ i. g i + below_sum n d g (module_in d i.of)) m.instances
 
--- the weight of an instance in the count of plain nets, and in that of a constant
-abbrev pub plain_weight : Design → Instance → ℕ
-plain_weight d i = plain_count (module_in d i.of).own i.joins
-
-abbrev pub constant_weight : Bool → Design → Instance → ℕ
-constant_weight b d i = constant_count b (module_in d i.of).own i.joins
-
 -- a module's sum of those of its instances' modules, up to a bound
 abbrev pub sum_below : ℕ → (Instance → ℕ) → (ℕ → ℕ) → Module → ℕ
 sum_below bound g v m = min bound (sum_of (λ i. g i + v i.of) m.instances)

@@ -1,5 +1,5 @@
 //! The nets of an instance that joins leave to it.
-ghost use Rattle.std.specs.Prelude.{◌≡◌, ◌<◌, ◌≤◌, ◌-◌, if◌then◌else◌, length, map, All, is_some, nat_eq};
+ghost use Rattle.std.specs.Prelude.{◌≡◌, ◌<◌, ◌≤◌, ◌-◌, if◌then◌else◌, length, map, All, is_some, nat_eq, ◌+◌};
 ghost use Rattle.std.specs.List.{flat_map, list_any, IsDistinct};
 ghost use Rattle.bs_flat.specs.Meaning.{joined_with};
 ghost use Rattle.bs_flatten.specs.Blocks.{bits_of, own_of};
@@ -101,4 +101,25 @@ pub fn weight(sort: Sort, block: &Block, bits: &[Bit], runs: &[Run]) -> usize
         Sort::Plain => plain_nets(block.names.len(), bits, runs),
         Sort::Constant(value) => free_constants(bits, runs, value),
     }
+}
+
+/// The net of the parent with which a run joins a net that it covers.
+fn outer_net(run: Run, net: usize) -> usize
+    requires low { run.inner ≤ net }
+    requires high { net - run.inner < run.width }
+    ensures { result ≡ run.outer + (net - run.inner) }
+{
+    run.outer as usize + (net - run.inner as usize)
+}
+
+/// The net of the parent with which runs join a net of their instance, if one does.
+pub fn outer_of(runs: &[Run], net: usize) -> Option<usize>
+    ensures { result ≡ joined_with (flat_map bits_of runs.now) net }
+{
+    'each: for run in runs {
+        if covers(*run, net) {
+            return Some(outer_net(*run, net));
+        }
+    }
+    None
 }

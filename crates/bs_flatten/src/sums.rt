@@ -1,7 +1,7 @@
 //! The flat nets of a design, counted module by module before any path is made.
 ghost use Rattle.std.specs.Prelude.{◌≡◌, ◌<◌, ◌+◌, [], false, length, map, min, nat_lt, replicate, slice_index_or, All, IfOk};
 ghost use Rattle.bs_flat.specs.Counts.{sum_of};
-ghost use Rattle.bs_flat.specs.Flat.{IsDesign, flat_nets};
+ghost use Rattle.bs_flat.specs.Flat.{IsDesign, flat_parts};
 ghost use Rattle.bs_flat.specs.Reading as reading;
 ghost use Rattle.bs_net.specs.declared.limits.TheConstants.{MAX_NETS as most};
 ghost use Rattle.bs_flatten.specs.Blocks.{design_of, instance_of, module_of};
@@ -129,7 +129,7 @@ pub fn has_many_nets(
     requires top { top < length blocks.now }
     requires shallow { reading.is_deep (design_of blocks.now top) ≡ false }
     requires design { IsDesign (design_of blocks.now top) }
-    ensures { IfOk result (λ many. many ≡ nat_lt most (length (flat_nets (design_of blocks.now top)))) }
+    ensures { IfOk result (λ many. many ≡ nat_lt most (length (flat_parts (design_of blocks.now top)).names)) }
 {
     let bits = all_bits(alloc, blocks)?;
     let plain = total(alloc, Sort::Plain, blocks, bits.slice(), order, top)?;
