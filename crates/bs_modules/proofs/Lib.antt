@@ -5,3 +5,4 @@ pub mod EachLemmas
 pub mod NameLemmas
 pub mod LawLemmas
 pub mod ReadLemmas
+pub mod WholeLemmas

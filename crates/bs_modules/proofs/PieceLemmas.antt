@@ -168,7 +168,8 @@ unfolding first_piece
 first_is t ts = refl
 
 -- a cut of a whole text, of which nothing is left
-rest_is_loose : (ts : Rest) → (here : Rest × Rest) → loose ts [] ≡ made (take (length ts) ts) (take (length ts - length ts) (drop (length ts) ts)) (drop (length ts) ts)
+rest_is_loose : (ts : Rest) → (here : Rest × Rest)
+    → loose ts [] ≡ made (take (length ts) ts) (take (length ts - length ts) (drop (length ts) ts)) (drop (length ts) ts)
 rest_is_loose ts here =
     ap (λ xs. made xs [] []) (sym (take_all_of ts))
     ∙ ap (λ xs. made (take (length ts) ts) xs []) (sym (take_none (length ts - length ts) (drop (length ts) ts) (omega arith)))

@@ -26,7 +26,7 @@ use Rattle.bs_flat.specs.Reading.{second_instance, first_of}
 use Rattle.bs_flat.specs.Connecting.{ReadModule}
 use Rattle.bs_modules.specs.declared.dealing.Place.{Place}
 use Rattle.bs_modules.specs.declared.dealing.Dealt.{Dealt}
-use Rattle.bs_modules.specs.declared.reading.Modules.{Modules}
+use Rattle.bs_modules.specs.declared.owns.Modules.{Modules}
 use Rattle.bs_modules.specs.Copying.{part}
 use Rattle.bs_modules.specs.Dealing.{IsDealt, Standing, designs_after, others_of, standing_at}
 use Rattle.bs_modules.specs.Items.{names_one, is_statement, statement, with_item, written_items}
@@ -187,7 +187,8 @@ designs_are n [] = refl
 designs_are n (p ∷ ps) = by (is_design p) n p ps (λ k. designs_are k ps)
   where
     by : (b : Bool) (n : ℕ) (p : Piece) (ps : List Piece) → ((k : ℕ) → map (λ (s : Standing). s.piece) (designs_after k ps) ≡ filter is_design ps)
-        → map (λ (s : Standing). s.piece) (cond b (record { before = n; piece = p } ∷ designs_after n ps) (designs_after (n + length (p.attributes ++ p.body)) ps))
+        → map (λ (s : Standing). s.piece)
+        (cond b (record { before = n; piece = p } ∷ designs_after n ps) (designs_after (n + length (p.attributes ++ p.body)) ps))
         ≡ cond b (p ∷ filter is_design ps) (filter is_design ps)
     by true n p ps later = ap (λ qs. p ∷ qs) (later n)
     by false n p ps later = later (n + length (p.attributes ++ p.body))

@@ -12,7 +12,7 @@ use Rattle.bs_flat.specs.declared.fault.FlatFault.TheVariants.{Verilog, Twice, N
 use Rattle.bs_flat.specs.Connecting.{ReadModule}
 use Rattle.bs_flat.specs.Reading.{gathered}
 use Rattle.bs_modules.specs.declared.dealing.Dealt.{Dealt}
-use Rattle.bs_modules.specs.declared.reading.Modules.{Modules}
+use Rattle.bs_modules.specs.declared.owns.Modules.{Modules}
 use Rattle.bs_modules.specs.Dealing.{IsDealt}
 use Rattle.bs_modules.specs.Names.{rises, begin, all_apart}
 use Rattle.bs_modules.specs.Owns.{seen, owns, all_written}

@@ -9,7 +9,8 @@ mod owns;
 mod pieces;
 mod reading;
 mod sorts;
+mod wholeness;
 
 pub use dealing::{Dealt, Place, deal};
-pub use owns::Own;
-pub use reading::{Modules, read_modules};
+pub use owns::{Modules, Own};
+pub use reading::read_modules;

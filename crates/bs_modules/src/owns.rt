@@ -23,6 +23,14 @@ pub struct Own {
     pub parts: Raw,
 }
 
+/// The modules of a text that are no cells, in file order: what the own text of each says with the parts that it builds, and the
+/// instances that each writes.
+#[derive(Drop)]
+pub struct Modules {
+    pub owns: List<Own>,
+    pub written: List<List<Written>>,
+}
+
 /// Adds the own text of a module with this body.
 fn own_body(own: &mut List<Lexeme>, marks: &[bool], body: &[Lexeme]) -> Result<(), NoMemory>
     ensures { OnOk result (own.new ≡ own.old ++ spec.own_body (marked marks.now) body.now) }

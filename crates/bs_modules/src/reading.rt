@@ -1,5 +1,6 @@
 //! The modules of a text of several, read one by one.
-ghost use Rattle.std.specs.Prelude.{◌≡◌, MatchResult, None};
+ghost use Rattle.std.specs.Prelude.{◌≡◌, IfOk, MatchResult, None};
+ghost use Rattle.std.specs.List.{All};
 ghost use Rattle.bs_bits.specs.Reading.{Answers};
 ghost use Rattle.bs_syntax.specs.declared.fault.VerilogFault.TheVariants.{NoMemory as out_of_memory};
 ghost use Rattle.bs_scope.specs.Checking.{Checks, marked};
@@ -11,21 +12,13 @@ ghost use Rattle.bs_modules.specs.Reading as spec;
 
 use crate::dealing::{Dealt, deal};
 use crate::names::{all_apart, are_rising, heads};
-use crate::owns::{Own, read_owns, read_written};
-use bs_bits::List;
-use bs_flat::{FlatFault, Written};
+use crate::owns::{Modules, read_owns, read_written};
+use crate::wholeness::whole;
+use bs_flat::FlatFault;
 use bs_lexeme::{Lexeme, Table};
 use bs_scope::header_marks;
 use bs_syntax::VerilogFault;
 use std::alloc::Global;
-
-/// The modules of a text that are no cells, in file order: what the own text of each says with the parts that it builds, and the
-/// instances that each writes.
-#[derive(Drop)]
-pub struct Modules {
-    pub owns: List<Own>,
-    pub written: List<List<Written>>,
-}
 
 /// A refusal of a module's own text, or of an instance statement.
 fn fault_of(fault: VerilogFault) -> FlatFault
@@ -130,13 +123,24 @@ fn read_dealt(
     }
 }
 
-/// The modules of a text with these lexemes, read one by one: its first refusal up to a second instance name within a module,
-/// else what each says, with the parts that its own text builds, and its instances as they are written.
-pub fn read_modules(alloc: Global, table: &Table, ts: &[Lexeme]) -> Result<Modules, FlatFault>
+/// The modules of a text with these lexemes, read one by one.
+fn read_each(alloc: Global, table: &Table, ts: &[Lexeme]) -> Result<Modules, FlatFault>
     ensures { Answers want spec.read_modules_of result (flat.read_modules table.now ts.now) }
 {
     match dealt_out(alloc, ts) {
         Ok(dealt) => read_dealt(alloc, table, ts, &dealt),
         Err(_) => Err(FlatFault::NoMemory),
     }
+}
+
+/// The modules of a text with these lexemes, read one by one: its first refusal up to a second instance name within a module,
+/// else what each says, with the parts that its own text builds, and its instances as they are written. The ports of
+/// each stand first among its nets, all of which have names.
+pub fn read_modules(alloc: Global, table: &Table, ts: &[Lexeme]) -> Result<Modules, FlatFault>
+    ensures read { Answers want spec.read_modules_of result (flat.read_modules table.now ts.now) }
+    ensures whole { IfOk result (λ m. All (flat.IsRead table.now) (spec.read_modules_of m)) }
+{
+    let each = read_each(alloc, table, ts)?;
+    let read = whole(alloc, each)?;
+    Ok(read)
 }

@@ -16,7 +16,8 @@ returns-then-is_semicolon c =
 
 pub lexemes-preserved : goal.lexemes-preserved
 lexemes-preserved c =
-    rw (c.stays_inside-inside.ensures, c.sort_of-sort.ensures) (open_on c.lexemes.inside c.lexemes.at c.args.ts.now _ (tail_is c.lexemes.at c.args.ts.now) c.lexemes-test.true
+    rw (c.stays_inside-inside.ensures, c.sort_of-sort.ensures) (open_on c.lexemes.inside c.lexemes.at c.args.ts.now _
+    (tail_is c.lexemes.at c.args.ts.now) c.lexemes-test.true
     (ap is_endmodule (sym c.sort_of-sort.ensures) ∙ sym c.if-is_endmodule.ensures) (sym c.if-is_semicolon.ensures) c.lexemes.invariant)
 
 pub returns : goal.returns

@@ -8,12 +8,14 @@ use Rattle.bs_modules.proofs.items.own_items.Goals as goal
 pub returns-then-is_endmodule : goal.returns-then-is_endmodule
 returns-then-is_endmodule c =
     c.in_ok-copy.ensures
-    ∙ own_end (marked c.args.marks.now) c.items.own _ (length c.args.ts.now) c.items.counter c.items.at c.args.ts.now _ (tail_is c.items.at c.args.ts.now) c.items-test.true
+    ∙ own_end (marked c.args.marks.now) c.items.own _ (length c.args.ts.now) c.items.counter c.items.at c.args.ts.now _
+    (tail_is c.items.at c.args.ts.now) c.items-test.true
     (ap is_endmodule (sym c.sort_of.ensures) ∙ sym c.if-is_endmodule.ensures) c.items.invariant
 
 pub items-preserved : goal.items-preserved
 items-preserved c =
-    own_on (marked c.args.marks.now) c.items.own _ _ (length c.args.ts.now) c.items.counter c.items.at c.item_size-size.result c.args.ts.now _ _ (tail_is c.items.at c.args.ts.now)
+    own_on (marked c.args.marks.now) c.items.own _ _ (length c.args.ts.now) c.items.counter c.items.at c.item_size-size.result c.args.ts.now _ _
+    (tail_is c.items.at c.args.ts.now)
     c.items-test.true
     (ap is_endmodule (sym c.sort_of.ensures) ∙ sym c.if-is_endmodule.ensures) c.item_size-size.ensures c.part.ensures c.in_ok-own_item.ensures
     c.items.invariant
@@ -21,4 +23,5 @@ items-preserved c =
 pub returns : goal.returns
 returns c =
     c.in_ok-copy-2.ensures
-    ∙ own_bound (marked c.args.marks.now) c.items.own _ (length c.args.ts.now) c.items.counter c.items.at c.args.ts.now _ (tail_is c.items.at c.args.ts.now) c.items-test.false c.items.invariant
+    ∙ own_bound (marked c.args.marks.now) c.items.own _ (length c.args.ts.now) c.items.counter c.items.at c.args.ts.now _
+    (tail_is c.items.at c.args.ts.now) c.items-test.false c.items.invariant

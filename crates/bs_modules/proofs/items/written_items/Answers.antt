@@ -8,7 +8,8 @@ use Rattle.bs_modules.proofs.items.written_items.Goals as goal
 
 pub returns-then-is_endmodule : goal.returns-then-is_endmodule
 returns-then-is_endmodule c =
-    written_end (marked c.args.marks.now) c.items.all _ (length c.args.ts.now) c.items.counter c.items.at c.args.ts.now _ (tail_is c.items.at c.args.ts.now) c.items-test.true
+    written_end (marked c.args.marks.now) c.items.all _ (length c.args.ts.now) c.items.counter c.items.at c.args.ts.now _
+    (tail_is c.items.at c.args.ts.now) c.items-test.true
     (ap is_endmodule (sym c.sort_of.ensures) ∙ sym c.if-is_endmodule.ensures) c.items.invariant
 
 pub returns-in_err-add_item : goal.returns-in_err-add_item
@@ -21,7 +22,8 @@ returns-in_err-add_item c =
 
 pub items-preserved : goal.items-preserved
 items-preserved c =
-    written_on (marked c.args.marks.now) c.items.all _ _ (length c.args.ts.now) c.items.counter c.items.at c.item_size-size.result c.args.ts.now _ _ (tail_is c.items.at c.args.ts.now)
+    written_on (marked c.args.marks.now) c.items.all _ _ (length c.args.ts.now) c.items.counter c.items.at c.item_size-size.result c.args.ts.now _ _
+    (tail_is c.items.at c.args.ts.now)
     c.items-test.true
     (ap is_endmodule (sym c.sort_of.ensures) ∙ sym c.if-is_endmodule.ensures) c.item_size-size.ensures c.part.ensures c.in_ok-add_item.ensures
     c.items.invariant

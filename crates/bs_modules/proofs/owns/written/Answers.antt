@@ -8,9 +8,11 @@ use Rattle.bs_modules.proofs.owns.written.Goals as goal
 pub returns-in_err-written : goal.returns-in_err-written
 returns-in_err-written c =
     let p = err_from_is_err_and c.from_residual.result c.from_residual.ensures.1 in
-    rw (p.1, p.2) (written_whole_fault (marked c.args.marks.now) c.args.body.now _ c.item_size-size.result _ (tail_is c.item_size-size.result c.args.body.now) c.item_size-size.ensures
+    rw (p.1, p.2) (written_whole_fault (marked c.args.marks.now) c.args.body.now _ c.item_size-size.result _
+    (tail_is c.item_size-size.result c.args.body.now) c.item_size-size.ensures
     c.in_err-written.ensures)
 
 pub returns : goal.returns
 returns c =
-    sym (written_whole (marked c.args.marks.now) c.args.body.now _ c.item_size-size.result (tail_is c.item_size-size.result c.args.body.now) c.item_size-size.ensures) ∙ c.in_ok-written.ensures
+    sym (written_whole (marked c.args.marks.now) c.args.body.now _ c.item_size-size.result
+    (tail_is c.item_size-size.result c.args.body.now) c.item_size-size.ensures) ∙ c.in_ok-written.ensures

@@ -10,7 +10,8 @@ returns-in-Some c =
 
 pub returns-in-None : goal.returns-in-None
 returns-in-None c =
-    cut_open c.args.ts.now c.args.size _ (tail_is c.args.size c.args.ts.now) c.requires.some c.requires.passed (ap is_module (sym c.sort_of.ensures) ∙ sym c.if-is_module.ensures) c.in-None.ensures
+    cut_open c.args.ts.now c.args.size _
+    (tail_is c.args.size c.args.ts.now) c.requires.some c.requires.passed (ap is_module (sym c.sort_of.ensures) ∙ sym c.if-is_module.ensures) c.in-None.ensures
 
 pub returns-then-size-eq0 : goal.returns-then-size-eq0
 returns-then-size-eq0 c =
