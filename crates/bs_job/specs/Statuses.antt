@@ -22,6 +22,9 @@ code_of S.Rejected = 11
 code_of S.ReadFault = 12
 code_of S.WriteFault = 13
 code_of S.Unreached = 15
+code_of S.Vcd = 16
+code_of S.Map = 17
+code_of S.Name = 18
 
 -- the same of an answer: want of memory has a code of its own
 abbrev pub exit_code : Result Status NoMemory → ℕ

@@ -3,11 +3,13 @@ ghost use Rattle.std.specs.Prelude.{◌≡◌};
 ghost use Rattle.bs_job.specs.Files.{file_word, limit_of, refusal_status};
 
 use crate::limits::{
-    MAX_DUMP_BYTES, MAX_NETLIST_BYTES, MAX_REPORT_BYTES, MAX_SIGNATURE_BYTES, MAX_STIMULUS_BYTES,
+    MAX_DUMP_BYTES, MAX_MAP_BYTES, MAX_NETLIST_BYTES, MAX_REPORT_BYTES, MAX_SIGNATURE_BYTES,
+    MAX_STIMULUS_BYTES, MAX_VCD_BYTES,
 };
 use crate::status::Status;
 
-/// A file of a job, or the state among its words, which is no file. A job that has several files fetches them in this order.
+/// A file of a job, or what else among its words may be refused, which is no file. A job that has several files fetches them in
+/// this order.
 #[derive(Clone, Copy, Debug, PartialEq, Eq)]
 pub enum File {
     Netlist,
@@ -17,6 +19,12 @@ pub enum File {
     Report,
     /// A state that the words name. No file is fetched for it.
     State,
+    /// The values that a simulator dumped.
+    Vcd,
+    /// The names that inputs have in a simulation.
+    Map,
+    /// A name that the words give. No file is fetched for it.
+    Name,
 }
 
 impl File {
@@ -31,6 +39,9 @@ impl File {
             File::Dump => "dump",
             File::Report => "report",
             File::State => "state",
+            File::Vcd => "vcd",
+            File::Map => "map",
+            File::Name => "name",
         }
     }
 
@@ -45,6 +56,9 @@ impl File {
             File::Dump => MAX_DUMP_BYTES,
             File::Report => MAX_REPORT_BYTES,
             File::State => 0,
+            File::Vcd => MAX_VCD_BYTES,
+            File::Map => MAX_MAP_BYTES,
+            File::Name => 0,
         }
     }
 
@@ -59,6 +73,9 @@ impl File {
             File::Dump => Status::Dump,
             File::Report => Status::Report,
             File::State => Status::Target,
+            File::Vcd => Status::Vcd,
+            File::Map => Status::Map,
+            File::Name => Status::Name,
         }
     }
 }

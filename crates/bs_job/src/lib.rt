@@ -10,7 +10,8 @@ mod walk;
 
 pub use file::File;
 pub use limits::{
-    MAX_DUMP_BYTES, MAX_NETLIST_BYTES, MAX_REPORT_BYTES, MAX_SIGNATURE_BYTES, MAX_STIMULUS_BYTES,
+    MAX_DUMP_BYTES, MAX_MAP_BYTES, MAX_NETLIST_BYTES, MAX_REPORT_BYTES, MAX_SIGNATURE_BYTES,
+    MAX_STIMULUS_BYTES, MAX_VCD_BYTES,
 };
 pub use output::deliver;
 pub use reply::{Reply, refused_words, stopped};

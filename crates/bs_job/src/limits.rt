@@ -14,3 +14,9 @@ pub const MAX_DUMP_BYTES: u64 = 1_048_576;
 
 /// 512 times 1,048,576.
 pub const MAX_REPORT_BYTES: u64 = 536_870_912;
+
+/// 512 times 1,048,576.
+pub const MAX_VCD_BYTES: u64 = 536_870_912;
+
+/// 1,048,576.
+pub const MAX_MAP_BYTES: u64 = 1_048_576;

@@ -34,6 +34,10 @@ pub enum Status {
     WriteFault,
     /// A state is reached in no number of cycles up to the bound.
     Unreached,
+    Vcd,
+    Map,
+    /// A name among the words is refused.
+    Name,
 }
 
 impl Status {
@@ -56,6 +60,9 @@ impl Status {
             Status::ReadFault => 12,
             Status::WriteFault => 13,
             Status::Unreached => 15,
+            Status::Vcd => 16,
+            Status::Map => 17,
+            Status::Name => 18,
         }
     }
 }

@@ -11,7 +11,7 @@ pub record Names : Type 0 where
   pub dump : List ℕ
   pub report : List ℕ
 
--- the name of a file; a state has none
+-- the name of a file of a job; what no job has has none
 abbrev pub name_of : Names → File → List ℕ
 name_of n files.Netlist = n.netlist
 name_of n files.Signature = n.signature
@@ -19,6 +19,9 @@ name_of n files.Stimulus = n.stimulus
 name_of n files.Dump = n.dump
 name_of n files.Report = n.report
 name_of n files.State = []
+name_of n files.Vcd = []
+name_of n files.Map = []
+name_of n files.Name = []
 
 -- the files of a job; a name that it does not give is empty
 abbrev pub names_of : Job → Names

@@ -16,7 +16,7 @@ use bs_words::{Job, read_words};
 use std::alloc::Global;
 use std::io::ErrorKind;
 
-/// The name of a file.
+/// The name of a file of a job, empty for what no job has.
 fn name_of<'a>(names: &Names<'a>, file: File) -> &'a str
     ensures { result.now ≡ name_of (names_in names.now) file }
 {
@@ -26,7 +26,7 @@ fn name_of<'a>(names: &Names<'a>, file: File) -> &'a str
         File::Stimulus => names.stimulus,
         File::Dump => names.dump,
         File::Report => names.report,
-        File::State => "",
+        File::State | File::Vcd | File::Map | File::Name => "",
     }
 }
 

@@ -3,7 +3,7 @@ use Rattle.std.specs.Prelude.{ℕ, ◌==◌, List, ◌++◌, codes, nat_eq, Opti
 use Rattle.std.specs.List.{starts_with}
 use Rattle.std.specs.Option.{option_and_then}
 use Rattle.bs_job.specs.declared.file.File.{File}
-use Rattle.bs_job.specs.declared.file.File.TheVariants.{Netlist, Signature, Stimulus, Dump, Report, State}
+use Rattle.bs_job.specs.declared.file.File.TheVariants.{Netlist, Signature, Stimulus, Dump, Report, State, Vcd, Map, Name}
 use Rattle.bs_job.specs.Files.{file_word}
 use Rattle.bs_refusal.specs.Notes.{file_text}
 
@@ -26,6 +26,9 @@ rank Stimulus = 2
 rank Dump = 3
 rank Report = 4
 rank State = 5
+rank Vcd = 6
+rank Map = 7
+rank Name = 8
 
 abbrev pub other_than : File → File → Option File
 other_than file kind = if rank kind == rank file then None else Some kind

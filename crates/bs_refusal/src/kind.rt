@@ -46,6 +46,9 @@ fn rank(file: File) -> u8
         File::Dump => 3,
         File::Report => 4,
         File::State => 5,
+        File::Vcd => 6,
+        File::Map => 7,
+        File::Name => 8,
     }
 }
 
