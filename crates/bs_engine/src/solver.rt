@@ -14,6 +14,7 @@ ghost use Rattle.bs_engine.specs.Starting.{HoldsStanding};
 
 use crate::dropping::Known;
 use crate::ending::{prepare, settle};
+use crate::room::make_room;
 use crate::starting::{add_all, grow_to};
 use bs_arena::{Arena, Renaming};
 use bs_bits::List;
@@ -75,6 +76,7 @@ impl Solver {
             rows: Vec::new(alloc),
         };
         let marks = Marks::new(alloc, vars)?;
+        make_room(alloc, &mut watch, axioms.slice())?;
         add_all(&mut watch, &mut arena, &mut stock, axioms.slice())?;
         let book = Recording::new(alloc, vars, &axioms);
         Ok(Solver {
