@@ -1,5 +1,6 @@
 //! Room in the watch lists for the clauses that a solver is given, so that each list has its room at once and no more.
-ghost use Rattle.std.specs.Prelude.{◌≡◌, length, IfOk, OnOk};
+ghost use Rattle.std.specs.Prelude.{◌≡◌, ◌^◌, ◌<◌, [], length, IfOk};
+ghost use Rattle.bs_watch.specs.Watch.{HasNone, ServesAll};
 
 use bs_clause::{Lit, Lits, NoMemory};
 use bs_watch::Watch;
@@ -43,11 +44,24 @@ fn reserve_all(watch: &mut Watch, counts: &[u32]) -> Result<(), NoMemory>
     Ok(())
 }
 
-/// Makes room in the watch lists for clauses. Nothing that a contract sees changes.
-pub fn make_room(alloc: Global, watch: &mut Watch, clauses: &[Lits]) -> Result<(), NoMemory>
+/// Makes room in the watch lists for clauses.
+fn make_room(alloc: Global, watch: &mut Watch, clauses: &[Lits]) -> Result<(), NoMemory>
     ensures { watch.new ≡ watch.old }
 {
     let mut counts = vec![in alloc; 0u32; 2 * watch.vars() as usize + 2]?;
     count_pairs(&mut counts, clauses);
     reserve_all(watch, &counts)
+}
+
+/// An empty trail over the variables 1 to `vars`, and no attached clause, with room in the watch lists for these ones.
+pub fn roomy_watch(alloc: Global, vars: u32, clauses: &[Lits]) -> Result<Watch, NoMemory>
+    requires { vars < 2 ^ 30 }
+    ensures vars { IfOk result (λ w. w.trail ≡ record { vars = vars; places = [] }) }
+    ensures levels { IfOk result (λ w. w.levels ≡ []) }
+    ensures serves { IfOk result ServesAll }
+    ensures attached { IfOk result HasNone }
+{
+    let mut watch = Watch::new(alloc, vars)?;
+    make_room(alloc, &mut watch, clauses)?;
+    Ok(watch)
 }

@@ -14,7 +14,7 @@ ghost use Rattle.bs_engine.specs.Starting.{HoldsStanding};
 
 use crate::dropping::Known;
 use crate::ending::{prepare, settle};
-use crate::room::make_room;
+use crate::room::roomy_watch;
 use crate::starting::{add_all, grow_to};
 use bs_arena::{Arena, Renaming};
 use bs_bits::List;
@@ -69,14 +69,13 @@ impl Solver {
           failed = false;
         }) }
     {
-        let mut watch = Watch::new(alloc, vars)?;
+        let mut watch = roomy_watch(alloc, vars, axioms.slice())?;
         let mut arena = Arena::new(alloc);
         let mut stock = Stock {
             shorts: Vec::new(alloc),
             rows: Vec::new(alloc),
         };
         let marks = Marks::new(alloc, vars)?;
-        make_room(alloc, &mut watch, axioms.slice())?;
         add_all(&mut watch, &mut arena, &mut stock, axioms.slice())?;
         let book = Recording::new(alloc, vars, &axioms);
         Ok(Solver {
