@@ -5,7 +5,7 @@ use Rattle.std.specs.Io.KnownBytes.{Appends}
 use Rattle.bs_bits.specs.declared.memory.NoMemory.{NoMemory}
 use Rattle.bs_outside.specs.Calls.{FetchCall, PutCall}
 use Rattle.bs_job.specs.declared.file.File.{File}
-use Rattle.bs_job.specs.declared.file.File.TheVariants.{Netlist, Signature, Stimulus, Dump, Report, State}
+use Rattle.bs_job.specs.declared.file.File.TheVariants.{Netlist, Signature, Stimulus, Dump, Report, State, Vcd, Map, Name}
 use Rattle.bs_job.specs.declared.status.Status.{Status}
 use Rattle.bs_job.specs.declared.status.Status.TheVariants.{Words, ReadFault, WriteFault}
 use Rattle.bs_job.specs.declared.reply.Reply.{Reply}
@@ -184,6 +184,9 @@ work_no_file status file work is = none file (ap is_work_status (sym is) ∙ wor
     none Dump e = cc
     none Report e = cc
     none State e = cc
+    none Vcd e = cc
+    none Map e = cc
+    none Name e = cc
 
 -- the status of a refusal comes exactly where the outcome refuses what it names
 refuses_exactly : {R W : Type 0} (allows : R → List ℕ → Type 0) (finishes : W → Status → List ℕ →

@@ -4,7 +4,7 @@ use Rattle.std.specs.Prelude.{IfOk}
 use Rattle.bs_bits.specs.declared.memory.NoMemory.{NoMemory}
 use Rattle.bs_outside.specs.Calls.{FetchCall}
 use Rattle.bs_job.specs.declared.file.File.{File}
-use Rattle.bs_job.specs.declared.file.File.TheVariants.{Netlist, Signature, Stimulus, Dump, Report, State}
+use Rattle.bs_job.specs.declared.file.File.TheVariants.{Netlist, Signature, Stimulus, Dump, Report, State, Vcd, Map, Name}
 use Rattle.bs_job.specs.declared.status.Status.{Status}
 use Rattle.bs_job.specs.declared.status.Status.TheVariants as T
 use Rattle.bs_job.specs.declared.reply.Reply.{Reply}
@@ -26,6 +26,9 @@ refused_again Stimulus = refl
 refused_again Dump = refl
 refused_again Report = refl
 refused_again State = refl
+refused_again Vcd = refl
+refused_again Map = refl
+refused_again Name = refl
 
 -- a status of work is no fault, no refusal, and not Words
 pub record IsPlain (status : Status) : Type 0 where
