@@ -1,0 +1,4 @@
+pub mod IdLemmas
+pub mod NetLemmas
+pub mod PlaceLemmas
+pub mod ValueLemmas

@@ -1,0 +1,6 @@
+use Rattle.bs_wave.proofs.WritingLemmas.{more_digits}
+use Rattle.bs_view.proofs.head.push_id.Goals as goal
+
+pub digits-preserved : goal.digits-preserved
+digits-preserved c =
+    more_digits _ c.digits.text.items c.push.new.self.items c.digits.left c.digits-test.true c.digits.invariant c.in_ok-push.ensures.items
