@@ -74,13 +74,15 @@ parities_told keys states steps bits =
     line (codes "choice parities")
     ++ (shares_text (chosen (length keys) 1 (parity_items (length keys) bits)) states steps ++ flat_map (xor_line keys) (parity_items (length keys) bits))
 
--- Two choices with what they tell apart of the states and steps of all runs. Those of the single flip-flops are chosen one after
--- another, each as the one that then tells the compared states apart best.
-pub record TellsProposal (raw : Parts) (stimulus : Stimulus) (bits : ℕ) (text : List ℕ) : Type 0 where
+-- Two choices with what they tell apart of states and steps. Those of the single flip-flops are chosen one after another, each as the
+-- one that then tells the compared states apart best.
+pub record TellsChoices (keys : List (List ℕ)) (states steps : List (List Bool)) (bits : ℕ) (text : List ℕ) : Type 0 where
   pub flops : List ℕ
-  pub best : IsGreedy (length raw.flops) (compared (states_looked (circuit_of raw) MAX_CYCLES (inputs_of stimulus))) bits flops
-  pub told : text
-      ≡ bits_told (flop_keys raw) (states_looked (circuit_of raw) MAX_CYCLES (inputs_of stimulus))
-      (steps_looked (circuit_of raw) MAX_CYCLES (inputs_of stimulus)) flops
-      ++ parities_told (flop_keys raw) (states_looked (circuit_of raw) MAX_CYCLES (inputs_of stimulus))
-      (steps_looked (circuit_of raw) MAX_CYCLES (inputs_of stimulus)) bits
+  pub best : IsGreedy (length keys) (compared states) bits flops
+  pub told : text ≡ bits_told keys states steps flops ++ parities_told keys states steps bits
+
+-- the same of the flip-flops of a netlist, and of the states and steps of all runs
+abbrev pub TellsProposal : Parts → Stimulus → ℕ → List ℕ → Type 0
+TellsProposal raw stimulus bits text =
+    TellsChoices (flop_keys raw) (states_looked (circuit_of raw) MAX_CYCLES (inputs_of stimulus))
+    (steps_looked (circuit_of raw) MAX_CYCLES (inputs_of stimulus)) bits text

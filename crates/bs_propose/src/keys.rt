@@ -1,5 +1,5 @@
 //! The keys of a netlist's flip-flops.
-ghost use Rattle.std.specs.Prelude.{◌≡◌, [], length, map, slice_index_or, IfOk};
+ghost use Rattle.std.specs.Prelude.{◌≡◌, ◌<◌, ◌^◌, [], length, map, slice_index_or, IfOk};
 ghost use Rattle.bs_net.specs.Netlist.{parts_of};
 ghost use Rattle.bs_propose.specs.Proposal.{flop_keys};
 
@@ -20,8 +20,11 @@ fn keys_of<'a>(alloc: Global, raw: &'a Raw) -> Result<Vec<&'a str>, NoMemory>
 }
 
 /// The keys of the flip-flops, in the order of a state's bits.
+#[tactic(auto, using(crate::proofs::KeyLemmas::keys_count))]
 pub(crate) fn flop_keys<'a>(alloc: Global, net: &'a Netlist) -> Result<Vec<&'a str>, NoMemory>
-    ensures { IfOk result (λ keys. map (λ s. s.now) keys.items ≡ flop_keys net.now.raw) }
+    ensures are { IfOk result (λ keys. map (λ s. s.now) keys.items ≡ flop_keys net.now.raw) }
+    ensures count { IfOk result (λ keys. length keys.items ≡ length net.now.raw.flops) }
+    ensures few { IfOk result (λ keys. length keys.items < 2 ^ 20) }
 {
     let keys = keys_of(alloc, net.raw())?;
     Ok(keys)

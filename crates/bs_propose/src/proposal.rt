@@ -3,7 +3,7 @@ ghost use Rattle.std.specs.Prelude.{◌≡◌, ◌<◌, ◌≤◌, ◌+◌, ◌^
 ghost use Rattle.bs_net.specs.Netlist.{circuit};
 ghost use Rattle.bs_scan.specs.ChoiceText.{chosen};
 ghost use Rattle.bs_propose.specs.Items.{AreWithin, IsLooked};
-ghost use Rattle.bs_propose.specs.Proposal.{bits_told, parities_told, shares_text, TellsProposal};
+ghost use Rattle.bs_propose.specs.Proposal.{bits_told, parities_told, shares_text, TellsChoices, TellsProposal};
 ghost use Rattle.bs_propose.specs.declared.rows.TheConstants.{MAX_ROWS};
 
 use crate::greedy::best_flops;
@@ -36,7 +36,7 @@ fn push_apart(
 }
 
 /// Appends the choice of the single flip-flops that tell states apart best.
-#[tactic(auto, using(crate::proofs::ItemLemmas::singles_within))]
+#[tactic(auto, using(crate::proofs::ItemLemmas::singles_within, crate::proofs::ProposalLemmas::bits_whole))]
 fn push_choice_of_bits(
     text: &mut Vec<u8>,
     keys: &[&str],
@@ -51,11 +51,12 @@ fn push_choice_of_bits(
     let items = singles(*text.allocator(), flops)?;
     push_line(text, b"choice bits")?;
     push_apart(text, keys.len(), items.slice(), states, steps)?;
-    push_bits(text, keys, flops)
+    push_bits(text, keys, flops)?;
+    Ok(())
 }
 
 /// Appends the choice of the parities of all flip-flops.
-#[tactic(auto, using(crate::proofs::ItemLemmas::parities_within))]
+#[tactic(auto, using(crate::proofs::ItemLemmas::parities_within, crate::proofs::ProposalLemmas::parities_whole))]
 fn push_choice_of_parities(
     text: &mut Vec<u8>,
     keys: &[&str],
@@ -71,7 +72,8 @@ fn push_choice_of_parities(
     let items = parity_items(*text.allocator(), keys.len(), bits)?;
     push_line(text, b"choice parities")?;
     push_apart(text, keys.len(), items.slice(), states, steps)?;
-    push_xors(text, keys, items.slice())
+    push_xors(text, keys, items.slice())?;
+    Ok(())
 }
 
 /// The text of both choices.
@@ -95,9 +97,28 @@ fn text_of(
     Ok(text)
 }
 
+/// Both choices of so many items, and what they tell apart of states and steps.
+#[tactic(auto, using(crate::proofs::ProposalLemmas::flops_within, crate::proofs::ProposalLemmas::tells))]
+fn choices_text(
+    alloc: Global,
+    keys: &[&str],
+    states: &[Bits],
+    steps: &[Bits],
+    bits: usize,
+) -> Result<Vec<u8>, NoMemory>
+    requires some { 0 < bits }
+    requires narrow { length keys.now < 2 ^ 20 }
+    requires looked { IsLooked (length keys.now) states.now steps.now }
+    ensures { IfOk result (λ text. TellsChoices (map (λ s. s.now) keys.now) states.now steps.now bits text.items) }
+{
+    let flops = best_flops(alloc, keys.len(), states, bits)?;
+    let text = text_of(alloc, keys, states, steps, flops.as_slice(), bits)?;
+    Ok(text)
+}
+
 /// A proposal of a signature with so many items: the single flip-flops that tell the states of the runs apart best, chosen one
 /// after another, and the parities of all flip-flops; each with what it tells apart of the runs' states and steps.
-#[tactic(auto, using(crate::proofs::ProposalLemmas::looked, crate::proofs::ProposalLemmas::flops_within, crate::proofs::KeyLemmas::keys_count))]
+#[tactic(auto, using(crate::proofs::ProposalLemmas::looked, crate::proofs::ProposalLemmas::moved))]
 pub fn proposal_text(
     alloc: Global,
     net: &Netlist,
@@ -111,7 +132,6 @@ pub fn proposal_text(
     let states = list_states(alloc, net, runs, MAX_CYCLES)?;
     let steps = list_steps(alloc, net, runs, MAX_CYCLES)?;
     let keys = flop_keys(alloc, net)?;
-    let flops = best_flops(alloc, net.width(), states.slice(), bits)?;
-    let text = text_of(alloc, keys.as_slice(), states.slice(), steps.slice(), flops.as_slice(), bits)?;
+    let text = choices_text(alloc, keys.as_slice(), states.slice(), steps.slice(), bits)?;
     Ok(text)
 }

@@ -97,12 +97,7 @@ fn viewed(
 }
 
 /// The waveform for viewers of states and inputs that are given as words.
-pub fn view(
-    alloc: Global,
-    circuit: &str,
-    states: &str,
-    inputs: &str,
-) -> Result<Vec<u8>, NoMemory> {
+pub fn view(alloc: Global, circuit: &str, states: &str, inputs: &str) -> Result<Vec<u8>, NoMemory> {
     let net = match netlist(alloc, circuit.as_bytes()) {
         Some(net) => net,
         None => return Ok(Vec::new(alloc)),

@@ -30,10 +30,7 @@ fn net_keys<'a>(alloc: Global, net: &'a Netlist) -> Result<Vec<&'a str>, NoMemor
 }
 
 /// The signals of the nets.
-pub(crate) fn net_signals<'a>(
-    alloc: Global,
-    net: &'a Netlist,
-) -> Result<Vec<Signal<'a>>, NoMemory>
+pub(crate) fn net_signals<'a>(alloc: Global, net: &'a Netlist) -> Result<Vec<Signal<'a>>, NoMemory>
     ensures { IfOk result (λ signals. AreSignals [] net.now.raw.names (map signal_in signals.items)) }
 {
     let keys = net_keys(alloc, net)?;

@@ -61,9 +61,10 @@ fn signal_values(alloc: Global, values: &[Value], places: &[u32]) -> Result<Vec<
 fn differs(before: &[Value], now: &[Value], places: &[u32]) -> bool
     ensures { result ≡ list_any (λ p. not (same_value (value_at before.now p) (value_at now.now p))) places.now }
 {
-    places
-        .iter()
-        .any(|place| !is_same(value_at(before, *place as usize), value_at(now, *place as usize)))
+    places.iter().any(|place| !is_same(
+        value_at(before, *place as usize),
+        value_at(now, *place as usize),
+    ))
 }
 
 /// Whether a signal has another value than before, where there is a before.
