@@ -2,3 +2,4 @@ pub mod IdLemmas
 pub mod NetLemmas
 pub mod PlaceLemmas
 pub mod ValueLemmas
+pub mod HeadLemmas

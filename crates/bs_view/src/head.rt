@@ -75,5 +75,6 @@ pub(crate) fn push_head(text: &mut Vec<u8>, signals: &[Signal<'_>]) -> Result<()
     push_line(text, b"$scope module trace $end")?;
     push_variables(text, signals)?;
     push_line(text, b"$upscope $end")?;
-    push_line(text, b"$enddefinitions $end")
+    push_line(text, b"$enddefinitions $end")?;
+    Ok(())
 }
