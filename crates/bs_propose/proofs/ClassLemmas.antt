@@ -95,8 +95,10 @@ counts_more keys counts after i key before d lt is in_room counted was goes k sm
   where
     more : like (take (i + 1) keys) k ≡ like (take i keys) k + one_if (key == k)
     more = like_more keys i k key d lt is
+
     read : get_or after k 0 ≡ get_or (slice_set counts key (before + 1)) k 0
     read = ap (λ (t : List ℕ). get_or t k 0) goes
+
     by : (b : Bool) → (key == k) ≡ b → get_or after k 0 ≡ like (take (i + 1) keys) k
     by true e =
         let same : key ≡ k = eqb-true key k e in

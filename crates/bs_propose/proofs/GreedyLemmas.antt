@@ -173,10 +173,12 @@ module _ (width : ℕ) (rows : List (List Bool)) (steps : ℕ) (old : Begun) (un
     where
       wide : length (columns_of width rows) ≡ width
       wide = columns_count width rows (columns_of width rows) refl
+
       put : IsBest width rows old.flops found.flop
       put =
           best_of width rows (columns_of width rows) old.flops old.classes found wide
           (λ f there. shares_same width rows old.flops old.classes f under.classes (within f there)) least
+
       by : (b : Bool) → (i == length old.flops) ≡ b →
           IsBest width rows (take i (old.flops ++ found.flop ∷ [])) (get_or (old.flops ++ found.flop ∷ []) i 0)
       by true e =
@@ -223,7 +225,7 @@ pub grown : (width : ℕ) (rows columns : List (List Bool)) (steps count : ℕ) 
     count ≡ length rows → IsUnderWay width rows columns steps old → Grows count columns old new → IsUnderWay width rows columns (steps + 1) new
 grown width rows columns steps count old new e wide under grows =
     let P : List (List Bool) → Type 0 = λ (cs : List (List Bool)). IsUnderWay width rows cs steps old → Grows (length rows) cs old new →
-        IsUnderWay width rows cs (steps + 1) new in
+    IsUnderWay width rows cs (steps + 1) new in
     subst P (sym e) by under (subst (λ (n : ℕ). Grows n columns old new) wide grows)
   where
     by : IsUnderWay width rows (columns_of width rows) steps old → Grows (length rows) (columns_of width rows) old new →

@@ -32,103 +32,106 @@ none_placed first room e = record {
     nothing zero k = refl
     nothing (suc n) zero = refl
     nothing (suc n) (suc k) = nothing n k
+
     empty : (k : ℕ) → None ≡ get_or first k None
     empty k = sym (ap (λ (t : List (Option ℕ)). get_or t k None) e ∙ nothing room k)
 
 module _
-  (xs places : List ℕ)
-  (first : List (Option ℕ))
-  (x place : ℕ)
-  (are : ArePlaced xs places first)
-  (room : x < length first)
-  (is : place ≡ placed (get_or first x None) (length xs))
+    (xs places : List ℕ)
+    (first : List (Option ℕ))
+    (x place : ℕ)
+    (are : ArePlaced xs places first)
+    (room : x < length first)
+    (is : place ≡ placed (get_or first x None) (length xs))
   where
-  -- where the number is new, its place is its own
-  at_most : place ≤ length xs
-  at_most = by (get_or first x None) refl
-    where
-      by : (o : Option ℕ) → get_or first x None ≡ o → place ≤ length xs
-      by None e = omega (arith, is ∙ ap (λ (o : Option ℕ). placed o (length xs)) e)
-      by (Some p) e = omega (arith, is ∙ ap (λ (o : Option ℕ). placed o (length xs)) e, are.own x p e)
+    -- where the number is new, its place is its own
+    at_most : place ≤ length xs
+    at_most = by (get_or first x None) refl
+      where
+        by : (o : Option ℕ) → get_or first x None ≡ o → place ≤ length xs
+        by None e = omega (arith, is ∙ ap (λ (o : Option ℕ). placed o (length xs)) e)
+        by (Some p) e = omega (arith, is ∙ ap (λ (o : Option ℕ). placed o (length xs)) e, are.own x p e)
 
-  -- the number stands at its place
-  stands : get_or (xs ++ x ∷ []) place 0 ≡ x
-  stands = by (get_or first x None) refl
-    where
-      by : (o : Option ℕ) → get_or first x None ≡ o → get_or (xs ++ x ∷ []) place 0 ≡ x
-      by None e = seam xs x place (is ∙ ap (λ (o : Option ℕ). placed o (length xs)) e)
-      by (Some p) e =
-          let same : place ≡ p = is ∙ ap (λ (o : Option ℕ). placed o (length xs)) e in
-          ap (λ (k : ℕ). get_or (xs ++ x ∷ []) k 0) same ∙ (get_or_append_left xs (x ∷ []) 0 p (are.own x p e) ∙ are.back x p e)
+    -- the number stands at its place
+    stands : get_or (xs ++ x ∷ []) place 0 ≡ x
+    stands = by (get_or first x None) refl
+      where
+        by : (o : Option ℕ) → get_or first x None ≡ o → get_or (xs ++ x ∷ []) place 0 ≡ x
+        by None e = seam xs x place (is ∙ ap (λ (o : Option ℕ). placed o (length xs)) e)
+        by (Some p) e =
+            let same : place ≡ p = is ∙ ap (λ (o : Option ℕ). placed o (length xs)) e in
+            ap (λ (k : ℕ). get_or (xs ++ x ∷ []) k 0) same ∙ (get_or_append_left xs (x ∷ []) 0 p (are.own x p e) ∙ are.back x p e)
 
-  -- what the table says of a number
-  here : (k : ℕ) → x ≡ k → get_or (slice_set first x (Some place)) k None ≡ Some place
-  here k e = ap (λ (j : ℕ). get_or (slice_set first x (Some place)) j None) (sym e) ∙ get_or-set_same first x (Some place) None room
+    -- what the table says of a number
+    here : (k : ℕ) → x ≡ k → get_or (slice_set first x (Some place)) k None ≡ Some place
+    here k e = ap (λ (j : ℕ). get_or (slice_set first x (Some place)) j None) (sym e) ∙ get_or-set_same first x (Some place) None room
 
-  other : (k : ℕ) → (x == k) ≡ false → get_or (slice_set first x (Some place)) k None ≡ get_or first k None
-  other k e = get_or-set_other first x k (Some place) None (λ (same : k ≡ x). eqb-false x k e (sym same))
+    other : (k : ℕ) → (x == k) ≡ false → get_or (slice_set first x (Some place)) k None ≡ get_or first k None
+    other k e = get_or-set_other first x k (Some place) None (λ (same : k ≡ x). eqb-false x k e (sym same))
 
-  small_put : (i : ℕ) → i < length (xs ++ x ∷ []) → get_or (places ++ place ∷ []) i 0 < length (xs ++ x ∷ [])
-  small_put i lt = by (i == length xs) refl
-    where
-      longer : length (xs ++ x ∷ []) ≡ length xs + 1
-      longer = length-append xs (x ∷ [])
-      by : (b : Bool) → (i == length xs) ≡ b → get_or (places ++ place ∷ []) i 0 < length (xs ++ x ∷ [])
-      by true e = omega (arith, longer, seam places place i (eqb-true i (length xs) e ∙ sym are.wide), at_most)
-      by false e =
-          let before : i < length xs = omega (arith, lt, longer, eqb-false i (length xs) e) in
-          omega (arith, longer, get_or_append_left places (place ∷ []) 0 i (omega (arith, before, are.wide)), are.small i before)
+    small_put : (i : ℕ) → i < length (xs ++ x ∷ []) → get_or (places ++ place ∷ []) i 0 < length (xs ++ x ∷ [])
+    small_put i lt = by (i == length xs) refl
+      where
+        longer : length (xs ++ x ∷ []) ≡ length xs + 1
+        longer = length-append xs (x ∷ [])
 
-  noted_put : (i : ℕ) → i < length (xs ++ x ∷ []) →
-      get_or (slice_set first x (Some place)) (get_or (xs ++ x ∷ []) i 0) None ≡ Some (get_or (places ++ place ∷ []) i 0)
-  noted_put i lt = by (i == length xs) refl
-    where
-      by_key : i < length xs → (b : Bool) → (x == get_or xs i 0) ≡ b →
-          get_or (slice_set first x (Some place)) (get_or xs i 0) None ≡ Some (get_or places i 0)
-      by_key before true e =
-          let same : x ≡ get_or xs i 0 = eqb-true x (get_or xs i 0) e in
-          let found : get_or first x None ≡ Some (get_or places i 0) = ap (λ (k : ℕ). get_or first k None) same ∙ are.noted i before in
-          here (get_or xs i 0) same ∙ ap (λ (p : ℕ). Some p) (is ∙ ap (λ (o : Option ℕ). placed o (length xs)) found)
-      by_key before false e = other (get_or xs i 0) e ∙ are.noted i before
-      by : (b : Bool) → (i == length xs) ≡ b →
-          get_or (slice_set first x (Some place)) (get_or (xs ++ x ∷ []) i 0) None ≡ Some (get_or (places ++ place ∷ []) i 0)
-      by true e =
-          let at : i ≡ length xs = eqb-true i (length xs) e in
-          here (get_or (xs ++ x ∷ []) i 0) (sym (seam xs x i at)) ∙ ap (λ (p : ℕ). Some p) (sym (seam places place i (at ∙ sym are.wide)))
-      by false e =
-          let before : i < length xs = omega (arith, lt, length-append xs (x ∷ []), eqb-false i (length xs) e) in
-          ap (λ (k : ℕ). get_or (slice_set first x (Some place)) k None) (get_or_append_left xs (x ∷ []) 0 i before)
-          ∙ (by_key before (x == get_or xs i 0) refl
-          ∙ ap (λ (p : ℕ). Some p) (sym (get_or_append_left places (place ∷ []) 0 i (omega (arith, before, are.wide)))))
+        by : (b : Bool) → (i == length xs) ≡ b → get_or (places ++ place ∷ []) i 0 < length (xs ++ x ∷ [])
+        by true e = omega (arith, longer, seam places place i (eqb-true i (length xs) e ∙ sym are.wide), at_most)
+        by false e =
+            let before : i < length xs = omega (arith, lt, longer, eqb-false i (length xs) e) in
+            omega (arith, longer, get_or_append_left places (place ∷ []) 0 i (omega (arith, before, are.wide)), are.small i before)
 
-  own_put : (k p : ℕ) → get_or (slice_set first x (Some place)) k None ≡ Some p → p < length (xs ++ x ∷ [])
-  own_put k p h = by (x == k) refl
-    where
-      by : (b : Bool) → (x == k) ≡ b → p < length (xs ++ x ∷ [])
-      by true e =
-          omega (arith, length-append xs (x ∷ []), some_same place p (sym (here k (eqb-true x k e)) ∙ h), at_most)
-      by false e = omega (arith, length-append xs (x ∷ []), are.own k p (sym (other k e) ∙ h))
+    noted_put : (i : ℕ) → i < length (xs ++ x ∷ []) →
+        get_or (slice_set first x (Some place)) (get_or (xs ++ x ∷ []) i 0) None ≡ Some (get_or (places ++ place ∷ []) i 0)
+    noted_put i lt = by (i == length xs) refl
+      where
+        by_key : i < length xs → (b : Bool) → (x == get_or xs i 0) ≡ b →
+            get_or (slice_set first x (Some place)) (get_or xs i 0) None ≡ Some (get_or places i 0)
+        by_key before true e =
+            let same : x ≡ get_or xs i 0 = eqb-true x (get_or xs i 0) e in
+            let found : get_or first x None ≡ Some (get_or places i 0) = ap (λ (k : ℕ). get_or first k None) same ∙ are.noted i before in
+            here (get_or xs i 0) same ∙ ap (λ (p : ℕ). Some p) (is ∙ ap (λ (o : Option ℕ). placed o (length xs)) found)
+        by_key before false e = other (get_or xs i 0) e ∙ are.noted i before
 
-  back_put : (k p : ℕ) → get_or (slice_set first x (Some place)) k None ≡ Some p → get_or (xs ++ x ∷ []) p 0 ≡ k
-  back_put k p h = by (x == k) refl
-    where
-      by : (b : Bool) → (x == k) ≡ b → get_or (xs ++ x ∷ []) p 0 ≡ k
-      by true e =
-          let same : place ≡ p = some_same place p (sym (here k (eqb-true x k e)) ∙ h) in
-          ap (λ (j : ℕ). get_or (xs ++ x ∷ []) j 0) (sym same) ∙ (stands ∙ eqb-true x k e)
-      by false e =
-          let old : get_or first k None ≡ Some p = sym (other k e) ∙ h in
-          get_or_append_left xs (x ∷ []) 0 p (are.own k p old) ∙ are.back k p old
+        by : (b : Bool) → (i == length xs) ≡ b →
+            get_or (slice_set first x (Some place)) (get_or (xs ++ x ∷ []) i 0) None ≡ Some (get_or (places ++ place ∷ []) i 0)
+        by true e =
+            let at : i ≡ length xs = eqb-true i (length xs) e in
+            here (get_or (xs ++ x ∷ []) i 0) (sym (seam xs x i at)) ∙ ap (λ (p : ℕ). Some p) (sym (seam places place i (at ∙ sym are.wide)))
+        by false e =
+            let before : i < length xs = omega (arith, lt, length-append xs (x ∷ []), eqb-false i (length xs) e) in
+            ap (λ (k : ℕ). get_or (slice_set first x (Some place)) k None) (get_or_append_left xs (x ∷ []) 0 i before)
+            ∙ (by_key before (x == get_or xs i 0) refl
+            ∙ ap (λ (p : ℕ). Some p) (sym (get_or_append_left places (place ∷ []) 0 i (omega (arith, before, are.wide)))))
 
-  -- one number more
-  put : ArePlaced (xs ++ x ∷ []) (places ++ place ∷ []) (slice_set first x (Some place))
-  put = record {
-    wide = omega (arith, length-append xs (x ∷ []), length-append places (place ∷ []), are.wide);
-    small = small_put;
-    noted = noted_put;
-    own = own_put;
-    back = back_put;
-  }
+    own_put : (k p : ℕ) → get_or (slice_set first x (Some place)) k None ≡ Some p → p < length (xs ++ x ∷ [])
+    own_put k p h = by (x == k) refl
+      where
+        by : (b : Bool) → (x == k) ≡ b → p < length (xs ++ x ∷ [])
+        by true e =
+            omega (arith, length-append xs (x ∷ []), some_same place p (sym (here k (eqb-true x k e)) ∙ h), at_most)
+        by false e = omega (arith, length-append xs (x ∷ []), are.own k p (sym (other k e) ∙ h))
+
+    back_put : (k p : ℕ) → get_or (slice_set first x (Some place)) k None ≡ Some p → get_or (xs ++ x ∷ []) p 0 ≡ k
+    back_put k p h = by (x == k) refl
+      where
+        by : (b : Bool) → (x == k) ≡ b → get_or (xs ++ x ∷ []) p 0 ≡ k
+        by true e =
+            let same : place ≡ p = some_same place p (sym (here k (eqb-true x k e)) ∙ h) in
+            ap (λ (j : ℕ). get_or (xs ++ x ∷ []) j 0) (sym same) ∙ (stands ∙ eqb-true x k e)
+        by false e =
+            let old : get_or first k None ≡ Some p = sym (other k e) ∙ h in
+            get_or_append_left xs (x ∷ []) 0 p (are.own k p old) ∙ are.back k p old
+
+    -- one number more
+    put : ArePlaced (xs ++ x ∷ []) (places ++ place ∷ []) (slice_set first x (Some place))
+    put = record {
+      wide = omega (arith, length-append xs (x ∷ []), length-append places (place ∷ []), are.wide);
+      small = small_put;
+      noted = noted_put;
+      own = own_put;
+      back = back_put;
+    }
 
 pub placed_more : (keys places after : List ℕ) (first table : List (Option ℕ)) (i key place d : ℕ) → i < length keys → key ≡ get_or keys i d →
     key < length first → ArePlaced (take i keys) places first → place ≡ placed (get_or first key None) i → table ≡ slice_set first key (Some place) →
@@ -157,6 +160,7 @@ renumbered keys places first are = record {
         default [] k d h = absurd (omega (arith, h))
         default (p ∷ ps) zero d h = refl
         default (p ∷ ps) (suc k) d h = default ps k d (omega (arith, h))
+
     same_at : (i j : ℕ) → i < length keys → j < length keys → (get_or places i 0 == get_or places j 0) ≡ (get_or keys i 0 == get_or keys j 0)
     same_at i j hi hj = by (get_or keys i 0 == get_or keys j 0) refl
       where

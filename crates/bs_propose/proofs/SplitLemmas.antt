@@ -177,17 +177,22 @@ shares_same width rows flops classes flop are within =
   where
     keys : List ℕ
     keys = split_keys classes (get_or (columns_of width rows) flop [])
+
     sigs : List (List Bool)
     sigs = map (signature (singles width (flops ++ flop ∷ []))) rows
+
     keys_count : length keys ≡ length rows
     keys_count = keys_wide classes (get_or (columns_of width rows) flop []) ∙ are.wide
+
     wide : length keys ≡ length sigs
     wide = keys_count ∙ sym (length-map rows (signature (singles width (flops ++ flop ∷ []))))
+
     sig_at : (i : ℕ) → i < length rows → row_bits (columns_of width rows) (flops ++ flop ∷ []) i ≡ get_or sigs i []
     sig_at i lt =
         row_of width rows i lt (flops ++ flop ∷ []) within
         ∙ (sym (signature_single (get_or rows i []) (flops ++ flop ∷ []))
         ∙ sym (get_or-map (signature (singles width (flops ++ flop ∷ []))) rows i [] [] lt))
+
     pair : (i j : ℕ) → i < length rows → j < length rows → (get_or keys i 0 == get_or keys j 0) ≡ bits_eq (get_or sigs i []) (get_or sigs j [])
     pair i j hi hj =
         keys_same (length rows) (columns_of width rows) flops classes flop are i j hi hj ∙ (λ t. bits_eq (sig_at i hi t) (sig_at j hj t))
