@@ -17,42 +17,42 @@ pub fn lemma_text(alloc: Global, id: u64, variables: u64) -> Result<Vec<u8>, Fai
 }
 
 /// Texts that are lines.
-const LINES: [&[u8]; 9] = [
-    b"s",
-    b"7 -5 -4 0 4 1 6 0",
-    b"18446744073709551615 1073741823 0 1 0",
-    b"10 0 5 0",
-    b"b 6 -5 3 0",
-    b"e 7",
-    b"r 8",
-    b"d 6 7 0",
-    b"d 9 0",
+const LINES: [&str; 9] = [
+    "s",
+    "7 -5 -4 0 4 1 6 0",
+    "18446744073709551615 1073741823 0 1 0",
+    "10 0 5 0",
+    "b 6 -5 3 0",
+    "e 7",
+    "r 8",
+    "d 6 7 0",
+    "d 9 0",
 ];
 
 /// Texts that are none.
-const OTHERS: [&[u8]; 22] = [
-    b"",
-    b"s ",
-    b" s",
-    b"s 1",
-    b"t 1",
-    b"r 08",
-    b"r 0",
-    b"r",
-    b"r 8 9",
-    b"r +8",
-    b"r  8",
-    b"r 18446744073709551616",
-    b"7 -5 0 0",
-    b"7 -5 0 1",
-    b"7 -5 0 1 0 0",
-    b"7 1073741824 0 1 0",
-    b"7 -0 0 1 0",
-    b"7 --5 0 1 0",
-    b"b 6 0",
-    b"b 6 -5 3",
-    b"d 0",
-    b"d 6 7",
+const OTHERS: [&str; 22] = [
+    "",
+    "s ",
+    " s",
+    "s 1",
+    "t 1",
+    "r 08",
+    "r 0",
+    "r",
+    "r 8 9",
+    "r +8",
+    "r  8",
+    "r 18446744073709551616",
+    "7 -5 0 0",
+    "7 -5 0 1",
+    "7 -5 0 1 0 0",
+    "7 1073741824 0 1 0",
+    "7 -0 0 1 0",
+    "7 --5 0 1 0",
+    "b 6 0",
+    "b 6 -5 3",
+    "d 0",
+    "d 6 7",
 ];
 
 /// Whether a text is a line that has it again.
@@ -68,10 +68,10 @@ fn is_written_back(alloc: Global, text: &[u8]) -> Result<bool, NoMemory> {
 fn lines_are_read_and_written_back(rt: HostRuntime) -> Result<(), Fail> {
     let alloc = rt.alloc();
     for text in LINES {
-        assert!(rt; is_written_back(alloc, text)?);
+        assert!(rt; is_written_back(alloc, text.as_bytes())?);
     }
     for text in OTHERS {
-        assert!(rt; Line::read(alloc, text)?.is_none());
+        assert!(rt; Line::read(alloc, text.as_bytes())?.is_none());
     }
     Ok(())
 }

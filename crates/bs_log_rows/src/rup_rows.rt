@@ -1,7 +1,7 @@
 //! Logs of one step and of two, each with one line changed, and their verdicts.
 use crate::log_rows::lemma_text;
 use bs_bits::{List, NoMemory};
-use bs_clause::{Clauses, Lit, Lits, Var};
+use bs_clause::{Clauses, Lit, Lits, VARIABLE_LIMIT, Var};
 use bs_log::{Line, Log};
 use bs_rup::{Verdict, Why, check};
 use std::alloc::Global;
@@ -27,7 +27,7 @@ const LINES: [&[u8]; 14] = [
 
 fn literal(number: i32) -> Lit {
     let variable = number.unsigned_abs();
-    if 1 <= variable && variable < 1 << 30 {
+    if 1 <= variable && variable < VARIABLE_LIMIT {
         Lit::new(Var(variable), number > 0)
     } else {
         Lit::new(Var(1), true)
