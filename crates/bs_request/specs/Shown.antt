@@ -7,7 +7,7 @@ use Rattle.bs_request.specs.declared.given.Progress.{Progress as CodeTaken}
 use Rattle.bs_request.specs.declared.request.TraceRequest.{TraceRequest as CodeTraceRequest}
 use Rattle.bs_request.specs.declared.request.StimulusRequest.{StimulusRequest as CodeStimulusRequest}
 use Rattle.bs_request.specs.declared.request.WaveRequest.{WaveRequest as CodeWaveRequest}
-use Rattle.bs_request.specs.declared.request.SignatureRequest.{SignatureRequest as CodeSignatureRequest}
+use Rattle.bs_request.specs.declared.proposed.SignatureRequest.{SignatureRequest as CodeSignatureRequest}
 use Rattle.bs_request.specs.declared.request.Request.{Request as CodeRequest}
 use Rattle.bs_request.specs.declared.request.Request.TheVariants as R
 use Rattle.bs_request.specs.Given.{Setting, Given, Progress}

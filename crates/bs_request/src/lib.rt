@@ -4,11 +4,11 @@
 mod flags;
 mod given;
 mod limits;
+mod proposed;
 mod request;
 mod signature;
 mod stimulus;
 
 pub use limits::MAX_BITS;
-pub use request::{
-    Request, SignatureRequest, StimulusRequest, TraceRequest, WaveRequest, read_request,
-};
+pub use proposed::SignatureRequest;
+pub use request::{Request, StimulusRequest, TraceRequest, WaveRequest, read_request};

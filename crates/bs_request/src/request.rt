@@ -9,6 +9,7 @@ ghost use Rattle.bs_request.specs.Shown.{given_in, setting_of, shown_request};
 
 use crate::flags::{Flag, is_flag};
 use crate::given::{Given, Setting, read_given};
+use crate::proposed::SignatureRequest;
 use crate::signature::signature_request;
 use crate::stimulus::stimulus_request;
 use std::alloc::{AllocError, Global};
@@ -39,14 +40,6 @@ pub struct StimulusRequest<'a> {
 pub struct WaveRequest<'a> {
     pub netlist: &'a str,
     pub report: &'a str,
-}
-
-/// `signature`: the names of its files, and how many items the signature is to have.
-#[derive(Drop)]
-pub struct SignatureRequest<'a> {
-    pub netlist: &'a str,
-    pub runs: &'a str,
-    pub items: u64,
 }
 
 /// What a command line asks to be told.

@@ -1,5 +1,5 @@
 //! The request of `signature`.
-ghost use Rattle.std.specs.Prelude.{◌≡◌, map, option_map};
+ghost use Rattle.std.specs.Prelude.{◌≡◌, ◌<◌, map, option_map, IfSome};
 ghost use Rattle.std.specs.List.{list_all};
 ghost use Rattle.bs_request.specs.declared.flags.Flag.TheVariants.{Bits as TheBits};
 ghost use Rattle.bs_request.specs.Flags.{is_flag};
@@ -9,7 +9,8 @@ ghost use Rattle.bs_request.specs.Shown.{given_in, setting_of, shown_request};
 use crate::flags::{Flag, is_flag};
 use crate::given::{Given, Setting};
 use crate::limits::MAX_BITS;
-use crate::request::{Request, SignatureRequest, times};
+use crate::proposed::SignatureRequest;
+use crate::request::{Request, times};
 use crate::stimulus::value_of;
 use bs_words::number_between;
 
@@ -32,7 +33,8 @@ fn are_for_signature(settings: &[Setting<'_>]) -> bool
 
 /// The number of items that a word is.
 fn items_in(word: Option<&str>) -> Option<u64>
-    ensures { result ≡ items_in (option_map (λ s. s.now) word.entry) }
+    ensures value { result ≡ items_in (option_map (λ s. s.now) word.entry) }
+    ensures some { IfSome result (λ items. 0 < items) }
 {
     match word {
         Some(word) => number_between(1, MAX_BITS, word),
@@ -42,6 +44,7 @@ fn items_in(word: Option<&str>) -> Option<u64>
 
 /// The request of `signature` by what its words say.
 fn signature_at<'a>(positions: &[&'a str], items: Option<u64>) -> Option<Request<'a>>
+    requires { IfSome items (λ items. 0 < items) }
     ensures { shown_request result ≡ signature_of (map (λ s. s.now) positions.now) items }
 {
     match (positions, items) {
