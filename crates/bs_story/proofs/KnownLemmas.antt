@@ -1,9 +1,10 @@
 -- Names that are asked for, one by one.
-use Rattle.std.proofs.Common.{◌≡◌, ℕ, ◌<◌, ◌≤◌, ◌+◌, ◌==◌, Bool, true, false, not, ◌||◌, List, [], ◌∷◌, ◌++◌, length, map, drop, get_or}
+use Rattle.std.proofs.Common.{◌≡◌, ℕ, suc, arith, ◌<◌, ◌≤◌, ◌+◌, ◌==◌, Bool, true, false, not, ◌||◌, List, [], ◌∷◌, ◌++◌, length, map, drop, get_or}
 use Rattle.std.proofs.Common.{Option, Some, None, refl, ap, sym, ◌∙◌}
 use Rattle.std.specs.Prelude.{if◌then◌else◌}
 use Rattle.std.specs.Borrow.{Bor}
 use Rattle.std.specs.List.{find}
+use Rattle.std.proofs.lemmas.Bool.{ne_eqb}
 use Rattle.std.proofs.lemmas.List.{drop_more, drop_all, length-map}
 use Rattle.bs_names.specs.Keys.{key_parts}
 use Rattle.bs_names.specs.Signals.{Member, is_named, member_in, member_of, members_from, members_of}
@@ -11,7 +12,7 @@ use Rattle.bs_names.specs.declared.signal.Member.{Member as CodeMember}
 use Rattle.bs_story.specs.Known.{has_named}
 
 one_more : (b : Bool) (m : Member) (ms : List Member) → not (length ((if b || false then m ∷ [] else []) ++ ms) == 0) ≡ b || not (length ms == 0)
-one_more true m ms = refl
+one_more true m ms = ap not (ne_eqb (suc (length ms)) 0 (λ e. omega (arith, e)))
 one_more false m ms = refl
 
 some_from : (name : List ℕ) (place : ℕ) (keys : List (List ℕ)) → not (length (members_from (name ∷ []) place keys) == 0) ≡ has_named keys name
