@@ -13,12 +13,16 @@ report_usage =
     line (codes "usage: backspace_inspect trace NETLIST REPORT [--all] [--only NAME ..]")
     ++ line (codes "usage: backspace_inspect steps REPORT")
 
+unfoldable pub run_usage : List ℕ
+run_usage =
+    line (codes "usage: backspace_inspect stimulus NETLIST VCD --clock NAME [--scope PATH] [--map FILE]")
+
 unfoldable pub other_usage : List ℕ
 other_usage = line (codes "usage: backspace_inspect help") ++ line (codes "usage: backspace_inspect version")
 
 -- a line for each command
 abbrev pub usage_text : List ℕ
-usage_text = netlist_usage ++ (report_usage ++ other_usage)
+usage_text = netlist_usage ++ (report_usage ++ (run_usage ++ other_usage))
 
 unfoldable pub version_text : List ℕ
 version_text = line (codes "backspace_inspect 1")

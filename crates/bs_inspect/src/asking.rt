@@ -2,18 +2,20 @@
 ghost use Rattle.std.specs.Prelude.{◌≡◌, Some};
 ghost use Rattle.bs_job.specs.Prepared.{Prepared};
 ghost use Rattle.bs_entry.specs.Refusals.{CheckSays};
-ghost use Rattle.bs_request.specs.Request.{Flops as FlopsOf, Help as HelpOf, Inputs as InputsOf, Stats as StatsOf, Steps as StepsOf, Trace as TraceOf, Version as VersionOf};
-ghost use Rattle.bs_request.specs.Shown.{request_in, trace_in};
+ghost use Rattle.bs_request.specs.Request.{Flops as FlopsOf, Help as HelpOf, Inputs as InputsOf, Stats as StatsOf, Steps as StepsOf, Stimulus as StimulusOf, Trace as TraceOf, Version as VersionOf};
+ghost use Rattle.bs_request.specs.Shown.{request_in, stimulus_in, trace_in};
 ghost use Rattle.bs_inspect.specs.Finishes.{finishes};
 ghost use Rattle.bs_inspect.specs.Work.{plan_of};
 
 use crate::telling::{
-    tell_flops, tell_inputs, tell_stats, tell_steps, tell_trace, tell_usage, tell_version,
+    tell_flops, tell_inputs, tell_run, tell_stats, tell_steps, tell_trace, tell_usage,
+    tell_version,
 };
-use bs_intake::{take_netlist, take_report, take_traced};
+use bs_entry::take_netlist;
+use bs_intake::{Sampling, take_picked, take_report, take_simulated};
 use bs_job::{Reply, stopped};
 use bs_outside::{NoMemory, Shelf};
-use bs_request::{Request, TraceRequest};
+use bs_request::{Request, StimulusRequest, TraceRequest};
 use std::alloc::Global;
 
 /// The answer to `flops`.
@@ -64,8 +66,33 @@ fn trace<S: Shelf>(
 ) -> Result<Reply, NoMemory>
     ensures { Prepared CheckSays finishes S.held S.faults S.leads shelf.old shelf.new (Some (plan_of (TraceOf (trace_in asked.now)))) result }
 {
-    match take_traced(alloc, shelf, asked.netlist, asked.report) {
+    match take_picked(
+        alloc,
+        shelf,
+        asked.netlist,
+        asked.report,
+        asked.only.as_slice(),
+    ) {
         Ok(traced) => tell_trace(alloc, &traced, asked.all, asked.only.as_slice()),
+        Err(stop) => stopped(alloc, stop),
+    }
+}
+
+/// The answer to `stimulus`.
+fn stimulus<S: Shelf>(
+    alloc: Global,
+    shelf: &mut S,
+    asked: &StimulusRequest<'_>,
+) -> Result<Reply, NoMemory>
+    ensures { Prepared CheckSays finishes S.held S.faults S.leads shelf.old shelf.new (Some (plan_of (StimulusOf (stimulus_in asked.now)))) result }
+{
+    let sampling = Sampling {
+        vcd: asked.vcd,
+        clock: asked.clock,
+        scope: asked.scope,
+    };
+    match take_simulated(alloc, shelf, asked.netlist, asked.names, sampling) {
+        Ok(lines) => tell_run(alloc, &lines),
         Err(stop) => stopped(alloc, stop),
     }
 }
@@ -86,5 +113,6 @@ pub(crate) fn prepare<S: Shelf>(
         Request::Stats(netlist) => stats(alloc, shelf, netlist),
         Request::Steps(report) => steps(alloc, shelf, report),
         Request::Trace(asked) => trace(alloc, shelf, asked),
+        Request::Stimulus(asked) => stimulus(alloc, shelf, asked),
     }
 }

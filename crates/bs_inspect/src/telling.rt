@@ -2,9 +2,11 @@
 ghost use Rattle.std.specs.Prelude.{◌≡◌, map, IfOk};
 ghost use Rattle.bs_intake.specs.Taken.{traced_in};
 ghost use Rattle.bs_inspect.specs.Finishes.{finishes};
-ghost use Rattle.bs_inspect.specs.Work.{to_flops, to_help, to_inputs, to_stats, to_steps, to_trace, to_version};
+ghost use Rattle.bs_inspect.specs.Work.{to_flops, to_help, to_inputs, to_run, to_stats, to_steps, to_trace, to_version};
 
 use crate::usage::{usage_text, version_text};
+use bs_alias::run_text;
+use bs_bits::{Bits, List};
 use bs_intake::Traced;
 use bs_job::{Reply, Status};
 use bs_listing::{flops_text, inputs_text, stats_text};
@@ -90,6 +92,17 @@ pub(crate) fn tell_trace(
     ensures { IfOk result (λ answer. finishes (to_trace all (map (λ s. s.now) only.now) (traced_in traced.now)) answer.status answer.text.items) }
 {
     let text = trace_text(alloc, &traced.net, &traced.report, all, only)?;
+    Ok(Reply {
+        status: Status::Done,
+        text,
+    })
+}
+
+/// A run with these inputs.
+pub(crate) fn tell_run(alloc: Global, lines: &List<Bits>) -> Result<Reply, NoMemory>
+    ensures { IfOk result (λ answer. finishes (to_run lines.now) answer.status answer.text.items) }
+{
+    let text = run_text(alloc, lines.slice())?;
     Ok(Reply {
         status: Status::Done,
         text,

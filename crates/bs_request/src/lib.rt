@@ -4,5 +4,6 @@
 mod flags;
 mod given;
 mod request;
+mod stimulus;
 
-pub use request::{Request, TraceRequest, read_request};
+pub use request::{Request, StimulusRequest, TraceRequest, read_request};

@@ -3,12 +3,13 @@ ghost use Rattle.std.specs.Prelude.{◌≡◌, ◌||◌, map, string_bytes, opti
 ghost use Rattle.std.specs.List.{list_all, list_any};
 ghost use Rattle.bs_request.specs.declared.flags.Flag.TheVariants.{All as TheAll, Only as TheOnly};
 ghost use Rattle.bs_request.specs.Flags.{is_flag};
-ghost use Rattle.bs_request.specs.Request.{alone, are_for_trace, bare_request, command_request, is_alone, named, only_name, request_of, times, trace_of, trace_request, trace_words, values_of};
+ghost use Rattle.bs_request.specs.Request.{alone, are_for_trace, bare_request, command_request, is_alone, named, only_name, request_of, stimulus_request, times, trace_of, trace_request, trace_words, values_of};
 ghost use Rattle.bs_request.specs.Request.{Flops as FlopsOf, Help as HelpOf, Inputs as InputsOf, Stats as StatsOf, Steps as StepsOf, Version as VersionOf};
 ghost use Rattle.bs_request.specs.Shown.{given_in, setting_of, shown_request};
 
 use crate::flags::{Flag, is_flag};
 use crate::given::{Given, Setting, read_given};
+use crate::stimulus::stimulus_request;
 use std::alloc::{AllocError, Global};
 
 /// `trace`: the names of its files, whether it tells every flip-flop in each cycle, and the names that it tells alone,
@@ -19,6 +20,17 @@ pub struct TraceRequest<'a> {
     pub report: &'a str,
     pub all: bool,
     pub only: Vec<&'a str>,
+}
+
+/// `stimulus`: the names of its files, the name of the clock, the path of a scope and the file of the names that the inputs have
+/// in a simulation, where there are any.
+#[derive(Drop)]
+pub struct StimulusRequest<'a> {
+    pub netlist: &'a str,
+    pub vcd: &'a str,
+    pub clock: &'a str,
+    pub scope: Option<&'a str>,
+    pub names: Option<&'a str>,
 }
 
 /// What a command line asks to be told.
@@ -38,10 +50,12 @@ pub enum Request<'a> {
     Steps(&'a str),
     /// The trace of a report with the names of a netlist.
     Trace(TraceRequest<'a>),
+    /// A run of a stimulus out of the values of a simulator.
+    Stimulus(StimulusRequest<'a>),
 }
 
 /// How often an option is given.
-fn times(flag: Flag, settings: &[Setting<'_>]) -> usize
+pub fn times(flag: Flag, settings: &[Setting<'_>]) -> usize
     ensures { result ≡ times flag (map setting_of settings.now) }
 {
     settings.iter().filter(|s| is_flag(flag, s.flag)).count()
@@ -249,6 +263,9 @@ fn command_request<'a>(
 {
     if command == "trace" {
         return trace_request(alloc, given);
+    }
+    if command == "stimulus" {
+        return Ok(stimulus_request(given));
     }
     Ok(bare_request(command, given))
 }

@@ -2,3 +2,4 @@ pub mod KeyLemmas
 pub mod SignalLemmas
 pub mod PieceLemmas
 pub mod LemmaLemmas
+pub mod KnownLemmas

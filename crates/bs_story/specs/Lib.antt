@@ -1,4 +1,5 @@
 pub mod Keys
+pub mod Known
 pub mod Lemmas
 pub mod Signal
 pub mod Steps

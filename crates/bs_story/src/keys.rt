@@ -40,7 +40,7 @@ pub(crate) fn flop_keys<'a>(alloc: Global, net: &'a Netlist) -> Result<Vec<&'a s
 
 /// The keys of the data inputs, in the order of an input's bits.
 #[tactic(auto, using(crate::proofs::KeyLemmas::inputs_more, crate::proofs::KeyLemmas::inputs_few))]
-pub(crate) fn input_keys<'a>(alloc: Global, net: &'a Netlist) -> Result<Vec<&'a str>, NoMemory>
+pub fn input_keys<'a>(alloc: Global, net: &'a Netlist) -> Result<Vec<&'a str>, NoMemory>
     ensures are { IfOk result (λ keys. map (λ s. s.now) keys.items ≡ input_keys net.now.raw) }
     ensures few { IfOk result (λ keys. length keys.items < 2 ^ 32) }
 {

@@ -2,6 +2,7 @@
 #![tactic(auto)]
 
 mod keys;
+mod known;
 mod lemmas;
 mod moment;
 mod named;
@@ -9,5 +10,7 @@ mod signal;
 mod steps;
 mod trace;
 
+pub use keys::input_keys;
+pub use known::first_unknown;
 pub use steps::steps_text;
 pub use trace::trace_text;

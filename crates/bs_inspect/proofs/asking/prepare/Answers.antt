@@ -12,3 +12,6 @@ returns-in-Version g c = prepared_asked _ _ _ (ap request_in c.in-Version.is) (p
 
 pub returns-in-Trace : goal.returns-in-Trace
 returns-in-Trace g c = prepared_asked _ _ _ (ap request_in c.in-Trace.is) c.trace.ensures
+
+pub returns-in-Stimulus : goal.returns-in-Stimulus
+returns-in-Stimulus g c = prepared_asked _ _ _ (ap request_in c.in-Stimulus.is) c.stimulus.ensures
