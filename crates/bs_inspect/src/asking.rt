@@ -8,8 +8,7 @@ ghost use Rattle.bs_inspect.specs.Finishes.{finishes};
 ghost use Rattle.bs_inspect.specs.Work.{plan_of};
 
 use crate::telling::{
-    tell_flops, tell_inputs, tell_run, tell_stats, tell_steps, tell_trace, tell_usage,
-    tell_version,
+    tell_flops, tell_inputs, tell_run, tell_stats, tell_steps, tell_trace, tell_usage, tell_version,
 };
 use bs_entry::take_netlist;
 use bs_intake::{Sampling, take_picked, take_report, take_simulated};
