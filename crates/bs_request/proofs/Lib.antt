@@ -1,2 +1,1 @@
 pub mod SettingLemmas
-pub mod ValueLemmas
