@@ -3,6 +3,7 @@
 
 mod dropping;
 mod ending;
+mod room;
 mod solver;
 mod starting;
 

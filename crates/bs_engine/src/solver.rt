@@ -14,6 +14,7 @@ ghost use Rattle.bs_engine.specs.Starting.{HoldsStanding};
 
 use crate::dropping::Known;
 use crate::ending::{prepare, settle};
+use crate::room::roomy_watch;
 use crate::starting::{add_all, grow_to};
 use bs_arena::{Arena, Renaming};
 use bs_bits::List;
@@ -68,7 +69,7 @@ impl Solver {
           failed = false;
         }) }
     {
-        let mut watch = Watch::new(alloc, vars)?;
+        let mut watch = roomy_watch(alloc, vars, axioms.slice())?;
         let mut arena = Arena::new(alloc);
         let mut stock = Stock {
             shorts: Vec::new(alloc),

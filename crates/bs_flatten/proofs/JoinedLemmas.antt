@@ -14,9 +14,9 @@ use Rattle.bs_flat.specs.Design.{Join}
 use Rattle.bs_flat.specs.Meaning.{joined_with}
 use Rattle.bs_flat.specs.Flat.{constant_bit, is_bit}
 use Rattle.bs_flat.proofs.MemberLemmas.{ranged, filter_same}
-use Rattle.bs_flatten.specs.Blocks.{bits_of}
+use Rattle.bs_flatten.specs.Blocks.{joins_of_run}
 use Rattle.bs_flatten.specs.Nets.{is_free_constant, plain_count, constant_count}
-use Rattle.bs_flatten.specs.Constants.{entry, bit_at, bits_in, is_free, plain_left}
+use Rattle.bs_flatten.specs.Constants.{entry, bit_at, known_constants, is_free, plain_left}
 use Rattle.bs_flatten.specs.declared.blocks.Run.{Run}
 use Rattle.bs_flatten.specs.declared.constants.Bit.{Bit}
 use Rattle.bs_flatten.proofs.NetLemmas.{count_none, count_either, count_append}
@@ -149,26 +149,26 @@ count_bits b parts js (x ∷ xs) = by (constant_bit parts x) (count_bits b parts
         one true = ap suc e
         one false = e
 
-pub constants_counted : (b : Bool) (parts : Parts) (js : List Join) → constant_count b parts js ≡ length (filter (is_free b js) (bits_in parts))
+pub constants_counted : (b : Bool) (parts : Parts) (js : List Join) → constant_count b parts js ≡ length (filter (is_free b js) (known_constants parts))
 unfolding constant_count
 constants_counted b parts js = sym (count_bits b parts js (range_with_len 0 (length parts.names)))
 
 -- ---- runs
 
-pub run_width : (r : Run) → length (bits_of r) ≡ r.width
+pub run_width : (r : Run) → length (joins_of_run r) ≡ r.width
 run_width r = length-map (range_with_len 0 r.width) _ ∙ length-range_with_len 0 r.width
 
-pub widths_none : length (flat_map bits_of []) ≡ 0
+pub widths_none : length (flat_map joins_of_run []) ≡ 0
 widths_none = refl
 
 -- the widths of one run more
 pub widths_more : (rs : List Run) (i : ℕ) (d : Run) → i < length rs →
-    length (flat_map bits_of (take (i + 1) rs)) ≡ length (flat_map bits_of (take i rs)) + (get_or rs i d).width
+    length (flat_map joins_of_run (take (i + 1) rs)) ≡ length (flat_map joins_of_run (take i rs)) + (get_or rs i d).width
 widths_more rs i d lt =
-    ap (λ (us : List Run). length (flat_map bits_of us)) (take_more rs i d lt)
-    ∙ (ap length (flat_map-append bits_of (take i rs) (get_or rs i d ∷ []))
-    ∙ (length-append (flat_map bits_of (take i rs)) (bits_of (get_or rs i d) ++ [])
-    ∙ ap (λ n. length (flat_map bits_of (take i rs)) + n) (ap length (append-nil (bits_of (get_or rs i d))) ∙ run_width (get_or rs i d))))
+    ap (λ (us : List Run). length (flat_map joins_of_run us)) (take_more rs i d lt)
+    ∙ (ap length (flat_map-append joins_of_run (take i rs) (get_or rs i d ∷ []))
+    ∙ (length-append (flat_map joins_of_run (take i rs)) (joins_of_run (get_or rs i d) ++ [])
+    ∙ ap (λ n. length (flat_map joins_of_run (take i rs)) + n) (ap length (append-nil (joins_of_run (get_or rs i d))) ∙ run_width (get_or rs i d))))
 
 -- one more member in a count
 pub count_more : {X : Type 0} (t : X → Bool) (xs : List X) (i : ℕ) (d : X) → i < length xs →
@@ -184,7 +184,7 @@ count_more {X} t xs i d lt =
 -- the nets that are neither joined nor constants, by the list of constants
 pub plain_counted : (parts : Parts) (js : List Join) → AllByRecursion (λ (j : Join). j.inner.0 < length parts.names) js →
     IsDistinct nat_eq (map (λ (j : Join). j.inner.0) js) →
-    plain_count parts js ≡ plain_left (length parts.names) js (bits_in parts)
+    plain_count parts js ≡ plain_left (length parts.names) js (known_constants parts)
 plain_counted parts js a d =
     let all = nets_split parts js a d in
     let zeros = constants_counted false parts js in

@@ -8,7 +8,7 @@ use Rattle.std.proofs.Common.{cond, drop, length, get_or, Some, None}
 use Rattle.std.proofs.lemmas.List.{drop_more, drop_all}
 use Rattle.bs_flat.specs.Design.{Join}
 use Rattle.bs_flat.specs.Meaning.{joined_with}
-use Rattle.bs_flatten.specs.Blocks.{bits_of}
+use Rattle.bs_flatten.specs.Blocks.{joins_of_run}
 use Rattle.bs_flatten.specs.Constants.{covers}
 use Rattle.bs_flatten.specs.declared.blocks.Run.{Run}
 use Rattle.bs_flatten.proofs.JoinedLemmas.{joined_more}
@@ -73,18 +73,18 @@ from_place inner outer n a (suc w) =
         (λ (g : all ≡ false). f ∙ sym g)
         (cases_Bool all)
 
-run_joins : (r : Run) (n : ℕ) → is_some (joined_with (bits_of r) n) ≡ covers r n
+run_joins : (r : Run) (n : ℕ) → is_some (joined_with (joins_of_run r) n) ≡ covers r n
 run_joins r n =
     let low : r.inner + 0 ≡ r.inner = omega arith in
     from_place r.inner r.outer n 0 r.width
     ∙ (ap (λ k. nat_le k n && nat_lt (n - r.inner) (0 + r.width)) low ∙ ap (λ k. nat_le r.inner n && nat_lt (n - r.inner) k) (zero-add r.width))
 
 -- runs join a net where one of them covers it
-pub runs_join : (rs : List Run) (n : ℕ) → is_some (joined_with (flat_map bits_of rs) n) ≡ list_any (λ r. covers r n) rs
+pub runs_join : (rs : List Run) (n : ℕ) → is_some (joined_with (flat_map joins_of_run rs) n) ≡ list_any (λ r. covers r n) rs
 runs_join [] n = refl
 runs_join (r ∷ rs) n =
-    joined_append (bits_of r) (flat_map bits_of rs) n
-    ∙ (ap (λ b. b || is_some (joined_with (flat_map bits_of rs) n)) (run_joins r n) ∙ ap (λ b. covers r n || b) (runs_join rs n))
+    joined_append (joins_of_run r) (flat_map joins_of_run rs) n
+    ∙ (ap (λ b. b || is_some (joined_with (flat_map joins_of_run rs) n)) (run_joins r n) ∙ ap (λ b. covers r n || b) (runs_join rs n))
 
 -- ---- with which net
 
@@ -141,21 +141,21 @@ covered r n e =
     let both = and_parts (nat_le r.inner n) (nat_lt (n - r.inner) r.width) e in
     record { low = leb-true r.inner n both.0; high = ltb-true (n - r.inner) r.width both.1 }
 
-run_value : (r : Run) (n : ℕ) → covers r n ≡ true → joined_with (bits_of r) n ≡ Some (r.outer + (n - r.inner))
+run_value : (r : Run) (n : ℕ) → covers r n ≡ true → joined_with (joins_of_run r) n ≡ Some (r.outer + (n - r.inner))
 run_value r n e = let c = covered r n e in value_from r.inner r.outer n 0 r.width (omega (arith, c.low)) (omega (arith, c.high))
 
 -- the first run that covers a net says with which it is joined
 pub runs_here : (rs : List Run) (i n : ℕ) (d : Run) → i < length rs → covers (get_or rs i d) n ≡ true →
-    joined_with (flat_map bits_of (drop i rs)) n ≡ Some ((get_or rs i d).outer + (n - (get_or rs i d).inner))
+    joined_with (flat_map joins_of_run (drop i rs)) n ≡ Some ((get_or rs i d).outer + (n - (get_or rs i d).inner))
 runs_here rs i n d lt e =
-    ap (λ (us : List Run). joined_with (flat_map bits_of us) n) (drop_more rs i d lt)
-    ∙ joined_front (bits_of (get_or rs i d)) (flat_map bits_of (drop (i + 1) rs)) n _ (run_value (get_or rs i d) n e)
+    ap (λ (us : List Run). joined_with (flat_map joins_of_run us) n) (drop_more rs i d lt)
+    ∙ joined_front (joins_of_run (get_or rs i d)) (flat_map joins_of_run (drop (i + 1) rs)) n _ (run_value (get_or rs i d) n e)
 
 pub runs_past : (rs : List Run) (i n : ℕ) (d : Run) → i < length rs → covers (get_or rs i d) n ≡ false →
-    joined_with (flat_map bits_of (drop i rs)) n ≡ joined_with (flat_map bits_of (drop (i + 1) rs)) n
+    joined_with (flat_map joins_of_run (drop i rs)) n ≡ joined_with (flat_map joins_of_run (drop (i + 1) rs)) n
 runs_past rs i n d lt e =
-    ap (λ (us : List Run). joined_with (flat_map bits_of us) n) (drop_more rs i d lt)
-    ∙ joined_past (bits_of (get_or rs i d)) (flat_map bits_of (drop (i + 1) rs)) n (run_joins (get_or rs i d) n ∙ e)
+    ap (λ (us : List Run). joined_with (flat_map joins_of_run us) n) (drop_more rs i d lt)
+    ∙ joined_past (joins_of_run (get_or rs i d)) (flat_map joins_of_run (drop (i + 1) rs)) n (run_joins (get_or rs i d) n ∙ e)
 
-pub runs_none : (rs : List Run) (i n : ℕ) → length rs ≤ i → joined_with (flat_map bits_of (drop i rs)) n ≡ None
-runs_none rs i n le = ap (λ (us : List Run). joined_with (flat_map bits_of us) n) (drop_all i rs le)
+pub runs_none : (rs : List Run) (i n : ℕ) → length rs ≤ i → joined_with (flat_map joins_of_run (drop i rs)) n ≡ None
+runs_none rs i n le = ap (λ (us : List Run). joined_with (flat_map joins_of_run us) n) (drop_all i rs le)

@@ -9,8 +9,8 @@ use Rattle.bs_net.specs.declared.net.Const.{Const}
 use Rattle.bs_flat.specs.Design.{Design, Module, Instance, Join, no_module, no_instance, own, module_at}
 use Rattle.bs_flat.specs.Flat.{IsDesign, IsModule, IsInstance, flat_parts}
 use Rattle.bs_flat.specs.Counts.{sum_of}
-use Rattle.bs_flatten.specs.Blocks.{bits_of, own_of, instance_of, module_of, design_of}
-use Rattle.bs_flatten.specs.Constants.{bits_in}
+use Rattle.bs_flatten.specs.Blocks.{joins_of_run, own_of, instance_of, module_of, design_of}
+use Rattle.bs_flatten.specs.Constants.{known_constants}
 use Rattle.bs_flatten.specs.Order.{module_in}
 use Rattle.bs_flatten.specs.Nets.{weigh, sum_below}
 use Rattle.bs_flatten.specs.Sums.{weight_in, top_sum, IsFit, all_bits_of}
@@ -51,22 +51,22 @@ children_fit blocks top h =
 -- ---- a child
 
 pub known_is : (blocks : List Block) (bits : List (List Bit)) (m : ℕ) (b : Block) (known : List Bit) → bits ≡ all_bits_of blocks → m < length blocks →
-    b ≡ get_or blocks m b → known ≡ get_or bits m known → known ≡ bits_in (own_of b)
+    b ≡ get_or blocks m b → known ≡ get_or bits m known → known ≡ known_constants (own_of b)
 known_is blocks bits m b known e lt eb ek =
     ek
     ∙ (ap (λ (bs : List (List Bit)). get_or bs m known) e
-    ∙ (get_or-map (λ (u : Block). bits_in (own_of u)) blocks m b known lt ∙ ap (λ (u : Block). bits_in (own_of u)) (sym eb)))
+    ∙ (get_or-map (λ (u : Block). known_constants (own_of u)) blocks m b known lt ∙ ap (λ (u : Block). known_constants (own_of u)) (sym eb)))
 
 pub fit_within : (blocks : List Block) (c : Child) (b : Block) → IsFit blocks c → c.of < length blocks → b ≡ get_or blocks c.of b →
-    All (λ (j : Join). j.inner.0 < length b.names) (flat_map bits_of c.joins)
+    All (λ (j : Join). j.inner.0 < length b.names) (flat_map joins_of_run c.joins)
 fit_within blocks c b f lt e =
     let wide : length (module_in (map module_of blocks) c.of).own.names ≡ length b.names =
     ap (λ (m : Module). length m.own.names) (block_is blocks c.of b lt e) ∙ length-map b.names string_bytes in
-    subst (λ n. All (λ (j : Join). j.inner.0 < n) (flat_map bits_of c.joins)) wide f.within
+    subst (λ n. All (λ (j : Join). j.inner.0 < n) (flat_map joins_of_run c.joins)) wide f.within
 
 pub weight_is : (s : Sort) (blocks : List Block) (c : Child) (b : Block) → c.of < length blocks → b ≡ get_or blocks c.of b →
-    weight_in s (map module_of blocks) (instance_of c) ≡ weigh s (own_of b) (flat_map bits_of c.joins)
-weight_is s blocks c b lt e = ap (λ (m : Module). weigh s m.own (flat_map bits_of c.joins)) (block_is blocks c.of b lt e)
+    weight_in s (map module_of blocks) (instance_of c) ≡ weigh s (own_of b) (flat_map joins_of_run c.joins)
+weight_is s blocks c b lt e = ap (λ (m : Module). weigh s m.own (flat_map joins_of_run c.joins)) (block_is blocks c.of b lt e)
 
 -- what the rule of sums gives for a block
 pub sum_rule : (blocks : List Block) (m bound : ℕ) (b : Block) (g : Instance → ℕ) (v : ℕ → ℕ) → m < length blocks → b ≡ get_or blocks m b →

@@ -9,12 +9,12 @@ use Rattle.bs_flatten.specs.declared.blocks.Child.{Child}
 use Rattle.bs_flatten.specs.declared.blocks.Block.{Block}
 
 -- the joined bits of a run
-abbrev pub bits_of : Run → List Join
-bits_of r = map (λ k. record { outer = record { 0 = r.outer + k }; inner = record { 0 = r.inner + k } }) (range_with_len 0 r.width)
+abbrev pub joins_of_run : Run → List Join
+joins_of_run r = map (λ k. record { outer = record { 0 = r.outer + k }; inner = record { 0 = r.inner + k } }) (range_with_len 0 r.width)
 
 -- the instance that a child is
 abbrev pub instance_of : Child → Instance
-instance_of c = record { name = string_bytes c.name; of = c.of; joins = flat_map bits_of c.joins }
+instance_of c = record { name = string_bytes c.name; of = c.of; joins = flat_map joins_of_run c.joins }
 
 -- a module's own parts
 abbrev pub own_of : Block → Parts

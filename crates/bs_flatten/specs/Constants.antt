@@ -25,8 +25,8 @@ abbrev pub bit_at : Parts → ℕ → List Bit
 bit_at parts n = entry n (constant_bit parts n)
 
 -- the constants of a module in the order of its nets
-abbrev pub bits_in : Parts → List Bit
-bits_in parts = flat_map (bit_at parts) (range_with_len 0 (length parts.names))
+abbrev pub known_constants : Parts → List Bit
+known_constants parts = flat_map (bit_at parts) (range_with_len 0 (length parts.names))
 
 -- a constant with this bit that is joined with none of the parent
 abbrev pub is_free : Bool → List Join → Bit → Bool

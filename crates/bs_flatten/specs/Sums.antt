@@ -3,8 +3,8 @@ use Rattle.std.specs.Prelude.{ℕ, ◌<◌, ◌+◌, List, [], length, map, All,
 use Rattle.std.specs.List.{flat_map, IsDistinct}
 use Rattle.bs_flat.specs.Design.{Design, Module, Instance, own, module_at}
 use Rattle.bs_flat.specs.declared.limits.TheConstants.{MAX_DEPTH}
-use Rattle.bs_flatten.specs.Blocks.{bits_of, own_of, module_of}
-use Rattle.bs_flatten.specs.Constants.{bits_in}
+use Rattle.bs_flatten.specs.Blocks.{joins_of_run, own_of, module_of}
+use Rattle.bs_flatten.specs.Constants.{known_constants}
 use Rattle.bs_flatten.specs.Order.{module_in}
 use Rattle.bs_flatten.specs.Nets.{weigh, below_sum}
 use Rattle.bs_flatten.specs.declared.joined.Sort.{Sort}
@@ -22,9 +22,9 @@ top_sum s d = weigh s (own d []) [] + below_sum MAX_DEPTH d (weight_in s d.modul
 
 -- the joins of a child name nets of its block, each net once
 pub record IsFit (blocks : List Block) (c : Child) : Type 0 where
-  pub within : All (λ j. j.inner.0 < length (module_in (map module_of blocks) c.of).own.names) (flat_map bits_of c.joins)
-  pub once : IsDistinct nat_eq (map (λ j. j.inner.0) (flat_map bits_of c.joins))
+  pub within : All (λ j. j.inner.0 < length (module_in (map module_of blocks) c.of).own.names) (flat_map joins_of_run c.joins)
+  pub once : IsDistinct nat_eq (map (λ j. j.inner.0) (flat_map joins_of_run c.joins))
 
 -- the constants of all blocks
 abbrev pub all_bits_of : List Block → List (List Bit)
-all_bits_of blocks = map (λ b. bits_in (own_of b)) blocks
+all_bits_of blocks = map (λ b. known_constants (own_of b)) blocks

@@ -1,7 +1,7 @@
 //! Climbing from a net on a path to the uppermost net to which joins lead.
 ghost use Rattle.std.specs.Prelude.{◌≡◌, ◌<◌, length};
 ghost use Rattle.std.specs.List.{flat_map};
-ghost use Rattle.bs_flatten.specs.Blocks.{bits_of};
+ghost use Rattle.bs_flatten.specs.Blocks.{joins_of_run};
 ghost use Rattle.bs_flatten.specs.Climbing.{AreClimbable, IsRootOf, joins_of_node};
 
 use crate::blocks::{Block, Run};
@@ -20,7 +20,7 @@ fn runs_of<'a>(blocks: &'a [Block], nodes: &[Node], at: u32) -> &'a [Run]
     requires nodes { AreClimbable blocks.now nodes.now }
     requires there { at < length nodes.now }
     requires below { 0 < at }
-    ensures { flat_map bits_of result.now ≡ joins_of_node blocks.now nodes.now at }
+    ensures { flat_map joins_of_run result.now ≡ joins_of_node blocks.now nodes.now at }
 {
     let node = nodes[at as usize];
     let parent = nodes[node.parent as usize];

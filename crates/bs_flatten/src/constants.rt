@@ -90,7 +90,7 @@ fn known_bits(alloc: Global, table: &[Option<bool>]) -> Result<List<Bit>, NoMemo
 /// The constants of a block in the order of its nets.
 pub fn block_bits(alloc: Global, block: &Block) -> Result<List<Bit>, NoMemory>
     requires { All (λ k. k.net.0 < length block.now.names) block.now.consts }
-    ensures { IfOk result (λ bits. bits ≡ spec.bits_in (own_of block.now)) }
+    ensures { IfOk result (λ bits. bits ≡ spec.known_constants (own_of block.now)) }
 {
     let table = bit_table(alloc, block)?;
     let bits = known_bits(alloc, table.as_slice())?;
@@ -100,7 +100,7 @@ pub fn block_bits(alloc: Global, block: &Block) -> Result<List<Bit>, NoMemory>
 /// The constants of all blocks.
 pub fn all_bits(alloc: Global, blocks: &[Block]) -> Result<List<List<Bit>>, NoMemory>
     requires { All (λ b. All (λ k. k.net.0 < length b.names) b.consts) blocks.now }
-    ensures { IfOk result (λ all. all ≡ map (λ b. spec.bits_in (own_of b)) blocks.now) }
+    ensures { IfOk result (λ all. all ≡ map (λ b. spec.known_constants (own_of b)) blocks.now) }
 {
     let mut all = List::new(alloc);
     'each: for block in blocks {

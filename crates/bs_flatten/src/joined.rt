@@ -2,7 +2,7 @@
 ghost use Rattle.std.specs.Prelude.{◌≡◌, ◌<◌, ◌≤◌, ◌-◌, if◌then◌else◌, length, map, All, is_some, nat_eq, ◌+◌};
 ghost use Rattle.std.specs.List.{flat_map, list_any, IsDistinct};
 ghost use Rattle.bs_flat.specs.Meaning.{joined_with};
-ghost use Rattle.bs_flatten.specs.Blocks.{bits_of, own_of};
+ghost use Rattle.bs_flatten.specs.Blocks.{joins_of_run, own_of};
 ghost use Rattle.bs_flatten.specs.Constants as spec;
 ghost use Rattle.bs_flatten.specs.Nets.{weigh};
 
@@ -35,14 +35,14 @@ fn any_covers(runs: &[Run], net: usize) -> bool
 
 /// Whether runs join a net of their instance.
 fn is_joined(runs: &[Run], net: usize) -> bool
-    ensures { result ≡ is_some (joined_with (flat_map bits_of runs.now) net) }
+    ensures { result ≡ is_some (joined_with (flat_map joins_of_run runs.now) net) }
 {
     any_covers(runs, net)
 }
 
 /// How many of so many nets are left where runs join theirs.
 fn unjoined(nets: usize, runs: &[Run]) -> usize
-    ensures { result ≡ nets - length (flat_map bits_of runs.now) }
+    ensures { result ≡ nets - length (flat_map joins_of_run runs.now) }
 {
     let mut left = nets;
     'runs: for run in runs {
@@ -53,7 +53,7 @@ fn unjoined(nets: usize, runs: &[Run]) -> usize
 
 /// Whether a constant has a value and is joined by no run.
 fn is_free(bit: Bit, runs: &[Run], value: bool) -> bool
-    ensures { result ≡ spec.is_free value (flat_map bits_of runs.now) bit }
+    ensures { result ≡ spec.is_free value (flat_map joins_of_run runs.now) bit }
 {
     let joined = is_joined(runs, bit.net);
     !joined && value == bit.value
@@ -69,7 +69,7 @@ fn one_if(holds: bool) -> usize
 
 /// How many constants with a value runs do not join.
 fn free_constants(bits: &[Bit], runs: &[Run], value: bool) -> usize
-    ensures { result ≡ spec.free_count value (flat_map bits_of runs.now) bits.now }
+    ensures { result ≡ spec.free_count value (flat_map joins_of_run runs.now) bits.now }
 {
     let mut count = 0;
     'each: for bit in bits {
@@ -81,7 +81,7 @@ fn free_constants(bits: &[Bit], runs: &[Run], value: bool) -> usize
 
 /// How many of so many nets runs do not join, the constants aside.
 fn plain_nets(nets: usize, bits: &[Bit], runs: &[Run]) -> usize
-    ensures { result ≡ spec.plain_left nets (flat_map bits_of runs.now) bits.now }
+    ensures { result ≡ spec.plain_left nets (flat_map joins_of_run runs.now) bits.now }
 {
     let zeros = free_constants(bits, runs, false);
     let ones = free_constants(bits, runs, true);
@@ -92,10 +92,10 @@ fn plain_nets(nets: usize, bits: &[Bit], runs: &[Run]) -> usize
 
 /// How many nets of a block with these joins are of a sort.
 pub fn weight(sort: Sort, block: &Block, bits: &[Bit], runs: &[Run]) -> usize
-    requires bits { bits.now ≡ spec.bits_in (own_of block.now) }
-    requires within { All (λ j. j.inner.0 < length block.now.names) (flat_map bits_of runs.now) }
-    requires once { IsDistinct nat_eq (map (λ j. j.inner.0) (flat_map bits_of runs.now)) }
-    ensures { result ≡ weigh sort (own_of block.now) (flat_map bits_of runs.now) }
+    requires bits { bits.now ≡ spec.known_constants (own_of block.now) }
+    requires within { All (λ j. j.inner.0 < length block.now.names) (flat_map joins_of_run runs.now) }
+    requires once { IsDistinct nat_eq (map (λ j. j.inner.0) (flat_map joins_of_run runs.now)) }
+    ensures { result ≡ weigh sort (own_of block.now) (flat_map joins_of_run runs.now) }
 {
     match sort {
         Sort::Plain => plain_nets(block.names.len(), bits, runs),
@@ -114,7 +114,7 @@ fn outer_net(run: Run, net: usize) -> usize
 
 /// The net of the parent with which runs join a net of their instance, if one does.
 pub fn outer_of(runs: &[Run], net: usize) -> Option<usize>
-    ensures { result ≡ joined_with (flat_map bits_of runs.now) net }
+    ensures { result ≡ joined_with (flat_map joins_of_run runs.now) net }
 {
     'each: for run in runs {
         if covers(*run, net) {

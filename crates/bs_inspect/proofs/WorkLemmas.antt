@@ -14,7 +14,7 @@ use Rattle.bs_job.specs.Prepared.{Prepared, IsWork}
 use Rattle.bs_job.proofs.Preparing.{prepares_work}
 use Rattle.bs_entry.specs.Refusals.{CheckSays}
 use Rattle.bs_request.specs.Request.{Request}
-use Rattle.bs_inspect.specs.Work.{Work, plan_of, to_help, to_version, to_flops, to_inputs, to_stats, to_steps, to_trace}
+use Rattle.bs_inspect.specs.Work.{Work, plan_of, to_help, to_version, to_flops, to_inputs, to_stats, to_steps, to_trace, to_run, to_wave, to_signature}
 use Rattle.bs_inspect.specs.Finishes.{finishes}
 
 work_status : (work : Work) (status : Status) (text : List ℕ) → finishes work status text → is_work_status status ≡ true
@@ -25,6 +25,9 @@ work_status (to_inputs raw) status text done = ap is_work_status done.0 ∙ refl
 work_status (to_stats raw) status text done = ap is_work_status done.0 ∙ refl
 work_status (to_steps report) status text done = ap is_work_status done.0 ∙ refl
 work_status (to_trace all only traced) status text done = ap is_work_status done.0 ∙ refl
+work_status (to_run lines) status text done = ap is_work_status done.0 ∙ refl
+work_status (to_wave traced) status text done = ap is_work_status done.0 ∙ refl
+work_status (to_signature items exercised) status text done = ap is_work_status done.0 ∙ refl
 
 pub is_work : IsWork finishes
 is_work = record { status = work_status }

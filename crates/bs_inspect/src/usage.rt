@@ -1,6 +1,6 @@
 //! How words stand, and the version.
 ghost use Rattle.std.specs.Prelude.{◌≡◌, ◌++◌, IfOk, OnOk};
-ghost use Rattle.bs_inspect.specs.Usage.{netlist_usage, other_usage, report_usage, usage_text, version_text};
+ghost use Rattle.bs_inspect.specs.Usage.{netlist_usage, other_usage, report_usage, run_usage, usage_text, version_text};
 
 use bs_bits::{NoMemory, push_line};
 use std::alloc::Global;
@@ -24,7 +24,23 @@ fn push_report_usage(text: &mut Vec<u8>) -> Result<(), NoMemory>
         text,
         b"usage: backspace_inspect trace NETLIST REPORT [--all] [--only NAME ..]",
     )?;
-    push_line(text, b"usage: backspace_inspect steps REPORT")
+    push_line(text, b"usage: backspace_inspect steps REPORT")?;
+    push_line(text, b"usage: backspace_inspect wave NETLIST REPORT")
+}
+
+/// Appends the lines of the commands on runs.
+#[tactic(auto, unfolding(crate::specs::Usage::run_usage))]
+fn push_run_usage(text: &mut Vec<u8>) -> Result<(), NoMemory>
+    ensures { OnOk result (text.new.items ≡ text.old.items ++ run_usage) }
+{
+    push_line(
+        text,
+        b"usage: backspace_inspect stimulus NETLIST VCD --clock NAME [--scope PATH] [--map FILE]",
+    )?;
+    push_line(
+        text,
+        b"usage: backspace_inspect signature NETLIST STIMULUS --bits N",
+    )
 }
 
 /// Appends the lines of the other commands.
@@ -42,6 +58,7 @@ fn push_usage(text: &mut Vec<u8>) -> Result<(), NoMemory>
 {
     push_netlist_usage(text)?;
     push_report_usage(text)?;
+    push_run_usage(text)?;
     push_other_usage(text)
 }
 

@@ -1,2 +1,4 @@
+pub mod Words
 pub mod Fits
+pub mod Simulated
 pub mod Taken

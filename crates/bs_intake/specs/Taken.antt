@@ -2,11 +2,14 @@
 use Rattle.std.specs.Prelude.{ℕ, Bool, List}
 use Rattle.bs_net.specs.Parts.{Parts}
 use Rattle.bs_report.specs.declared.report.Report.{Report}
+use Rattle.bs_stim.specs.Runs.{Stimulus as Runs}
 use Rattle.bs_job.specs.declared.file.File.TheVariants as files
 use Rattle.bs_job.specs.Plan.{Plan, end, ◌>>=◌, read_as}
-use Rattle.bs_entry.specs.Entry.{netlist_of, report_of}
-use Rattle.bs_intake.specs.Fits.{fit_in}
-use Rattle.bs_intake.specs.declared.walks.Traced.{Traced as CodeTraced}
+use Rattle.bs_entry.specs.Entry.{netlist_of, report_of, stimulus_of}
+use Rattle.bs_entry.specs.Readings.{size_in}
+use Rattle.bs_intake.specs.Fits.{fit_in, known_in}
+use Rattle.bs_intake.specs.declared.ready.Traced.{Traced as CodeTraced}
+use Rattle.bs_intake.specs.declared.ready.Exercised.{Exercised as CodeExercised}
 
 -- a netlist's parts, and a report whose trace fits them
 pub record Traced : Type 0 where
@@ -23,3 +26,32 @@ traced_of netlist report = do
 
 abbrev pub traced_in : CodeTraced → Traced
 traced_in t = record { raw = t.net.raw; report = t.report }
+
+-- the same, and last whether the netlist has these names
+abbrev pub picked_of : (netlist report : List ℕ) → List (List ℕ) → Plan Parts Traced
+picked_of netlist report only = do
+  traced ← traced_of netlist report
+  known ← read_as files.Name (known_in traced.raw only)
+  end traced
+
+-- the same, and last whether a waveform of the trace is not too large
+abbrev pub charted_of : (netlist report : List ℕ) → Plan Parts Traced
+charted_of netlist report = do
+  traced ← traced_of netlist report
+  small ← read_as files.Report (size_in traced.raw traced.report)
+  end traced
+
+-- a netlist's parts, and recorded runs
+pub record Exercised : Type 0 where
+  pub raw : Parts
+  pub runs : Runs
+
+-- two files
+abbrev pub exercised_of : (netlist stimulus : List ℕ) → Plan Parts Exercised
+exercised_of netlist stimulus = do
+  raw ← netlist_of netlist
+  runs ← stimulus_of raw stimulus
+  end record { raw = raw; runs = runs }
+
+abbrev pub exercised_in : CodeExercised → Exercised
+exercised_in t = record { raw = t.net.raw; runs = t.runs }

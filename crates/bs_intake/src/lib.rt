@@ -1,8 +1,14 @@
 //! The files of a request: each is fetched, read and checked before the next, up to what they make ready or the first refusal.
 #![tactic(auto)]
 
+mod keys;
 mod readings;
+mod ready;
 mod refusals;
+mod simulated;
+mod values;
 mod walks;
 
-pub use walks::{Traced, take_netlist, take_report, take_traced};
+pub use ready::{Exercised, Traced};
+pub use simulated::{Sampling, take_simulated};
+pub use walks::{take_charted, take_exercised, take_picked, take_report};

@@ -1,49 +1,47 @@
-//! What a reader makes of the bytes of a file, with the words of its refusal.
-ghost use Rattle.std.specs.Prelude.{◌≡◌, ◌≤◌, ◌++◌, ◌==◌, length, true, not, codes, decimal, IfOk};
+//! What a reader makes of the bytes of a file, with the words of its refusal, and what two files have to do with each other.
+ghost use Rattle.std.specs.Prelude.{◌≡◌, ◌≤◌, ◌+◌, ◌==◌, length, true, not, map, All, IfOk};
 ghost use Rattle.std.specs.List.{position};
-ghost use Rattle.bs_net.specs.Netlist.{parts_of};
-ghost use Rattle.bs_job.specs.declared.limits.TheConstants.{MAX_NETLIST_BYTES, MAX_REPORT_BYTES};
+ghost use Rattle.bs_net.specs.Netlist.{circuit};
+ghost use Rattle.bs_job.specs.declared.limits.TheConstants.{MAX_REPORT_BYTES, MAX_STIMULUS_BYTES};
 ghost use Rattle.bs_job.specs.Walks.{Reads};
-ghost use Rattle.bs_entry.specs.Readings.{checked_in, netlist_in, report_read};
+ghost use Rattle.bs_entry.specs.Entry.{input_width};
+ghost use Rattle.bs_entry.specs.Readings.{is_drawable, report_read, size_in, stimulus_in};
 ghost use Rattle.bs_entry.specs.Refusals.{CheckSays};
-ghost use Rattle.bs_intake.specs.Fits.{fit_in, misfit};
+ghost use Rattle.bs_intake.specs.Fits.{fit_in, known_in, misfit};
 
-use crate::refusals::{check_refusal, netlist_text_refusal, place_refusal, report_refusal};
+use crate::refusals::{
+    name_refusal, numbered, report_refusal, stimulus_refusal, too_large_refusal,
+};
 use bs_bits::Bits;
+use bs_entry::MAX_WAVE_VALUES;
 use bs_job::Refusal;
-use bs_net::{Netlist, Raw};
+use bs_net::Netlist;
 use bs_report::Report;
+use bs_stim::Runs;
+use bs_story::first_unknown;
 use std::alloc::Global;
-
-/// A netlist that passes the check.
-pub fn read_netlist(alloc: Global, bytes: &[u8]) -> Result<Netlist, Refusal>
-    requires { length bytes.now ≤ MAX_NETLIST_BYTES }
-    ensures { Reads CheckSays (λ net. net.raw) (netlist_in bytes.now) result }
-{
-    match bs_verilog::read(alloc, bytes) {
-        Ok(raw) => check_netlist(alloc, raw),
-        Err(fault) => Err(netlist_text_refusal(alloc, fault)),
-    }
-}
-
-/// The netlist of parts that pass the check.
-fn check_netlist(alloc: Global, raw: Raw) -> Result<Netlist, Refusal>
-    ensures { Reads CheckSays (λ net. net.raw) (checked_in (parts_of raw)) result }
-{
-    match Netlist::check(alloc, raw) {
-        Ok(net) => Ok(net),
-        Err(refused) => Err(check_refusal(alloc, &refused.raw, &refused.fault)),
-    }
-}
 
 /// A report.
 pub fn read_report(alloc: Global, bytes: &[u8]) -> Result<Report, Refusal>
     requires { length bytes.now ≤ MAX_REPORT_BYTES }
-    ensures { Reads CheckSays (λ report. report) (report_read bytes.now) result }
+    ensures reads { Reads CheckSays (λ report. report) (report_read bytes.now) result }
+    ensures more { IfOk result (λ report. length report.states ≡ length report.inputs + 1) }
 {
     match Report::read(alloc, bytes) {
         Ok(report) => Ok(report),
         Err(fault) => Err(report_refusal(alloc, fault)),
+    }
+}
+
+/// The runs of a stimulus.
+pub fn read_stimulus(alloc: Global, bytes: &[u8], net: &Netlist) -> Result<Runs, Refusal>
+    requires { length bytes.now ≤ MAX_STIMULUS_BYTES }
+    ensures reads { Reads CheckSays (λ runs. runs) (stimulus_in (input_width net.now.raw) bytes.now) result }
+    ensures width { IfOk result (λ runs. runs.width ≡ length (circuit net.now).inputs) }
+{
+    match bs_stim::read(alloc, bytes, net.data_inputs().len()) {
+        Ok(runs) => Ok(runs),
+        Err(fault) => Err(stimulus_refusal(alloc, fault)),
     }
 }
 
@@ -55,14 +53,50 @@ fn misfit(width: usize, lists: &[Bits]) -> Option<usize>
 }
 
 /// Whether the trace of a report fits a netlist.
+#[tactic(auto, using(crate::proofs::FitLemmas::all_fit))]
 pub fn read_fit(alloc: Global, net: &Netlist, report: &Report) -> Result<(), Refusal>
-    ensures { Reads CheckSays (λ _. true) (fit_in net.now.raw report.now) result }
+    ensures reads { Reads CheckSays (λ _. true) (fit_in net.now.raw report.now) result }
+    ensures states { IfOk result (λ _. All (λ s. length s ≡ length (circuit net.now).flops) report.now.states) }
+    ensures inputs { IfOk result (λ _. All (λ x. length x ≡ length (circuit net.now).inputs) report.now.inputs) }
 {
     if let Some(place) = misfit(net.width(), report.states.slice()) {
-        return Err(place_refusal(alloc, b"TraceState ", place));
+        return Err(numbered(alloc, b"TraceState ", place as u64));
     }
     if let Some(place) = misfit(net.data_inputs().len(), report.inputs.slice()) {
-        return Err(place_refusal(alloc, b"TraceInput ", place));
+        return Err(numbered(alloc, b"TraceInput ", place as u64));
     }
     Ok(())
+}
+
+/// Whether a netlist has these names.
+pub fn read_known(alloc: Global, net: &Netlist, only: &[&str]) -> Result<(), Refusal>
+    ensures { Reads CheckSays (λ _. true) (known_in net.now.raw (map (λ s. s.now) only.now)) result }
+{
+    match first_unknown(alloc, net, only) {
+        Ok(None) => Ok(()),
+        Ok(Some(name)) => Err(name_refusal(alloc, name)),
+        Err(_) => Err(Refusal::NoMemory),
+    }
+}
+
+/// Whether a waveform of the report's trace has few enough values.
+fn is_drawable(net: &Netlist, report: &Report) -> bool
+    ensures { result ≡ is_drawable net.now.raw report.now }
+{
+    let nets = u64::from(net.raw().names.len());
+    match nets.checked_mul(report.states.len() as u64) {
+        Some(values) => values <= MAX_WAVE_VALUES,
+        None => false,
+    }
+}
+
+/// The size of a waveform of the report's trace.
+pub fn read_size(alloc: Global, net: &Netlist, report: &Report) -> Result<(), Refusal>
+    ensures { Reads CheckSays (λ _. true) (size_in net.now.raw report.now) result }
+{
+    if is_drawable(net, report) {
+        Ok(())
+    } else {
+        Err(too_large_refusal(alloc))
+    }
 }

@@ -1,22 +1,21 @@
-//! The words of a refusal line, for each fault of the readers and of the check; they are those of `backspace`
-//! (docs/FORMATS.md, "Refusal lines").
-ghost use Rattle.std.specs.Prelude.{◌≡◌, ◌<◌, ◌++◌, length, All, codes, decimal, IfOk, IfErr};
-ghost use Rattle.std.specs.List.{flat_map};
-ghost use Rattle.bs_net.specs.Netlist.{parts_of};
-ghost use Rattle.bs_net.specs.Check.{IsFault};
-ghost use Rattle.bs_net.specs.Loops.{gate_at};
-ghost use Rattle.bs_net.specs.declared.fault.NetFault.TheVariants.{NoMemory as CheckWant};
-ghost use Rattle.bs_syntax.specs.declared.fault.VerilogFault.TheVariants.{NoMemory as TextWant};
+//! The words of a refusal line, for each fault of the readers (docs/FORMATS.md, "Refusal lines").
+ghost use Rattle.std.specs.Prelude.{◌≡◌, ◌++◌, codes, decimal, map, IfOk, IfErr};
+ghost use Rattle.bs_alias.specs.declared.fault.MapFault.TheVariants.{NoMemory as MapWant};
 ghost use Rattle.bs_report.specs.declared.fault.ReportFault.TheVariants.{NoMemory as ReportWant};
+ghost use Rattle.bs_stim.specs.declared.fault.StimFault.TheVariants.{NoMemory as StimWant};
+ghost use Rattle.bs_vcd.specs.declared.fault.VcdFault.TheVariants.{NoMemory as VcdWant};
 ghost use Rattle.bs_job.specs.declared.walk.Refusal.TheVariants.{NoMemory as Want};
-ghost use Rattle.bs_entry.specs.Refusals.{HasCheckWords, HasWords, check_words, count_word, gate_piece, key_of, netlist_text_words};
-ghost use Rattle.bs_entry.specs.Refusals.{report_words, too_many_words, unsupported_words};
+ghost use Rattle.bs_entry.specs.Refusals.{HasWords, report_words, stimulus_words, too_large_words};
+ghost use Rattle.bs_intake.specs.Words.{cycles_words, key_at, map_words, name_words, vcd_words};
 
+use bs_alias::MapFault;
 use bs_bits::{NoMemory, push_number, push_piece};
+use bs_entry::worded;
 use bs_job::Refusal;
-use bs_net::{Count, NetFault, NetId, Raw};
+use bs_place::push_quoted;
 use bs_report::ReportFault;
-use bs_verilog::{VerilogFault, What};
+use bs_stim::StimFault;
+use bs_vcd::VcdFault;
 use std::alloc::Global;
 
 // ---- words of one form
@@ -32,185 +31,24 @@ fn refusal(words: Result<Vec<u8>, NoMemory>) -> Refusal
     }
 }
 
-/// The refusal of one word.
-fn worded(alloc: Global, word: &[u8]) -> Refusal
-    ensures { HasWords word.now result }
-{
-    match word.to_vec(alloc) {
-        Ok(why) => Refusal::Why(why),
-        Err(_) => Refusal::NoMemory,
-    }
-}
-
 /// A word and a number.
-fn number_words(alloc: Global, word: &[u8], number: u32) -> Result<Vec<u8>, NoMemory>
+fn number_words(alloc: Global, word: &[u8], number: u64) -> Result<Vec<u8>, NoMemory>
     ensures { IfOk result (λ why. why.items ≡ word.now ++ decimal number) }
 {
     let mut why = Vec::new(alloc);
     push_piece(&mut why, word)?;
-    push_number(&mut why, u64::from(number))?;
+    push_number(&mut why, number)?;
     Ok(why)
 }
 
 /// The refusal of a word and a number.
-fn numbered(alloc: Global, word: &[u8], number: u32) -> Refusal
+pub fn numbered(alloc: Global, word: &[u8], number: u64) -> Refusal
     ensures { HasWords (word.now ++ decimal number) result }
 {
     refusal(number_words(alloc, word, number))
 }
 
-/// A word and the key of a net.
-fn key_words(alloc: Global, word: &[u8], raw: &Raw, net: NetId) -> Result<Vec<u8>, NoMemory>
-    requires { net.0 < length raw.now.names }
-    ensures { IfOk result (λ why. why.items ≡ word.now ++ key_of (parts_of raw.now) net) }
-{
-    let mut why = Vec::new(alloc);
-    push_piece(&mut why, word)?;
-    push_piece(&mut why, key_of(raw, net).as_bytes())?;
-    Ok(why)
-}
-
-/// The refusal of a word and the key of a net.
-fn keyed(alloc: Global, word: &[u8], raw: &Raw, net: NetId) -> Refusal
-    requires { net.0 < length raw.now.names }
-    ensures { HasWords (word.now ++ key_of (parts_of raw.now) net) result }
-{
-    refusal(key_words(alloc, word, raw, net))
-}
-
-/// The key of a net.
-#[tactic(auto, using(bs_entry::proofs::RefusalLemmas::key_is))]
-fn key_of(raw: &Raw, net: NetId) -> &str
-    requires { net.0 < length raw.now.names }
-    ensures { result.now ≡ key_of (parts_of raw.now) net }
-{
-    raw.names.key(net)
-}
-
-// ---- the netlist
-
-/// Why a text is no netlist.
-pub fn netlist_text_refusal(alloc: Global, fault: VerilogFault) -> Refusal
-    ensures why { HasWords (netlist_text_words fault) result }
-    ensures want { fault ≡ TextWant → result ≡ Want }
-{
-    match fault {
-        VerilogFault::Syntax(at) => numbered(alloc, b"Syntax ", at),
-        VerilogFault::Unsupported(at, what) => unsupported(alloc, at, what),
-        VerilogFault::Port(at) => numbered(alloc, b"Port ", at),
-        VerilogFault::Redeclared(at) => numbered(alloc, b"Redeclared ", at),
-        VerilogFault::TooManyNets(at) => numbered(alloc, b"TooManyNets ", at),
-        VerilogFault::Terminals(at) => numbered(alloc, b"Terminals ", at),
-        VerilogFault::Index(at) => numbered(alloc, b"Index ", at),
-        VerilogFault::NoMemory => Refusal::NoMemory,
-    }
-}
-
-/// The place of what this reader leaves out, and the word for it.
-fn unsupported_words(alloc: Global, at: u32, what: What) -> Result<Vec<u8>, NoMemory>
-    ensures { IfOk result (λ why. why.items ≡ unsupported_words at what) }
-{
-    let mut why = number_words(alloc, b"Unsupported ", at)?;
-    push_piece(&mut why, b" ")?;
-    push_piece(&mut why, what.word().as_bytes())?;
-    Ok(why)
-}
-
-/// The refusal of what this reader leaves out.
-fn unsupported(alloc: Global, at: u32, what: What) -> Refusal
-    ensures { HasWords (unsupported_words at what) result }
-{
-    refusal(unsupported_words(alloc, at, what))
-}
-
-/// Why the check refuses a netlist.
-#[tactic(auto, using(bs_entry::proofs::RefusalLemmas::check_told))]
-pub fn check_refusal(alloc: Global, raw: &Raw, fault: &NetFault) -> Refusal
-    requires is { IsFault (parts_of raw.now) fault.now }
-    ensures { HasCheckWords (parts_of raw.now) result }
-{
-    fault_refusal(alloc, raw, fault)
-}
-
-/// The words of a fault of the check.
-#[tactic(auto, using(bs_entry::proofs::RefusalLemmas::mixed_named))]
-fn fault_refusal(alloc: Global, raw: &Raw, fault: &NetFault) -> Refusal
-    requires is { IsFault (parts_of raw.now) fault.now }
-    ensures why { HasWords (check_words (parts_of raw.now) fault.now) result }
-    ensures want { fault.now ≡ CheckWant → result ≡ Want }
-{
-    match fault {
-        NetFault::TooMany(kind, count) => too_many(alloc, *kind, *count),
-        NetFault::SecondDriver(net) => keyed(alloc, b"SecondDriver ", raw, *net),
-        NetFault::Undriven(net) => keyed(alloc, b"Undriven ", raw, *net),
-        NetFault::Loop(gates) => looped(alloc, raw, gates.slice()),
-        NetFault::NoFlop => worded(alloc, b"NoFlop"),
-        NetFault::ClockMixed(net) => keyed(alloc, b"ClockMixed ", raw, *net),
-        NetFault::NoMemory => Refusal::NoMemory,
-    }
-}
-
-/// The word for what there is too much of.
-fn count_word(kind: Count) -> &'static str
-    ensures { result.now ≡ count_word kind }
-{
-    match kind {
-        Count::Flops => "Flops",
-        Count::Inputs => "Inputs",
-        Count::Terminals => "Terminals",
-    }
-}
-
-/// What there is too much of, and how much.
-fn too_many_words(alloc: Global, kind: Count, count: u32) -> Result<Vec<u8>, NoMemory>
-    ensures { IfOk result (λ why. why.items ≡ too_many_words kind count) }
-{
-    let mut why = Vec::new(alloc);
-    push_piece(&mut why, b"TooMany ")?;
-    push_piece(&mut why, count_word(kind).as_bytes())?;
-    push_piece(&mut why, b" ")?;
-    push_number(&mut why, u64::from(count))?;
-    Ok(why)
-}
-
-/// The refusal of too many of something.
-fn too_many(alloc: Global, kind: Count, count: u32) -> Refusal
-    ensures { HasWords (too_many_words kind count) result }
-{
-    refusal(too_many_words(alloc, kind, count))
-}
-
-/// The output net of a gate.
-fn output_of(raw: &Raw, gate: u32) -> NetId
-    requires gate { gate < length raw.now.gates }
-    ensures net { result ≡ (gate_at raw.now.gates gate).out }
-    ensures named { result.0 < length raw.now.names }
-{
-    raw.gates.get(gate as usize).out
-}
-
-/// The keys of the output nets of a loop of gates.
-fn loop_words(alloc: Global, raw: &Raw, gates: &[u32]) -> Result<Vec<u8>, NoMemory>
-    requires gates { All (λ gate. gate < length raw.now.gates) gates.now }
-    ensures { IfOk result (λ why. why.items ≡ codes "Loop" ++ flat_map (gate_piece (parts_of raw.now)) gates.now) }
-{
-    let mut why = b"Loop".to_vec(alloc)?;
-    'gates: for &gate in gates {
-        push_piece(&mut why, b" ")?;
-        push_piece(&mut why, key_of(raw, output_of(raw, gate)).as_bytes())?;
-    }
-    Ok(why)
-}
-
-/// The refusal of a loop.
-fn looped(alloc: Global, raw: &Raw, gates: &[u32]) -> Refusal
-    requires gates { All (λ gate. gate < length raw.now.gates) gates.now }
-    ensures { HasWords (codes "Loop" ++ flat_map (gate_piece (parts_of raw.now)) gates.now) result }
-{
-    refusal(loop_words(alloc, raw, gates))
-}
-
-// ---- the report
+// ---- the files of `backspace`
 
 /// Why a text is no report.
 pub fn report_refusal(alloc: Global, fault: ReportFault) -> Refusal
@@ -218,36 +56,121 @@ pub fn report_refusal(alloc: Global, fault: ReportFault) -> Refusal
     ensures want { fault ≡ ReportWant → result ≡ Want }
 {
     match fault {
-        ReportFault::Line(line) => refusal(line_words(alloc, line)),
+        ReportFault::Line(line) => numbered(alloc, b"Line ", line),
         ReportFault::Short => worded(alloc, b"Short"),
         ReportFault::Extra => worded(alloc, b"Extra"),
         ReportFault::NoMemory => Refusal::NoMemory,
     }
 }
 
-/// The words of a refused line of a report.
-fn line_words(alloc: Global, line: u64) -> Result<Vec<u8>, NoMemory>
-    ensures { IfOk result (λ why. why.items ≡ codes "Line " ++ decimal line) }
+/// Why a waveform is too large.
+pub fn too_large_refusal(alloc: Global) -> Refusal
+    ensures { HasWords too_large_words result }
 {
-    let mut why = Vec::new(alloc);
-    push_piece(&mut why, b"Line ")?;
-    push_number(&mut why, line)?;
-    Ok(why)
+    worded(alloc, b"TooLarge")
 }
 
-/// The words of a place in the trace of a report.
-fn place_words(alloc: Global, word: &[u8], place: usize) -> Result<Vec<u8>, NoMemory>
-    ensures { IfOk result (λ why. why.items ≡ word.now ++ decimal place) }
+/// Why a text is no stimulus.
+pub fn stimulus_refusal(alloc: Global, fault: StimFault) -> Refusal
+    ensures why { HasWords (stimulus_words fault) result }
+    ensures want { fault ≡ StimWant → result ≡ Want }
+{
+    match fault {
+        StimFault::NoRun => worded(alloc, b"NoRun"),
+        StimFault::Line(line) => numbered(alloc, b"Line ", u64::from(line)),
+        StimFault::Width(line) => numbered(alloc, b"Width ", u64::from(line)),
+        StimFault::Count(line) => numbered(alloc, b"Count ", u64::from(line)),
+        StimFault::TooManyRuns(line) => numbered(alloc, b"TooManyRuns ", u64::from(line)),
+        StimFault::TooManyCycles(line) => numbered(alloc, b"TooManyCycles ", u64::from(line)),
+        StimFault::NoMemory => Refusal::NoMemory,
+    }
+}
+
+// ---- a simulation
+
+/// Why a text gives no names.
+pub fn map_refusal(alloc: Global, fault: MapFault) -> Refusal
+    ensures why { HasWords (map_words fault) result }
+    ensures want { fault ≡ MapWant → result ≡ Want }
+{
+    match fault {
+        MapFault::Line(line) => numbered(alloc, b"Line ", line),
+        MapFault::Unknown(line) => numbered(alloc, b"Unknown ", line),
+        MapFault::Twice(line) => numbered(alloc, b"Twice ", line),
+        MapFault::NoMemory => Refusal::NoMemory,
+    }
+}
+
+/// The key of the input with this number.
+#[tactic(auto, using(crate::proofs::KeyLemmas::key_there, crate::proofs::KeyLemmas::key_past))]
+fn key_at<'a>(keys: &[&'a [u8]], input: u64) -> &'a [u8]
+    ensures { result.now ≡ key_at (map (λ k. k.now) keys.now) input }
+{
+    let place = input as usize;
+    if place < keys.len() {
+        keys[place]
+    } else {
+        b""
+    }
+}
+
+/// A word and the key of an input.
+fn input_words(alloc: Global, word: &[u8], key: &[u8]) -> Result<Vec<u8>, NoMemory>
+    ensures { IfOk result (λ why. why.items ≡ word.now ++ key.now) }
 {
     let mut why = Vec::new(alloc);
     push_piece(&mut why, word)?;
-    push_number(&mut why, place as u64)?;
+    push_piece(&mut why, key)?;
     Ok(why)
 }
 
-/// The refusal of a place in the trace of a report.
-pub fn place_refusal(alloc: Global, word: &[u8], place: usize) -> Refusal
-    ensures { HasWords (word.now ++ decimal place) result }
+/// The key of an input, and a time at which it is not known.
+fn unknown_words(alloc: Global, key: &[u8], time: u64) -> Result<Vec<u8>, NoMemory>
+    ensures { IfOk result (λ why. why.items ≡ codes "Unknown " ++ (key.now ++ (codes " " ++ decimal time))) }
 {
-    refusal(place_words(alloc, word, place))
+    let mut why = input_words(alloc, b"Unknown ", key)?;
+    push_piece(&mut why, b" ")?;
+    push_number(&mut why, time)?;
+    Ok(why)
+}
+
+/// Why values of a simulator give no run. An input is named by its key.
+pub fn vcd_refusal(alloc: Global, fault: VcdFault, keys: &[&[u8]]) -> Refusal
+    ensures why { HasWords (vcd_words (map (λ k. k.now) keys.now) fault) result }
+    ensures want { fault ≡ VcdWant → result ≡ Want }
+{
+    match fault {
+        VcdFault::Line(line) => numbered(alloc, b"Line ", line),
+        VcdFault::Ended => worded(alloc, b"Ended"),
+        VcdFault::NoClock => worded(alloc, b"NoClock"),
+        VcdFault::NoInput(i) => refusal(input_words(alloc, b"NoInput ", key_at(keys, i))),
+        VcdFault::Unknown(i, time) => refusal(unknown_words(alloc, key_at(keys, i), time)),
+        VcdFault::NoMemory => Refusal::NoMemory,
+    }
+}
+
+/// Why values have too many edges.
+pub fn cycles_refusal(alloc: Global) -> Refusal
+    ensures { HasWords cycles_words result }
+{
+    worded(alloc, b"TooManyCycles")
+}
+
+// ---- a name
+
+/// The words of a name that is none of a netlist.
+fn quoted_words(alloc: Global, name: &[u8]) -> Result<Vec<u8>, NoMemory>
+    ensures { IfOk result (λ why. why.items ≡ name_words name.now) }
+{
+    let mut why = Vec::new(alloc);
+    push_piece(&mut why, b"Unknown ")?;
+    push_quoted(&mut why, name)?;
+    Ok(why)
+}
+
+/// The refusal of a name that is none of a netlist.
+pub fn name_refusal(alloc: Global, name: &str) -> Refusal
+    ensures { HasWords (name_words name.now) result }
+{
+    refusal(quoted_words(alloc, name.as_bytes()))
 }

@@ -1,5 +1,5 @@
 -- Levels of nets, and an order of the gates by level.
-use Rattle.std.proofs.Common.{◌≡◌, ◌≢◌, ℕ, true, suc, ◌<◌, ◌≤◌, ◌+◌, List, [], ◌∷◌, ◌++◌, map, length, get_or, set, drop, take, max, refl, arith}
+use Rattle.std.proofs.Common.{◌≡◌, ◌≢◌, ℕ, true, suc, ◌<◌, ◌≤◌, ◌+◌, ◌-◌, ◌*◌, ◌/◌, ◌%◌, List, [], ◌∷◌, ◌++◌, map, length, get_or, set, drop, take, max, refl, arith}
 use Rattle.std.proofs.Common.{subst, ap, sym, ◌∙◌, ⊎_elim, length-set, get_or-set_same, get_or-set_other, nat_eq}
 use Rattle.std.specs.List.{All, AllByRecursion, range_with_len, list_any}
 use Rattle.std.specs.List.Sorted.{IsPermutation, IsNonDecreasing}
@@ -18,7 +18,7 @@ use Rattle.bs_net.specs.declared.net.Const.{Const}
 use Rattle.bs_net.specs.Circuit.{Circuit, drivers, number, state_nets}
 use Rattle.bs_net.specs.Steps.{gate_write}
 use Rattle.bs_net.specs.Order.{gates_in, no_gate, IsLevelled, IsOrder, IsChecked}
-use Rattle.bs_lanes.specs.Levels.{level_at, highest, raised, AreRaised, number_in, level_in, IsKey, AreKeys}
+use Rattle.bs_lanes.specs.Levels.{level_at, highest, turn_of, level_above, level_for, raised, AreRaised, number_in, level_in, IsKey, AreKeys}
 
 -- ---- the highest level
 
@@ -46,6 +46,19 @@ below_highest levels (n ∷ ns) = (omega arith, wider ns (below_highest levels n
 
 -- ---- levels are raised
 
+-- a level above another is higher, and not much
+above_top : (turn top : ℕ) → top < level_above turn top
+above_top turn top = higher ((((top + 1) / 4) + (turn + 8 - (top + 1) / 4 % 8) % 8) * 4)
+  where
+    higher : (other : ℕ) → top < max (top + 1) other
+    higher other = omega arith
+
+above_low : (turn top : ℕ) → level_above turn top ≤ top + 32
+above_low turn top = near (turn + 8 - (top + 1) / 4 % 8)
+  where
+    near : (more : ℕ) → max (top + 1) (((top + 1) / 4 + more % 8) * 4) ≤ top + 32
+    near more = omega arith
+
 -- no gate of the list drives a net
 abbrev NotDriven : List Gate → ℕ → Type 0
 NotDriven gs n = AllByRecursion (λ (h : Gate). h.out.0 ≢ n) gs
@@ -59,7 +72,7 @@ DriveApart (g ∷ gs) = NotDriven gs g.out.0 × DriveApart gs
 raised_other : (gs : List Gate) (levels : List ℕ) (n : ℕ) → NotDriven gs n → level_at (raised gs levels) n ≡ level_at levels n
 raised_other [] levels n h = refl
 raised_other (g ∷ gs) levels n h =
-    raised_other gs _ n h.1 ∙ get_or-set_other levels g.out.0 n (highest levels g.ins + 1) 0 (λ e. h.0 (sym e))
+    raised_other gs _ n h.1 ∙ get_or-set_other levels g.out.0 n (level_for levels g) 0 (λ e. h.0 (sym e))
 
 pub length-raised : (gs : List Gate) (levels : List ℕ) → length (raised gs levels) ≡ length levels
 length-raised [] levels = refl
@@ -70,24 +83,24 @@ pub are_raised : (gs : List Gate) (levels : List ℕ) → DriveApart gs → IsLe
     AllByRecursion (λ (g : Gate). All (λ (n : NetId). level_at (raised gs levels) n.0 < level_at (raised gs levels) g.out.0) g.ins) gs
 are_raised [] levels a l p = tt
 are_raised (g ∷ gs) levels a l p =
-    let top = highest levels g.ins in
-    let next : List ℕ = set levels g.out.0 (top + 1) in
-    let out : level_at (raised gs next) g.out.0 ≡ top + 1 = raised_other gs next g.out.0 a.0 ∙ get_or-set_same levels g.out.0 (top + 1) 0 p.0 in
+    let rise = level_for levels g in
+    let next : List ℕ = set levels g.out.0 rise in
+    let out : level_at (raised gs next) g.out.0 ≡ rise = raised_other gs next g.out.0 a.0 ∙ get_or-set_same levels g.out.0 rise 0 p.0 in
     let P : ℕ → Type 0 = λ m. AllByRecursion (λ (h : Gate). h.out.0 < m) gs in (
       All-from_recursion (λ (n : NetId). level_at (raised gs next) n.0 < level_at (raised gs next) g.out.0) g.ins
           (each g.ins (recursion_from_All (λ (n : NetId). All (λ (h : Gate). h.out.0 ≢ n.0) (g ∷ gs)) g.ins l.0) (below_highest levels g.ins) out),
-      are_raised gs next a.1 l.1 (subst P (sym (length-set levels g.out.0 (top + 1))) p.1),
+      are_raised gs next a.1 l.1 (subst P (sym (length-set levels g.out.0 rise)) p.1),
     )
   where
     each : (ns : List NetId) → AllByRecursion (λ (n : NetId). All (λ (h : Gate). h.out.0 ≢ n.0) (g ∷ gs)) ns →
         AllByRecursion (λ (n : NetId). level_at levels n.0 ≤ highest levels g.ins) ns →
-        level_at (raised gs (set levels g.out.0 (highest levels g.ins + 1))) g.out.0 ≡ highest levels g.ins + 1 →
-        AllByRecursion (λ (n : NetId). level_at (raised gs (set levels g.out.0 (highest levels g.ins + 1))) n.0 < level_at
-        (raised gs (set levels g.out.0 (highest levels g.ins + 1))) g.out.0) ns
+        level_at (raised gs (set levels g.out.0 (level_for levels g))) g.out.0 ≡ level_for levels g →
+        AllByRecursion (λ (n : NetId). level_at (raised gs (set levels g.out.0 (level_for levels g))) n.0 < level_at
+        (raised gs (set levels g.out.0 (level_for levels g))) g.out.0) ns
     each [] h k out = tt
     each (n ∷ ns) h k out =
         let same = raised_other (g ∷ gs) levels n.0 (recursion_from_All (λ (m : Gate). m.out.0 ≢ n.0) (g ∷ gs) h.0) in
-        (omega (arith, same, k.0, out), each ns h.1 k.1 out)
+        (omega (arith, same, k.0, out, above_top (turn_of g) (highest levels g.ins)), each ns h.1 k.1 out)
 
 -- every level is as low as the order is long
 level_low : (levels : List ℕ) (bound : ℕ) → All (λ level. level ≤ bound) levels → (k : ℕ) → level_at levels k ≤ bound
@@ -96,20 +109,24 @@ level_low levels bound h k =
 
 -- one gate more is raised
 pub one_raised : (gates : List Gate) (order : List ℕ) (i : ℕ) (levels : List ℕ) (g : Gate) → i < length order → g ≡ get_or gates (get_or order i 0) no_gate →
-    raised (gates_in (drop i order) gates) levels ≡ raised (gates_in (drop (i + 1) order) gates) (set levels g.out.0 (highest levels g.ins + 1))
+    raised (gates_in (drop i order) gates) levels ≡ raised (gates_in (drop (i + 1) order) gates) (set levels g.out.0 (level_for levels g))
 one_raised gates order i levels g lt is =
     ap (λ is. raised (gates_in is gates) levels) (drop_more order i 0 lt)
-    ∙ ap (λ (h : Gate). raised (gates_in (drop (i + 1) order) gates) (set levels h.out.0 (highest levels h.ins + 1))) (sym is)
+    ∙ ap (λ (h : Gate). raised (gates_in (drop (i + 1) order) gates) (set levels h.out.0 (level_for levels h))) (sym is)
 
-pub raised_low : (levels : List ℕ) (i out : ℕ) (ns : List NetId) → All (λ level. level ≤ i) levels → out < length levels →
-    All (λ level. level ≤ i + 1) (set levels out (highest levels ns + 1))
-raised_low levels i out ns low lt = λ k d small.
+pub raised_low : (levels : List ℕ) (i : ℕ) (g : Gate) → All (λ level. level ≤ i * 32) levels → g.out.0 < length levels →
+    All (λ level. level ≤ (i + 1) * 32) (set levels g.out.0 (level_for levels g))
+raised_low levels i g low lt = λ k d small.
+    let out = g.out.0 in
+    let rise = level_for levels g in
     ⊎_elim
     (λ (e : k ≡ out).
-    let P : ℕ → Type 0 = λ j. get_or (set levels out (highest levels ns + 1)) j d ≤ i + 1 in
-    subst P (sym e) (omega (arith, get_or-set_same levels out (highest levels ns + 1) d lt, highest_low levels ns i (level_low levels i low))))
+    let P : ℕ → Type 0 = λ j. get_or (set levels out rise) j d ≤ (i + 1) * 32 in
+    subst P (sym e)
+    (omega
+    (arith, get_or-set_same levels out rise d lt, above_low (turn_of g) (highest levels g.ins), highest_low levels g.ins (i * 32) (level_low levels (i * 32) low))))
     (λ (other : k ≢ out).
-    omega (arith, get_or-set_other levels out k (highest levels ns + 1) d other, low k d (omega (arith, small, length-set levels out (highest levels ns + 1)))))
+    omega (arith, get_or-set_other levels out k rise d other, low k d (omega (arith, small, length-set levels out rise))))
     (cases_eq k out)
 
 pub highest_fits : (levels : List ℕ) (i : ℕ) (ns : List NetId) → All (λ level. level ≤ i) levels → highest levels ns ≤ i

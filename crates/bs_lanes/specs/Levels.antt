@@ -1,9 +1,11 @@
 -- Levels of nets, and the gates by level.
-use Rattle.std.specs.Prelude.{◌≡◌, ℕ, ◌<◌, ◌+◌, ◌/◌, ◌%◌, max, List, [], ◌∷◌, length, map, slice_set, slice_index_or, All}
+use Rattle.std.specs.Prelude.{◌≡◌, ℕ, ◌<◌, ◌+◌, ◌-◌, ◌*◌, ◌/◌, ◌%◌, ◌==◌, if◌then◌else◌, max, List, [], ◌∷◌, length, map, slice_set, slice_index_or, All}
 use Rattle.std.specs.List.{range_with_len}
 use Rattle.std.specs.List.Sorted.{IsPermutation}
 use Rattle.bs_net.specs.declared.net.NetId.{NetId}
 use Rattle.bs_net.specs.declared.net.Gate.{Gate}
+use Rattle.bs_net.specs.declared.net.Kind.{Kind}
+use Rattle.bs_net.specs.declared.net.Kind.TheVariants.{And, Nand, Or, Nor, Xor, Xnor, Buf, Not}
 use Rattle.bs_net.specs.Order.{no_gate}
 
 -- the level of a net
@@ -15,10 +17,32 @@ abbrev pub highest : List ℕ → List NetId → ℕ
 highest levels [] = 0
 highest levels (n ∷ ns) = max (level_at levels n.0) (highest levels ns)
 
--- the levels of the nets: a gate's output stands one above the highest of its inputs
+-- the turn of a gate: gates of two inputs have the turn of their kind, and the others have one
+abbrev pub pair_turn : Kind → ℕ
+pair_turn And = 0
+pair_turn Nand = 1
+pair_turn Or = 2
+pair_turn Nor = 3
+pair_turn Xor = 4
+pair_turn Xnor = 5
+pair_turn Buf = 6
+pair_turn Not = 6
+
+abbrev pub turn_of : Gate → ℕ
+turn_of g = if length g.ins == 2 then pair_turn g.kind else 6
+
+-- levels go round eight turns, four levels each: the lowest level above another that has a turn
+abbrev pub level_above : ℕ → ℕ → ℕ
+level_above turn top = max (top + 1) (((top + 1) / 4 + (turn + 8 - (top + 1) / 4 % 8) % 8) * 4)
+
+-- the level of a gate's output: the lowest above the highest of its inputs that has the gate's turn
+abbrev pub level_for : List ℕ → Gate → ℕ
+level_for levels g = level_above (turn_of g) (highest levels g.ins)
+
+-- the levels of the nets
 abbrev pub raised : List Gate → List ℕ → List ℕ
 raised [] levels = levels
-raised (g ∷ gs) levels = raised gs (slice_set levels g.out.0 (highest levels g.ins + 1))
+raised (g ∷ gs) levels = raised gs (slice_set levels g.out.0 (level_for levels g))
 
 -- each gate's output stands above each of its inputs
 abbrev pub AreRaised : List ℕ → List Gate → Type 0

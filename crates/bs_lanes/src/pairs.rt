@@ -64,7 +64,7 @@ fn settle_some<const N: usize, const BOTH: bool, const ONE: bool, const INVERTED
     let one = splat_of::<N>(ONE);
     let inverted = splat_of::<N>(INVERTED);
     'pairs: for i in 0..pairs.len() {
-        let pair = pairs[i];
+        let pair = &pairs[i];
         let a = plane_at::<N>(nets, pair.a as usize);
         let b = plane_at::<N>(nets, pair.b as usize);
         let plane = mixed_plane::<N>(a, b, both, one, inverted);

@@ -1,4 +1,4 @@
-//! A netlist's gates in stretches: by level, and within a level by kind, with the places of planes for nets.
+//! A netlist's gates in stretches, many of one kind, with the places of planes for nets.
 ghost use Rattle.std.specs.Prelude.{◌≡◌, ◌<◌, ◌≤◌, ◌+◌, ◌-◌, [], ◌∷◌, length, map, take, drop, min, max, All, IsTrue, IfOk, IfSome};
 ghost use Rattle.std.specs.Bool.{MatchBool};
 ghost use Rattle.bs_lanes.specs.Program.{pair_gate, pair_gates, stretch_gates, program_gates, ArePairs, AreFirst, IsFirst};

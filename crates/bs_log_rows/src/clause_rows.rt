@@ -54,16 +54,39 @@ fn last_values(alloc: Global, last: u32) -> Result<Option<(Option<bool>, Option<
     Ok(Some((before, values.get(Var(last)))))
 }
 
+/// Whether the copy of a clause of so many literals has these literals.
+fn is_copied(alloc: Global, last: u32) -> Result<bool, Fail> {
+    let clause = clause_up_to(alloc, true, last)?;
+    let copied = Lits::copy(alloc, clause.slice())?;
+    Ok(copied.slice() == clause.slice() && copied.len() == last as usize)
+}
+
+/// How many clauses there are behind this many pushes of a clause of so many literals.
+fn pushed_up_to(alloc: Global, last: u32, count: u32) -> Result<usize, Fail> {
+    let clause = clause_up_to(alloc, true, last)?;
+    let count = pushed(alloc, &clause, count)?;
+    Ok(count)
+}
+
+/// Numbers of literals, of clauses and of variables.
+const SIZES: [(u32, u32, u32); 4] = [(2, 1, 1), (3, 2, 3), (5, 3, 40), (1_000, 5_000, 1_000_000)];
+
 #[test]
-fn clauses_and_assignments_small_and_great(rt: HostRuntime) -> Result<(), Fail> {
+fn clauses_small_and_great(rt: HostRuntime) -> Result<(), Fail> {
     let alloc = rt.alloc();
-    for (last, count, variables) in [(2, 1, 1), (3, 2, 3), (5, 3, 40), (1_000, 5_000, 1_000_000)] {
-        let clause = clause_up_to(alloc, true, last)?;
-        let copied = Lits::copy(alloc, clause.slice())?;
-        assert_eq!(rt; copied.slice(), clause.slice());
-        assert_eq!(rt; copied.len(), last as usize);
-        assert_eq!(rt; pushed(alloc, &clause, count)?, count as usize);
-        assert_eq!(rt; resolved(alloc, last)?, Some(last as usize - 1));
+    for (last, count, _) in SIZES {
+        assert!(rt; is_copied(alloc, last)?);
+        assert_eq!(rt; pushed_up_to(alloc, last, count)?, count as usize);
+        let want = last.saturating_sub(1) as usize;
+        assert_eq!(rt; resolved(alloc, last)?, Some(want));
+    }
+    Ok(())
+}
+
+#[test]
+fn assignments_small_and_great(rt: HostRuntime) -> Result<(), Fail> {
+    let alloc = rt.alloc();
+    for (_, _, variables) in SIZES {
         assert_eq!(rt; last_values(alloc, variables)?, Some((None, Some(false))));
     }
     Ok(())

@@ -1,5 +1,5 @@
 //! Texts that are lines and texts that are none, small and great, and a log that grows.
-use bs_bits::{push_number, push_piece};
+use bs_bits::{NoMemory, push_number, push_piece};
 use bs_log::{Line, Log};
 use std::alloc::Global;
 use std::test::Fail;
@@ -16,53 +16,62 @@ pub fn lemma_text(alloc: Global, id: u64, variables: u64) -> Result<Vec<u8>, Fai
     Ok(text)
 }
 
+/// Texts that are lines.
+const LINES: [&str; 9] = [
+    "s",
+    "7 -5 -4 0 4 1 6 0",
+    "18446744073709551615 1073741823 0 1 0",
+    "10 0 5 0",
+    "b 6 -5 3 0",
+    "e 7",
+    "r 8",
+    "d 6 7 0",
+    "d 9 0",
+];
+
+/// Texts that are none.
+const OTHERS: [&str; 22] = [
+    "",
+    "s ",
+    " s",
+    "s 1",
+    "t 1",
+    "r 08",
+    "r 0",
+    "r",
+    "r 8 9",
+    "r +8",
+    "r  8",
+    "r 18446744073709551616",
+    "7 -5 0 0",
+    "7 -5 0 1",
+    "7 -5 0 1 0 0",
+    "7 1073741824 0 1 0",
+    "7 -0 0 1 0",
+    "7 --5 0 1 0",
+    "b 6 0",
+    "b 6 -5 3",
+    "d 0",
+    "d 6 7",
+];
+
+/// Whether a text is a line that has it again.
+fn is_written_back(alloc: Global, text: &[u8]) -> Result<bool, NoMemory> {
+    let mut written = Vec::new(alloc);
+    if let Some(line) = Line::read(alloc, text)? {
+        line.text(&mut written)?;
+    }
+    Ok(written.as_slice() == text)
+}
+
 #[test]
 fn lines_are_read_and_written_back(rt: HostRuntime) -> Result<(), Fail> {
     let alloc = rt.alloc();
-    let lines: [&[u8]; 9] = [
-        b"s",
-        b"7 -5 -4 0 4 1 6 0",
-        b"18446744073709551615 1073741823 0 1 0",
-        b"10 0 5 0",
-        b"b 6 -5 3 0",
-        b"e 7",
-        b"r 8",
-        b"d 6 7 0",
-        b"d 9 0",
-    ];
-    for text in lines {
-        let mut written = Vec::new(alloc);
-        if let Some(line) = Line::read(alloc, text)? {
-            line.text(&mut written)?;
-        }
-        assert_eq!(rt; written.as_slice(), text);
+    for text in LINES {
+        assert!(rt; is_written_back(alloc, text.as_bytes())?);
     }
-    let others: [&[u8]; 22] = [
-        b"",
-        b"s ",
-        b" s",
-        b"s 1",
-        b"t 1",
-        b"r 08",
-        b"r 0",
-        b"r",
-        b"r 8 9",
-        b"r +8",
-        b"r  8",
-        b"r 18446744073709551616",
-        b"7 -5 0 0",
-        b"7 -5 0 1",
-        b"7 -5 0 1 0 0",
-        b"7 1073741824 0 1 0",
-        b"7 -0 0 1 0",
-        b"7 --5 0 1 0",
-        b"b 6 0",
-        b"b 6 -5 3",
-        b"d 0",
-        b"d 6 7",
-    ];
-    for text in others {
-        assert!(rt; Line::read(alloc, text)?.is_none());
+    for text in OTHERS {
+        assert!(rt; Line::read(alloc, text.as_bytes())?.is_none());
     }
     Ok(())
 }
@@ -84,11 +93,7 @@ fn a_lemma_of_thousands_of_literals_is_read_and_written_back(rt: HostRuntime) ->
     let alloc = rt.alloc();
     for variables in [0, 4, 5, 20_000] {
         let text = lemma_text(alloc, 9, variables)?;
-        let mut written = Vec::new(alloc);
-        if let Some(line) = Line::read(alloc, text.as_slice())? {
-            line.text(&mut written)?;
-        }
-        assert_eq!(rt; written.as_slice(), text.as_slice());
+        assert!(rt; is_written_back(alloc, text.as_slice())?, "{variables}");
     }
     Ok(())
 }

@@ -1,7 +1,7 @@
 //! Logs of one step and of two, each with one line changed, and their verdicts.
 use crate::log_rows::lemma_text;
-use bs_bits::List;
-use bs_clause::{Clauses, Lit, Lits, Var};
+use bs_bits::{List, NoMemory};
+use bs_clause::{Clauses, Lit, Lits, VARIABLE_LIMIT, Var};
 use bs_log::{Line, Log};
 use bs_rup::{Verdict, Why, check};
 use std::alloc::Global;
@@ -27,7 +27,7 @@ const LINES: [&[u8]; 14] = [
 
 fn literal(number: i32) -> Lit {
     let variable = number.unsigned_abs();
-    if 1 <= variable && variable < 1 << 30 {
+    if 1 <= variable && variable < VARIABLE_LIMIT {
         Lit::new(Var(variable), number > 0)
     } else {
         Lit::new(Var(1), true)
@@ -53,6 +53,46 @@ fn clauses(alloc: Global) -> Result<Clauses, Fail> {
     Ok(clauses)
 }
 
+/// The assumptions of the first step, or of two.
+fn steps_of(alloc: Global, two_steps: bool) -> Result<List<Lits>, Fail> {
+    let mut steps = List::new(alloc);
+    steps.push(literals(alloc, &[5, 4])?)?;
+    if two_steps {
+        steps.push(literals(alloc, &[6, -4])?)?;
+    }
+    Ok(steps)
+}
+
+/// The log of these lines, with the line of this number changed.
+fn log_of(alloc: Global, lines: &[&[u8]], number: usize, text: &[u8]) -> Result<Log, Fail> {
+    let mut log = Log::new(alloc);
+    for (i, line) in lines.iter().enumerate() {
+        if let Some(line) = Line::read(alloc, if i + 1 == number { text } else { line })? {
+            log.push(line)?;
+        }
+    }
+    Ok(log)
+}
+
+fn refused(line: u64, why: Why) -> Verdict {
+    Verdict::Rejected { line, why }
+}
+
+/// The verdict on the log of at most two steps.
+fn checked(
+    alloc: Global,
+    vars: u16,
+    clauses: &Clauses,
+    steps: &List<Lits>,
+    log: &Log,
+) -> Result<Verdict, NoMemory> {
+    if steps.len() > 2 {
+        return Ok(refused(0, Why::Order));
+    }
+    let verdict = check(alloc, u32::from(vars), clauses, steps, log)?;
+    Ok(verdict)
+}
+
 /// The verdict on these lines, with the line of this number changed, after the first one or two of the steps' assumptions.
 fn verdict(
     alloc: Global,
@@ -61,101 +101,107 @@ fn verdict(
     number: usize,
     text: &[u8],
 ) -> Result<Verdict, Fail> {
-    let mut steps = List::new(alloc);
-    steps.push(literals(alloc, &[5, 4])?)?;
-    if two_steps {
-        steps.push(literals(alloc, &[6, -4])?)?;
-    }
-    let mut log = Log::new(alloc);
-    for (i, line) in lines.iter().enumerate() {
-        if let Some(line) = Line::read(alloc, if i + 1 == number { text } else { line })? {
-            log.push(line)?;
-        }
-    }
-    if steps.len() < 3 {
-        Ok(check(alloc, 4, &clauses(alloc)?, &steps, &log)?)
-    } else {
-        Ok(Verdict::Accepted)
-    }
+    let clauses = clauses(alloc)?;
+    let steps = steps_of(alloc, two_steps)?;
+    let log = log_of(alloc, lines, number, text)?;
+    let verdict = checked(alloc, 4, &clauses, &steps, &log)?;
+    Ok(verdict)
 }
 
-fn refused(line: u64, why: Why) -> Verdict {
-    Verdict::Rejected { line, why }
+/// Changed lines of the first step, by their numbers, and the refusals.
+const ONE_STEP: [(usize, &[u8], u64, Why); 10] = [
+    (6, b"r 9", 6, Why::Order),
+    (5, b"e 6", 5, Why::NoClause),
+    (4, b"7 -5 -4 -5 0 4 1 6 0", 4, Why::Duplicate),
+    (2, b"b 6 3 -5 0", 2, Why::BadBlock),
+    (4, b"7 -5 -4 0 1 6 0", 4, Why::NotUnit),
+    (4, b"7 -5 -4 0 4 1 0", 4, Why::NotFalse),
+    (4, b"7 -5 -4 -3 0 4 1 0", 5, Why::BadEnd),
+    (4, b"7 -5 -4 1073741823 0 4 1 6 0", 5, Why::BadEnd),
+    (4, b"7 -5 -4 99999 0 4 1 0", 4, Why::NotFalse),
+    (4, b"7 -5 -4 99999 -99999 0 4 1 6 0", 4, Why::Duplicate),
+];
+
+/// Changed lines of two steps.
+const TWO_STEPS: [(usize, &[u8], u64, Why); 4] = [
+    (9, b"b 9 -5 -3 0", 9, Why::BadBlock),
+    (11, b"10 -6 4 0 5 2 6 9 0", 11, Why::NoClause),
+    (14, b"d 8 9 10 0", 14, Why::NoClause),
+    (14, b"d 10 9 0", 14, Why::Order),
+];
+
+#[test]
+fn each_changed_line_of_one_step_is_refused_for_its_reason(rt: HostRuntime) -> Result<(), Fail> {
+    let alloc = rt.alloc();
+    for (number, text, line, why) in ONE_STEP {
+        let got = verdict(alloc, false, &LINES[..7], number, text)?;
+        assert_eq!(rt; got, refused(line, why));
+    }
+    Ok(())
 }
 
 #[test]
-fn each_changed_line_is_refused_for_its_reason(rt: HostRuntime) -> Result<(), Fail> {
+fn each_changed_line_of_two_steps_is_refused_for_its_reason(rt: HostRuntime) -> Result<(), Fail> {
     let alloc = rt.alloc();
-    let one_step: [(usize, &[u8], Verdict); 11] = [
-        (0, b"", Verdict::Accepted),
-        (6, b"r 9", refused(6, Why::Order)),
-        (5, b"e 6", refused(5, Why::NoClause)),
-        (4, b"7 -5 -4 -5 0 4 1 6 0", refused(4, Why::Duplicate)),
-        (2, b"b 6 3 -5 0", refused(2, Why::BadBlock)),
-        (4, b"7 -5 -4 0 1 6 0", refused(4, Why::NotUnit)),
-        (4, b"7 -5 -4 0 4 1 0", refused(4, Why::NotFalse)),
-        (4, b"7 -5 -4 -3 0 4 1 0", refused(5, Why::BadEnd)),
-        (4, b"7 -5 -4 1073741823 0 4 1 6 0", refused(5, Why::BadEnd)),
-        (4, b"7 -5 -4 99999 0 4 1 0", refused(4, Why::NotFalse)),
-        (
-            4,
-            b"7 -5 -4 99999 -99999 0 4 1 6 0",
-            refused(4, Why::Duplicate),
-        ),
-    ];
-    for (number, text, expected) in one_step {
-        assert_eq!(rt; verdict(alloc, false, &LINES[..7], number, text)?, expected);
+    for (number, text, line, why) in TWO_STEPS {
+        let got = verdict(alloc, true, &LINES, number, text)?;
+        assert_eq!(rt; got, refused(line, why));
     }
+    Ok(())
+}
+
+#[test]
+fn logs_are_accepted_cut_or_too_long(rt: HostRuntime) -> Result<(), Fail> {
+    let alloc = rt.alloc();
+    let one = verdict(alloc, false, &LINES[..7], 0, b"")?;
+    assert_eq!(rt; one, Verdict::Accepted);
+    let two = verdict(alloc, true, &LINES, 0, b"")?;
+    assert_eq!(rt; two, Verdict::Accepted);
+    let more_hints = verdict(alloc, true, &LINES, 11, b"10 -6 4 0 8 5 2 9 0")?;
+    assert_eq!(rt; more_hints, Verdict::Accepted);
     let cut = verdict(alloc, false, &LINES[..5], 0, b"")?;
     assert_eq!(rt; cut, refused(6, Why::Order));
-    let two_steps: [(usize, &[u8], Verdict); 6] = [
-        (0, b"", Verdict::Accepted),
-        (11, b"10 -6 4 0 8 5 2 9 0", Verdict::Accepted),
-        (9, b"b 9 -5 -3 0", refused(9, Why::BadBlock)),
-        (11, b"10 -6 4 0 5 2 6 9 0", refused(11, Why::NoClause)),
-        (14, b"d 8 9 10 0", refused(14, Why::NoClause)),
-        (14, b"d 10 9 0", refused(14, Why::Order)),
-    ];
-    for (number, text, expected) in two_steps {
-        assert_eq!(rt; verdict(alloc, true, &LINES, number, text)?, expected);
-    }
     let one_too_many = verdict(alloc, false, &LINES, 0, b"")?;
     assert_eq!(rt; one_too_many, refused(8, Why::Order));
     Ok(())
 }
 
-/// The verdict on a log of one step, whose lemma is the one clause of so many variables.
-fn verdict_on_copy(alloc: Global, variables: u16) -> Result<Verdict, Fail> {
-    let vars = u32::from(variables);
+/// The clause of so many variables.
+fn copied(alloc: Global, variables: u16) -> Result<Lits, Fail> {
     let mut clause = Lits::new(alloc);
+    for variable in 0..variables {
+        clause.push(literal(i32::from(variable) + 1))?;
+    }
+    Ok(clause)
+}
+
+/// A guard's variable, and the negations of so many variables.
+fn assumed(alloc: Global, variables: u16) -> Result<Lits, Fail> {
     let mut assumed = Lits::new(alloc);
     assumed.push(literal(i32::from(variables) + 1))?;
     for variable in 0..variables {
-        clause.push(literal(i32::from(variable) + 1))?;
         assumed.push(literal(-i32::from(variable) - 1))?;
     }
-    let mut clauses = Clauses::new(alloc);
-    clauses.push(clause)?;
-    let mut steps = List::new(alloc);
-    steps.push(assumed)?;
+    Ok(assumed)
+}
+
+/// The log of one step whose lemma has so many variables.
+fn lemma_log(alloc: Global, variables: u16) -> Result<Log, Fail> {
     let lemma = lemma_text(alloc, 2, u64::from(variables))?;
-    let mut log = Log::new(alloc);
-    for text in [
-        b"s".as_slice(),
-        lemma.as_slice(),
-        b"e 2".as_slice(),
-        b"r 3".as_slice(),
-        b"d 2".as_slice(),
-    ] {
-        if let Some(line) = Line::read(alloc, text)? {
-            log.push(line)?;
-        }
-    }
-    if steps.len() < 2 {
-        Ok(check(alloc, vars, &clauses, &steps, &log)?)
-    } else {
-        Ok(refused(0, Why::Order))
-    }
+    let lines: [&[u8]; 5] = [b"s", lemma.as_slice(), b"e 2", b"r 3", b"d 2"];
+    let log = log_of(alloc, &lines, 0, b"")?;
+    Ok(log)
+}
+
+/// The verdict on a log of one step, whose lemma is the one clause of so many variables.
+fn verdict_on_copy(alloc: Global, variables: u16) -> Result<Verdict, Fail> {
+    let mut clauses = Clauses::new(alloc);
+    clauses.push(copied(alloc, variables)?)?;
+    let mut steps = List::new(alloc);
+    steps.push(assumed(alloc, variables)?)?;
+    let log = lemma_log(alloc, variables)?;
+    let verdict = checked(alloc, variables, &clauses, &steps, &log)?;
+    Ok(verdict)
 }
 
 #[test]

@@ -8,5 +8,5 @@ mod splits;
 
 pub use hex::push_value;
 pub use key::{KeyParts, key_parts};
-pub use signal::{Member, Signal, members, push_name, signals};
+pub use signal::{Member, Signal, members, push_name, push_range, signals};
 pub use splits::{first_split, last_split};

@@ -230,8 +230,8 @@ pub fn signals<'a>(
     join(alloc, &members)
 }
 
-/// Appends the numbers of the bits of a vector.
-fn push_range(text: &mut Vec<u8>, high: u64, count: usize) -> Result<(), NoMemory>
+/// Appends the numbers of the bits of a vector: so many, from the greatest down.
+pub fn push_range(text: &mut Vec<u8>, high: u64, count: usize) -> Result<(), NoMemory>
     ensures { OnOk result (text.new.items ≡ text.old.items ++ range_text (Some high) count) }
 {
     push_piece(text, b"[")?;

@@ -1,5 +1,5 @@
 //! A line as it is shown to a person, and the caret under a place of it.
-ghost use Rattle.std.specs.Prelude.{◌≡◌, ◌≤◌, ◌<◌, ◌∷◌, [], ◌++◌, length, replicate, take, OnOk};
+ghost use Rattle.std.specs.Prelude.{◌≡◌, ◌≤◌, ◌<◌, ◌-◌, ◌∷◌, [], ◌++◌, flat_map, length, min, replicate, take, OnOk};
 ghost use Rattle.bs_place.specs.Quotes.{caret, digit, is_printable, shown_line, shown_byte, shown_width};
 
 use bs_bits::{NoMemory, push_piece};
@@ -57,9 +57,29 @@ pub fn push_quoted(into: &mut Vec<u8>, line: &[u8]) -> Result<(), NoMemory>
 
 /// How many columns a byte takes where it is shown.
 fn shown_width(byte: u8) -> usize
-    ensures { result ≡ shown_width byte }
+    ensures is { result ≡ shown_width byte }
+    ensures few { result ≤ 4 }
 {
     if is_printable(byte) { 1 } else { 4 }
+}
+
+/// The shown bytes before a column.
+#[tactic(auto, using(std::proofs::lemmas::List::take_min))]
+fn shown_before(line: &[u8], column: usize) -> &[u8]
+    requires { 0 < column }
+    ensures { result.now ≡ take (min (column - 1) SHOWN) line.now }
+{
+    &line[..(column - 1).min(SHOWN).min(line.len())]
+}
+
+/// Appends as many spaces as bytes take columns where they are shown.
+fn push_under(into: &mut Vec<u8>, bytes: &[u8]) -> Result<(), NoMemory>
+    ensures { OnOk result (into.new.items ≡ into.old.items ++ flat_map (λ b. replicate (shown_width b) 32) bytes.now) }
+{
+    'bytes: for &byte in bytes {
+        push_blanks(into, shown_width(byte))?;
+    }
+    Ok(())
 }
 
 /// Appends a caret that stands under the byte of a column of the shown line, or behind the line where that column is not shown.
@@ -67,10 +87,7 @@ pub fn push_caret(into: &mut Vec<u8>, line: &[u8], column: usize) -> Result<(), 
     requires { 0 < column }
     ensures { OnOk result (into.new.items ≡ into.old.items ++ caret line.now column) }
 {
-    let before = &line[..line.len().min(column - 1).min(SHOWN)];
-    'bytes: for &byte in before {
-        push_blanks(into, shown_width(byte))?;
-    }
+    push_under(into, shown_before(line, column))?;
     push_piece(into, b"^")
 }
 

@@ -3,3 +3,12 @@ pub mod TallyLemmas
 pub mod LookedLemmas
 pub mod ApartLemmas
 pub mod WidthLemmas
+pub mod ClassLemmas
+pub mod PlaceLemmas
+pub mod SplitLemmas
+pub mod GreedyLemmas
+pub mod ComparedLemmas
+pub mod ItemLemmas
+pub mod KeyLemmas
+pub mod LineLemmas
+pub mod ProposalLemmas

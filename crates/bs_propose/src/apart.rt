@@ -11,7 +11,7 @@ use std::alloc::Global;
 
 /// The first bits, so many.
 #[tactic(auto, using(crate::proofs::RowLemmas::row_more))]
-fn front(alloc: Global, bits: &Bits, count: usize) -> Result<Bits, NoMemory>
+pub(crate) fn front(alloc: Global, bits: &Bits, count: usize) -> Result<Bits, NoMemory>
     requires { count ≤ length bits.now }
     ensures { IfOk result (λ own. own ≡ take count bits.now) }
 {
@@ -24,7 +24,7 @@ fn front(alloc: Global, bits: &Bits, count: usize) -> Result<Bits, NoMemory>
 
 /// The bits behind the first, so many.
 #[tactic(auto, using(crate::proofs::ApartLemmas::behind_begin, crate::proofs::ApartLemmas::behind_more))]
-fn behind(alloc: Global, bits: &Bits, count: usize) -> Result<Bits, NoMemory>
+pub(crate) fn behind(alloc: Global, bits: &Bits, count: usize) -> Result<Bits, NoMemory>
     requires { count ≤ length bits.now }
     ensures { IfOk result (λ own. own ≡ drop count bits.now) }
 {

@@ -1,12 +1,21 @@
-//! How well a signature tells the states of recorded runs apart.
+//! How well a signature tells the states of recorded runs apart, and the proposal of one.
 #![tactic(auto)]
 
 mod apart;
+mod best;
+mod classes;
+mod greedy;
+mod items;
+mod keys;
+mod lines;
 mod listing;
+mod proposal;
 mod rows;
 mod sharing;
 
 pub use apart::{tell_states, tell_steps};
+pub use greedy::MAX_COMPARED;
 pub use listing::{list_states, list_steps};
+pub use proposal::proposal_text;
 pub use rows::MAX_ROWS;
 pub use sharing::Tally;

@@ -1,11 +1,13 @@
 -- Which words are a request, and which request they are (docs/FORMATS.md, "Words of `backspace_inspect`").
-use Rattle.std.specs.Prelude.{ℕ, nat_le, ◌==◌, Bool, false, ◌&&◌, ◌||◌, List, [], ◌∷◌, length, map, filter, count_by, codes, Option, Some, None, if◌then◌else◌}
+use Rattle.std.specs.Prelude.{ℕ, nat_le, ◌==◌, Bool, ◌&&◌, ◌||◌, List, [], ◌∷◌, length, map, filter, count_by, codes, Option, Some, None, if◌then◌else◌}
 use Rattle.std.specs.Option.{option_map, option_and_then}
-use Rattle.std.specs.List.{list_all, list_any}
+use Rattle.std.specs.List.{find, list_all, list_any}
 use Rattle.std.specs.Str.{bytes_eq}
+use Rattle.bs_words.specs.Options.{number_between}
 use Rattle.bs_request.specs.Flags.{is_flag}
 use Rattle.bs_request.specs.declared.flags.Flag.{Flag}
-use Rattle.bs_request.specs.declared.flags.Flag.TheVariants.{All, Only}
+use Rattle.bs_request.specs.declared.flags.Flag.TheVariants.{All, Only, Clock, Scope, Map, Bits}
+use Rattle.bs_request.specs.declared.limits.TheConstants.{MAX_BITS}
 use Rattle.bs_request.specs.Given.{Setting, Given, read_all, start}
 
 -- the files of `trace`, and what it shows: every flip-flop in each cycle, and these names alone, where there are any
@@ -15,6 +17,25 @@ pub record TraceRequest : Type 0 where
   pub all : Bool
   pub only : List (List ℕ)
 
+-- the files of `stimulus` with the file of names, where there is one; the name of the clock, and the path of a scope
+pub record StimulusRequest : Type 0 where
+  pub netlist : List ℕ
+  pub vcd : List ℕ
+  pub clock : List ℕ
+  pub scope : Option (List ℕ)
+  pub names : Option (List ℕ)
+
+-- the files of `wave`
+pub record WaveRequest : Type 0 where
+  pub netlist : List ℕ
+  pub report : List ℕ
+
+-- the files of `signature`, and how many items it is to have
+pub record SignatureRequest : Type 0 where
+  pub netlist : List ℕ
+  pub runs : List ℕ
+  pub items : ℕ
+
 pub data Request : Type 0 where
   Help : Request
   Version : Request
@@ -23,6 +44,9 @@ pub data Request : Type 0 where
   Stats : List ℕ → Request
   Steps : List ℕ → Request
   Trace : TraceRequest → Request
+  Stimulus : StimulusRequest → Request
+  Wave : WaveRequest → Request
+  Signature : SignatureRequest → Request
 
 abbrev pub has_flag : Flag → Setting → Bool
 has_flag flag s = is_flag flag s.flag
@@ -34,6 +58,10 @@ times flag settings = count_by (has_flag flag) settings
 -- the values that an option is given
 abbrev pub values_of : Flag → List Setting → List (List ℕ)
 values_of flag settings = map (λ s. s.value) (filter (has_flag flag) settings)
+
+-- the first value that an option is given
+abbrev pub value_of : Flag → List Setting → Option (List ℕ)
+value_of flag settings = option_map (λ s. s.value) (find (has_flag flag) settings)
 
 -- whether a command has neither words by position nor options
 abbrev pub is_alone : Given → Bool
@@ -68,6 +96,55 @@ trace_words positions settings =
 abbrev pub trace_request : Given → Option Request
 trace_request given = trace_words given.positions given.settings
 
+-- `stimulus` has two file names; `--clock` comes once, `--scope` and `--map` at most once, and no other option
+abbrev pub is_for_stimulus : Setting → Bool
+is_for_stimulus s = has_flag Clock s || (has_flag Scope s || has_flag Map s)
+
+abbrev pub are_for_stimulus : List Setting → Bool
+are_for_stimulus settings =
+    list_all is_for_stimulus settings && ((times Clock settings == 1) && (nat_le (times Scope settings) 1 && nat_le (times Map settings) 1))
+
+abbrev pub stimulus_of : List (List ℕ) → (clock scope names : Option (List ℕ)) → Option Request
+stimulus_of (netlist ∷ vcd ∷ []) (Some clock) scope names =
+    Some (Stimulus record { netlist = netlist; vcd = vcd; clock = clock; scope = scope; names = names })
+stimulus_of _ clock scope names = None
+
+abbrev pub stimulus_words : List (List ℕ) → List Setting → Option Request
+stimulus_words positions settings =
+    if are_for_stimulus settings
+    then stimulus_of positions (value_of Clock settings) (value_of Scope settings) (value_of Map settings)
+    else None
+
+abbrev pub stimulus_request : Given → Option Request
+stimulus_request given = stimulus_words given.positions given.settings
+
+-- `signature` has two file names, and `--bits` once with a number from 1 to the most items of a signature; no other option
+abbrev pub are_for_signature : List Setting → Bool
+are_for_signature settings = list_all (has_flag Bits) settings && (times Bits settings == 1)
+
+abbrev pub signature_of : List (List ℕ) → Option ℕ → Option Request
+signature_of (netlist ∷ runs ∷ []) (Some items) = Some (Signature record { netlist = netlist; runs = runs; items = items })
+signature_of _ items = None
+
+-- the number of items that a word is
+abbrev pub items_in : Option (List ℕ) → Option ℕ
+items_in word = option_and_then (number_between 1 MAX_BITS) word
+
+abbrev pub signature_words : List (List ℕ) → List Setting → Option Request
+signature_words positions settings =
+    if are_for_signature settings then signature_of positions (items_in (value_of Bits settings)) else None
+
+abbrev pub signature_request : Given → Option Request
+signature_request given = signature_words given.positions given.settings
+
+-- `wave` has two file names and no option
+abbrev pub wave_of : List (List ℕ) → Option Request
+wave_of (netlist ∷ report ∷ []) = Some (Wave record { netlist = netlist; report = report })
+wave_of _ = None
+
+abbrev pub wave_request : Given → Option Request
+wave_request given = if length given.settings == 0 then wave_of given.positions else None
+
 -- the request of a command and what stands behind it
 abbrev pub bare_request : List ℕ → Given → Option Request
 bare_request command given =
@@ -80,9 +157,16 @@ bare_request command given =
     else (if bytes_eq command (codes "steps") then named (λ (n : List ℕ). Steps n) given
     else None))))))
 
+abbrev pub other_request : List ℕ → Given → Option Request
+other_request command given =
+    if bytes_eq command (codes "stimulus") then stimulus_request given
+    else (if bytes_eq command (codes "signature") then signature_request given
+    else (if bytes_eq command (codes "wave") then wave_request given
+    else bare_request command given))
+
 abbrev pub command_request : List ℕ → Given → Option Request
 command_request command given =
-    if bytes_eq command (codes "trace") then trace_request given else bare_request command given
+    if bytes_eq command (codes "trace") then trace_request given else other_request command given
 
 -- the request that words are: the first is the command
 abbrev pub request_of : List (List ℕ) → Option Request

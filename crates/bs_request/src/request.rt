@@ -3,12 +3,15 @@ ghost use Rattle.std.specs.Prelude.{◌≡◌, ◌||◌, map, string_bytes, opti
 ghost use Rattle.std.specs.List.{list_all, list_any};
 ghost use Rattle.bs_request.specs.declared.flags.Flag.TheVariants.{All as TheAll, Only as TheOnly};
 ghost use Rattle.bs_request.specs.Flags.{is_flag};
-ghost use Rattle.bs_request.specs.Request.{alone, are_for_trace, bare_request, command_request, is_alone, named, only_name, request_of, times, trace_of, trace_request, trace_words, values_of};
+ghost use Rattle.bs_request.specs.Request.{alone, are_for_trace, bare_request, command_request, is_alone, named, only_name, other_request, request_of, signature_request, stimulus_request, times, trace_of, trace_request, trace_words, values_of, wave_request};
 ghost use Rattle.bs_request.specs.Request.{Flops as FlopsOf, Help as HelpOf, Inputs as InputsOf, Stats as StatsOf, Steps as StepsOf, Version as VersionOf};
 ghost use Rattle.bs_request.specs.Shown.{given_in, setting_of, shown_request};
 
 use crate::flags::{Flag, is_flag};
 use crate::given::{Given, Setting, read_given};
+use crate::proposed::SignatureRequest;
+use crate::signature::signature_request;
+use crate::stimulus::stimulus_request;
 use std::alloc::{AllocError, Global};
 
 /// `trace`: the names of its files, whether it tells every flip-flop in each cycle, and the names that it tells alone,
@@ -19,6 +22,24 @@ pub struct TraceRequest<'a> {
     pub report: &'a str,
     pub all: bool,
     pub only: Vec<&'a str>,
+}
+
+/// `stimulus`: the names of its files, the name of the clock, the path of a scope and the file of the names that the inputs have
+/// in a simulation, where there are any.
+#[derive(Drop)]
+pub struct StimulusRequest<'a> {
+    pub netlist: &'a str,
+    pub vcd: &'a str,
+    pub clock: &'a str,
+    pub scope: Option<&'a str>,
+    pub names: Option<&'a str>,
+}
+
+/// `wave`: the names of its files.
+#[derive(Drop)]
+pub struct WaveRequest<'a> {
+    pub netlist: &'a str,
+    pub report: &'a str,
 }
 
 /// What a command line asks to be told.
@@ -38,10 +59,16 @@ pub enum Request<'a> {
     Steps(&'a str),
     /// The trace of a report with the names of a netlist.
     Trace(TraceRequest<'a>),
+    /// A run of a stimulus out of the values of a simulator.
+    Stimulus(StimulusRequest<'a>),
+    /// The waveform of a report's trace, as viewers take it.
+    Wave(WaveRequest<'a>),
+    /// A signature that recorded runs propose.
+    Signature(SignatureRequest<'a>),
 }
 
 /// How often an option is given.
-fn times(flag: Flag, settings: &[Setting<'_>]) -> usize
+pub fn times(flag: Flag, settings: &[Setting<'_>]) -> usize
     ensures { result ≡ times flag (map setting_of settings.now) }
 {
     settings.iter().filter(|s| is_flag(flag, s.flag)).count()
@@ -239,6 +266,35 @@ fn bare_request<'a>(command: &str, given: &Given<'a>) -> Option<Request<'a>>
     None
 }
 
+/// `wave`.
+fn wave_request<'a>(given: &Given<'a>) -> Option<Request<'a>>
+    ensures { shown_request result ≡ wave_request (given_in given.now) }
+{
+    if !given.settings.is_empty() {
+        return None;
+    }
+    match given.positions.as_slice() {
+        [netlist, report] => Some(Request::Wave(WaveRequest { netlist, report })),
+        _ => None,
+    }
+}
+
+/// The request of a command other than `trace`.
+fn other_request<'a>(command: &str, given: &Given<'a>) -> Option<Request<'a>>
+    ensures { shown_request result ≡ other_request command.now (given_in given.now) }
+{
+    if command == "stimulus" {
+        return stimulus_request(given);
+    }
+    if command == "signature" {
+        return signature_request(given);
+    }
+    if command == "wave" {
+        return wave_request(given);
+    }
+    bare_request(command, given)
+}
+
 /// The request of a command and what stands behind it.
 fn command_request<'a>(
     alloc: Global,
@@ -250,7 +306,7 @@ fn command_request<'a>(
     if command == "trace" {
         return trace_request(alloc, given);
     }
-    Ok(bare_request(command, given))
+    Ok(other_request(command, given))
 }
 
 /// The request that the words of a command line are, without the program's name, if they are one. The first word is the

@@ -1,6 +1,7 @@
 //! Lines of a job, drawn by the same generator in another program.
-use bs_bits::next_line;
-use bs_gen::make;
+use bs_bits::{NoMemory, next_line};
+use bs_gen::{GeneratedJob, make};
+use std::alloc::Global;
 use std::test::Fail;
 
 /// The line of a text with this many lines before it.
@@ -18,50 +19,76 @@ fn line_after(text: &[u8], count: u32) -> Option<&[u8]> {
     }
 }
 
+/// Lines of the netlist, each behind so many others.
+const NETLIST: [(u32, &str); 20] = [
+    (0, "module demo(ck,x0,x1,x2,x3,x4);"),
+    (1, "input ck,x0,x1,x2,x3,x4;"),
+    (2, "not (dc0,c0);"),
+    (3, "xor (dc1,c1,c0);"),
+    (4, "and (t2,c0,c1);"),
+    (5, "xor (dc2,c2,t2);"),
+    (17, "xor (dc8,c8,t8);"),
+    (18, "or (w0,r0_5,c6);"),
+    (19, "nor (w1,c7,c1);"),
+    (27, "or (w9,w8,r3_8);"),
+    (300, "nor (w282,w278,r2_5);"),
+    (596, "and (w578,w328,w398);"),
+    (597, "xor (e0,r0_10,w574,x0);"),
+    (601, "xor (e4,r4_10,w578,x4);"),
+    (602, "dff fc0(ck,c0,dc0);"),
+    (610, "dff fc8(ck,c8,dc8);"),
+    (611, "dff fr0_0(ck,r0_0,e0);"),
+    (612, "dff fr0_1(ck,r0_1,r0_0);"),
+    (665, "dff fr4_10(ck,r4_10,r4_9);"),
+    (666, "endmodule"),
+];
+
+/// Lines of the stimulus.
+const STIMULUS: [(u32, &str); 9] = [
+    (0, "run run1 256"),
+    (1, "11101"),
+    (2, "11011"),
+    (256, "11110"),
+    (257, "end"),
+    (258, "run run2 256"),
+    (259, "01011"),
+    (8254, "11101"),
+    (8255, "end"),
+];
+
+/// The first of these lines that the text has otherwise, by how many stand before it.
+fn first_other(text: &[u8], rows: &[(u32, &str)]) -> Option<u32> {
+    for (count, want) in rows {
+        if line_after(text, *count) != Some(want.as_bytes()) {
+            return Some(*count);
+        }
+    }
+    None
+}
+
+/// The job with a number.
+fn job(alloc: Global, number: u64) -> Result<GeneratedJob, NoMemory> {
+    let job = make(alloc, number)?;
+    Ok(job)
+}
+
+/// The first line that the netlist has otherwise.
+fn first_of_netlist(job: &GeneratedJob) -> Option<u32> {
+    first_other(job.netlist.slice(), &NETLIST)
+}
+
+/// The same of the stimulus.
+fn first_of_stimulus(job: &GeneratedJob) -> Option<u32> {
+    first_other(job.stimulus.slice(), &STIMULUS)
+}
+
 #[test]
 fn lines_of_the_seventh_job(rt: HostRuntime) -> Result<(), Fail> {
-    let job = make(rt.alloc(), 7)?;
-    for (count, want) in [
-        (0, Some("module demo(ck,x0,x1,x2,x3,x4);")),
-        (1, Some("input ck,x0,x1,x2,x3,x4;")),
-        (2, Some("not (dc0,c0);")),
-        (3, Some("xor (dc1,c1,c0);")),
-        (4, Some("and (t2,c0,c1);")),
-        (5, Some("xor (dc2,c2,t2);")),
-        (17, Some("xor (dc8,c8,t8);")),
-        (18, Some("or (w0,r0_5,c6);")),
-        (19, Some("nor (w1,c7,c1);")),
-        (27, Some("or (w9,w8,r3_8);")),
-        (300, Some("nor (w282,w278,r2_5);")),
-        (596, Some("and (w578,w328,w398);")),
-        (597, Some("xor (e0,r0_10,w574,x0);")),
-        (601, Some("xor (e4,r4_10,w578,x4);")),
-        (602, Some("dff fc0(ck,c0,dc0);")),
-        (610, Some("dff fc8(ck,c8,dc8);")),
-        (611, Some("dff fr0_0(ck,r0_0,e0);")),
-        (612, Some("dff fr0_1(ck,r0_1,r0_0);")),
-        (665, Some("dff fr4_10(ck,r4_10,r4_9);")),
-        (666, Some("endmodule")),
-        (667, None),
-    ] {
-        let line = line_after(job.netlist.slice(), count);
-        assert_eq!(rt; line, want.map(str::as_bytes), "netlist {count}");
-    }
-    for (count, want) in [
-        (0, Some("run run1 256")),
-        (1, Some("11101")),
-        (2, Some("11011")),
-        (256, Some("11110")),
-        (257, Some("end")),
-        (258, Some("run run2 256")),
-        (259, Some("01011")),
-        (8254, Some("11101")),
-        (8255, Some("end")),
-        (8256, None),
-    ] {
-        let line = line_after(job.stimulus.slice(), count);
-        assert_eq!(rt; line, want.map(str::as_bytes), "stimulus {count}");
-    }
+    let job = job(rt.alloc(), 7)?;
+    assert_eq!(rt; first_of_netlist(&job), None);
+    assert_eq!(rt; line_after(job.netlist.slice(), 667), None);
+    assert_eq!(rt; first_of_stimulus(&job), None);
+    assert_eq!(rt; line_after(job.stimulus.slice(), 8256), None);
     assert_eq!(rt;
         job.signature.slice(),
         b"bit r4_10\nxor r0_10 r1_10\n".as_slice()

@@ -1,4 +1,7 @@
 //! Stimuli read and written: worked texts, and each call that allocates with ample memory, at a small and a great size.
+ghost use Rattle.std.specs.Prelude.{◌<◌, ◌≤◌, length};
+ghost use Rattle.bs_stim.specs.Runs.{run_at};
+
 use bs_bits::{Bits, NoMemory, push_piece};
 use bs_stim::{MAX_CYCLES, MAX_RUNS, MAX_TEXT, Runs, StimFault, read, write};
 use std::alloc::Global;
@@ -33,6 +36,39 @@ fn longest_run(alloc: Global, line: &[u8]) -> Result<Vec<u8>, NoMemory> {
     Ok(text)
 }
 
+/// The input of a cycle of a run as a text, bit by bit.
+fn single_text(alloc: Global, runs: &Runs, run: u32, cycle: u32) -> Result<Vec<u8>, NoMemory>
+    requires from_one { 1 ≤ run }
+    requires there { run ≤ length runs.now.runs }
+    requires recorded { cycle < length (run_at runs.now run).inputs }
+{
+    let mut bits = Bits::new(alloc);
+    for place in 0..runs.width() {
+        bits.push(runs.bit(run, cycle, place))?;
+    }
+    let mut text = Vec::new(alloc);
+    bits.text(&mut text)?;
+    Ok(text)
+}
+
+/// The same, written over zeros.
+fn whole_text(alloc: Global, runs: &Runs, run: u32, cycle: u32) -> Result<Vec<u8>, NoMemory>
+    requires from_one { 1 ≤ run }
+    requires there { run ≤ length runs.now.runs }
+    requires recorded { cycle < length (run_at runs.now run).inputs }
+{
+    let mut bits = Bits::new(alloc);
+    for _ in 0..runs.width() {
+        bits.push(false)?;
+    }
+    if bits.len() == runs.width() {
+        runs.fill(run, cycle, &mut bits);
+    }
+    let mut text = Vec::new(alloc);
+    bits.text(&mut text)?;
+    Ok(text)
+}
+
 /// The input of a cycle of a run as a text, if it is there: bit by bit, and written over zeros.
 fn input_text(
     alloc: Global,
@@ -40,56 +76,55 @@ fn input_text(
     run: u32,
     cycle: u32,
 ) -> Result<(Vec<u8>, Vec<u8>), NoMemory> {
-    let (mut single, mut whole) = (Bits::new(alloc), Bits::new(alloc));
-    let (mut first, mut second) = (Vec::new(alloc), Vec::new(alloc));
-    if run == 0 || run > runs.count() {
-        return Ok((first, second));
+    if run == 0 || run > runs.count() || cycle >= runs.cycles(run) {
+        return Ok((Vec::new(alloc), Vec::new(alloc)));
     }
-    if cycle >= runs.cycles(run) {
-        return Ok((first, second));
+    let single = single_text(alloc, runs, run, cycle)?;
+    let whole = whole_text(alloc, runs, run, cycle)?;
+    Ok((single, whole))
+}
+
+/// Texts, the number of data inputs, and the refusal.
+const TEXTS: [(&str, usize, Option<StimFault>); 19] = [
+    ("", 1, Some(StimFault::NoRun)),
+    ("run a 2\n1\nend\n", 1, Some(StimFault::Count(3))),
+    ("run a 1\nx\nend\n", 1, Some(StimFault::Line(2))),
+    ("run a 1\n11\nend\n", 1, Some(StimFault::Width(2))),
+    ("run a 65537\n", 1, Some(StimFault::TooManyCycles(1))),
+    (
+        "run a 99999999999999999999\n",
+        1,
+        Some(StimFault::TooManyCycles(1)),
+    ),
+    ("run a 65536\n", 1, Some(StimFault::Count(2))),
+    ("run a 1\n.\nend\n", 1, Some(StimFault::Width(2))),
+    ("run a 1\n1\nend\n", 0, Some(StimFault::Width(2))),
+    ("run a 0\n111\n", 1, Some(StimFault::Count(2))),
+    ("run a 0\nx\n", 1, Some(StimFault::Line(2))),
+    ("run a 01\n", 1, Some(StimFault::Line(1))),
+    ("run a 0 \nend\n", 1, Some(StimFault::Line(1))),
+    ("run  0\nend\n", 1, Some(StimFault::Line(1))),
+    ("run a 0\r\nend\n", 1, Some(StimFault::Line(1))),
+    ("\n", 1, Some(StimFault::Line(1))),
+    ("run a 0\nend\n\n", 1, Some(StimFault::Line(3))),
+    ("run a 0\nend", 1, None),
+    ("run a 1\n.\nend\n", 0, None),
+];
+
+/// The first of these texts that is answered otherwise.
+fn first_other<'a>(alloc: Global, rows: &[(&'a str, usize, Option<StimFault>)]) -> Option<&'a str> {
+    for (text, width, want) in rows {
+        if refusal(alloc, text.as_bytes(), *width) != *want {
+            return Some(*text);
+        }
     }
-    for place in 0..runs.width() {
-        single.push(runs.bit(run, cycle, place))?;
-        whole.push(false)?;
-    }
-    if whole.len() == runs.width() {
-        runs.fill(run, cycle, &mut whole);
-    }
-    single.text(&mut first)?;
-    whole.text(&mut second)?;
-    Ok((first, second))
+    None
 }
 
 #[test]
 fn refusals_of_stimuli(rt: HostRuntime) -> Result<(), Fail> {
     let alloc = rt.alloc();
-    for (text, width, want) in [
-        ("", 1, Some(StimFault::NoRun)),
-        ("run a 2\n1\nend\n", 1, Some(StimFault::Count(3))),
-        ("run a 1\nx\nend\n", 1, Some(StimFault::Line(2))),
-        ("run a 1\n11\nend\n", 1, Some(StimFault::Width(2))),
-        ("run a 65537\n", 1, Some(StimFault::TooManyCycles(1))),
-        (
-            "run a 99999999999999999999\n",
-            1,
-            Some(StimFault::TooManyCycles(1)),
-        ),
-        ("run a 65536\n", 1, Some(StimFault::Count(2))),
-        ("run a 1\n.\nend\n", 1, Some(StimFault::Width(2))),
-        ("run a 1\n1\nend\n", 0, Some(StimFault::Width(2))),
-        ("run a 0\n111\n", 1, Some(StimFault::Count(2))),
-        ("run a 0\nx\n", 1, Some(StimFault::Line(2))),
-        ("run a 01\n", 1, Some(StimFault::Line(1))),
-        ("run a 0 \nend\n", 1, Some(StimFault::Line(1))),
-        ("run  0\nend\n", 1, Some(StimFault::Line(1))),
-        ("run a 0\r\nend\n", 1, Some(StimFault::Line(1))),
-        ("\n", 1, Some(StimFault::Line(1))),
-        ("run a 0\nend\n\n", 1, Some(StimFault::Line(3))),
-        ("run a 0\nend", 1, None),
-        ("run a 1\n.\nend\n", 0, None),
-    ] {
-        assert_eq!(rt; refusal(alloc, text.as_bytes(), width), want, "{text}");
-    }
+    assert_eq!(rt; first_other(alloc, &TEXTS), None);
     let most = many_runs(alloc, MAX_RUNS, b"")?;
     assert_eq!(rt; refusal(alloc, most.as_slice(), 1), None);
     let more = many_runs(alloc, MAX_RUNS, b"run a 65537\n")?;
@@ -100,31 +135,69 @@ fn refusals_of_stimuli(rt: HostRuntime) -> Result<(), Fail> {
     Ok(())
 }
 
-#[test]
-fn inputs_are_those_of_the_text(rt: HostRuntime) -> Result<(), Fail> {
-    let alloc = rt.alloc();
-    let wide = b"0110100110010110100101100110100110010110011010010110100110010110010110";
+/// The runs of a text, if it is short enough.
+fn runs_of(alloc: Global, text: &[u8], width: usize) -> Result<Option<Runs>, StimFault> {
+    if text.len() > MAX_TEXT {
+        return Ok(None);
+    }
+    let runs = read(alloc, text, width)?;
+    Ok(Some(runs))
+}
+
+/// Whether runs have this text.
+fn have_text(alloc: Global, runs: &Runs, text: &[u8]) -> Result<bool, NoMemory> {
+    let mut written = Vec::new(alloc);
+    write(runs, &mut written)?;
+    Ok(written.as_slice() == text)
+}
+
+/// Whether a text is read as runs that have it again.
+fn is_written_back(alloc: Global, text: &[u8], width: usize) -> Result<bool, StimFault> {
+    match runs_of(alloc, text, width)? {
+        Some(runs) => Ok(have_text(alloc, &runs, text)?),
+        None => Ok(false),
+    }
+}
+
+/// Whether the second input of the second run is this text, however it is taken.
+fn has_input(alloc: Global, runs: &Runs, input: &[u8]) -> Result<bool, NoMemory> {
+    let (single, whole) = input_text(alloc, runs, 2, 1)?;
+    Ok(single.as_slice() == input && whole.as_slice() == input)
+}
+
+/// The same of the runs of a text.
+fn is_input(alloc: Global, text: &[u8], input: &[u8]) -> Result<bool, StimFault> {
+    match runs_of(alloc, text, input.len())? {
+        Some(runs) => Ok(has_input(alloc, &runs, input)?),
+        None => Ok(false),
+    }
+}
+
+/// An input of 70 bits.
+const WIDE: &[u8] = b"0110100110010110100101100110100110010110011010010110100110010110010110";
+
+/// Two runs, with that input as the second of the second run.
+fn wide_text(alloc: Global) -> Result<Vec<u8>, NoMemory> {
     let mut text = Vec::new(alloc);
     for piece in [
         b"run a 1\n".as_slice(),
         b"1111111111111111111111111111111111111111111111111111111111111111111111\n",
         b"end\nrun b 3\n",
         b"0000000000000000000000000000000000000000000000000000000000000000000000\n",
-        wide,
+        WIDE,
         b"\n1000000000000000000000000000000000000000000000000000000000000000000001\nend\n",
     ] {
         push_piece(&mut text, piece)?;
     }
-    if text.len() > MAX_TEXT {
-        return Ok(());
-    }
-    let runs = read(alloc, text.as_slice(), 70)?;
-    let (single, whole) = input_text(alloc, &runs, 2, 1)?;
-    assert_eq!(rt; single.as_slice(), wide.as_slice());
-    assert_eq!(rt; whole.as_slice(), wide.as_slice());
-    let mut written = Vec::new(alloc);
-    write(&runs, &mut written)?;
-    assert_eq!(rt; written.as_slice(), text.as_slice());
+    Ok(text)
+}
+
+#[test]
+fn inputs_are_those_of_the_text(rt: HostRuntime) -> Result<(), Fail> {
+    let alloc = rt.alloc();
+    let text = wide_text(alloc)?;
+    assert!(rt; is_input(alloc, text.as_slice(), WIDE)?);
+    assert!(rt; is_written_back(alloc, text.as_slice(), 70)?);
     Ok(())
 }
 
@@ -133,13 +206,7 @@ fn longest_runs_are_read_and_written(rt: HostRuntime) -> Result<(), Fail> {
     let alloc = rt.alloc();
     for (line, width) in [(b"101\n".as_slice(), 3), (b".\n", 0)] {
         let text = longest_run(alloc, line)?;
-        if text.len() > MAX_TEXT {
-            return Ok(());
-        }
-        let runs = read(alloc, text.as_slice(), width)?;
-        let mut written = Vec::new(alloc);
-        write(&runs, &mut written)?;
-        assert!(rt; written == text);
+        assert!(rt; is_written_back(alloc, text.as_slice(), width)?);
     }
     Ok(())
 }

@@ -69,6 +69,16 @@ impl Lists {
         self.rows.truncate(count);
     }
 
+    /// Makes room for more watchers in the list of a code, if there is one.
+    pub fn reserve(&mut self, code: usize, more: usize) -> Result<(), NoMemory>
+        ensures { self.new ≡ self.old }
+    {
+        if code < self.rows.len() {
+            self.rows[code].reserve(more)?;
+        }
+        Ok(())
+    }
+
     /// The number of watchers of a literal.
     pub fn len(&self, l: Lit) -> usize
         requires { code_of l < length self.now }

@@ -105,6 +105,13 @@ impl Watch {
         }
     }
 
+    /// Makes room for more watchers of the literal with this code, if there is one. Nothing that a contract sees changes.
+    pub fn reserve(&mut self, code: usize, more: usize) -> Result<(), NoMemory>
+        ensures { self.new ≡ self.old }
+    {
+        self.lists.reserve(code, more)
+    }
+
     /// Attaches a clause whose first two literals are guarded: where one of them is false and has
     /// been looked at, the clause has a true literal.
     pub fn attach(&mut self, arena: &Arena, r: Ref) -> Result<(), NoMemory>

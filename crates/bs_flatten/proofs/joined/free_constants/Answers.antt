@@ -1,6 +1,6 @@
 use Rattle.std.proofs.Common.{◌≡◌, ◌∙◌, ap, cond, arith, false, get_or, Bool}
 use Rattle.std.specs.List.{flat_map}
-use Rattle.bs_flatten.specs.Blocks.{bits_of}
+use Rattle.bs_flatten.specs.Blocks.{joins_of_run}
 use Rattle.bs_flatten.specs.Constants.{is_free}
 use Rattle.bs_flatten.specs.declared.constants.Bit.{Bit}
 use Rattle.bs_flatten.proofs.JoinedLemmas.{count_more}
@@ -9,7 +9,7 @@ use Rattle.bs_flatten.proofs.joined.free_constants.Goals as goal
 pub each-preserved : goal.each-preserved
 each-preserved c =
     let none : Bit = record { net = 0; value = false } in
-    let test = is_free c.args.value (flat_map bits_of c.args.runs.now) in
+    let test = is_free c.args.value (flat_map joins_of_run c.args.runs.now) in
     let more = count_more test c.args.bits.now c.each.bit-index none c.each-test.true in
     let one : c.one_if-count.result ≡ cond (test (get_or c.args.bits.now c.each.bit-index none)) 1 0 =
     c.one_if-count.ensures.is ∙ ap (λ (b : Bool). cond b 1 0) c.is_free-free.ensures in

@@ -4,8 +4,8 @@ use Rattle.std.specs.List.{flat_map, All}
 use Rattle.std.proofs.lemmas.List.{length-map}
 use Rattle.std.proofs.lemmas.List.Elements.{recursion_from_All}
 use Rattle.bs_flat.specs.Design.{Join}
-use Rattle.bs_flatten.specs.Blocks.{bits_of, own_of}
-use Rattle.bs_flatten.specs.Constants.{free_count, plain_left, bits_in}
+use Rattle.bs_flatten.specs.Blocks.{joins_of_run, own_of}
+use Rattle.bs_flatten.specs.Constants.{free_count, plain_left, known_constants}
 use Rattle.bs_flatten.specs.Nets.{plain_count, constant_count, weigh}
 use Rattle.bs_flatten.specs.declared.joined.Sort.{Sort}
 use Rattle.bs_flatten.proofs.JoinedLemmas.{constants_counted, plain_counted}
@@ -13,7 +13,7 @@ use Rattle.bs_flatten.proofs.joined.weight.Goals as goal
 
 pub returns-in-Plain : goal.returns-in-Plain
 returns-in-Plain c =
-    let js = flat_map bits_of c.args.runs.now in
+    let js = flat_map joins_of_run c.args.runs.now in
     let own = own_of c.args.block.now in
     let wide = length-map c.args.block.now.names string_bytes in
     let within : All (λ (j : Join). j.inner.0 < length own.names) js =
@@ -21,13 +21,13 @@ returns-in-Plain c =
     let is : c.plain_nets.result ≡ plain_count own js =
     c.plain_nets.ensures
     ∙ (ap (plain_left c.len.result js) c.requires.bits
-    ∙ (ap (λ n. plain_left n js (bits_in own)) (c.len.ensures ∙ sym wide)
+    ∙ (ap (λ n. plain_left n js (known_constants own)) (c.len.ensures ∙ sym wide)
     ∙ sym (plain_counted own js (recursion_from_All (λ (j : Join). j.inner.0 < length own.names) js within) c.requires.once))) in
     subst (λ (s : Sort). c.plain_nets.result ≡ weigh s own js) (sym c.in-Plain.is) is
 
 pub returns-in-Constant : goal.returns-in-Constant
 returns-in-Constant c =
-    let js = flat_map bits_of c.args.runs.now in
+    let js = flat_map joins_of_run c.args.runs.now in
     let own = own_of c.args.block.now in
     let is : c.free_constants.result ≡ constant_count c.in-Constant.value own js =
     c.free_constants.ensures

@@ -1,7 +1,7 @@
 use Rattle.std.proofs.Common.{◌≡◌, ℕ, ◌<◌, ◌+◌, map, length, get_or, List, nat_eq, arith, ap, sym, ◌∙◌, subst}
 use Rattle.std.specs.List.{All, flat_map, IsDistinct}
 use Rattle.bs_flat.specs.Design.{Join}
-use Rattle.bs_flatten.specs.Blocks.{bits_of, own_of, instance_of, module_of}
+use Rattle.bs_flatten.specs.Blocks.{joins_of_run, own_of, instance_of, module_of}
 use Rattle.bs_flatten.specs.Nets.{weigh}
 use Rattle.bs_flatten.specs.Sums.{weight_in, IsFit}
 use Rattle.bs_flatten.specs.declared.blocks.Run.{Run}
@@ -28,9 +28,9 @@ weight-own-requires c =
           c.slice-known.ensures
           ∙ known_is blocks c.args.bits.now child.of b c.index-bits-child.result c.requires.bits there c.index-blocks-child.is c.index-bits-child.is;
       within =
-          subst (λ (rs : List Run). All (λ (j : Join). j.inner.0 < length b.names) (flat_map bits_of rs)) (sym c.slice.ensures)
+          subst (λ (rs : List Run). All (λ (j : Join). j.inner.0 < length b.names) (flat_map joins_of_run rs)) (sym c.slice.ensures)
           (fit_within blocks child b fit there c.index-blocks-child.is);
-      once = subst (λ (rs : List Run). IsDistinct nat_eq (map (λ (j : Join). j.inner.0) (flat_map bits_of rs))) (sym c.slice.ensures) fit.once;
+      once = subst (λ (rs : List Run). IsDistinct nat_eq (map (λ (j : Join). j.inner.0) (flat_map joins_of_run rs))) (sym c.slice.ensures) fit.once;
     }
 
 pub each-preserved : goal.each-preserved
@@ -45,6 +45,6 @@ each-preserved c =
     let item = ap f c.child-item.is in
     let own : c.weight-own.result ≡ weight_in c.args.sort (map module_of blocks) (instance_of child) =
     c.weight-own.ensures
-    ∙ (ap (λ (rs : List Run). weigh c.args.sort (own_of b) (flat_map bits_of rs)) c.slice.ensures
+    ∙ (ap (λ (rs : List Run). weigh c.args.sort (own_of b) (flat_map joins_of_run rs)) c.slice.ensures
     ∙ sym (weight_is c.args.sort blocks child b there c.index-blocks-child.is)) in
     omega (arith, more, item, own)

@@ -1,4 +1,6 @@
+use Rattle.std.proofs.Common.{Ok, Err, refl}
 use Rattle.std.proofs.lemmas.Result.{err_from_is_err_and}
+use Rattle.bs_job.specs.declared.file.File.TheVariants as files
 use Rattle.bs_job.proofs.Walking.{walks_stop, walks_then, walks_end, reads_walk}
 use Rattle.bs_intake.proofs.walks.take_traced.Goals as goal
 
@@ -10,15 +12,13 @@ returns-in_err-net g c =
 pub returns-in_err-report : goal.returns-in_err-report
 returns-in_err-report g c =
     let p = err_from_is_err_and c.from_residual-in_err-report.result c.from_residual-in_err-report.ensures.1 in
-    rw (p.1, p.2) (walks_then _ c.in_ok-net.ensures (walks_stop _ c.in_err-report.ensures))
+    rw (p.1, p.2) (walks_then _ c.in_ok-net.ensures (walks_stop _ c.in_err-report.ensures.walks))
 
-pub returns-in_err-_fits : goal.returns-in_err-_fits
-returns-in_err-_fits g c =
-    let p = err_from_is_err_and c.from_residual-in_err-_fits.result c.from_residual-in_err-_fits.ensures.1 in
-    rw (p.1, p.2)
-    (walks_then _ c.in_ok-net.ensures (walks_then _ c.in_ok-report.ensures (walks_stop _ (reads_walk _ _ _ c.in_err-_fits.ensures c.read_fit-fit.ensures))))
+pub returns-in-Ok : goal.returns-in-Ok
+returns-in-Ok g c =
+    walks_then _ c.in_ok-net.ensures (walks_then _ c.in_ok-report.ensures.walks (walks_then _ (reads_walk files.Report _ (Ok _) refl c.in-Ok.ensures.reads) walks_end))
 
-pub returns : goal.returns
-returns g c =
-    walks_then _ c.in_ok-net.ensures
-    (walks_then _ c.in_ok-report.ensures (walks_then _ (reads_walk _ _ _ c.in_ok-_fits.ensures c.read_fit-fit.ensures) walks_end))
+pub returns-in-Err : goal.returns-in-Err
+returns-in-Err g c =
+    rw c.settle.ensures
+    (walks_then _ c.in_ok-net.ensures (walks_then _ c.in_ok-report.ensures.walks (walks_stop _ (reads_walk files.Report _ (Err c.in-Err.refusal) refl c.in-Err.ensures.reads))))

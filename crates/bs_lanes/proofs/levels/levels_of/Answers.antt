@@ -1,4 +1,4 @@
-use Rattle.std.proofs.Common.{◌≡◌, ◌≤◌, ◌<◌, ◌∙◌, ℕ, List, ap, arith, sym, subst, length, replicate}
+use Rattle.std.proofs.Common.{◌≡◌, ◌≤◌, ◌<◌, ◌*◌, ◌∙◌, ℕ, List, ap, arith, sym, subst, length, replicate}
 use Rattle.std.specs.List.{All}
 use Rattle.std.proofs.lemmas.List.{length-replicate}
 use Rattle.bs_net.specs.declared.limits.TheConstants.{MAX_NETS}
@@ -21,7 +21,14 @@ raise-requires-clause-numbered c =
 pub raise-requires-clause-few : goal.raise-requires-clause-few
 raise-requires-clause-few c =
     let order : c.slice-2.result.now ≡ c.args.net.now.order = c.slice-2.ensures ∙ c.order-order.ensures.order in
-    omega (arith, ap length order, length-order _ _ c.order-order.ensures.ordered, c.raw-raw.ensures.placed.gates.0)
+    let it = circuit c.args.net.now in
+    omega (
+      arith,
+      ap length order,
+      length-order _ _ c.order-order.ensures.ordered,
+      few_gates it c.order-order.ensures.checked,
+      c.raw-raw.ensures.bounded.few_nets,
+    )
 
 pub returns-clause-raised : goal.returns-clause-raised
 returns-clause-raised c =
@@ -53,7 +60,7 @@ returns-clause-low c =
       few_gates it c.order-order.ensures.checked,
       c.raw-raw.ensures.bounded.few_nets,
     ) in
-    let P : List ℕ → Type 0 = λ levels. All (λ level. level ≤ MAX_NETS) levels in
+    let P : List ℕ → Type 0 = λ levels. All (λ level. level ≤ MAX_NETS * 32) levels in
     subst P (sym (written c.raise.new.levels c.in_ok-levels.levels.items c.in_ok-levels.levels.len (sym (c.raise.auto.levels ∙ c.as_mut_slice.ensures.len))
     (omega (arith, ap length items, c.raise.auto.levels))))
-    (low_end c.raise.new.levels (length c.slice-2.result.now) MAX_NETS few c.raise.ensures.low)
+    (low_end c.raise.new.levels (length c.slice-2.result.now * 32) (MAX_NETS * 32) (omega (arith, few)) c.raise.ensures.low)

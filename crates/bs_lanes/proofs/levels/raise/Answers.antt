@@ -1,4 +1,4 @@
-use Rattle.std.proofs.Common.{◌≡◌, ◌<◌, ◌∙◌, arith, subst, sym, get_or, length, length-set}
+use Rattle.std.proofs.Common.{◌≡◌, ◌<◌, ◌*◌, ◌∙◌, arith, subst, sym, get_or, length, length-set}
 use Rattle.std.proofs.lemmas.List.{get_or_read}
 use Rattle.bs_net.specs.declared.net.Gate.{Gate}
 use Rattle.bs_net.specs.Order.{no_gate}
@@ -17,12 +17,12 @@ gates-preserved c =
     (record {
       size = length-set c.gates.levels gate.out.0 _ ∙ c.gates.invariant.size;
       left = sym (one_raised c.args.gates.now c.args.order.now c.gates.i c.gates.levels gate c.gates-test.true is) ∙ c.gates.invariant.left;
-      low = raised_low c.gates.levels c.gates.i gate.out.0 gate.ins c.gates.invariant.low out;
+      low = raised_low c.gates.levels c.gates.i gate c.gates.invariant.low out;
     })
 
 pub returns : goal.returns
 returns c =
     record {
       levels = sym (raised_end c.args.gates.now c.args.order.now c.gates.i c.gates.levels c.gates-test.false) ∙ c.gates.invariant.left;
-      low = low_end c.gates.levels c.gates.i (length c.args.order.now) c.gates.auto.i-end c.gates.invariant.low;
+      low = low_end c.gates.levels (c.gates.i * 32) (length c.args.order.now * 32) (omega (arith, c.gates.auto.i-end)) c.gates.invariant.low;
     }

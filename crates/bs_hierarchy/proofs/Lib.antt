@@ -1,0 +1,3 @@
+pub mod PlaceLemmas
+pub mod NumberLemmas
+pub mod RankLemmas

@@ -1,0 +1,6 @@
+-- What the modules of a text are to each other.
+pub mod Hierarchy
+-- Each instance by the number of its module.
+pub mod Numbers
+-- Where the module with a name stands among all.
+pub mod Places

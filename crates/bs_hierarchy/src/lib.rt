@@ -1,0 +1,9 @@
+//! The hierarchy of the modules of a text: a ring of them, or an order, children first, and those that none instances.
+#![tactic(auto)]
+
+mod numbers;
+mod places;
+mod ranks;
+
+pub use numbers::module_numbers;
+pub use ranks::{Hierarchy, Ranked, rank_modules};

@@ -1,0 +1,3 @@
+pub mod KeyLemmas
+pub mod FitLemmas
+pub mod ValueLemmas

@@ -1,0 +1,5 @@
+pub mod IdLemmas
+pub mod NetLemmas
+pub mod PlaceLemmas
+pub mod ValueLemmas
+pub mod HeadLemmas
