@@ -1,3 +1,4 @@
 pub mod KeyLemmas
 pub mod FitLemmas
 pub mod ValueLemmas
+pub mod WalkLemmas
