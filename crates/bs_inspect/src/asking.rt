@@ -12,9 +12,7 @@ use crate::telling::{
     tell_usage, tell_version, tell_wave,
 };
 use bs_entry::take_netlist;
-use bs_intake::{
-    Sampling, take_charted, take_exercised, take_picked, take_report, take_simulated,
-};
+use bs_intake::{Sampling, take_charted, take_exercised, take_picked, take_report, take_simulated};
 use bs_job::{Reply, stopped};
 use bs_outside::{NoMemory, Shelf};
 use bs_request::{Request, SignatureRequest, StimulusRequest, TraceRequest, WaveRequest};
@@ -100,11 +98,7 @@ fn stimulus<S: Shelf>(
 }
 
 /// The answer to `wave`.
-fn wave<S: Shelf>(
-    alloc: Global,
-    shelf: &mut S,
-    asked: &WaveRequest<'_>,
-) -> Result<Reply, NoMemory>
+fn wave<S: Shelf>(alloc: Global, shelf: &mut S, asked: &WaveRequest<'_>) -> Result<Reply, NoMemory>
     ensures { Prepared CheckSays finishes S.held S.faults S.leads shelf.old shelf.new (Some (plan_of (WaveOf (wave_in asked.now)))) result }
 {
     match take_charted(alloc, shelf, asked.netlist, asked.report) {

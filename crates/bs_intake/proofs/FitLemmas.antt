@@ -1,7 +1,7 @@
 -- Where no list has another length, each has this one.
-use Rattle.std.proofs.Common.{◌≡◌, ℕ, suc, ◌≤◌, ◌+◌, ◌==◌, Bool, true, false, not, cond, List, [], ◌∷◌, length, None, arith, refl}
+use Rattle.std.proofs.Common.{◌≡◌, ℕ, suc, ◌≤◌, ◌+◌, ◌==◌, Bool, true, false, not, List, [], ◌∷◌, length, None, arith, refl}
 use Rattle.std.specs.Prelude.{All, nat_lt}
-use Rattle.std.specs.List.{position, position_or_len}
+use Rattle.std.specs.List.{position_or_len}
 use Rattle.std.proofs.lemmas.Bool.{ltb-false, eqb-true}
 use Rattle.std.proofs.lemmas.Option.{none-some}
 use Rattle.std.proofs.lemmas.List.Elements.{All-cons, All-nil}

@@ -1,5 +1,5 @@
 -- A file that is fetched or read, and then the rest of a plan.
-use Rattle.std.proofs.Common.{◌≡◌, ℕ, List, Option, Result, Ok, Err, refl, sym, subst, Vec}
+use Rattle.std.proofs.Common.{◌≡◌, ℕ, List, Result, Ok, Err, refl, sym, subst, Vec}
 use Rattle.std.specs.declared.alloc.Global.{Global}
 use Rattle.bs_outside.specs.Calls.{FetchCall}
 use Rattle.bs_job.specs.declared.file.File.{File}
@@ -36,16 +36,16 @@ read_then {R = R} {V = V} {allows = allows} {held = held} {faults = faults} {lea
 
 -- a reader that refuses a file stops the plan, whatever was to come of it
 pub read_refused : {R T V U : Type 0} {allows : R → List ℕ → Type 0} {S : Type 0} {held : S → Tells} {faults : S → Counts} {leads : S → FetchCall →
-    S → Type 0} {before : S} {read_view : T → V} {view : U → V} (file : File) (wanted : Result V (Reason R)) (q : Refusal) →
+    S → Type 0} {before : S} {view : U → V} (file : File) (wanted : Result V (Reason R)) (read_view : T → V) (q : Refusal) →
     Reads allows read_view wanted (Err q) → Walks allows held faults leads before before (read_as file wanted) view (Err (stop_of q file))
-read_refused {U = U} {view = view} file wanted Q.NoMemory h = reads_walk {T = U} {view = view} file wanted (Err Q.NoMemory) refl tt
-read_refused {U = U} {view = view} file wanted (Q.Why why) h = reads_walk {T = U} {view = view} file wanted (Err (Q.Why why)) refl h
+read_refused {U = U} {view = view} file wanted read_view Q.NoMemory h = reads_walk {T = U} {view = view} file wanted (Err Q.NoMemory) refl tt
+read_refused {U = U} {view = view} file wanted read_view (Q.Why why) h = reads_walk {T = U} {view = view} file wanted (Err (Q.Why why)) refl h
 
 -- the same, before the rest
 pub read_stop : {R T V B U : Type 0} {allows : R → List ℕ → Type 0} {S : Type 0} {held : S → Tells} {faults : S → Counts} {leads : S → FetchCall →
-    S → Type 0} {before : S} {read_view : T → V} {view : U → B} (file : File) (wanted : Result V (Reason R)) (f : V → Plan R B) (q : Refusal) →
+    S → Type 0} {before : S} {view : U → B} (file : File) (wanted : Result V (Reason R)) (f : V → Plan R B) (read_view : T → V) (q : Refusal) →
     Reads allows read_view wanted (Err q) → Walks allows held faults leads before before (read_as file wanted >>= f) view (Err (stop_of q file))
-read_stop {V = V} file wanted f q h = walks_stop f (read_refused {U = V} {view = λ v. v} file wanted q h)
+read_stop {V = V} file wanted f read_view q h = walks_stop f (read_refused {U = V} {view = λ v. v} file wanted read_view q h)
 
 -- what a plan of something walks to, where that is this
 pub walks_with : {R A B U : Type 0} {allows : R → List ℕ → Type 0} {S : Type 0} {held : S → Tells} {faults : S → Counts} {leads : S → FetchCall → S →

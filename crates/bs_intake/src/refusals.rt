@@ -107,11 +107,7 @@ fn key_at<'a>(keys: &[&'a [u8]], input: u64) -> &'a [u8]
     ensures { result.now ≡ key_at (map (λ k. k.now) keys.now) input }
 {
     let place = input as usize;
-    if place < keys.len() {
-        keys[place]
-    } else {
-        b""
-    }
+    if place < keys.len() { keys[place] } else { b"" }
 }
 
 /// A word and the key of an input.

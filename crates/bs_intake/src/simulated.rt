@@ -50,7 +50,10 @@ fn take_keyed<S: Shelf>(
     ensures { Walks CheckSays S.held S.faults S.leads shelf.old shelf.new (run_of (input_keys net.now.raw) None sampling.entry.vcd.now sampling.entry.clock.now (option_map (λ s. s.now) sampling.entry.scope)) (λ lines. lines) result }
 {
     match read_keys(alloc, net) {
-        Ok(keys) => take_values(alloc, shelf, keys.as_slice(), keys.as_slice(), sampling),
+        Ok(keys) => {
+            let keys = keys.as_slice();
+            take_values(alloc, shelf, keys, keys, sampling)
+        }
         Err(refusal) => settle(File::Netlist, Err(refusal)),
     }
 }
@@ -67,13 +70,11 @@ fn take_named<S: Shelf>(
 {
     let bytes = fetch_file(alloc, shelf, File::Map, file)?;
     match read_aliases(alloc, net, &bytes) {
-        Ok(aliases) => take_values(
-            alloc,
-            shelf,
-            aliases.keys.as_slice(),
-            aliases.names.as_slice(),
-            sampling,
-        ),
+        Ok(aliases) => {
+            let keys = aliases.keys.as_slice();
+            let names = aliases.names.as_slice();
+            take_values(alloc, shelf, keys, names, sampling)
+        }
         Err(refusal) => settle(File::Map, Err(refusal)),
     }
 }

@@ -24,11 +24,7 @@ pub struct Aliases<'a> {
 }
 
 /// The names that inputs with these keys have in a simulation.
-fn read_map<'a>(
-    alloc: Global,
-    bytes: &'a [u8],
-    keys: &[&'a [u8]],
-) -> Result<Vec<&'a [u8]>, Refusal>
+fn read_map<'a>(alloc: Global, bytes: &'a [u8], keys: &[&'a [u8]]) -> Result<Vec<&'a [u8]>, Refusal>
     ensures { Reads CheckSays (λ names. map (λ n. n.now) names.items) (names_read (map (λ k. k.now) keys.now) bytes.now) result }
 {
     match read_names(alloc, bytes, keys) {

@@ -1,4 +1,4 @@
-use Rattle.std.proofs.Common.{ℕ, List, Bool, Option, Bor, ap}
+use Rattle.std.proofs.Common.{ℕ, List, Bool, Option, Bor}
 use Rattle.std.specs.Option.{option_map}
 use Rattle.bs_net.specs.Parts.{Parts}
 use Rattle.bs_job.specs.Plan.{Plan}

@@ -1,4 +1,4 @@
-use Rattle.std.proofs.Common.{ℕ, List, Bool}
+use Rattle.std.proofs.Common.{List, Bool}
 use Rattle.std.specs.Option.{option_map}
 use Rattle.std.proofs.lemmas.Result.{err_from_is_err_and}
 use Rattle.bs_net.specs.Parts.{Parts}

@@ -22,4 +22,4 @@ returns-in-Ok g c =
 pub returns-in-Err : goal.returns-in-Err
 returns-in-Err g c =
     rw c.settle.ensures
-    (walks_then _ c.in_ok-net.ensures (walks_then _ c.in_ok-report.ensures.walks (read_stop files.Report _ _ c.in-Err.refusal c.in-Err.ensures.reads)))
+    (walks_then _ c.in_ok-net.ensures (walks_then _ c.in_ok-report.ensures.walks (read_stop {T = Unit {0}} files.Report _ _ (λ _. true) c.in-Err.refusal c.in-Err.ensures.reads)))
