@@ -51,3 +51,10 @@ pub prepared_asked : {S : Type 0} {held : S → Tells} {faults : S → Counts} {
     Prepared CheckSays finishes held faults leads before now (Some (plan_of asked)) r
 prepared_asked {held = held} {faults = faults} {leads = leads} {before = before} {now = now} r asked request e h =
     subst (λ (q : Request). Prepared CheckSays finishes held faults leads before now (Some (plan_of q)) r) (sym e) h
+
+-- the answer to the plan of something, where that is this
+pub prepared_with : {A S : Type 0} {held : S → Tells} {faults : S → Counts} {leads : S → FetchCall → S → Type 0} {before now : S} (plan : A →
+    Plan Parts Work) (a b : A) (r : Result Reply NoMemory) → a ≡ b → Prepared CheckSays finishes held faults leads before now (Some (plan b)) r →
+    Prepared CheckSays finishes held faults leads before now (Some (plan a)) r
+prepared_with {A = A} {held = held} {faults = faults} {leads = leads} {before = before} {now = now} plan a b r is h =
+    subst (λ (x : A). Prepared CheckSays finishes held faults leads before now (Some (plan x)) r) (sym is) h

@@ -66,14 +66,9 @@ fn trace<S: Shelf>(
 ) -> Result<Reply, NoMemory>
     ensures { Prepared CheckSays finishes S.held S.faults S.leads shelf.old shelf.new (Some (plan_of (TraceOf (trace_in asked.now)))) result }
 {
-    match take_picked(
-        alloc,
-        shelf,
-        asked.netlist,
-        asked.report,
-        asked.only.as_slice(),
-    ) {
-        Ok(traced) => tell_trace(alloc, &traced, asked.all, asked.only.as_slice()),
+    let only = asked.only.as_slice();
+    match take_picked(alloc, shelf, asked.netlist, asked.report, only) {
+        Ok(traced) => tell_trace(alloc, &traced, asked.all, only),
         Err(stop) => stopped(alloc, stop),
     }
 }
