@@ -1,5 +1,5 @@
 -- Work that is done has a status of its own kind, and what stands where memory ran out before anything.
-use Rattle.std.proofs.Common.{◌≡◌, ℕ, true, List, Option, Some, None, Result, Ok, Err, refl, ap, sym, subst, ◌∙◌}
+use Rattle.std.proofs.Common.{◌≡◌, ℕ, true, List, Some, Result, Ok, refl, ap, sym, subst, ◌∙◌}
 use Rattle.std.specs.Prelude.{IfOk}
 use Rattle.bs_bits.specs.declared.memory.NoMemory.{NoMemory}
 use Rattle.bs_outside.specs.Calls.{FetchCall}
@@ -14,7 +14,7 @@ use Rattle.bs_job.specs.Prepared.{Prepared, IsWork}
 use Rattle.bs_job.proofs.Preparing.{prepares_work}
 use Rattle.bs_entry.specs.Refusals.{CheckSays}
 use Rattle.bs_request.specs.Request.{Request}
-use Rattle.bs_inspect.specs.Work.{Work, plan_of, to_help, to_version, to_flops, to_inputs, to_stats, to_steps, to_trace, to_run}
+use Rattle.bs_inspect.specs.Work.{Work, plan_of, to_help, to_version, to_flops, to_inputs, to_stats, to_steps, to_trace, to_run, to_wave, to_signature}
 use Rattle.bs_inspect.specs.Finishes.{finishes}
 
 work_status : (work : Work) (status : Status) (text : List ℕ) → finishes work status text → is_work_status status ≡ true
@@ -26,6 +26,8 @@ work_status (to_stats raw) status text done = ap is_work_status done.0 ∙ refl
 work_status (to_steps report) status text done = ap is_work_status done.0 ∙ refl
 work_status (to_trace all only traced) status text done = ap is_work_status done.0 ∙ refl
 work_status (to_run lines) status text done = ap is_work_status done.0 ∙ refl
+work_status (to_wave traced) status text done = ap is_work_status done.0 ∙ refl
+work_status (to_signature items exercised) status text done = ap is_work_status done.0 ∙ refl
 
 pub is_work : IsWork finishes
 is_work = record { status = work_status }
@@ -49,3 +51,10 @@ pub prepared_asked : {S : Type 0} {held : S → Tells} {faults : S → Counts} {
     Prepared CheckSays finishes held faults leads before now (Some (plan_of asked)) r
 prepared_asked {held = held} {faults = faults} {leads = leads} {before = before} {now = now} r asked request e h =
     subst (λ (q : Request). Prepared CheckSays finishes held faults leads before now (Some (plan_of q)) r) (sym e) h
+
+-- the answer to the plan of something, where that is this
+pub prepared_with : {A S : Type 0} {held : S → Tells} {faults : S → Counts} {leads : S → FetchCall → S → Type 0} {before now : S} (plan : A →
+    Plan Parts Work) (a b : A) (r : Result Reply NoMemory) → a ≡ b → Prepared CheckSays finishes held faults leads before now (Some (plan b)) r →
+    Prepared CheckSays finishes held faults leads before now (Some (plan a)) r
+prepared_with {A = A} {held = held} {faults = faults} {leads = leads} {before = before} {now = now} plan a b r is h =
+    subst (λ (x : A). Prepared CheckSays finishes held faults leads before now (Some (plan x)) r) (sym is) h

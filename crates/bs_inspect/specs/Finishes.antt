@@ -4,12 +4,14 @@ use Rattle.bs_job.specs.declared.status.Status.{Status}
 use Rattle.bs_job.specs.declared.status.Status.TheVariants.{Done}
 use Rattle.bs_alias.specs.Run.{simulated}
 use Rattle.bs_stim.specs.StimulusText.{run_text}
+use Rattle.bs_view.specs.View.{IsViewOf}
+use Rattle.bs_propose.specs.Proposal.{TellsProposal}
 use Rattle.bs_listing.specs.Told.{TellsFlops, TellsInputs}
 use Rattle.bs_listing.specs.Sizes.{TellsSizes}
 use Rattle.bs_story.specs.Steps.{steps_text}
 use Rattle.bs_story.specs.Trace.{TellsTrace}
 use Rattle.bs_inspect.specs.Usage.{usage_text, version_text}
-use Rattle.bs_inspect.specs.Work.{Work, to_help, to_version, to_flops, to_inputs, to_stats, to_steps, to_trace, to_run}
+use Rattle.bs_inspect.specs.Work.{Work, to_help, to_version, to_flops, to_inputs, to_stats, to_steps, to_trace, to_run, to_wave, to_signature}
 
 abbrev pub finishes : Work → Status → List ℕ → Type 0
 finishes to_help status text = (status ≡ Done) × (text ≡ usage_text)
@@ -20,3 +22,5 @@ finishes (to_stats raw) status text = (status ≡ Done) × TellsSizes raw text
 finishes (to_steps report) status text = (status ≡ Done) × (text ≡ steps_text report)
 finishes (to_trace all only traced) status text = (status ≡ Done) × TellsTrace traced.raw traced.report all only text
 finishes (to_run lines) status text = (status ≡ Done) × (text ≡ run_text (simulated lines))
+finishes (to_wave traced) status text = (status ≡ Done) × IsViewOf traced.raw traced.report.states traced.report.inputs text
+finishes (to_signature items exercised) status text = (status ≡ Done) × TellsProposal exercised.raw exercised.runs items text

@@ -11,11 +11,13 @@ netlist_usage =
 unfoldable pub report_usage : List ℕ
 report_usage =
     line (codes "usage: backspace_inspect trace NETLIST REPORT [--all] [--only NAME ..]")
-    ++ line (codes "usage: backspace_inspect steps REPORT")
+    ++ (line (codes "usage: backspace_inspect steps REPORT")
+    ++ line (codes "usage: backspace_inspect wave NETLIST REPORT"))
 
 unfoldable pub run_usage : List ℕ
 run_usage =
     line (codes "usage: backspace_inspect stimulus NETLIST VCD --clock NAME [--scope PATH] [--map FILE]")
+    ++ line (codes "usage: backspace_inspect signature NETLIST STIMULUS --bits N")
 
 unfoldable pub other_usage : List ℕ
 other_usage = line (codes "usage: backspace_inspect help") ++ line (codes "usage: backspace_inspect version")

@@ -2,14 +2,14 @@
 use Rattle.std.specs.Prelude.{ℕ, Bool, List}
 use Rattle.bs_net.specs.Parts.{Parts}
 use Rattle.bs_report.specs.declared.report.Report.{Report}
-use Rattle.bs_request.specs.Request.{Request, Help, Version, Flops, Inputs, Stats, Steps, Trace, Stimulus}
+use Rattle.bs_request.specs.Request.{Request, Help, Version, Flops, Inputs, Stats, Steps, Trace, Stimulus, Wave, Signature}
 use Rattle.bs_job.specs.Plan.{Plan, end, ◌>>=◌}
 use Rattle.bs_entry.specs.Entry.{netlist_of, report_of}
-use Rattle.bs_intake.specs.Taken.{Traced, picked_of}
+use Rattle.bs_intake.specs.Taken.{Traced, Exercised, picked_of, charted_of, exercised_of}
 use Rattle.bs_intake.specs.Simulated.{simulated_of}
 
 -- how words stand, the version, the flip-flops, data inputs or sizes of a netlist, the steps of a report, its trace with the
--- names of a netlist, or a run with these inputs is to be written
+-- names of a netlist, a run with these inputs, the waveform of a trace, or a signature of so many items is to be written
 pub data Work : Type 0 where
   to_help : Work
   to_version : Work
@@ -19,6 +19,8 @@ pub data Work : Type 0 where
   to_steps : Report → Work
   to_trace : Bool → List (List ℕ) → Traced → Work
   to_run : List (List Bool) → Work
+  to_wave : Traced → Work
+  to_signature : ℕ → Exercised → Work
 
 -- the plan of a request
 abbrev pub plan_of : Request → Plan Parts Work
@@ -42,3 +44,9 @@ plan_of (Trace t) = do
 plan_of (Stimulus t) = do
   lines ← simulated_of t.netlist t.names t.vcd t.clock t.scope
   end (to_run lines)
+plan_of (Wave t) = do
+  traced ← charted_of t.netlist t.report
+  end (to_wave traced)
+plan_of (Signature t) = do
+  exercised ← exercised_of t.netlist t.runs
+  end (to_signature t.items exercised)

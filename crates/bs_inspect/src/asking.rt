@@ -2,19 +2,20 @@
 ghost use Rattle.std.specs.Prelude.{◌≡◌, Some};
 ghost use Rattle.bs_job.specs.Prepared.{Prepared};
 ghost use Rattle.bs_entry.specs.Refusals.{CheckSays};
-ghost use Rattle.bs_request.specs.Request.{Flops as FlopsOf, Help as HelpOf, Inputs as InputsOf, Stats as StatsOf, Steps as StepsOf, Stimulus as StimulusOf, Trace as TraceOf, Version as VersionOf};
-ghost use Rattle.bs_request.specs.Shown.{request_in, stimulus_in, trace_in};
+ghost use Rattle.bs_request.specs.Request.{Flops as FlopsOf, Help as HelpOf, Inputs as InputsOf, Signature as SignatureOf, Stats as StatsOf, Steps as StepsOf, Stimulus as StimulusOf, Trace as TraceOf, Version as VersionOf, Wave as WaveOf};
+ghost use Rattle.bs_request.specs.Shown.{request_in, signature_in, stimulus_in, trace_in, wave_in};
 ghost use Rattle.bs_inspect.specs.Finishes.{finishes};
 ghost use Rattle.bs_inspect.specs.Work.{plan_of};
 
 use crate::telling::{
-    tell_flops, tell_inputs, tell_run, tell_stats, tell_steps, tell_trace, tell_usage, tell_version,
+    tell_flops, tell_inputs, tell_run, tell_signature, tell_stats, tell_steps, tell_trace,
+    tell_usage, tell_version, tell_wave,
 };
 use bs_entry::take_netlist;
-use bs_intake::{Sampling, take_picked, take_report, take_simulated};
+use bs_intake::{Sampling, take_charted, take_exercised, take_picked, take_report, take_simulated};
 use bs_job::{Reply, stopped};
 use bs_outside::{NoMemory, Shelf};
-use bs_request::{Request, StimulusRequest, TraceRequest};
+use bs_request::{Request, SignatureRequest, StimulusRequest, TraceRequest, WaveRequest};
 use std::alloc::Global;
 
 /// The answer to `flops`.
@@ -65,14 +66,9 @@ fn trace<S: Shelf>(
 ) -> Result<Reply, NoMemory>
     ensures { Prepared CheckSays finishes S.held S.faults S.leads shelf.old shelf.new (Some (plan_of (TraceOf (trace_in asked.now)))) result }
 {
-    match take_picked(
-        alloc,
-        shelf,
-        asked.netlist,
-        asked.report,
-        asked.only.as_slice(),
-    ) {
-        Ok(traced) => tell_trace(alloc, &traced, asked.all, asked.only.as_slice()),
+    let only = asked.only.as_slice();
+    match take_picked(alloc, shelf, asked.netlist, asked.report, only) {
+        Ok(traced) => tell_trace(alloc, &traced, asked.all, only),
         Err(stop) => stopped(alloc, stop),
     }
 }
@@ -96,6 +92,30 @@ fn stimulus<S: Shelf>(
     }
 }
 
+/// The answer to `wave`.
+fn wave<S: Shelf>(alloc: Global, shelf: &mut S, asked: &WaveRequest<'_>) -> Result<Reply, NoMemory>
+    ensures { Prepared CheckSays finishes S.held S.faults S.leads shelf.old shelf.new (Some (plan_of (WaveOf (wave_in asked.now)))) result }
+{
+    match take_charted(alloc, shelf, asked.netlist, asked.report) {
+        Ok(traced) => tell_wave(alloc, &traced),
+        Err(stop) => stopped(alloc, stop),
+    }
+}
+
+/// The answer to `signature`.
+fn signature<S: Shelf>(
+    alloc: Global,
+    shelf: &mut S,
+    asked: &SignatureRequest<'_>,
+) -> Result<Reply, NoMemory>
+    ensures { Prepared CheckSays finishes S.held S.faults S.leads shelf.old shelf.new (Some (plan_of (SignatureOf (signature_in asked.now)))) result }
+{
+    match take_exercised(alloc, shelf, asked.netlist, asked.runs) {
+        Ok(exercised) => tell_signature(alloc, &exercised, asked.items),
+        Err(stop) => stopped(alloc, stop),
+    }
+}
+
 /// What is to be answered and written for a request.
 pub(crate) fn prepare<S: Shelf>(
     alloc: Global,
@@ -113,5 +133,7 @@ pub(crate) fn prepare<S: Shelf>(
         Request::Steps(report) => steps(alloc, shelf, report),
         Request::Trace(asked) => trace(alloc, shelf, asked),
         Request::Stimulus(asked) => stimulus(alloc, shelf, asked),
+        Request::Wave(asked) => wave(alloc, shelf, asked),
+        Request::Signature(asked) => signature(alloc, shelf, asked),
     }
 }

@@ -1,19 +1,21 @@
 //! What is told, as an answer.
-ghost use Rattle.std.specs.Prelude.{◌≡◌, map, IfOk};
-ghost use Rattle.bs_intake.specs.Taken.{traced_in};
+ghost use Rattle.std.specs.Prelude.{◌≡◌, ◌<◌, map, IfOk};
+ghost use Rattle.bs_intake.specs.Taken.{exercised_in, traced_in};
 ghost use Rattle.bs_inspect.specs.Finishes.{finishes};
-ghost use Rattle.bs_inspect.specs.Work.{to_flops, to_help, to_inputs, to_run, to_stats, to_steps, to_trace, to_version};
+ghost use Rattle.bs_inspect.specs.Work.{to_flops, to_help, to_inputs, to_run, to_signature, to_stats, to_steps, to_trace, to_version, to_wave};
 
 use crate::usage::{usage_text, version_text};
 use bs_alias::run_text;
 use bs_bits::{Bits, List};
-use bs_intake::Traced;
+use bs_intake::{Exercised, Traced};
 use bs_job::{Reply, Status};
 use bs_listing::{flops_text, inputs_text, stats_text};
 use bs_net::Netlist;
 use bs_outside::NoMemory;
+use bs_propose::proposal_text;
 use bs_report::Report;
 use bs_story::{steps_text, trace_text};
+use bs_view::view_text;
 use std::alloc::Global;
 
 /// How words stand.
@@ -103,6 +105,38 @@ pub(crate) fn tell_run(alloc: Global, lines: &List<Bits>) -> Result<Reply, NoMem
     ensures { IfOk result (λ answer. finishes (to_run lines.now) answer.status answer.text.items) }
 {
     let text = run_text(alloc, lines.slice())?;
+    Ok(Reply {
+        status: Status::Done,
+        text,
+    })
+}
+
+/// The waveform of a report's trace.
+pub(crate) fn tell_wave(alloc: Global, traced: &Traced) -> Result<Reply, NoMemory>
+    ensures { IfOk result (λ answer. finishes (to_wave (traced_in traced.now)) answer.status answer.text.items) }
+{
+    let text = view_text(
+        alloc,
+        &traced.net,
+        &traced.report.states,
+        &traced.report.inputs,
+    )?;
+    Ok(Reply {
+        status: Status::Done,
+        text,
+    })
+}
+
+/// A signature of so many items that recorded runs propose.
+pub(crate) fn tell_signature(
+    alloc: Global,
+    exercised: &Exercised,
+    items: u64,
+) -> Result<Reply, NoMemory>
+    requires { 0 < items }
+    ensures { IfOk result (λ answer. finishes (to_signature items (exercised_in exercised.now)) answer.status answer.text.items) }
+{
+    let text = proposal_text(alloc, &exercised.net, &exercised.runs, items as usize)?;
     Ok(Reply {
         status: Status::Done,
         text,

@@ -24,10 +24,11 @@ fn push_report_usage(text: &mut Vec<u8>) -> Result<(), NoMemory>
         text,
         b"usage: backspace_inspect trace NETLIST REPORT [--all] [--only NAME ..]",
     )?;
-    push_line(text, b"usage: backspace_inspect steps REPORT")
+    push_line(text, b"usage: backspace_inspect steps REPORT")?;
+    push_line(text, b"usage: backspace_inspect wave NETLIST REPORT")
 }
 
-/// Appends the line of the command on a simulation.
+/// Appends the lines of the commands on runs.
 #[tactic(auto, unfolding(crate::specs::Usage::run_usage))]
 fn push_run_usage(text: &mut Vec<u8>) -> Result<(), NoMemory>
     ensures { OnOk result (text.new.items ≡ text.old.items ++ run_usage) }
@@ -35,6 +36,10 @@ fn push_run_usage(text: &mut Vec<u8>) -> Result<(), NoMemory>
     push_line(
         text,
         b"usage: backspace_inspect stimulus NETLIST VCD --clock NAME [--scope PATH] [--map FILE]",
+    )?;
+    push_line(
+        text,
+        b"usage: backspace_inspect signature NETLIST STIMULUS --bits N",
     )
 }
 

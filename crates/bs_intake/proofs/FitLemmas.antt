@@ -1,7 +1,7 @@
 -- Where no list has another length, each has this one.
-use Rattle.std.proofs.Common.{◌≡◌, ℕ, suc, ◌≤◌, ◌+◌, ◌==◌, Bool, true, false, not, cond, List, [], ◌∷◌, length, None, arith, refl}
+use Rattle.std.proofs.Common.{◌≡◌, ℕ, suc, ◌≤◌, ◌+◌, ◌==◌, Bool, true, false, not, List, [], ◌∷◌, length, None, arith, refl}
 use Rattle.std.specs.Prelude.{All, nat_lt}
-use Rattle.std.specs.List.{position, position_or_len}
+use Rattle.std.specs.List.{position_or_len}
 use Rattle.std.proofs.lemmas.Bool.{ltb-false, eqb-true}
 use Rattle.std.proofs.lemmas.Option.{none-some}
 use Rattle.std.proofs.lemmas.List.Elements.{All-cons, All-nil}
@@ -12,13 +12,14 @@ other width bits = not (length bits == width)
 
 all_from : (width : ℕ) (lists : List (List Bool)) → length lists ≤ position_or_len (other width) lists → All (λ bits. length bits ≡ width) lists
 all_from width [] h = All-nil (λ (bits : List Bool). length bits ≡ width)
-all_from width (b ∷ bs) h = by (length b == width) refl
+all_from width (b ∷ bs) h = by (length b == width) refl (all_from width bs)
   where
-    by : (z : Bool) → length b == width ≡ z → All (λ bits. length bits ≡ width) (b ∷ bs)
-    by true e =
+    by : (z : Bool) → length b == width ≡ z → (length bs ≤ position_or_len (other width) bs → All (λ bits. length bits ≡ width) bs) →
+        All (λ bits. length bits ≡ width) (b ∷ bs)
+    by true e rest =
         let le : suc (length bs) ≤ 1 + position_or_len (other width) bs = rw e at h in
-        All-cons (λ (bits : List Bool). length bits ≡ width) b bs (eqb-true (length b) width e) (all_from width bs (omega (arith, le)))
-    by false e =
+        All-cons (λ (bits : List Bool). length bits ≡ width) b bs (eqb-true (length b) width e) (rest (omega (arith, le)))
+    by false e rest =
         let le : suc (length bs) ≤ 0 = rw e at h in
         absurd (omega (arith, le))
 

@@ -1,2 +1,4 @@
 pub mod KeyLemmas
 pub mod FitLemmas
+pub mod ValueLemmas
+pub mod WalkLemmas

@@ -1,5 +1,5 @@
 -- The files of a request, one after the other, and what they make ready.
-use Rattle.std.specs.Prelude.{ℕ, Bool, List}
+use Rattle.std.specs.Prelude.{ℕ, List}
 use Rattle.bs_net.specs.Parts.{Parts}
 use Rattle.bs_report.specs.declared.report.Report.{Report}
 use Rattle.bs_stim.specs.Runs.{Stimulus as Runs}

@@ -23,7 +23,7 @@ fn bytes_of<'a>(alloc: Global, texts: &[&'a str]) -> Result<Vec<&'a [u8]>, NoMem
 }
 
 /// The keys of the data inputs.
-fn input_bytes<'a>(alloc: Global, net: &'a Netlist) -> Result<Vec<&'a [u8]>, NoMemory>
+pub fn input_bytes<'a>(alloc: Global, net: &'a Netlist) -> Result<Vec<&'a [u8]>, NoMemory>
     ensures { IfOk result (λ keys. map (λ s. s.now) keys.items ≡ input_keys net.now.raw) }
 {
     let keys = input_keys(alloc, net)?;

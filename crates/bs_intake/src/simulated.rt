@@ -6,7 +6,7 @@ ghost use Rattle.bs_story.specs.Keys.{input_keys};
 ghost use Rattle.bs_intake.specs.Simulated.{run_of, simulated_of, values_of};
 
 use crate::keys::{maybe_bytes, read_keys};
-use crate::values::{read_lines, read_map};
+use crate::values::{read_aliases, read_lines};
 use bs_bits::{Bits, List};
 use bs_entry::take_netlist;
 use bs_job::{File, JobFault, fetch_file, settle};
@@ -34,10 +34,10 @@ fn take_values<'a, S: Shelf>(
 {
     let scope = maybe_bytes(sampling.scope);
     let bytes = fetch_file(alloc, shelf, File::Vcd, sampling.vcd)?;
-    settle(
-        File::Vcd,
-        read_lines(alloc, &bytes, keys, names, scope, sampling.clock.as_bytes()),
-    )
+    match read_lines(alloc, &bytes, keys, names, scope, sampling.clock.as_bytes()) {
+        Ok(lines) => Ok(lines),
+        Err(refusal) => settle(File::Vcd, Err(refusal)),
+    }
 }
 
 /// The same of a netlist's data inputs, whose names are their keys.
@@ -49,8 +49,13 @@ fn take_keyed<S: Shelf>(
 ) -> Result<List<Bits>, JobFault>
     ensures { Walks CheckSays S.held S.faults S.leads shelf.old shelf.new (run_of (input_keys net.now.raw) None sampling.entry.vcd.now sampling.entry.clock.now (option_map (λ s. s.now) sampling.entry.scope)) (λ lines. lines) result }
 {
-    let keys = settle(File::Netlist, read_keys(alloc, net))?;
-    take_values(alloc, shelf, &keys, &keys, sampling)
+    match read_keys(alloc, net) {
+        Ok(keys) => {
+            let keys = keys.as_slice();
+            take_values(alloc, shelf, keys, keys, sampling)
+        }
+        Err(refusal) => settle(File::Netlist, Err(refusal)),
+    }
 }
 
 /// The same, by a file of names.
@@ -64,9 +69,14 @@ fn take_named<S: Shelf>(
     ensures { Walks CheckSays S.held S.faults S.leads shelf.old shelf.new (run_of (input_keys net.now.raw) (Some file.now) sampling.entry.vcd.now sampling.entry.clock.now (option_map (λ s. s.now) sampling.entry.scope)) (λ lines. lines) result }
 {
     let bytes = fetch_file(alloc, shelf, File::Map, file)?;
-    let keys = settle(File::Map, read_keys(alloc, net))?;
-    let names = settle(File::Map, read_map(alloc, &bytes, &keys))?;
-    take_values(alloc, shelf, &keys, &names, sampling)
+    match read_aliases(alloc, net, &bytes) {
+        Ok(aliases) => {
+            let keys = aliases.keys.as_slice();
+            let names = aliases.names.as_slice();
+            take_values(alloc, shelf, keys, names, sampling)
+        }
+        Err(refusal) => settle(File::Map, Err(refusal)),
+    }
 }
 
 /// The same, by a file of names where there is one.

@@ -3,7 +3,7 @@ use Rattle.std.proofs.Common.{◌≡◌, Bool, ℕ, true, ◌||◌, List, [], �
 use Rattle.std.specs.List.{list_all, list_any}
 use Rattle.std.proofs.lemmas.List.Folds.{list_all-map}
 use Rattle.bs_request.specs.declared.flags.Flag.{Flag}
-use Rattle.bs_request.specs.declared.flags.Flag.TheVariants.{All, Only, Clock, Scope, Map}
+use Rattle.bs_request.specs.declared.flags.Flag.TheVariants.{All, Only, Clock, Scope, Map, Bits}
 use Rattle.bs_request.specs.declared.given.Setting.{Setting as CodeSetting}
 use Rattle.bs_request.specs.Flags.{is_flag}
 use Rattle.bs_request.specs.Request.{Request, has_flag, are_for_trace, trace_of, trace_words, values_of, is_for_stimulus}
@@ -30,3 +30,7 @@ trace_told positions settings all only r are e f is =
 pub all_for_stimulus : (settings : List CodeSetting) →
     list_all (λ s. is_flag Clock s.flag || (is_flag Scope s.flag || is_flag Map s.flag)) settings ≡ list_all is_for_stimulus (map setting_of settings)
 all_for_stimulus settings = sym (list_all-map is_for_stimulus setting_of settings)
+
+pub all_for_signature : (settings : List CodeSetting) →
+    list_all (λ s. is_flag Bits s.flag) settings ≡ list_all (has_flag Bits) (map setting_of settings)
+all_for_signature settings = sym (list_all-map (has_flag Bits) setting_of settings)

@@ -3,9 +3,11 @@ use Rattle.std.specs.Prelude.{ℕ, nat_le, ◌==◌, Bool, ◌&&◌, ◌||◌, L
 use Rattle.std.specs.Option.{option_map, option_and_then}
 use Rattle.std.specs.List.{find, list_all, list_any}
 use Rattle.std.specs.Str.{bytes_eq}
+use Rattle.bs_words.specs.Options.{number_between}
 use Rattle.bs_request.specs.Flags.{is_flag}
 use Rattle.bs_request.specs.declared.flags.Flag.{Flag}
-use Rattle.bs_request.specs.declared.flags.Flag.TheVariants.{All, Only, Clock, Scope, Map}
+use Rattle.bs_request.specs.declared.flags.Flag.TheVariants.{All, Only, Clock, Scope, Map, Bits}
+use Rattle.bs_request.specs.declared.limits.TheConstants.{MAX_BITS}
 use Rattle.bs_request.specs.Given.{Setting, Given, read_all, start}
 
 -- the files of `trace`, and what it shows: every flip-flop in each cycle, and these names alone, where there are any
@@ -23,6 +25,17 @@ pub record StimulusRequest : Type 0 where
   pub scope : Option (List ℕ)
   pub names : Option (List ℕ)
 
+-- the files of `wave`
+pub record WaveRequest : Type 0 where
+  pub netlist : List ℕ
+  pub report : List ℕ
+
+-- the files of `signature`, and how many items it is to have
+pub record SignatureRequest : Type 0 where
+  pub netlist : List ℕ
+  pub runs : List ℕ
+  pub items : ℕ
+
 pub data Request : Type 0 where
   Help : Request
   Version : Request
@@ -32,6 +45,8 @@ pub data Request : Type 0 where
   Steps : List ℕ → Request
   Trace : TraceRequest → Request
   Stimulus : StimulusRequest → Request
+  Wave : WaveRequest → Request
+  Signature : SignatureRequest → Request
 
 abbrev pub has_flag : Flag → Setting → Bool
 has_flag flag s = is_flag flag s.flag
@@ -103,6 +118,33 @@ stimulus_words positions settings =
 abbrev pub stimulus_request : Given → Option Request
 stimulus_request given = stimulus_words given.positions given.settings
 
+-- `signature` has two file names, and `--bits` once with a number from 1 to the most items of a signature; no other option
+abbrev pub are_for_signature : List Setting → Bool
+are_for_signature settings = list_all (has_flag Bits) settings && (times Bits settings == 1)
+
+abbrev pub signature_of : List (List ℕ) → Option ℕ → Option Request
+signature_of (netlist ∷ runs ∷ []) (Some items) = Some (Signature record { netlist = netlist; runs = runs; items = items })
+signature_of _ items = None
+
+-- the number of items that a word is
+abbrev pub items_in : Option (List ℕ) → Option ℕ
+items_in word = option_and_then (number_between 1 MAX_BITS) word
+
+abbrev pub signature_words : List (List ℕ) → List Setting → Option Request
+signature_words positions settings =
+    if are_for_signature settings then signature_of positions (items_in (value_of Bits settings)) else None
+
+abbrev pub signature_request : Given → Option Request
+signature_request given = signature_words given.positions given.settings
+
+-- `wave` has two file names and no option
+abbrev pub wave_of : List (List ℕ) → Option Request
+wave_of (netlist ∷ report ∷ []) = Some (Wave record { netlist = netlist; report = report })
+wave_of _ = None
+
+abbrev pub wave_request : Given → Option Request
+wave_request given = if length given.settings == 0 then wave_of given.positions else None
+
 -- the request of a command and what stands behind it
 abbrev pub bare_request : List ℕ → Given → Option Request
 bare_request command given =
@@ -115,10 +157,16 @@ bare_request command given =
     else (if bytes_eq command (codes "steps") then named (λ (n : List ℕ). Steps n) given
     else None))))))
 
+abbrev pub other_request : List ℕ → Given → Option Request
+other_request command given =
+    if bytes_eq command (codes "stimulus") then stimulus_request given
+    else (if bytes_eq command (codes "signature") then signature_request given
+    else (if bytes_eq command (codes "wave") then wave_request given
+    else bare_request command given))
+
 abbrev pub command_request : List ℕ → Given → Option Request
 command_request command given =
-    if bytes_eq command (codes "trace") then trace_request given
-    else (if bytes_eq command (codes "stimulus") then stimulus_request given else bare_request command given)
+    if bytes_eq command (codes "trace") then trace_request given else other_request command given
 
 -- the request that words are: the first is the command
 abbrev pub request_of : List (List ℕ) → Option Request

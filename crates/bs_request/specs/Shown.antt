@@ -6,11 +6,13 @@ use Rattle.bs_request.specs.declared.given.Given.{Given as CodeGiven}
 use Rattle.bs_request.specs.declared.given.Progress.{Progress as CodeTaken}
 use Rattle.bs_request.specs.declared.request.TraceRequest.{TraceRequest as CodeTraceRequest}
 use Rattle.bs_request.specs.declared.request.StimulusRequest.{StimulusRequest as CodeStimulusRequest}
+use Rattle.bs_request.specs.declared.request.WaveRequest.{WaveRequest as CodeWaveRequest}
+use Rattle.bs_request.specs.declared.proposed.SignatureRequest.{SignatureRequest as CodeSignatureRequest}
 use Rattle.bs_request.specs.declared.request.Request.{Request as CodeRequest}
 use Rattle.bs_request.specs.declared.request.Request.TheVariants as R
 use Rattle.bs_request.specs.Given.{Setting, Given, Progress}
 use Rattle.bs_request.specs.Request.{Request, Help, Version, Flops, Inputs, Stats, Steps, TraceRequest, Trace}
-use Rattle.bs_request.specs.Request.{StimulusRequest, Stimulus}
+use Rattle.bs_request.specs.Request.{StimulusRequest, Stimulus, WaveRequest, Wave, SignatureRequest, Signature}
 
 abbrev pub setting_of : CodeSetting → Setting
 setting_of s = record { flag = s.flag; value = s.value.now }
@@ -41,6 +43,12 @@ stimulus_in t = record {
   names = option_map (λ s. s.now) t.names;
 }
 
+abbrev pub wave_in : CodeWaveRequest → WaveRequest
+wave_in t = record { netlist = t.netlist.now; report = t.report.now }
+
+abbrev pub signature_in : CodeSignatureRequest → SignatureRequest
+signature_in t = record { netlist = t.netlist.now; runs = t.runs.now; items = t.items }
+
 abbrev pub request_in : CodeRequest → Request
 request_in R.Help = Help
 request_in R.Version = Version
@@ -50,6 +58,8 @@ request_in (R.Stats netlist) = Stats netlist.now
 request_in (R.Steps report) = Steps report.now
 request_in (R.Trace t) = Trace (trace_in t)
 request_in (R.Stimulus t) = Stimulus (stimulus_in t)
+request_in (R.Wave t) = Wave (wave_in t)
+request_in (R.Signature t) = Signature (signature_in t)
 
 abbrev pub shown_request : Option CodeRequest → Option Request
 shown_request None = None

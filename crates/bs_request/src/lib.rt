@@ -3,7 +3,12 @@
 
 mod flags;
 mod given;
+mod limits;
+mod proposed;
 mod request;
+mod signature;
 mod stimulus;
 
-pub use request::{Request, StimulusRequest, TraceRequest, read_request};
+pub use limits::MAX_BITS;
+pub use proposed::SignatureRequest;
+pub use request::{Request, StimulusRequest, TraceRequest, WaveRequest, read_request};

@@ -3,12 +3,14 @@ ghost use Rattle.std.specs.Prelude.{◌≡◌, ◌||◌, map, string_bytes, opti
 ghost use Rattle.std.specs.List.{list_all, list_any};
 ghost use Rattle.bs_request.specs.declared.flags.Flag.TheVariants.{All as TheAll, Only as TheOnly};
 ghost use Rattle.bs_request.specs.Flags.{is_flag};
-ghost use Rattle.bs_request.specs.Request.{alone, are_for_trace, bare_request, command_request, is_alone, named, only_name, request_of, stimulus_request, times, trace_of, trace_request, trace_words, values_of};
+ghost use Rattle.bs_request.specs.Request.{alone, are_for_trace, bare_request, command_request, is_alone, named, only_name, other_request, request_of, signature_request, stimulus_request, times, trace_of, trace_request, trace_words, values_of, wave_request};
 ghost use Rattle.bs_request.specs.Request.{Flops as FlopsOf, Help as HelpOf, Inputs as InputsOf, Stats as StatsOf, Steps as StepsOf, Version as VersionOf};
 ghost use Rattle.bs_request.specs.Shown.{given_in, setting_of, shown_request};
 
 use crate::flags::{Flag, is_flag};
 use crate::given::{Given, Setting, read_given};
+use crate::proposed::SignatureRequest;
+use crate::signature::signature_request;
 use crate::stimulus::stimulus_request;
 use std::alloc::{AllocError, Global};
 
@@ -33,6 +35,13 @@ pub struct StimulusRequest<'a> {
     pub names: Option<&'a str>,
 }
 
+/// `wave`: the names of its files.
+#[derive(Drop)]
+pub struct WaveRequest<'a> {
+    pub netlist: &'a str,
+    pub report: &'a str,
+}
+
 /// What a command line asks to be told.
 #[derive(Drop)]
 pub enum Request<'a> {
@@ -52,6 +61,10 @@ pub enum Request<'a> {
     Trace(TraceRequest<'a>),
     /// A run of a stimulus out of the values of a simulator.
     Stimulus(StimulusRequest<'a>),
+    /// The waveform of a report's trace, as viewers take it.
+    Wave(WaveRequest<'a>),
+    /// A signature that recorded runs propose.
+    Signature(SignatureRequest<'a>),
 }
 
 /// How often an option is given.
@@ -253,6 +266,35 @@ fn bare_request<'a>(command: &str, given: &Given<'a>) -> Option<Request<'a>>
     None
 }
 
+/// `wave`.
+fn wave_request<'a>(given: &Given<'a>) -> Option<Request<'a>>
+    ensures { shown_request result ≡ wave_request (given_in given.now) }
+{
+    if !given.settings.is_empty() {
+        return None;
+    }
+    match given.positions.as_slice() {
+        [netlist, report] => Some(Request::Wave(WaveRequest { netlist, report })),
+        _ => None,
+    }
+}
+
+/// The request of a command other than `trace`.
+fn other_request<'a>(command: &str, given: &Given<'a>) -> Option<Request<'a>>
+    ensures { shown_request result ≡ other_request command.now (given_in given.now) }
+{
+    if command == "stimulus" {
+        return stimulus_request(given);
+    }
+    if command == "signature" {
+        return signature_request(given);
+    }
+    if command == "wave" {
+        return wave_request(given);
+    }
+    bare_request(command, given)
+}
+
 /// The request of a command and what stands behind it.
 fn command_request<'a>(
     alloc: Global,
@@ -264,10 +306,7 @@ fn command_request<'a>(
     if command == "trace" {
         return trace_request(alloc, given);
     }
-    if command == "stimulus" {
-        return Ok(stimulus_request(given));
-    }
-    Ok(bare_request(command, given))
+    Ok(other_request(command, given))
 }
 
 /// The request that the words of a command line are, without the program's name, if they are one. The first word is the

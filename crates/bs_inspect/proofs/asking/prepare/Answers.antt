@@ -15,3 +15,9 @@ returns-in-Trace g c = prepared_asked _ _ _ (ap request_in c.in-Trace.is) c.trac
 
 pub returns-in-Stimulus : goal.returns-in-Stimulus
 returns-in-Stimulus g c = prepared_asked _ _ _ (ap request_in c.in-Stimulus.is) c.stimulus.ensures
+
+pub returns-in-Wave : goal.returns-in-Wave
+returns-in-Wave g c = prepared_asked _ _ _ (ap request_in c.in-Wave.is) c.wave.ensures
+
+pub returns-in-Signature : goal.returns-in-Signature
+returns-in-Signature g c = prepared_asked _ _ _ (ap request_in c.in-Signature.is) c.signature.ensures

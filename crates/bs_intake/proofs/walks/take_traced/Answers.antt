@@ -1,7 +1,8 @@
-use Rattle.std.proofs.Common.{Ok, Err, refl}
+use Rattle.std.proofs.Common.{true}
 use Rattle.std.proofs.lemmas.Result.{err_from_is_err_and}
 use Rattle.bs_job.specs.declared.file.File.TheVariants as files
-use Rattle.bs_job.proofs.Walking.{walks_stop, walks_then, walks_end, reads_walk}
+use Rattle.bs_job.proofs.Walking.{walks_stop, walks_then, walks_end}
+use Rattle.bs_intake.proofs.WalkLemmas.{read_then, read_stop}
 use Rattle.bs_intake.proofs.walks.take_traced.Goals as goal
 
 pub returns-in_err-net : goal.returns-in_err-net
@@ -16,9 +17,9 @@ returns-in_err-report g c =
 
 pub returns-in-Ok : goal.returns-in-Ok
 returns-in-Ok g c =
-    walks_then _ c.in_ok-net.ensures (walks_then _ c.in_ok-report.ensures.walks (walks_then _ (reads_walk files.Report _ (Ok _) refl c.in-Ok.ensures.reads) walks_end))
+    walks_then _ c.in_ok-net.ensures (walks_then _ c.in_ok-report.ensures.walks (read_then files.Report _ _ true c.in-Ok.ensures.reads walks_end))
 
 pub returns-in-Err : goal.returns-in-Err
 returns-in-Err g c =
     rw c.settle.ensures
-    (walks_then _ c.in_ok-net.ensures (walks_then _ c.in_ok-report.ensures.walks (walks_stop _ (reads_walk files.Report _ (Err c.in-Err.refusal) refl c.in-Err.ensures.reads))))
+    (walks_then _ c.in_ok-net.ensures (walks_then _ c.in_ok-report.ensures.walks (read_stop {T = Unit {0}} files.Report _ _ (λ _. true) c.in-Err.refusal c.in-Err.ensures.reads)))

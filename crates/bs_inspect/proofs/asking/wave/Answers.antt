@@ -1,0 +1,12 @@
+use Rattle.bs_job.proofs.Walking.{walks_as}
+use Rattle.bs_job.proofs.Preparing.{prepares_stop}
+use Rattle.bs_inspect.specs.Work.{to_wave}
+use Rattle.bs_inspect.specs.Finishes.{finishes}
+use Rattle.bs_inspect.proofs.WorkLemmas.{prepares_done}
+use Rattle.bs_inspect.proofs.asking.wave.Goals as goal
+
+pub returns-in-Ok : goal.returns-in-Ok
+returns-in-Ok g c = prepares_done _ (walks_as to_wave c.in-Ok.ensures) c.tell_wave.ensures
+
+pub returns-in-Err : goal.returns-in-Err
+returns-in-Err g c = prepares_stop finishes _ (walks_as to_wave c.in-Err.ensures) c.stopped.ensures
