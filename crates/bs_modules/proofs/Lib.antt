@@ -1,3 +1,4 @@
+pub mod IdLemmas
 pub mod PieceLemmas
 pub mod DealLemmas
 pub mod ItemLemmas

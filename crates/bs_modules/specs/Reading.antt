@@ -15,7 +15,7 @@ use Rattle.bs_modules.specs.declared.dealing.Dealt.{Dealt}
 use Rattle.bs_modules.specs.declared.owns.Modules.{Modules}
 use Rattle.bs_modules.specs.Dealing.{IsDealt}
 use Rattle.bs_modules.specs.Names.{rises, begin, all_apart}
-use Rattle.bs_modules.specs.Owns.{seen, owns, all_written}
+use Rattle.bs_modules.specs.Owns.{module_and_parts, owns, all_written}
 
 -- a refusal of a module's own text, or of an instance statement; want of memory is always the text's
 abbrev pub fault_of : VerilogFault → FlatFault
@@ -34,11 +34,11 @@ pub record IsDealtOut (ts : Rest) (d : Dealt) : Type 0 where
 
 -- the modules that were read
 abbrev pub read_modules_of : Modules → List ReadModule
-read_modules_of m = map gathered (zip (map seen m.owns) m.written)
+read_modules_of m = map gathered (zip (map module_and_parts m.owns) m.written)
 
 -- what was read of each, apart
 abbrev pub parts_read : Modules → List (Module × Parts) × List (List Written)
-parts_read m = (map seen m.owns, m.written)
+parts_read m = (map module_and_parts m.owns, m.written)
 
 -- what the own texts say, and then the instances
 abbrev pub all_read : List (List ℕ) → (ℕ → Bool) → Rest → Dealt → Result (List (Module × Parts) × List (List Written)) VerilogFault
