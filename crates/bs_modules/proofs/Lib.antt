@@ -7,3 +7,4 @@ pub mod NameLemmas
 pub mod LawLemmas
 pub mod ReadLemmas
 pub mod WholeLemmas
+pub mod CountLemmas
