@@ -10,7 +10,9 @@ use Rattle.bs_flat.proofs.CountLemmas.{sum_members, parts_are_summed}
 use Rattle.bs_flat.proofs.HeightLemmas.{tallest_same, depth_is_height}
 use Rattle.bs_flat.proofs.MemberLemmas.{Member}
 use Rattle.bs_flat.proofs.RootLemmas.{top_is_path}
-use Rattle.bs_flatten.specs.Order.{place_in, IsChildrenFirst}
+use Rattle.bs_order.specs.Ring.{place_in}
+use Rattle.bs_flatten.specs.Order.{IsChildrenFirst}
+use Rattle.bs_flatten.proofs.ChildrenLemmas.{children_earlier}
 use Rattle.bs_flatten.specs.Tables.{Follows, depth_by, count_by_parts}
 use Rattle.bs_flatten.proofs.TableLemmas.{tallest_none, sum_none}
 use Rattle.bs_flatten.proofs.OrderLemmas.{IsLocal}
@@ -164,8 +166,9 @@ pub depth_decides : (d : Design) (order table : List ℕ) → IsChildrenFirst d.
     nat_lt MAX_DEPTH (get_or table d.top 0) ≡ is_deep d
 depth_decides d order table o t =
     let rank : ℕ → ℕ = place_in order in
-    let h = heights_are d rank o.earlier in
-    let at = depths_bounded d rank (height_of d rank) (λ k. get_or table k 0) (MAX_DEPTH + 1) o.earlier h t.each (suc (rank d.top)) d.top (omega arith) in
+    let f : Falls d rank = children_earlier d.modules order o in
+    let h = heights_are d rank f in
+    let at = depths_bounded d rank (height_of d rank) (λ k. get_or table k 0) (MAX_DEPTH + 1) f h t.each (suc (rank d.top)) d.top (omega arith) in
     ap (nat_lt MAX_DEPTH) at ∙ (ends_above MAX_DEPTH (height_of d rank d.top) ∙ sym (depth_is_height d (height_of d rank) h))
 
 some : (x : Path) (xs : List Path) → Member x xs → 0 < length xs
@@ -183,7 +186,7 @@ pub count_decides : (d : Design) (order table : List ℕ) → IsChildrenFirst d.
     Follows (count_by_parts (MAX_PARTS + 2)) 1 d.modules table → nat_lt (MAX_PARTS + 1) (get_or table d.top 1) ≡ nat_lt MAX_PARTS (part_count d)
 count_decides d order table o shallow t =
     let rank : ℕ → ℕ = place_in order in
-    let f : Falls d rank = o.earlier in
+    let f : Falls d rank = children_earlier d.modules order o in
     let h = heights_are d rank f in
     let s = totals_are d rank (height_of d rank) f h in
     let low = ltb-false MAX_DEPTH (height_of d rank d.top) (sym (depth_is_height d (height_of d rank) h) ∙ shallow) in

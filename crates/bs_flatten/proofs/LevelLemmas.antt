@@ -1,8 +1,8 @@
 -- An order of gates that stand for modules has each module after those that it instances.
-use Rattle.std.proofs.Common.{◌≡◌, ℕ, zero, suc, ◌<◌, ◌≤◌, ◌+◌, Bool, true, false, ◌||◌, cond, not, List, [], ◌∷◌, length, get_or, refl, arith}
+use Rattle.std.proofs.Common.{◌≡◌, ℕ, zero, suc, ◌<◌, ◌≤◌, ◌+◌, Bool, true, false, ◌||◌, List, [], ◌∷◌, length, get_or, refl, arith}
 use Rattle.std.proofs.Common.{subst, ap, sym, ◌∙◌, ⊎_elim, inl, inr, nat_eq}
-use Rattle.std.specs.List.{All, IsDistinct, list_any, range_with_len, position_or_len, Contains}
-use Rattle.std.proofs.lemmas.Bool.{false≢true, cases_lt, cases_Bool, eqb-true, eqb-false, eq-eqb}
+use Rattle.std.specs.List.{All, IsDistinct, list_any, range_with_len, Contains}
+use Rattle.std.proofs.lemmas.Bool.{cases_lt, eqb-true, eqb-false, eq-eqb}
 use Rattle.std.proofs.lemmas.List.{length-map, get_or-map, get_or_past}
 use Rattle.std.proofs.lemmas.List.FromFn.{get_or-range_with_len, length-range_with_len}
 use Rattle.std.proofs.lemmas.List.Sums.{passes_at_first, position_or_len_is}
@@ -12,17 +12,11 @@ use Rattle.bs_net.specs.declared.net.NetId.{NetId}
 use Rattle.bs_net.specs.declared.net.Gate.{Gate}
 use Rattle.bs_net.specs.Order.{IsLevelled, gates_in, no_gate}
 use Rattle.bs_flat.specs.Design.{Module, instance_in, no_module}
-use Rattle.bs_flat.proofs.MemberLemmas.{Member, all_member, all_of, ranged}
-use Rattle.bs_flatten.specs.Order.{module_in, place_in, LevelledIsChildrenFirst}
-
-any_place : (t : ℕ → Bool) (xs : List ℕ) → list_any t xs ≡ true → position_or_len t xs < length xs
-any_place t [] e = absurd (false≢true e)
-any_place t (x ∷ xs) e = by (t x) e (any_place t xs)
-  where
-    by : (b : Bool) → (b || list_any t xs) ≡ true → (list_any t xs ≡ true → position_or_len t xs < length xs) →
-        cond (not b) (1 + position_or_len t xs) 0 < length (x ∷ xs)
-    by true q rest = omega arith
-    by false q rest = let less = rest q in omega (arith, less)
+use Rattle.bs_flat.proofs.MemberLemmas.{Member, all_member}
+use Rattle.bs_order.specs.Ring.{place_in}
+use Rattle.bs_order.proofs.LevelLemmas.{any_place, flips, range_apart}
+use Rattle.bs_flatten.specs.Order.{module_in, LevelledIsChildrenFirst}
+use Rattle.bs_flatten.proofs.ChildrenLemmas.{children_first}
 
 any_range : (k a n : ℕ) → a ≤ k → k < a + n → list_any (nat_eq k) (range_with_len a n) ≡ true
 any_range k a zero low high = absurd (omega (arith, low, high))
@@ -32,24 +26,6 @@ any_range k a (suc n) low high = by (nat_eq k a) refl (any_range k (a + 1) n)
         (b || list_any (nat_eq k) (range_with_len (a + 1) n)) ≡ true
     by true e rest = refl
     by false e rest = let apart = eqb-false k a e in rest (omega (arith, low, apart)) (omega (arith, high))
-
-no_equal : (k m : ℕ) → (k ≡ m → ⊥) → nat_eq k m ≡ false
-no_equal k m apart = ⊎_elim (λ (t : nat_eq k m ≡ true). absurd (apart (eqb-true k m t))) (λ (f : nat_eq k m ≡ false). f) (cases_Bool (nat_eq k m))
-
-flips : (x y : ℕ) → nat_eq x y ≡ nat_eq y x
-flips x y =
-    ⊎_elim
-    (λ (t : nat_eq y x ≡ true). eq-eqb x y (sym (eqb-true y x t)) ∙ sym t)
-    (λ (f : nat_eq y x ≡ false). no_equal x y (λ e. absurd (false≢true (sym f ∙ eq-eqb y x (sym e)))) ∙ sym f)
-    (cases_Bool (nat_eq y x))
-
-range_apart : (a n : ℕ) → IsDistinct nat_eq (range_with_len a n)
-unfolding IsDistinct
-range_apart a zero = tt
-range_apart a (suc n) = (
-  all_of (λ y. nat_eq a y ≡ false) (range_with_len (a + 1) n) (λ y m. let r = ranged (a + 1) n y m in no_equal a y (λ e. omega (arith, e, r.0))),
-  range_apart (a + 1) n,
-)
 
 apart_at : (xs : List ℕ) (i j : ℕ) → IsDistinct nat_eq xs → i < j → j < length xs → nat_eq (get_or xs j 0) (get_or xs i 0) ≡ false
 apart_at [] i j d less lt = absurd (omega (arith, lt))
@@ -76,18 +52,12 @@ later_apart (g ∷ gs) (suc p) (suc q) l le lt n c e = later_apart gs p q l.1 (o
 
 pub levelled_is_children_first : LevelledIsChildrenFirst
 levelled_is_children_first modules gates order a o =
-    record {
-      placed = λ k d lt. in_modules k d lt;
-      each = each;
-      once = once;
-      earlier =
-          λ k i li.
-          ⊎_elim
-          (λ (b : k < length modules). earlier k i b li)
-          (λ (g : length modules ≤ k).
-          absurd (omega (arith, subst (λ (m : Module). i < length m.instances) (get_or_past modules k no_module g) li)))
-          (cases_lt k (length modules));
-    }
+    children_first modules order in_modules each once
+    (λ k i li.
+    ⊎_elim
+    (λ (b : k < length modules). earlier k i b li)
+    (λ (g : length modules ≤ k). absurd (omega (arith, subst (λ (m : Module). i < length m.instances) (get_or_past modules k no_module g) li)))
+    (cases_lt k (length modules)))
   where
     N : ℕ
     N = length gates

@@ -1,4 +1,5 @@
 pub mod TableLemmas
+pub mod ChildrenLemmas
 pub mod OrderLemmas
 pub mod BoundLemmas
 pub mod NodeLemmas

@@ -10,7 +10,9 @@ use Rattle.bs_flat.specs.Counts.{sum_of, tallest}
 use Rattle.bs_flatten.specs.Blocks.{instance_of, module_of}
 use Rattle.bs_flatten.specs.declared.blocks.Block.{Block}
 use Rattle.bs_flatten.specs.declared.blocks.Child.{Child}
-use Rattle.bs_flatten.specs.Order.{module_in, place_in, IsChildrenFirst}
+use Rattle.bs_order.specs.Ring.{place_in}
+use Rattle.bs_flatten.specs.Order.{module_in, IsChildrenFirst}
+use Rattle.bs_flatten.proofs.ChildrenLemmas.{all_there, each_placed, children_earlier}
 use Rattle.bs_flatten.specs.Tables.{Follows, FollowsFirst, depth_by, count_by_parts, own_count}
 
 -- a rule reads the numbers of the instances' modules alone
@@ -37,7 +39,7 @@ follows_more rule past modules order table after i m v l o lt em wide ev ea firs
     λ k le.
     l.same (At after) (At table) (module_in modules k)
     (λ x lx.
-    let less = o.earlier k x lx in
+    let less = children_earlier modules order o k x lx in
     ap (λ (t : List ℕ). get_or t (instance_in (module_in modules k) x).of past) ea
     ∙ kept past order table m (instance_in (module_in modules k) x).of v (omega (arith, less, le, here))) in
     record {
@@ -69,7 +71,7 @@ follows_all rule past modules order table count o rest wide all first =
           λ k.
           ⊎_elim
           (λ (b : k < length modules).
-          let there = o.each k b in
+          let there = each_placed modules order o k b in
           let read : k ≡ get_or order (place_in order k) 0 = eqb-true k (get_or order (place_in order k) 0) (passes_at_first (nat_eq k) order 0 there) in
           subst (λ n. At n ≡ rule At (module_in modules n)) (sym read) (first.each (place_in order k) (omega (arith, there, all))))
           (λ (g : length modules ≤ k).
@@ -85,7 +87,7 @@ block_is blocks m b lt e = get_or-map module_of blocks m b no_module lt ∙ ap m
 
 pub in_order : (blocks : List Block) (order : List ℕ) (i : ℕ) → IsChildrenFirst (map module_of blocks) order → i < length order →
     get_or order i 0 < length blocks
-in_order blocks order i o lt = let there = o.placed i 0 lt in omega (arith, there, length-map blocks module_of)
+in_order blocks order i o lt = let there = all_there (map module_of blocks) order o i 0 lt in omega (arith, there, length-map blocks module_of)
 
 -- an instance of a block is of a module that is there
 pub children_within : (blocks : List Block) (order : List ℕ) (m : ℕ) (b : Block) → IsChildrenFirst (map module_of blocks) order → m < length blocks →
@@ -100,8 +102,8 @@ children_within blocks order m b o lt e =
     let lx2 : x < length (module_in modules m).instances = subst (λ (u : Module). x < length u.instances) (sym same) (omega (arith, lx, count)) in
     let child : (instance_in (module_in modules m) x).of ≡ k =
     ap (λ (u : Module). (instance_in u x).of) same ∙ ap (λ (u : Instance). u.of) (get_or-map instance_of b.children x d no_instance lx) in
-    let less : place_in order (instance_in (module_in modules m) x).of < place_in order m = o.earlier m x lx2 in
-    let here : place_in order m < length order = o.each m (omega (arith, lt, wide)) in
+    let less : place_in order (instance_in (module_in modules m) x).of < place_in order m = children_earlier modules order o m x lx2 in
+    let here : place_in order m < length order = each_placed modules order o m (omega (arith, lt, wide)) in
     let there : place_in order k < length order = subst (λ n. place_in order n < length order) child (omega (arith, less, here)) in
     let read : k ≡ get_or order (place_in order k) 0 = eqb-true k (get_or order (place_in order k) 0) (passes_at_first (nat_eq k) order 0 there) in
     subst (λ n. n < length blocks) (sym read) (in_order blocks order (place_in order k) o there)

@@ -7,7 +7,9 @@ use Rattle.bs_flat.specs.Reading.{is_deep}
 use Rattle.bs_flat.specs.declared.limits.TheConstants.{MAX_DEPTH}
 use Rattle.bs_flat.proofs.CountLemmas.{sum_members}
 use Rattle.bs_flat.proofs.HeightLemmas.{depth_is_height}
-use Rattle.bs_flatten.specs.Order.{place_in, IsChildrenFirst}
+use Rattle.bs_order.specs.Ring.{place_in}
+use Rattle.bs_flatten.specs.Order.{IsChildrenFirst}
+use Rattle.bs_flatten.proofs.ChildrenLemmas.{children_earlier}
 use Rattle.bs_flatten.specs.Tables.{Follows}
 use Rattle.bs_flatten.specs.Nets.{below_sum, sum_below}
 use Rattle.bs_flatten.proofs.TableLemmas.{sum_none}
@@ -95,6 +97,6 @@ pub sum_decides : (d : Design) (g : Instance → ℕ) (b : ℕ) (order table : L
 sum_decides d g b order table o shallow t =
     let rank : ℕ → ℕ = place_in order in
     let v : ℕ → ℕ = height_of d rank in
-    let h = heights_are d rank o.earlier in
+    let h = heights_are d rank (children_earlier d.modules order o) in
     let low = ltb-false MAX_DEPTH (v d.top) (sym (depth_is_height d v h) ∙ shallow) in
     sums_bounded d g v h b (λ k. get_or table k 0) t.each (suc (v d.top)) d.top (omega arith) ∙ ap (min b) (sym (top_sum d g v h MAX_DEPTH low))

@@ -15,6 +15,6 @@ pub use climbing::{Place, root_of};
 pub use constants::{Bit, all_bits, block_bits};
 pub use counts::{has_many_parts, is_deep};
 pub use joined::{Sort, outer_of, weight};
-pub use law::levelled_orders_are_children_first;
+pub use law::{levelled_orders_are_children_first, numbered_orders_are_children_first};
 pub use nodes::path_nodes;
 pub use sums::has_many_nets;

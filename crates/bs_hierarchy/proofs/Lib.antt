@@ -1,3 +1,4 @@
 pub mod PlaceLemmas
 pub mod NumberLemmas
 pub mod RankLemmas
+pub mod RefusalLemmas

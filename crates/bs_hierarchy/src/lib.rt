@@ -4,6 +4,8 @@
 mod numbers;
 mod places;
 mod ranks;
+mod refusals;
 
 pub use numbers::module_numbers;
 pub use ranks::{Hierarchy, Ranked, rank_modules};
+pub use refusals::expect_one_top;

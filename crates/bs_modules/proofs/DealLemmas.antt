@@ -8,7 +8,7 @@ use Rattle.bs_flat.specs.Pieces.{Piece, pieces, pieces_from, is_design}
 use Rattle.bs_modules.specs.Copying.{part}
 use Rattle.bs_modules.specs.declared.pieces.Cut.{Cut}
 use Rattle.bs_modules.specs.declared.dealing.Place.{Place}
-use Rattle.bs_modules.specs.Dealing.{IsCut, IsDealt, piece_at, is_design_body, designs_after, others_of, standing_at}
+use Rattle.bs_modules.specs.Dealing.{CutsFirst, IsDealt, piece_at, is_design_body, designs_after, others_of, standing_at}
 use Rattle.bs_modules.proofs.PieceLemmas.{pieces_cut, cut_within, drop_drop}
 
 -- the modules and the lexemes outside them so far, and those from a place on, are all
@@ -31,7 +31,7 @@ same_piece ts from c =
     made : Rest → Rest → Piece
     made a b = record { attributes = a; body = b }
 
-next_pieces : (ts : Rest) (from : ℕ) (c : Cut) → IsCut (drop from ts) c → pieces (drop from ts) ≡ piece_in ts from c ∷ pieces (drop (from + c.stop) ts)
+next_pieces : (ts : Rest) (from : ℕ) (c : Cut) → CutsFirst (drop from ts) c → pieces (drop from ts) ≡ piece_in ts from c ∷ pieces (drop (from + c.stop) ts)
 next_pieces ts from c cut =
     pieces_cut (drop from ts) c cut ∙ ap (λ p. p ∷ pieces (drop c.stop (drop from ts))) (same_piece ts from c)
     ∙ ap (λ (xs : Rest). piece_in ts from c ∷ pieces xs) (drop_drop from c.stop ts)
@@ -54,7 +54,7 @@ outside_other p ps e = ap (λ b. cond b [] (p.attributes ++ p.body) ++ others_of
 pub deal_start : (ts : Rest) → IsDealing ts [] [] 0
 deal_start ts = record { modules_so_far = refl; others_so_far = refl }
 
-deal_design_at : (ts : Rest) (modules : List Place) (others : Rest) (from : ℕ) (c : Cut) → IsCut (drop from ts) c
+deal_design_at : (ts : Rest) (modules : List Place) (others : Rest) (from : ℕ) (c : Cut) → CutsFirst (drop from ts) c
     → is_design_body (part ts (from + c.body) (from + c.stop)) ≡ true → IsDealing ts modules others from
     → IsDealing ts (modules ++ record { before = length others; from = from; body = from + c.body; stop = from + c.stop } ∷ []) others (from + c.stop)
 deal_design_at ts modules others from c cut e d =
@@ -98,7 +98,7 @@ whole_piece ts from c h =
     ∙ split_take c.body c.stop (drop from ts) h
     ∙ ap (λ k. take k (drop from ts)) d
 
-deal_other_at : (ts : Rest) (modules : List Place) (others : Rest) (from : ℕ) (c : Cut) → IsCut (drop from ts) c
+deal_other_at : (ts : Rest) (modules : List Place) (others : Rest) (from : ℕ) (c : Cut) → CutsFirst (drop from ts) c
     → is_design_body (part ts (from + c.body) (from + c.stop)) ≡ false → IsDealing ts modules others from
     → IsDealing ts modules (others ++ part ts from (from + c.stop)) (from + c.stop)
 deal_other_at ts modules others from c cut e d =
@@ -136,12 +136,12 @@ deal_end ts modules others from h d =
 
 -- ---- the same of what is left, as it is lent
 
-pub deal_design : (ts : Rest) (modules : List Place) (others : Rest) (from : ℕ) (c : Cut) (here : Rest) → here ≡ drop from ts → IsCut here c
+pub deal_design : (ts : Rest) (modules : List Place) (others : Rest) (from : ℕ) (c : Cut) (here : Rest) → here ≡ drop from ts → CutsFirst here c
     → is_design_body (part ts (from + c.body) (from + c.stop)) ≡ true → IsDealing ts modules others from
     → IsDealing ts (modules ++ record { before = length others; from = from; body = from + c.body; stop = from + c.stop } ∷ []) others (from + c.stop)
-deal_design ts modules others from c here same cut e d = deal_design_at ts modules others from c (subst (λ xs. IsCut xs c) same cut) e d
+deal_design ts modules others from c here same cut e d = deal_design_at ts modules others from c (subst (λ xs. CutsFirst xs c) same cut) e d
 
-pub deal_other : (ts : Rest) (modules : List Place) (others : Rest) (from : ℕ) (c : Cut) (here : Rest) → here ≡ drop from ts → IsCut here c
+pub deal_other : (ts : Rest) (modules : List Place) (others : Rest) (from : ℕ) (c : Cut) (here : Rest) → here ≡ drop from ts → CutsFirst here c
     → is_design_body (part ts (from + c.body) (from + c.stop)) ≡ false → IsDealing ts modules others from
     → IsDealing ts modules (others ++ part ts from (from + c.stop)) (from + c.stop)
-deal_other ts modules others from c here same cut e d = deal_other_at ts modules others from c (subst (λ xs. IsCut xs c) same cut) e d
+deal_other ts modules others from c here same cut e d = deal_other_at ts modules others from c (subst (λ xs. CutsFirst xs c) same cut) e d

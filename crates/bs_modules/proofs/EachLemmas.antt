@@ -58,7 +58,7 @@ unfolding each_of
 each_end {B = B} f front at xs h so =
     sym so.so_far ∙ ap (λ ys. behind front (each_of f ys)) (drop_all at xs h) ∙ ap (λ (zs : List B). Ok zs) (append-nil front)
 
--- the same with what is read seen by a view
+-- the same with what is read module_and_parts by a view
 pub each_seen : {A B C : Type 0} (f : A → Result C VerilogFault) (view : B → C) (front : List B) (at : ℕ) (xs : List A) (d : A) (y : B) → at < length xs
     → f (get_or xs at d) ≡ Ok (view y) → IsEach f (map view front) at xs → IsEach f (map view (front ++ y ∷ [])) (at + 1) xs
 each_seen f view front at xs d y h reads so = rw map-append (each_on f (map view front) at xs d (view y) h reads so)

@@ -1,3 +1,4 @@
+pub mod IdLemmas
 pub mod PieceLemmas
 pub mod DealLemmas
 pub mod ItemLemmas
@@ -6,3 +7,4 @@ pub mod NameLemmas
 pub mod LawLemmas
 pub mod ReadLemmas
 pub mod WholeLemmas
+pub mod CountLemmas

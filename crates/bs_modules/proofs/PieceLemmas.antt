@@ -16,7 +16,7 @@ use Rattle.bs_syntax.specs.Terms.{attribute_step, attributes_from, attributes}
 use Rattle.bs_syntax.specs.Modules.{is_module, is_endmodule}
 use Rattle.bs_flat.specs.Pieces.{Piece, to_endmodule, first_piece, before, loose, pieces, pieces_from}
 use Rattle.bs_modules.specs.declared.pieces.Cut.{Cut}
-use Rattle.bs_modules.specs.Dealing.{IsPast, EndsAt, IsCut, piece_at}
+use Rattle.bs_modules.specs.Dealing.{IsPast, EndsAt, CutsFirst, piece_at}
 
 -- a part that is left after so many
 abbrev Within : Rest → Rest → Type 0
@@ -175,7 +175,7 @@ rest_is_loose ts here =
     ∙ ap (λ xs. made (take (length ts) ts) xs []) (sym (take_none (length ts - length ts) (drop (length ts) ts) (omega arith)))
     ∙ ap (made (take (length ts) ts) (take (length ts - length ts) (drop (length ts) ts))) (sym (drop_all_of ts))
 
-whole : (t : Lexeme) (ts : Rest) → first_piece t ts ≡ loose (t ∷ ts) [] → IsCut (t ∷ ts) (record { body = length (t ∷ ts); stop = length (t ∷ ts) })
+whole : (t : Lexeme) (ts : Rest) → first_piece t ts ≡ loose (t ∷ ts) [] → CutsFirst (t ∷ ts) (record { body = length (t ∷ ts); stop = length (t ∷ ts) })
 whole t ts e = (e ∙ rest_is_loose (t ∷ ts) ([], []), omega arith, omega arith, omega arith)
 
 not_closed : (t : Lexeme) (ts : Rest) (r : Skip) → attributes (t ∷ ts) ≡ r → (elim r as (λ _. Type 0) [ Ok here ↦ ⊥ | Err fault ↦ ⊤ ])
@@ -184,13 +184,13 @@ not_closed t ts (Ok here) e none = absurd none
 not_closed t ts (Err fault) e none = refl
 
 -- attributes that are not closed: all is in no module
-pub cut_unclosed : (ts : Rest) → 0 < length ts → IsPast ts None → IsCut ts (record { body = length ts; stop = length ts })
+pub cut_unclosed : (ts : Rest) → 0 < length ts → IsPast ts None → CutsFirst ts (record { body = length ts; stop = length ts })
 cut_unclosed [] some none = absurd (omega arith)
 cut_unclosed (t ∷ ts) some none = whole t ts (first_is t ts ∙ not_closed t ts (attributes (t ∷ ts)) refl none)
 
 -- a `module` without `endmodule`: all is in no module
 cut_open_at : (ts : Rest) (n : ℕ) → 0 < length ts → attributes ts ≡ Ok (drop n ts) → is_module (sort (drop n ts)) ≡ true
-    → to_endmodule (drop n ts) ≡ None → IsCut ts (record { body = length ts; stop = length ts })
+    → to_endmodule (drop n ts) ≡ None → CutsFirst ts (record { body = length ts; stop = length ts })
 cut_open_at [] n some e m none = absurd (omega arith)
 cut_open_at (t ∷ ts) n some e m none =
     let here = drop n (t ∷ ts) in
@@ -203,7 +203,7 @@ left_count n ts h = omega (arith, length-drop n ts)
 
 -- a module with its attributes
 cut_module_at : (ts : Rest) (n more : ℕ) → 0 < length ts → n ≤ length ts → attributes ts ≡ Ok (drop n ts) → is_module (sort (drop n ts)) ≡ true
-    → EndsAt (drop n ts) more → IsCut ts (record { body = n; stop = n + more })
+    → EndsAt (drop n ts) more → CutsFirst ts (record { body = n; stop = n + more })
 cut_module_at [] n more some within e m ends = absurd (omega arith)
 cut_module_at (t ∷ ts) n more some within e m ends =
     let all = t ∷ ts in
@@ -220,7 +220,7 @@ cut_module_at (t ∷ ts) n more some within e m ends =
     )
 
 -- one lexeme that begins nothing
-pub cut_one : (ts : Rest) → 0 < length ts → attributes ts ≡ Ok (drop 0 ts) → is_module (sort (drop 0 ts)) ≡ false → IsCut ts (record { body = 1; stop = 1 })
+pub cut_one : (ts : Rest) → 0 < length ts → attributes ts ≡ Ok (drop 0 ts) → is_module (sort (drop 0 ts)) ≡ false → CutsFirst ts (record { body = 1; stop = 1 })
 cut_one [] some e m = absurd (omega arith)
 cut_one (t ∷ ts) some e m =
     let all = t ∷ ts in
@@ -235,13 +235,13 @@ cut_one (t ∷ ts) some e m =
 
 -- the same where there are no attributes
 cut_nothing_at : (ts : Rest) (n : ℕ) → 0 < length ts → n ≡ 0 → attributes ts ≡ Ok (drop n ts) → is_module (sort (drop n ts)) ≡ false
-    → IsCut ts (record { body = 1; stop = 1 })
+    → CutsFirst ts (record { body = 1; stop = 1 })
 cut_nothing_at ts n some none e m =
     cut_one ts some (e ∙ ap (λ k. Ok (drop k ts)) none) (sym (ap (λ k. is_module (sort (drop k ts))) none) ∙ m)
 
 -- attributes with no module behind them
 cut_attributes_at : (ts : Rest) (n : ℕ) → 0 < length ts → n ≢ 0 → n ≤ length ts → attributes ts ≡ Ok (drop n ts) → is_module (sort (drop n ts)) ≡ false
-    → IsCut ts (record { body = n; stop = n })
+    → CutsFirst ts (record { body = n; stop = n })
 cut_attributes_at [] n some more within e m = absurd (omega arith)
 cut_attributes_at (t ∷ ts) n some more within e m =
     let all = t ∷ ts in
@@ -331,7 +331,7 @@ enough (suc n) (suc m) (t ∷ ts) a b =
     ap (λ ps. (first_piece t ts).0 ∷ ps) (enough n m (first_piece t ts).1 (omega (arith, less, a)) (omega (arith, less, b)))
 
 -- the pieces from a cut on
-pub pieces_cut : (ts : Rest) (c : Cut) → IsCut ts c → pieces ts ≡ piece_at ts c ∷ pieces (drop c.stop ts)
+pub pieces_cut : (ts : Rest) (c : Cut) → CutsFirst ts c → pieces ts ≡ piece_at ts c ∷ pieces (drop c.stop ts)
 unfolding pieces_from
 pieces_cut [] c cut = absurd cut
 pieces_cut (t ∷ ts) c cut =
@@ -341,7 +341,7 @@ pieces_cut (t ∷ ts) c cut =
     (enough (length ts) (length after) after (omega (arith, length-drop c.stop (t ∷ ts), cut.1)) (omega arith))
 
 -- a cut's piece ends behind its `module`
-pub cut_within : (ts : Rest) (c : Cut) → IsCut ts c → c.body ≤ c.stop
+pub cut_within : (ts : Rest) (c : Cut) → CutsFirst ts c → c.body ≤ c.stop
 cut_within [] c cut = absurd cut
 cut_within (t ∷ ts) c cut = cut.2
 
@@ -359,20 +359,20 @@ pub end_found : (n : ℕ) (ts here : Rest) → here ≡ drop n ts → n < length
 end_found n ts here same h e so_far = end_found_at n ts h (same_sort is_endmodule here (drop n ts) true same e) so_far
 
 pub cut_open : (ts : Rest) (n : ℕ) (here : Rest) → here ≡ drop n ts → 0 < length ts → attributes ts ≡ Ok (drop n ts) → is_module (sort here) ≡ true
-    → to_endmodule here ≡ None → IsCut ts (record { body = length ts; stop = length ts })
+    → to_endmodule here ≡ None → CutsFirst ts (record { body = length ts; stop = length ts })
 cut_open ts n here same some e m none =
     cut_open_at ts n some e (same_sort is_module here (drop n ts) true same m) (sym (ap to_endmodule same) ∙ none)
 
 pub cut_module : (ts : Rest) (n more : ℕ) (here : Rest) → here ≡ drop n ts → 0 < length ts → n ≤ length ts → attributes ts ≡ Ok (drop n ts)
-    → is_module (sort here) ≡ true → EndsAt here more → IsCut ts (record { body = n; stop = n + more })
+    → is_module (sort here) ≡ true → EndsAt here more → CutsFirst ts (record { body = n; stop = n + more })
 cut_module ts n more here same some within e m ends =
     cut_module_at ts n more some within e (same_sort is_module here (drop n ts) true same m) (subst (λ xs. EndsAt xs more) same ends)
 
 pub cut_nothing : (ts : Rest) (n : ℕ) (here : Rest) → here ≡ drop n ts → 0 < length ts → n ≡ 0 → attributes ts ≡ Ok (drop n ts)
-    → is_module (sort here) ≡ false → IsCut ts (record { body = 1; stop = 1 })
+    → is_module (sort here) ≡ false → CutsFirst ts (record { body = 1; stop = 1 })
 cut_nothing ts n here same some none e m = cut_nothing_at ts n some none e (same_sort is_module here (drop n ts) false same m)
 
 pub cut_attributes : (ts : Rest) (n : ℕ) (here : Rest) → here ≡ drop n ts → 0 < length ts → n ≢ 0 → n ≤ length ts → attributes ts ≡ Ok (drop n ts)
-    → is_module (sort here) ≡ false → IsCut ts (record { body = n; stop = n })
+    → is_module (sort here) ≡ false → CutsFirst ts (record { body = n; stop = n })
 cut_attributes ts n here same some more within e m =
     cut_attributes_at ts n some more within e (same_sort is_module here (drop n ts) false same m)

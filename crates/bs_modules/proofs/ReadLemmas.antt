@@ -31,7 +31,7 @@ use Rattle.bs_modules.specs.Copying.{part}
 use Rattle.bs_modules.specs.Dealing.{IsDealt, Standing, designs_after, others_of, standing_at}
 use Rattle.bs_modules.specs.Items.{names_one, is_statement, statement, with_item, written_items}
 use Rattle.bs_modules.specs.Names.{heads, head_of, rises, begin, all_apart}
-use Rattle.bs_modules.specs.Owns.{each_of, said, seen, own_text, own_body, owns, written, all_written}
+use Rattle.bs_modules.specs.Owns.{each_of, said, module_and_parts, own_text, own_body, owns, written, all_written}
 use Rattle.bs_modules.specs.Reading.{IsDealtOut, fault_of, twice_of, read_modules_of, parts_read, all_read, apart_or, apart}
 use Rattle.bs_modules.proofs.LawLemmas.{IsOwn, all_own, begins}
 use Rattle.bs_modules.proofs.NameLemmas.{heads_of, marks_are, modules_once, modules_twice, Twofold, instances_twofold}
@@ -193,7 +193,7 @@ designs_are n (p ∷ ps) = by (is_design p) n p ps (λ k. designs_are k ps)
     by true n p ps later = ap (λ qs. p ∷ qs) (later n)
     by false n p ps later = later (n + length (p.attributes ++ p.body))
 
-abbrev piece_in : Rest → Place → Piece
+abbrev pub piece_in : Rest → Place → Piece
 piece_in ts p = record { attributes = part ts p.from p.body; body = part ts p.body p.stop }
 
 map_map : {A B C : Type 0} (g : B → C) (f : A → B) (xs : List A) → map g (map f xs) ≡ map (λ x. g (f x)) xs
@@ -309,7 +309,7 @@ total_is : (table : List (List ℕ)) (ts : Rest) (d : Dealt) (marks : ℕ → Bo
 total_is table ts d marks out e once =
     once_is table ts d marks out e once ∙ steps_are (owns table marks d.others ts d.modules) (all_written marks ts d.modules)
 
--- what is answered, seen as modules
+-- what is answered, module_and_parts as modules
 abbrev seen_as : Result Modules FlatFault → Total
 seen_as (Ok m) = Ok (read_modules_of m)
 seen_as (Err fault) = Err fault
@@ -319,7 +319,7 @@ answer_as total x (Ok m) e a = e ∙ ap seen_as a
 answer_as total x (Err fault) e (inl memory) = inl memory
 answer_as total x (Err fault) e (inr a) = inr (e ∙ ap seen_as a)
 
-apart_as : (m : Modules) (r : Result ⊤ VerilogFault) → Twofold m.written r → last_step (map seen m.owns) m.written ≡ seen_as (apart_or m r)
+apart_as : (m : Modules) (r : Result ⊤ VerilogFault) → Twofold m.written r → last_step (map module_and_parts m.owns) m.written ≡ seen_as (apart_or m r)
 apart_as m (Ok done) e = ap (λ (r : Result (List ℕ) FlatFault). r then (λ _. Ok (read_modules_of m))) e
 apart_as m (Err fault) e = ap (λ (r : Result (List ℕ) FlatFault). r then (λ _. Ok (read_modules_of m))) e
 

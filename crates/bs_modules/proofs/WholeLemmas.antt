@@ -23,32 +23,32 @@ use Rattle.bs_flat.specs.Connecting.{Port, ports_from, ports_of, width_of}
 use Rattle.bs_flat.specs.Reading.{IsRead, gathered}
 use Rattle.bs_modules.specs.declared.owns.Own.{Own}
 use Rattle.bs_modules.specs.declared.owns.Modules.{Modules}
-use Rattle.bs_modules.specs.Owns.{seen}
+use Rattle.bs_modules.specs.Owns.{module_and_parts}
 use Rattle.bs_modules.specs.Reading.{read_modules_of}
-use Rattle.bs_modules.specs.Wholeness.{bits_of, fits, is_whole, IsWhole}
+use Rattle.bs_modules.specs.Wholeness.{bit_count, fits, is_whole, IsWhole}
 
 -- ---- as a loop counts
 
 fits_next : (scope : ℕ → Option Says) (names : List Name) (i : ℕ) (d : Name) (left : ℕ) → i < length names
     → fits scope (drop i names) left
-    ≡ (nat_le (bits_of (known scope (get_or names i d)).range) left
-    && fits scope (drop (i + 1) names) (left - bits_of (known scope (get_or names i d)).range))
+    ≡ (nat_le (bit_count (known scope (get_or names i d)).range) left
+    && fits scope (drop (i + 1) names) (left - bit_count (known scope (get_or names i d)).range))
 unfolding fits
 fits_next scope names i d left h = ap (λ ns. fits scope ns left) (drop_more names i d h)
 
 pub fits_on : (scope : ℕ → Option Says) (names : List Name) (i : ℕ) (d : Name) (left bits : ℕ) (total : Bool) → i < length names
-    → bits ≡ bits_of (known scope (get_or names i d)).range → bits ≤ left → fits scope (drop i names) left ≡ total
+    → bits ≡ bit_count (known scope (get_or names i d)).range → bits ≤ left → fits scope (drop i names) left ≡ total
     → fits scope (drop (i + 1) names) (left - bits) ≡ total
 fits_on scope names i d left bits total h e low so_far =
-    let b = bits_of (known scope (get_or names i d)).range in
+    let b = bit_count (known scope (get_or names i d)).range in
     let less : nat_le b left ≡ true = le-leb b left (omega (arith, e, low)) in
     ap (λ k. fits scope (drop (i + 1) names) (left - k)) e
     ∙ sym (fits_next scope names i d left h ∙ ap (λ c. c && fits scope (drop (i + 1) names) (left - b)) less) ∙ so_far
 
 pub fits_fault : (scope : ℕ → Option Says) (names : List Name) (i : ℕ) (d : Name) (left bits : ℕ) (total : Bool) → i < length names
-    → bits ≡ bits_of (known scope (get_or names i d)).range → left < bits → fits scope (drop i names) left ≡ total → false ≡ total
+    → bits ≡ bit_count (known scope (get_or names i d)).range → left < bits → fits scope (drop i names) left ≡ total → false ≡ total
 fits_fault scope names i d left bits total h e low so_far =
-    let b = bits_of (known scope (get_or names i d)).range in
+    let b = bit_count (known scope (get_or names i d)).range in
     let less : nat_le b left ≡ false = lt-leb b left (omega (arith, e, low)) in
     sym (fits_next scope names i d left h ∙ ap (λ c. c && fits scope (drop (i + 1) names) (left - b)) less) ∙ so_far
 
@@ -66,18 +66,18 @@ both_true false b e = absurd (none e)
     none : ◌≡◌ {A = Bool} false true → ⊥
     none e = cc
 
-length_keys : (name : List ℕ) (range : Option Range) → length (keys name range) ≡ bits_of range
+length_keys : (name : List ℕ) (range : Option Range) → length (keys name range) ≡ bit_count range
 unfolding keys
 length_keys name None = refl
 length_keys name (Some r) = length-map-range_with_len _ 0 (width r)
 
 ports_fit : (scope : ℕ → Option Says) (size : Name → ℕ) (names : List Name) (first room : ℕ)
-    → ((n : Name) → size n ≡ bits_of (known scope n).range) → fits scope names room ≡ true
+    → ((n : Name) → size n ≡ bit_count (known scope n).range) → fits scope names room ≡ true
     → All (λ (p : Port). p.first + p.width ≤ first + room) (ports_from size first names)
 unfolding fits ports_from
 ports_fit scope size [] first room same e = All-nil (λ (p : Port). p.first + p.width ≤ first + room)
 ports_fit scope size (n ∷ ns) first room same e =
-    let b = bits_of (known scope n).range in
+    let b = bit_count (known scope n).range in
     let both = both_true (nat_le b room) (fits scope ns (room - b)) e in
     let low : b ≤ room = leb-true b room both.0 in
     let here = same n in
@@ -109,10 +109,10 @@ some_net (d ∷ ds) id s nets e found =
     let other : (length (d ∷ ds) == 0) ≡ false = ne_eqb (length (d ∷ ds)) 0 (λ same. omega (arith, same)) in
     ltb-true 0 nets (sym (ap (λ b. b || nat_lt 0 nets) other) ∙ e)
 
-read_whole : (table : List (List ℕ)) (own : Own) (ws : List Written) → IsWhole own → IsRead table (gathered (seen own, ws))
+read_whole : (table : List (List ℕ)) (own : Own) (ws : List Written) → IsWhole own → IsRead table (gathered (module_and_parts own, ws))
 read_whole table own ws e =
     let nets = length own.parts.names in
-    let m = gathered (seen own, ws) in
+    let m = gathered (module_and_parts own, ws) in
     let same : 0 + nets ≡ nets = omega arith in
     let both = both_true (fits (said own.says.declared) own.says.header nets) (length own.says.declared == 0 || nat_lt 0 nets) e in
     record {
@@ -125,11 +125,11 @@ read_whole table own ws e =
     }
 
 all_read : (table : List (List ℕ)) (owns : List Own) (ws : List (List Written)) → All IsWhole owns
-    → All (IsRead table) (map gathered (zip (map seen owns) ws))
+    → All (IsRead table) (map gathered (zip (map module_and_parts owns) ws))
 all_read table [] ws all = All-nil (IsRead table)
 all_read table (o ∷ os) [] all = All-nil (IsRead table)
 all_read table (o ∷ os) (w ∷ ws) all =
-    All-cons (IsRead table) (gathered (seen o, w)) (map gathered (zip (map seen os) ws)) (read_whole table o w (all 0 o (omega arith)))
+    All-cons (IsRead table) (gathered (module_and_parts o, w)) (map gathered (zip (map module_and_parts os) ws)) (read_whole table o w (all 0 o (omega arith)))
     (all_read table os ws (λ k d lt. all (suc k) d (omega arith)))
 
 pub modules_read : (table : List (List ℕ)) (m : Modules) → All IsWhole m.owns → All (IsRead table) (read_modules_of m)

@@ -25,9 +25,9 @@ abbrev pub piece_at : Rest → Cut → Piece
 piece_at ts c = record { attributes = take c.body ts; body = part ts c.body c.stop }
 
 -- a cut gives the piece that stands first, which is not empty, and what follows it
-abbrev pub IsCut : Rest → Cut → Type 0
-IsCut [] c = ⊥
-IsCut (t ∷ ts) c =
+abbrev pub CutsFirst : Rest → Cut → Type 0
+CutsFirst [] c = ⊥
+CutsFirst (t ∷ ts) c =
     (first_piece t ts ≡ (piece_at (t ∷ ts) c, drop c.stop (t ∷ ts))) × (0 < c.stop) × (c.body ≤ c.stop) × (c.stop ≤ length (t ∷ ts))
 
 -- a module that is no cell has such a body

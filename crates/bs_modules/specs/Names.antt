@@ -19,6 +19,14 @@ head_of body = if is_name (sort (rest body)) then record { at = at body; id = (n
 abbrev pub heads : Rest → List Place → List Name
 heads ts places = flat_map (λ p. head_of (part ts p.body p.stop)) places
 
+-- the number of the name of a module with this body, if it has a name
+abbrev pub id_of : Rest → Option ℕ
+id_of body = if is_name (sort (rest body)) then Some (name (rest body)).id else None
+
+-- of the modules at these places
+abbrev pub ids_at : Rest → List Place → List (Option ℕ)
+ids_at ts places = map (λ p. id_of (part ts p.body p.stop)) places
+
 -- no fault goes on
 abbrev pub unless : Option VerilogFault → Result ⊤ VerilogFault
 unless None = Ok tt

@@ -21,8 +21,8 @@ each_of f [] = Ok []
 each_of f (x ∷ xs) = f x >>= λ y. each_of f xs >>= λ ys. Ok (y ∷ ys)
 
 -- what an own text says, and the parts that it builds
-abbrev pub seen : Own → Module × Parts
-seen own = (own.says, parts_of own.parts)
+abbrev pub module_and_parts : Own → Module × Parts
+module_and_parts own = (own.says, parts_of own.parts)
 
 abbrev pub said : List (List ℕ) → Rest → Result (Module × Parts) VerilogFault
 said table own = syntax_of own >>= λ m. meaning_of table m >>= λ parts. Ok (m, parts)

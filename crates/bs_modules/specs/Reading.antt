@@ -1,5 +1,5 @@
 -- The modules of a text of several, as they were read.
-use Rattle.std.specs.Prelude.{◌≡◌, ℕ, Bool, true, List, map, zip, ⊤, Result, Ok, Err}
+use Rattle.std.specs.Prelude.{◌≡◌, ℕ, Bool, true, List, length, map, zip, ⊤, Result, Ok, Err}
 use Rattle.bs_net.specs.Parts.{Parts}
 use Rattle.bs_bits.specs.Reading.{◌>>=◌}
 use Rattle.bs_syntax.specs.declared.tree.Module.{Module}
@@ -10,12 +10,13 @@ use Rattle.bs_syntax.specs.Reading.{Rest}
 use Rattle.bs_flat.specs.declared.fault.FlatFault.{FlatFault}
 use Rattle.bs_flat.specs.declared.fault.FlatFault.TheVariants.{Verilog, Twice, NoMemory}
 use Rattle.bs_flat.specs.Connecting.{ReadModule}
+use Rattle.bs_flat.specs.Pieces.{modules_of}
 use Rattle.bs_flat.specs.Reading.{gathered}
 use Rattle.bs_modules.specs.declared.dealing.Dealt.{Dealt}
 use Rattle.bs_modules.specs.declared.owns.Modules.{Modules}
 use Rattle.bs_modules.specs.Dealing.{IsDealt}
 use Rattle.bs_modules.specs.Names.{rises, begin, all_apart}
-use Rattle.bs_modules.specs.Owns.{seen, owns, all_written}
+use Rattle.bs_modules.specs.Owns.{module_and_parts, owns, all_written}
 
 -- a refusal of a module's own text, or of an instance statement; want of memory is always the text's
 abbrev pub fault_of : VerilogFault → FlatFault
@@ -32,13 +33,18 @@ pub record IsDealtOut (ts : Rest) (d : Dealt) : Type 0 where
   pub dealt : IsDealt ts d
   pub rising : rises 0 (map (begin ts) d.modules) ≡ true
 
+-- each module of the text is there, with what it says and with the instances that it writes
+pub record AreAll (ts : Rest) (m : Modules) : Type 0 where
+  pub owns : length m.owns ≡ length (modules_of ts)
+  pub written : length m.written ≡ length (modules_of ts)
+
 -- the modules that were read
 abbrev pub read_modules_of : Modules → List ReadModule
-read_modules_of m = map gathered (zip (map seen m.owns) m.written)
+read_modules_of m = map gathered (zip (map module_and_parts m.owns) m.written)
 
 -- what was read of each, apart
 abbrev pub parts_read : Modules → List (Module × Parts) × List (List Written)
-parts_read m = (map seen m.owns, m.written)
+parts_read m = (map module_and_parts m.owns, m.written)
 
 -- what the own texts say, and then the instances
 abbrev pub all_read : List (List ℕ) → (ℕ → Bool) → Rest → Dealt → Result (List (Module × Parts) × List (List Written)) VerilogFault

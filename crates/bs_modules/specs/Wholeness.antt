@@ -8,14 +8,14 @@ use Rattle.bs_scope.specs.Declaring.{said, known}
 use Rattle.bs_modules.specs.declared.owns.Own.{Own}
 
 -- how many bits a declared name has
-abbrev pub bits_of : Option Range → ℕ
-bits_of (Some r) = width r
-bits_of None = 1
+abbrev pub bit_count : Option Range → ℕ
+bit_count (Some r) = width r
+bit_count None = 1
 
 -- the bits of names together are at most so many
 unfoldable pub fits : (ℕ → Option Says) → List Name → ℕ → Bool
 fits scope [] room = true
-fits scope (n ∷ ns) room = nat_le (bits_of (known scope n).range) room && fits scope ns (room - bits_of (known scope n).range)
+fits scope (n ∷ ns) room = nat_le (bit_count (known scope n).range) room && fits scope ns (room - bit_count (known scope n).range)
 
 -- the ports of a module stand first among its nets, and a name that is declared has nets
 abbrev pub is_whole : Own → Bool

@@ -3,6 +3,7 @@
 
 mod copying;
 mod dealing;
+mod ids;
 mod items;
 mod names;
 mod owns;
@@ -12,5 +13,6 @@ mod sorts;
 mod wholeness;
 
 pub use dealing::{Dealt, Place, deal};
+pub use ids::module_ids;
 pub use owns::{Modules, Own};
 pub use reading::read_modules;

@@ -61,7 +61,7 @@ fn own_text(
 
 /// What an own text says, and the parts that it builds.
 fn said(alloc: Global, table: &Table, own: &[Lexeme]) -> Result<Own, VerilogFault>
-    ensures { Answers want spec.seen result (spec.said table.now own.now) }
+    ensures { Answers want spec.module_and_parts result (spec.said table.now own.now) }
 {
     let says = syntax(alloc, own)?;
     let parts = meaning(alloc, table, &says)?;
@@ -77,7 +77,7 @@ fn read_own(
     marks: &[bool],
     place: Place,
 ) -> Result<Own, VerilogFault>
-    ensures { Answers want spec.seen result (spec.said table.now (spec.own_text (marked marks.now) others.now ts.now place)) }
+    ensures { Answers want spec.module_and_parts result (spec.said table.now (spec.own_text (marked marks.now) others.now ts.now place)) }
 {
     let own = own_text(alloc, ts, others, marks, place)?;
     let said = said(alloc, table, own.slice())?;
@@ -93,7 +93,7 @@ pub fn read_owns(
     marks: &[bool],
     modules: &[Place],
 ) -> Result<List<Own>, VerilogFault>
-    ensures { Answers want (λ os. map spec.seen os) result (spec.owns table.now (marked marks.now) others.now ts.now modules.now) }
+    ensures { Answers want (λ os. map spec.module_and_parts os) result (spec.owns table.now (marked marks.now) others.now ts.now modules.now) }
 {
     let mut owns = List::new(alloc);
     'modules: for place in modules {

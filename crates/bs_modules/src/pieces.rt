@@ -46,7 +46,7 @@ fn cut_behind(ts: &[Lexeme], size: usize) -> Cut
     requires some { 0 < length ts.now }
     requires passed { terms.attributes ts.now ≡ Ok (drop size ts.now) }
     requires within { size ≤ length ts.now }
-    ensures { spec.IsCut ts.now result }
+    ensures { spec.CutsFirst ts.now result }
 {
     let here = &ts[size..];
     if is_module(sort_of(here)) {
@@ -74,7 +74,7 @@ fn cut_behind(ts: &[Lexeme], size: usize) -> Cut
 fn cut_of(ts: &[Lexeme], size: Option<usize>) -> Cut
     requires some { 0 < length ts.now }
     requires past { spec.IsPast ts.now size }
-    ensures { spec.IsCut ts.now result }
+    ensures { spec.CutsFirst ts.now result }
 {
     match size {
         Some(size) => cut_behind(ts, size),
@@ -88,7 +88,7 @@ fn cut_of(ts: &[Lexeme], size: Option<usize>) -> Cut
 /// The piece that stands first.
 pub fn first_cut(ts: &[Lexeme]) -> Result<Cut, NoMemory>
     requires { 0 < length ts.now }
-    ensures { IfOk result (λ c. spec.IsCut ts.now c) }
+    ensures { IfOk result (λ c. spec.CutsFirst ts.now c) }
 {
     let size = attributes_size(ts)?;
     Ok(cut_of(ts, size))

@@ -99,7 +99,8 @@ fn read_marked(
     requires dealt { spec.IsDealtOut ts.now dealt.now }
     requires marks { marked marks.now ≡ is_in (naming.heads ts.now dealt.now.modules) }
     requires apart { repeated_fault (naming.heads ts.now dealt.now.modules) ≡ None }
-    ensures { Answers want spec.read_modules_of result (flat.read_modules table.now ts.now) }
+    ensures read { Answers want spec.read_modules_of result (flat.read_modules table.now ts.now) }
+    ensures all { IfOk result (λ m. spec.AreAll ts.now m) }
 {
     match read_all(alloc, table, ts, dealt, marks) {
         Ok(read) => with_names_apart(alloc, read),
@@ -115,7 +116,8 @@ fn read_dealt(
     dealt: &Dealt,
 ) -> Result<Modules, FlatFault>
     requires { spec.IsDealtOut ts.now dealt.now }
-    ensures { Answers want spec.read_modules_of result (flat.read_modules table.now ts.now) }
+    ensures read { Answers want spec.read_modules_of result (flat.read_modules table.now ts.now) }
+    ensures all { IfOk result (λ m. spec.AreAll ts.now m) }
 {
     match marks_of(alloc, ts, dealt) {
         Ok(marks) => read_marked(alloc, table, ts, dealt, &marks),
@@ -125,7 +127,8 @@ fn read_dealt(
 
 /// The modules of a text with these lexemes, read one by one.
 fn read_each(alloc: Global, table: &Table, ts: &[Lexeme]) -> Result<Modules, FlatFault>
-    ensures { Answers want spec.read_modules_of result (flat.read_modules table.now ts.now) }
+    ensures read { Answers want spec.read_modules_of result (flat.read_modules table.now ts.now) }
+    ensures all { IfOk result (λ m. spec.AreAll ts.now m) }
 {
     match dealt_out(alloc, ts) {
         Ok(dealt) => read_dealt(alloc, table, ts, &dealt),
@@ -139,6 +142,7 @@ fn read_each(alloc: Global, table: &Table, ts: &[Lexeme]) -> Result<Modules, Fla
 pub fn read_modules(alloc: Global, table: &Table, ts: &[Lexeme]) -> Result<Modules, FlatFault>
     ensures read { Answers want spec.read_modules_of result (flat.read_modules table.now ts.now) }
     ensures whole { IfOk result (λ m. All (flat.IsRead table.now) (spec.read_modules_of m)) }
+    ensures all { IfOk result (λ m. spec.AreAll ts.now m) }
 {
     let each = read_each(alloc, table, ts)?;
     let read = whole(alloc, each)?;

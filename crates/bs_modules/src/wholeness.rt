@@ -15,8 +15,8 @@ use bs_syntax::{Declared, Range, Says};
 use std::alloc::Global;
 
 /// How many bits a declared name has.
-fn bits_of(range: Option<Range>) -> usize
-    ensures { result ≡ spec.bits_of range }
+fn bit_count(range: Option<Range>) -> usize
+    ensures { result ≡ spec.bit_count range }
 {
     match range {
         Some(range) => width(range),
@@ -30,7 +30,7 @@ fn fits(scope: &[Option<Says>], names: &[Name], room: usize) -> bool
 {
     let mut left = room;
     'names: for name in names {
-        let bits = bits_of(known_net(scope, *name).range);
+        let bits = bit_count(known_net(scope, *name).range);
         if bits > left {
             return false;
         }

@@ -13,15 +13,15 @@ pub returns-in_err-own : goal.returns-in_err-own
 returns-in_err-own c =
     let p = err_from_is_err_and c.from_residual.result c.from_residual.ensures.1 in
     rw (p.1, p.2) (each_fault (λ p. spec.said c.args.table.now (spec.own_text (marked c.args.marks.now) c.args.others.now c.args.ts.now p))
-    (map spec.seen c.modules.owns) c.modules.place-index c.args.modules.now nowhere _ c.modules-test.true c.in_err-own.ensures c.modules.invariant)
+    (map spec.module_and_parts c.modules.owns) c.modules.place-index c.args.modules.now nowhere _ c.modules-test.true c.in_err-own.ensures c.modules.invariant)
 
 pub modules-preserved : goal.modules-preserved
 modules-preserved c =
     rw c.in_ok-push.ensures.ok (each_seen (λ p. spec.said c.args.table.now
-    (spec.own_text (marked c.args.marks.now) c.args.others.now c.args.ts.now p)) spec.seen c.modules.owns c.modules.place-index c.args.modules.now nowhere
+    (spec.own_text (marked c.args.marks.now) c.args.others.now c.args.ts.now p)) spec.module_and_parts c.modules.owns c.modules.place-index c.args.modules.now nowhere
     c.in_ok-own.own c.modules-test.true c.in_ok-own.ensures c.modules.invariant)
 
 pub returns : goal.returns
 returns c =
     each_end (λ p. spec.said c.args.table.now (spec.own_text (marked c.args.marks.now) c.args.others.now c.args.ts.now p))
-    (map spec.seen c.modules.owns) c.modules.place-index c.args.modules.now c.modules-test.false c.modules.invariant
+    (map spec.module_and_parts c.modules.owns) c.modules.place-index c.args.modules.now c.modules-test.false c.modules.invariant

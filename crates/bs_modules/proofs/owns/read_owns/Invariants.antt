@@ -6,4 +6,4 @@ use Rattle.bs_modules.proofs.owns.read_owns.Given as goal
 
 abbrev pub invariant-modules : goal.invariant-modules
 invariant-modules l =
-    IsEach (λ p. spec.said l.table (spec.own_text (marked l.marks) l.others l.ts p)) (map spec.seen l.owns) l.place-index l.modules
+    IsEach (λ p. spec.said l.table (spec.own_text (marked l.marks) l.others l.ts p)) (map spec.module_and_parts l.owns) l.place-index l.modules
