@@ -84,7 +84,7 @@ fn viewed(
     states: &List<Bits>,
     inputs: &List<Bits>,
 ) -> Result<Vec<u8>, NoMemory> {
-    if states.len() != inputs.len() + 1 {
+    if states.len() == 0 || states.len() - 1 != inputs.len() {
         return Ok(Vec::new(alloc));
     }
     if !are_wide(states.slice(), net.width()) {
