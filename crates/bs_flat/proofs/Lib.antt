@@ -8,4 +8,5 @@ pub mod JoinLemmas
 pub mod CountLemmas
 pub mod HeightLemmas
 pub mod NumberLemmas
+pub mod RingLemmas
 pub mod Examples

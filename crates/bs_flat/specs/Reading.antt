@@ -1,5 +1,5 @@
 -- The flat parts of a text, or its first refusal.
-use Rattle.std.specs.Prelude.{◌≡◌, ℕ, ◌+◌, ◌-◌, Bool, true, false, not, nat_lt, IsTrue, if◌then◌else◌, List, [], ◌∷◌, length, map, filter, sum, zip, All}
+use Rattle.std.specs.Prelude.{◌≡◌, ℕ, zero, suc, ◌+◌, ◌-◌, Bool, true, false, not, nat_lt, IsTrue, if◌then◌else◌, List, [], ◌∷◌, length, map, filter, sum, zip, All}
 use Rattle.std.specs.Prelude.{◌<◌, ◌≤◌}
 use Rattle.std.specs.Prelude.{◌==◌, unwrap_or, slice_index_or, Option, Some, None, Result, Ok, Err}
 use Rattle.std.specs.List.{flat_map, list_any, range_with_len, IsDistinct, position_or_len}
@@ -158,6 +158,19 @@ IsRing ms ks (m ∷ ns) = IsDistinct nat_eq (m ∷ ns) × FollowFrom ms ks m m n
 abbrev pub HasNoRing : List Piece → List ReadModule → Type 0
 HasNoRing ms ks = (ring : List ℕ) → IsRing ms ks ring → ⊥
 
+-- from a module instances lead on to modules so many times
+unfoldable pub leads_on : ℕ → List Piece → List ReadModule → ℕ → Bool
+leads_on zero ms ks m = true
+leads_on (suc n) ms ks m = list_any (leads_on n ms ks) (instanced ms (slice_index_or ks m no_read_module))
+
+-- from some module instances lead on as often as there are modules, and so come back to one
+unfoldable pub has_ring : List Piece → List ReadModule → Bool
+has_ring ms ks = list_any (leads_on (length ks) ms ks) (range_with_len 0 (length ks))
+
+-- modules that instance each other in a ring are found so
+abbrev pub RingsAreFound : Type 0
+RingsAreFound = (ms : List Piece) (ks : List ReadModule) (ring : List ℕ) → IsRing ms ks ring → has_ring ms ks ≡ true
+
 -- the first connection of the text that does not go with its port
 unfoldable pub connect_fault : List (List ℕ) → List Piece → List ReadModule → Option ℕ
 connect_fault table ms ks =
@@ -183,21 +196,29 @@ abbrev pub clashing : Option (List ℕ) → Parts → Result Parts FlatFault
 clashing (Some key) parts = Err (NameClash key)
 clashing None parts = Ok parts
 
+-- the modules of a design, whose connections go with their ports; or the first that does not
+unfoldable pub connected_modules : List (List ℕ) → List Piece → List ReadModule → Result (List Module) FlatFault
+connected_modules table ms ks =
+    elim (connect_fault table ms ks) as (λ _. Result (List Module) FlatFault) [
+      | Some place ↦ Err (Connect place)
+      | None ↦ Ok (map (module_from table ms ks) ks)
+    ]
+
+-- the flat parts of a design, or the first limit that it passes
+unfoldable pub elaborated : Design → Result Parts FlatFault
+elaborated d =
+    let parts = flat_parts d in
+    limited (is_deep d) FlatDepth
+    (limited (nat_lt MAX_PARTS (part_count d)) FlatParts
+    (limited (nat_lt MAX_NETS (length parts.names)) FlatNets
+    (limited (nat_lt MAX_KEY_BYTES (sum (map length parts.names))) FlatKeys
+    (clashing (clash_in parts.names) parts))))
+
 -- the flat parts of modules without a ring, or the first refusal
 unfoldable pub flattened : List (List ℕ) → List Piece → List ReadModule → Result Parts FlatFault
 flattened table ms ks =
-    let d = design_of table ms ks in
-    let parts = flat_parts d in
     limited (nat_lt 1 (length (tops ms ks))) (Tops (length (tops ms ks)))
-    (elim (connect_fault table ms ks) as (λ _. Result Parts FlatFault) [
-      | Some place ↦ Err (Connect place)
-      | None ↦
-          limited (is_deep d) FlatDepth
-          (limited (nat_lt MAX_PARTS (part_count d)) FlatParts
-          (limited (nat_lt MAX_NETS (length parts.names)) FlatNets
-          (limited (nat_lt MAX_KEY_BYTES (sum (map length parts.names))) FlatKeys
-          (clashing (clash_in parts.names) parts))))
-    ])
+    (connected_modules table ms ks then (λ modules. elaborated (record { modules = modules; top = first_top (tops ms ks) })))
 
 -- ---- the whole text
 
@@ -208,7 +229,7 @@ name_at table ms n = slice_index_or table (unwrap_or (name_id (slice_index_or ms
 -- the answer for modules that were read: a ring of their names, or what the design gives
 pub data Answer (table : List (List ℕ)) (ms : List Piece) (ks : List ReadModule) : Result Parts FlatFault → Type 0 where
   ringed : (ring : List ℕ) → IsRing ms ks ring → Answer table ms ks (Err (Recursion (map (name_at table ms) ring)))
-  plain : HasNoRing ms ks → Answer table ms ks (flattened table ms ks)
+  plain : has_ring ms ks ≡ false → Answer table ms ks (flattened table ms ks)
 
 abbrev pub AnswerFor : List (List ℕ) → Rest → Result Parts FlatFault → Type 0
 AnswerFor table ts result =

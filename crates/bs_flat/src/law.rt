@@ -2,7 +2,7 @@
 ghost use Rattle.bs_flat.specs.Law.{FlatKeepsMeaning};
 ghost use Rattle.bs_flat.specs.Counts.{DepthIsHeight, PartsAreSummed};
 ghost use Rattle.bs_flat.specs.Numbers.{NumbersAreRanks};
-ghost use Rattle.bs_flat.specs.Reading.{DesignsAreWhole};
+ghost use Rattle.bs_flat.specs.Reading.{DesignsAreWhole, RingsAreFound};
 
 /// Where the flat parts of a design pass the check, exactly one valuation fits the design for each state and input, and the
 /// design's next state is that of the flat netlist.
@@ -27,4 +27,9 @@ pub fn modules_count_the_design()
 /// so the nets are numbered path by path, without a table of nets.
 pub fn flat_numbers_are_ranks()
     ensures { NumbersAreRanks }
+{}
+
+/// Modules that instance each other in a ring are found by how often instances lead on from one.
+pub fn rings_are_found()
+    ensures { RingsAreFound }
 {}

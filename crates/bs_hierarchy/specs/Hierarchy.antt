@@ -1,5 +1,5 @@
 -- What the modules of a text are to each other: a ring of them, or an order, children first, and those that none instances.
-use Rattle.std.specs.Prelude.{◌≡◌, ℕ, List, map, Option}
+use Rattle.std.specs.Prelude.{false, ◌≡◌, ℕ, List, map, Option}
 use Rattle.bs_flat.specs.declared.statements.Written.{Written}
 use Rattle.bs_flat.specs.Pieces.{Piece, name_id}
 use Rattle.bs_flat.specs.Connecting.{ReadModule}
@@ -21,7 +21,7 @@ pub record IsRingOf (ids : List (Option ℕ)) (written : List (List Written)) (r
 
 -- such modules make no ring, these are the ones that none instances, and the order has each after those that it instances
 pub record IsRankedSo (ids : List (Option ℕ)) (written : List (List Written)) (r : code.Ranked) : Type 0 where
-  pub no_ring : (ms : List Piece) (ks : List ReadModule) → AreOf ids written ms ks → reading.HasNoRing ms ks
+  pub no_ring : (ms : List Piece) (ks : List ReadModule) → AreOf ids written ms ks → reading.has_ring ms ks ≡ false
   pub tops : (ms : List Piece) (ks : List ReadModule) → AreOf ids written ms ks → r.tops ≡ reading.tops ms ks
   pub order : IsChildrenFirst (numbers_by ids written) r.order
 
