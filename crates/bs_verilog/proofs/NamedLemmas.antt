@@ -50,19 +50,19 @@ use Rattle.bs_verilog.proofs.SpellingLemmas.{IsVisible, IsVisibleToken, seen, ta
 
 -- ---- texts
 
-abbrev IsNamed : List ℕ → Type 0
+abbrev pub IsNamed : List ℕ → Type 0
 IsNamed key = is_name key ≡ true
 
-named : (c : ℕ) (rest : List ℕ) → IsVisible (c ∷ rest) → IsNamed (c ∷ rest)
+pub named : (c : ℕ) (rest : List ℕ) → IsVisible (c ∷ rest) → IsNamed (c ∷ rest)
 named c rest v = and_from (nat_lt 0 (length (c ∷ rest))) (is_visible (c ∷ rest)) (lt-ltb 0 (length (c ∷ rest)) (omega arith)) v
 
-visible_append : (front back : List ℕ) → IsVisible front → IsVisible back → IsVisible (front ++ back)
+pub visible_append : (front back : List ℕ) → IsVisible front → IsVisible back → IsVisible (front ++ back)
 visible_append [] back f b = b
 visible_append (c ∷ front) back f b =
     let p = and_parts (is_graphic c) (is_visible front) f in
     and_from (is_graphic c) (is_visible (front ++ back)) p.0 (visible_append front back p.1 b)
 
-named_append : (front back : List ℕ) → IsVisible front → IsNamed back → IsNamed (front ++ back)
+pub named_append : (front back : List ℕ) → IsVisible front → IsNamed back → IsNamed (front ++ back)
 named_append [] back f b = b
 named_append (c ∷ front) back f b = named c (front ++ back) (visible_append (c ∷ front) back f (and_parts (nat_lt 0 (length back)) (is_visible back) b).1)
 
@@ -83,7 +83,7 @@ decimal_is_visible n = digits_are_visible 64 n [] refl
 
 -- ---- keys
 
-scalar_named : (name : List ℕ) → IsVisible name → IsNamed (scalar_key name)
+pub scalar_named : (name : List ℕ) → IsVisible name → IsNamed (scalar_key name)
 unfolding scalar_key
 scalar_named [] v = refl
 scalar_named (c ∷ name) v =
@@ -100,11 +100,11 @@ bit_named name i v =
     cond_both (is_plain name) _ _ IsNamed (λ _. named_append name (codes "[" ++ decimal i ++ codes "]") v (named 91 (decimal i ++ codes "]") index))
     (λ _. named 91 (decimal i ++ codes "]" ++ codes "\\" ++ name) escaped)
 
-constant_named : (b : Bool) → IsNamed (constant_key b)
+pub constant_named : (b : Bool) → IsNamed (constant_key b)
 constant_named true = refl
 constant_named false = refl
 
-text_visible : (table : List (List ℕ)) (n : Name) → All IsVisible table → IsVisible (text table n)
+pub text_visible : (table : List (List ℕ)) (n : Name) → All IsVisible table → IsVisible (text table n)
 text_visible table n h = by (cases_lt n.id (length table))
   where
     by : (n.id < length table) ⊎ (length table ≤ n.id) → IsVisible (text table n)
@@ -117,7 +117,7 @@ keys_named name None v = All-cons IsNamed (scalar_key name) [] (scalar_named nam
 keys_named name (Some r) v =
     All-map IsNamed (λ k. bit_key name (index_at r k)) (range_with_len 0 (width r)) (λ i d lt. bit_named name _ v)
 
-key_more : (names : List (List ℕ)) (key : List ℕ) → AreNames names → IsNamed key → AreNames (with_key names key)
+pub key_more : (names : List (List ℕ)) (key : List ℕ) → AreNames names → IsNamed key → AreNames (with_key names key)
 key_more names key h k = cond_both (list_any (bytes_eq key) names) names (names ++ key ∷ []) AreNames (λ _. h) (λ _. All-push IsNamed names key h k)
 
 keys_more : (names keys : List (List ℕ)) → AreNames names → AreNames keys → AreNames (with_keys names keys)
@@ -162,7 +162,7 @@ NetsNamed placed = MadeNamed placed.1
 abbrev BuiltNamed : Built → Type 0
 BuiltNamed b = MadeNamed b.made
 
-abbrev PartsNamed : Parts → Type 0
+abbrev pub PartsNamed : Parts → Type 0
 PartsNamed raw = AreNames raw.names
 
 abbrev NetHolds : Result (NetId × Made) VerilogFault → Type 0
@@ -259,7 +259,7 @@ module _ (table : List (List ℕ)) (scope : ℕ → Option Says) (v : All IsVisi
 
 -- ---- netlists
 
-module_named : (table : List (List ℕ)) (m : Module) → All IsVisible table → IfOk (meaning_of table m) PartsNamed
+pub module_named : (table : List (List ℕ)) (m : Module) → All IsVisible table → IfOk (meaning_of table m) PartsNamed
 unfolding meaning_of built_of
 module_named table m v = by (declaring_fault table m)
   where

@@ -1,4 +1,4 @@
--- Every net of what is built has a name.
+-- Every net of what is built has a name. Where limits `L` hold, of nets and of the connections of a part, it keeps those of a netlist as well.
 use Rattle.std.proofs.Common.{◌≡◌, ℕ, zero, suc, ◌+◌, ◌-◌, ◌<◌, ◌≤◌, Bool, true, false, cond, List, [], ◌∷◌, ◌++◌, map, length, get_or, take, drop}
 use Rattle.std.proofs.Common.{Option, Some, None, Ok, Err, Result, refl, ap, ◌∙◌, inl, inr, ◌⊎◌, arith}
 use Rattle.std.specs.Prelude.{IsTrue, not, ◌&&◌, nat_le, is_some, unwrap_or, ◌==◌}
@@ -18,7 +18,8 @@ use Rattle.bs_net.specs.declared.net.Const.{Const}
 use Rattle.bs_net.specs.declared.net.Kind.{Kind}
 use Rattle.bs_net.specs.declared.net.Kind.TheVariants.{And, Nand, Or, Nor, Xor, Xnor, Buf, Not}
 use Rattle.bs_net.specs.Names.{with_key, number_of}
-use Rattle.bs_net.specs.Parts.{ArePlaced, IsFlopPlaced, IsModePlaced, takes}
+use Rattle.bs_net.specs.Parts.{IsFlopPlaced, IsModePlaced, takes}
+use Rattle.bs_net.proofs.CallerLemmas.{with_key-grows}
 use Rattle.bs_syntax.specs.declared.fault.VerilogFault.{VerilogFault}
 use Rattle.bs_syntax.specs.declared.fault.VerilogFault.TheVariants.{TooManyNets, Index, Terminals}
 use Rattle.bs_syntax.specs.declared.tree.Says.{Says}
@@ -68,13 +69,6 @@ net_within names key h = by (number_of names key) refl
     by (Some i) e = (position-Some (bytes_eq key) names i [] e).0
     by None e = h
 
-with_key-grows : (names : List (List ℕ)) (key : List ℕ) → length names ≤ length (with_key names key)
-with_key-grows names key = by (list_any (bytes_eq key) names)
-  where
-    by : (b : Bool) → length names ≤ length (cond b names (names ++ key ∷ []))
-    by true = omega arith
-    by false = omega (arith, length-append names (key ∷ []))
-
 with_key-some : (names : List (List ℕ)) (key : List ℕ) → 0 < length (with_key names key)
 with_key-some [] key = omega arith
 with_key-some (n ∷ ns) key = let grows = with_key-grows (n ∷ ns) key in omega (arith, grows)
@@ -95,12 +89,12 @@ with_key-few names key e few = by (number_of names key) refl e
 
 -- what is made so far, where the scope says nothing unless a net is declared
 pub record IsPlacing (scope : ℕ → Option Says) (made : Made) : Type 0 where
-  pub few : length made.names ≤ 100000
   pub consts_within : ConstsWithin (length made.names) made.consts
   pub declared : (id : ℕ) (s : Says) → scope id ≡ Some s → 0 < length made.names
 
 pub record Goes (scope : ℕ → Option Says) (before after : Made) : Type 0 where
   pub grows : length before.names ≤ length after.names
+  pub few : length before.names ≤ 100000 → length after.names ≤ 100000
   pub placing : IsPlacing scope after
 
 consts_more : (n m : ℕ) (cs : List Const) → n ≤ m → ConstsWithin n cs → ConstsWithin m cs
@@ -110,16 +104,16 @@ nets_more : (n m : ℕ) (nets : List NetId) → n ≤ m → AreWithin n nets →
 nets_more n m nets le all = All-weaker (λ (k : NetId). k.0 < n) (λ (k : NetId). k.0 < m) (λ k lt. omega (arith, lt, le)) nets all
 
 same : (scope : ℕ → Option Says) (made : Made) → IsPlacing scope made → Goes scope made made
-same scope made p = record { grows = omega arith; placing = p }
+same scope made p = record { grows = omega arith; few = λ h. h; placing = p }
 
 named_more : (scope : ℕ → Option Says) (made : Made) (key : List ℕ) → IsPlacing scope made → is_full made.names key ≡ false
     → Goes scope made (record { names = with_key made.names key; consts = made.consts })
 named_more scope made key p full =
     record {
       grows = with_key-grows made.names key;
+      few = with_key-few made.names key full;
       placing =
           record {
-            few = with_key-few made.names key full p.few;
             consts_within = consts_more (length made.names) (length (with_key made.names key)) made.consts (with_key-grows made.names key) p.consts_within;
             declared = λ id s e. with_key-some made.names key;
           };
@@ -135,9 +129,9 @@ constant_more scope made key b p full =
     let here : Const = record { net = net_of after key; value = b } in
     record {
       grows = with_key-grows made.names key;
+      few = with_key-few made.names key full;
       placing =
           record {
-            few = with_key-few made.names key full p.few;
             consts_within =
                 All-append (λ (k : Const). k.net.0 < length after) made.consts (here ∷ [])
                 (consts_more (length made.names) (length after) made.consts (with_key-grows made.names key) p.consts_within)
@@ -281,7 +275,7 @@ connection_placed table scope c before after p w e = by (term_of c) e
     by None x = seen_as before 0 x (record { goes = same scope before.1 p; within = w; few = omega arith; enough = omega arith })
 
 goes_on : (scope : ℕ → Option Says) (a b c : Made) → Goes scope a b → Goes scope b c → Goes scope a c
-goes_on scope a b c x y = record { grows = omega (arith, x.grows, y.grows); placing = y.placing }
+goes_on scope a b c x y = record { grows = omega (arith, x.grows, y.grows); few = λ h. y.few (x.few h); placing = y.placing }
 
 connections_placed : (table : List (List ℕ)) (scope : ℕ → Option Says) (cs : List Connection) (before after : List NetId × Made) → IsPlacing scope before.1
     → AreWithin (length before.1.names) before.0 → each (with_connection table scope) before cs ≡ Ok after
@@ -351,45 +345,49 @@ rest_some (x ∷ xs) h = omega (arith, h)
 some_count : (count : ℕ) (nets : List NetId) → 0 < length nets → AreWithin count nets → 0 < count
 some_count count nets h w = let first = w 0 no_net h in omega (arith, first)
 
-single_gates : (kind : Kind) (count : ℕ) (nets : List NetId) → IsTrue (takes kind 1) → AreWithin count nets
-    → All (GateWithin count) (map (λ out. record { kind = kind; out = out; ins = net_at nets (length nets - 1) ∷ [] }) (take (length nets - 1) nets))
-single_gates kind count [] one w = All-from_recursion (GateWithin count) [] tt
-single_gates kind count (x ∷ xs) one w =
+-- a gate whose nets have names, with inputs that its kind takes where the limits hold
+abbrev pub GateUnder : Type 0 → ℕ → Gate → Type 0
+GateUnder L count g = (g.out.0 < count) × AreWithin count g.ins × (L → (length g.ins < 4294967296) × IsTrue (takes g.kind (length g.ins)))
+
+single_gates : (L : Type 0) (kind : Kind) (count : ℕ) (nets : List NetId) → IsTrue (takes kind 1) → AreWithin count nets
+    → All (GateUnder L count) (map (λ out. record { kind = kind; out = out; ins = net_at nets (length nets - 1) ∷ [] }) (take (length nets - 1) nets))
+single_gates L kind count [] one w = All-from_recursion (GateUnder L count) [] tt
+single_gates L kind count (x ∷ xs) one w =
     let nets : List NetId = x ∷ xs in
     let last : NetId = net_at nets (length nets - 1) in
     let some : 0 < count = some_count count nets (omega arith) w in
-    let ins : ArePlaced count (last ∷ []) =
-    (omega arith, All-from_recursion (λ (n : NetId). n.0 < count) (last ∷ []) (net_at-within count nets (length nets - 1) some w, tt)) in
-    All-map (GateWithin count) (λ out. record { kind = kind; out = out; ins = last ∷ [] }) (take (length nets - 1) nets)
-    (All-weaker (λ (n : NetId). n.0 < count) (λ (n : NetId). GateWithin count (record { kind = kind; out = n; ins = last ∷ [] })) (λ n lt. (lt, ins, one))
+    let ins : AreWithin count (last ∷ []) =
+    All-from_recursion (λ (n : NetId). n.0 < count) (last ∷ []) (net_at-within count nets (length nets - 1) some w, tt) in
+    All-map (GateUnder L count) (λ out. record { kind = kind; out = out; ins = last ∷ [] }) (take (length nets - 1) nets)
+    (All-weaker (λ (n : NetId). n.0 < count) (λ (n : NetId). GateUnder L count (record { kind = kind; out = n; ins = last ∷ [] })) (λ n lt. (lt, ins, λ l. (omega arith, one)))
     (take (length nets - 1) nets)
     (All-take (λ (n : NetId). n.0 < count) (length nets - 1) nets w))
 
-plain_gate : (kind : Kind) (count : ℕ) (nets : List NetId) → IsTrue (takes kind (length (drop 1 nets))) → 2 ≤ length nets → AreWithin count nets
-    → length nets < 4294967296
-    → All (GateWithin count) (record { kind = kind; out = net_at nets 0; ins = drop 1 nets } ∷ [])
-plain_gate kind count nets takes_them two w short =
+plain_gate : (L : Type 0) (kind : Kind) (count : ℕ) (nets : List NetId) → IsTrue (takes kind (length (drop 1 nets))) → 2 ≤ length nets → AreWithin count nets
+    → (L → length nets < 4294967296)
+    → All (GateUnder L count) (record { kind = kind; out = net_at nets 0; ins = drop 1 nets } ∷ [])
+plain_gate L kind count nets takes_them two w short =
     let some : 0 < count = some_count count nets (omega (arith, two)) w in
-    All-from_recursion (GateWithin count) (record { kind = kind; out = net_at nets 0; ins = drop 1 nets } ∷ [])
-    ((net_at-within count nets 0 some w, (rest_length nets 4294967296 short, rest_within count nets w), takes_them), tt)
+    All-from_recursion (GateUnder L count) (record { kind = kind; out = net_at nets 0; ins = drop 1 nets } ∷ [])
+    ((net_at-within count nets 0 some w, rest_within count nets w, λ l. (rest_length nets 4294967296 (short l), takes_them)), tt)
 
-gates_within : (kind : Kind) (count : ℕ) (nets : List NetId) → AreWithin count nets → length nets < 4294967296 → (2 ≤ length nets) ⊎ (is_single kind ≡ true)
-    → All (GateWithin count) (gates_of kind nets)
+gates_within : (L : Type 0) (kind : Kind) (count : ℕ) (nets : List NetId) → AreWithin count nets → (L → length nets < 4294967296) → (2 ≤ length nets) ⊎ (is_single kind ≡ true)
+    → All (GateUnder L count) (gates_of kind nets)
 unfolding gates_of
-gates_within Buf count nets w short two = single_gates Buf count nets refl w
-gates_within Not count nets w short two = single_gates Not count nets refl w
-gates_within And count nets w short (inl two) = plain_gate And count nets (lt-ltb 0 (length (drop 1 nets)) (rest_some nets two)) two w short
-gates_within Nand count nets w short (inl two) = plain_gate Nand count nets (lt-ltb 0 (length (drop 1 nets)) (rest_some nets two)) two w short
-gates_within Or count nets w short (inl two) = plain_gate Or count nets (lt-ltb 0 (length (drop 1 nets)) (rest_some nets two)) two w short
-gates_within Nor count nets w short (inl two) = plain_gate Nor count nets (lt-ltb 0 (length (drop 1 nets)) (rest_some nets two)) two w short
-gates_within Xor count nets w short (inl two) = plain_gate Xor count nets (lt-ltb 0 (length (drop 1 nets)) (rest_some nets two)) two w short
-gates_within Xnor count nets w short (inl two) = plain_gate Xnor count nets (lt-ltb 0 (length (drop 1 nets)) (rest_some nets two)) two w short
-gates_within And count nets w short (inr single) = absurd cc
-gates_within Nand count nets w short (inr single) = absurd cc
-gates_within Or count nets w short (inr single) = absurd cc
-gates_within Nor count nets w short (inr single) = absurd cc
-gates_within Xor count nets w short (inr single) = absurd cc
-gates_within Xnor count nets w short (inr single) = absurd cc
+gates_within L Buf count nets w short two = single_gates L Buf count nets refl w
+gates_within L Not count nets w short two = single_gates L Not count nets refl w
+gates_within L And count nets w short (inl two) = plain_gate L And count nets (lt-ltb 0 (length (drop 1 nets)) (rest_some nets two)) two w short
+gates_within L Nand count nets w short (inl two) = plain_gate L Nand count nets (lt-ltb 0 (length (drop 1 nets)) (rest_some nets two)) two w short
+gates_within L Or count nets w short (inl two) = plain_gate L Or count nets (lt-ltb 0 (length (drop 1 nets)) (rest_some nets two)) two w short
+gates_within L Nor count nets w short (inl two) = plain_gate L Nor count nets (lt-ltb 0 (length (drop 1 nets)) (rest_some nets two)) two w short
+gates_within L Xor count nets w short (inl two) = plain_gate L Xor count nets (lt-ltb 0 (length (drop 1 nets)) (rest_some nets two)) two w short
+gates_within L Xnor count nets w short (inl two) = plain_gate L Xnor count nets (lt-ltb 0 (length (drop 1 nets)) (rest_some nets two)) two w short
+gates_within L And count nets w short (inr single) = absurd cc
+gates_within L Nand count nets w short (inr single) = absurd cc
+gates_within L Or count nets w short (inr single) = absurd cc
+gates_within L Nor count nets w short (inr single) = absurd cc
+gates_within L Xor count nets w short (inr single) = absurd cc
+gates_within L Xnor count nets w short (inr single) = absurd cc
 
 one_within : (count : ℕ) (n : NetId) → n.0 < count → AreWithin count (n ∷ [])
 one_within count n h = All-from_recursion (λ (k : NetId). k.0 < count) (n ∷ []) (h, tt)
@@ -410,19 +408,21 @@ flop_within cell pins count nets h w =
 
 -- What is built.
 
-pub record IsBuilding (scope : ℕ → Option Says) (b : Built) : Type 0 where
+-- what is built so far, where `L` are the limits
+pub record IsBuilding (L : Type 0) (scope : ℕ → Option Says) (b : Built) : Type 0 where
   pub placing : IsPlacing scope b.made
-  pub gates_within : All (GateWithin (length b.made.names)) b.gates
+  pub few : L → length b.made.names ≤ 100000
+  pub gates_within : All (GateUnder L (length b.made.names)) b.gates
   pub flops_within : All (IsFlopPlaced (length b.made.names)) b.flops
 
 -- what a part, or parts, make of it
-pub record Builds (scope : ℕ → Option Says) (before after : Built) : Type 0 where
+pub record Builds (L : Type 0) (scope : ℕ → Option Says) (before after : Built) : Type 0 where
   pub grows : length before.made.names ≤ length after.made.names
-  pub building : IsBuilding scope after
+  pub building : IsBuilding L scope after
 
-gates_more : (n m : ℕ) (gs : List Gate) → n ≤ m → All (GateWithin n) gs → All (GateWithin m) gs
-gates_more n m gs le all =
-    All-weaker (GateWithin n) (GateWithin m) (λ g w. (omega (arith, w.0, le), (w.1.0, nets_more n m g.ins le w.1.1), w.2)) gs all
+gates_more : (L : Type 0) (n m : ℕ) (gs : List Gate) → n ≤ m → All (GateUnder L n) gs → All (GateUnder L m) gs
+gates_more L n m gs le all =
+    All-weaker (GateUnder L n) (GateUnder L m) (λ g w. (omega (arith, w.0, le), nets_more n m g.ins le w.1, w.2)) gs all
 
 mode_more : (n m : ℕ) (mode : Mode) → n ≤ m → IsModePlaced n mode → IsModePlaced m mode
 mode_more n m modes.Plain le w = All-from_recursion (λ (k : NetId). k.0 < m) [] tt
@@ -443,44 +443,45 @@ flops_more n m fs le all =
 abbrev no_nets : Made → List NetId × Made
 no_nets made = ([], made)
 
-with_gates_built : (table : List (List ℕ)) (scope : ℕ → Option Says) (kind : Kind) (b after : Built) (cs : List Connection) → IsBuilding scope b
-    → length cs < 4294967296
-    → ((2 ≤ length cs) × (list_all has_term cs ≡ true)) ⊎ (is_single kind ≡ true) → with_gates table scope kind b cs ≡ Ok after → Builds scope b after
-with_gates_built table scope kind b after cs p short shape e = by (connection_nets table scope cs b.made) refl e
+with_gates_built : (L : Type 0) (table : List (List ℕ)) (scope : ℕ → Option Says) (kind : Kind) (b after : Built) (cs : List Connection) → IsBuilding L scope b
+    → (L → length cs < 4294967296)
+    → ((2 ≤ length cs) × (list_all has_term cs ≡ true)) ⊎ (is_single kind ≡ true) → with_gates table scope kind b cs ≡ Ok after → Builds L scope b after
+with_gates_built L table scope kind b after cs p short shape e = by (connection_nets table scope cs b.made) refl e
   where
     enough : (n : ℕ) → 0 + term_count cs ≤ n → ((2 ≤ length cs) × (list_all has_term cs ≡ true)) ⊎ (is_single kind ≡ true) → (2 ≤ n) ⊎ (is_single kind ≡ true)
     enough n h (inl two) = let all : term_count cs ≡ length cs = all_terms cs two.1 in inl (omega (arith, h, all, two.0))
     enough n h (inr single) = inr single
 
     by : (r : Result (List NetId × Made) VerilogFault) → connection_nets table scope cs b.made ≡ r
-        → (r >>= λ placed. Ok (record { made = placed.1; gates = b.gates ++ gates_of kind placed.0; flops = b.flops })) ≡ Ok after → Builds scope b after
+        → (r >>= λ placed. Ok (record { made = placed.1; gates = b.gates ++ gates_of kind placed.0; flops = b.flops })) ≡ Ok after → Builds L scope b after
     by (Err fault) is x = absurd cc
     by (Ok placed) is x =
         let nets = connections_placed table scope cs (no_nets b.made) placed p.placing
         (All-from_recursion (λ (n : NetId). n.0 < length b.made.names) [] tt) is in
         let new : Built = record { made = placed.1; gates = b.gates ++ gates_of kind placed.0; flops = b.flops } in
         let eq : new ≡ after = cc in
-        let few : length placed.0 < 4294967296 = omega (arith, nets.few, short) in
+        let shorter : L → length placed.0 < 4294967296 = λ l. let less = short l in omega (arith, nets.few, less) in
         rw (← eq)
         (record {
           grows = nets.goes.grows;
           building = record {
             placing = nets.goes.placing;
+            few = λ l. nets.goes.few (p.few l);
             gates_within =
-                All-append (GateWithin (length placed.1.names)) b.gates (gates_of kind placed.0)
-                (gates_more (length b.made.names) (length placed.1.names) b.gates nets.goes.grows p.gates_within)
-                (gates_within kind (length placed.1.names) placed.0 nets.within few (enough (length placed.0) nets.enough shape));
+                All-append (GateUnder L (length placed.1.names)) b.gates (gates_of kind placed.0)
+                (gates_more L (length b.made.names) (length placed.1.names) b.gates nets.goes.grows p.gates_within)
+                (gates_within L kind (length placed.1.names) placed.0 nets.within shorter (enough (length placed.0) nets.enough shape));
             flops_within = flops_more (length b.made.names) (length placed.1.names) b.flops nets.goes.grows p.flops_within;
           };
         })
 
-with_flop_built : (table : List (List ℕ)) (scope : ℕ → Option Says) (cell : Cell) (pins : Pins) (b after : Built) (cs : List Connection) → IsBuilding scope b
-    → 0 < length cs → list_all has_term cs ≡ true → with_flop table scope cell pins b cs ≡ Ok after → Builds scope b after
-with_flop_built table scope cell pins b after cs p some full e = by (connection_nets table scope cs b.made) refl e
+with_flop_built : (L : Type 0) (table : List (List ℕ)) (scope : ℕ → Option Says) (cell : Cell) (pins : Pins) (b after : Built) (cs : List Connection) → IsBuilding L scope b
+    → 0 < length cs → list_all has_term cs ≡ true → with_flop table scope cell pins b cs ≡ Ok after → Builds L scope b after
+with_flop_built L table scope cell pins b after cs p some full e = by (connection_nets table scope cs b.made) refl e
   where
     by : (r : Result (List NetId × Made) VerilogFault) → connection_nets table scope cs b.made ≡ r
         → (r >>= λ placed. Ok (record { made = placed.1; gates = b.gates; flops = b.flops ++ flop_of cell pins placed.0 ∷ [] })) ≡ Ok after
-        → Builds scope b after
+        → Builds L scope b after
     by (Err fault) is x = absurd cc
     by (Ok placed) is x =
         let nets = connections_placed table scope cs (no_nets b.made) placed p.placing
@@ -494,7 +495,8 @@ with_flop_built table scope cell pins b after cs p some full e = by (connection_
           grows = nets.goes.grows;
           building = record {
             placing = nets.goes.placing;
-            gates_within = gates_more (length b.made.names) (length placed.1.names) b.gates nets.goes.grows p.gates_within;
+            few = λ l. nets.goes.few (p.few l);
+            gates_within = gates_more L (length b.made.names) (length placed.1.names) b.gates nets.goes.grows p.gates_within;
             flops_within =
                 All-append (IsFlopPlaced (length placed.1.names)) b.flops (flop_of cell pins placed.0 ∷ [])
                 (flops_more (length b.made.names) (length placed.1.names) b.flops nets.goes.grows p.flops_within)
@@ -545,26 +547,26 @@ cell_shape table cell cs pins e = by (length cs == length (pin_list cell)) (list
     by true false f g x = absurd cc
     by false b f g x = absurd cc
 
-with_part_built : (table : List (List ℕ)) (scope : ℕ → Option Says) (b after : Built) (p : Component) → IsBuilding scope b → length p.connections < 4294967296
-    → with_part table scope b p ≡ Ok after → Builds scope b after
+with_part_built : (L : Type 0) (table : List (List ℕ)) (scope : ℕ → Option Says) (b after : Built) (p : Component) → IsBuilding L scope b → (L → length p.connections < 4294967296)
+    → with_part table scope b p ≡ Ok after → Builds L scope b after
 unfolding with_part
-with_part_built table scope b after p built short e = by p.shape e
+with_part_built L table scope b after p built short e = by p.shape e
   where
     cs : List Connection
     cs = p.connections
 
-    gate : (kind : Kind) (t : Bool) → is_gate kind cs ≡ t → cond t (with_gates table scope kind b cs) (Err (Terminals p.at)) ≡ Ok after → Builds scope b after
-    gate kind true is x = with_gates_built table scope kind b after cs built short (inl (gate_shape kind cs is)) x
+    gate : (kind : Kind) (t : Bool) → is_gate kind cs ≡ t → cond t (with_gates table scope kind b cs) (Err (Terminals p.at)) ≡ Ok after → Builds L scope b after
+    gate kind true is x = with_gates_built L table scope kind b after cs built short (inl (gate_shape kind cs is)) x
     gate kind false is x = absurd cc
 
-    assign : (t : Bool) → cond t (with_gates table scope Buf b cs) (Err (Terminals p.at)) ≡ Ok after → Builds scope b after
-    assign true x = with_gates_built table scope Buf b after cs built short (inr refl) x
+    assign : (t : Bool) → cond t (with_gates table scope Buf b cs) (Err (Terminals p.at)) ≡ Ok after → Builds L scope b after
+    assign true x = with_gates_built L table scope Buf b after cs built short (inr refl) x
     assign false x = absurd cc
 
     cell : (c : Cell) (o : Option Pins) → cell_pins table c cs ≡ o
         → ◌≡◌ {A = Result Built VerilogFault} (elim o [ Some pins ↦ with_flop table scope c pins b cs | None ↦ Err (Terminals p.at) ]) (Ok after)
-        → Builds scope b after
-    cell c (Some pins) is x = let shape = cell_shape table c cs pins is in with_flop_built table scope c pins b after cs built shape.0 shape.1 x
+        → Builds L scope b after
+    cell c (Some pins) is x = let shape = cell_shape table c cs pins is in with_flop_built L table scope c pins b after cs built shape.0 shape.1 x
     cell c None is x = absurd cc
 
     by : (s : Shape)
@@ -575,31 +577,35 @@ with_part_built table scope b after p built short e = by p.shape e
           | shapes.Assign ↦ cond (is_assignment cs) (with_gates table scope Buf b cs) (Err (Terminals p.at))
         ])
         (Ok after)
-        → Builds scope b after
+        → Builds L scope b after
     by (shapes.Gate kind) x = gate kind (is_gate kind cs) refl x
     by (shapes.Cell c) x = cell c (cell_pins table c cs) refl x
     by shapes.Assign x = assign (is_assignment cs) x
 
-pub with_parts_built : (table : List (List ℕ)) (scope : ℕ → Option Says) (b after : Built) (parts : List Component) → IsBuilding scope b → AreShort parts
-    → with_parts table scope b parts ≡ Ok after → Builds scope b after
+pub with_parts_built : (L : Type 0) (table : List (List ℕ)) (scope : ℕ → Option Says) (b after : Built) (parts : List Component) → IsBuilding L scope b → (L → AreShort parts)
+    → with_parts table scope b parts ≡ Ok after → Builds L scope b after
 unfolding each
-with_parts_built table scope b after [] p short e = let eq : b ≡ after = cc in rw (← eq) (record { grows = omega arith; building = p })
-with_parts_built table scope b after (part ∷ parts) p short e = by (λ mid building x. with_parts_built table scope mid after parts building others x)
+with_parts_built L table scope b after [] p short e = let eq : b ≡ after = cc in rw (← eq) (record { grows = omega arith; building = p })
+with_parts_built L table scope b after (part ∷ parts) p short e = by (λ mid building x. with_parts_built L table scope mid after parts building others x)
     (with_part table scope b part) refl e
   where
-    others : AreShort parts
-    others = λ k d lt. short (suc k) d (omega (arith, lt))
+    others : L → AreShort parts
+    others l = λ k d lt. short l (suc k) d (omega (arith, lt))
 
-    by : ((mid : Built) → IsBuilding scope mid → with_parts table scope mid parts ≡ Ok after → Builds scope mid after) → (r : Result Built VerilogFault)
-        → with_part table scope b part ≡ r → (r >>= λ more. with_parts table scope more parts) ≡ Ok after → Builds scope b after
+    by : ((mid : Built) → IsBuilding L scope mid → with_parts table scope mid parts ≡ Ok after → Builds L scope mid after) → (r : Result Built VerilogFault)
+        → with_part table scope b part ≡ r → (r >>= λ more. with_parts table scope more parts) ≡ Ok after → Builds L scope b after
     by rest (Err fault) is x = absurd cc
     by rest (Ok mid) is x =
-        let one = with_part_built table scope b mid part p (short 0 part (omega arith)) is in
+        let one = with_part_built L table scope b mid part p (λ l. short l 0 part (omega arith)) is in
         let more = rest mid one.building x in
         record { grows = omega (arith, one.grows, more.grows); building = more.building }
 
-built_within : (scope : ℕ → Option Says) (b : Built) → IsBuilding scope b → IsBuiltWithin b
-built_within scope b p = (p.placing.few, p.placing.consts_within, p.gates_within, p.flops_within)
+built_within : (scope : ℕ → Option Says) (b : Built) → IsBuilding (Unit {0}) scope b → IsBuiltWithin b
+built_within scope b p =
+    let count : ℕ = length b.made.names in
+    let gates : All (GateWithin count) b.gates =
+    All-weaker (GateUnder (Unit {0}) count) (GateWithin count) (λ g w. let ins = w.2 tt in (w.0, (ins.0, w.1), ins.1)) b.gates p.gates_within in
+    (p.few tt, p.placing.consts_within, gates, p.flops_within)
 
 -- What a module begins with.
 
@@ -705,18 +711,49 @@ ports_within direction table scope names (n ∷ ns) some =
     here true = nets_of-within names (keys_of table (known scope n)) (some (omega arith))
     here false = All-from_recursion (λ (k : NetId). k.0 < length names) [] tt
 
-start_building : (table : List (List ℕ)) (m : Module) → first_over table 0 (known_nets m) ≡ None → IsBuilding (said m.declared) (start_of table m)
-start_building table m none =
+-- a declared name has nets
+pub declared_has_nets : (table : List (List ℕ)) (m : Module) (id : ℕ) (s : Says) → said m.declared id ≡ Some s
+    → 0 < length (numbered table (known_nets m))
+declared_has_nets table m id s e = some_numbered table (known_nets m) (some_declared m (said_some m.declared id s e))
+
+start_building : (L : Type 0) (table : List (List ℕ)) (m : Module) → (L → first_over table 0 (known_nets m) ≡ None)
+    → IsBuilding L (said m.declared) (start_of table m)
+start_building L table m none =
     let names : List (List ℕ) = numbered table (known_nets m) in
     record {
       placing =
           record {
-            few = numbered_few table (known_nets m) 0 [] (omega arith) (omega arith) none;
             consts_within = supplies_within table names m.declared (λ h. some_numbered table (known_nets m) (some_declared m h));
-            declared = λ id s e. some_numbered table (known_nets m) (some_declared m (said_some m.declared id s e));
+            declared = declared_has_nets table m;
           };
-      gates_within = All-from_recursion (GateWithin (length names)) [] tt;
+      few = λ l. numbered_few table (known_nets m) 0 [] (omega arith) (omega arith) (none l);
+      gates_within = All-from_recursion (GateUnder L (length names)) [] tt;
       flops_within = All-from_recursion (IsFlopPlaced (length names)) [] tt;
+    }
+
+-- what the parts of a module build, and its ports
+pub record IsModuleBuilt (L : Type 0) (table : List (List ℕ)) (m : Module) (after : Built) : Type 0 where
+  pub builds : Builds L (said m.declared) (start_of table m) after
+  pub inputs_within :
+      AreWithin (length after.made.names) (port_nets directions.Input table (said m.declared) (start_of table m).made.names m.header)
+  pub outputs_within :
+      AreWithin (length after.made.names) (port_nets directions.Output table (said m.declared) (start_of table m).made.names m.header)
+
+pub module_built : (L : Type 0) (table : List (List ℕ)) (m : Module) (after : Built) → (L → first_over table 0 (known_nets m) ≡ None)
+    → (L → AreShort m.parts)
+    → with_parts table (said m.declared) (start_of table m) m.parts ≡ Ok after → IsModuleBuilt L table m after
+module_built L table m after none short e =
+    let names : List (List ℕ) = numbered table (known_nets m) in
+    let builds = with_parts_built L table (said m.declared) (start_of table m) after m.parts (start_building L table m none) short e in
+    let some : 0 < length m.header → 0 < length names = λ h. some_numbered table (known_nets m) (some_ports m h) in
+    record {
+      builds = builds;
+      inputs_within =
+          nets_more (length names) (length after.made.names) (port_nets directions.Input table (said m.declared) names m.header) builds.grows
+          (ports_within directions.Input table (said m.declared) names m.header some);
+      outputs_within =
+          nets_more (length names) (length after.made.names) (port_nets directions.Output table (said m.declared) names m.header) builds.grows
+          (ports_within directions.Output table (said m.declared) names m.header some);
     }
 
 module_within : (table : List (List ℕ)) (m : Module) (after : Built) → first_over table 0 (known_nets m) ≡ None → AreShort m.parts
@@ -724,17 +761,11 @@ module_within : (table : List (List ℕ)) (m : Module) (after : Built) → first
     → IsFinished after (port_nets directions.Input table (said m.declared) (start_of table m).made.names m.header)
     (port_nets directions.Output table (said m.declared) (start_of table m).made.names m.header)
 module_within table m after none short e =
-    let names : List (List ℕ) = numbered table (known_nets m) in
-    let builds = with_parts_built table (said m.declared) (start_of table m) after m.parts (start_building table m none) short e in
-    let some : 0 < length m.header → 0 < length names = λ h. some_numbered table (known_nets m) (some_ports m h) in
+    let built = module_built (Unit {0}) table m after (λ l. none) (λ l. short) e in
     record {
-      parts_within = built_within (said m.declared) after builds.building;
-      inputs_within =
-          nets_more (length names) (length after.made.names) (port_nets directions.Input table (said m.declared) names m.header) builds.grows
-          (ports_within directions.Input table (said m.declared) names m.header some);
-      outputs_within =
-          nets_more (length names) (length after.made.names) (port_nets directions.Output table (said m.declared) names m.header) builds.grows
-          (ports_within directions.Output table (said m.declared) names m.header some);
+      parts_within = built_within (said m.declared) after built.builds.building;
+      inputs_within = built.inputs_within;
+      outputs_within = built.outputs_within;
     }
 
 pub will_finish : (table : List (List ℕ)) (m : Module) (scope : ℕ → Option Says) (header : List Name) (parts : List Component) (start : Built)
