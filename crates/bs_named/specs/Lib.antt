@@ -1,0 +1,2 @@
+-- The law of the names of flat nets.
+pub mod Law

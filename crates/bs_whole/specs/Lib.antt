@@ -1,0 +1,2 @@
+-- The law that the modules of a text are whole.
+pub mod Law
