@@ -5,6 +5,7 @@ mod copying;
 mod dealing;
 mod ids;
 mod items;
+mod limits;
 mod names;
 mod owns;
 mod pieces;
@@ -14,5 +15,6 @@ mod wholeness;
 
 pub use dealing::{Dealt, Place, deal};
 pub use ids::module_ids;
+pub use limits::MAX_OWN_NETS;
 pub use owns::{Modules, Own};
 pub use reading::read_modules;

@@ -1,5 +1,5 @@
 //! The own text of each module, and what it says.
-ghost use Rattle.std.specs.Prelude.{◌≡◌, ◌++◌, map, IfOk, OnOk};
+ghost use Rattle.std.specs.Prelude.{◌≡◌, ◌++◌, map, IfErr, IfOk, OnOk};
 ghost use Rattle.bs_bits.specs.Reading.{Answers};
 ghost use Rattle.bs_scope.specs.Checking.{marked};
 ghost use Rattle.bs_syntax.specs.declared.fault.VerilogFault.TheVariants.{NoMemory as want};
@@ -8,6 +8,7 @@ ghost use Rattle.bs_modules.specs.Owns as spec;
 use crate::copying::{copy, part};
 use crate::dealing::Place;
 use crate::items::{item_size, own_items, written_items};
+use crate::limits::MAX_OWN_NETS;
 use bs_bits::{List, NoMemory};
 use bs_flat::Written;
 use bs_lexeme::{Lexeme, Table};
@@ -84,7 +85,18 @@ fn read_own(
     Ok(said)
 }
 
-/// What the own text of each module says, or the first fault.
+/// The room for nets that is left after some more. With no room left it is want of memory.
+fn room_left(room: u32, nets: u32) -> Result<u32, VerilogFault>
+    ensures { IfErr result (λ fault. fault ≡ want) }
+{
+    if nets > room {
+        return Err(VerilogFault::NoMemory);
+    }
+    Ok(room - nets)
+}
+
+/// What the own text of each module says, or the first fault. More than `MAX_OWN_NETS` nets of all own texts together are want
+/// of memory.
 pub fn read_owns(
     alloc: Global,
     table: &Table,
@@ -96,8 +108,10 @@ pub fn read_owns(
     ensures { Answers want (λ os. map spec.module_and_parts os) result (spec.owns table.now (marked marks.now) others.now ts.now modules.now) }
 {
     let mut owns = List::new(alloc);
+    let mut room = MAX_OWN_NETS;
     'modules: for place in modules {
         let own = read_own(alloc, table, ts, others, marks, *place)?;
+        room = room_left(room, own.parts.names.len())?;
         owns.push(own)?;
     }
     Ok(owns)
