@@ -1,0 +1,4 @@
+pub mod PortLemmas
+pub mod GrowLemmas
+pub mod SpanLemmas
+pub mod WireLemmas
