@@ -1,0 +1,13 @@
+use Rattle.std.proofs.Common.{◌+◌, sym, subst, List, take}
+use Rattle.bs_flatten.specs.declared.blocks.Run.{Run}
+use Rattle.bs_number.specs.Rows.{Beside, AreBlockRows}
+use Rattle.bs_number.proofs.RowLemmas.{beside_more}
+use Rattle.bs_number.proofs.rows.rows_of_all.Goals as goal
+
+pub each-preserved : goal.each-preserved
+each-preserved c =
+    let blocks = c.args.blocks.now in
+    let i = c.each.block-index in
+    subst (λ (u : List (List (List Run))). Beside AreBlockRows (take (i + 1) blocks) u) (sym c.in_ok-push.ensures.ok)
+    (beside_more AreBlockRows blocks c.each.rows i c.block-item.result c.in_ok-row.row c.each.invariant c.each-test.true c.block-item.is
+    c.in_ok-row.ensures)
