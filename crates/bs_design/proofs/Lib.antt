@@ -1,0 +1,2 @@
+pub mod FlattenLemmas
+pub mod ReaderLemmas

@@ -1,0 +1,4 @@
+-- What a text is answered with.
+pub mod Answers
+-- What its modules are answered with.
+pub mod Modules
