@@ -1,14 +1,15 @@
 -- Worked refusals (docs/FORMATS.md, "Refusal lines"): the words are those of the lines.
-use Rattle.std.proofs.Common.{◌≡◌, refl, codes}
+use Rattle.std.proofs.Common.{◌≡◌, refl, [], ◌∷◌, codes}
 use Rattle.std.specs.Fmt.{digits}
 use Rattle.bs_syntax.specs.declared.fault.VerilogFault.TheVariants as verilog
 use Rattle.bs_syntax.specs.declared.fault.What.TheVariants as what
+use Rattle.bs_flat.specs.declared.fault.FlatFault.TheVariants as flat
 use Rattle.bs_scan.specs.declared.fault.ChoiceFault.TheVariants as choice
 use Rattle.bs_scan.specs.declared.fault.DumpFault.TheVariants as dump
 use Rattle.bs_stim.specs.declared.fault.StimFault.TheVariants as stimulus
 use Rattle.bs_job.specs.declared.file.File.TheVariants.{Netlist, Signature, Stimulus, Dump, Report}
 use Rattle.bs_job.specs.Files.{refusal_line}
-use Rattle.bs_entry.specs.Refusals.{netlist_text_words, signature_words, stimulus_words, dump_words, range_words, too_large_words}
+use Rattle.bs_entry.specs.Refusals.{flat_words, netlist_text_words, signature_words, stimulus_words, dump_words, range_words, too_large_words}
 
 empty_netlist : refusal_line Netlist (netlist_text_words (verilog.Syntax 0)) ≡ codes "refused netlist Syntax 0\n"
 unfolding digits
@@ -37,6 +38,27 @@ one_terminal = refl
 past_the_range : refusal_line Netlist (netlist_text_words (verilog.Index 46)) ≡ codes "refused netlist Index 46\n"
 unfolding digits
 past_the_range = refl
+
+second_name : refusal_line Netlist (flat_words (flat.Twice 40)) ≡ codes "refused netlist Twice 40\n"
+unfolding digits
+second_name = refl
+
+ring_of_two : refusal_line Netlist (flat_words (flat.Recursion (codes "a" ∷ codes "b" ∷ []))) ≡ codes "refused netlist Recursion a b\n"
+ring_of_two = refl
+
+two_tops : refusal_line Netlist (flat_words (flat.Tops 2)) ≡ codes "refused netlist Tops 2\n"
+unfolding digits
+two_tops = refl
+
+wide_connection : refusal_line Netlist (flat_words (flat.Connect 120)) ≡ codes "refused netlist Connect 120\n"
+unfolding digits
+wide_connection = refl
+
+too_deep : refusal_line Netlist (flat_words flat.FlatDepth) ≡ codes "refused netlist FlatDepth\n"
+too_deep = refl
+
+same_key : refusal_line Netlist (flat_words (flat.NameClash (codes "u.q"))) ≡ codes "refused netlist NameClash u.q\n"
+same_key = refl
 
 unknown_flop : refusal_line Signature (signature_words (choice.UnknownFlop 1)) ≡ codes "refused signature UnknownFlop 1\n"
 unfolding digits

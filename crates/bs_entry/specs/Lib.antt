@@ -3,3 +3,4 @@ pub mod Readings
 pub mod Entry
 pub mod Ready
 pub mod Props
+pub mod Law

@@ -13,6 +13,9 @@ use Rattle.bs_syntax.specs.Refusals.{what_word}
 use Rattle.bs_syntax.specs.declared.fault.What.{What}
 use Rattle.bs_syntax.specs.declared.fault.VerilogFault.{VerilogFault}
 use Rattle.bs_syntax.specs.declared.fault.VerilogFault.TheVariants as verilog
+use Rattle.bs_flat.specs.declared.fault.FlatFault.{FlatFault}
+use Rattle.bs_flat.specs.declared.fault.FlatFault.TheVariants as flat
+use Rattle.bs_flat.specs.Reading.{IsAnswer}
 use Rattle.bs_scan.specs.declared.fault.ChoiceFault.{ChoiceFault}
 use Rattle.bs_scan.specs.declared.fault.ChoiceFault.TheVariants as choice
 use Rattle.bs_scan.specs.declared.fault.DumpFault.{DumpFault}
@@ -41,6 +44,24 @@ netlist_text_words (verilog.TooManyNets at) = codes "TooManyNets " ++ decimal at
 netlist_text_words (verilog.Terminals at) = codes "Terminals " ++ decimal at
 netlist_text_words (verilog.Index at) = codes "Index " ++ decimal at
 netlist_text_words verilog.NoMemory = []
+
+-- a name, behind a space
+abbrev pub name_piece : List ℕ → List ℕ
+name_piece name = codes " " ++ name
+
+-- a netlist's text of any number of modules
+abbrev pub flat_words : FlatFault → List ℕ
+flat_words (flat.Verilog fault) = netlist_text_words fault
+flat_words (flat.Twice at) = codes "Twice " ++ decimal at
+flat_words (flat.Recursion names) = codes "Recursion" ++ flat_map name_piece names
+flat_words (flat.Tops count) = codes "Tops " ++ decimal count
+flat_words (flat.Connect at) = codes "Connect " ++ decimal at
+flat_words flat.FlatDepth = codes "FlatDepth"
+flat_words flat.FlatParts = codes "FlatParts"
+flat_words flat.FlatNets = codes "FlatNets"
+flat_words flat.FlatKeys = codes "FlatKeys"
+flat_words (flat.NameClash key) = codes "NameClash " ++ key
+flat_words flat.NoMemory = []
 
 -- a signature; a line counts from 1
 abbrev pub signature_words : ChoiceFault → List ℕ
@@ -112,40 +133,68 @@ check_words r (net.ClockMixed n) = codes "ClockMixed " ++ key_of r n
 check_words r net.NoMemory = []
 
 -- These words go with a netlist that the check refuses: they tell a fault that the check may tell, so any of its loops.
-pub record CheckSays (r : Parts) (why : List ℕ) : Type 0 where
+pub record FaultSays (r : Parts) (why : List ℕ) : Type 0 where
   pub fault : NetFault
   pub told : fault ≢ net.NoMemory
   pub is : IsFault r fault
   pub words : why ≡ check_words r fault
 
--- ---- the same as reasons of a job, whose case of several right texts is a netlist that the check refuses
+-- ---- refusals of which several are right
 
-abbrev pub netlist_text_reason : VerilogFault → Reason Parts
-netlist_text_reason fault = exactly (netlist_text_words fault)
+-- These words go with a text whose modules instance each other in rings: they tell a ring that may be told, so any of them.
+pub record RingSays (bytes why : List ℕ) : Type 0 where
+  pub names : List (List ℕ)
+  pub is : IsAnswer bytes (Err (flat.Recursion names))
+  pub words : why ≡ flat_words (flat.Recursion names)
 
-abbrev pub check_reason : Parts → Reason Parts
-check_reason r = any_of r
+-- why a text has no parts: with one fault, or with any of the rings in which its modules instance each other
+pub data TextFault : Type 0 where
+  with_one : FlatFault → TextFault
+  in_rings : TextFault
 
-abbrev pub signature_reason : ChoiceFault → Reason Parts
+abbrev pub with_fault : Result Parts FlatFault → Result Parts TextFault
+with_fault (Ok raw) = Ok raw
+with_fault (Err fault) = Err (with_one fault)
+
+-- what several refusals may go with: parts that the check refuses, or a text whose modules instance each other in rings
+pub data Case : Type 0 where
+  failing : Parts → Case
+  circular : List ℕ → Case
+
+-- these words go with the case
+abbrev pub CheckSays : Case → List ℕ → Type 0
+CheckSays (failing r) why = FaultSays r why
+CheckSays (circular bytes) why = RingSays bytes why
+
+-- ---- the same as reasons of a job
+
+abbrev pub text_reason : List ℕ → TextFault → Reason Case
+text_reason bytes (with_one fault) = exactly (flat_words fault)
+text_reason bytes in_rings = any_of (circular bytes)
+
+abbrev pub check_reason : Parts → Reason Case
+check_reason r = any_of (failing r)
+
+abbrev pub signature_reason : ChoiceFault → Reason Case
 signature_reason fault = exactly (signature_words fault)
 
-abbrev pub stimulus_reason : StimFault → Reason Parts
+abbrev pub stimulus_reason : StimFault → Reason Case
 stimulus_reason fault = exactly (stimulus_words fault)
 
-abbrev pub dump_reason : DumpFault → Reason Parts
+abbrev pub dump_reason : DumpFault → Reason Case
 dump_reason fault = exactly (dump_words fault)
 
-abbrev pub report_reason : ReportFault → Reason Parts
+abbrev pub report_reason : ReportFault → Reason Case
 report_reason fault = exactly (report_words fault)
 
-abbrev pub range_reason : Reason Parts
+abbrev pub range_reason : Reason Case
 range_reason = exactly range_words
 
-abbrev pub too_large_reason : Reason Parts
+abbrev pub too_large_reason : Reason Case
 too_large_reason = exactly too_large_words
 
 -- what a reader's definition wants, with a reason for its fault
-abbrev pub with_reason : {V F : Type 0} → (F → Reason Parts) → Result V F → Result V (Reason Parts)
+abbrev pub with_reason : {V F : Type 0} → (F → Reason Case) → Result V F → Result V (Reason Case)
 with_reason reason (Ok v) = Ok v
 with_reason reason (Err fault) = Err (reason fault)
 
@@ -159,4 +208,4 @@ HasWords words (Q.Why why) = why.items ≡ words
 -- the refusal has words that go with a netlist that the check refuses, unless memory ran out
 abbrev pub HasCheckWords : Parts → Refusal → Type 0
 HasCheckWords r Q.NoMemory = Unit {0}
-HasCheckWords r (Q.Why why) = CheckSays r why.items
+HasCheckWords r (Q.Why why) = FaultSays r why.items

@@ -17,8 +17,8 @@ ghost use Rattle.bs_entry.specs.Refusals.{CheckSays};
 
 use crate::limits::MAX_WAVE_VALUES;
 use crate::refusals::{
-    check_refusal, dump_refusal, netlist_text_refusal, range_refusal, report_refusal,
-    signature_refusal, stimulus_refusal, too_large_refusal,
+    check_refusal, dump_refusal, flat_refusal, range_refusal, report_refusal, signature_refusal,
+    stimulus_refusal, too_large_refusal,
 };
 use bs_job::Refusal;
 use bs_net::{Netlist, Raw};
@@ -32,9 +32,9 @@ pub fn read_netlist(alloc: Global, bytes: &[u8]) -> Result<Netlist, Refusal>
     requires { length bytes.now ≤ MAX_NETLIST_BYTES }
     ensures { Reads CheckSays (λ net. net.raw) (netlist_in bytes.now) result }
 {
-    match bs_verilog::read(alloc, bytes) {
+    match bs_design::read(alloc, bytes) {
         Ok(raw) => check_netlist(alloc, raw),
-        Err(fault) => Err(netlist_text_refusal(alloc, fault)),
+        Err(fault) => Err(flat_refusal(alloc, &fault)),
     }
 }
 

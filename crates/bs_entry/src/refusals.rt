@@ -7,15 +7,17 @@ ghost use Rattle.bs_net.specs.Loops.{gate_at};
 ghost use Rattle.bs_net.specs.Netlist.{circuit};
 ghost use Rattle.bs_net.specs.declared.fault.NetFault.TheVariants.{NoMemory as CheckWant};
 ghost use Rattle.bs_syntax.specs.declared.fault.VerilogFault.TheVariants.{NoMemory as TextWant};
+ghost use Rattle.bs_flat.specs.declared.fault.FlatFault.TheVariants.{NoMemory as FlatWant};
 ghost use Rattle.bs_scan.specs.declared.fault.ChoiceFault.TheVariants.{NoMemory as ChoiceWant};
 ghost use Rattle.bs_scan.specs.declared.fault.DumpFault.TheVariants.{NoMemory as DumpWant};
 ghost use Rattle.bs_stim.specs.declared.fault.StimFault.TheVariants.{NoMemory as StimWant};
 ghost use Rattle.bs_report.specs.declared.fault.ReportFault.TheVariants.{NoMemory as ReportWant};
 ghost use Rattle.bs_job.specs.declared.walk.Refusal.TheVariants.{NoMemory as Want};
-ghost use Rattle.bs_entry.specs.Refusals.{HasCheckWords, HasWords, check_words, count_word, dump_words, gate_piece, key_of, netlist_text_words};
+ghost use Rattle.bs_entry.specs.Refusals.{HasCheckWords, HasWords, check_words, count_word, dump_words, flat_words, gate_piece, key_of, name_piece, netlist_text_words};
 ghost use Rattle.bs_entry.specs.Refusals.{range_words, report_words, signature_words, stimulus_words, too_large_words, too_many_words, unsupported_words};
 
-use bs_bits::{NoMemory, push_number, push_piece};
+use bs_bits::{List, NoMemory, push_number, push_piece};
+use bs_flat::FlatFault;
 use bs_job::Refusal;
 use bs_net::{Count, NetFault, NetId, Netlist, Raw};
 use bs_report::ReportFault;
@@ -64,15 +66,21 @@ fn numbered(alloc: Global, word: &[u8], number: u32) -> Refusal
     refusal(number_words(alloc, word, number))
 }
 
-/// A word and the key of a net.
-fn key_words(alloc: Global, word: &[u8], raw: &Raw, net: NetId) -> Result<Vec<u8>, NoMemory>
-    requires { net.0 < length raw.now.names }
-    ensures { IfOk result (λ why. why.items ≡ word.now ++ key_of (parts_of raw.now) net) }
+/// A word and a text behind it.
+fn text_words(alloc: Global, word: &[u8], text: &[u8]) -> Result<Vec<u8>, NoMemory>
+    ensures { IfOk result (λ why. why.items ≡ word.now ++ text.now) }
 {
     let mut why = Vec::new(alloc);
     push_piece(&mut why, word)?;
-    push_piece(&mut why, key_of(raw, net).as_bytes())?;
+    push_piece(&mut why, text)?;
     Ok(why)
+}
+
+/// The refusal of a word and a text behind it.
+fn texted(alloc: Global, word: &[u8], text: &[u8]) -> Refusal
+    ensures { HasWords (word.now ++ text.now) result }
+{
+    refusal(text_words(alloc, word, text))
 }
 
 /// The refusal of a word and the key of a net.
@@ -80,7 +88,7 @@ fn keyed(alloc: Global, word: &[u8], raw: &Raw, net: NetId) -> Refusal
     requires { net.0 < length raw.now.names }
     ensures { HasWords (word.now ++ key_of (parts_of raw.now) net) result }
 {
-    refusal(key_words(alloc, word, raw, net))
+    texted(alloc, word, key_of(raw, net).as_bytes())
 }
 
 /// The key of a net.
@@ -94,8 +102,8 @@ fn key_of(raw: &Raw, net: NetId) -> &str
 
 // ---- the netlist
 
-/// Why a text is no netlist.
-pub fn netlist_text_refusal(alloc: Global, fault: VerilogFault) -> Refusal
+/// Why a text of one module is no netlist.
+fn netlist_text_refusal(alloc: Global, fault: VerilogFault) -> Refusal
     ensures why { HasWords (netlist_text_words fault) result }
     ensures want { fault ≡ TextWant → result ≡ Want }
 {
@@ -108,6 +116,45 @@ pub fn netlist_text_refusal(alloc: Global, fault: VerilogFault) -> Refusal
         VerilogFault::Terminals(at) => numbered(alloc, b"Terminals ", at),
         VerilogFault::Index(at) => numbered(alloc, b"Index ", at),
         VerilogFault::NoMemory => Refusal::NoMemory,
+    }
+}
+
+/// Names, each behind a space, behind a word.
+fn name_words(alloc: Global, word: &[u8], names: &[List<u8>]) -> Result<Vec<u8>, NoMemory>
+    ensures { IfOk result (λ why. why.items ≡ word.now ++ flat_map name_piece names.now) }
+{
+    let mut why = word.to_vec(alloc)?;
+    'names: for name in names {
+        push_piece(&mut why, b" ")?;
+        push_piece(&mut why, name.slice())?;
+    }
+    Ok(why)
+}
+
+/// The refusal of names behind a word.
+fn named(alloc: Global, word: &[u8], names: &[List<u8>]) -> Refusal
+    ensures { HasWords (word.now ++ flat_map name_piece names.now) result }
+{
+    refusal(name_words(alloc, word, names))
+}
+
+/// Why a text of any number of modules is no netlist.
+pub fn flat_refusal(alloc: Global, fault: &FlatFault) -> Refusal
+    ensures why { HasWords (flat_words fault.now) result }
+    ensures want { fault.now ≡ FlatWant → result ≡ Want }
+{
+    match fault {
+        FlatFault::Verilog(fault) => netlist_text_refusal(alloc, *fault),
+        FlatFault::Twice(at) => numbered(alloc, b"Twice ", *at),
+        FlatFault::Recursion(names) => named(alloc, b"Recursion", names.slice()),
+        FlatFault::Tops(count) => numbered(alloc, b"Tops ", *count),
+        FlatFault::Connect(at) => numbered(alloc, b"Connect ", *at),
+        FlatFault::FlatDepth => worded(alloc, b"FlatDepth"),
+        FlatFault::FlatParts => worded(alloc, b"FlatParts"),
+        FlatFault::FlatNets => worded(alloc, b"FlatNets"),
+        FlatFault::FlatKeys => worded(alloc, b"FlatKeys"),
+        FlatFault::NameClash(key) => texted(alloc, b"NameClash ", key.slice()),
+        FlatFault::NoMemory => Refusal::NoMemory,
     }
 }
 

@@ -3,7 +3,6 @@ use Rattle.std.proofs.Common.{◌≡◌, ℕ, true, List, Some, Result, Ok, refl
 use Rattle.std.specs.Prelude.{IfOk}
 use Rattle.bs_bits.specs.declared.memory.NoMemory.{NoMemory}
 use Rattle.bs_outside.specs.Calls.{FetchCall}
-use Rattle.bs_net.specs.Parts.{Parts}
 use Rattle.bs_job.specs.declared.status.Status.{Status}
 use Rattle.bs_job.specs.declared.reply.Reply.{Reply}
 use Rattle.bs_job.specs.Files.{is_work_status}
@@ -12,7 +11,7 @@ use Rattle.bs_job.proofs.Walking.{walks_end}
 use Rattle.bs_job.specs.Walks.{Walks}
 use Rattle.bs_job.specs.Prepared.{Prepared, IsWork}
 use Rattle.bs_job.proofs.Preparing.{prepares_work}
-use Rattle.bs_entry.specs.Refusals.{CheckSays}
+use Rattle.bs_entry.specs.Refusals.{Case, CheckSays}
 use Rattle.bs_request.specs.Request.{Request}
 use Rattle.bs_inspect.specs.Work.{Work, plan_of, to_help, to_version, to_flops, to_inputs, to_stats, to_steps, to_trace, to_run, to_wave, to_signature}
 use Rattle.bs_inspect.specs.Finishes.{finishes}
@@ -34,7 +33,7 @@ is_work = record { status = work_status }
 
 -- the work that a walk made ready for, if it is done
 pub prepares_done : {S T : Type 0} {held : S → Tells} {faults : S → Counts} {leads : S → FetchCall → S →
-    Type 0} {before now : S} {plan : Plan Parts Work} {view : T → Work} {t : T} (r : Result Reply NoMemory) →
+    Type 0} {before now : S} {plan : Plan Case Work} {view : T → Work} {t : T} (r : Result Reply NoMemory) →
     Walks CheckSays held faults leads before now plan view (Ok t) → IfOk r (λ answer. finishes (view t) answer.status answer.text.items) →
     Prepared CheckSays finishes held faults leads before now (Some plan) r
 prepares_done r walks done = prepares_work r is_work walks done
@@ -54,7 +53,7 @@ prepared_asked {held = held} {faults = faults} {leads = leads} {before = before}
 
 -- the answer to the plan of something, where that is this
 pub prepared_with : {A S : Type 0} {held : S → Tells} {faults : S → Counts} {leads : S → FetchCall → S → Type 0} {before now : S} (plan : A →
-    Plan Parts Work) (a b : A) (r : Result Reply NoMemory) → a ≡ b → Prepared CheckSays finishes held faults leads before now (Some (plan b)) r →
+    Plan Case Work) (a b : A) (r : Result Reply NoMemory) → a ≡ b → Prepared CheckSays finishes held faults leads before now (Some (plan b)) r →
     Prepared CheckSays finishes held faults leads before now (Some (plan a)) r
 prepared_with {A = A} {held = held} {faults = faults} {leads = leads} {before = before} {now = now} plan a b r is h =
     subst (λ (x : A). Prepared CheckSays finishes held faults leads before now (Some (plan x)) r) (sym is) h

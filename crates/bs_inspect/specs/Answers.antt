@@ -9,16 +9,15 @@ use Rattle.bs_job.specs.declared.status.Status.TheVariants.{Words, ReadFault, Wr
 use Rattle.bs_job.specs.Plan.{Tells, Counts, Plan}
 use Rattle.bs_job.specs.Clauses.{Answered, AnsweredAsTold, AnsweredWhole, CallByCall, CallsWanting, IsCalm, IsWordsOnlyFor, ReadFaultOf, RefusesFirstOf}
 use Rattle.bs_job.specs.Delivery.{Delivers, PutsLines}
-use Rattle.bs_net.specs.Parts.{Parts}
 use Rattle.bs_request.specs.Request.{Request}
-use Rattle.bs_entry.specs.Refusals.{CheckSays}
+use Rattle.bs_entry.specs.Refusals.{Case, CheckSays}
 use Rattle.bs_inspect.specs.Usage.{usage_text}
 use Rattle.bs_inspect.specs.Work.{Work, plan_of}
 use Rattle.bs_inspect.specs.Finishes.{finishes}
 
 -- The answer to a request with this plan, over a shelf and a sink: each part is the clause of `answer` of that name.
 pub record AnswersPlan {S K : Type 0} (held : S → Tells) (faults : S → Counts) (fetch_leads : S → FetchCall → S → Type 0) (shelf_before shelf_now : S)
-    (written : K → Option (List ℕ)) (sink_faults : K → ℕ) (put_leads : K → PutCall → K → Type 0) (sink_before sink_now : K) (plan : Plan Parts Work)
+    (written : K → Option (List ℕ)) (sink_faults : K → ℕ) (put_leads : K → PutCall → K → Type 0) (sink_before sink_now : K) (plan : Plan Case Work)
     (answer : Result Status NoMemory) : Type 0 where
   pub answered : IfOk answer (λ status. Answered CheckSays finishes (held shelf_before) (faults shelf_before) (faults shelf_now) (Some plan)
       (written sink_before) (written sink_now) status)

@@ -5,6 +5,7 @@ use Rattle.bs_report.specs.declared.report.Report.{Report}
 use Rattle.bs_request.specs.Request.{Request, Help, Version, Flops, Inputs, Stats, Steps, Trace, Stimulus, Wave, Signature}
 use Rattle.bs_job.specs.Plan.{Plan, end, ◌>>=◌}
 use Rattle.bs_entry.specs.Entry.{netlist_of, report_of}
+use Rattle.bs_entry.specs.Refusals.{Case}
 use Rattle.bs_intake.specs.Taken.{Traced, Exercised, picked_of, charted_of, exercised_of}
 use Rattle.bs_intake.specs.Simulated.{simulated_of}
 
@@ -23,7 +24,7 @@ pub data Work : Type 0 where
   to_signature : ℕ → Exercised → Work
 
 -- the plan of a request
-abbrev pub plan_of : Request → Plan Parts Work
+abbrev pub plan_of : Request → Plan Case Work
 plan_of Help = end to_help
 plan_of Version = end to_version
 plan_of (Flops netlist) = do

@@ -7,6 +7,7 @@ use Rattle.bs_job.specs.declared.file.File.TheVariants as files
 use Rattle.bs_job.specs.Plan.{Plan, end, ◌>>=◌, read_as}
 use Rattle.bs_entry.specs.Entry.{netlist_of, report_of, stimulus_of}
 use Rattle.bs_entry.specs.Readings.{size_in}
+use Rattle.bs_entry.specs.Refusals.{Case}
 use Rattle.bs_intake.specs.Fits.{fit_in, known_in}
 use Rattle.bs_intake.specs.declared.ready.Traced.{Traced as CodeTraced}
 use Rattle.bs_intake.specs.declared.ready.Exercised.{Exercised as CodeExercised}
@@ -17,7 +18,7 @@ pub record Traced : Type 0 where
   pub report : Report
 
 -- two files, and last whether the trace of the report fits the netlist
-abbrev pub traced_of : (netlist report : List ℕ) → Plan Parts Traced
+abbrev pub traced_of : (netlist report : List ℕ) → Plan Case Traced
 traced_of netlist report = do
   raw ← netlist_of netlist
   told ← report_of report
@@ -28,14 +29,14 @@ abbrev pub traced_in : CodeTraced → Traced
 traced_in t = record { raw = t.net.raw; report = t.report }
 
 -- the same, and last whether the netlist has these names
-abbrev pub picked_of : (netlist report : List ℕ) → List (List ℕ) → Plan Parts Traced
+abbrev pub picked_of : (netlist report : List ℕ) → List (List ℕ) → Plan Case Traced
 picked_of netlist report only = do
   traced ← traced_of netlist report
   known ← read_as files.Name (known_in traced.raw only)
   end traced
 
 -- the same, and last whether a waveform of the trace is not too large
-abbrev pub charted_of : (netlist report : List ℕ) → Plan Parts Traced
+abbrev pub charted_of : (netlist report : List ℕ) → Plan Case Traced
 charted_of netlist report = do
   traced ← traced_of netlist report
   small ← read_as files.Report (size_in traced.raw traced.report)
@@ -47,7 +48,7 @@ pub record Exercised : Type 0 where
   pub runs : Runs
 
 -- two files
-abbrev pub exercised_of : (netlist stimulus : List ℕ) → Plan Parts Exercised
+abbrev pub exercised_of : (netlist stimulus : List ℕ) → Plan Case Exercised
 exercised_of netlist stimulus = do
   raw ← netlist_of netlist
   runs ← stimulus_of raw stimulus

@@ -5,9 +5,9 @@ use Rattle.bs_alias.specs.declared.fault.MapFault.{MapFault}
 use Rattle.bs_alias.specs.declared.fault.MapFault.TheVariants as names
 use Rattle.bs_vcd.specs.declared.fault.VcdFault.{VcdFault}
 use Rattle.bs_vcd.specs.declared.fault.VcdFault.TheVariants as vcd
-use Rattle.bs_net.specs.Parts.{Parts}
 use Rattle.bs_job.specs.Plan.{Reason, exactly}
 use Rattle.bs_place.specs.Quotes.{shown_line}
+use Rattle.bs_entry.specs.Refusals.{Case}
 
 -- a file of names; a line counts from 1
 abbrev pub map_words : MapFault → List ℕ
@@ -37,14 +37,14 @@ cycles_words = codes "TooManyCycles"
 abbrev pub name_words : List ℕ → List ℕ
 name_words name = codes "Unknown " ++ shown_line name
 
-abbrev pub map_reason : MapFault → Reason Parts
+abbrev pub map_reason : MapFault → Reason Case
 map_reason fault = exactly (map_words fault)
 
-abbrev pub vcd_reason : List (List ℕ) → VcdFault → Reason Parts
+abbrev pub vcd_reason : List (List ℕ) → VcdFault → Reason Case
 vcd_reason keys fault = exactly (vcd_words keys fault)
 
-abbrev pub cycles_reason : Reason Parts
+abbrev pub cycles_reason : Reason Case
 cycles_reason = exactly cycles_words
 
-abbrev pub name_reason : List ℕ → Reason Parts
+abbrev pub name_reason : List ℕ → Reason Case
 name_reason name = exactly (name_words name)

@@ -1,5 +1,5 @@
 -- What a reading of a file answers, in the words of a note.
-use Rattle.std.proofs.Common.{◌≡◌, ◌≢◌, ℕ, List, Bool, true, false, Option, Some, None, [], length, Result, Ok, Err, Vec, refl, sym, subst, ap}
+use Rattle.std.proofs.Common.{◌≡◌, ◌⊎◌, inl, inr, ◌≢◌, ℕ, List, Bool, true, false, Option, Some, None, [], length, Result, Ok, Err, Vec, refl, sym, subst, ap}
 use Rattle.std.specs.Prelude.{IfOk, if◌then◌else◌}
 use Rattle.std.specs.declared.alloc.Global.{Global}
 use Rattle.bs_bits.specs.declared.memory.NoMemory.{NoMemory}
@@ -15,13 +15,20 @@ use Rattle.bs_job.specs.Plan.{Reason, exactly, any_of, Says}
 use Rattle.bs_job.specs.Walks.{Reads}
 use Rattle.bs_refusal.specs.Checks.{IsCheckNote}
 use Rattle.bs_refusal.specs.Kinds.{mistaken_text}
-use Rattle.bs_note.specs.Cases.{Case, in_check, NoteSays, told_as, noted_as, HasNote}
+use Rattle.bs_note.specs.Cases.{Case, in_netlist, in_ring, in_check, NoteSays, told_as, noted_as, HasNote}
 use Rattle.bs_net.specs.Netlist.{circuit_of}
 use Rattle.bs_encode.specs.Transition.{variables}
-use Rattle.bs_entry.specs.Refusals.{CheckSays}
+use Rattle.bs_entry.specs.Refusals.{CheckSays, TextFault, with_one, Case as Refused, in_rings}
+use Rattle.bs_entry.specs.Readings.{text_in}
+use Rattle.bs_entry.proofs.TextLemmas.{IsRightFault, right_parts, right_faults}
+use Rattle.bs_flat.specs.declared.fault.FlatFault.{FlatFault}
+use Rattle.bs_flat.specs.declared.fault.FlatFault.TheVariants as flat
+use Rattle.bs_flat.specs.Reading.{IsAnswer}
+use Rattle.bs_job.specs.declared.file.File.TheVariants as files
+use Rattle.bs_refusal.specs.Kinds.{mistaken}
 use Rattle.bs_target.specs.Target.{room_in, state_in}
 use Rattle.bs_told.specs.Searches.{room_text, state_text}
-use Rattle.bs_note.specs.Readings.{checked_noted, room_noted, said_by, state_noted}
+use Rattle.bs_note.specs.Readings.{checked_noted, netlist_noted, netlist_reason, parsed_noted, room_noted, said_by, state_noted}
 
 -- a note that was made is the refusal's
 pub noted_is : (reason : Reason Case) (note : Result (Vec ℕ Global) NoMemory) → IfOk note (λ n. Says NoteSays reason n.items) → HasNote reason (noted_as note)
@@ -66,6 +73,47 @@ reads_refused view path text r given refusal same has = by refusal (subst (λ x.
     by Q.NoMemory told = tt
     by (Q.Why why) told = rw (refused_fails r told.fault told.told told.is) told
 
+-- parts of a text are what the check looks at
+pub reads_parts : {T : Type 0} (view : T → Parts) (path text : List ℕ) (r : Parts) (result : Result T Refusal) → IsAnswer text (Ok r) →
+    Reads NoteSays view (checked_noted path text r) result → Reads NoteSays view (netlist_noted path text) result
+reads_parts {T = T} view path text r result is h =
+    subst (λ (t : Result Parts TextFault). Reads {T = T} NoteSays view (parsed_noted path text t) result) (sym (right_parts text r is)) h
+
+-- a note on a ring is one on any of them
+ringed : (path text : List ℕ) (names : List (List ℕ)) (seems : Option File) (refusal : Refusal) → IsAnswer text (Err (flat.Recursion names)) →
+    HasNote (told_as files.Netlist path seems (in_netlist path text (flat.Recursion names))) refusal →
+    HasNote (told_as files.Netlist path seems (in_ring path text)) refusal
+ringed path text names seems Q.NoMemory is has = tt
+ringed path text names (Some kind) (Q.Why note) is has = has
+ringed path text names None (Q.Why note) is has = record { names = names; is = is; written = has }
+
+-- a refusal with a note on a fault
+noted_of : {T : Type 0} (view : T → Parts) (path text : List ℕ) (fault : TextFault) (refusal : Refusal) →
+    HasNote (netlist_reason path text fault) refusal → Reads NoteSays view (parsed_noted path text (Err fault)) (Err refusal)
+noted_of view path text fault Q.NoMemory has = tt
+noted_of view path text fault (Q.Why note) has = has
+
+-- the note on a fault of the text is the reason's
+pub reads_failing : {T : Type 0} (view : T → Parts) (path text : List ℕ) (fault : FlatFault) (refusal : Refusal) →
+    (fault ≡ flat.NoMemory) ⊎ IsAnswer text (Err fault) → HasNote (netlist_reason path text (with_one fault)) refusal →
+    (fault ≡ flat.NoMemory → refusal ≡ Q.NoMemory) → Reads NoteSays view (netlist_noted path text) (Err refusal)
+reads_failing {T = T} view path text fault refusal (inl none) has want =
+    subst (λ (q : Refusal). Reads {T = T} NoteSays view (netlist_noted path text) (Err q)) (sym (want none)) tt
+reads_failing {T = T} view path text fault refusal (inr is) has want = by (right_faults text fault is)
+  where
+    along : (f : TextFault) → text_in text ≡ Err f → HasNote (netlist_reason path text f) refusal →
+        Reads {T = T} NoteSays view (netlist_noted path text) (Err refusal)
+    along f e h =
+        subst (λ (t : Result Parts TextFault). Reads {T = T} NoteSays view (parsed_noted path text t) (Err refusal)) (sym e)
+        (noted_of view path text f refusal h)
+
+    by : IsRightFault text fault → Reads {T = T} NoteSays view (netlist_noted path text) (Err refusal)
+    by (inl e) = along (with_one fault) e has
+    by (inr r) =
+        along in_rings r.0
+        (ringed path text r.1.0 (mistaken files.Netlist text) refusal (subst (λ f. IsAnswer text (Err f)) r.1.1 is)
+        (subst (λ f. HasNote (netlist_reason path text (with_one f)) refusal) r.1.1 has))
+
 -- what does not hold is refused by these very words
 pub reads_else : (holds : Bool) (text : List ℕ) (note : Result (Vec ℕ Global) NoMemory) (refusal : Refusal) → holds ≡ false → refusal ≡ noted_as note →
     IfOk note (λ n. n.items ≡ text) → Reads NoteSays (λ (_ : Unit {0}). true) (if holds then Ok true else Err (exactly text)) (Err refusal)
@@ -81,11 +129,11 @@ reads_else holds text note refusal e same says =
 -- ---- searches
 
 -- a reading in the words of a refusal line, in those of a note
-said_right : {T V : Type 0} (view : T → V) (text : List ℕ) (wanted : Result V (Reason Parts)) (read : T) → Reads CheckSays view wanted (Ok read) →
+said_right : {T V : Type 0} (view : T → V) (text : List ℕ) (wanted : Result V (Reason Refused)) (read : T) → Reads CheckSays view wanted (Ok read) →
     Reads NoteSays (λ (_ : Unit {0}). true) (said_by text wanted) (Ok tt)
 said_right view text wanted read h = ap (said_by text) h
 
-said_wrong : {T V : Type 0} (view : T → V) (text : List ℕ) (wanted : Result V (Reason Parts)) (why : Vec ℕ Global)
+said_wrong : {T V : Type 0} (view : T → V) (text : List ℕ) (wanted : Result V (Reason Refused)) (why : Vec ℕ Global)
     (note : Result (Vec ℕ Global) NoMemory) → Reads CheckSays view wanted (Err (Q.Why why)) → IfOk note (λ n. n.items ≡ text) →
     Reads NoteSays (λ (_ : Unit {0}). true) (said_by text wanted) (Err (noted_as note))
 said_wrong view text (Ok v) why note h says = absurd h

@@ -5,8 +5,6 @@ use Rattle.bs_net.specs.Circuit.{reset_state}
 use Rattle.bs_net.specs.Decided.{passes}
 use Rattle.bs_net.specs.Netlist.{circuit_of}
 use Rattle.bs_net.specs.Parts.{Parts}
-use Rattle.bs_syntax.specs.declared.fault.VerilogFault.{VerilogFault}
-use Rattle.bs_verilog.specs.Netlist.{netlist_text}
 use Rattle.bs_scan.specs.Choice.{Chosen, depth_of}
 use Rattle.bs_scan.specs.DumpText.{dump_of}
 use Rattle.bs_scan.specs.declared.dump.Dump.{Dump}
@@ -17,14 +15,15 @@ use Rattle.bs_report.specs.Reading.{report_in}
 use Rattle.bs_report.specs.declared.report.Report.{Report}
 use Rattle.bs_job.specs.declared.file.File.TheVariants as files
 use Rattle.bs_job.specs.Plan.{Reason, exactly, any_of}
-use Rattle.bs_entry.specs.Readings.{choice_in, has_moment, is_drawable}
+use Rattle.bs_entry.specs.Refusals.{TextFault, with_one, in_rings}
+use Rattle.bs_entry.specs.Readings.{choice_in, has_moment, is_drawable, text_in}
 use Rattle.bs_refusal.specs.declared.dump.Widths.{Widths}
 use Rattle.bs_refusal.specs.Kinds.{mistaken}
 use Rattle.bs_told.specs.Faults.{large_text, range_text}
 use Rattle.bs_told.specs.Searches.{room_text, state_text}
 use Rattle.bs_encode.specs.Transition.{variables}
 use Rattle.bs_target.specs.Target.{room_in, state_in}
-use Rattle.bs_note.specs.Cases.{Case, in_netlist, in_check, in_signature, in_stimulus, in_dump, in_report, told_as}
+use Rattle.bs_note.specs.Cases.{Case, in_netlist, in_ring, in_check, in_signature, in_stimulus, in_dump, in_report, told_as}
 
 -- what a reader's definition wants, with a reason for its fault
 abbrev pub noted : {V F : Type 0} → (F → Reason Case) → Result V F → Result V (Reason Case)
@@ -33,20 +32,24 @@ noted reason (Err fault) = Err (reason fault)
 
 -- ---- the netlist
 
-abbrev pub netlist_reason : List ℕ → List ℕ → VerilogFault → Reason Case
-netlist_reason path text fault = told_as files.Netlist path (mistaken files.Netlist text) (in_netlist path text fault)
+abbrev pub netlist_case : List ℕ → List ℕ → TextFault → Case
+netlist_case path text (with_one fault) = in_netlist path text fault
+netlist_case path text in_rings = in_ring path text
+
+abbrev pub netlist_reason : List ℕ → List ℕ → TextFault → Reason Case
+netlist_reason path text fault = told_as files.Netlist path (mistaken files.Netlist text) (netlist_case path text fault)
 
 -- parts that pass the check
 abbrev pub checked_noted : List ℕ → List ℕ → Parts → Result Parts (Reason Case)
 checked_noted path text r = if passes r then Ok r else Err (any_of (in_check path text r))
 
-abbrev pub parsed_noted : List ℕ → List ℕ → Result Parts VerilogFault → Result Parts (Reason Case)
+abbrev pub parsed_noted : List ℕ → List ℕ → Result Parts TextFault → Result Parts (Reason Case)
 parsed_noted path text (Ok r) = checked_noted path text r
 parsed_noted path text (Err fault) = Err (netlist_reason path text fault)
 
 -- the parts of a netlist, which pass the check
 abbrev pub netlist_noted : List ℕ → List ℕ → Result Parts (Reason Case)
-netlist_noted path text = parsed_noted path text (netlist_text text)
+netlist_noted path text = parsed_noted path text (text_in text)
 
 -- ---- the other files
 
@@ -83,7 +86,7 @@ abbrev pub size_noted : List ℕ → Parts → Report → Result Bool (Reason Ca
 size_noted path r report = if is_drawable r report then Ok true else Err (exactly (large_text path))
 
 -- a value is right, and what is refused has this text
-abbrev pub said_by : {V : Type 0} → List ℕ → Result V (Reason Parts) → Result Bool (Reason Case)
+abbrev pub said_by : {R V : Type 0} → List ℕ → Result V (Reason R) → Result Bool (Reason Case)
 said_by text (Ok v) = Ok true
 said_by text (Err reason) = Err (exactly text)
 

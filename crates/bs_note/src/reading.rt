@@ -5,7 +5,7 @@ ghost use Rattle.bs_net.specs.Netlist.{parts_of};
 ghost use Rattle.bs_scan.specs.declared.fault.ChoiceFault.TheVariants.{NoMemory as ChoiceWant};
 ghost use Rattle.bs_scan.specs.declared.fault.DumpFault.TheVariants.{NoMemory as DumpWant};
 ghost use Rattle.bs_stim.specs.declared.fault.StimFault.TheVariants.{NoMemory as StimWant};
-ghost use Rattle.bs_syntax.specs.declared.fault.VerilogFault.TheVariants.{NoMemory as TextWant};
+ghost use Rattle.bs_flat.specs.declared.fault.FlatFault.TheVariants.{NoMemory as TextWant};
 ghost use Rattle.bs_report.specs.declared.fault.ReportFault.TheVariants.{NoMemory as ReportWant};
 ghost use Rattle.bs_job.specs.declared.file.File.TheVariants as files;
 ghost use Rattle.bs_job.specs.declared.limits.TheConstants.{MAX_NETLIST_BYTES, MAX_REPORT_BYTES, MAX_SIGNATURE_BYTES, MAX_STIMULUS_BYTES};
@@ -13,6 +13,7 @@ ghost use Rattle.bs_job.specs.declared.walk.Refusal.TheVariants.{NoMemory as Wan
 ghost use Rattle.bs_job.specs.Plan.{any_of};
 ghost use Rattle.bs_job.specs.Walks.{Reads};
 ghost use Rattle.bs_entry.specs.Readings.{has_moment, is_drawable};
+ghost use Rattle.bs_entry.specs.Refusals.{with_one};
 ghost use Rattle.bs_refusal.specs.Kinds.{mistaken, mistaken_text};
 ghost use Rattle.bs_note.specs.Cases.{HasNote, NoteSays, in_check, in_dump, in_netlist, in_report, in_signature, in_stimulus, noted_as, told_as};
 ghost use Rattle.bs_note.specs.Looking.{input_width};
@@ -24,17 +25,17 @@ ghost use Rattle.bs_told.specs.Searches.{room_text};
 
 use bs_bits::NoMemory;
 use bs_entry::{MAX_WAVE_VALUES, read_choice};
+use bs_flat::FlatFault;
 use bs_job::{File, Refusal};
 use bs_net::{NetFault, Netlist, Raw};
 use bs_reach::size;
 use bs_refusal::{
-    Widths, check_note, dump_note, mistaken, mistaken_note, netlist_note, report_note,
+    Widths, check_note, design_note, dump_note, mistaken, mistaken_note, report_note,
     signature_note, stimulus_note,
 };
 use bs_report::{Report, ReportFault};
 use bs_scan::{Choice, ChoiceFault, Dump, DumpFault};
 use bs_stim::{Runs, StimFault};
-use bs_syntax::VerilogFault;
 use bs_target::read_state;
 use bs_told::{large_note, range_note, room_note, state_note};
 use std::alloc::Global;
@@ -51,16 +52,16 @@ fn noted(note: Result<Vec<u8>, NoMemory>) -> Refusal
 
 /// Why a text is no netlist.
 #[tactic(auto, using(crate::proofs::ReadingLemmas::noted_mistaken, crate::proofs::ReadingLemmas::noted_case))]
-fn netlist_refusal(alloc: Global, path: &str, text: &[u8], fault: VerilogFault) -> Refusal
-    ensures why { HasNote (netlist_reason path.now text.now fault) result }
-    ensures want { fault ≡ TextWant → result ≡ Want }
+fn netlist_refusal(alloc: Global, path: &str, text: &[u8], fault: &FlatFault) -> Refusal
+    ensures why { HasNote (netlist_reason path.now text.now (with_one fault.now)) result }
+    ensures want { fault.now ≡ TextWant → result ≡ Want }
 {
-    if let VerilogFault::NoMemory = fault {
+    if let FlatFault::NoMemory = fault {
         return Refusal::NoMemory;
     }
     match mistaken(File::Netlist, text) {
         Some(kind) => noted(mistaken_note(alloc, File::Netlist, kind, path)),
-        None => noted(netlist_note(alloc, path, text, fault)),
+        None => noted(design_note(alloc, path, text, fault)),
     }
 }
 
@@ -91,9 +92,9 @@ pub fn read_netlist(alloc: Global, path: &str, text: &[u8]) -> Result<Netlist, R
     requires { length text.now ≤ MAX_NETLIST_BYTES }
     ensures { Reads NoteSays (λ net. net.raw) (netlist_noted path.now text.now) result }
 {
-    match bs_verilog::read(alloc, text) {
+    match bs_design::read(alloc, text) {
         Ok(raw) => check_netlist(alloc, path, text, raw),
-        Err(fault) => Err(netlist_refusal(alloc, path, text, fault)),
+        Err(fault) => Err(netlist_refusal(alloc, path, text, &fault)),
     }
 }
 

@@ -1,5 +1,5 @@
 -- Notes on a netlist that its check refuses.
-use Rattle.std.specs.Prelude.{◌≡◌, ◌⊎◌, ◌-◌, ◌==◌, ℕ, List, [], ◌++◌, codes, decimal, length, take, drop, nat_eq, nat_le, Bool, true, false, not}
+use Rattle.std.specs.Prelude.{◌≡◌, ◌⊎◌, ◌-◌, ◌==◌, ℕ, List, [], ◌++◌, codes, decimal, length, take, drop, nat_eq, nat_le, Bool, false, not}
 use Rattle.std.specs.Prelude.{◌&&◌, ◌||◌, slice_get, Option, Some, None, if◌then◌else◌}
 use Rattle.std.specs.List.{flat_map, starts_with}
 use Rattle.std.specs.Option.{option_map, option_map_or}

@@ -5,5 +5,6 @@ pub mod Flaws
 pub mod Kinds
 pub mod Netlists
 pub mod Checks
+pub mod Designs
 pub mod Signatures
 pub mod Texts

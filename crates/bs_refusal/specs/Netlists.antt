@@ -1,4 +1,4 @@
--- Notes on a text that is no netlist.
+-- Notes on a text of one module that is no netlist.
 use Rattle.std.specs.Prelude.{ℕ, List, slice_get}
 use Rattle.bs_syntax.specs.declared.fault.VerilogFault.{VerilogFault}
 use Rattle.bs_syntax.specs.declared.fault.VerilogFault.TheVariants as verilog

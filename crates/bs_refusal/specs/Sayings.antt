@@ -1,5 +1,5 @@
 -- What is said of a fault, and what to do: a sentence, and a few words behind the caret.
-use Rattle.std.specs.Prelude.{ℕ, ◌+◌, ◌==◌, List, ◌++◌, codes, decimal, length, Option, Some, None, if◌then◌else◌}
+use Rattle.std.specs.Prelude.{ℕ, ◌==◌, List, ◌++◌, codes, decimal, length, Option, Some, None, if◌then◌else◌}
 use Rattle.std.specs.Str.{bytes_eq}
 use Rattle.bs_syntax.specs.declared.fault.What.{What}
 use Rattle.bs_syntax.specs.declared.fault.What.TheVariants as what
@@ -50,7 +50,7 @@ syntax_saying (Some b) =
     else (if b == 36 then saying (codes "no cell of this name is known")
     (codes "cells are dff and dffs (CK, Q, D), dffe (E too), dffr (R too): flatten and map to these (docs/FORMATS.md, Netlists)")
     else saying (codes "what begins here cannot stand here")
-    (codes "is a `;` missing before it? a structural netlist of one module is read (docs/FORMATS.md, Netlists)"))
+    (codes "is a `;` missing before it? a structural netlist is read (docs/FORMATS.md, Netlists)"))
 
 abbrev pub port_saying : Saying
 port_saying =

@@ -7,7 +7,7 @@ use Rattle.bs_scan.specs.declared.fault.DumpFault.TheVariants as dump
 use Rattle.bs_report.specs.declared.fault.ReportFault.{ReportFault}
 use Rattle.bs_report.specs.declared.fault.ReportFault.TheVariants as report
 use Rattle.bs_refusal.specs.declared.dump.Widths.{Widths}
-use Rattle.bs_refusal.specs.Notes.{Saying, saying, file_text, pair_text, IsNoteOn}
+use Rattle.bs_refusal.specs.Notes.{Saying, saying, file_text, IsNoteOn}
 use Rattle.bs_refusal.specs.Flaws.{IsLineNote, IsStartNote}
 use Rattle.bs_refusal.specs.Parts.{behind}
 use Rattle.bs_refusal.specs.Sayings.{run_saying, inputs_saying, count_saying, runs_saying, cycles_saying, bits_in, width_text, dump_saying}

@@ -119,7 +119,7 @@ fn keyed(alloc: Global, key: &[u8], last: &str) -> Result<Vec<u8>, NoMemory>
 }
 
 /// A note on the first place of a text at which the name of a key stands.
-fn key_note(
+pub fn key_note(
     alloc: Global,
     path: &str,
     text: &[u8],
@@ -152,7 +152,12 @@ fn net_note(
 }
 
 /// A note on too many of something.
-fn counted_note(alloc: Global, path: &str, sentence: &str, count: u32) -> Result<Vec<u8>, NoMemory>
+pub fn counted_note(
+    alloc: Global,
+    path: &str,
+    sentence: &str,
+    count: u32,
+) -> Result<Vec<u8>, NoMemory>
     ensures { IfOk result (λ note. note.items ≡ file_text path.now (sentence.now ++ decimal count)) }
 {
     let mut said = sentence.as_bytes().to_vec(alloc)?;

@@ -2,6 +2,7 @@
 #![tactic(auto)]
 
 mod check;
+mod design;
 mod dump;
 mod flaw;
 mod form;
@@ -14,10 +15,10 @@ mod stimulus;
 mod width;
 
 pub use check::check_note;
+pub use design::design_note;
 pub use dump::{Widths, dump_note};
 pub use form::{Message, Placed, file_note, pair_note, placed_note, plain_note};
 pub use kind::{mistaken, mistaken_note};
-pub use netlist::netlist_note;
 pub use report::report_note;
 pub use signature::signature_note;
 pub use stimulus::stimulus_note;

@@ -1,4 +1,4 @@
-//! Notes on a text that is no netlist.
+//! Notes on a text of one module that is no netlist.
 ghost use Rattle.std.specs.Prelude.{◌≡◌, slice_get, IfOk, Some};
 ghost use Rattle.bs_refusal.specs.Netlists.{fault_saying, IsNetlistNote, place_of};
 ghost use Rattle.bs_refusal.specs.Notes.{said};
@@ -71,7 +71,7 @@ fn byte_message(byte: u8) -> Message<'static>
     }
     say(
         "what begins here cannot stand here",
-        "is a `;` missing before it? a structural netlist of one module is read (docs/FORMATS.md, Netlists)",
+        "is a `;` missing before it? a structural netlist is read (docs/FORMATS.md, Netlists)",
     )
 }
 
@@ -132,7 +132,7 @@ fn place_of(fault: VerilogFault) -> u32
     }
 }
 
-/// A note on a text that is no netlist, on the place of its fault.
+/// A note on a text of one module that is no netlist, on the place of its fault.
 pub fn netlist_note(
     alloc: Global,
     path: &str,

@@ -171,6 +171,15 @@ fn each_form_of_a_netlist_is_read(rt: HostRuntime) -> Result<(), Fail> {
             "{line}"
         );
     }
+    let texts = [
+        "module c1(ck); input ck; not g(d,q); dff f(ck,q,d); endmodule module t(ck); input ck; c1 u(ck); c1 v(ck); endmodule",
+        "bit \\u.q\n",
+        "run a 1\n.\nend\n",
+        "",
+        "",
+    ];
+    let want = "state 11\nsig 0\nend\n";
+    assert!(rt; answers(alloc, "dump n s t 1 1", texts, SOUND, Status::Done, want));
     Ok(())
 }
 

@@ -29,6 +29,22 @@ fn netlists_are_refused(rt: HostRuntime) -> Result<(), Fail> {
             "module m(ck); input ck; foo u(ck); endmodule",
             "Unsupported 24 Hierarchy",
         ),
+        (
+            "module a(ck); input ck; b u(ck); endmodule module b(ck); input ck; a u(ck); endmodule",
+            "Recursion a b",
+        ),
+        (
+            "module a(ck); input ck; endmodule module b(ck); input ck; endmodule",
+            "Tops 2",
+        ),
+        (
+            "module a(ck); input ck; b u(ck,ck); endmodule module b(ck); input ck; endmodule",
+            "Connect 31",
+        ),
+        (
+            "module a(ck); input ck; b u(ck); b u(ck); endmodule module b(ck); input ck; endmodule",
+            "Twice 35",
+        ),
         ("module m(ck) input ck; endmodule", "Syntax 13"),
         ("module m(ck,z); input ck; endmodule", "Port 12"),
         (

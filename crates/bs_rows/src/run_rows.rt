@@ -104,6 +104,18 @@ fn backtraces_are_written_and_accepted(rt: HostRuntime) -> Result<(), Fail> {
         (
             "run n s t d",
             [
+                "module inv(z,a); output z; input a; not g(z,a); endmodule module t(ck); input ck; inv u(d,q); dff f(ck,q,d); endmodule",
+                "",
+                "run a 1\n.\nend\n",
+                "state 1\nsig .\nend\n",
+                "",
+            ],
+            Status::Done,
+            "backspace 1\nasked 64 candidates 256 conflicts 100000\nstep 1\npresent 1\nstored .\ncand 0 input .\nlist finished\nhit 1 0 0\nstop reset\ntrace 1\nstate 0\ninput .\nstate 1\n",
+        ),
+        (
+            "run n s t d",
+            [
                 SHIFT,
                 "bit q1\n",
                 "run a 3\n1\n1\n1\nend\n",

@@ -8,6 +8,7 @@ use Rattle.bs_job.specs.Plan.{Reason, exactly, Plan, end, ◌>>=◌, read_as}
 use Rattle.bs_encode.specs.Transition.{variables}
 use Rattle.bs_unroll.specs.declared.limits.TheConstants.{MAX_COPY_VARIABLES}
 use Rattle.bs_entry.specs.Entry.{netlist_of}
+use Rattle.bs_entry.specs.Refusals.{Case}
 
 -- a netlist's parts, a state of it, and the most cycles in which the state is to be reached
 pub record Target : Type 0 where
@@ -16,23 +17,23 @@ pub record Target : Type 0 where
   pub cycles : ℕ
 
 -- bits that are a state: one for each flip-flop
-abbrev pub fitting : Parts → Option (List Bool) → Result (List Bool) (Reason Parts)
+abbrev pub fitting : Parts → Option (List Bool) → Result (List Bool) (Reason Case)
 fitting raw None = Err (exactly (codes "Width"))
 fitting raw (Some bits) = if length bits == length (circuit_of raw).flops then Ok bits else Err (exactly (codes "Width"))
 
 -- the state of a word
-abbrev pub state_in : Parts → List ℕ → Result (List Bool) (Reason Parts)
+abbrev pub state_in : Parts → List ℕ → Result (List Bool) (Reason Case)
 state_in raw word = fitting raw (bits_of word)
 
 -- whether a copy of the transition clauses for each cycle has few enough variables
 abbrev pub has_room : Parts → ℕ → Bool
 has_room raw cycles = nat_le (cycles * variables (circuit_of raw) []) MAX_COPY_VARIABLES
 
-abbrev pub room_in : Parts → ℕ → Result Bool (Reason Parts)
+abbrev pub room_in : Parts → ℕ → Result Bool (Reason Case)
 room_in raw cycles = if has_room raw cycles then Ok true else Err (exactly (codes "TooLarge"))
 
 -- the netlist, then whether the word is a state of it, then whether the search is not too large
-abbrev pub target_of : (netlist state : List ℕ) → (cycles : ℕ) → Plan Parts Target
+abbrev pub target_of : (netlist state : List ℕ) → (cycles : ℕ) → Plan Case Target
 target_of netlist state cycles = do
   raw ← netlist_of netlist
   bits ← read_as files.State (state_in raw state)

@@ -1,5 +1,5 @@
 -- The backtrace of a generated job.
-use Rattle.std.proofs.Common.{◌≡◌, ◌≤◌, length, subst, sym, lit≤}
+use Rattle.std.proofs.Common.{◌≤◌, length, subst, sym, lit≤}
 use Rattle.std.specs.Prelude.{All}
 use Rattle.bs_scan.specs.Crash.{Crash}
 use Rattle.bs_report.specs.declared.limits.TheConstants.{MAX_STEPS, MAX_CANDIDATES}

@@ -8,3 +8,4 @@ pub mod LawLemmas
 pub mod PlanLemmas
 pub mod DemoLemmas
 pub mod WaveLemmas
+pub mod DesignLemmas

@@ -1,23 +1,21 @@
 -- The audit of a report over the files of a run, as plans.
-use Rattle.std.proofs.Common.{◌≡◌, ◌<◌, ◌≤◌, ℕ, Bool, true, false, List, length, codes, Option, Some, None, Result, Ok, Err, refl, sym, ◌∙◌, ap}
+use Rattle.std.proofs.Common.{◌≡◌, ◌<◌, ◌≤◌, ℕ, Bool, true, false, List, length, codes, Option, Some, None, Ok, refl, sym, ◌∙◌, ap}
 use Rattle.std.specs.Prelude.{nat_lt, if◌then◌else◌}
 use Rattle.std.proofs.lemmas.Bool.{le-ltb, lt-ltb}
-use Rattle.bs_net.specs.Parts.{Parts}
+use Rattle.bs_entry.specs.Refusals.{Case}
 use Rattle.bs_report.specs.declared.report.Budgets.{Budgets}
 use Rattle.bs_report.specs.declared.report.Report.{Report}
 use Rattle.bs_job.specs.declared.file.File.{File}
 use Rattle.bs_job.specs.declared.file.File.TheVariants as files
 use Rattle.bs_job.specs.declared.limits.TheConstants.{MAX_REPORT_BYTES}
-use Rattle.bs_job.specs.declared.status.Status.{Status}
 use Rattle.bs_job.specs.Files.{limit_of}
-use Rattle.bs_job.specs.Plan.{Tells, Wanted, Reason, exactly, Plan, fetch, refuse, end, ◌>>=◌, read_as, Outcome, ready, refused, told_next, told_end}
+use Rattle.bs_job.specs.Plan.{Tells, Wanted, Reason, exactly, Plan, fetch, refuse, end, ◌>>=◌, Outcome, refused, told_next, told_end}
 use Rattle.bs_job.proofs.Plans.{ready_in, refused_in, told_end_then, told_came_from}
-use Rattle.bs_words.specs.Job.{RunJob, AuditJob, Run, Audit}
+use Rattle.bs_words.specs.Job.{RunJob}
 use Rattle.bs_entry.specs.Entry.{Crashed, crashed_of, Claimed, claimed_of, report_of}
 use Rattle.bs_entry.specs.Readings.{report_read}
-use Rattle.bs_top.specs.Work.{Work, to_run, to_audit, plan_of, run_names, budgets_of, audit_names}
-use Rattle.bs_top.specs.Finishes.{finishes}
-use Rattle.bs_top.specs.Law.{IsAcceptedText, audit_of, ComesToAccepted, AuditEnds, AuditFollowsRun}
+use Rattle.bs_top.specs.Work.{to_run, to_audit, run_names, budgets_of}
+use Rattle.bs_top.specs.Law.{IsAcceptedText, audit_of, AuditEnds, AuditFollowsRun}
 use Rattle.bs_top.proofs.LawLemmas.{audit_accepts}
 
 -- a refusal of a part is one of the whole
@@ -63,12 +61,12 @@ told_end_refused told (fetch w next) f file why h =
 
 -- the file of the report, where the shelf tells it
 report_end : (told : Tells) (name text : List ℕ) → told name ≡ Some text → length text ≤ MAX_REPORT_BYTES → (report : Report) →
-    report_read text ≡ Ok report → told_end told (report_of name) ≡ Some (ready_in Parts Report report)
+    report_read text ≡ Ok report → told_end told (report_of name) ≡ Some (ready_in Case Report report)
 report_end told name text tells within report read =
     rw (tells, le-ltb MAX_REPORT_BYTES (length text) within, read) refl
 
 report_long : (told : Tells) (name text : List ℕ) → told name ≡ Some text → MAX_REPORT_BYTES < length text →
-    told_end told (report_of name) ≡ Some (refused_in Parts Report files.Report (exactly (codes "TooLong")))
+    told_end told (report_of name) ≡ Some (refused_in Case Report files.Report (exactly (codes "TooLong")))
 report_long told name text tells beyond =
     rw (tells, lt-ltb MAX_REPORT_BYTES (length text) beyond) refl
 
@@ -80,7 +78,7 @@ abbrev claim : Crashed → Report → Claimed
 claim crashed report = record { crashed = crashed; report = report }
 
 follows : (told : Tells) (run : RunJob) (name : List ℕ) (crashed : Crashed) (text : List ℕ) →
-    told_end told (crashed_of (run_names run) run.dump) ≡ Some (ready_in Parts Crashed crashed) →
+    told_end told (crashed_of (run_names run) run.dump) ≡ Some (ready_in Case Crashed crashed) →
     IsAcceptedText crashed text → told name ≡ Some text → AuditEnds told (audit_of run name) crashed text
 follows told run name crashed text came accepted tells = record {
   within = λ few. record {
@@ -103,4 +101,4 @@ pub audit_follows : AuditFollowsRun
 audit_follows told run name budgets crashed status text ready_for done tells =
     let from = told_came_from told (crashed_of (run_names run) run.dump) (λ (c : Crashed). to_run (budgets_of run) c) (to_run budgets crashed) ready_for in
     let same : from.value ≡ crashed = sym (crashed_same budgets (budgets_of run) crashed from.value from.is) in
-    follows told run name crashed text (from.came ∙ ap (λ c. Some (ready_in Parts Crashed c)) same) (audit_accepts budgets crashed status text done) tells
+    follows told run name crashed text (from.came ∙ ap (λ c. Some (ready_in Case Crashed c)) same) (audit_accepts budgets crashed status text done) tells

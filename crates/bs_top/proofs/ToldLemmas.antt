@@ -1,5 +1,5 @@
 -- A shelf of three texts tells each under its name.
-use Rattle.std.proofs.Common.{◌≡◌, ℕ, Bool, true, false, List, [], ◌∷◌, refl, ap, subst, sym, ◌∙◌, Some, None, Result, Err}
+use Rattle.std.proofs.Common.{◌≡◌, ℕ, Bool, true, false, List, [], ◌∷◌, refl, ap, subst, sym, ◌∙◌, Some, None, Result}
 use Rattle.std.specs.Prelude.{codes, Vec, String, string_bytes, slice_get, if◌then◌else◌, option_map}
 use Rattle.std.specs.Option.{option_and_then}
 use Rattle.std.specs.List.{position}
@@ -8,7 +8,6 @@ use Rattle.std.specs.declared.alloc.Global.{Global}
 use Rattle.bs_outside.specs.Files.{Files, held_in}
 use Rattle.bs_net.specs.Parts.{Parts}
 use Rattle.bs_job.specs.declared.walk.JobFault.{JobFault}
-use Rattle.bs_job.specs.declared.walk.JobFault.TheVariants.{NoMemory}
 use Rattle.bs_job.specs.declared.file.File.TheVariants as files
 use Rattle.bs_job.specs.Plan.{Tells, AllTold, with_texts, end, fetched, read_as, ◌>>=◌}
 use Rattle.bs_job.specs.Walks.{Walks, WalksAlone}
@@ -21,7 +20,7 @@ use Rattle.bs_scan.specs.Moments.{Moment}
 use Rattle.bs_gen.specs.Job.{netlist_for, signature_text, stimulus_for}
 use Rattle.bs_entry.specs.declared.ready.Placed.{Placed as CodePlaced}
 use Rattle.bs_entry.specs.Ready.{placed_in}
-use Rattle.bs_entry.specs.Refusals.{CheckSays}
+use Rattle.bs_entry.specs.Refusals.{Case, CheckSays}
 use Rattle.bs_entry.specs.Entry.{Setup, placed_of, setup_of, netlist_of, signature_of, stimulus_of, input_width}
 use Rattle.bs_entry.specs.Readings.{netlist_in, signature_in, stimulus_in, moment_in}
 use Rattle.bs_top.specs.declared.budgets.TheConstants.{DEMO_RUN, DEMO_CYCLE}
@@ -63,15 +62,15 @@ all_told netlist signature stimulus =
 
     nets : AllTold told (netlist_of (codes "netlist"))
     nets = told_then told (fetched files.Netlist (codes "netlist")) (λ bytes. read_as files.Netlist (netlist_in bytes))
-        (told_fetched Parts told files.Netlist (codes "netlist") refl) (λ bytes. told_read told files.Netlist (netlist_in bytes))
+        (told_fetched Case told files.Netlist (codes "netlist") refl) (λ bytes. told_read told files.Netlist (netlist_in bytes))
 
     items : (raw : Parts) → AllTold told (signature_of raw (codes "signature"))
     items raw = told_then told (fetched files.Signature (codes "signature")) (λ bytes. read_as files.Signature (signature_in raw bytes))
-        (told_fetched Parts told files.Signature (codes "signature") refl) (λ bytes. told_read told files.Signature (signature_in raw bytes))
+        (told_fetched Case told files.Signature (codes "signature") refl) (λ bytes. told_read told files.Signature (signature_in raw bytes))
 
     runs : (raw : Parts) → AllTold told (stimulus_of raw (codes "stimulus"))
     runs raw = told_then told (fetched files.Stimulus (codes "stimulus")) (λ bytes. read_as files.Stimulus (stimulus_in (input_width raw) bytes))
-        (told_fetched Parts told files.Stimulus (codes "stimulus") refl) (λ bytes. told_read told files.Stimulus (stimulus_in (input_width raw) bytes))
+        (told_fetched Case told files.Stimulus (codes "stimulus") refl) (λ bytes. told_read told files.Stimulus (stimulus_in (input_width raw) bytes))
 
     setup : AllTold told (setup_of demo_names)
     setup =

@@ -14,12 +14,12 @@ use Rattle.bs_job.specs.Files.{limit_of}
 use Rattle.bs_job.specs.Plan.{Tells, Wanted, Reason, exactly, Plan, fetch, refuse, end, ◌>>=◌, read_as, Outcome, refused, told_next, told_end}
 use Rattle.bs_job.proofs.Plans.{ready_in, refused_in}
 use Rattle.bs_verilog.specs.Law.{AreNames}
-use Rattle.bs_verilog.specs.Netlist.{netlist_text}
-use Rattle.bs_verilog.proofs.NamedLemmas.{nets_are_named}
+use Rattle.bs_named.proofs.LawLemmas.{flat_nets_are_named}
 use Rattle.bs_entry.specs.Entry.{FileNames, Setup, Crashed, Claimed, netlist_of, signature_of, stimulus_of, dump_of, setup_of, crashed_of, report_of}
 use Rattle.bs_entry.specs.Entry.{claimed_of, drawn_of}
-use Rattle.bs_entry.specs.Readings.{checked_of, netlist_in, size_in}
-use Rattle.bs_entry.specs.Refusals.{netlist_text_reason, check_reason, with_reason}
+use Rattle.bs_entry.specs.Readings.{checked_of, netlist_in, size_in, text_in}
+use Rattle.bs_entry.specs.Refusals.{Case, check_reason, text_reason, with_reason}
+use Rattle.bs_entry.proofs.TextLemmas.{parts_answer}
 use Rattle.bs_good.specs.declared.part.Part.{Part}
 use Rattle.bs_report.specs.declared.report.Report.{Report}
 use Rattle.bs_wave.specs.declared.value.Value.{Value}
@@ -101,15 +101,15 @@ abbrev WorkNamed : Work → Type 0
 WorkNamed (to_wave claimed) = ClaimedNamed claimed
 WorkNamed _ = ⊤
 
-checked_named : {F : Type 0} (reason : F → Reason Parts) (r : Result Parts F) → ((raw : Parts) → r ≡ Ok raw → PartsNamed raw) →
+checked_named : {F : Type 0} (reason : F → Reason Case) (r : Result Parts F) → ((raw : Parts) → r ≡ Ok raw → PartsNamed raw) →
     EndsIn PartsNamed (read_as files.Netlist (checked_of (with_reason reason r)))
 checked_named reason (Ok raw) named =
-    cond_both (passes raw) (Ok raw) (Err (check_reason raw)) (λ (x : Result Parts (Reason Parts)). EndsIn PartsNamed (read_as files.Netlist x))
+    cond_both (passes raw) (Ok raw) (Err (check_reason raw)) (λ (x : Result Parts (Reason Case)). EndsIn PartsNamed (read_as files.Netlist x))
     (λ _. named raw refl) (λ _. tt)
 checked_named reason (Err fault) named = tt
 
 read_named : (bytes : List ℕ) → EndsIn PartsNamed (read_as files.Netlist (netlist_in bytes))
-read_named bytes = checked_named netlist_text_reason (netlist_text bytes) (nets_are_named bytes)
+read_named bytes = checked_named (text_reason bytes) (text_in bytes) (λ raw e. flat_nets_are_named bytes raw (parts_answer bytes raw e))
 
 setup_named : (names : FileNames) → EndsIn SetupNamed (setup_of names)
 setup_named names =

@@ -1,6 +1,6 @@
 -- The trace of a good report is a way of the chip: its states and inputs have their widths.
-use Rattle.std.proofs.Common.{◌≡◌, ℕ, suc, ◌+◌, Bool, true, false, cond, ◌||◌, List, [], ◌∷◌, ◌++◌, length, reverse, refl}
-use Rattle.std.proofs.Common.{arith, ap, sym, subst, ◌∙◌, Option, Some, None}
+use Rattle.std.proofs.Common.{◌≡◌, suc, ◌+◌, Bool, true, false, cond, ◌||◌, List, [], ◌∷◌, ◌++◌, length, reverse, refl}
+use Rattle.std.proofs.Common.{ap, sym, subst, ◌∙◌, Option, Some, None}
 use Rattle.std.specs.Prelude.{find, filter_map, option_map, option_and_then, All}
 use Rattle.std.specs.List.{AllByRecursion as Each, cons_option}
 use Rattle.std.proofs.lemmas.Bool.{true≢false, false≢true}

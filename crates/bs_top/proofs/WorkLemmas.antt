@@ -8,7 +8,6 @@ use Rattle.bs_report.specs.declared.report.Stop.{Stop}
 use Rattle.bs_report.specs.declared.report.Stop.TheVariants.{Reset, Length, Nohit, Empty, Candidates, Conflicts}
 use Rattle.bs_good.specs.declared.part.Part.{Part}
 use Rattle.bs_top.specs.Rejected.{finding_status}
-use Rattle.bs_net.specs.Parts.{Parts}
 use Rattle.bs_job.specs.declared.status.Status.{Status}
 use Rattle.bs_job.specs.declared.reply.Reply.{Reply}
 use Rattle.bs_job.specs.Files.{is_work_status}
@@ -17,7 +16,7 @@ use Rattle.bs_job.specs.Walks.{Walks}
 use Rattle.bs_job.specs.Prepared.{Prepared, IsWork}
 use Rattle.bs_job.proofs.Preparing.{prepares_work, prepares_nothing}
 use Rattle.bs_words.specs.Job.{Job}
-use Rattle.bs_entry.specs.Refusals.{CheckSays}
+use Rattle.bs_entry.specs.Refusals.{Case, CheckSays}
 use Rattle.bs_top.specs.Work.{Work, to_run, to_audit, to_dump, to_demo, to_wave, to_reach, plan_of}
 use Rattle.bs_reach.specs.declared.reach.Outcome.{Outcome}
 use Rattle.bs_reach.specs.declared.reach.Outcome.TheVariants.{Reached, Unreached, Unknown}
@@ -53,7 +52,7 @@ is_work = record { status = work_status }
 
 -- the work that a walk made ready for, if it is done
 pub prepares_done : {S T : Type 0} {held : S → Tells} {faults : S → Counts} {leads : S → FetchCall → S →
-    Type 0} {before now : S} {plan : Plan Parts Work} {view : T → Work} {t : T} (r : Result Reply NoMemory) →
+    Type 0} {before now : S} {plan : Plan Case Work} {view : T → Work} {t : T} (r : Result Reply NoMemory) →
     Walks CheckSays held faults leads before now plan view (Ok t) → IfOk r (λ answer. finishes (view t) answer.status answer.text.items) →
     Prepared CheckSays finishes held faults leads before now (Some plan) r
 prepares_done r walks done = prepares_work r is_work walks done
@@ -68,6 +67,6 @@ prepared_for {held = held} {faults = faults} {leads = leads} {before = before} {
 
 -- words that could not be read
 pub prepared_short : {S : Type 0} {held : S → Tells} {faults : S → Counts} {leads : S → FetchCall → S → Type 0} {before : S}
-    (plan : Option (Plan Parts Work)) (r : Result Reply NoMemory) → IsErr r → Prepared CheckSays finishes held faults leads before before plan r
+    (plan : Option (Plan Case Work)) (r : Result Reply NoMemory) → IsErr r → Prepared CheckSays finishes held faults leads before before plan r
 prepared_short plan (Err want) e = prepares_nothing plan
 prepared_short plan (Ok answer) e = absurd (false≢true e)

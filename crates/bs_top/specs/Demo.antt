@@ -1,11 +1,11 @@
 -- The generated job: three texts in place of files, walked as the files of a job are.
 use Rattle.std.specs.Prelude.{ℕ, List, Some, None, codes, if◌then◌else◌}
 use Rattle.std.specs.Str.{bytes_eq}
-use Rattle.bs_net.specs.Parts.{Parts}
 use Rattle.bs_gen.specs.Job.{netlist_for, signature_text, stimulus_for}
 use Rattle.bs_job.specs.Plan.{Tells, Plan, with_texts}
 use Rattle.bs_top.specs.declared.budgets.TheConstants.{DEMO_RUN, DEMO_CYCLE}
 use Rattle.bs_entry.specs.Entry.{FileNames, Placed, placed_of}
+use Rattle.bs_entry.specs.Refusals.{Case}
 
 abbrev pub demo_names : FileNames
 demo_names = record { netlist = codes "netlist"; signature = codes "signature"; stimulus = codes "stimulus" }
@@ -22,5 +22,5 @@ abbrev pub demo_told : ℕ → Tells
 demo_told number = told_of (netlist_for number) signature_text (stimulus_for number)
 
 -- they make a setup ready, and the moment of DEMO_RUN at DEMO_CYCLE
-abbrev pub demo_of : ℕ → Plan Parts Placed
+abbrev pub demo_of : ℕ → Plan Case Placed
 demo_of number = with_texts (demo_told number) (placed_of demo_names DEMO_RUN DEMO_CYCLE)

@@ -12,14 +12,14 @@ use Rattle.bs_job.specs.declared.status.TheConstants.{NO_MEMORY_CODE}
 use Rattle.bs_job.specs.Plan.{Tells, Counts, Plan}
 use Rattle.bs_job.specs.Clauses.{Answered, AnsweredAsTold, AnsweredWhole, CallByCall, CallsWanting, IsCalm, IsWordsOnlyFor, ReadFaultOf, RefusesFirstOf}
 use Rattle.bs_job.specs.Statuses.{code_of, exit_code}
-use Rattle.bs_net.specs.Parts.{Parts}
-use Rattle.bs_words.specs.Job.{Job, job_of}
-use Rattle.bs_entry.specs.Refusals.{CheckSays}
+use Rattle.bs_words.specs.Job.{job_of}
+use Rattle.bs_entry.specs.Law.{NetlistsMeanDesigns}
+use Rattle.bs_entry.specs.Refusals.{Case, CheckSays}
 use Rattle.bs_top.specs.Work.{Work, plan_of}
 use Rattle.bs_top.specs.Finishes.{finishes}
 
 -- the plan of the job that words ask for, if they are one
-abbrev pub planned : List (List ℕ) → Option (Plan Parts Work)
+abbrev pub planned : List (List ℕ) → Option (Plan Case Work)
 planned words = option_map plan_of (job_of words)
 
 -- The answer to words, over a shelf and a sink: each part is the clause of `backspace` of that name.
@@ -45,6 +45,7 @@ pub record AnswersWords {S K : Type 0} (held : S → Tells) (faults : S → Coun
       (written sink_before) (written sink_now) status)
   pub calls : IfOk answer (λ status. CallByCall CheckSays finishes fetch_leads shelf_before shelf_now put_leads sink_before sink_now (planned words_of) status)
   pub calls_wanting : OnErr answer (CallsWanting fetch_leads shelf_before shelf_now sink_before sink_now (planned words_of))
+  pub design : NetlistsMeanDesigns
   pub no_memory : OnErr answer (Keeps (written sink_before) (written sink_now) × (sink_faults sink_now ≡ sink_faults sink_before))
 
 -- The exit code is that of an answer to the words.

@@ -1,10 +1,10 @@
 -- What a job is ready for, and the files through which it comes to that.
 use Rattle.std.specs.Prelude.{ℕ}
-use Rattle.bs_net.specs.Parts.{Parts}
 use Rattle.bs_report.specs.declared.report.Budgets.{Budgets}
 use Rattle.bs_words.specs.Job.{RunJob, AuditJob, DumpJob, Job, Run, Audit, Dump, Demo, Wave, Reach}
 use Rattle.bs_job.specs.Plan.{Plan, end, ◌>>=◌}
 use Rattle.bs_entry.specs.Entry.{FileNames, Placed, placed_of, Crashed, crashed_of, Claimed, claimed_of, drawn_of}
+use Rattle.bs_entry.specs.Refusals.{Case}
 use Rattle.bs_target.specs.Target.{Target, target_of}
 use Rattle.bs_top.specs.Demo.{demo_of}
 
@@ -31,7 +31,7 @@ abbrev pub dump_names : DumpJob → FileNames
 dump_names job = record { netlist = job.netlist; signature = job.signature; stimulus = job.stimulus }
 
 -- the plan of a job
-abbrev pub plan_of : Job → Plan Parts Work
+abbrev pub plan_of : Job → Plan Case Work
 plan_of (Run job) = do
   crashed ← crashed_of (run_names job) job.dump
   end (to_run (budgets_of job) crashed)

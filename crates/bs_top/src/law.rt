@@ -1,4 +1,5 @@
 //! The laws of the commands.
+ghost use Rattle.bs_entry.specs.Law.{NetlistsMeanDesigns};
 ghost use Rattle.bs_top.specs.Law.{AuditAcceptsWhatRunWrites, AuditFollowsRun, WaveformsReadBack};
 
 /// On the files of a run, `audit` accepts each report that `run` may write, if the report's text is within its limit.
@@ -15,4 +16,10 @@ pub fn audit_follows_run()
 /// A waveform that `wave` writes of a valid report is read as the wave of the report's trace.
 pub fn waveforms_read_back()
     ensures { WaveformsReadBack }
+{}
+
+/// A netlist of several modules that is read is the flat netlist of their design, and means it: exactly one valuation of the nets
+/// on all paths fits the design for each state and input, and the design's next state is that of the netlist.
+pub fn netlists_mean_designs()
+    ensures { NetlistsMeanDesigns }
 {}

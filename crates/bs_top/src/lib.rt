@@ -15,6 +15,8 @@ mod summing;
 mod top;
 
 pub use bs_job::Status;
-pub use law::{audit_accepts_what_run_writes, audit_follows_run, waveforms_read_back};
+pub use law::{
+    audit_accepts_what_run_writes, audit_follows_run, netlists_mean_designs, waveforms_read_back,
+};
 pub use program::run_program;
 pub use top::backspace;

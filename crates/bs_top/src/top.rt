@@ -4,6 +4,7 @@ ghost use Rattle.std.specs.Io.KnownBytes.{Keeps};
 ghost use Rattle.bs_outside.specs.Faults.{Rose};
 ghost use Rattle.bs_job.specs.Clauses.{Answered, AnsweredAsTold, AnsweredWhole, CallByCall, CallsWanting, IsCalm, IsWordsOnlyFor, ReadFaultOf, RefusesFirstOf};
 ghost use Rattle.bs_job.specs.Prepared.{Prepared};
+ghost use Rattle.bs_entry.specs.Law.{NetlistsMeanDesigns};
 ghost use Rattle.bs_entry.specs.Refusals.{CheckSays};
 ghost use Rattle.bs_words.specs.Job.{job_of};
 ghost use Rattle.bs_top.specs.Work.{plan_of};
@@ -83,6 +84,9 @@ pub fn backspace<S: Shelf, K: Sink>(
         (option_map plan_of (job_of (map string_bytes words.now))) status) }
     ensures calls_wanting { OnErr result (CallsWanting S.leads shelf.old shelf.new out.old out.new
         (option_map plan_of (job_of (map string_bytes words.now)))) }
+
+    // A netlist of several modules, by which the words above speak of a circuit, is the flat netlist of their design, and means it.
+    ensures design { NetlistsMeanDesigns }
 
     // After want of memory nothing was written, and no fault of the sink was counted.
     ensures no_memory { OnErr result (Keeps (K.written out.old) (K.written out.new) × (K.faults out.new ≡ K.faults out.old)) }

@@ -1,8 +1,8 @@
 use Rattle.std.proofs.Common.{ℕ, Bool, Bor, List, map, sym}
-use Rattle.bs_net.specs.Parts.{Parts}
 use Rattle.bs_job.specs.Plan.{Plan, end, ◌>>=◌}
 use Rattle.bs_job.proofs.Walking.{walks_as}
 use Rattle.bs_job.proofs.Preparing.{prepares_stop}
+use Rattle.bs_entry.specs.Refusals.{Case}
 use Rattle.bs_intake.specs.Taken.{picked_of}
 use Rattle.bs_inspect.specs.Work.{Work, to_trace}
 use Rattle.bs_inspect.specs.Finishes.{finishes}
@@ -12,7 +12,7 @@ use Rattle.bs_inspect.proofs.asking.trace.Goals as goal
 pub returns-in-Ok : goal.returns-in-Ok
 returns-in-Ok g c =
     let all : Bool = c.args.asked.now.all in
-    let plan : List (Bor (List ℕ)) → Plan Parts Work =
+    let plan : List (Bor (List ℕ)) → Plan Case Work =
     λ xs. picked_of c.args.asked.now.netlist.now c.args.asked.now.report.now (map (λ s. s.now) xs) >>= (λ traced. end (to_trace all (map (λ s. s.now) xs) traced)) in
     let items : List (Bor (List ℕ)) = c.args.asked.now.only.items in
     let slice : List (Bor (List ℕ)) = c.as_slice-only.result.now in
@@ -22,7 +22,7 @@ returns-in-Ok g c =
 pub returns-in-Err : goal.returns-in-Err
 returns-in-Err g c =
     let all : Bool = c.args.asked.now.all in
-    let plan : List (Bor (List ℕ)) → Plan Parts Work =
+    let plan : List (Bor (List ℕ)) → Plan Case Work =
     λ xs. picked_of c.args.asked.now.netlist.now c.args.asked.now.report.now (map (λ s. s.now) xs) >>= (λ traced. end (to_trace all (map (λ s. s.now) xs) traced)) in
     let items : List (Bor (List ℕ)) = c.args.asked.now.only.items in
     let slice : List (Bor (List ℕ)) = c.as_slice-only.result.now in

@@ -1,10 +1,10 @@
 use Rattle.std.proofs.Common.{ℕ, List, Bool, Option, map, sym}
 use Rattle.std.specs.Option.{option_map}
 use Rattle.std.proofs.lemmas.Result.{err_from_is_err_and}
-use Rattle.bs_net.specs.Parts.{Parts}
 use Rattle.bs_job.specs.declared.file.File.TheVariants as files
 use Rattle.bs_job.specs.Plan.{Plan, read_as}
 use Rattle.bs_job.proofs.Walking.{fetch_stop}
+use Rattle.bs_entry.specs.Refusals.{Case}
 use Rattle.bs_intake.specs.Simulated.{lines_read}
 use Rattle.bs_intake.proofs.WalkLemmas.{fetch_then, read_end, read_refused, walks_with}
 use Rattle.bs_intake.proofs.simulated.take_values.Goals as goal
@@ -23,8 +23,8 @@ returns-in-Ok g c =
     let clock : List ℕ = c.args.sampling.clock.now in
     let clock_read : List ℕ = c.as_bytes.result.now in
     let seen : List ℕ = c.deref.result.now in
-    let of_scope : Option (List ℕ) → Plan Parts (List (List Bool)) = λ s. read_as files.Vcd (lines_read keys names s clock seen) in
-    let of_clock : List ℕ → Plan Parts (List (List Bool)) = λ k. read_as files.Vcd (lines_read keys names scope_read k seen) in
+    let of_scope : Option (List ℕ) → Plan Case (List (List Bool)) = λ s. read_as files.Vcd (lines_read keys names s clock seen) in
+    let of_clock : List ℕ → Plan Case (List (List Bool)) = λ k. read_as files.Vcd (lines_read keys names scope_read k seen) in
     (fetch_then (λ b. read_as files.Vcd (lines_read keys names scope clock b)) seen c.deref.ensures.value c.in_ok-bytes.ensures
     (walks_with of_scope scope scope_read (sym c.maybe_bytes-scope.ensures)
     (walks_with of_clock clock clock_read (sym c.as_bytes.ensures.value)
@@ -39,8 +39,8 @@ returns g c =
     let clock : List ℕ = c.args.sampling.clock.now in
     let clock_read : List ℕ = c.as_bytes.result.now in
     let seen : List ℕ = c.deref.result.now in
-    let of_scope : Option (List ℕ) → Plan Parts (List (List Bool)) = λ s. read_as files.Vcd (lines_read keys names s clock seen) in
-    let of_clock : List ℕ → Plan Parts (List (List Bool)) = λ k. read_as files.Vcd (lines_read keys names scope_read k seen) in
+    let of_scope : Option (List ℕ) → Plan Case (List (List Bool)) = λ s. read_as files.Vcd (lines_read keys names s clock seen) in
+    let of_clock : List ℕ → Plan Case (List (List Bool)) = λ k. read_as files.Vcd (lines_read keys names scope_read k seen) in
     rw c.settle.ensures
     (fetch_then (λ b. read_as files.Vcd (lines_read keys names scope clock b)) seen c.deref.ensures.value c.in_ok-bytes.ensures
     (walks_with of_scope scope scope_read (sym c.maybe_bytes-scope.ensures)

@@ -1,4 +1,4 @@
-use Rattle.std.proofs.Common.{◌≡◌, ◌≢◌, ℕ, ◌<◌}
+use Rattle.std.proofs.Common.{◌≢◌, ℕ, ◌<◌}
 use Rattle.bs_net.specs.Netlist.{parts_of}
 use Rattle.bs_place.specs.Nearest.{key_at}
 use Rattle.bs_refusal.proofs.signature.is_unknown.Given as goal

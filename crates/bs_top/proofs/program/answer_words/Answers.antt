@@ -16,6 +16,7 @@ returns g c = record {
     whole = c.backspace.ensures.whole;
     calls = c.backspace.ensures.calls;
     calls_wanting = c.backspace.ensures.calls_wanting;
+    design = c.backspace.ensures.design;
     no_memory = c.backspace.ensures.no_memory;
   };
   ended = c.exit_code.ensures;

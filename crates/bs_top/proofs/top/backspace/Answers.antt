@@ -1,6 +1,7 @@
-use Rattle.bs_job.proofs.Clauses.{answered, answered_as_told, call_by_call, calls_wanting, complete, complete_whole, read_counted, read_fault_of}
+use Rattle.bs_job.proofs.Clauses.{answered, answered_as_told, call_by_call, complete, complete_whole, read_counted, read_fault_of}
 use Rattle.bs_job.proofs.Clauses.{refuses_first_of, words_only}
 use Rattle.bs_top.specs.Work.{plan_of}
+use Rattle.bs_top.proofs.DesignLemmas.{netlists_mean_designs}
 use Rattle.bs_top.proofs.WorkLemmas.{is_work}
 use Rattle.bs_top.proofs.top.backspace.Goals as goal
 
@@ -30,3 +31,9 @@ returns-clause-whole g c = λ calm. complete_whole is_work c.in_ok-answer.ensure
 
 pub returns-clause-calls : goal.returns-clause-calls
 returns-clause-calls g c = call_by_call c.in_ok-answer.ensures c.deliver.ensures.sent c.deliver.ensures.lines
+
+pub returns-clause-design : goal.returns-clause-design
+returns-clause-design g c = netlists_mean_designs
+
+pub returns-in_err-answer-clause-design : goal.returns-in_err-answer-clause-design
+returns-in_err-answer-clause-design g c = netlists_mean_designs
