@@ -3,3 +3,4 @@ pub mod LineLemmas
 pub mod PieceLemmas
 pub mod NumberLemmas
 pub mod LineTextLemmas
+pub mod RangeLemmas

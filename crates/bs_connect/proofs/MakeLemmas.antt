@@ -7,7 +7,8 @@ use Rattle.std.proofs.lemmas.List.{get_or-map, length-map, map-append}
 use Rattle.std.proofs.lemmas.List.Concat.{flat_map_single}
 use Rattle.bs_bits.specs.Reading.{Answers}
 use Rattle.bs_net.specs.declared.net.Gate.{Gate}
-use Rattle.bs_net.specs.Parts.{Parts, takes}
+use Rattle.bs_net.specs.Parts.{Parts}
+use Rattle.bs_net.specs.Gate.{takes}
 use Rattle.bs_syntax.specs.declared.tree.Says.{Says}
 use Rattle.bs_syntax.specs.declared.tree.Term.{Term}
 use Rattle.bs_syntax.specs.declared.tree.Term.TheVariants.{Constant, Named}

@@ -1,6 +1,6 @@
 //! The modules of a design with their joined nets, or the first connection that does not go with its port.
 ghost use Rattle.std.specs.Prelude.{◌≡◌, ◌<◌, length, map, All, IsTrue, IfOk};
-ghost use Rattle.bs_net.specs.Parts.{takes};
+ghost use Rattle.bs_net.specs.Gate.{takes};
 ghost use Rattle.bs_hierarchy.specs.Numbers.{numbers_by};
 ghost use Rattle.bs_flatten.specs.Blocks.{AreThere, numbers_of};
 ghost use Rattle.bs_flatten.specs.Order.{below_blocks};

@@ -6,7 +6,7 @@ ghost use Rattle.bs_flat.specs.declared.fault.FlatFault.TheVariants.{NoMemory as
 ghost use Rattle.bs_flat.specs.Reading as reading;
 ghost use Rattle.bs_flat.specs.Pieces.{modules_of, name_id};
 ghost use Rattle.bs_net.specs.Netlist.{parts_of};
-ghost use Rattle.bs_net.specs.Parts.{takes};
+ghost use Rattle.bs_net.specs.Gate.{takes};
 ghost use Rattle.bs_flat.specs.Flat.{IsDesign};
 ghost use Rattle.bs_flatten.specs.Blocks.{AreThere, design_of, module_of};
 ghost use Rattle.bs_flatten.specs.Order.{IsChildrenFirst};

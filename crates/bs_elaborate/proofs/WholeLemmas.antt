@@ -12,7 +12,8 @@ use Rattle.bs_net.specs.declared.net.Mode.{Mode}
 use Rattle.bs_net.specs.declared.net.Mode.TheVariants.{Plain, Enable, Clear}
 use Rattle.bs_net.specs.declared.net.Const.{Const}
 use Rattle.bs_net.specs.declared.limits.TheConstants.{MAX_NETS}
-use Rattle.bs_net.specs.Parts.{IsModePlaced, IsFlopPlaced, takes}
+use Rattle.bs_net.specs.Parts.{IsModePlaced, IsFlopPlaced}
+use Rattle.bs_net.specs.Gate.{takes}
 use Rattle.bs_flat.specs.Design.{Design, Module, Path, At, PathNet, net_on, no_module, instance_in, module_in, module_at, own, paths, gates, flops, constants}
 use Rattle.bs_flat.specs.Flat.{IsDesign, flat_nets, flat_net, flat_gate, flat_mode, flat_flop, flat_const, flat_key, is_repeat, flat_parts}
 use Rattle.bs_flat.specs.Paths.{ArePaths}

@@ -1,6 +1,7 @@
 -- The flat parts together, and the answer for a design.
 use Rattle.std.specs.Prelude.{◌≡◌, ℕ, ◌<◌, ◌≤◌, false, nat_lt, List, length, All, IsTrue}
-use Rattle.bs_net.specs.Parts.{Parts, IsFlopPlaced, takes}
+use Rattle.bs_net.specs.Parts.{Parts, IsFlopPlaced}
+use Rattle.bs_net.specs.Gate.{takes}
 use Rattle.bs_net.specs.declared.net.Gate.{Gate}
 use Rattle.bs_net.specs.declared.limits.TheConstants.{MAX_NETS}
 use Rattle.bs_flat.specs.Design.{Design}

@@ -2,7 +2,7 @@
 ghost use Rattle.std.specs.Prelude.{◌≡◌, ◌<◌, length, map, All, IfOk, IsTrue};
 ghost use Rattle.bs_bits.specs.Reading.{Answers};
 ghost use Rattle.bs_net.specs.Netlist.{parts_of};
-ghost use Rattle.bs_net.specs.Parts.{takes};
+ghost use Rattle.bs_net.specs.Gate.{takes};
 ghost use Rattle.bs_flat.specs.Flat.{IsDesign};
 ghost use Rattle.bs_flat.specs.Reading.{elaborated};
 ghost use Rattle.bs_flat.specs.declared.fault.FlatFault.TheVariants.{NoMemory as want};

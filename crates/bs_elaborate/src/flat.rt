@@ -1,7 +1,7 @@
 //! The flat parts together.
 ghost use Rattle.std.specs.Prelude.{◌≡◌, ◌<◌, ◌≤◌, ◌^◌, length, All, IfOk, IsTrue};
 ghost use Rattle.bs_net.specs.Netlist.{parts_of};
-ghost use Rattle.bs_net.specs.Parts.{takes};
+ghost use Rattle.bs_net.specs.Gate.{takes};
 ghost use Rattle.bs_flat.specs.Flat.{flat_parts};
 ghost use Rattle.bs_flatten.specs.Blocks.{design_of};
 ghost use Rattle.bs_elaborate.specs.Laid.{IsLaid};

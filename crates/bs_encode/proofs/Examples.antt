@@ -1,8 +1,8 @@
 -- The clauses of small circuits, computed by the definitions.
 use Rattle.std.proofs.Common.{◌≡◌, ℕ, true, false, List, [], ◌∷◌, length, refl, None, Some}
 use Rattle.bs_net.specs.declared.net.NetId.{NetId}
-use Rattle.bs_net.specs.declared.net.Kind.TheVariants.{And, Nand, Or, Nor, Not, Xnor}
-use Rattle.bs_net.specs.declared.net.Kind.{Kind}
+use Rattle.bs_net.specs.declared.gate.Kind.TheVariants.{And, Nand, Or, Nor, Not, Xnor}
+use Rattle.bs_net.specs.declared.gate.Kind.{Kind}
 use Rattle.bs_net.specs.declared.net.Gate.{Gate}
 use Rattle.bs_net.specs.declared.net.Flop.{Flop}
 use Rattle.bs_net.specs.declared.net.Mode.{Mode}

@@ -17,7 +17,8 @@ use Rattle.bs_net.specs.declared.net.Flop.{Flop}
 use Rattle.bs_net.specs.declared.net.Mode.{Mode}
 use Rattle.bs_net.specs.declared.net.Mode.TheVariants.{Plain, Enable, Clear}
 use Rattle.bs_net.specs.declared.net.Const.{Const}
-use Rattle.bs_net.specs.Circuit.{Circuit, gate_value, bit_at, shown, mode_loads, loaded, is_odd, is_zero_net}
+use Rattle.bs_net.specs.Circuit.{Circuit, bit_at, shown, mode_loads, loaded, is_zero_net}
+use Rattle.bs_net.specs.Gate.{gate_value, is_odd}
 use Rattle.bs_net.specs.Parts.{IsModePlaced, IsFlopPlaced}
 use Rattle.bs_scan.specs.Signature.{parity_of}
 use Rattle.bs_encode.specs.Tables.{lit, gate_clauses, odd_clauses, helpers_of}

@@ -8,9 +8,9 @@ use Rattle.std.proofs.lemmas.Bool.{false≢true}
 use Rattle.std.proofs.lemmas.List.Sums.{sum_by-cons}
 use Rattle.bs_clause.specs.Literal.{Literal, Clause, literal_value}
 use Rattle.bs_clause.proofs.Literals.{beq-true}
-use Rattle.bs_net.specs.declared.net.Kind.{Kind}
-use Rattle.bs_net.specs.declared.net.Kind.TheVariants.{And, Nand, Or, Nor, Xor, Xnor, Buf, Not}
-use Rattle.bs_net.specs.Circuit.{gate_value, is_one, is_odd}
+use Rattle.bs_net.specs.declared.gate.Kind.{Kind}
+use Rattle.bs_net.specs.declared.gate.Kind.TheVariants.{And, Nand, Or, Nor, Xor, Xnor, Buf, Not}
+use Rattle.bs_net.specs.Gate.{gate_value, is_one, is_odd}
 use Rattle.bs_encode.specs.Tables.{lit, all_clauses, any_clauses, same_clauses, differ_clauses, either_clauses, unless_clauses, odd_from, odd_clauses}
 use Rattle.bs_encode.specs.Tables.{gate_clauses, helpers_of}
 use Rattle.bs_encode.proofs.TidyLemmas.{meets, meets_all}

@@ -12,7 +12,7 @@ use Rattle.std.proofs.lemmas.Map.Keys.{IsDistinct-head, IsDistinct-tail}
 use Rattle.bs_clause.specs.Literal.{Clause}
 use Rattle.bs_net.specs.declared.net.Const.{Const}
 use Rattle.bs_net.specs.Circuit.{Circuit, is_zero_net, drivers, number, state_nets}
-use Rattle.bs_net.proofs.CallerLemmas.{range_push}
+use Rattle.bs_bits.proofs.RangeLemmas.{range_push}
 use Rattle.bs_net.proofs.NextLemmas.{range_from_below}
 use Rattle.bs_encode.specs.Tables.{lit}
 use Rattle.bs_encode.specs.Transition.{first_helper, first_next, gates_clauses, unit_clauses, next_clauses, cycle_clauses, transition_clauses, tidied}

@@ -1,8 +1,8 @@
 -- The clauses of one gate: z is its output, and every net and helper is a variable.
 use Rattle.std.specs.Prelude.{ℕ, ◌+◌, ◌-◌, Bool, true, false, not, List, [], ◌∷◌, ◌++◌, map}
 use Rattle.bs_clause.specs.Literal.{Literal, Clause}
-use Rattle.bs_net.specs.declared.net.Kind.{Kind}
-use Rattle.bs_net.specs.declared.net.Kind.TheVariants.{And, Nand, Or, Nor, Xor, Xnor, Buf, Not}
+use Rattle.bs_net.specs.declared.gate.Kind.{Kind}
+use Rattle.bs_net.specs.declared.gate.Kind.TheVariants.{And, Nand, Or, Nor, Xor, Xnor, Buf, Not}
 
 -- the literal that is true where the variable has that value
 abbrev pub lit : ℕ → Bool → Literal

@@ -4,7 +4,7 @@ use Rattle.std.specs.Prelude.{if◌then◌else◌, nat_lt, ⊤}
 use Rattle.std.specs.Fmt.{digits}
 use Rattle.std.specs.List.{IsDistinct}
 use Rattle.bs_net.specs.declared.net.NetId.{NetId}
-use Rattle.bs_net.specs.declared.net.Kind.TheVariants.{Not, Buf, And}
+use Rattle.bs_net.specs.declared.gate.Kind.TheVariants.{Not, Buf, And}
 use Rattle.bs_net.specs.declared.net.Mode.TheVariants.{Plain, Enable}
 use Rattle.bs_net.specs.Parts.{Parts}
 use Rattle.bs_lex.specs.declared.token.Token.{Token}

@@ -14,7 +14,8 @@ use Rattle.bs_net.specs.declared.net.Const.{Const}
 use Rattle.bs_net.specs.Parts.{PartsArePlaced}
 use Rattle.bs_net.specs.Check.{Passes}
 use Rattle.bs_net.specs.Order.{IsChecked}
-use Rattle.bs_net.specs.Circuit.{Circuit, Fits, IsSettled, bit_at, shown, drivers, state_nets, is_zero_net, gate_value, mode_loads, loaded, next_state, next}
+use Rattle.bs_net.specs.Circuit.{Circuit, Fits, IsSettled, bit_at, shown, drivers, state_nets, is_zero_net, mode_loads, loaded, next_state, next}
+use Rattle.bs_net.specs.Gate.{gate_value}
 use Rattle.bs_net.specs.Netlist.{circuit_of}
 use Rattle.bs_net.proofs.CallerLemmas.{passes_checked, exactly_one_fits, undriven_zero, zero_undriven, next_from_fits}
 use Rattle.bs_flat.specs.Design.{Design, Path, At, PathNet, net_on, own, path_nets, flops, gates, constants, joins, outer, inner, Join}

@@ -7,7 +7,7 @@ use Rattle.bs_net.specs.declared.net.Gate.{Gate}
 use Rattle.bs_net.specs.declared.net.Flop.{Flop}
 use Rattle.bs_net.specs.declared.net.Mode.{Mode}
 use Rattle.bs_net.specs.declared.net.Mode.TheVariants.{Plain, Enable, Clear}
-use Rattle.bs_net.specs.Circuit.{gate_value}
+use Rattle.bs_net.specs.Gate.{gate_value}
 use Rattle.bs_flat.specs.Design.{Design, Join, Path, At, PathNet, net_on, own, path_nets, flops, constants, gates, joins, joins_at, outer, inner}
 
 -- ---- joined nets

@@ -8,7 +8,7 @@ use Rattle.std.proofs.lemmas.Bool.{eqb-true, eqb-false}
 use Rattle.std.proofs.lemmas.List.{take_more, length-map, ext_get_or}
 use Rattle.std.proofs.lemmas.List.FromFn.{get_or-map-range_with_len, length-range_with_len, length-map-range_with_len}
 use Rattle.std.proofs.lemmas.List.Concat.{flat_map-append}
-use Rattle.bs_net.proofs.CallerLemmas.{range_push}
+use Rattle.bs_bits.proofs.RangeLemmas.{range_push}
 use Rattle.bs_net.specs.declared.net.Const.{Const}
 use Rattle.bs_scope.specs.Keys.{constant_key}
 use Rattle.bs_flatten.specs.Constants.{entry, entry_at}

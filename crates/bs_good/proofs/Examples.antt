@@ -3,7 +3,7 @@ use Rattle.std.proofs.Common.{◌≡◌, ℕ, true, false, [], ◌∷◌, List, 
 use Rattle.std.specs.Prelude.{⊤, not}
 use Rattle.bs_log.specs.declared.why.Why.TheVariants.{Order as order}
 use Rattle.bs_net.specs.declared.net.NetId.{NetId}
-use Rattle.bs_net.specs.declared.net.Kind.TheVariants.{Not}
+use Rattle.bs_net.specs.declared.gate.Kind.TheVariants.{Not}
 use Rattle.bs_net.specs.declared.net.Mode.TheVariants.{Plain}
 use Rattle.bs_net.specs.Circuit.{Circuit, next, settled, all_bits}
 use Rattle.bs_scan.specs.Moments.{state_at, first_moment}

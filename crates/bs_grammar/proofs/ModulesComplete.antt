@@ -34,7 +34,7 @@ use Rattle.bs_syntax.specs.Parts.{is_strength}
 use Rattle.bs_syntax.specs.Reading.{is_at, expect, listed}
 use Rattle.bs_syntax.specs.Terms.{delay}
 use Rattle.bs_syntax.specs.declared.tree.Direction.TheVariants as directions
-use Rattle.bs_net.specs.declared.net.Kind.{Kind}
+use Rattle.bs_net.specs.declared.gate.Kind.{Kind}
 use Rattle.std.specs.Prelude.{◌&&◌}
 use Rattle.bs_grammar.specs.Symbols.{opens}
 use Rattle.bs_grammar.specs.Written.{Declared, Connection, Component, Module, Term}

@@ -1,7 +1,7 @@
 -- The grammar of a netlist text, production by production (docs/FORMATS.md, "Netlists"; after IEEE 1364-2005, annex A). `IsX from to x`
 -- says: what stands in a text between `from` and `to`, where each is a text up to its end, is an X, and it says x.
 use Rattle.std.specs.Prelude.{◌≡◌, ◌==◌, ℕ, Bool, true, false, List, [], ◌∷◌, ◌++◌, map, Option, Some, None, is_some, unwrap_or}
-use Rattle.bs_net.specs.declared.net.Kind.{Kind}
+use Rattle.bs_net.specs.declared.gate.Kind.{Kind}
 use Rattle.bs_lexeme.specs.declared.lexeme.Cell.{Cell}
 use Rattle.bs_lexeme.specs.declared.lexeme.Word.TheVariants as words
 use Rattle.bs_syntax.specs.declared.tree.Direction as code

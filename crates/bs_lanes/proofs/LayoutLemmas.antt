@@ -19,7 +19,8 @@ use Rattle.bs_net.specs.declared.net.Mode.TheVariants.{Plain, Enable, Clear}
 use Rattle.bs_net.specs.Circuit.{Circuit, Fits, IsZeroed, shown, bit_at as net_shows, mode_loads, loaded, state_nets, next, reset_state}
 use Rattle.bs_net.specs.Netlist.{Checked, circuit}
 use Rattle.bs_net.specs.Order.{gates_in, IsOrder}
-use Rattle.bs_net.specs.Parts.{takes, mode_nets, IsFlopPlaced}
+use Rattle.bs_net.specs.Parts.{mode_nets, IsFlopPlaced}
+use Rattle.bs_net.specs.Gate.{takes}
 use Rattle.bs_net.specs.Steps.{Step, run, put, puts, gate_write, constant_step, steps}
 use Rattle.bs_net.proofs.ResettleLemmas.{settled_from, zeroed_by_fit, zeroed_zeros}
 use Rattle.bs_net.proofs.NetlistLemmas.{run-append}

@@ -11,7 +11,7 @@ use Rattle.std.proofs.lemmas.List.Elements.{All-from_recursion, recursion_from_A
 use Rattle.std.proofs.lemmas.List.Sorted.{All-permutation, IsPermutation-map, IsPermutation-refl, length_permutation, IsPermutation-trans, IsPermutation-sym}
 use Rattle.bs_net.specs.declared.net.NetId.{NetId}
 use Rattle.bs_net.specs.declared.net.Gate.{Gate}
-use Rattle.bs_net.proofs.CallerLemmas.{range_push}
+use Rattle.bs_bits.proofs.RangeLemmas.{range_push}
 use Rattle.bs_net.proofs.LawLemmas.{gates_apart, gates_move, gates_placed}
 use Rattle.bs_net.proofs.StepLemmas.{Apart, Misses, Placed}
 use Rattle.bs_net.specs.declared.net.Const.{Const}

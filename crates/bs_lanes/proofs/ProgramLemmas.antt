@@ -5,7 +5,7 @@ use Rattle.std.proofs.lemmas.Grind.{flat_map-append}
 use Rattle.std.proofs.lemmas.List.{append-nil, drop_more, take_more, take_all, map-append, length-append, length-map, get_or-map}
 use Rattle.std.proofs.lemmas.List.Elements.{All-weaker, All-from_recursion, recursion_from_All}
 use Rattle.bs_net.specs.declared.net.Gate.{Gate}
-use Rattle.bs_net.specs.declared.net.Kind.{Kind}
+use Rattle.bs_net.specs.declared.gate.Kind.{Kind}
 use Rattle.bs_net.specs.Steps.{Step, run, gate_write}
 use Rattle.bs_net.proofs.NetlistLemmas.{run-append}
 use Rattle.bs_net.specs.Order.{no_gate, gates_in}

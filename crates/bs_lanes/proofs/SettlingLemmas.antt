@@ -19,10 +19,11 @@ use Rattle.bs_net.specs.declared.net.NetId.{NetId}
 use Rattle.bs_net.specs.declared.net.Flop.{Flop}
 use Rattle.bs_net.specs.declared.net.Const.{Const}
 use Rattle.bs_net.specs.declared.net.Gate.{Gate}
-use Rattle.bs_net.specs.declared.net.Kind.{Kind}
-use Rattle.bs_net.specs.declared.net.Kind.TheVariants.{And, Nand, Or, Nor, Xor, Xnor, Buf, Not}
-use Rattle.bs_net.specs.Parts.{takes}
-use Rattle.bs_net.specs.Circuit.{shown, is_odd, is_one, gate_value}
+use Rattle.bs_net.specs.declared.gate.Kind.{Kind}
+use Rattle.bs_net.specs.declared.gate.Kind.TheVariants.{And, Nand, Or, Nor, Xor, Xnor, Buf, Not}
+use Rattle.bs_net.specs.Gate.{takes}
+use Rattle.bs_net.specs.Circuit.{shown}
+use Rattle.bs_net.specs.Gate.{is_odd, is_one, gate_value}
 use Rattle.bs_net.specs.Steps.{Step, run, put, puts, gate_write, constant_step}
 use Rattle.bs_stim.specs.Packing.{bit_in}
 use Rattle.bs_plane.specs.Planes.{bit_place, lane, IsPlane}

@@ -9,7 +9,8 @@ use Rattle.bs_net.specs.declared.net.Mode.{Mode}
 use Rattle.bs_net.specs.declared.net.Mode.TheVariants.{Plain, Enable, Clear}
 use Rattle.bs_net.specs.Circuit.{Circuit}
 use Rattle.bs_net.specs.Order.{gates_in, IsChecked, IsOrder}
-use Rattle.bs_net.specs.Parts.{takes, ArePlaced, IsFlopPlaced}
+use Rattle.bs_net.specs.Parts.{ArePlaced, IsFlopPlaced}
+use Rattle.bs_net.specs.Gate.{takes}
 use Rattle.bs_net.specs.Steps.{Step, puts, constant_step, gate_write}
 use Rattle.bs_plane.specs.Planes.{lane}
 use Rattle.bs_lanes.specs.Settling.{HasPlane, HasFlop, RunsAll}

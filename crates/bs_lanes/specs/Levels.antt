@@ -4,8 +4,8 @@ use Rattle.std.specs.List.{range_with_len}
 use Rattle.std.specs.List.Sorted.{IsPermutation}
 use Rattle.bs_net.specs.declared.net.NetId.{NetId}
 use Rattle.bs_net.specs.declared.net.Gate.{Gate}
-use Rattle.bs_net.specs.declared.net.Kind.{Kind}
-use Rattle.bs_net.specs.declared.net.Kind.TheVariants.{And, Nand, Or, Nor, Xor, Xnor, Buf, Not}
+use Rattle.bs_net.specs.declared.gate.Kind.{Kind}
+use Rattle.bs_net.specs.declared.gate.Kind.TheVariants.{And, Nand, Or, Nor, Xor, Xnor, Buf, Not}
 use Rattle.bs_net.specs.Order.{no_gate}
 
 -- the level of a net

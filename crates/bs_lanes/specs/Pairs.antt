@@ -1,8 +1,8 @@
 -- A gate of two inputs as one formula of all kinds.
 use Rattle.std.specs.Prelude.{◌≡◌, ℕ, Bool, not, ◌&&◌, List, ◌∷◌, []}
 use Rattle.std.specs.Bool.{beq}
-use Rattle.bs_net.specs.declared.net.Kind.{Kind}
-use Rattle.bs_net.specs.Circuit.{gate_value}
+use Rattle.bs_net.specs.declared.gate.Kind.{Kind}
+use Rattle.bs_net.specs.Gate.{gate_value}
 use Rattle.bs_lanes.specs.declared.pairs.Table.{Table}
 use Rattle.bs_stim.specs.Packing.{bit_in}
 use Rattle.bs_plane.specs.Planes.{IsPlane}

@@ -2,8 +2,8 @@
 use Rattle.std.specs.Prelude.{◌≡◌, ℕ, ◌<◌, ◌≤◌, ◌+◌, ◌^◌, List, [], ◌∷◌, length, take, All, IsTrue}
 use Rattle.std.specs.List.{flat_map}
 use Rattle.bs_net.specs.declared.net.Gate.{Gate}
-use Rattle.bs_net.specs.declared.net.Kind.{Kind}
-use Rattle.bs_net.specs.Parts.{takes}
+use Rattle.bs_net.specs.declared.gate.Kind.{Kind}
+use Rattle.bs_net.specs.Gate.{takes}
 use Rattle.bs_lanes.specs.Settling.{HasPlane}
 use Rattle.bs_lanes.specs.declared.pairs.Pair.{Pair}
 use Rattle.bs_lanes.specs.declared.program.Stretch.{Stretch}

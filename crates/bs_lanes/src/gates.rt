@@ -1,8 +1,8 @@
 //! The planes of gates' values.
 ghost use Rattle.std.specs.Prelude.{◌≡◌, ◌≤◌, ◌+◌, ◌*◌, not, length, map, All, IsTrue};
 ghost use Rattle.std.specs.List.{list_all, list_any};
-ghost use Rattle.bs_net.specs.Circuit.{gate_value, is_odd};
-ghost use Rattle.bs_net.specs.Parts.{takes};
+ghost use Rattle.bs_net.specs.Gate.{gate_value, is_odd};
+ghost use Rattle.bs_net.specs.Gate.{takes};
 ghost use Rattle.bs_plane.specs.Planes.{IsPlane};
 ghost use Rattle.bs_lanes.specs.Settling.{net_bit, HasPlane};
 

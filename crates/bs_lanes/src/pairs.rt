@@ -1,6 +1,6 @@
 //! Gates of two inputs of one kind, evaluated one after another without a choice.
 ghost use Rattle.std.specs.Prelude.{◌≡◌, ◌<◌, ◌≤◌, ◌+◌, ◌*◌, ◌∷◌, [], length, map, All, IsTrue};
-ghost use Rattle.bs_net.specs.Circuit.{gate_value};
+ghost use Rattle.bs_net.specs.Gate.{gate_value};
 ghost use Rattle.bs_net.specs.Steps.{gate_write};
 ghost use Rattle.bs_stim.specs.Packing.{bit_in};
 ghost use Rattle.bs_plane.specs.Planes.{bit_place, IsPlane};

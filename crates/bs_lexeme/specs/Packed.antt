@@ -1,6 +1,6 @@
 -- How a lexeme is packed, and what it is seen as.
 use Rattle.std.specs.Prelude.{ℕ, ◌+◌, ◌*◌, ◌/◌, true, false, Some, None}
-use Rattle.bs_net.specs.declared.net.Kind.TheVariants as kinds
+use Rattle.bs_net.specs.declared.gate.Kind.TheVariants as kinds
 use Rattle.bs_lexeme.specs.declared.limits.TheConstants.{GREAT}
 use Rattle.bs_lexeme.specs.declared.lexeme.Sort.{Sort}
 use Rattle.bs_lexeme.specs.declared.lexeme.Sort.TheVariants as sorts

@@ -3,8 +3,8 @@ use Rattle.std.specs.Prelude.{◌≡◌, ◌≢◌, ℕ, ◌+◌, ◌<◌, List,
 use Rattle.std.specs.List.{range_with_len}
 use Rattle.bs_net.specs.declared.net.NetId.{NetId}
 use Rattle.bs_net.specs.declared.net.Gate.{Gate}
-use Rattle.bs_net.specs.declared.net.Kind.{Kind}
-use Rattle.bs_net.specs.declared.net.Kind.TheVariants.{Buf}
+use Rattle.bs_net.specs.declared.gate.Kind.{Kind}
+use Rattle.bs_net.specs.declared.gate.Kind.TheVariants.{Buf}
 use Rattle.bs_net.specs.Parts.{Parts}
 use Rattle.bs_listing.specs.declared.mark.Measure.{Measure}
 use Rattle.bs_listing.specs.declared.mark.Measure.TheVariants.{Source, Level}

@@ -7,8 +7,8 @@ use Rattle.bs_net.specs.declared.net.Gate.{Gate}
 use Rattle.bs_net.specs.declared.net.Flop.{Flop}
 use Rattle.bs_net.specs.declared.net.Mode.{Mode}
 use Rattle.bs_net.specs.declared.net.Mode.TheVariants.{Plain, Enable, Clear}
-use Rattle.bs_net.specs.declared.net.Kind.{Kind}
-use Rattle.bs_net.specs.declared.net.Kind.TheVariants.{And, Nand, Or, Nor, Xor, Xnor, Buf, Not}
+use Rattle.bs_net.specs.declared.gate.Kind.{Kind}
+use Rattle.bs_net.specs.declared.gate.Kind.TheVariants.{And, Nand, Or, Nor, Xor, Xnor, Buf, Not}
 use Rattle.bs_net.specs.Parts.{Parts, load_nets}
 use Rattle.bs_net.specs.Netlist.{circuit_of}
 use Rattle.bs_listing.specs.declared.mark.Measure.TheVariants.{Level}

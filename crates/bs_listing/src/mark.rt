@@ -1,6 +1,6 @@
 //! The number of a gate's output net by those of its inputs.
 ghost use Rattle.std.specs.Prelude.{◌≡◌, ◌≤◌, ◌<◌, ◌+◌, ◌^◌, length, All, IsTrue};
-ghost use Rattle.bs_net.specs.Parts.{takes};
+ghost use Rattle.bs_net.specs.Gate.{takes};
 ghost use Rattle.bs_listing.specs.Marks.{gate_mark, greatest_on, start_mark};
 
 use bs_net::{Gate, Kind, NetId};

@@ -2,7 +2,8 @@
 ghost use Rattle.std.specs.Prelude.{◌≡◌, ◌≤◌, ◌<◌, ◌+◌, ◌^◌, length, All, IfOk, IsTrue, map};
 ghost use Rattle.bs_net.specs.Netlist.{parts_of};
 ghost use Rattle.bs_net.specs.Order.{IsOrder, gates_in};
-ghost use Rattle.bs_net.specs.Parts.{PartsArePlaced, takes};
+ghost use Rattle.bs_net.specs.Parts.{PartsArePlaced};
+ghost use Rattle.bs_net.specs.Gate.{takes};
 ghost use Rattle.bs_listing.specs.Marks.{AreMarks, marked, starts};
 
 use crate::mark::{Measure, gate_mark, start_mark};

@@ -56,16 +56,6 @@ all_bits_widths (suc n) =
     (All-weaker (λ (bs : List Bool). length bs ≡ n) (λ (bs : List Bool). length (b ∷ bs) ≡ suc n) (λ bs e. ap suc e) (all_bits n) (all_bits_widths n)) in
     All-append (λ (bs : List Bool). length bs ≡ suc n) _ _ (longer false) (longer true)
 
-range_more : (a n : ℕ) → range_with_len a (suc n) ≡ range_with_len a n ++ (a + n) ∷ []
-range_more a zero = let e : a ≡ a + 0 = omega arith in ap (λ x. x ∷ []) e
-range_more a (suc n) =
-    let e : (a + 1) + n ≡ a + suc n = omega arith in
-    ap (λ u. a ∷ u) (range_more (a + 1) n ∙ ap (λ x. range_with_len (a + 1) n ++ x ∷ []) e)
-
--- the numbers below one more
-pub range_push : (n : ℕ) → range_with_len 0 (n + 1) ≡ range_with_len 0 n ++ n ∷ []
-range_push n = rw add-one (range_more 0 n ∙ ap (λ x. range_with_len 0 n ++ x ∷ []) (zero-add n))
-
 -- the tests say what the check decides
 
 pub has_order_is : (gates : List Gate) → (has_order gates ≡ true) ↔ HasOrder gates

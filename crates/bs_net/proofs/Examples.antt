@@ -1,9 +1,10 @@
 -- Small circuits, computed by the definitions.
 use Rattle.std.proofs.Common.{◌≡◌, true, false, [], ◌∷◌, refl, Some, None, map}
-use Rattle.bs_net.specs.declared.net.Kind.TheVariants.{And, Nand, Or, Nor, Xor, Xnor, Buf, Not}
+use Rattle.bs_net.specs.declared.gate.Kind.TheVariants.{And, Nand, Or, Nor, Xor, Xnor, Buf, Not}
 use Rattle.bs_net.specs.declared.net.Mode.{Mode}
 use Rattle.bs_net.specs.declared.net.Mode.TheVariants.{Plain, Enable, Clear}
-use Rattle.bs_net.specs.Circuit.{Circuit, next, settled, all_bits, gate_value}
+use Rattle.bs_net.specs.Circuit.{Circuit, next, settled, all_bits}
+use Rattle.bs_net.specs.Gate.{gate_value}
 use Rattle.bs_net.specs.Loops.{feeds_round}
 use Rattle.bs_net.specs.Names.{number_of, net}
 

@@ -10,8 +10,7 @@ use Rattle.bs_net.specs.declared.net.Flop.{Flop}
 use Rattle.bs_net.specs.declared.net.Mode.{Mode}
 use Rattle.bs_net.specs.declared.net.Mode.TheVariants.{Plain, Enable, Clear}
 use Rattle.bs_net.specs.declared.net.Const.{Const}
-use Rattle.bs_net.specs.declared.net.Kind.{Kind}
-use Rattle.bs_net.specs.declared.net.Kind.TheVariants.{And, Nand, Or, Nor, Xor, Xnor, Buf, Not}
+use Rattle.bs_net.specs.Gate.{gate_value}
 
 -- ---- the circuit
 
@@ -40,28 +39,6 @@ drivers c =
 -- whether a net shows 0 in every settled valuation: the clock does, and every net without a driver
 abbrev pub is_zero_net : Circuit → ℕ → Bool
 is_zero_net c n = (n == c.clock.0) || not (list_any (λ m. n == m) (drivers c))
-
--- ---- the value of a gate (IEEE 1364-2005, 7.2)
-
--- whether a bit is 1
-abbrev pub is_one : Bool → Bool
-is_one b = b
-
--- the number of ones is odd
-abbrev pub is_odd : List Bool → Bool
-is_odd bits = count_by is_one bits % 2 == 1
-
--- the value of a gate on its inputs' bits: `And` is 1 where all are, `Or` where one is, `Xor` where the number of ones is odd;
--- `Nand`, `Nor` and `Xnor` are their complements, `Buf` is its one bit and `Not` the complement of that
-abbrev pub gate_value : Kind → List Bool → Bool
-gate_value And bits = list_all is_one bits
-gate_value Nand bits = not (list_all is_one bits)
-gate_value Or bits = list_any is_one bits
-gate_value Nor bits = not (list_any is_one bits)
-gate_value Xor bits = is_odd bits
-gate_value Xnor bits = not (is_odd bits)
-gate_value Buf bits = slice_index_or bits 0 false
-gate_value Not bits = not (slice_index_or bits 0 false)
 
 -- ---- valuations
 

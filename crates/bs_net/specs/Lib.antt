@@ -1,4 +1,5 @@
 -- what public contracts rest on
+pub mod Gate
 pub mod Circuit
 pub mod Order
 pub mod Next

@@ -4,7 +4,7 @@ use Rattle.std.specs.List.{range_with_len, IsDistinct}
 use Rattle.std.specs.List.Sorted.{IsPermutation}
 use Rattle.bs_net.specs.declared.limits.TheConstants.{MAX_NETS, MAX_FLOPS, MAX_INPUTS, MAX_TERMINALS}
 use Rattle.bs_net.specs.declared.net.Gate.{Gate}
-use Rattle.bs_net.specs.declared.net.Kind.TheVariants.{And}
+use Rattle.bs_net.specs.declared.gate.Kind.TheVariants.{And}
 use Rattle.bs_net.specs.Circuit.{Circuit, drivers, OneFits}
 
 -- no gate of the list reads a net that itself or a later gate of the list drives

@@ -4,6 +4,7 @@
 mod clock;
 mod drivers;
 mod fault;
+mod gate;
 mod law;
 mod limits;
 mod loops;
@@ -16,6 +17,7 @@ mod sizes;
 mod tallies;
 
 pub use fault::{Count, NetFault, Refused};
+pub use gate::Kind;
 pub use law::{
     every_schedule_settles_alike, exactly_one_valuation_fits, loops_have_no_order,
     next_state_is_led_to, refused_netlists_do_not_pass, tests_decide_the_check,
@@ -23,6 +25,6 @@ pub use law::{
 pub use limits::{MAX_FLOPS, MAX_INPUTS, MAX_NETS, MAX_TERMINALS};
 pub use loops::{Levelling, levelize};
 pub use names::Names;
-pub use net::{Const, Flop, Gate, Kind, Mode, NetId, Terms};
+pub use net::{Const, Flop, Gate, Mode, NetId, Terms};
 pub use netlist::Netlist;
 pub use raw::Raw;

@@ -3,7 +3,7 @@ use Rattle.std.specs.Prelude.{ℕ, Bool, nat_le, List, ◌∷◌, length, map, d
 use Rattle.std.specs.List.{range_with_len, list_all}
 use Rattle.bs_net.specs.declared.net.NetId.{NetId}
 use Rattle.bs_net.specs.declared.net.Gate.{Gate}
-use Rattle.bs_net.specs.declared.net.Kind.TheVariants.{And}
+use Rattle.bs_net.specs.declared.gate.Kind.TheVariants.{And}
 use Rattle.bs_net.specs.Names.{net}
 use Rattle.bs_order.specs.declared.levels.TheConstants.{MOST}
 use Rattle.bs_order.specs.Ring.{instanced_by}

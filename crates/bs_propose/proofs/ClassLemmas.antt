@@ -8,7 +8,7 @@ use Rattle.std.proofs.lemmas.List.{take_more, map-append, length-map, get_or-set
 use Rattle.std.proofs.lemmas.List.Sums.{count_by-le-length, sum_by_push, sum_by-cons}
 use Rattle.std.proofs.Math.Nat.{div-mul-le_self}
 use Rattle.bs_net.specs.Circuit.{bit_at}
-use Rattle.bs_net.proofs.CallerLemmas.{range_push}
+use Rattle.bs_bits.proofs.RangeLemmas.{range_push}
 use Rattle.bs_propose.specs.Classes.{column_of, key_shares, like, split_key, split_keys}
 
 -- what a further place gives

@@ -5,7 +5,7 @@ use Rattle.std.specs.List.{range_with_len}
 use Rattle.std.proofs.lemmas.List.{take_more, map-append, length-map, get_or-map}
 use Rattle.std.proofs.lemmas.List.Elements.{All-filter, filter-append}
 use Rattle.std.proofs.lemmas.List.FromFn.{get_or-range_with_len, get_or-map-range_with_len, length-range_with_len}
-use Rattle.bs_net.proofs.CallerLemmas.{range_push}
+use Rattle.bs_bits.proofs.RangeLemmas.{range_push}
 use Rattle.bs_scan.specs.Signature.{parity_of}
 use Rattle.bs_propose.specs.Items.{AreWithin, single}
 use Rattle.bs_propose.specs.Proposal.{every, parity_items}

@@ -9,7 +9,8 @@ use Rattle.std.proofs.lemmas.List.{map-append, length-map, get_or-map, get_or-re
 use Rattle.std.proofs.lemmas.List.FromFn.{get_or-map-range_with_len, length-range_with_len}
 use Rattle.std.proofs.lemmas.List.Sums.{sum_by-cons}
 use Rattle.bs_bits.specs.Bits.{bits_eq}
-use Rattle.bs_net.specs.Circuit.{bit_at, is_odd}
+use Rattle.bs_net.specs.Circuit.{bit_at}
+use Rattle.bs_net.specs.Gate.{is_odd}
 use Rattle.bs_scan.specs.Signature.{parity_of, signature}
 use Rattle.bs_propose.specs.Sharing.{sharing}
 use Rattle.bs_propose.specs.Items.{single, singles}

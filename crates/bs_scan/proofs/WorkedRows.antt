@@ -5,7 +5,7 @@ use Rattle.bs_bits.specs.Lines.{lines_of}
 use Rattle.bs_net.specs.declared.net.NetId.{NetId}
 use Rattle.bs_net.specs.declared.net.Flop.{Flop}
 use Rattle.bs_net.specs.declared.net.Mode.TheVariants.{Plain}
-use Rattle.bs_net.specs.declared.net.Kind.TheVariants.{Not}
+use Rattle.bs_net.specs.declared.gate.Kind.TheVariants.{Not}
 use Rattle.bs_net.specs.declared.net.Mode.TheVariants.{Plain}
 use Rattle.bs_net.specs.Circuit.{Circuit, next, settled, all_bits}
 use Rattle.bs_scan.specs.declared.dump.Dump.{Dump}

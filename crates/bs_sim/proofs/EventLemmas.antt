@@ -13,7 +13,8 @@ use Rattle.std.proofs.lemmas.Map.Keys.{IsDistinct-head, IsDistinct-tail, IsDisti
 use Rattle.bs_net.specs.declared.net.NetId.{NetId}
 use Rattle.bs_net.specs.declared.net.Gate.{Gate}
 use Rattle.bs_net.specs.declared.net.Const.{Const}
-use Rattle.bs_net.specs.Circuit.{Circuit, Fits, bit_at, shown, number, drivers, state_nets, gate_value, IsSettled}
+use Rattle.bs_net.specs.Circuit.{Circuit, Fits, bit_at, shown, number, drivers, state_nets, IsSettled}
+use Rattle.bs_net.specs.Gate.{gate_value}
 use Rattle.bs_net.specs.Order.{IsChecked, IsOrder, IsLevelled, gates_in, no_gate}
 use Rattle.bs_net.specs.Steps.{run, puts, constant_step, gate_write}
 use Rattle.bs_net.proofs.StepLemmas.{Misses, run_other, shown_same}

@@ -11,7 +11,8 @@ use Rattle.std.proofs.lemmas.Map.Keys.{IsDistinct-head, IsDistinct-tail, IsDisti
 use Rattle.bs_net.specs.declared.net.NetId.{NetId}
 use Rattle.bs_net.specs.declared.net.Gate.{Gate}
 use Rattle.bs_net.specs.declared.net.Const.{Const}
-use Rattle.bs_net.specs.Circuit.{Circuit, Fits, Shows, bit_at, shown, state_nets, number, drivers, gate_value, is_zero_net, IsSettled}
+use Rattle.bs_net.specs.Circuit.{Circuit, Fits, Shows, bit_at, shown, state_nets, number, drivers, is_zero_net, IsSettled}
+use Rattle.bs_net.specs.Gate.{gate_value}
 use Rattle.bs_net.specs.Order.{IsChecked, gates_in, no_gate}
 use Rattle.bs_sim.specs.Played.{IsQuietness}
 use Rattle.bs_sim.specs.declared.schedule.Settled.{Settled}

@@ -1,9 +1,10 @@
 //! The event simulator, which evaluates a gate only where an input of it changed.
 ghost use Rattle.std.specs.Prelude.{◌≡◌, ◌<◌, length, replicate, false, map, count_by, All, IfOk, IsTrue, slice_set};
-ghost use Rattle.bs_net.specs.Circuit.{Fits, gate_value, shown, next, bit_at, reset_state, IsSettled};
+ghost use Rattle.bs_net.specs.Circuit.{Fits, shown, next, bit_at, reset_state, IsSettled};
+ghost use Rattle.bs_net.specs.Gate.{gate_value};
 ghost use Rattle.bs_net.specs.Netlist.{circuit};
 ghost use Rattle.bs_net.specs.Order.{gates_in};
-ghost use Rattle.bs_net.specs.Parts.{takes};
+ghost use Rattle.bs_net.specs.Gate.{takes};
 ghost use Rattle.bs_net.specs.Steps.{run, gate_write};
 ghost use Rattle.bs_sim.specs.Events.{IsReady, FitsSome, Settles};
 ghost use Rattle.bs_sim.specs.Work.{has_change, changed_gates};

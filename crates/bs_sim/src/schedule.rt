@@ -2,7 +2,7 @@
 ghost use Rattle.std.specs.Prelude.{◌≡◌, ◌<◌, ◌^◌, length, replicate, false, All, IfOk, IsTrue};
 ghost use Rattle.bs_net.specs.Circuit.{Shows, bit_at};
 ghost use Rattle.bs_net.specs.Netlist.{circuit};
-ghost use Rattle.bs_net.specs.Parts.{takes};
+ghost use Rattle.bs_net.specs.Gate.{takes};
 ghost use Rattle.bs_net.specs.Schedule.{play as after_steps, IsSubsequence};
 ghost use Rattle.bs_sim.specs.Played.{IsQuietness, FitsIfQuiet, KeepsSources, OutputsAreZero, ShowsSome};
 ghost use Rattle.bs_sim.specs.declared.schedule.Settled.TheVariants.{Quiet};

@@ -1,9 +1,11 @@
 //! The bits that a netlist's nets show: shown sources, gate values, and gates settled in order.
 ghost use Rattle.std.specs.Prelude.{◌≡◌, ◌<◌, length, map, replicate, false, All, IsTrue, IfOk};
 ghost use Rattle.std.specs.List.{list_all, list_any};
-ghost use Rattle.bs_net.specs.Circuit.{Fits, gate_value, shown, is_odd, loaded, next, next_state, bit_at, IsZeroed};
+ghost use Rattle.bs_net.specs.Circuit.{Fits, shown, loaded, next, next_state, bit_at, IsZeroed};
+ghost use Rattle.bs_net.specs.Gate.{gate_value, is_odd};
 ghost use Rattle.bs_net.specs.Order.{gates_in};
-ghost use Rattle.bs_net.specs.Parts.{takes, IsFlopPlaced};
+ghost use Rattle.bs_net.specs.Parts.{IsFlopPlaced};
+ghost use Rattle.bs_net.specs.Gate.{takes};
 ghost use Rattle.bs_net.specs.Netlist.{circuit};
 ghost use Rattle.bs_net.specs.Steps.{run, puts, constant_step, gate_write};
 

@@ -1,6 +1,6 @@
 -- Gates, cells and assignments.
 use Rattle.std.specs.Prelude.{Bool, true, false, ◌&&◌, if◌then◌else◌, List, [], ◌∷◌, Some, None, Ok, Err}
-use Rattle.bs_net.specs.declared.net.Kind.{Kind}
+use Rattle.bs_net.specs.declared.gate.Kind.{Kind}
 use Rattle.bs_lexeme.specs.declared.lexeme.Cell.{Cell}
 use Rattle.bs_lexeme.specs.declared.lexeme.Sort.{Sort}
 use Rattle.bs_lexeme.specs.declared.lexeme.Word.TheVariants as words

@@ -10,7 +10,7 @@ use Rattle.bs_clause.specs.Literal.{Literal, Clause}
 use Rattle.bs_clause.specs.Range.{IsWithin, HasVariables}
 use Rattle.bs_encode.specs.Encoded.{Encoded}
 use Rattle.std.proofs.lemmas.List.Concat.{flat_map-append}
-use Rattle.bs_net.proofs.CallerLemmas.{range_push}
+use Rattle.bs_bits.proofs.RangeLemmas.{range_push}
 use Rattle.bs_unroll.specs.declared.limits.TheConstants.{MAX_COPY_VARIABLES}
 use Rattle.bs_encode.specs.Copy.{HasRoom, HasRooms}
 use Rattle.bs_unroll.specs.Room.{IsUnrollable}

@@ -1,7 +1,7 @@
 -- Worked texts.
 use Rattle.std.proofs.Common.{◌≡◌, ℕ, [], ◌∷◌, ◌++◌, Ok, Err, false, true, refl, length, Result}
 use Rattle.bs_net.specs.declared.net.NetId.{NetId}
-use Rattle.bs_net.specs.declared.net.Kind.TheVariants.{Not, Buf}
+use Rattle.bs_net.specs.declared.gate.Kind.TheVariants.{Not, Buf}
 use Rattle.bs_net.specs.declared.net.Mode.TheVariants.{Plain, Enable, Clear}
 use Rattle.std.specs.Prelude.{codes, ⊤}
 use Rattle.std.specs.Fmt.{digits}

@@ -12,8 +12,8 @@ use Rattle.std.proofs.lemmas.Result.{IfOk-at_ok}
 use Rattle.bs_bits.specs.Lines.{is_name, is_visible}
 use Rattle.bs_bits.specs.Reading.{◌>>=◌}
 use Rattle.bs_net.specs.declared.net.NetId.{NetId}
-use Rattle.bs_net.specs.declared.net.Kind.{Kind}
-use Rattle.bs_net.specs.declared.net.Kind.TheVariants.{Buf}
+use Rattle.bs_net.specs.declared.gate.Kind.{Kind}
+use Rattle.bs_net.specs.declared.gate.Kind.TheVariants.{Buf}
 use Rattle.bs_net.specs.Names.{with_key}
 use Rattle.bs_net.specs.Parts.{Parts}
 use Rattle.bs_lex.specs.Bytes.{is_graphic}

@@ -15,10 +15,11 @@ use Rattle.bs_net.specs.declared.net.Flop.{Flop}
 use Rattle.bs_net.specs.declared.net.Mode.{Mode}
 use Rattle.bs_net.specs.declared.net.Mode.TheVariants as modes
 use Rattle.bs_net.specs.declared.net.Const.{Const}
-use Rattle.bs_net.specs.declared.net.Kind.{Kind}
-use Rattle.bs_net.specs.declared.net.Kind.TheVariants.{And, Nand, Or, Nor, Xor, Xnor, Buf, Not}
+use Rattle.bs_net.specs.declared.gate.Kind.{Kind}
+use Rattle.bs_net.specs.declared.gate.Kind.TheVariants.{And, Nand, Or, Nor, Xor, Xnor, Buf, Not}
 use Rattle.bs_net.specs.Names.{with_key, number_of}
-use Rattle.bs_net.specs.Parts.{IsFlopPlaced, IsModePlaced, takes}
+use Rattle.bs_net.specs.Parts.{IsFlopPlaced, IsModePlaced}
+use Rattle.bs_net.specs.Gate.{takes}
 use Rattle.bs_net.proofs.CallerLemmas.{with_key-grows}
 use Rattle.bs_syntax.specs.declared.fault.VerilogFault.{VerilogFault}
 use Rattle.bs_syntax.specs.declared.fault.VerilogFault.TheVariants.{TooManyNets, Index, Terminals}

@@ -7,8 +7,8 @@ use Rattle.bs_net.specs.declared.net.Gate.{Gate}
 use Rattle.bs_net.specs.declared.net.Flop.{Flop}
 use Rattle.bs_net.specs.declared.net.Mode.{Mode}
 use Rattle.bs_net.specs.declared.net.Mode.TheVariants as modes
-use Rattle.bs_net.specs.declared.net.Kind.{Kind}
-use Rattle.bs_net.specs.declared.net.Kind.TheVariants.{Buf}
+use Rattle.bs_net.specs.declared.gate.Kind.{Kind}
+use Rattle.bs_net.specs.declared.gate.Kind.TheVariants.{Buf}
 use Rattle.bs_net.specs.Names.{with_key, number_of}
 use Rattle.bs_lexeme.specs.declared.lexeme.Cell.{Cell}
 use Rattle.bs_lexeme.specs.declared.lexeme.Name.{Name}

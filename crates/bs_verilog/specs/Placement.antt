@@ -4,7 +4,8 @@ use Rattle.bs_net.specs.declared.limits.TheConstants.{MAX_NETS}
 use Rattle.bs_net.specs.declared.net.NetId.{NetId}
 use Rattle.bs_net.specs.declared.net.Gate.{Gate}
 use Rattle.bs_net.specs.declared.net.Const.{Const}
-use Rattle.bs_net.specs.Parts.{ArePlaced, IsFlopPlaced, takes}
+use Rattle.bs_net.specs.Parts.{ArePlaced, IsFlopPlaced}
+use Rattle.bs_net.specs.Gate.{takes}
 use Rattle.bs_syntax.specs.declared.tree.Component.{Component}
 use Rattle.bs_verilog.specs.declared.building.Built.{Built}
 use Rattle.bs_lexeme.specs.declared.lexeme.Name.{Name}

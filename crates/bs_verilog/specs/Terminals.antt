@@ -3,8 +3,8 @@ use Rattle.std.specs.Prelude.{ℕ, ◌-◌, Bool, true, false, not, ◌&&◌, �
 use Rattle.std.specs.Prelude.{is_some, slice_index_or, position, option_map}
 use Rattle.std.specs.List.{list_any, list_all}
 use Rattle.std.specs.Str.{bytes_eq}
-use Rattle.bs_net.specs.declared.net.Kind.{Kind}
-use Rattle.bs_net.specs.declared.net.Kind.TheVariants.{Buf, Not}
+use Rattle.bs_net.specs.declared.gate.Kind.{Kind}
+use Rattle.bs_net.specs.declared.gate.Kind.TheVariants.{Buf, Not}
 use Rattle.bs_syntax.specs.declared.tree.Term.{Term}
 use Rattle.bs_syntax.specs.declared.tree.Term.TheVariants.{Constant}
 use Rattle.bs_syntax.specs.declared.tree.Connection.{Connection}

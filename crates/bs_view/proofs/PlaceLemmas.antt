@@ -5,7 +5,7 @@ use Rattle.std.proofs.lemmas.Grind.{flat_map-append}
 use Rattle.std.proofs.lemmas.List.{append-nil, length-map}
 use Rattle.bs_names.specs.declared.signal.Signal.{Signal as CodeSignal}
 use Rattle.bs_names.specs.Signals.{Signal, signal_in}
-use Rattle.bs_net.proofs.CallerLemmas.{range_push}
+use Rattle.bs_bits.proofs.RangeLemmas.{range_push}
 use Rattle.bs_wave.specs.declared.value.Value.{Value}
 use Rattle.bs_view.specs.View.{change_at, change_text, changes, variable_at, variable_line, variables}
 

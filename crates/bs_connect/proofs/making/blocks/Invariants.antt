@@ -1,7 +1,7 @@
 use Rattle.std.proofs.Common.{◌≡◌, take, length}
 use Rattle.std.specs.Prelude.{IsTrue}
 use Rattle.std.specs.List.{All}
-use Rattle.bs_net.specs.Parts.{takes}
+use Rattle.bs_net.specs.Gate.{takes}
 use Rattle.bs_flatten.specs.Order.{below_blocks}
 use Rattle.bs_connect.proofs.MakeLemmas.{BlocksSoFar}
 use Rattle.bs_connect.proofs.making.blocks.Given as goal
