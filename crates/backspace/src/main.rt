@@ -2,8 +2,8 @@
 #![tactic(auto)]
 
 use bs_note::note;
+use bs_note_calls::{Ear, FileCauses, Outcome, Reasons, TellingSink};
 use bs_outside::{FileShelf, StdSink};
-use bs_told::{Ear, FileCauses, Outcome, Reasons, TellingSink};
 use bs_top::run_program;
 use std::alloc::Global;
 use std::env;

@@ -17,13 +17,13 @@ use Rattle.bs_report.specs.declared.report.Cand.{Cand}
 use Rattle.bs_report.specs.declared.report.HitLine.{HitLine}
 use Rattle.bs_report.specs.declared.report.Step.{Step}
 use Rattle.bs_report.specs.declared.report.Budgets.{Budgets}
-use Rattle.bs_good.specs.declared.part.Part.{Part}
-use Rattle.bs_good.specs.declared.part.Part.TheVariants as parts
+use Rattle.bs_report_good.specs.declared.part.Part.{Part}
+use Rattle.bs_report_good.specs.declared.part.Part.TheVariants as parts
 use Rattle.bs_scan.specs.Crash.{Crash}
-use Rattle.bs_good.specs.Step.{listed, hit_of}
-use Rattle.bs_good.specs.Chain.{present_of_hit, present_after, last_present}
-use Rattle.bs_good.specs.Valid.{unless, is_right_cand, is_right_count, same_hit, first_of_all}
-use Rattle.bs_good.proofs.ValidLemmas.{both, cand_is, state_at_place}
+use Rattle.bs_report_good.specs.Step.{listed, hit_of}
+use Rattle.bs_report_good.specs.Chain.{present_of_hit, present_after, last_present}
+use Rattle.bs_report_good.specs.Valid.{unless, is_right_cand, is_right_count, same_hit, first_of_all}
+use Rattle.bs_report_good.proofs.ValidLemmas.{both, cand_is, state_at_place}
 use Rattle.bs_audit.specs.declared.steps.Walk.{Walk}
 use Rattle.bs_audit.specs.declared.steps.Walk.TheVariants.{Fails, Holds}
 use Rattle.bs_audit.specs.Following.{begin_parts, cand_parts, list_parts, parts_from, following_parts, first_from, line_of, IsListed, IsTried}

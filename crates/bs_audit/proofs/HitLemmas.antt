@@ -10,8 +10,8 @@ use Rattle.bs_scan.proofs.CrashLemmas.{present_at}
 use Rattle.bs_chip.specs.declared.replay.Hit.{Hit}
 use Rattle.bs_report.specs.declared.report.Cand.{Cand}
 use Rattle.bs_report.specs.declared.report.HitLine.{HitLine}
-use Rattle.bs_good.specs.Step.{listed, hit_of}
-use Rattle.bs_good.specs.Chain.{present_of_hit}
+use Rattle.bs_report_good.specs.Step.{listed, hit_of}
+use Rattle.bs_report_good.specs.Chain.{present_of_hit}
 
 presents_of : (r : Recording) (dump : Dump) (cands : List Cand) (hit : Option Hit) → IsDepth (depth_of r.choice) →
     first_moment r.circuit r.runs (listed cands) ≡ option_map (λ hit. moment hit.run hit.cycle) hit →

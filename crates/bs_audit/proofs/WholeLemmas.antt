@@ -29,18 +29,18 @@ use Rattle.bs_report.specs.declared.report.HitLine.{HitLine}
 use Rattle.bs_report.specs.declared.report.Step.{Step}
 use Rattle.bs_report.specs.declared.report.Budgets.{Budgets}
 use Rattle.bs_report.specs.declared.report.Report.{Report}
-use Rattle.bs_good.specs.declared.part.Part.{Part}
-use Rattle.bs_good.specs.declared.part.Part.TheVariants as parts
+use Rattle.bs_report_good.specs.declared.part.Part.{Part}
+use Rattle.bs_report_good.specs.declared.part.Part.TheVariants as parts
 use Rattle.bs_scan.specs.Crash.{Recording, IsRecording, Crash, crash_of, DumpFits}
 use Rattle.bs_scan.proofs.CrashLemmas.{crash_is}
-use Rattle.bs_good.specs.Step.{stored_of, listed, hit_of}
-use Rattle.bs_good.specs.Chain.{present_of, present_of_hit, present_after, last_present}
-use Rattle.bs_good.specs.Valid.{unless, all_bits_eq, cause_after, is_cause, has_state, has_stored, same_hit, first_of_all, each_step, step_parts}
-use Rattle.bs_good.specs.Valid.{log_parts, due_at, first_failing}
-use Rattle.bs_good.specs.Trace.{trace_states, trace_inputs}
-use Rattle.bs_good.specs.ValidLaw.{IsEncoded}
-use Rattle.bs_good.proofs.GoodLemmas.{valid_is_good}
-use Rattle.bs_good.proofs.ValidLemmas.{all_same_is, ascend_is, both}
+use Rattle.bs_report_good.specs.Step.{stored_of, listed, hit_of}
+use Rattle.bs_report_good.specs.Chain.{present_of, present_of_hit, present_after, last_present}
+use Rattle.bs_report_good.specs.Valid.{unless, all_bits_eq, cause_after, is_cause, has_state, has_stored, same_hit, first_of_all, each_step, step_parts}
+use Rattle.bs_report_good.specs.Valid.{log_parts, due_at, first_failing}
+use Rattle.bs_report_good.specs.Trace.{trace_states, trace_inputs}
+use Rattle.bs_report_good.specs.ValidLaw.{IsEncoded}
+use Rattle.bs_report_good.proofs.GoodLemmas.{valid_is_good}
+use Rattle.bs_report_good.proofs.ValidLemmas.{all_same_is, ascend_is, both}
 use Rattle.bs_audit.specs.Following.{begin_parts, cand_parts, list_parts, parts_from, following_parts, first_from, IsWalked}
 use Rattle.bs_audit.specs.declared.steps.Walk.{Walk}
 use Rattle.bs_audit.specs.declared.steps.Walk.TheVariants.{Fails, Holds}

@@ -7,12 +7,12 @@ use Rattle.bs_report.specs.declared.report.HitLine.{HitLine}
 use Rattle.bs_report.specs.declared.report.Step.{Step}
 use Rattle.bs_report.specs.declared.report.Budgets.{Budgets}
 use Rattle.bs_report.specs.declared.report.Report.{Report}
-use Rattle.bs_good.specs.declared.part.Part.{Part}
-use Rattle.bs_good.specs.declared.part.Part.TheVariants as parts
+use Rattle.bs_report_good.specs.declared.part.Part.{Part}
+use Rattle.bs_report_good.specs.declared.part.Part.TheVariants as parts
 use Rattle.bs_scan.specs.Crash.{Crash}
-use Rattle.bs_good.specs.Step.{stored_of, hit_of}
-use Rattle.bs_good.specs.Chain.{present_after, last_present}
-use Rattle.bs_good.specs.Valid.{unless, has_state, has_stored, is_right_cand, is_right_count, same_hit, first_of_all}
+use Rattle.bs_report_good.specs.Step.{stored_of, hit_of}
+use Rattle.bs_report_good.specs.Chain.{present_after, last_present}
+use Rattle.bs_report_good.specs.Valid.{unless, has_state, has_stored, is_right_cand, is_right_count, same_hit, first_of_all}
 use Rattle.bs_audit.specs.declared.steps.Walk.{Walk}
 use Rattle.bs_audit.specs.declared.steps.Walk.TheVariants.{Fails, Holds}
 

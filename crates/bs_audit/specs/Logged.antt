@@ -13,12 +13,12 @@ use Rattle.bs_encode.specs.Tables.{lit}
 use Rattle.bs_encode.specs.Assuming.{block_for, AreWide}
 use Rattle.bs_report.specs.declared.report.Step.{Step}
 use Rattle.bs_report.specs.declared.report.Report.{Report}
-use Rattle.bs_good.specs.declared.part.Part.{Part}
-use Rattle.bs_good.specs.declared.part.Part.TheVariants as parts
-use Rattle.bs_good.specs.Step.{listed, Ascend}
-use Rattle.bs_good.specs.Trace.{trace_states, trace_inputs}
-use Rattle.bs_good.specs.Valid.{unless, first_of_all, all_bits_eq, cause_after, is_cause, each_step, log_parts, are_right_blocks, blocks_due}
-use Rattle.bs_good.specs.Valid.{blocks_in, is_right_finish, finishes_in}
+use Rattle.bs_report_good.specs.declared.part.Part.{Part}
+use Rattle.bs_report_good.specs.declared.part.Part.TheVariants as parts
+use Rattle.bs_report_good.specs.Step.{listed, Ascend}
+use Rattle.bs_report_good.specs.Trace.{trace_states, trace_inputs}
+use Rattle.bs_report_good.specs.Valid.{unless, first_of_all, all_bits_eq, cause_after, is_cause, each_step, log_parts, are_right_blocks, blocks_due}
+use Rattle.bs_report_good.specs.Valid.{blocks_in, is_right_finish, finishes_in}
 use Rattle.bs_audit.specs.declared.steps.Walk.{Walk}
 use Rattle.bs_audit.specs.declared.steps.Walk.TheVariants.{Fails, Holds}
 

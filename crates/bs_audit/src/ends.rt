@@ -3,7 +3,7 @@ ghost use Rattle.std.specs.Prelude.{◌≡◌, ◌∷◌, [], ◌++◌, ◌==◌
 ghost use Rattle.std.specs.Cmp.Lexicographic.{pointwise};
 ghost use Rattle.std.specs.List.{list_all, list_any};
 ghost use Rattle.bs_log.specs.Steps.{is_lemma_line, last_solve, is_spent};
-ghost use Rattle.bs_good.specs.Valid.{finishes_in, is_right_finish};
+ghost use Rattle.bs_report_good.specs.Valid.{finishes_in, is_right_finish};
 ghost use Rattle.bs_audit.specs.Logged.{ends_step};
 ghost use Rattle.bs_audit.specs.StepLines.{is_delete, undeleted};
 

@@ -1,8 +1,8 @@
 //! The steps of a report, tried by replay.
 ghost use Rattle.std.specs.Prelude.{◌≡◌, ◌<◌, ◌+◌, ◌^◌, ◌∷◌, length, option_map, All, IfOk};
 ghost use Rattle.std.specs.Option.{option_to_list};
-ghost use Rattle.bs_good.specs.Step.{listed, stored_of};
-ghost use Rattle.bs_good.specs.Valid.{all_bits_eq, first_of_all, has_state, has_stored, is_right_count, same_hit};
+ghost use Rattle.bs_report_good.specs.Step.{listed, stored_of};
+ghost use Rattle.bs_report_good.specs.Valid.{all_bits_eq, first_of_all, has_state, has_stored, is_right_count, same_hit};
 ghost use Rattle.bs_scan.specs.Dump.{signatures_of};
 ghost use Rattle.bs_scan.specs.Present.{present_in};
 ghost use Rattle.bs_audit.specs.Following.{begin_parts, line_of, IsListed, IsTried, IsWalked};
@@ -11,8 +11,8 @@ use crate::candidates::number;
 use crate::replay::Replay;
 use bs_bits::{Bits, NoMemory};
 use bs_chip::Hit;
-use bs_good::Part;
 use bs_report::{Budgets, HitLine, ListEnd, Report, Step};
+use bs_report_good::Part;
 use bs_scan::Dump;
 use std::alloc::Global;
 

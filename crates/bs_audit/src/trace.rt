@@ -1,8 +1,8 @@
 //! The trace of a report.
 ghost use Rattle.std.specs.Prelude.{◌≡◌, ◌&&◌, option_map, option_and_then, find, reverse, filter_map, MatchOption, Some};
 ghost use Rattle.bs_bits.specs.Bits.{bits_eq};
-ghost use Rattle.bs_good.specs.Trace.{hit_state, input_for, trace_states, trace_inputs};
-ghost use Rattle.bs_good.specs.Valid.{all_bits_eq};
+ghost use Rattle.bs_report_good.specs.Trace.{hit_state, input_for, trace_states, trace_inputs};
+ghost use Rattle.bs_report_good.specs.Valid.{all_bits_eq};
 ghost use Rattle.bs_audit.specs.Cut.{IsCut, IsUncut};
 
 use bs_bits::Bits;

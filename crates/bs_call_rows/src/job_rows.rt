@@ -1,6 +1,8 @@
 //! Files that come, fail or are too long, and the lines that are written for them.
-use bs_job::{File, Refusal, Reply, Status, deliver, fetch_file, refused_words, settle, stopped};
 use bs_outside::{MemShelf, MemSink, NoMemory};
+use bs_top_plan::{
+    File, Refusal, Reply, Status, deliver, fetch_file, refused_words, settle, stopped,
+};
 use std::alloc::{AllocError, Global};
 use std::test::Fail;
 

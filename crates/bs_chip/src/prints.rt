@@ -1,6 +1,6 @@
 //! The print of a state: a number that equal states share, and other states hardly ever.
 ghost use Rattle.std.specs.Prelude.{◌≡◌, ◌<◌, ◌*◌, length};
-ghost use Rattle.bs_plane.specs.Planes.{lane as lane_in};
+ghost use Rattle.bs_lanes_planes.specs.Planes.{lane as lane_in};
 ghost use Rattle.bs_chip.specs.Prints.{print_more, print_of};
 
 use crate::lanes::bit_of;

@@ -1,10 +1,10 @@
 //! What a text is answered with, in words.
 use bs_bits::NoMemory;
-use bs_design::read;
-use bs_flat::FlatFault;
+use bs_flat::read;
+use bs_flat_meaning::FlatFault;
 use bs_lex::MAX_BYTES;
 use bs_net::{Gate, NetId, Raw};
-use bs_syntax::VerilogFault;
+use bs_verilog_syntax::VerilogFault;
 use std::alloc::Global;
 
 /// Adds the names of the nets, each behind a space.

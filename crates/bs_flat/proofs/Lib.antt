@@ -1,12 +1,2 @@
-pub mod MemberLemmas
-pub mod RootLemmas
-pub mod HomeLemmas
-pub mod DriverLemmas
-pub mod LawLemmas
-pub mod PathLemmas
-pub mod JoinLemmas
-pub mod CountLemmas
-pub mod HeightLemmas
-pub mod NumberLemmas
-pub mod RingLemmas
-pub mod Examples
+pub mod FlattenLemmas
+pub mod ReaderLemmas

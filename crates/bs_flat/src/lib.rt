@@ -1,17 +1,8 @@
-//! What a hierarchical design means, and that its flat parts mean the same.
+//! The netlist of a text of one module or of several.
 #![tactic(auto)]
 
-mod fault;
-mod law;
-mod limits;
-mod paths;
-mod statements;
+mod reader;
+mod several;
+mod single;
 
-pub use fault::FlatFault;
-pub use law::{
-    flat_numbers_are_ranks, flat_parts_keep_meaning, modules_count_the_design,
-    read_designs_are_whole, rings_are_found,
-};
-pub use limits::{MAX_DEPTH, MAX_KEY_BYTES, MAX_PARTS, MAX_PATHS};
-pub use paths::{Instanced, Node, add_below, all_paths};
-pub use statements::{Written, instancing};
+pub use reader::read;

@@ -6,7 +6,7 @@ use Rattle.std.specs.List.{All, AllByRecursion}
 use Rattle.std.proofs.lemmas.Bool.{ltb-true, cases_lt}
 use Rattle.std.proofs.lemmas.List.{get_or_past}
 use Rattle.std.proofs.lemmas.List.Elements.{All-from_recursion}
-use Rattle.bs_flat.specs.declared.statements.Written.{Written}
+use Rattle.bs_flat_meaning.specs.declared.statements.Written.{Written}
 use Rattle.bs_hierarchy.specs.Places.{place_of, ArePlaces}
 use Rattle.bs_hierarchy.specs.Numbers.{looked_up, numbers_of, numbers_by}
 

@@ -5,7 +5,7 @@ use Rattle.std.specs.Prelude.{unwrap_or, replicate}
 use Rattle.std.proofs.lemmas.Bool.{eqb-true, eqb-false, eq-eqb, ne_eqb, lt-ltb, le-ltb, cases_lt}
 use Rattle.std.proofs.lemmas.List.{length-set, take_more, get_or-replicate, length-replicate}
 use Rattle.std.proofs.lemmas.List.Folds.{position_or_len_push}
-use Rattle.bs_flat.specs.Reading.{is_id}
+use Rattle.bs_flat_meaning.specs.Reading.{is_id}
 use Rattle.bs_hierarchy.specs.Places.{past, noted, place_of, within, ArePlaces}
 
 -- where the first modules have their places

@@ -8,13 +8,13 @@ use Rattle.std.proofs.lemmas.List.Sums.{passes_at_first}
 use Rattle.std.proofs.lemmas.Map.Keys.{IsDistinct-cons}
 use Rattle.std.proofs.lemmas.Map.Steps.{length-le_from_distinct_below}
 use Rattle.std.proofs.lemmas.List.{length-map}
-use Rattle.bs_flat.specs.declared.statements.Written.{Written}
-use Rattle.bs_flat.specs.Pieces.{Piece, name_id}
-use Rattle.bs_flat.specs.Connecting.{ReadModule}
-use Rattle.bs_flat.specs.Reading as reading
-use Rattle.bs_order.specs.Ring.{instances, place_in, FollowFrom, IsRing, IsChildrenFirst}
-use Rattle.bs_order.proofs.LevelLemmas.{any_place, flips}
-use Rattle.bs_order.specs.Tops as order_tops
+use Rattle.bs_flat_meaning.specs.declared.statements.Written.{Written}
+use Rattle.bs_flat_meaning.specs.Pieces.{Piece, name_id}
+use Rattle.bs_flat_meaning.specs.Connecting.{ReadModule}
+use Rattle.bs_flat_meaning.specs.Reading as reading
+use Rattle.bs_flat_order.specs.Ring.{instances, place_in, FollowFrom, IsRing, IsChildrenFirst}
+use Rattle.bs_flat_order.proofs.LevelLemmas.{any_place, flips}
+use Rattle.bs_flat_order.specs.Tops as order_tops
 use Rattle.bs_hierarchy.specs.Places.{place_of}
 use Rattle.bs_hierarchy.specs.Numbers.{numbers_of, numbers_by}
 use Rattle.bs_hierarchy.specs.Hierarchy.{AreOf, IsRingOf, IsRankedSo}

@@ -4,12 +4,12 @@ use Rattle.std.proofs.Common.{Option, Some, None, Result, Ok, Err}
 use Rattle.std.specs.Prelude.{unwrap_or, nat_lt}
 use Rattle.std.proofs.lemmas.Bool.{lt-ltb}
 use Rattle.bs_net.specs.Parts.{Parts}
-use Rattle.bs_flat.specs.declared.fault.FlatFault.{FlatFault}
-use Rattle.bs_flat.specs.declared.fault.FlatFault.TheVariants.{Recursion, Tops}
-use Rattle.bs_flat.specs.declared.statements.Written.{Written}
-use Rattle.bs_flat.specs.Pieces.{Piece, name_id}
-use Rattle.bs_flat.specs.Connecting.{ReadModule}
-use Rattle.bs_flat.specs.Reading.{Answer, Answer.{ringed, plain}, name_at, flattened, limited, tops}
+use Rattle.bs_flat_meaning.specs.declared.fault.FlatFault.{FlatFault}
+use Rattle.bs_flat_meaning.specs.declared.fault.FlatFault.TheVariants.{Recursion, Tops}
+use Rattle.bs_flat_meaning.specs.declared.statements.Written.{Written}
+use Rattle.bs_flat_meaning.specs.Pieces.{Piece, name_id}
+use Rattle.bs_flat_meaning.specs.Connecting.{ReadModule}
+use Rattle.bs_flat_meaning.specs.Reading.{Answer, Answer.{ringed, plain}, name_at, flattened, limited, tops}
 use Rattle.bs_hierarchy.specs.declared.ranks.Ranked as code
 use Rattle.bs_hierarchy.specs.Hierarchy.{AreOf, IsRingOf, IsRankedSo}
 use Rattle.bs_hierarchy.specs.Refusals.{name_of, IsRefused}

@@ -1,10 +1,10 @@
 -- What the modules of a text are to each other: a ring of them, or an order, children first, and those that none instances.
 use Rattle.std.specs.Prelude.{false, ◌≡◌, ℕ, List, map, Option}
-use Rattle.bs_flat.specs.declared.statements.Written.{Written}
-use Rattle.bs_flat.specs.Pieces.{Piece, name_id}
-use Rattle.bs_flat.specs.Connecting.{ReadModule}
-use Rattle.bs_flat.specs.Reading as reading
-use Rattle.bs_order.specs.Ring.{IsChildrenFirst}
+use Rattle.bs_flat_meaning.specs.declared.statements.Written.{Written}
+use Rattle.bs_flat_meaning.specs.Pieces.{Piece, name_id}
+use Rattle.bs_flat_meaning.specs.Connecting.{ReadModule}
+use Rattle.bs_flat_meaning.specs.Reading as reading
+use Rattle.bs_flat_order.specs.Ring.{IsChildrenFirst}
 use Rattle.bs_hierarchy.specs.Numbers.{numbers_by}
 use Rattle.bs_hierarchy.specs.declared.ranks.Ranked as code
 use Rattle.bs_hierarchy.specs.declared.ranks.Hierarchy.{Hierarchy}

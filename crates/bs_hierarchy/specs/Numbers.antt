@@ -1,6 +1,6 @@
 -- Each instance by the number of its module.
 use Rattle.std.specs.Prelude.{ℕ, List, map, Option, None, slice_index_or}
-use Rattle.bs_flat.specs.declared.statements.Written.{Written}
+use Rattle.bs_flat_meaning.specs.declared.statements.Written.{Written}
 use Rattle.bs_hierarchy.specs.Places.{place_of}
 
 -- the place of an instance's module in a table

@@ -1,7 +1,7 @@
 -- Where the module with a name stands among all.
 use Rattle.std.specs.Prelude.{◌≡◌, ℕ, ◌+◌, ◌<◌, nat_lt, if◌then◌else◌, List, length, Option, Some, None, unwrap_or, slice_index_or, slice_set}
 use Rattle.std.specs.List.{position_or_len}
-use Rattle.bs_flat.specs.Reading.{is_id}
+use Rattle.bs_flat_meaning.specs.Reading.{is_id}
 
 -- one more than the number of a name
 abbrev pub past : Option ℕ → ℕ

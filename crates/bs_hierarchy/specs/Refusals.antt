@@ -1,10 +1,10 @@
 -- The refusals of a ring, and of more tops than one.
 use Rattle.std.specs.Prelude.{◌≡◌, ℕ, ◌≤◌, List, [], length, Option, None, unwrap_or, slice_index_or, Err}
-use Rattle.bs_flat.specs.declared.fault.FlatFault.{FlatFault}
-use Rattle.bs_flat.specs.declared.statements.Written.{Written}
-use Rattle.bs_flat.specs.Pieces.{Piece}
-use Rattle.bs_flat.specs.Connecting.{ReadModule}
-use Rattle.bs_flat.specs.Reading.{Answer}
+use Rattle.bs_flat_meaning.specs.declared.fault.FlatFault.{FlatFault}
+use Rattle.bs_flat_meaning.specs.declared.statements.Written.{Written}
+use Rattle.bs_flat_meaning.specs.Pieces.{Piece}
+use Rattle.bs_flat_meaning.specs.Connecting.{ReadModule}
+use Rattle.bs_flat_meaning.specs.Reading.{Answer}
 use Rattle.bs_hierarchy.specs.declared.ranks.Ranked as code
 use Rattle.bs_hierarchy.specs.Hierarchy.{AreOf, IsRankedSo}
 

@@ -4,7 +4,7 @@ ghost use Rattle.bs_hierarchy.specs.Numbers as spec;
 
 use crate::places::places;
 use bs_bits::{List, NoMemory};
-use bs_flat::Written;
+use bs_flat_meaning::Written;
 use std::alloc::Global;
 
 /// The place of a name in a table.

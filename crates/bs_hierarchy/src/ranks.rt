@@ -4,8 +4,8 @@ ghost use Rattle.bs_hierarchy.specs.Hierarchy as spec;
 
 use crate::numbers::module_numbers;
 use bs_bits::{List, NoMemory};
-use bs_flat::Written;
-use bs_order::{Levels, module_levels, tops};
+use bs_flat_meaning::Written;
+use bs_flat_order::{Levels, module_levels, tops};
 use std::alloc::Global;
 
 /// All modules, each after those that it instances, and the modules that none instances, in file order.

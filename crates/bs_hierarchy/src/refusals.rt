@@ -1,12 +1,12 @@
 //! The refusals of modules that instance each other in a ring, and of modules of which more than one is a top.
 ghost use Rattle.std.specs.Prelude.{◌≡◌, ◌<◌, ◌≤◌, ◌⊎◌, ◌^◌, [], length, map, None, unwrap_or, slice_index_or, IfOk, MatchResult};
-ghost use Rattle.bs_flat.specs.declared.fault.FlatFault.TheVariants as faults;
+ghost use Rattle.bs_flat_meaning.specs.declared.fault.FlatFault.TheVariants as faults;
 ghost use Rattle.bs_hierarchy.specs.Refusals as spec;
 
 use crate::ranks::{Hierarchy, Ranked, rank_modules};
 use bs_bits::{List, NoMemory, push_piece};
-use bs_flat::{FlatFault, Written};
-use bs_lexeme::{Name, Table};
+use bs_flat_meaning::{FlatFault, Written};
+use bs_verilog_lexemes::{Name, Table};
 use std::alloc::Global;
 
 /// How many tops can be told.

@@ -3,15 +3,15 @@ use Rattle.std.proofs.Common.{◌≡◌, ℕ, true, List, Some, Result, Ok, refl
 use Rattle.std.specs.Prelude.{IfOk}
 use Rattle.bs_bits.specs.declared.memory.NoMemory.{NoMemory}
 use Rattle.bs_outside.specs.Calls.{FetchCall}
-use Rattle.bs_job.specs.declared.status.Status.{Status}
-use Rattle.bs_job.specs.declared.reply.Reply.{Reply}
-use Rattle.bs_job.specs.Files.{is_work_status}
-use Rattle.bs_job.specs.Plan.{Tells, Counts, Plan, end}
-use Rattle.bs_job.proofs.Walking.{walks_end}
-use Rattle.bs_job.specs.Walks.{Walks}
-use Rattle.bs_job.specs.Prepared.{Prepared, IsWork}
-use Rattle.bs_job.proofs.Preparing.{prepares_work}
-use Rattle.bs_entry.specs.Refusals.{Case, CheckSays}
+use Rattle.bs_top_plan.specs.declared.status.Status.{Status}
+use Rattle.bs_top_plan.specs.declared.reply.Reply.{Reply}
+use Rattle.bs_top_plan.specs.Files.{is_work_status}
+use Rattle.bs_top_plan.specs.Plan.{Tells, Counts, Plan, end}
+use Rattle.bs_top_plan.proofs.Walking.{walks_end}
+use Rattle.bs_top_plan.specs.Walks.{Walks}
+use Rattle.bs_top_plan.specs.Prepared.{Prepared, IsWork}
+use Rattle.bs_top_plan.proofs.Preparing.{prepares_work}
+use Rattle.bs_top_files.specs.Refusals.{Case, CheckSays}
 use Rattle.bs_request.specs.Request.{Request}
 use Rattle.bs_inspect.specs.Work.{Work, plan_of, to_help, to_version, to_flops, to_inputs, to_stats, to_steps, to_trace, to_run, to_wave, to_signature}
 use Rattle.bs_inspect.specs.Finishes.{finishes}

@@ -4,13 +4,13 @@ use Rattle.std.specs.Io.KnownBytes.{Keeps}
 use Rattle.bs_bits.specs.declared.memory.NoMemory.{NoMemory}
 use Rattle.bs_outside.specs.Calls.{FetchCall, PutCall}
 use Rattle.bs_outside.specs.Faults.{Rose}
-use Rattle.bs_job.specs.declared.status.Status.{Status}
-use Rattle.bs_job.specs.declared.status.Status.TheVariants.{Words, ReadFault, WriteFault}
-use Rattle.bs_job.specs.Plan.{Tells, Counts, Plan}
-use Rattle.bs_job.specs.Clauses.{Answered, AnsweredAsTold, AnsweredWhole, CallByCall, CallsWanting, IsCalm, IsWordsOnlyFor, ReadFaultOf, RefusesFirstOf}
-use Rattle.bs_job.specs.Delivery.{Delivers, PutsLines}
+use Rattle.bs_top_plan.specs.declared.status.Status.{Status}
+use Rattle.bs_top_plan.specs.declared.status.Status.TheVariants.{Words, ReadFault, WriteFault}
+use Rattle.bs_top_plan.specs.Plan.{Tells, Counts, Plan}
+use Rattle.bs_top_plan.specs.Clauses.{Answered, AnsweredAsTold, AnsweredWhole, CallByCall, CallsWanting, IsCalm, IsWordsOnlyFor, ReadFaultOf, RefusesFirstOf}
+use Rattle.bs_top_plan.specs.Delivery.{Delivers, PutsLines}
 use Rattle.bs_request.specs.Request.{Request}
-use Rattle.bs_entry.specs.Refusals.{Case, CheckSays}
+use Rattle.bs_top_files.specs.Refusals.{Case, CheckSays}
 use Rattle.bs_inspect.specs.Usage.{usage_text}
 use Rattle.bs_inspect.specs.Work.{Work, plan_of}
 use Rattle.bs_inspect.specs.Finishes.{finishes}

@@ -1,15 +1,15 @@
 -- The status and the text of work that is done.
 use Rattle.std.specs.Prelude.{◌≡◌, ℕ, List}
-use Rattle.bs_job.specs.declared.status.Status.{Status}
-use Rattle.bs_job.specs.declared.status.Status.TheVariants.{Done}
+use Rattle.bs_top_plan.specs.declared.status.Status.{Status}
+use Rattle.bs_top_plan.specs.declared.status.Status.TheVariants.{Done}
 use Rattle.bs_alias.specs.Run.{simulated}
 use Rattle.bs_stim.specs.StimulusText.{run_text}
-use Rattle.bs_view.specs.View.{IsViewOf}
-use Rattle.bs_propose.specs.Proposal.{TellsProposal}
-use Rattle.bs_listing.specs.Told.{TellsFlops, TellsInputs}
-use Rattle.bs_listing.specs.Sizes.{TellsSizes}
-use Rattle.bs_story.specs.Steps.{steps_text}
-use Rattle.bs_story.specs.Trace.{TellsTrace}
+use Rattle.bs_inspect_view.specs.View.{IsViewOf}
+use Rattle.bs_inspect_proposal.specs.Proposal.{TellsProposal}
+use Rattle.bs_inspect_netlist.specs.Told.{TellsFlops, TellsInputs}
+use Rattle.bs_inspect_netlist.specs.Sizes.{TellsSizes}
+use Rattle.bs_inspect_report.specs.Steps.{steps_text}
+use Rattle.bs_inspect_report.specs.Trace.{TellsTrace}
 use Rattle.bs_inspect.specs.Usage.{usage_text, version_text}
 use Rattle.bs_inspect.specs.Work.{Work, to_help, to_version, to_flops, to_inputs, to_stats, to_steps, to_trace, to_run, to_wave, to_signature}
 

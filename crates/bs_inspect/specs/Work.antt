@@ -3,11 +3,11 @@ use Rattle.std.specs.Prelude.{ℕ, Bool, List}
 use Rattle.bs_net.specs.Parts.{Parts}
 use Rattle.bs_report.specs.declared.report.Report.{Report}
 use Rattle.bs_request.specs.Request.{Request, Help, Version, Flops, Inputs, Stats, Steps, Trace, Stimulus, Wave, Signature}
-use Rattle.bs_job.specs.Plan.{Plan, end, ◌>>=◌}
-use Rattle.bs_entry.specs.Entry.{netlist_of, report_of}
-use Rattle.bs_entry.specs.Refusals.{Case}
-use Rattle.bs_intake.specs.Taken.{Traced, Exercised, picked_of, charted_of, exercised_of}
-use Rattle.bs_intake.specs.Simulated.{simulated_of}
+use Rattle.bs_top_plan.specs.Plan.{Plan, end, ◌>>=◌}
+use Rattle.bs_top_files.specs.Entry.{netlist_of, report_of}
+use Rattle.bs_top_files.specs.Refusals.{Case}
+use Rattle.bs_inspect_files.specs.Taken.{Traced, Exercised, picked_of, charted_of, exercised_of}
+use Rattle.bs_inspect_files.specs.Simulated.{simulated_of}
 
 -- how words stand, the version, the flip-flops, data inputs or sizes of a netlist, the steps of a report, its trace with the
 -- names of a netlist, a run with these inputs, the waveform of a trace, or a signature of so many items is to be written

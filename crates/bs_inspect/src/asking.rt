@@ -1,7 +1,7 @@
 //! The answer to each request: its files are taken, and what they tell is told.
 ghost use Rattle.std.specs.Prelude.{◌≡◌, Some};
-ghost use Rattle.bs_job.specs.Prepared.{Prepared};
-ghost use Rattle.bs_entry.specs.Refusals.{CheckSays};
+ghost use Rattle.bs_top_plan.specs.Prepared.{Prepared};
+ghost use Rattle.bs_top_files.specs.Refusals.{CheckSays};
 ghost use Rattle.bs_request.specs.Request.{Flops as FlopsOf, Help as HelpOf, Inputs as InputsOf, Signature as SignatureOf, Stats as StatsOf, Steps as StepsOf, Stimulus as StimulusOf, Trace as TraceOf, Version as VersionOf, Wave as WaveOf};
 ghost use Rattle.bs_request.specs.Shown.{request_in, signature_in, stimulus_in, trace_in, wave_in};
 ghost use Rattle.bs_inspect.specs.Finishes.{finishes};
@@ -11,11 +11,13 @@ use crate::telling::{
     tell_flops, tell_inputs, tell_run, tell_signature, tell_stats, tell_steps, tell_trace,
     tell_usage, tell_version, tell_wave,
 };
-use bs_entry::take_netlist;
-use bs_intake::{Sampling, take_charted, take_exercised, take_picked, take_report, take_simulated};
-use bs_job::{Reply, stopped};
+use bs_inspect_files::{
+    Sampling, take_charted, take_exercised, take_picked, take_report, take_simulated,
+};
 use bs_outside::{NoMemory, Shelf};
 use bs_request::{Request, SignatureRequest, StimulusRequest, TraceRequest, WaveRequest};
+use bs_top_files::take_netlist;
+use bs_top_plan::{Reply, stopped};
 use std::alloc::Global;
 
 /// The answer to `flops`.

@@ -1,11 +1,11 @@
 //! The program: all that stands behind the words of its command line, up to the exit code.
 ghost use Rattle.std.specs.Prelude.{◌≡◌, map, string_bytes, IfOk, IfErr};
-ghost use Rattle.bs_job.specs.Statuses.{exit_code};
+ghost use Rattle.bs_top_plan.specs.Statuses.{exit_code};
 ghost use Rattle.bs_inspect.specs.Program.{EndsBy, EndsUnread};
 
 use crate::top::inspect;
-use bs_job::{NO_MEMORY_CODE, Status};
 use bs_outside::{NoMemory, Shelf, Sink};
+use bs_top_plan::{NO_MEMORY_CODE, Status};
 use std::alloc::Global;
 use std::io::ErrorKind;
 

@@ -1,21 +1,21 @@
 //! What is told, as an answer.
 ghost use Rattle.std.specs.Prelude.{◌≡◌, ◌<◌, map, IfOk};
-ghost use Rattle.bs_intake.specs.Taken.{exercised_in, traced_in};
+ghost use Rattle.bs_inspect_files.specs.Taken.{exercised_in, traced_in};
 ghost use Rattle.bs_inspect.specs.Finishes.{finishes};
 ghost use Rattle.bs_inspect.specs.Work.{to_flops, to_help, to_inputs, to_run, to_signature, to_stats, to_steps, to_trace, to_version, to_wave};
 
 use crate::usage::{usage_text, version_text};
 use bs_alias::run_text;
 use bs_bits::{Bits, List};
-use bs_intake::{Exercised, Traced};
-use bs_job::{Reply, Status};
-use bs_listing::{flops_text, inputs_text, stats_text};
+use bs_inspect_files::{Exercised, Traced};
+use bs_inspect_netlist::{flops_text, inputs_text, stats_text};
+use bs_inspect_proposal::proposal_text;
+use bs_inspect_report::{steps_text, trace_text};
+use bs_inspect_view::view_text;
 use bs_net::Netlist;
 use bs_outside::NoMemory;
-use bs_propose::proposal_text;
 use bs_report::Report;
-use bs_story::{steps_text, trace_text};
-use bs_view::view_text;
+use bs_top_plan::{Reply, Status};
 use std::alloc::Global;
 
 /// How words stand.

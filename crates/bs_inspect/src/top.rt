@@ -2,8 +2,8 @@
 ghost use Rattle.std.specs.Prelude.{◌≡◌, ◌≢◌, ℕ, List, Some, map, string_bytes, IfOk, OnErr};
 ghost use Rattle.std.specs.Io.KnownBytes.{Keeps};
 ghost use Rattle.bs_outside.specs.Faults.{Rose};
-ghost use Rattle.bs_job.specs.Clauses.{Answered, AnsweredAsTold, AnsweredWhole, CallByCall, CallsWanting, IsCalm, IsWordsOnlyFor, ReadFaultOf, RefusesFirstOf};
-ghost use Rattle.bs_entry.specs.Refusals.{CheckSays};
+ghost use Rattle.bs_top_plan.specs.Clauses.{Answered, AnsweredAsTold, AnsweredWhole, CallByCall, CallsWanting, IsCalm, IsWordsOnlyFor, ReadFaultOf, RefusesFirstOf};
+ghost use Rattle.bs_top_files.specs.Refusals.{CheckSays};
 ghost use Rattle.bs_request.specs.Request.{request_of};
 ghost use Rattle.bs_request.specs.Shown.{request_in};
 ghost use Rattle.bs_inspect.specs.Answers.{AnswersPlan, AnswersRequest, ShowsUsage};
@@ -13,9 +13,9 @@ ghost use Rattle.bs_inspect.specs.Usage.{usage_text};
 
 use crate::asking::prepare;
 use crate::usage::usage_text;
-use bs_job::{Reply, Status, deliver};
 use bs_outside::{NoMemory, Shelf, Sink};
 use bs_request::{Request, read_request};
+use bs_top_plan::{Reply, Status, deliver};
 use std::alloc::Global;
 
 /// Does what a request asks, and writes what its plan calls for.

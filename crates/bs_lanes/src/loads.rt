@@ -1,12 +1,12 @@
 //! What flip-flops load at a clock edge, in all lanes.
 ghost use Rattle.std.specs.Prelude.{◌≡◌, ◌≤◌, ◌+◌, ◌*◌, not, ◌&&◌, length, All, if◌then◌else◌};
 ghost use Rattle.bs_stim.specs.Packing.{bit_in};
-ghost use Rattle.bs_plane.specs.Planes.{IsPlane};
+ghost use Rattle.bs_lanes_planes.specs.Planes.{IsPlane};
 ghost use Rattle.bs_lanes.specs.Settling.{HasFlop, LoadsAll, lane_loads};
 
 use crate::gates::net_plane;
+use bs_lanes_planes::{inverse, put_plane};
 use bs_net::{Flop, Mode};
-use bs_plane::{inverse, put_plane};
 use std::simd::Simd;
 
 /// In each lane, the bit of one plane where a choice is 1, and that of another where it is 0.

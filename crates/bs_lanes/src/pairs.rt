@@ -3,14 +3,14 @@ ghost use Rattle.std.specs.Prelude.{◌≡◌, ◌<◌, ◌≤◌, ◌+◌, ◌*
 ghost use Rattle.bs_net.specs.Gate.{gate_value};
 ghost use Rattle.bs_net.specs.Steps.{gate_write};
 ghost use Rattle.bs_stim.specs.Packing.{bit_in};
-ghost use Rattle.bs_plane.specs.Planes.{bit_place, IsPlane};
+ghost use Rattle.bs_lanes_planes.specs.Planes.{bit_place, IsPlane};
 ghost use Rattle.bs_lanes.specs.Settling.{RunsAll};
 ghost use Rattle.bs_lanes.specs.Program.{pair_gates, HasGate};
 ghost use Rattle.bs_lanes.specs.Pairs.{IsMixed, IsTable};
 
 use crate::gates::splat_of;
+use bs_lanes_planes::{plane_at, put_plane};
 use bs_net::Kind;
-use bs_plane::{plane_at, put_plane};
 use std::simd::Simd;
 
 /// The inputs of a gate of two inputs, by the places of their planes.

@@ -4,8 +4,8 @@ ghost use Rattle.bs_lanes.specs.Lanes.{is_wide};
 
 use bs_bits::NoMemory;
 use bs_lanes::Lanes;
+use bs_lanes_planes::Planes;
 use bs_net::Netlist;
-use bs_plane::Planes;
 use std::alloc::Global;
 use std::test::Fail;
 

@@ -22,12 +22,12 @@ use Rattle.bs_scan.specs.Present.{Present}
 use Rattle.bs_report.specs.declared.report.Step.{Step}
 use Rattle.bs_report.specs.declared.report.Budgets.{Budgets}
 use Rattle.bs_report.specs.declared.report.Report.{Report}
-use Rattle.bs_good.proofs.LoggedLemmas.{good_is_valid}
-use Rattle.bs_good.specs.Chain.{present_of}
-use Rattle.bs_good.specs.Trace.{IsTrace}
-use Rattle.bs_good.specs.Stop.{StopsFor}
-use Rattle.bs_good.specs.Good.{IsGood}
-use Rattle.bs_good.specs.Valid.{finishes_in, is_right_finish, IsLogged, IsValid}
+use Rattle.bs_report_good.proofs.LoggedLemmas.{good_is_valid}
+use Rattle.bs_report_good.specs.Chain.{present_of}
+use Rattle.bs_report_good.specs.Trace.{IsTrace}
+use Rattle.bs_report_good.specs.Stop.{StopsFor}
+use Rattle.bs_report_good.specs.Good.{IsGood}
+use Rattle.bs_report_good.specs.Valid.{finishes_in, is_right_finish, IsLogged, IsValid}
 use Rattle.bs_preimage.specs.Preimage.{PreimageState}
 use Rattle.bs_loop.specs.Made.{encoding_in, guard_at, IsLoggedStep}
 use Rattle.bs_loop.specs.Bound.{HasBound}

@@ -23,10 +23,10 @@ use Rattle.bs_report.specs.declared.report.ListEnd.TheVariants.{Conflicts}
 use Rattle.bs_report.specs.declared.report.Step.{Step}
 use Rattle.bs_report.specs.declared.report.Budgets.{Budgets}
 use Rattle.bs_report.specs.Text.{IsOfDepth}
-use Rattle.bs_good.specs.Step.{IsRightStep}
-use Rattle.bs_good.specs.Chain.{present_of}
-use Rattle.bs_good.specs.Valid.{HaveBefores, blocks_due, are_right_blocks, blocks_in, is_right_finish, finishes_in}
-use Rattle.bs_good.proofs.LoopLemmas.{follow_more}
+use Rattle.bs_report_good.specs.Step.{IsRightStep}
+use Rattle.bs_report_good.specs.Chain.{present_of}
+use Rattle.bs_report_good.specs.Valid.{HaveBefores, blocks_due, are_right_blocks, blocks_in, is_right_finish, finishes_in}
+use Rattle.bs_report_good.proofs.LoopLemmas.{follow_more}
 use Rattle.bs_preimage.specs.declared.listing.Listing.{Listing}
 use Rattle.bs_preimage.specs.Preimage.{PreimageState, next_guard}
 use Rattle.bs_preimage.specs.Listed.{HasListed}

@@ -15,9 +15,9 @@ use Rattle.bs_scan.proofs.CrashLemmas.{dump_at_fits, present_at}
 use Rattle.bs_chip.specs.declared.replay.Hit.{Hit}
 use Rattle.bs_report.specs.declared.report.Cand.{Cand}
 use Rattle.bs_report.specs.declared.report.HitLine.{HitLine}
-use Rattle.bs_good.specs.Step.{listed, hit_of, IsCandidate}
-use Rattle.bs_good.specs.Chain.{present_of_hit}
-use Rattle.bs_good.proofs.ExecutionLemmas.{led_widths}
+use Rattle.bs_report_good.specs.Step.{listed, hit_of, IsCandidate}
+use Rattle.bs_report_good.specs.Chain.{present_of_hit}
+use Rattle.bs_report_good.proofs.ExecutionLemmas.{led_widths}
 use Rattle.bs_loop.specs.Turn.{line_of, HasItsDump}
 
 -- the dump of a hit fits the chip

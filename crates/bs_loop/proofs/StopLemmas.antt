@@ -16,8 +16,8 @@ use Rattle.bs_report.specs.declared.report.Stop.{Stop}
 use Rattle.bs_report.specs.declared.report.Stop.TheVariants.{Reset, Length, Nohit, Empty}
 use Rattle.bs_report.specs.declared.report.Budgets.{Budgets}
 use Rattle.bs_scan.specs.Crash.{Crash}
-use Rattle.bs_good.specs.Stop.{IsFinished, LastIs, StopsFor}
-use Rattle.bs_good.specs.Valid.{cause_of_end}
+use Rattle.bs_report_good.specs.Stop.{IsFinished, LastIs, StopsFor}
+use Rattle.bs_report_good.specs.Valid.{cause_of_end}
 use Rattle.bs_loop.specs.Made.{StandsAt}
 
 last_more : (o : Option Step) (steps : List Step) (step : Step) → last_or o (steps ++ step ∷ []) ≡ Some step

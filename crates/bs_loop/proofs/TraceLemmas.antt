@@ -13,10 +13,10 @@ use Rattle.bs_report.specs.declared.report.HitLine.{HitLine}
 use Rattle.bs_report.specs.declared.report.Step.{Step}
 use Rattle.bs_report.specs.declared.report.Report.{Report}
 use Rattle.bs_scan.specs.Crash.{Crash}
-use Rattle.bs_good.specs.Step.{listed, IsRightStep}
-use Rattle.bs_good.specs.Trace.{hit_state, input_for}
-use Rattle.bs_good.specs.Good.{IsGood}
-use Rattle.bs_good.proofs.ProgressLemmas.{hit_at}
+use Rattle.bs_report_good.specs.Step.{listed, IsRightStep}
+use Rattle.bs_report_good.specs.Trace.{hit_state, input_for}
+use Rattle.bs_report_good.specs.Good.{IsGood}
+use Rattle.bs_report_good.proofs.ProgressLemmas.{hit_at}
 
 record Found (cands : List Cand) (s : List Bool) : Type 0 where
   cand : Cand

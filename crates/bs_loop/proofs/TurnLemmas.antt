@@ -9,7 +9,7 @@ use Rattle.bs_chip.specs.declared.replay.Hit.{Hit}
 use Rattle.bs_report.specs.declared.report.Step.{Step}
 use Rattle.bs_report.specs.declared.report.Stop.{Stop}
 use Rattle.bs_report.specs.declared.report.Budgets.{Budgets}
-use Rattle.bs_good.specs.Valid.{cause_of_end}
+use Rattle.bs_report_good.specs.Valid.{cause_of_end}
 use Rattle.bs_preimage.specs.declared.listing.Listing.{Listing}
 use Rattle.bs_preimage.specs.Preimage.{PreimageState}
 use Rattle.bs_loop.specs.Turn.{step_of, HasLookedBack, HasStepped, HasStopped}

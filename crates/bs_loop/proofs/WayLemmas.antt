@@ -15,11 +15,11 @@ use Rattle.bs_report.specs.declared.report.Stop.{Stop}
 use Rattle.bs_report.specs.declared.report.Stop.TheVariants.{Reset, Length}
 use Rattle.bs_report.specs.declared.report.Budgets.{Budgets}
 use Rattle.bs_report.specs.Text.{IsOfDepth}
-use Rattle.bs_good.specs.Step.{IsRightStep}
-use Rattle.bs_good.specs.Valid.{HaveBefores}
-use Rattle.bs_good.specs.Chain.{present_of_hit, present_after}
-use Rattle.bs_good.specs.Stop.{StopsFor}
-use Rattle.bs_good.proofs.LoopLemmas.{last_present_more}
+use Rattle.bs_report_good.specs.Step.{IsRightStep}
+use Rattle.bs_report_good.specs.Valid.{HaveBefores}
+use Rattle.bs_report_good.specs.Chain.{present_of_hit, present_after}
+use Rattle.bs_report_good.specs.Stop.{StopsFor}
+use Rattle.bs_report_good.proofs.LoopLemmas.{last_present_more}
 use Rattle.bs_preimage.specs.Preimage.{PreimageState, fresh}
 use Rattle.bs_loop.specs.Budget.{IsBudget}
 use Rattle.bs_loop.specs.Made.{HasMade}

@@ -11,8 +11,8 @@ use Rattle.bs_report.specs.declared.report.Step.{Step}
 use Rattle.bs_report.specs.declared.report.Stop.{Stop}
 use Rattle.bs_report.specs.declared.report.Stop.TheVariants.{Reset}
 use Rattle.bs_report.specs.declared.report.Budgets.{Budgets}
-use Rattle.bs_good.specs.Step.{hit_of}
-use Rattle.bs_good.specs.Valid.{cause_of_end}
+use Rattle.bs_report_good.specs.Step.{hit_of}
+use Rattle.bs_report_good.specs.Valid.{cause_of_end}
 use Rattle.bs_preimage.specs.declared.listing.Listing.{Listing}
 use Rattle.bs_preimage.specs.Preimage.{PreimageState}
 use Rattle.bs_preimage.specs.Listed.{HasListed}

@@ -3,7 +3,7 @@ ghost use Rattle.std.specs.Prelude.{◌≡◌, ◌<◌, ◌∷◌, ◌++◌, [],
 ghost use Rattle.std.specs.Option.{option_to_list};
 ghost use Rattle.bs_scan.specs.Crash.{DumpFits};
 ghost use Rattle.bs_scan.specs.Dump.{signatures_of};
-ghost use Rattle.bs_good.specs.Valid.{cause_of_end};
+ghost use Rattle.bs_report_good.specs.Valid.{cause_of_end};
 ghost use Rattle.bs_loop.specs.Budget.{IsBudget};
 ghost use Rattle.bs_loop.specs.Turn.{line_of, step_of, HasLookedBack, HasStepped, HasStopped};
 

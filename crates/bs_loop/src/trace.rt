@@ -1,6 +1,6 @@
 //! The trace of a backtrace: the way from the last hit to the dump.
 ghost use Rattle.std.specs.Prelude.{◌≡◌, IfOk, option_and_then};
-ghost use Rattle.bs_good.specs.Trace.{hit_state, input_for, trace_inputs, trace_states};
+ghost use Rattle.bs_report_good.specs.Trace.{hit_state, input_for, trace_inputs, trace_states};
 
 use bs_bits::{Bits, List, NoMemory};
 use bs_report::Step;

@@ -1,9 +1,9 @@
 //! The modules of a text, or its refusal.
 use bs_bits::{NoMemory, push_number, push_piece};
-use bs_flat::FlatFault;
-use bs_lexeme::lexemes;
-use bs_modules::{Modules, read_modules};
-use bs_syntax::VerilogFault;
+use bs_flat_meaning::FlatFault;
+use bs_flat_modules::{Modules, read_modules};
+use bs_verilog_lexemes::lexemes;
+use bs_verilog_syntax::VerilogFault;
 use std::alloc::Global;
 use std::test::Fail;
 

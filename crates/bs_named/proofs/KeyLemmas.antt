@@ -11,11 +11,11 @@ use Rattle.bs_lex.specs.Bytes.{is_graphic}
 use Rattle.bs_verilog.specs.Law.{AreNames}
 use Rattle.bs_verilog.proofs.NamedLemmas.{IsNamed, PartsNamed, named, named_append, visible_append}
 use Rattle.bs_verilog.proofs.SpellingLemmas.{IsVisible}
-use Rattle.bs_flat.specs.Design.{Design, Instance, Module, Path, PathNet, instance_in, module_at, module_in, no_instance, no_module, own, path_nets}
-use Rattle.bs_flat.specs.Flat.{bit_of, flat_key, flat_nets, flat_parts, home, key_below, path_text}
-use Rattle.bs_flat.specs.Meaning.{is_same}
-use Rattle.bs_flat.proofs.MemberLemmas.{Member, all_of, filtered, mapped, ranged}
-use Rattle.bs_flat.proofs.RootLemmas.{on_of}
+use Rattle.bs_flat_meaning.specs.Design.{Design, Instance, Module, Path, PathNet, instance_in, module_at, module_in, no_instance, no_module, own, path_nets}
+use Rattle.bs_flat_meaning.specs.Flat.{bit_of, flat_key, flat_nets, flat_parts, home, key_below, path_text}
+use Rattle.bs_flat_meaning.specs.Meaning.{is_same}
+use Rattle.bs_flat_meaning.proofs.MemberLemmas.{Member, all_of, filtered, mapped, ranged}
+use Rattle.bs_flat_meaning.proofs.RootLemmas.{on_of}
 
 -- ---- texts
 

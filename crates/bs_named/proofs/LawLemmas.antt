@@ -8,31 +8,31 @@ use Rattle.bs_net.specs.declared.limits.TheConstants.{MAX_NETS}
 use Rattle.bs_net.specs.Parts.{Parts}
 use Rattle.bs_lex.specs.declared.token.Token.{Token}
 use Rattle.bs_lex.specs.Tokens.{tokens_of}
-use Rattle.bs_lexeme.specs.Lexemes.{lexemes_of, names_of}
-use Rattle.bs_syntax.specs.declared.fault.VerilogFault.{VerilogFault}
-use Rattle.bs_syntax.specs.declared.fault.VerilogFault.TheVariants.{Syntax}
-use Rattle.bs_syntax.specs.declared.tree.Module as code
-use Rattle.bs_syntax.specs.declared.tree.Says.{Says}
-use Rattle.bs_syntax.specs.declared.tree.Term.{Term}
-use Rattle.bs_syntax.specs.declared.tree.Term.TheVariants.{Constant, Named}
-use Rattle.bs_syntax.specs.Modules.{syntax_of}
-use Rattle.bs_syntax.specs.Reading.{Rest}
-use Rattle.bs_scope.specs.Keys.{constant_key, scalar_key, text}
+use Rattle.bs_verilog_lexemes.specs.Lexemes.{lexemes_of, names_of}
+use Rattle.bs_verilog_syntax.specs.declared.fault.VerilogFault.{VerilogFault}
+use Rattle.bs_verilog_syntax.specs.declared.fault.VerilogFault.TheVariants.{Syntax}
+use Rattle.bs_verilog_syntax.specs.declared.tree.Module as code
+use Rattle.bs_verilog_syntax.specs.declared.tree.Says.{Says}
+use Rattle.bs_verilog_syntax.specs.declared.tree.Term.{Term}
+use Rattle.bs_verilog_syntax.specs.declared.tree.Term.TheVariants.{Constant, Named}
+use Rattle.bs_verilog_syntax.specs.Modules.{syntax_of}
+use Rattle.bs_verilog_syntax.specs.Reading.{Rest}
+use Rattle.bs_verilog_scope.specs.Keys.{constant_key, scalar_key, text}
 use Rattle.bs_verilog.specs.Building.{has_key}
 use Rattle.bs_verilog.specs.Netlist.{meaning_of, netlist_text}
 use Rattle.bs_verilog.proofs.NamedLemmas.{PartsNamed, constant_named, key_more, module_named, nets_are_named, scalar_named, text_visible}
 use Rattle.bs_verilog.proofs.SpellingLemmas.{IsVisible, IsVisibleToken, table_is_visible, text_is_visible}
-use Rattle.bs_flat.specs.declared.fault.FlatFault.{FlatFault}
-use Rattle.bs_flat.specs.declared.fault.FlatFault.TheVariants.{Connect, FlatDepth, FlatKeys, FlatNets, FlatParts, Tops, Twice}
-use Rattle.bs_flat.specs.declared.limits.TheConstants.{MAX_KEY_BYTES, MAX_PARTS}
-use Rattle.bs_flat.specs.declared.statements.Written.{Written}
-use Rattle.bs_flat.specs.Connecting.{ReadModule, scope_of, whole_parts, with_term, with_terms}
-use Rattle.bs_flat.specs.Design.{Design, Instance, Module}
-use Rattle.bs_flat.specs.Flat.{flat_parts}
-use Rattle.bs_flat.specs.Pieces.{Piece, modules_of, own_text}
-use Rattle.bs_flat.specs.Reading.{◌then◌, Answer, ringed, plain, AnswerFor, IsAnswer, TokensAnswer, all_of, as_verilog, clash_in, clashing, connect_fault, connected_modules}
-use Rattle.bs_flat.specs.Reading.{elaborated, first_of, first_top, flattened, gathered, instance_of, is_deep, limited, module_from, no_fault, part_count}
-use Rattle.bs_flat.specs.Reading.{read_modules, read_own, read_written, second_instance, second_module, tops}
+use Rattle.bs_flat_meaning.specs.declared.fault.FlatFault.{FlatFault}
+use Rattle.bs_flat_meaning.specs.declared.fault.FlatFault.TheVariants.{Connect, FlatDepth, FlatKeys, FlatNets, FlatParts, Tops, Twice}
+use Rattle.bs_flat_meaning.specs.declared.limits.TheConstants.{MAX_KEY_BYTES, MAX_PARTS}
+use Rattle.bs_flat_meaning.specs.declared.statements.Written.{Written}
+use Rattle.bs_flat_meaning.specs.Connecting.{ReadModule, scope_of, whole_parts, with_term, with_terms}
+use Rattle.bs_flat_meaning.specs.Design.{Design, Instance, Module}
+use Rattle.bs_flat_meaning.specs.Flat.{flat_parts}
+use Rattle.bs_flat_meaning.specs.Pieces.{Piece, modules_of, own_text}
+use Rattle.bs_flat_meaning.specs.Reading.{◌then◌, Answer, ringed, plain, AnswerFor, IsAnswer, TokensAnswer, all_of, as_verilog, clash_in, clashing, connect_fault, connected_modules}
+use Rattle.bs_flat_meaning.specs.Reading.{elaborated, first_of, first_top, flattened, gathered, instance_of, is_deep, limited, module_from, no_fault, part_count}
+use Rattle.bs_flat_meaning.specs.Reading.{read_modules, read_own, read_written, second_instance, second_module, tops}
 use Rattle.bs_named.specs.Law.{FlatNetsAreNamed}
 use Rattle.bs_named.proofs.KeyLemmas.{IsNamedModule, design_named}
 
@@ -115,7 +115,7 @@ module _ (table : List (List ℕ)) (v : All IsVisible table) where
     where
       by : (o : Option Says) → PartsNamed (elim o as (λ _. Parts) [
         | Some s ↦ parts
-        | None ↦ Rattle.bs_flat.specs.Connecting.with_net parts (scalar_key (text table n))
+        | None ↦ Rattle.bs_flat_meaning.specs.Connecting.with_net parts (scalar_key (text table n))
       ])
       by (Some s) = h
       by None = key_more parts.names (scalar_key (text table n)) h (scalar_named (text table n) (text_visible table n v))

@@ -2,7 +2,7 @@
 use Rattle.std.specs.Prelude.{ℕ, List, Ok}
 use Rattle.bs_net.specs.Parts.{Parts}
 use Rattle.bs_verilog.specs.Law.{AreNames}
-use Rattle.bs_flat.specs.Reading.{IsAnswer}
+use Rattle.bs_flat_meaning.specs.Reading.{IsAnswer}
 
 -- what a text is answered with has names of one or more bytes 33 to 126 alone
 abbrev pub FlatNetsAreNamed : Type 0

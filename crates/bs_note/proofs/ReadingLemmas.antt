@@ -8,26 +8,26 @@ use Rattle.bs_net.specs.Check.{IsFault, Passes}
 use Rattle.bs_net.specs.declared.fault.NetFault.{NetFault}
 use Rattle.bs_net.specs.declared.fault.NetFault.TheVariants as net
 use Rattle.bs_net.proofs.CallerLemmas.{passes_is, refused_fails}
-use Rattle.bs_job.specs.declared.file.File.{File}
-use Rattle.bs_job.specs.declared.walk.Refusal.{Refusal}
-use Rattle.bs_job.specs.declared.walk.Refusal.TheVariants as Q
-use Rattle.bs_job.specs.Plan.{Reason, exactly, any_of, Says}
-use Rattle.bs_job.specs.Walks.{Reads}
-use Rattle.bs_refusal.specs.Checks.{IsCheckNote}
-use Rattle.bs_refusal.specs.Kinds.{mistaken_text}
+use Rattle.bs_top_plan.specs.declared.file.File.{File}
+use Rattle.bs_top_plan.specs.declared.walk.Refusal.{Refusal}
+use Rattle.bs_top_plan.specs.declared.walk.Refusal.TheVariants as Q
+use Rattle.bs_top_plan.specs.Plan.{Reason, exactly, any_of, Says}
+use Rattle.bs_top_plan.specs.Walks.{Reads}
+use Rattle.bs_note_files.specs.Checks.{IsCheckNote}
+use Rattle.bs_note_files.specs.Kinds.{mistaken_text}
 use Rattle.bs_note.specs.Cases.{Case, in_netlist, in_ring, in_check, NoteSays, told_as, noted_as, HasNote}
 use Rattle.bs_net.specs.Netlist.{circuit_of}
 use Rattle.bs_encode.specs.Transition.{variables}
-use Rattle.bs_entry.specs.Refusals.{CheckSays, TextFault, with_one, Case as Refused, in_rings}
-use Rattle.bs_entry.specs.Readings.{text_in}
-use Rattle.bs_entry.proofs.TextLemmas.{IsRightFault, right_parts, right_faults}
-use Rattle.bs_flat.specs.declared.fault.FlatFault.{FlatFault}
-use Rattle.bs_flat.specs.declared.fault.FlatFault.TheVariants as flat
-use Rattle.bs_flat.specs.Reading.{IsAnswer}
-use Rattle.bs_job.specs.declared.file.File.TheVariants as files
-use Rattle.bs_refusal.specs.Kinds.{mistaken}
+use Rattle.bs_top_files.specs.Refusals.{CheckSays, TextFault, with_one, Case as Refused, in_rings}
+use Rattle.bs_top_files.specs.Readings.{text_in}
+use Rattle.bs_top_files.proofs.TextLemmas.{IsRightFault, right_parts, right_faults}
+use Rattle.bs_flat_meaning.specs.declared.fault.FlatFault.{FlatFault}
+use Rattle.bs_flat_meaning.specs.declared.fault.FlatFault.TheVariants as flat
+use Rattle.bs_flat_meaning.specs.Reading.{IsAnswer}
+use Rattle.bs_top_plan.specs.declared.file.File.TheVariants as files
+use Rattle.bs_note_files.specs.Kinds.{mistaken}
 use Rattle.bs_target.specs.Target.{room_in, state_in}
-use Rattle.bs_told.specs.Searches.{room_text, state_text}
+use Rattle.bs_note_calls.specs.Searches.{room_text, state_text}
 use Rattle.bs_note.specs.Readings.{checked_noted, netlist_noted, netlist_reason, parsed_noted, room_noted, said_by, state_noted}
 
 -- a note that was made is the refusal's

@@ -3,7 +3,7 @@ use Rattle.std.proofs.Common.{◌≡◌, ◌⊎◌, inl, inr, ℕ, Bool, true, f
 use Rattle.std.specs.Prelude.{IfOk}
 use Rattle.std.specs.declared.alloc.Global.{Global}
 use Rattle.bs_bits.specs.declared.memory.NoMemory.{NoMemory}
-use Rattle.bs_told.specs.Faults.{want_text}
+use Rattle.bs_note_calls.specs.Faults.{want_text}
 use Rattle.bs_note.specs.Saying.{Output, PutsNote, PutsText, IsMade, SaysIf}
 
 -- a note that was made and says this is put

@@ -8,14 +8,14 @@ use Rattle.std.proofs.lemmas.List.{append-nil}
 use Rattle.std.proofs.lemmas.List.Sums.{sum_by-append}
 use Rattle.std.specs.Prelude.{sum_by}
 use Rattle.bs_stim.specs.Runs.{Recorded, no_run}
-use Rattle.bs_words.specs.Job.{Job}
-use Rattle.bs_job.specs.declared.walk.JobFault.{JobFault}
-use Rattle.bs_job.specs.declared.walk.JobFault.TheVariants.{NoMemory, Faulted, Refused}
+use Rattle.bs_top_words.specs.Job.{Job}
+use Rattle.bs_top_plan.specs.declared.walk.JobFault.{JobFault}
+use Rattle.bs_top_plan.specs.declared.walk.JobFault.TheVariants.{NoMemory, Faulted, Refused}
 use Rattle.bs_outside.specs.Calls.{FetchCall}
-use Rattle.bs_job.specs.Plan.{Tells, Counts, ready, refused, faulted}
-use Rattle.bs_job.specs.Walks.{Walks, WalksTo}
-use Rattle.bs_told.specs.declared.told.Told.{Told}
-use Rattle.bs_told.specs.Stops.{stop_text}
+use Rattle.bs_top_plan.specs.Plan.{Tells, Counts, ready, refused, faulted}
+use Rattle.bs_top_plan.specs.Walks.{Walks, WalksTo}
+use Rattle.bs_note_calls.specs.declared.told.Told.{Told}
+use Rattle.bs_note_calls.specs.Stops.{stop_text}
 use Rattle.bs_note.specs.declared.walk.Setup.{Setup as CodeSetup}
 use Rattle.bs_note.specs.Cases.{NoteSays}
 use Rattle.bs_note.specs.Files.{Names, names_of}

@@ -4,13 +4,13 @@ use Rattle.std.specs.Prelude.{IfOk}
 use Rattle.std.specs.declared.alloc.Global.{Global}
 use Rattle.bs_bits.specs.declared.memory.NoMemory.{NoMemory as NoMem}
 use Rattle.bs_outside.specs.Calls.{FetchCall}
-use Rattle.bs_words.specs.Job.{Job}
-use Rattle.bs_job.specs.declared.walk.JobFault.{JobFault}
-use Rattle.bs_job.specs.declared.walk.JobFault.TheVariants.{NoMemory, Faulted, Refused}
-use Rattle.bs_job.specs.Plan.{Tells, Counts, Plan, end, ready, refused, faulted}
-use Rattle.bs_job.specs.Walks.{Walks, WalksTo}
-use Rattle.bs_job.proofs.Walking.{walks_end}
-use Rattle.bs_told.specs.Faults.{order_text}
+use Rattle.bs_top_words.specs.Job.{Job}
+use Rattle.bs_top_plan.specs.declared.walk.JobFault.{JobFault}
+use Rattle.bs_top_plan.specs.declared.walk.JobFault.TheVariants.{NoMemory, Faulted, Refused}
+use Rattle.bs_top_plan.specs.Plan.{Tells, Counts, Plan, end, ready, refused, faulted}
+use Rattle.bs_top_plan.specs.Walks.{Walks, WalksTo}
+use Rattle.bs_top_plan.proofs.Walking.{walks_end}
+use Rattle.bs_note_calls.specs.Faults.{order_text}
 use Rattle.bs_note.specs.Cases.{Case, NoteSays}
 use Rattle.bs_note.specs.Files.{Names, names_of}
 use Rattle.bs_note.specs.Looking.{looked_of, IsEndNote, IsJobNote, IsFilesNote, IsKept}

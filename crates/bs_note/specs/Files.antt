@@ -1,8 +1,8 @@
 -- The names of the files of a job.
 use Rattle.std.specs.Prelude.{List, [], ℕ}
-use Rattle.bs_words.specs.Job.{Job, Run, Audit, Dump as Moment, Demo, Wave, Reach}
-use Rattle.bs_job.specs.declared.file.File.{File}
-use Rattle.bs_job.specs.declared.file.File.TheVariants as files
+use Rattle.bs_top_words.specs.Job.{Job, Run, Audit, Dump as Moment, Demo, Wave, Reach}
+use Rattle.bs_top_plan.specs.declared.file.File.{File}
+use Rattle.bs_top_plan.specs.declared.file.File.TheVariants as files
 
 pub record Names : Type 0 where
   pub netlist : List ℕ

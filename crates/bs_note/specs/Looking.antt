@@ -10,20 +10,20 @@ use Rattle.bs_scan.specs.declared.dump.Dump.{Dump}
 use Rattle.bs_report.specs.declared.report.Report.{Report}
 use Rattle.bs_report.specs.declared.report.Stop.{Stop}
 use Rattle.bs_report.specs.declared.report.Stop.TheVariants as S
-use Rattle.bs_words.specs.Job.{Job, Run, Audit, Dump as Moment, Demo, Wave, Reach}
+use Rattle.bs_top_words.specs.Job.{Job, Run, Audit, Dump as Moment, Demo, Wave, Reach}
 use Rattle.bs_outside.specs.Calls.{FetchCall, InTurn}
-use Rattle.bs_job.specs.declared.file.File.{File}
-use Rattle.bs_job.specs.declared.file.File.TheVariants as files
-use Rattle.bs_job.specs.declared.walk.JobFault.{JobFault}
-use Rattle.bs_job.specs.declared.walk.JobFault.TheVariants.{NoMemory, Faulted, Refused}
-use Rattle.bs_job.specs.Plan.{Tells, Counts, Says, Plan, end, ◌>>=◌, fetched, read_as, Outcome, ready, refused, faulted, Ends}
-use Rattle.bs_entry.specs.Entry.{Setup}
-use Rattle.bs_refusal.specs.Notes.{plain_text}
-use Rattle.bs_told.specs.Faults.{IsUnreadNote, long_text, order_text}
-use Rattle.bs_told.specs.Stops.{stop_text}
-use Rattle.bs_told.specs.Searches.{miss_text}
-use Rattle.bs_told.specs.declared.told.Miss.{Miss}
-use Rattle.bs_told.specs.declared.told.Told.{Told}
+use Rattle.bs_top_plan.specs.declared.file.File.{File}
+use Rattle.bs_top_plan.specs.declared.file.File.TheVariants as files
+use Rattle.bs_top_plan.specs.declared.walk.JobFault.{JobFault}
+use Rattle.bs_top_plan.specs.declared.walk.JobFault.TheVariants.{NoMemory, Faulted, Refused}
+use Rattle.bs_top_plan.specs.Plan.{Tells, Counts, Says, Plan, end, ◌>>=◌, fetched, read_as, Outcome, ready, refused, faulted, Ends}
+use Rattle.bs_top_files.specs.Entry.{Setup}
+use Rattle.bs_note_files.specs.Notes.{plain_text}
+use Rattle.bs_note_calls.specs.Faults.{IsUnreadNote, long_text, order_text}
+use Rattle.bs_note_calls.specs.Stops.{stop_text}
+use Rattle.bs_note_calls.specs.Searches.{miss_text}
+use Rattle.bs_note_calls.specs.declared.told.Miss.{Miss}
+use Rattle.bs_note_calls.specs.declared.told.Told.{Told}
 use Rattle.bs_note.specs.declared.walk.Setup.{Setup as CodeSetup}
 use Rattle.bs_note.specs.Cases.{Case, NoteSays}
 use Rattle.bs_note.specs.Files.{Names, name_of, names_of}

@@ -13,14 +13,14 @@ use Rattle.bs_stim.specs.Runs.{Stimulus}
 use Rattle.bs_stim.specs.StimulusText.{stimulus_of}
 use Rattle.bs_report.specs.Reading.{report_in}
 use Rattle.bs_report.specs.declared.report.Report.{Report}
-use Rattle.bs_job.specs.declared.file.File.TheVariants as files
-use Rattle.bs_job.specs.Plan.{Reason, exactly, any_of}
-use Rattle.bs_entry.specs.Refusals.{TextFault, with_one, in_rings}
-use Rattle.bs_entry.specs.Readings.{choice_in, has_moment, is_drawable, text_in}
-use Rattle.bs_refusal.specs.declared.dump.Widths.{Widths}
-use Rattle.bs_refusal.specs.Kinds.{mistaken}
-use Rattle.bs_told.specs.Faults.{large_text, range_text}
-use Rattle.bs_told.specs.Searches.{room_text, state_text}
+use Rattle.bs_top_plan.specs.declared.file.File.TheVariants as files
+use Rattle.bs_top_plan.specs.Plan.{Reason, exactly, any_of}
+use Rattle.bs_top_files.specs.Refusals.{TextFault, with_one, in_rings}
+use Rattle.bs_top_files.specs.Readings.{choice_in, has_moment, is_drawable, text_in}
+use Rattle.bs_note_files.specs.declared.dump.Widths.{Widths}
+use Rattle.bs_note_files.specs.Kinds.{mistaken}
+use Rattle.bs_note_calls.specs.Faults.{large_text, range_text}
+use Rattle.bs_note_calls.specs.Searches.{room_text, state_text}
 use Rattle.bs_encode.specs.Transition.{variables}
 use Rattle.bs_target.specs.Target.{room_in, state_in}
 use Rattle.bs_note.specs.Cases.{Case, in_netlist, in_ring, in_check, in_signature, in_stimulus, in_dump, in_report, told_as}

@@ -6,14 +6,14 @@ use Rattle.bs_bits.specs.declared.memory.NoMemory.{NoMemory}
 use Rattle.bs_outside.specs.declared.sink.Put.{Put}
 use Rattle.bs_outside.specs.Calls.{PutCall, put_call}
 use Rattle.bs_outside.specs.Putting.{Puts}
-use Rattle.bs_words.specs.Job.{Job, job_of}
-use Rattle.bs_job.specs.Plan.{Tells, Counts}
-use Rattle.bs_told.specs.declared.topic.Outcome.{Outcome}
-use Rattle.bs_told.specs.declared.topic.Topic.{Topic}
-use Rattle.bs_told.specs.declared.topic.Topic.TheVariants as T
-use Rattle.bs_told.specs.Faults.{IsOutputNote, memory_text, rejected_text, want_text}
-use Rattle.bs_told.specs.Topics.{topic_of}
-use Rattle.bs_told.specs.Words.{IsWordsNote, unread_text}
+use Rattle.bs_top_words.specs.Job.{Job, job_of}
+use Rattle.bs_top_plan.specs.Plan.{Tells, Counts}
+use Rattle.bs_note_calls.specs.declared.topic.Outcome.{Outcome}
+use Rattle.bs_note_calls.specs.declared.topic.Topic.{Topic}
+use Rattle.bs_note_calls.specs.declared.topic.Topic.TheVariants as T
+use Rattle.bs_note_calls.specs.Faults.{IsOutputNote, memory_text, rejected_text, want_text}
+use Rattle.bs_note_calls.specs.Topics.{topic_of}
+use Rattle.bs_note_calls.specs.Words.{IsWordsNote, unread_text}
 use Rattle.bs_note.specs.Looking.{IsFilesNote, IsEndingNote}
 
 -- ---- what is said

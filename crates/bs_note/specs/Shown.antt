@@ -1,7 +1,7 @@
 -- What the code has read, as the definitions see it.
 use Rattle.bs_note.specs.declared.walk.Names.{Names as CodeNames}
 use Rattle.bs_note.specs.declared.walk.Setup.{Setup as CodeSetup}
-use Rattle.bs_entry.specs.Entry.{Setup}
+use Rattle.bs_top_files.specs.Entry.{Setup}
 use Rattle.bs_note.specs.Files.{Names}
 
 abbrev pub names_in : CodeNames → Names

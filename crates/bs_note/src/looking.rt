@@ -1,7 +1,7 @@
 //! The note on the files of a job, which are looked at once more.
 ghost use Rattle.std.specs.Prelude.{◌≡◌, map, string_bytes, IfOk};
-ghost use Rattle.bs_words.specs.Job.{job_of};
-ghost use Rattle.bs_words.specs.Shown.{job_in};
+ghost use Rattle.bs_top_words.specs.Job.{job_of};
+ghost use Rattle.bs_top_words.specs.Shown.{job_in};
 ghost use Rattle.bs_note.specs.Files.{name_of};
 ghost use Rattle.bs_note.specs.Looking.{IsEndNote, IsFilesNote, IsJobNote, IsKept, refused_text};
 ghost use Rattle.bs_note.specs.Saying.{job_given};
@@ -9,10 +9,10 @@ ghost use Rattle.bs_note.specs.Shown.{names_in};
 
 use crate::walk::{Names, look, names_of};
 use bs_bits::NoMemory;
-use bs_job::{File, JobFault};
+use bs_note_calls::{Causes, long_note, order_note, unread_note};
 use bs_outside::Shelf;
-use bs_told::{Causes, long_note, order_note, unread_note};
-use bs_words::{Job, read_words};
+use bs_top_plan::{File, JobFault};
+use bs_top_words::{Job, read_words};
 use std::alloc::Global;
 use std::io::ErrorKind;
 

@@ -5,39 +5,39 @@ ghost use Rattle.bs_net.specs.Netlist.{parts_of};
 ghost use Rattle.bs_scan.specs.declared.fault.ChoiceFault.TheVariants.{NoMemory as ChoiceWant};
 ghost use Rattle.bs_scan.specs.declared.fault.DumpFault.TheVariants.{NoMemory as DumpWant};
 ghost use Rattle.bs_stim.specs.declared.fault.StimFault.TheVariants.{NoMemory as StimWant};
-ghost use Rattle.bs_flat.specs.declared.fault.FlatFault.TheVariants.{NoMemory as TextWant};
+ghost use Rattle.bs_flat_meaning.specs.declared.fault.FlatFault.TheVariants.{NoMemory as TextWant};
 ghost use Rattle.bs_report.specs.declared.fault.ReportFault.TheVariants.{NoMemory as ReportWant};
-ghost use Rattle.bs_job.specs.declared.file.File.TheVariants as files;
-ghost use Rattle.bs_job.specs.declared.limits.TheConstants.{MAX_NETLIST_BYTES, MAX_REPORT_BYTES, MAX_SIGNATURE_BYTES, MAX_STIMULUS_BYTES};
-ghost use Rattle.bs_job.specs.declared.walk.Refusal.TheVariants.{NoMemory as Want};
-ghost use Rattle.bs_job.specs.Plan.{any_of};
-ghost use Rattle.bs_job.specs.Walks.{Reads};
-ghost use Rattle.bs_entry.specs.Readings.{has_moment, is_drawable};
-ghost use Rattle.bs_entry.specs.Refusals.{with_one};
-ghost use Rattle.bs_refusal.specs.Kinds.{mistaken, mistaken_text};
+ghost use Rattle.bs_top_plan.specs.declared.file.File.TheVariants as files;
+ghost use Rattle.bs_top_plan.specs.declared.limits.TheConstants.{MAX_NETLIST_BYTES, MAX_REPORT_BYTES, MAX_SIGNATURE_BYTES, MAX_STIMULUS_BYTES};
+ghost use Rattle.bs_top_plan.specs.declared.walk.Refusal.TheVariants.{NoMemory as Want};
+ghost use Rattle.bs_top_plan.specs.Plan.{any_of};
+ghost use Rattle.bs_top_plan.specs.Walks.{Reads};
+ghost use Rattle.bs_top_files.specs.Readings.{has_moment, is_drawable};
+ghost use Rattle.bs_top_files.specs.Refusals.{with_one};
+ghost use Rattle.bs_note_files.specs.Kinds.{mistaken, mistaken_text};
 ghost use Rattle.bs_note.specs.Cases.{HasNote, NoteSays, in_check, in_dump, in_netlist, in_report, in_signature, in_stimulus, noted_as, told_as};
 ghost use Rattle.bs_note.specs.Looking.{input_width};
 ghost use Rattle.bs_note.specs.Readings.{checked_noted, dump_noted, moment_noted, netlist_noted, netlist_reason};
 ghost use Rattle.bs_note.specs.Readings.{report_noted, room_noted, signature_noted, size_noted, state_noted, stimulus_noted, widths_of};
 ghost use Rattle.bs_net.specs.Netlist.{circuit};
 ghost use Rattle.bs_encode.specs.Transition.{variables};
-ghost use Rattle.bs_told.specs.Searches.{room_text};
+ghost use Rattle.bs_note_calls.specs.Searches.{room_text};
 
 use bs_bits::NoMemory;
-use bs_entry::{MAX_WAVE_VALUES, read_choice};
-use bs_flat::FlatFault;
-use bs_job::{File, Refusal};
+use bs_flat_meaning::FlatFault;
 use bs_net::{NetFault, Netlist, Raw};
-use bs_reach::size;
-use bs_refusal::{
+use bs_note_calls::{large_note, range_note, room_note, state_note};
+use bs_note_files::{
     Widths, check_note, design_note, dump_note, mistaken, mistaken_note, report_note,
     signature_note, stimulus_note,
 };
+use bs_reach::size;
 use bs_report::{Report, ReportFault};
 use bs_scan::{Choice, ChoiceFault, Dump, DumpFault};
 use bs_stim::{Runs, StimFault};
 use bs_target::read_state;
-use bs_told::{large_note, range_note, room_note, state_note};
+use bs_top_files::{MAX_WAVE_VALUES, read_choice};
+use bs_top_plan::{File, Refusal};
 use std::alloc::Global;
 
 /// The refusal that is a note.
@@ -92,7 +92,7 @@ pub fn read_netlist(alloc: Global, path: &str, text: &[u8]) -> Result<Netlist, R
     requires { length text.now ≤ MAX_NETLIST_BYTES }
     ensures { Reads NoteSays (λ net. net.raw) (netlist_noted path.now text.now) result }
 {
-    match bs_design::read(alloc, text) {
+    match bs_flat::read(alloc, text) {
         Ok(raw) => check_netlist(alloc, path, text, raw),
         Err(fault) => Err(netlist_refusal(alloc, path, text, &fault)),
     }

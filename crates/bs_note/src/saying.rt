@@ -2,16 +2,16 @@
 ghost use Rattle.std.specs.Prelude.{◌≡◌, IfOk};
 ghost use Rattle.bs_note.specs.Looking.{IsKept};
 ghost use Rattle.bs_note.specs.Saying.{IsMade, IsNote, IsNoteOnWords, output, PutsNote, PutsText, SaysIf};
-ghost use Rattle.bs_told.specs.Topics.{is_due};
+ghost use Rattle.bs_note_calls.specs.Topics.{is_due};
 
 use crate::looking::note_on_given;
 use crate::search::note_on_ending;
 use bs_bits::NoMemory;
-use bs_outside::{Shelf, Sink};
-use bs_told::{
+use bs_note_calls::{
     Causes, Outcome, Topic, is_due, memory_note, output_note, rejected_note, topic_of,
     unread_words_note, words_note,
 };
+use bs_outside::{Shelf, Sink};
 use std::alloc::Global;
 use std::io::ErrorKind;
 

@@ -1,20 +1,20 @@
 //! The note on a stop: where no recorded run comes to a listed state, with the number of moments that were searched.
 ghost use Rattle.std.specs.Prelude.{◌≡◌, ◌++◌, map, string_bytes, IfOk, OnOk, Some};
-ghost use Rattle.bs_words.specs.Job.{job_of};
-ghost use Rattle.bs_words.specs.Shown.{job_in};
+ghost use Rattle.bs_top_words.specs.Job.{job_of};
+ghost use Rattle.bs_top_words.specs.Shown.{job_in};
 ghost use Rattle.bs_note.specs.Looking.{is_nohit, IsEndingNote, IsFollowed, IsKept, IsNohitNote, IsSearchedNote, IsStopNote, moments, searched_text, SearchedOn};
 ghost use Rattle.bs_note.specs.Saying.{job_given};
 ghost use Rattle.bs_note.specs.Shown.{setup_in};
 
 use crate::walk::{Setup, names_of, take_setup};
 use bs_bits::{NoMemory, push_number, push_piece};
-use bs_job::JobFault;
+use bs_note_calls::{Told, miss_note, stop_note};
+use bs_note_files::plain_note;
 use bs_outside::Shelf;
-use bs_refusal::plain_note;
 use bs_report::Stop;
 use bs_stim::Runs;
-use bs_told::{Told, miss_note, stop_note};
-use bs_words::{Job, read_words};
+use bs_top_plan::JobFault;
+use bs_top_words::{Job, read_words};
 use std::alloc::Global;
 use std::io::ErrorKind;
 

@@ -1,7 +1,7 @@
 //! The files of a job are looked at once more, one after the other, up to the first that is at fault, for a note on it.
 ghost use Rattle.std.specs.Prelude.{◌≡◌, true};
-ghost use Rattle.bs_job.specs.Walks.{Walks};
-ghost use Rattle.bs_words.specs.Shown.{job_in};
+ghost use Rattle.bs_top_plan.specs.Walks.{Walks};
+ghost use Rattle.bs_top_words.specs.Shown.{job_in};
 ghost use Rattle.bs_note.specs.Cases.{NoteSays};
 ghost use Rattle.bs_note.specs.Files.{names_of};
 ghost use Rattle.bs_note.specs.Looking.{claimed_looked, crashed_looked, drawn_looked, dump_looked, looked_of, netlist_looked, placed_looked};
@@ -12,13 +12,13 @@ use crate::reading::{
     check_room, check_size, check_state, read_dump, read_moment, read_netlist, read_report,
     read_signature, read_stimulus,
 };
-use bs_job::{File, JobFault, fetch_file, settle};
 use bs_net::Netlist;
 use bs_outside::Shelf;
 use bs_report::Report;
 use bs_scan::{Choice, Dump};
 use bs_stim::Runs;
-use bs_words::Job;
+use bs_top_plan::{File, JobFault, fetch_file, settle};
+use bs_top_words::Job;
 use std::alloc::Global;
 
 /// The names of the files of a job; a name that it does not give is empty.

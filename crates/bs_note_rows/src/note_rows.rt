@@ -1,9 +1,9 @@
 //! A mistake, and the note on it.
 use bs_bits::NoMemory;
 use bs_note::note;
+use bs_note_calls::{Miss, NoCauses, Outcome, Told};
 use bs_outside::{MemShelf, MemSink};
 use bs_report::Stop;
-use bs_told::{Miss, NoCauses, Outcome, Told};
 use std::alloc::Global;
 use std::io::ErrorKind;
 use std::test::Fail;

@@ -1,15 +1,15 @@
 -- The nets that joins leave to the instances of blocks, and to nodes.
 use Rattle.std.proofs.Common.{◌≡◌, ℕ, ◌<◌, List, [], ◌∷◌, map, length, get_or, arith, ap, sym, ◌∙◌}
 use Rattle.std.proofs.lemmas.List.{length-map, get_or-map}
-use Rattle.bs_flat.specs.Design.{Module, Instance, no_instance, no_module, instance_in}
-use Rattle.bs_flat.specs.declared.paths.Node.{Node}
-use Rattle.bs_flatten.specs.Blocks.{module_of, instance_of, own_of}
-use Rattle.bs_flatten.specs.Climbing.{node_at, AreClimbable}
-use Rattle.bs_flatten.specs.Constants.{known_constants}
-use Rattle.bs_flatten.specs.Order.{module_in}
-use Rattle.bs_flatten.specs.Sums.{all_bits_of}
-use Rattle.bs_flatten.specs.declared.blocks.Block.{Block}
-use Rattle.bs_flatten.specs.declared.constants.Bit.{Bit}
+use Rattle.bs_flat_meaning.specs.Design.{Module, Instance, no_instance, no_module, instance_in}
+use Rattle.bs_flat_meaning.specs.declared.paths.Node.{Node}
+use Rattle.bs_flat_nets.specs.Blocks.{module_of, instance_of, own_of}
+use Rattle.bs_flat_nets.specs.Climbing.{node_at, AreClimbable}
+use Rattle.bs_flat_nets.specs.Constants.{known_constants}
+use Rattle.bs_flat_nets.specs.Order.{module_in}
+use Rattle.bs_flat_nets.specs.Sums.{all_bits_of}
+use Rattle.bs_flat_nets.specs.declared.blocks.Block.{Block}
+use Rattle.bs_flat_nets.specs.declared.constants.Bit.{Bit}
 use Rattle.bs_number.specs.Free.{free_nets, count_in, known_in, free_of_child, free_of_block, free_of_all}
 
 some_of : {X : Type 0} (xs : List X) (k : ℕ) → k < length xs → X

@@ -5,13 +5,13 @@ use Rattle.std.specs.Prelude.{find, filter, unwrap_or}
 use Rattle.std.specs.List.{range_with_len, flat_map}
 use Rattle.std.proofs.lemmas.Bool.{false≢true}
 use Rattle.std.proofs.lemmas.List.Elements.{filter-append}
-use Rattle.bs_flat.specs.Design.{Design, Path, PathNet, on, own, paths, path_nets}
-use Rattle.bs_flat.specs.Meaning.{is_same}
-use Rattle.bs_flat.specs.Flat.{IsDesign, bit_of, is_root, is_bit, first_constant, home, flat_nets}
-use Rattle.bs_flat.proofs.MemberLemmas.{Member, flattened, ranged, mapped, filtered, filter_map_comm}
-use Rattle.bs_flat.proofs.RootLemmas.{same_from, same_to, member_valid, root_bare}
-use Rattle.bs_flat.proofs.HomeLemmas.{home_is, home_none, home_some}
-use Rattle.bs_flat.proofs.NumberLemmas.{Apart, apart_append, paths_apart}
+use Rattle.bs_flat_meaning.specs.Design.{Design, Path, PathNet, on, own, paths, path_nets}
+use Rattle.bs_flat_meaning.specs.Meaning.{is_same}
+use Rattle.bs_flat_meaning.specs.Flat.{IsDesign, bit_of, is_root, is_bit, first_constant, home, flat_nets}
+use Rattle.bs_flat_meaning.proofs.MemberLemmas.{Member, flattened, ranged, mapped, filtered, filter_map_comm}
+use Rattle.bs_flat_meaning.proofs.RootLemmas.{same_from, same_to, member_valid, root_bare}
+use Rattle.bs_flat_meaning.proofs.HomeLemmas.{home_is, home_none, home_some}
+use Rattle.bs_flat_meaning.proofs.NumberLemmas.{Apart, apart_append, paths_apart}
 use Rattle.bs_number.specs.Free.{free_on, roots}
 use Rattle.bs_number.specs.Numbering.{no_net}
 use Rattle.bs_number.specs.Tally.{is_home, found_in}

@@ -6,12 +6,12 @@ use Rattle.std.specs.List.{range_with_len, flat_map, list_any}
 use Rattle.std.proofs.lemmas.Bool.{cases_Bool, and_parts, leb-true, ltb-true, le-leb, lt-ltb}
 use Rattle.std.proofs.lemmas.List.Elements.{filter-append}
 use Rattle.std.proofs.lemmas.List.Sorted.{list_any-IsPermutation}
-use Rattle.bs_flat.specs.Meaning.{joined_with}
-use Rattle.bs_flat.proofs.MemberLemmas.{Member, ranged, filter_same}
-use Rattle.bs_flatten.specs.Blocks.{joins_of_run}
-use Rattle.bs_flatten.specs.Constants.{covers}
-use Rattle.bs_flatten.specs.declared.blocks.Run.{Run}
-use Rattle.bs_flatten.proofs.RunLemmas.{runs_join}
+use Rattle.bs_flat_meaning.specs.Meaning.{joined_with}
+use Rattle.bs_flat_meaning.proofs.MemberLemmas.{Member, ranged, filter_same}
+use Rattle.bs_flat_nets.specs.Blocks.{joins_of_run}
+use Rattle.bs_flat_nets.specs.Constants.{covers}
+use Rattle.bs_flat_nets.specs.declared.blocks.Run.{Run}
+use Rattle.bs_flat_nets.proofs.RunLemmas.{runs_join}
 use Rattle.bs_number.specs.Free.{free_nets}
 
 -- whether no run joins a net

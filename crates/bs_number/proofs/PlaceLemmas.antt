@@ -7,24 +7,24 @@ use Rattle.std.proofs.lemmas.Bool.{cases_Bool, eqb-true, eqb-false}
 use Rattle.std.proofs.lemmas.List.{take_more, take_all, length-map, get_or-map}
 use Rattle.std.proofs.lemmas.List.Concat.{flat_map-append}
 use Rattle.bs_net.specs.Parts.{Parts}
-use Rattle.bs_flat.specs.Design.{Design, Module, Path, PathNet, on, own, instance_in, module_at, paths, paths_from}
-use Rattle.bs_flat.specs.Meaning.{is_same, root_of}
-use Rattle.bs_flat.specs.Flat.{IsDesign, constant_bit, bit_of, home, flat_nets, flat_number}
-use Rattle.bs_flat.specs.Paths.{ArePaths}
-use Rattle.bs_flat.specs.declared.paths.Node.{Node}
-use Rattle.bs_flat.specs.declared.limits.TheConstants.{MAX_DEPTH}
-use Rattle.bs_flat.proofs.MemberLemmas.{Member, member_at, filtered, ranged}
-use Rattle.bs_flat.proofs.RootLemmas.{same_from, same_to, top_is_path}
-use Rattle.bs_flat.proofs.HomeLemmas.{home_none, home_some}
-use Rattle.bs_flat.proofs.NumberLemmas.{Apart}
-use Rattle.bs_flatten.specs.Blocks.{design_of, module_of}
-use Rattle.bs_flatten.specs.Climbing.{node_at, path_in, IsRootOf}
-use Rattle.bs_flatten.specs.Constants.{entry, known_constants}
-use Rattle.bs_flatten.specs.Order.{module_in}
-use Rattle.bs_flatten.specs.Sums.{all_bits_of}
-use Rattle.bs_flatten.specs.declared.blocks.Block.{Block}
-use Rattle.bs_flatten.specs.declared.climbing.Place.{Place}
-use Rattle.bs_flatten.specs.declared.constants.Bit.{Bit}
+use Rattle.bs_flat_meaning.specs.Design.{Design, Module, Path, PathNet, on, own, instance_in, module_at, paths, paths_from}
+use Rattle.bs_flat_meaning.specs.Meaning.{is_same, root_of}
+use Rattle.bs_flat_meaning.specs.Flat.{IsDesign, constant_bit, bit_of, home, flat_nets, flat_number}
+use Rattle.bs_flat_meaning.specs.Paths.{ArePaths}
+use Rattle.bs_flat_meaning.specs.declared.paths.Node.{Node}
+use Rattle.bs_flat_meaning.specs.declared.limits.TheConstants.{MAX_DEPTH}
+use Rattle.bs_flat_meaning.proofs.MemberLemmas.{Member, member_at, filtered, ranged}
+use Rattle.bs_flat_meaning.proofs.RootLemmas.{same_from, same_to, top_is_path}
+use Rattle.bs_flat_meaning.proofs.HomeLemmas.{home_none, home_some}
+use Rattle.bs_flat_meaning.proofs.NumberLemmas.{Apart}
+use Rattle.bs_flat_nets.specs.Blocks.{design_of, module_of}
+use Rattle.bs_flat_nets.specs.Climbing.{node_at, path_in, IsRootOf}
+use Rattle.bs_flat_nets.specs.Constants.{entry, known_constants}
+use Rattle.bs_flat_nets.specs.Order.{module_in}
+use Rattle.bs_flat_nets.specs.Sums.{all_bits_of}
+use Rattle.bs_flat_nets.specs.declared.blocks.Block.{Block}
+use Rattle.bs_flat_nets.specs.declared.climbing.Place.{Place}
+use Rattle.bs_flat_nets.specs.declared.constants.Bit.{Bit}
 use Rattle.bs_number.specs.Free.{free_nets, free_on, free_of, roots, count_in, known_in, free_of_node}
 use Rattle.bs_number.specs.Numbering.{net_at, no_net, no_place, IsFirst, IsNumbering, IsNumberIn}
 use Rattle.bs_number.specs.Rows.{AreRows}

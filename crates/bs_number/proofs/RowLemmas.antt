@@ -6,14 +6,14 @@ use Rattle.std.specs.List.{flat_map, list_any}
 use Rattle.std.proofs.lemmas.Bool.{cases_Bool, false≢true, and_parts, leb-true, eqb-true, eqb-false}
 use Rattle.std.proofs.lemmas.List.{get_or-map, length-map, take_more}
 use Rattle.std.proofs.lemmas.List.Sorted.{list_any-IsPermutation}
-use Rattle.bs_flat.specs.Design.{Instance, Module, no_instance, instance_in}
-use Rattle.bs_flat.specs.Meaning.{joined_with}
-use Rattle.bs_flatten.specs.Blocks.{joins_of_run, module_of, instance_of}
-use Rattle.bs_flatten.specs.Constants.{covers}
-use Rattle.bs_flatten.specs.Order.{module_in}
-use Rattle.bs_flatten.specs.declared.blocks.Block.{Block}
-use Rattle.bs_flatten.specs.declared.blocks.Run.{Run}
-use Rattle.bs_flatten.proofs.RunLemmas.{runs_join, runs_here, runs_past}
+use Rattle.bs_flat_meaning.specs.Design.{Instance, Module, no_instance, instance_in}
+use Rattle.bs_flat_meaning.specs.Meaning.{joined_with}
+use Rattle.bs_flat_nets.specs.Blocks.{joins_of_run, module_of, instance_of}
+use Rattle.bs_flat_nets.specs.Constants.{covers}
+use Rattle.bs_flat_nets.specs.Order.{module_in}
+use Rattle.bs_flat_nets.specs.declared.blocks.Block.{Block}
+use Rattle.bs_flat_nets.specs.declared.blocks.Run.{Run}
+use Rattle.bs_flat_nets.proofs.RunLemmas.{runs_join, runs_here, runs_past}
 use Rattle.bs_number.specs.Rows.{are_apart, outer_net, joins_other, IsRow, Beside, IsChildRow, AreBlockRows, AreRows}
 use Rattle.bs_number.specs.Climbing.{no_run, IsCut, IsOuter}
 use Rattle.bs_number.proofs.GapLemmas.{below_run, past_run}

@@ -6,14 +6,14 @@ use Rattle.std.specs.List.{All}
 use Rattle.std.proofs.lemmas.Bool.{false≢true, cases_Bool}
 use Rattle.std.proofs.lemmas.List.{get_or_append_left, get_or_push, length-map, map-append}
 use Rattle.std.proofs.lemmas.List.Elements.{filter-append, All-nil, All-push}
-use Rattle.bs_flat.specs.Design.{Design, Path, PathNet, on}
-use Rattle.bs_flat.specs.Flat.{IsDesign, bit_of, is_bit, first_constant}
-use Rattle.bs_flat.proofs.MemberLemmas.{Member, member_right, found}
-use Rattle.bs_flat.proofs.RootLemmas.{same_from, same_to}
-use Rattle.bs_flat.proofs.NumberLemmas.{Apart}
-use Rattle.bs_flatten.specs.Climbing.{path_in}
-use Rattle.bs_flatten.specs.declared.climbing.Place.{Place}
-use Rattle.bs_flatten.specs.declared.constants.Bit.{Bit}
+use Rattle.bs_flat_meaning.specs.Design.{Design, Path, PathNet, on}
+use Rattle.bs_flat_meaning.specs.Flat.{IsDesign, bit_of, is_bit, first_constant}
+use Rattle.bs_flat_meaning.proofs.MemberLemmas.{Member, member_right, found}
+use Rattle.bs_flat_meaning.proofs.RootLemmas.{same_from, same_to}
+use Rattle.bs_flat_meaning.proofs.NumberLemmas.{Apart}
+use Rattle.bs_flat_nets.specs.Climbing.{path_in}
+use Rattle.bs_flat_nets.specs.declared.climbing.Place.{Place}
+use Rattle.bs_flat_nets.specs.declared.constants.Bit.{Bit}
 use Rattle.bs_number.specs.Free.{roots}
 use Rattle.bs_number.specs.Numbering.{net_at, no_net}
 use Rattle.bs_number.specs.Tally.{bit_in, no_tally, first_of, with_plain, with_first, with_constant, with_net, with_nets, is_home, found_in, IsFound, IsTally}

@@ -1,8 +1,8 @@
 -- The net of the parent, by runs in the order of their nets.
 use Rattle.std.specs.Prelude.{◌≡◌, ℕ, ◌+◌, ◌<◌, ◌≤◌, List, length, slice_index_or, Option}
-use Rattle.bs_flat.specs.Design.{Join}
-use Rattle.bs_flat.specs.Meaning.{joined_with}
-use Rattle.bs_flatten.specs.declared.blocks.Run.{Run}
+use Rattle.bs_flat_meaning.specs.Design.{Join}
+use Rattle.bs_flat_meaning.specs.Meaning.{joined_with}
+use Rattle.bs_flat_nets.specs.declared.blocks.Run.{Run}
 use Rattle.bs_number.specs.Rows.{IsRow}
 
 -- a run of nothing, which stands past the end of a list

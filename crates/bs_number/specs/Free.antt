@@ -1,16 +1,16 @@
 -- The nets that joins leave to each path.
 use Rattle.std.specs.Prelude.{ℕ, List, map, length, filter, is_none}
 use Rattle.std.specs.List.{flat_map, range_with_len}
-use Rattle.bs_flat.specs.Design.{Design, Join, Path, PathNet, on, own, joins_at, instance_in, paths}
-use Rattle.bs_flat.specs.Meaning.{joined_with}
-use Rattle.bs_flat.specs.declared.paths.Node.{Node}
-use Rattle.bs_flatten.specs.Blocks.{joins_of_run, module_of}
-use Rattle.bs_flatten.specs.Climbing.{node_at, joins_of_node}
-use Rattle.bs_flatten.specs.Constants.{known_constants}
-use Rattle.bs_flatten.specs.Order.{module_in}
-use Rattle.bs_flatten.specs.declared.blocks.Block.{Block}
-use Rattle.bs_flatten.specs.declared.blocks.Child.{Child}
-use Rattle.bs_flatten.specs.declared.constants.Bit.{Bit}
+use Rattle.bs_flat_meaning.specs.Design.{Design, Join, Path, PathNet, on, own, joins_at, instance_in, paths}
+use Rattle.bs_flat_meaning.specs.Meaning.{joined_with}
+use Rattle.bs_flat_meaning.specs.declared.paths.Node.{Node}
+use Rattle.bs_flat_nets.specs.Blocks.{joins_of_run, module_of}
+use Rattle.bs_flat_nets.specs.Climbing.{node_at, joins_of_node}
+use Rattle.bs_flat_nets.specs.Constants.{known_constants}
+use Rattle.bs_flat_nets.specs.Order.{module_in}
+use Rattle.bs_flat_nets.specs.declared.blocks.Block.{Block}
+use Rattle.bs_flat_nets.specs.declared.blocks.Child.{Child}
+use Rattle.bs_flat_nets.specs.declared.constants.Bit.{Bit}
 
 -- of so many nets, those that are joined with none of the parent
 abbrev pub free_nets : List Join → ℕ → List ℕ

@@ -1,13 +1,13 @@
 -- The flat nets of a design in order, by the nodes of their paths.
 use Rattle.std.specs.Prelude.{◌≡◌, ℕ, ◌<◌, Bool, false, true, List, [], length, map, slice_index_or, All, IfSome, Option, Some, None}
-use Rattle.bs_flat.specs.Design.{Design, PathNet, on}
-use Rattle.bs_flat.specs.Flat.{flat_nets, first_constant}
-use Rattle.bs_flat.specs.declared.paths.Node.{Node}
-use Rattle.bs_flatten.specs.Blocks.{design_of}
-use Rattle.bs_flatten.specs.Climbing.{path_in}
-use Rattle.bs_flatten.specs.Sums.{all_bits_of}
-use Rattle.bs_flatten.specs.declared.blocks.Block.{Block}
-use Rattle.bs_flatten.specs.declared.climbing.Place.{Place}
+use Rattle.bs_flat_meaning.specs.Design.{Design, PathNet, on}
+use Rattle.bs_flat_meaning.specs.Flat.{flat_nets, first_constant}
+use Rattle.bs_flat_meaning.specs.declared.paths.Node.{Node}
+use Rattle.bs_flat_nets.specs.Blocks.{design_of}
+use Rattle.bs_flat_nets.specs.Climbing.{path_in}
+use Rattle.bs_flat_nets.specs.Sums.{all_bits_of}
+use Rattle.bs_flat_nets.specs.declared.blocks.Block.{Block}
+use Rattle.bs_flat_nets.specs.declared.climbing.Place.{Place}
 use Rattle.bs_number.specs.Rows.{AreRows}
 use Rattle.bs_number.specs.declared.numbers.Numbering.{Numbering}
 

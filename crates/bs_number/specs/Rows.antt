@@ -1,13 +1,13 @@
 -- The runs of each instance in the order of their nets.
 use Rattle.std.specs.Prelude.{◌≡◌, ℕ, ◌+◌, ◌-◌, Bool, true, false, not, ◌&&◌, nat_eq, nat_le, List, [], ◌∷◌, Some, None}
 use Rattle.std.specs.List.{flat_map, list_any}
-use Rattle.bs_flat.specs.Design.{Join}
-use Rattle.bs_flat.specs.Meaning.{joined_with}
-use Rattle.bs_flatten.specs.Blocks.{joins_of_run}
-use Rattle.bs_flatten.specs.Constants.{covers}
-use Rattle.bs_flatten.specs.declared.blocks.Block.{Block}
-use Rattle.bs_flatten.specs.declared.blocks.Child.{Child}
-use Rattle.bs_flatten.specs.declared.blocks.Run.{Run}
+use Rattle.bs_flat_meaning.specs.Design.{Join}
+use Rattle.bs_flat_meaning.specs.Meaning.{joined_with}
+use Rattle.bs_flat_nets.specs.Blocks.{joins_of_run}
+use Rattle.bs_flat_nets.specs.Constants.{covers}
+use Rattle.bs_flat_nets.specs.declared.blocks.Block.{Block}
+use Rattle.bs_flat_nets.specs.declared.blocks.Child.{Child}
+use Rattle.bs_flat_nets.specs.declared.blocks.Run.{Run}
 
 -- whether runs stand in the order of their nets, the first no lower than a number, and none begins before the end of another
 abbrev pub are_apart : ℕ → List Run → Bool

@@ -1,11 +1,11 @@
 -- The flat nets, taken one by one: each net that is no constant, and a constant the first time.
 use Rattle.std.specs.Prelude.{◌≡◌, ℕ, ◌<◌, Bool, true, false, if◌then◌else◌, ◌==◌, List, [], ◌∷◌, ◌++◌, length, map, filter, slice_index_or, Option, Some, None}
 use Rattle.std.specs.Prelude.{is_some, find, option_map}
-use Rattle.bs_flat.specs.Design.{Design, PathNet}
-use Rattle.bs_flat.specs.Meaning.{is_same}
-use Rattle.bs_flat.specs.Flat.{bit_of, is_bit, first_constant, home}
-use Rattle.bs_flatten.specs.declared.climbing.Place.{Place}
-use Rattle.bs_flatten.specs.declared.constants.Bit.{Bit}
+use Rattle.bs_flat_meaning.specs.Design.{Design, PathNet}
+use Rattle.bs_flat_meaning.specs.Meaning.{is_same}
+use Rattle.bs_flat_meaning.specs.Flat.{bit_of, is_bit, first_constant, home}
+use Rattle.bs_flat_nets.specs.declared.climbing.Place.{Place}
+use Rattle.bs_flat_nets.specs.declared.constants.Bit.{Bit}
 use Rattle.bs_number.specs.Numbering.{net_at, no_net}
 use Rattle.bs_number.specs.declared.tally.Tally.{Tally}
 

@@ -1,14 +1,14 @@
 //! Climbing from a net on a path to the uppermost net to which joins lead, by runs in the order of their nets.
 ghost use Rattle.std.specs.Prelude.{◌≡◌, ◌<◌, ◌≤◌, ◌+◌, ◌-◌, length};
-ghost use Rattle.bs_flatten.specs.Climbing.{AreClimbable, IsRootOf};
-ghost use Rattle.bs_flatten.specs.Constants as constants;
+ghost use Rattle.bs_flat_nets.specs.Climbing.{AreClimbable, IsRootOf};
+ghost use Rattle.bs_flat_nets.specs.Constants as constants;
 ghost use Rattle.bs_number.specs.Climbing as spec;
 ghost use Rattle.bs_number.specs.Rows as rows_spec;
 
 use crate::rows::row_of_node;
 use bs_bits::List;
-use bs_flat::Node;
-use bs_flatten::{Block, Place, Run};
+use bs_flat_meaning::Node;
+use bs_flat_nets::{Block, Place, Run};
 
 /// Whether a run joins a net of its instance.
 fn covers(run: Run, net: usize) -> bool

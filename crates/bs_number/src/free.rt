@@ -1,14 +1,14 @@
 //! The nets that joins leave to each instance.
 ghost use Rattle.std.specs.Prelude.{◌≡◌, ◌<◌, ◌≤◌, ◌-◌, ◌++◌, not, length, map, filter, IfOk, OnOk, IsPermutation};
 ghost use Rattle.std.specs.List.{flat_map, list_any, range_with_len};
-ghost use Rattle.bs_flatten.specs.Blocks.{joins_of_run};
-ghost use Rattle.bs_flatten.specs.Constants.{covers};
-ghost use Rattle.bs_flatten.specs.Climbing.{AreClimbable};
+ghost use Rattle.bs_flat_nets.specs.Blocks.{joins_of_run};
+ghost use Rattle.bs_flat_nets.specs.Constants.{covers};
+ghost use Rattle.bs_flat_nets.specs.Climbing.{AreClimbable};
 ghost use Rattle.bs_number.specs.Free as spec;
 
 use bs_bits::{List, NoMemory};
-use bs_flat::Node;
-use bs_flatten::{Block, Child, Run};
+use bs_flat_meaning::Node;
+use bs_flat_nets::{Block, Child, Run};
 use std::alloc::Global;
 
 /// Runs in the order of their nets.

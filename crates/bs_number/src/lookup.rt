@@ -1,11 +1,11 @@
 //! The number of the flat net that stands for a net on a path.
 ghost use Rattle.std.specs.Prelude.{◌≡◌, ◌<◌, ◌==◌, ◌&&◌, length, IfSome, slice_index_or};
-ghost use Rattle.bs_flat.specs.Design.{on, paths};
-ghost use Rattle.bs_flat.specs.Flat.{IsDesign, flat_number};
-ghost use Rattle.bs_flat.specs.Paths.{ArePaths};
-ghost use Rattle.bs_flatten.specs.Blocks.{design_of};
-ghost use Rattle.bs_flatten.specs.Climbing.{AreClimbable, path_in, node_at};
-ghost use Rattle.bs_flatten.specs.Sums.{all_bits_of};
+ghost use Rattle.bs_flat_meaning.specs.Design.{on, paths};
+ghost use Rattle.bs_flat_meaning.specs.Flat.{IsDesign, flat_number};
+ghost use Rattle.bs_flat_meaning.specs.Paths.{ArePaths};
+ghost use Rattle.bs_flat_nets.specs.Blocks.{design_of};
+ghost use Rattle.bs_flat_nets.specs.Climbing.{AreClimbable, path_in, node_at};
+ghost use Rattle.bs_flat_nets.specs.Sums.{all_bits_of};
 ghost use Rattle.bs_number.specs.Free.{count_in, known_in};
 ghost use Rattle.bs_number.specs.Numbering.{IsNumberIn, IsNumbering, no_place};
 ghost use Rattle.bs_number.specs.Tally as tally;
@@ -13,8 +13,8 @@ ghost use Rattle.bs_number.specs.Tally as tally;
 use crate::climbing::root_of;
 use crate::numbers::{Numbering, bits_of, count_of};
 use crate::tally::bit_in;
-use bs_flat::Node;
-use bs_flatten::{Block, Place};
+use bs_flat_meaning::Node;
+use bs_flat_nets::{Block, Place};
 use bs_net::NetId;
 
 /// Whether two places are the same.

@@ -1,11 +1,11 @@
 //! The flat nets of a design in order, by the nodes of their paths.
 ghost use Rattle.std.specs.Prelude.{◌≡◌, ◌<◌, length, All, IfOk, OnOk, []};
-ghost use Rattle.bs_flat.specs.Design.{paths};
-ghost use Rattle.bs_flat.specs.Flat.{IsDesign};
-ghost use Rattle.bs_flat.specs.Paths.{ArePaths};
-ghost use Rattle.bs_flatten.specs.Blocks.{design_of};
-ghost use Rattle.bs_flatten.specs.Climbing.{AreClimbable, node_at};
-ghost use Rattle.bs_flatten.specs.Sums.{all_bits_of};
+ghost use Rattle.bs_flat_meaning.specs.Design.{paths};
+ghost use Rattle.bs_flat_meaning.specs.Flat.{IsDesign};
+ghost use Rattle.bs_flat_meaning.specs.Paths.{ArePaths};
+ghost use Rattle.bs_flat_nets.specs.Blocks.{design_of};
+ghost use Rattle.bs_flat_nets.specs.Climbing.{AreClimbable, node_at};
+ghost use Rattle.bs_flat_nets.specs.Sums.{all_bits_of};
 ghost use Rattle.bs_number.specs.Free as spec;
 ghost use Rattle.bs_number.specs.Numbering.{IsNumbering};
 ghost use Rattle.bs_number.specs.Tally.{no_tally, with_nets};
@@ -14,8 +14,8 @@ use crate::free::{free_nets, free_of_all, free_of_node};
 use crate::rows::rows_of_all;
 use crate::tally::{Tally, push_nets};
 use bs_bits::{List, NoMemory};
-use bs_flat::Node;
-use bs_flatten::{Bit, Block, Place, Run, all_bits};
+use bs_flat_meaning::Node;
+use bs_flat_nets::{Bit, Block, Place, Run, all_bits};
 use std::alloc::Global;
 
 /// The flat nets in order, each by the number of its path's node and its place in the block there; where those of each node

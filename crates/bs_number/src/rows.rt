@@ -1,14 +1,14 @@
 //! The runs of each instance in the order of their nets.
 ghost use Rattle.std.specs.Prelude.{◌≡◌, ◌<◌, length, IfOk};
 ghost use Rattle.std.specs.List.{flat_map};
-ghost use Rattle.bs_flatten.specs.Blocks.{joins_of_run};
-ghost use Rattle.bs_flatten.specs.Climbing.{AreClimbable, joins_of_node};
+ghost use Rattle.bs_flat_nets.specs.Blocks.{joins_of_run};
+ghost use Rattle.bs_flat_nets.specs.Climbing.{AreClimbable, joins_of_node};
 ghost use Rattle.bs_number.specs.Rows as spec;
 
 use crate::free::sorted;
 use bs_bits::{List, NoMemory};
-use bs_flat::Node;
-use bs_flatten::{Block, Run};
+use bs_flat_meaning::Node;
+use bs_flat_nets::{Block, Run};
 use std::alloc::Global;
 
 /// Whether runs stand in the order of their nets, and none begins before the end of another.

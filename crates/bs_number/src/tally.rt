@@ -3,7 +3,7 @@ ghost use Rattle.std.specs.Prelude.{◌≡◌, ◌++◌, ◌∷◌, OnOk};
 ghost use Rattle.bs_number.specs.Tally as spec;
 
 use bs_bits::{List, NoMemory};
-use bs_flatten::{Bit, Place};
+use bs_flat_nets::{Bit, Place};
 use std::alloc::Global;
 
 /// The flat nets so far, and where the first net of the constants 0 and 1 stands, if it was met.

@@ -19,22 +19,22 @@ use Rattle.bs_log.specs.Steps.{is_lemma_line, block_of_line, lemma_of_line, last
 use Rattle.bs_net.proofs.NextLemmas.{bits_eq_Decides}
 use Rattle.bs_scan.proofs.SignatureLemmas.{bits_same_is}
 use Rattle.bs_scan.proofs.MomentLemmas.{each_append}
-use Rattle.bs_book.specs.declared.stage.Stage.{Stage}
-use Rattle.bs_book.specs.declared.stage.Stage.TheVariants.{Begun, Blocked}
-use Rattle.bs_book.specs.Book.{Book, standing}
-use Rattle.bs_book.specs.Ending.{is_open_lemma}
-use Rattle.bs_book.specs.Stages.{is_begun}
-use Rattle.bs_book.specs.Solver.{SolverState, MaySolve}
+use Rattle.bs_solve_recording.specs.declared.stage.Stage.{Stage}
+use Rattle.bs_solve_recording.specs.declared.stage.Stage.TheVariants.{Begun, Blocked}
+use Rattle.bs_solve_recording.specs.Book.{Book, standing}
+use Rattle.bs_solve_recording.specs.Ending.{is_open_lemma}
+use Rattle.bs_solve_recording.specs.Stages.{is_begun}
+use Rattle.bs_solve_recording.specs.Solver.{SolverState, MaySolve}
 use Rattle.bs_encode.specs.Encoded.{Encoded}
 use Rattle.bs_encode.specs.Assuming.{block_for}
 use Rattle.bs_report.specs.declared.report.Cand.{Cand}
 use Rattle.bs_report.specs.declared.report.ListEnd.{ListEnd}
 use Rattle.bs_report.specs.declared.report.ListEnd.TheVariants.{Finished, Candidates, Conflicts}
-use Rattle.bs_good.specs.Step.{listed}
-use Rattle.bs_good.specs.Valid.{blocks_due}
+use Rattle.bs_report_good.specs.Step.{listed}
+use Rattle.bs_report_good.specs.Valid.{blocks_due}
 use Rattle.bs_preimage.specs.Turn.{Extends, Keeps, HasSearched, MayTurn, HasListedOne, HasRefutedAll, HasSpent, IsShownIn, block_in, guard_in, steps_after}
 use Rattle.bs_preimage.specs.Finding.{is_inner, HasLogged, IsAgain, IsUnderWay, HasEndedSearch}
-use Rattle.bs_book.proofs.CallerLemmas.{runs_over}
+use Rattle.bs_solve_recording.proofs.CallerLemmas.{runs_over}
 use Rattle.bs_preimage.proofs.TurnLemmas.{extends_then, extends_from}
 use Rattle.bs_preimage.proofs.InnerLemmas.{lemmas_inner, inner_step}
 

@@ -31,8 +31,8 @@ use Rattle.bs_scan.specs.Moments.{is_listed}
 use Rattle.bs_scan.specs.Signature.{agrees, some_input_leads, predecessors}
 use Rattle.bs_scan.proofs.MomentLemmas.{each_member}
 use Rattle.bs_scan.proofs.SignatureLemmas.{bits_same, bits_same_is, is_predecessor}
-use Rattle.bs_book.specs.Book.{Book, standing, next_id}
-use Rattle.bs_book.specs.Solver.{SolverState, finished, retired, leaving}
+use Rattle.bs_solve_recording.specs.Book.{Book, standing, next_id}
+use Rattle.bs_solve_recording.specs.Solver.{SolverState, finished, retired, leaving}
 use Rattle.bs_encode.specs.Encoded.{Encoded}
 use Rattle.bs_encode.specs.Depth.{encoding_by}
 use Rattle.bs_encode.specs.Assuming.{assumptions_for, block_for, asking, AreWide}
@@ -41,19 +41,19 @@ use Rattle.bs_encode.specs.Listing.{IsTidy, PredecessorsAreShown, SolutionsArePr
 use Rattle.bs_report.specs.declared.report.Cand.{Cand}
 use Rattle.bs_report.specs.declared.report.ListEnd.{ListEnd}
 use Rattle.bs_report.specs.declared.report.ListEnd.TheVariants.{Finished, Conflicts}
-use Rattle.bs_good.specs.Step.{listed, IsCandidate}
-use Rattle.bs_good.specs.Valid.{is_right_before, HaveBefores, blocks_due, are_right_blocks, is_right_finish, blocks_in, finishes_in}
-use Rattle.bs_good.proofs.SortedLemmas.{asc_of_pairs, asc_filter, asc_all_bits, same_lists}
-use Rattle.bs_good.proofs.ValidLemmas.{both}
-use Rattle.bs_good.proofs.GoodLemmas.{listed_member, filter_member, passing, all_bits_length}
+use Rattle.bs_report_good.specs.Step.{listed, IsCandidate}
+use Rattle.bs_report_good.specs.Valid.{is_right_before, HaveBefores, blocks_due, are_right_blocks, is_right_finish, blocks_in, finishes_in}
+use Rattle.bs_report_good.proofs.SortedLemmas.{asc_of_pairs, asc_filter, asc_all_bits, same_lists}
+use Rattle.bs_report_good.proofs.ValidLemmas.{both}
+use Rattle.bs_report_good.proofs.GoodLemmas.{listed_member, filter_member, passing, all_bits_length}
 use Rattle.bs_preimage.specs.declared.listing.Listing.{Listing}
 use Rattle.bs_preimage.specs.Preimage.{next_guard}
 use Rattle.bs_preimage.specs.Rest.{IsAbout, IsAtRest, AreWholeSteps}
 use Rattle.bs_preimage.specs.Turn.{IsReadable, IsShownIn, guard_in}
 use Rattle.bs_preimage.specs.Order.{IsInOrder}
 use Rattle.bs_preimage.specs.Step.{HasSought, HasMadeStep, assumptions_at, ending_of}
-use Rattle.bs_book.proofs.Clauses.{contains_first}
-use Rattle.bs_book.proofs.CallerLemmas.{bound_is, axioms_stand_still, guards_stay_retired}
+use Rattle.bs_solve_recording.proofs.Clauses.{contains_first}
+use Rattle.bs_solve_recording.proofs.CallerLemmas.{bound_is, axioms_stand_still, guards_stay_retired}
 use Rattle.std.proofs.Math.Nat.{eq-or-lt_of_le}
 use Rattle.bs_preimage.proofs.OrderLemmas.{in_order_ascend}
 use Rattle.bs_preimage.proofs.StepLinesLemmas.{is_in_step, finish_lines, in_step, step_kept, step_lines_are, whole_after, get_last, slice_get_last}

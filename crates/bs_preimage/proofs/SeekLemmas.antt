@@ -6,11 +6,11 @@ use Rattle.bs_clause.specs.Literal.{Literal, Clause}
 use Rattle.bs_clause.specs.Range.{HasVariables}
 use Rattle.bs_log.specs.declared.line.Line.TheVariants.{Finish, Retire, Delete}
 use Rattle.bs_log.specs.History.{guard_of}
-use Rattle.bs_book.specs.declared.stage.Stage.TheVariants.{Begun, Blocked}
-use Rattle.bs_book.specs.Book.{Book, next_id, without}
-use Rattle.bs_book.specs.Solver.{SolverState, HasEnded, finished, retired, leaving}
-use Rattle.bs_book.specs.Stages.{is_begun}
-use Rattle.bs_book.proofs.Clauses.{contains_first}
+use Rattle.bs_solve_recording.specs.declared.stage.Stage.TheVariants.{Begun, Blocked}
+use Rattle.bs_solve_recording.specs.Book.{Book, next_id, without}
+use Rattle.bs_solve_recording.specs.Solver.{SolverState, HasEnded, finished, retired, leaving}
+use Rattle.bs_solve_recording.specs.Stages.{is_begun}
+use Rattle.bs_solve_recording.proofs.Clauses.{contains_first}
 use Rattle.bs_encode.specs.Encoded.{Encoded}
 use Rattle.bs_encode.specs.Assuming.{assumptions_for, asking}
 use Rattle.bs_preimage.specs.Preimage.{next_guard}

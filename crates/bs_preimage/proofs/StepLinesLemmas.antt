@@ -16,19 +16,19 @@ use Rattle.bs_log.specs.declared.line.Line.{Line}
 use Rattle.bs_log.specs.declared.line.Line.TheVariants.{Solve, Lemma, Block, Finish, Retire, Delete}
 use Rattle.bs_log.specs.History.{History, step_of}
 use Rattle.bs_log.specs.Steps.{steps_of, onto_step, block_of_line, finish_of_line, last_solve, is_spent}
-use Rattle.bs_book.specs.Book.{Book, without}
-use Rattle.bs_book.specs.Solver.{SolverState}
-use Rattle.bs_book.proofs.Clauses.{contains_cases, contains_first, cons_contains, nothing_in}
+use Rattle.bs_solve_recording.specs.Book.{Book, without}
+use Rattle.bs_solve_recording.specs.Solver.{SolverState}
+use Rattle.bs_solve_recording.proofs.Clauses.{contains_cases, contains_first, cons_contains, nothing_in}
 use Rattle.bs_report.specs.declared.report.Cand.{Cand}
 use Rattle.bs_report.specs.declared.report.ListEnd.{ListEnd}
 use Rattle.bs_report.specs.declared.report.ListEnd.TheVariants.{Finished, Candidates, Conflicts}
-use Rattle.bs_good.specs.Step.{listed, IsRightEnd}
-use Rattle.bs_good.specs.Valid.{has_clause, blocks_due, are_right_blocks, is_right_finish, blocks_in, finishes_in}
+use Rattle.bs_report_good.specs.Step.{listed, IsRightEnd}
+use Rattle.bs_report_good.specs.Valid.{has_clause, blocks_due, are_right_blocks, is_right_finish, blocks_in, finishes_in}
 use Rattle.bs_preimage.specs.Rest.{AreWholeSteps}
 use Rattle.bs_preimage.specs.Finding.{is_inner, EndedBy}
 use Rattle.bs_preimage.specs.Step.{ending_of}
-use Rattle.bs_good.proofs.ValidLemmas.{spent_is}
-use Rattle.bs_good.proofs.WholeLemmas.{literal_decides}
+use Rattle.bs_report_good.proofs.ValidLemmas.{spent_is}
+use Rattle.bs_report_good.proofs.WholeLemmas.{literal_decides}
 use Rattle.bs_preimage.proofs.FindingLemmas.{each_reverse}
 
 -- ---- the lines of a step up to its retire line

@@ -11,15 +11,15 @@ use Rattle.bs_log.specs.declared.line.Line.{Line}
 use Rattle.bs_log.specs.declared.line.Line.TheVariants.{Lemma, Block}
 use Rattle.bs_log.specs.History.{Problem}
 use Rattle.bs_log.specs.Steps.{is_lemma_line}
-use Rattle.bs_book.specs.declared.answer.Answer.{Answer}
-use Rattle.bs_book.specs.declared.answer.Answer.TheVariants as answers
-use Rattle.bs_book.specs.Book.{Book, standing}
-use Rattle.bs_book.specs.Ending.{is_open_lemma}
-use Rattle.bs_book.specs.Search.{assumed}
-use Rattle.bs_book.specs.Stages.{is_begun, begun_book}
-use Rattle.bs_book.specs.Solver.{SolverState, HasSolved, HasBlocked, Follows}
-use Rattle.bs_book.specs.Values.{value_of}
-use Rattle.bs_book.proofs.Clauses.{all_from}
+use Rattle.bs_solve_recording.specs.declared.answer.Answer.{Answer}
+use Rattle.bs_solve_recording.specs.declared.answer.Answer.TheVariants as answers
+use Rattle.bs_solve_recording.specs.Book.{Book, standing}
+use Rattle.bs_solve_recording.specs.Ending.{is_open_lemma}
+use Rattle.bs_solve_recording.specs.Search.{assumed}
+use Rattle.bs_solve_recording.specs.Stages.{is_begun, begun_book}
+use Rattle.bs_solve_recording.specs.Solver.{SolverState, HasSolved, HasBlocked, Follows}
+use Rattle.bs_solve_recording.specs.Values.{value_of}
+use Rattle.bs_solve_recording.proofs.Clauses.{all_from}
 use Rattle.bs_encode.specs.Encoded.{Encoded}
 use Rattle.bs_encode.specs.Assuming.{signed, block_for}
 use Rattle.bs_encode.specs.Cycle.{bits_on}
@@ -27,7 +27,7 @@ use Rattle.bs_report.specs.declared.report.Cand.{Cand}
 use Rattle.bs_preimage.specs.declared.turn.TurnEnd.{TurnEnd}
 use Rattle.bs_preimage.specs.declared.turn.TurnEnd.TheVariants.{Listed, Refuted, Spent}
 use Rattle.bs_preimage.specs.Turn.{Extends, HasSearched, MayTurn, TurnsTo, HasShown, HasShownCand, HasListedOne, block_in, guard_in, steps_after}
-use Rattle.bs_book.proofs.CallerLemmas.{begun_history, begun_vars, begun_clauses, open_are_lemmas, solved_keeps}
+use Rattle.bs_solve_recording.proofs.CallerLemmas.{begun_history, begun_vars, begun_clauses, open_are_lemmas, solved_keeps}
 
 -- ---- the book as a search begins
 

@@ -12,12 +12,12 @@ use Rattle.bs_encode.specs.Assuming.{block_for}
 use Rattle.bs_report.specs.declared.report.Cand.{Cand}
 use Rattle.bs_report.specs.declared.report.ListEnd.{ListEnd}
 use Rattle.bs_report.specs.declared.report.ListEnd.TheVariants.{Finished, Candidates, Conflicts}
-use Rattle.bs_good.specs.Step.{listed}
-use Rattle.bs_good.specs.Valid.{blocks_due}
-use Rattle.bs_book.specs.declared.stage.Stage.TheVariants.{Blocked, Ended, Stopped}
-use Rattle.bs_book.specs.Book.{standing}
-use Rattle.bs_book.specs.Search.{assumed}
-use Rattle.bs_book.specs.Solver.{SolverState}
+use Rattle.bs_report_good.specs.Step.{listed}
+use Rattle.bs_report_good.specs.Valid.{blocks_due}
+use Rattle.bs_solve_recording.specs.declared.stage.Stage.TheVariants.{Blocked, Ended, Stopped}
+use Rattle.bs_solve_recording.specs.Book.{standing}
+use Rattle.bs_solve_recording.specs.Search.{assumed}
+use Rattle.bs_solve_recording.specs.Solver.{SolverState}
 use Rattle.bs_preimage.specs.Turn.{IsShownIn, Keeps, guard_in, block_in}
 
 -- a line inside a step

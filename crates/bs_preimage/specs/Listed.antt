@@ -9,8 +9,8 @@ use Rattle.bs_log.specs.Steps.{steps_of}
 use Rattle.bs_scan.specs.Signature.{predecessors}
 use Rattle.bs_encode.specs.Assuming.{block_for}
 use Rattle.bs_report.specs.declared.report.ListEnd.TheVariants.{Conflicts}
-use Rattle.bs_good.specs.Step.{listed, Ascend, IsCandidate, IsRightEnd}
-use Rattle.bs_good.specs.Valid.{HaveBefores, blocks_due, are_right_blocks, blocks_in, is_right_finish, finishes_in}
+use Rattle.bs_report_good.specs.Step.{listed, Ascend, IsCandidate, IsRightEnd}
+use Rattle.bs_report_good.specs.Valid.{HaveBefores, blocks_due, are_right_blocks, blocks_in, is_right_finish, finishes_in}
 use Rattle.bs_preimage.specs.declared.listing.Listing.{Listing}
 use Rattle.bs_preimage.specs.Preimage.{PreimageState, encoding_in, next_guard, assumptions_in, GoesOn}
 

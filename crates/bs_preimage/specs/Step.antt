@@ -8,9 +8,9 @@ use Rattle.bs_encode.specs.Assuming.{assumptions_for, asking}
 use Rattle.bs_report.specs.declared.report.Cand.{Cand}
 use Rattle.bs_report.specs.declared.report.ListEnd.{ListEnd}
 use Rattle.bs_report.specs.declared.report.ListEnd.TheVariants.{Finished, Candidates, Conflicts}
-use Rattle.bs_book.specs.declared.stage.Stage.TheVariants.{Begun}
-use Rattle.bs_book.specs.Book.{Book}
-use Rattle.bs_book.specs.Solver.{SolverState, HasEnded}
+use Rattle.bs_solve_recording.specs.declared.stage.Stage.TheVariants.{Begun}
+use Rattle.bs_solve_recording.specs.Book.{Book}
+use Rattle.bs_solve_recording.specs.Solver.{SolverState, HasEnded}
 use Rattle.bs_preimage.specs.declared.listing.Listing.{Listing}
 use Rattle.bs_preimage.specs.Preimage.{PreimageState, next_guard}
 use Rattle.bs_preimage.specs.Listed.{HasListed}

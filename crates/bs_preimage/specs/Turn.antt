@@ -20,13 +20,13 @@ use Rattle.bs_encode.specs.Listing.{joins}
 use Rattle.bs_scan.specs.Present.{Present}
 use Rattle.bs_report.specs.declared.report.Before.{Before}
 use Rattle.bs_report.specs.declared.report.Cand.{Cand}
-use Rattle.bs_book.specs.declared.stage.Stage.TheVariants.{Ended, Stopped}
-use Rattle.bs_book.specs.Book.{Book, standing}
-use Rattle.bs_book.specs.Search.{assumed}
-use Rattle.bs_book.specs.Ending.{is_open_lemma}
-use Rattle.bs_book.specs.Stages.{is_begun}
-use Rattle.bs_book.specs.Solver.{SolverState, MaySolve, HasBlocked}
-use Rattle.bs_book.specs.Values.{value_of}
+use Rattle.bs_solve_recording.specs.declared.stage.Stage.TheVariants.{Ended, Stopped}
+use Rattle.bs_solve_recording.specs.Book.{Book, standing}
+use Rattle.bs_solve_recording.specs.Search.{assumed}
+use Rattle.bs_solve_recording.specs.Ending.{is_open_lemma}
+use Rattle.bs_solve_recording.specs.Stages.{is_begun}
+use Rattle.bs_solve_recording.specs.Solver.{SolverState, MaySolve, HasBlocked}
+use Rattle.bs_solve_recording.specs.Values.{value_of}
 use Rattle.bs_preimage.specs.declared.turn.TurnEnd.{TurnEnd}
 use Rattle.bs_preimage.specs.declared.turn.TurnEnd.TheVariants.{Listed, Refuted, Spent}
 use Rattle.bs_preimage.specs.Rest.{AxiomsStand}

@@ -1,14 +1,14 @@
 //! The search for the candidates of a step.
 ghost use Rattle.std.specs.Prelude.{◌≡◌, ◌≤◌, [], true, IfOk};
 ghost use Rattle.bs_preimage.specs.Turn.{IsReadable, MayTurn, Extends};
-ghost use Rattle.bs_book.specs.declared.stage.Stage.TheVariants.{Begun};
+ghost use Rattle.bs_solve_recording.specs.declared.stage.Stage.TheVariants.{Begun};
 ghost use Rattle.bs_preimage.specs.Finding.{HasEndedSearch};
 
 use crate::turn::{TurnEnd, take_turn};
 use bs_clause::{Lits, NoMemory};
 use bs_encode::Encoding;
-use bs_engine::Solver;
 use bs_report::{Cand, ListEnd};
+use bs_solve::Solver;
 use std::alloc::Global;
 
 /// Finds candidates, each another state, until there is no further one, or `k` are found, or a solve has logged `b` lemmas.

@@ -18,10 +18,10 @@ use crate::step::{Question, list_step};
 use bs_bits::{Bits, NoMemory};
 use bs_clause::{Clauses, Lits};
 use bs_encode::{Encoding, encodings_are_tidy};
-use bs_engine::Solver;
 use bs_log::Log;
 use bs_net::Netlist;
 use bs_scan::Choice;
+use bs_solve::Solver;
 use std::alloc::Global;
 use std::marker::Model;
 

@@ -14,10 +14,10 @@ use crate::order::ascending;
 use bs_bits::Bits;
 use bs_clause::NoMemory;
 use bs_encode::{Encoding, encodings_are_tidy, predecessors_are_shown, solutions_are_predecessors};
-use bs_engine::Solver;
 use bs_net::Netlist;
 use bs_report::{Cand, ListEnd};
 use bs_scan::Choice;
+use bs_solve::Solver;
 use std::alloc::Global;
 
 /// What is asked: which states that agree with the stored signature and the older one lead to the present one, at most `k`

@@ -1,15 +1,15 @@
 //! A turn of the search for candidates: one solve, and what comes of it.
 ghost use Rattle.std.specs.Prelude.{◌≡◌, ◌≤◌, [], false, length, IfOk};
-ghost use Rattle.bs_book.specs.Stages.{is_begun};
-ghost use Rattle.bs_book.specs.declared.stage.Stage.TheVariants.{Solved};
+ghost use Rattle.bs_solve_recording.specs.Stages.{is_begun};
+ghost use Rattle.bs_solve_recording.specs.declared.stage.Stage.TheVariants.{Solved};
 ghost use Rattle.bs_preimage.specs.Turn.{IsReadable, MayTurn, TurnsTo, Extends, HasShown};
 
 use crate::candidate::candidate;
-use bs_book::{Answer, Solution};
 use bs_clause::{Lits, NoMemory};
 use bs_encode::Encoding;
-use bs_engine::Solver;
 use bs_report::Cand;
+use bs_solve::Solver;
+use bs_solve_recording::{Answer, Solution};
 use std::alloc::Global;
 
 /// How a turn of the search ends.

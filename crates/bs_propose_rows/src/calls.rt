@@ -3,10 +3,10 @@ ghost use Rattle.std.specs.Prelude.{◌≡◌, length, All};
 ghost use Rattle.std.specs.Bool.{OnTrue};
 
 use bs_bits::{Bits, List, NoMemory};
+use bs_inspect_proposal::proposal_text;
+use bs_inspect_view::view_text;
 use bs_net::Netlist;
-use bs_propose::proposal_text;
 use bs_stim::Runs;
-use bs_view::view_text;
 use std::alloc::Global;
 
 /// The netlist of a text, if it is read and checked.

@@ -15,20 +15,20 @@ use Rattle.bs_log.specs.declared.line.Line.TheVariants.{Solve, Lemma, Block, Fin
 use Rattle.bs_log.specs.History.{Problem, History, step_of, guard_of}
 use Rattle.bs_log.specs.Refusal.{NoneRefused}
 use Rattle.bs_log.specs.Steps.{is_lemma_line, HasNoBlock, finished_in}
-use Rattle.bs_book.specs.declared.answer.Answer.TheVariants as answers
-use Rattle.bs_book.specs.declared.stage.Stage.TheVariants.{Begun}
-use Rattle.bs_book.specs.Book.{Book, standing, next_id, without}
-use Rattle.bs_book.specs.Ending.{is_open_lemma}
-use Rattle.bs_book.specs.Search.{assumed}
-use Rattle.bs_book.specs.Stages.{begun_book}
-use Rattle.bs_book.specs.Solver.{SolverState, HasSolved, HasEnded, finished, retired, leaving}
-use Rattle.bs_book.specs.Values.{value_of}
-use Rattle.bs_book.proofs.Clauses.{all_from, contains_first}
-use Rattle.bs_book.proofs.CallerLemmas.{open_are_lemmas, solved_keeps, bound_is, axioms_stand_still, guards_stay_retired}
+use Rattle.bs_solve_recording.specs.declared.answer.Answer.TheVariants as answers
+use Rattle.bs_solve_recording.specs.declared.stage.Stage.TheVariants.{Begun}
+use Rattle.bs_solve_recording.specs.Book.{Book, standing, next_id, without}
+use Rattle.bs_solve_recording.specs.Ending.{is_open_lemma}
+use Rattle.bs_solve_recording.specs.Search.{assumed}
+use Rattle.bs_solve_recording.specs.Stages.{begun_book}
+use Rattle.bs_solve_recording.specs.Solver.{SolverState, HasSolved, HasEnded, finished, retired, leaving}
+use Rattle.bs_solve_recording.specs.Values.{value_of}
+use Rattle.bs_solve_recording.proofs.Clauses.{all_from, contains_first}
+use Rattle.bs_solve_recording.proofs.CallerLemmas.{open_are_lemmas, solved_keeps, bound_is, axioms_stand_still, guards_stay_retired}
 use Rattle.bs_encode.specs.Tables.{lit}
 use Rattle.bs_encode.specs.Encoded.{Encoded}
 use Rattle.bs_encode.specs.Assuming.{signed}
-use Rattle.bs_unroll.specs.Unrolled.{next_at, length_assumes}
+use Rattle.bs_reach_unrolled.specs.Unrolled.{next_at, length_assumes}
 use Rattle.bs_reach.specs.Search.{problem_over, IsTried, IsBetween, HasShown, HasSpent}
 
 -- ---- lines that change neither the step nor the blocks nor the finish lines

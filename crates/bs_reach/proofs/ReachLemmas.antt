@@ -16,9 +16,9 @@ use Rattle.bs_log.specs.Lean.{IsLean}
 use Rattle.bs_log.specs.LineForms.{HasText}
 use Rattle.bs_log.specs.Steps.{HasNoBlock, finished_in}
 use Rattle.bs_net.specs.Circuit.{Circuit, reset_state}
-use Rattle.bs_book.specs.declared.stage.Stage.TheVariants.{Idle}
-use Rattle.bs_book.specs.Solver.{SolverState}
-use Rattle.bs_book.specs.Values.{value_of}
+use Rattle.bs_solve_recording.specs.declared.stage.Stage.TheVariants.{Idle}
+use Rattle.bs_solve_recording.specs.Solver.{SolverState}
+use Rattle.bs_solve_recording.specs.Values.{value_of}
 use Rattle.bs_encode.specs.Encoded.{Encoded, encoding_of}
 use Rattle.bs_encode.specs.Assuming.{signed}
 use Rattle.bs_reach.specs.declared.reach.Reach.{Reach}
@@ -28,9 +28,9 @@ use Rattle.bs_reach.specs.declared.search.End.{End}
 use Rattle.bs_reach.specs.declared.search.End.TheVariants.{Reached, Unreached, Unknown}
 use Rattle.bs_reach.specs.declared.telling.Told.{Told}
 use Rattle.bs_scan.specs.Moments.{state_at}
-use Rattle.bs_unroll.specs.Execution.{ReachedIn, NotBefore, IsExecution}
-use Rattle.bs_unroll.specs.Unrolled.{next_at, unrolled, reach_problem}
-use Rattle.bs_unroll.specs.Laws.{inputs_shown, SolutionsAreExecutions, FinishedIsNotReached}
+use Rattle.bs_reach_unrolled.specs.Execution.{ReachedIn, NotBefore, IsExecution}
+use Rattle.bs_reach_unrolled.specs.Unrolled.{next_at, unrolled, reach_problem}
+use Rattle.bs_reach_unrolled.specs.Laws.{inputs_shown, SolutionsAreExecutions, FinishedIsNotReached}
 use Rattle.bs_reach.specs.Search.{problem_over, IsTried, IsBetween, fresh_over}
 use Rattle.bs_reach.specs.Ends.{EndsAs}
 use Rattle.bs_reach.specs.Told.{Tells, EndFits}

@@ -4,9 +4,9 @@ use Rattle.std.specs.List.{All}
 use Rattle.std.proofs.lemmas.List.Elements.{All-weaker}
 use Rattle.bs_clause.specs.Literal.{Literal}
 use Rattle.bs_clause.specs.Range.{IsWithin, HasVariables}
-use Rattle.bs_unroll.specs.declared.limits.TheConstants.{MAX_COPY_VARIABLES}
+use Rattle.bs_reach_unrolled.specs.declared.limits.TheConstants.{MAX_COPY_VARIABLES}
 use Rattle.bs_encode.specs.Copy.{HasRoom}
-use Rattle.bs_unroll.proofs.UnrollLemmas.{base_fits, copies_fit, room_above}
+use Rattle.bs_reach_unrolled.proofs.UnrollLemmas.{base_fits, copies_fit, room_above}
 
 pub read_room : (n k c by : ℕ) (ls from : List Literal) → HasVariables n ls → c < k → k * n ≤ MAX_COPY_VARIABLES → by ≡ c * n → from ≡ ls → HasRoom by from
 read_room n k c by ls from range lt room is same =

@@ -11,12 +11,12 @@ use Rattle.bs_log.specs.Refusal.{history_of, IsAccepted}
 use Rattle.bs_log.specs.Lean.{IsLean}
 use Rattle.bs_log.specs.LineForms.{HasText}
 use Rattle.bs_log.specs.Steps.{HasNoBlock, finished_in}
-use Rattle.bs_book.specs.Ending.{is_open_lemma}
+use Rattle.bs_solve_recording.specs.Ending.{is_open_lemma}
 use Rattle.bs_net.specs.Circuit.{Circuit, reset_state}
 use Rattle.bs_encode.specs.Encoded.{encoding_of}
 use Rattle.bs_encode.specs.Transition.{variables}
-use Rattle.bs_unroll.specs.Execution.{NotBefore, IsExecution}
-use Rattle.bs_unroll.specs.Unrolled.{unrolled, length_assumes, reach_problem}
+use Rattle.bs_reach_unrolled.specs.Execution.{NotBefore, IsExecution}
+use Rattle.bs_reach_unrolled.specs.Unrolled.{unrolled, length_assumes, reach_problem}
 use Rattle.bs_reach.specs.declared.reach.Outcome.{Outcome}
 use Rattle.bs_reach.specs.declared.reach.Outcome.TheVariants.{Reached, Unreached, Unknown}
 use Rattle.bs_reach.specs.declared.reach.Reach.{Reach}

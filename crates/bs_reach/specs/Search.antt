@@ -8,13 +8,13 @@ use Rattle.bs_log.specs.declared.line.Line.{Line}
 use Rattle.bs_log.specs.declared.line.Line.TheVariants.{Solve, Retire}
 use Rattle.bs_log.specs.History.{Problem, History, step_of}
 use Rattle.bs_log.specs.Steps.{HasNoBlock, finished_in}
-use Rattle.bs_book.specs.declared.stage.Stage.TheVariants.{Idle}
-use Rattle.bs_book.specs.Ending.{is_open_lemma}
-use Rattle.bs_book.specs.Solver.{SolverState}
-use Rattle.bs_book.specs.Values.{value_of}
+use Rattle.bs_solve_recording.specs.declared.stage.Stage.TheVariants.{Idle}
+use Rattle.bs_solve_recording.specs.Ending.{is_open_lemma}
+use Rattle.bs_solve_recording.specs.Solver.{SolverState}
+use Rattle.bs_solve_recording.specs.Values.{value_of}
 use Rattle.bs_encode.specs.Encoded.{Encoded}
 use Rattle.bs_encode.specs.Assuming.{signed}
-use Rattle.bs_unroll.specs.Unrolled.{next_at, length_assumes}
+use Rattle.bs_reach_unrolled.specs.Unrolled.{next_at, length_assumes}
 use Rattle.bs_reach.specs.declared.length.Trial.{Trial}
 use Rattle.bs_reach.specs.declared.length.Trial.TheVariants.{Shown, Refuted, Spent}
 

@@ -3,10 +3,10 @@ use Rattle.std.specs.Prelude.{◌≡◌, ℕ, Bool, false, List, All}
 use Rattle.bs_log.specs.Refusal.{history_of, IsAccepted}
 use Rattle.bs_log.specs.Lean.{IsLean}
 use Rattle.bs_log.specs.LineForms.{HasText}
-use Rattle.bs_book.specs.declared.stage.Stage.TheVariants.{Idle}
-use Rattle.bs_book.specs.Solver.{SolverState}
+use Rattle.bs_solve_recording.specs.declared.stage.Stage.TheVariants.{Idle}
+use Rattle.bs_solve_recording.specs.Solver.{SolverState}
 use Rattle.bs_encode.specs.Encoded.{Encoded}
-use Rattle.bs_unroll.specs.Unrolled.{unrolled}
+use Rattle.bs_reach_unrolled.specs.Unrolled.{unrolled}
 use Rattle.bs_reach.specs.declared.reach.Reach.{Reach}
 use Rattle.bs_reach.specs.declared.search.End.{End}
 use Rattle.bs_reach.specs.declared.telling.Told.{Told}

@@ -1,12 +1,12 @@
 -- What the end of a search tells.
 use Rattle.std.specs.Prelude.{◌≡◌, ℕ, ◌+◌, ◌*◌, ◌<◌, ◌≤◌, Bool, length}
 use Rattle.bs_encode.specs.Encoded.{Encoded}
-use Rattle.bs_book.specs.Values.{value_of}
+use Rattle.bs_solve_recording.specs.Values.{value_of}
 use Rattle.bs_reach.specs.declared.search.End.{End}
 use Rattle.bs_reach.specs.declared.search.End.TheVariants as ends
 use Rattle.bs_reach.specs.declared.reach.Outcome.TheVariants.{Reached, Unreached, Unknown}
 use Rattle.bs_reach.specs.declared.telling.Told.{Told}
-use Rattle.bs_unroll.specs.Laws.{states_shown, inputs_shown}
+use Rattle.bs_reach_unrolled.specs.Laws.{states_shown, inputs_shown}
 
 -- the copy is there, and its values are
 abbrev pub EndFits : Encoded → ℕ → End → Type 0

@@ -3,9 +3,9 @@ ghost use Rattle.std.specs.Prelude.{◌≡◌, ◌≢◌, ◌*◌, ◌≤◌, []
 ghost use Rattle.bs_net.specs.Circuit.{reset_state};
 ghost use Rattle.bs_net.specs.Netlist.{circuit};
 ghost use Rattle.bs_encode.specs.Transition.{variables};
-ghost use Rattle.bs_unroll.specs.declared.limits.TheConstants.{MAX_COPIES, MAX_COPY_VARIABLES};
-ghost use Rattle.bs_unroll.specs.Room.{IsUnrollable};
-ghost use Rattle.bs_unroll.specs.Unrolled.{unrolled};
+ghost use Rattle.bs_reach_unrolled.specs.declared.limits.TheConstants.{MAX_COPIES, MAX_COPY_VARIABLES};
+ghost use Rattle.bs_reach_unrolled.specs.Room.{IsUnrollable};
+ghost use Rattle.bs_reach_unrolled.specs.Unrolled.{unrolled};
 ghost use Rattle.bs_reach.specs.Search.{fresh_over};
 ghost use Rattle.bs_reach.specs.Reach.{IsReach};
 ghost use Rattle.bs_reach.specs.Sought.{HasSought};
@@ -16,10 +16,10 @@ use crate::telling::{Told, tell};
 use bs_bits::{Bits, List};
 use bs_clause::NoMemory;
 use bs_encode::Encoding;
-use bs_engine::Solver;
 use bs_log::Log;
 use bs_net::Netlist;
-use bs_unroll::{netlists_unroll, unroll, unrolled_clauses_are_executions};
+use bs_reach_unrolled::{netlists_unroll, unroll, unrolled_clauses_are_executions};
+use bs_solve::Solver;
 use std::alloc::Global;
 
 /// A solver over the unrolled clauses.

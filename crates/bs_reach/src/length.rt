@@ -1,14 +1,14 @@
 //! One length: a step of the log, in which it is shown or refuted that the state is reached in so many cycles.
 ghost use Rattle.std.specs.Prelude.{◌≡◌, ◌<◌, ◌≤◌, length, IfOk};
-ghost use Rattle.bs_unroll.specs.Room.{IsUnrollable};
+ghost use Rattle.bs_reach_unrolled.specs.Room.{IsUnrollable};
 ghost use Rattle.bs_reach.specs.Search.{IsBetween, TriesTo};
 
 use bs_bits::Bits;
-use bs_book::{Answer, Solution};
 use bs_clause::NoMemory;
 use bs_encode::Encoding;
-use bs_engine::Solver;
-use bs_unroll::assume_length;
+use bs_reach_unrolled::assume_length;
+use bs_solve::Solver;
+use bs_solve_recording::{Answer, Solution};
 use std::alloc::Global;
 
 /// What the trial of a length comes to.

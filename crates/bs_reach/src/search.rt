@@ -1,15 +1,15 @@
 //! The search over the lengths, one after another.
 ghost use Rattle.std.specs.Prelude.{◌≡◌, ◌+◌, ◌<◌, ◌≤◌, length, IfOk};
-ghost use Rattle.bs_unroll.specs.Room.{IsUnrollable};
+ghost use Rattle.bs_reach_unrolled.specs.Room.{IsUnrollable};
 ghost use Rattle.bs_reach.specs.Search.{IsBetween};
 ghost use Rattle.bs_reach.specs.Ends.{EndsAs};
 
 use crate::length::{Trial, try_length};
 use bs_bits::Bits;
-use bs_book::Solution;
 use bs_clause::NoMemory;
 use bs_encode::Encoding;
-use bs_engine::Solver;
+use bs_solve::Solver;
+use bs_solve_recording::Solution;
 use std::alloc::Global;
 
 /// How the search ends, with the copy that was to lead to the state.

@@ -1,19 +1,19 @@
 //! What the end of a search tells: the outcome, and an execution where there is one.
 ghost use Rattle.std.specs.Prelude.{◌≡◌, ◌+◌, ◌*◌, ◌<◌, ◌≤◌, length, All, IfOk};
-ghost use Rattle.bs_book.specs.Values.{value_of};
+ghost use Rattle.bs_solve_recording.specs.Values.{value_of};
 ghost use Rattle.bs_encode.specs.Cycle.{bits_on};
 ghost use Rattle.bs_encode.specs.Copy.{raised_all, HasRoom};
-ghost use Rattle.bs_unroll.specs.Room.{IsUnrollable};
-ghost use Rattle.bs_unroll.specs.Unrolled.{states_at, inputs_at, next_at};
-ghost use Rattle.bs_unroll.specs.Laws.{states_shown, inputs_shown};
+ghost use Rattle.bs_reach_unrolled.specs.Room.{IsUnrollable};
+ghost use Rattle.bs_reach_unrolled.specs.Unrolled.{states_at, inputs_at, next_at};
+ghost use Rattle.bs_reach_unrolled.specs.Laws.{states_shown, inputs_shown};
 ghost use Rattle.bs_reach.specs.Told.{EndFits, Tells};
 
 use crate::reach::Outcome;
 use crate::search::End;
 use bs_bits::{Bits, List};
-use bs_book::Solution;
 use bs_clause::{Lit, NoMemory, Var};
 use bs_encode::Encoding;
+use bs_solve_recording::Solution;
 use std::alloc::Global;
 
 /// The outcome, with the states and inputs of an execution where there is one.

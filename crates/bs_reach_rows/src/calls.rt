@@ -3,14 +3,14 @@ ghost use Rattle.std.specs.Prelude.{◌≡◌, ◌*◌, ◌≤◌, [], length, I
 ghost use Rattle.std.specs.Bool.{OnTrue};
 ghost use Rattle.bs_net.specs.Netlist.{circuit};
 ghost use Rattle.bs_encode.specs.Transition.{variables};
-ghost use Rattle.bs_unroll.specs.declared.limits.TheConstants.{MAX_COPIES, MAX_COPY_VARIABLES};
+ghost use Rattle.bs_reach_unrolled.specs.declared.limits.TheConstants.{MAX_COPIES, MAX_COPY_VARIABLES};
 
 use crate::checks::{accepts, goes};
 use bs_bits::{Bits, NoMemory};
 use bs_net::Netlist;
 use bs_reach::{Outcome, Reach, bounded, size};
+use bs_reach_unrolled::{MAX_COPIES, MAX_COPY_VARIABLES};
 use bs_sim::Sim;
-use bs_unroll::{MAX_COPIES, MAX_COPY_VARIABLES};
 use std::alloc::Global;
 
 /// What is seen of an answer: the outcome, whether the checker accepts the log, and whether a simulation from reset under its

@@ -2,17 +2,17 @@
 ghost use Rattle.std.specs.Prelude.{◌≡◌, ◌*◌, ◌<◌, ◌≤◌, [], length, IfOk};
 ghost use Rattle.bs_net.specs.Netlist.{circuit};
 ghost use Rattle.bs_encode.specs.Transition.{variables};
-ghost use Rattle.bs_unroll.specs.declared.limits.TheConstants.{MAX_COPIES, MAX_COPY_VARIABLES};
-ghost use Rattle.bs_unroll.specs.Room.{IsUnrollable};
+ghost use Rattle.bs_reach_unrolled.specs.declared.limits.TheConstants.{MAX_COPIES, MAX_COPY_VARIABLES};
+ghost use Rattle.bs_reach_unrolled.specs.Room.{IsUnrollable};
 
 use bs_bits::{Bits, List, NoMemory};
 use bs_clause::{Lit, Lits, Var};
 use bs_encode::Encoding;
 use bs_log::Log;
 use bs_net::Netlist;
+use bs_reach_unrolled::{assume_length, netlists_unroll, unroll};
 use bs_rup::{Verdict, check};
 use bs_sim::Sim;
-use bs_unroll::{assume_length, netlists_unroll, unroll};
 use std::alloc::Global;
 
 /// What each length that was tried assumes.

@@ -2,7 +2,7 @@
 use Rattle.std.specs.Prelude.{ℕ, List, [], ◌∷◌, ◌++◌, codes, Option, Some, None, if◌then◌else◌}
 use Rattle.std.specs.Option.{option_and_then}
 use Rattle.std.specs.Str.{bytes_eq}
-use Rattle.bs_words.specs.Options.{has_dash, is_option, rest_of}
+use Rattle.bs_top_words.specs.Options.{has_dash, is_option, rest_of}
 use Rattle.bs_request.specs.Flags.{flag_of}
 use Rattle.bs_request.specs.declared.flags.Flag.{Flag}
 use Rattle.bs_request.specs.declared.flags.Flag.TheVariants.{All, Only, Clock, Scope, Map, Bits}

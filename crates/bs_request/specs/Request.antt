@@ -3,7 +3,7 @@ use Rattle.std.specs.Prelude.{ℕ, nat_le, ◌==◌, Bool, ◌&&◌, ◌||◌, L
 use Rattle.std.specs.Option.{option_map, option_and_then}
 use Rattle.std.specs.List.{find, list_all, list_any}
 use Rattle.std.specs.Str.{bytes_eq}
-use Rattle.bs_words.specs.Options.{number_between}
+use Rattle.bs_top_words.specs.Options.{number_between}
 use Rattle.bs_request.specs.Flags.{is_flag}
 use Rattle.bs_request.specs.declared.flags.Flag.{Flag}
 use Rattle.bs_request.specs.declared.flags.Flag.TheVariants.{All, Only, Clock, Scope, Map, Bits}

@@ -1,11 +1,11 @@
 //! The words behind the command, one after another: words by position, and options with their values among them.
 ghost use Rattle.std.specs.Prelude.{◌≡◌, map, string_bytes, IfOk, Some};
-ghost use Rattle.bs_words.specs.Shown.{Takes};
+ghost use Rattle.bs_top_words.specs.Shown.{Takes};
 ghost use Rattle.bs_request.specs.Given.{add_position, add_setting, awaited_after, equals_step, more_step, option_step, plain_step, read_all, setting_in, start, step, value_step};
 ghost use Rattle.bs_request.specs.Shown.{given_in, shown, shown_setting, progress_in};
 
 use crate::flags::{Flag, flag_of};
-use bs_words::{has_dash, is_option, rest_of};
+use bs_top_words::{has_dash, is_option, rest_of};
 use std::alloc::{AllocError, Global};
 
 /// What the next word may be.

@@ -12,7 +12,7 @@ use crate::limits::MAX_BITS;
 use crate::proposed::SignatureRequest;
 use crate::request::{Request, times};
 use crate::stimulus::value_of;
-use bs_words::number_between;
+use bs_top_words::number_between;
 
 /// Whether each option is one of `signature`.
 fn all_for_signature(settings: &[Setting<'_>]) -> bool

@@ -2,10 +2,10 @@
 use Rattle.std.proofs.Common.{◌≡◌, ap, sym, ◌∙◌, inl, inr}
 use Rattle.std.proofs.lemmas.Bool.{true≢false}
 use Rattle.bs_clause.specs.Literal.{Clause}
-use Rattle.bs_book.specs.declared.stage.Stage.TheVariants.{Begun, Blocked}
-use Rattle.bs_book.specs.Stages.{is_begun}
-use Rattle.bs_book.specs.Search.{assumed}
-use Rattle.bs_book.specs.Solver.{SolverState, MaySolve}
+use Rattle.bs_solve_recording.specs.declared.stage.Stage.TheVariants.{Begun, Blocked}
+use Rattle.bs_solve_recording.specs.Stages.{is_begun}
+use Rattle.bs_solve_recording.specs.Search.{assumed}
+use Rattle.bs_solve_recording.specs.Solver.{SolverState, MaySolve}
 
 -- the first time in a step
 pub may_begin : (s : SolverState) (a : Clause) → s.stage ≡ Begun → MaySolve s a

@@ -5,13 +5,13 @@ ghost use Rattle.std.specs.Bool.{OnTrue};
 ghost use Rattle.std.specs.List.{list_any};
 ghost use Rattle.bs_log.specs.Refusal.{has_distinct_variables};
 ghost use Rattle.bs_clause.specs.Range.{HasVariables};
-ghost use Rattle.bs_book.specs.declared.stage.Stage.TheVariants.{Begun, Solved};
-ghost use Rattle.bs_book.specs.Search.{assumed};
+ghost use Rattle.bs_solve_recording.specs.declared.stage.Stage.TheVariants.{Begun, Solved};
+ghost use Rattle.bs_solve_recording.specs.Search.{assumed};
 
-use bs_book::Answer;
 use bs_clause::{Clauses, Lit, Lits, NoMemory, VARIABLE_LIMIT, Var};
-use bs_engine::Solver;
 use bs_log::Log;
+use bs_solve::Solver;
+use bs_solve_recording::Answer;
 use std::alloc::Global;
 use std::test::Fail;
 

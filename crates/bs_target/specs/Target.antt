@@ -3,12 +3,12 @@ use Rattle.std.specs.Prelude.{ℕ, ◌*◌, ◌==◌, nat_le, Bool, true, List, 
 use Rattle.bs_bits.specs.Text.{bits_of}
 use Rattle.bs_net.specs.Netlist.{circuit_of}
 use Rattle.bs_net.specs.Parts.{Parts}
-use Rattle.bs_job.specs.declared.file.File.TheVariants as files
-use Rattle.bs_job.specs.Plan.{Reason, exactly, Plan, end, ◌>>=◌, read_as}
+use Rattle.bs_top_plan.specs.declared.file.File.TheVariants as files
+use Rattle.bs_top_plan.specs.Plan.{Reason, exactly, Plan, end, ◌>>=◌, read_as}
 use Rattle.bs_encode.specs.Transition.{variables}
-use Rattle.bs_unroll.specs.declared.limits.TheConstants.{MAX_COPY_VARIABLES}
-use Rattle.bs_entry.specs.Entry.{netlist_of}
-use Rattle.bs_entry.specs.Refusals.{Case}
+use Rattle.bs_reach_unrolled.specs.declared.limits.TheConstants.{MAX_COPY_VARIABLES}
+use Rattle.bs_top_files.specs.Entry.{netlist_of}
+use Rattle.bs_top_files.specs.Refusals.{Case}
 
 -- a netlist's parts, a state of it, and the most cycles in which the state is to be reached
 pub record Target : Type 0 where

@@ -2,18 +2,18 @@
 ghost use Rattle.std.specs.Prelude.{◌≡◌, ◌*◌, ◌≤◌, [], length, nat_le, true, Some, IfOk};
 ghost use Rattle.std.specs.Bool.{OnTrue};
 ghost use Rattle.bs_net.specs.Netlist.{circuit};
-ghost use Rattle.bs_job.specs.Walks.{Reads};
+ghost use Rattle.bs_top_plan.specs.Walks.{Reads};
 ghost use Rattle.bs_encode.specs.Transition.{variables};
-ghost use Rattle.bs_unroll.specs.declared.limits.TheConstants.{MAX_COPY_VARIABLES};
-ghost use Rattle.bs_entry.specs.Refusals.{CheckSays};
+ghost use Rattle.bs_reach_unrolled.specs.declared.limits.TheConstants.{MAX_COPY_VARIABLES};
+ghost use Rattle.bs_top_files.specs.Refusals.{CheckSays};
 ghost use Rattle.bs_target.specs.Target.{fitting, room_in, state_in};
 
 use bs_bits::Bits;
-use bs_entry::worded;
-use bs_job::Refusal;
 use bs_net::Netlist;
 use bs_reach::size;
-use bs_unroll::MAX_COPY_VARIABLES;
+use bs_reach_unrolled::MAX_COPY_VARIABLES;
+use bs_top_files::worded;
+use bs_top_plan::Refusal;
 use std::alloc::Global;
 
 /// Bits that are a state of the netlist: one for each flip-flop.

@@ -2,7 +2,7 @@
 ghost use Rattle.std.specs.Prelude.{◌≡◌, ◌*◌, ◌≤◌, [], length};
 ghost use Rattle.bs_net.specs.Netlist.{circuit};
 ghost use Rattle.bs_encode.specs.Transition.{variables};
-ghost use Rattle.bs_unroll.specs.declared.limits.TheConstants.{MAX_COPY_VARIABLES};
+ghost use Rattle.bs_reach_unrolled.specs.declared.limits.TheConstants.{MAX_COPY_VARIABLES};
 
 use bs_bits::Bits;
 use bs_net::Netlist;

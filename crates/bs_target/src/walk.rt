@@ -1,14 +1,14 @@
 //! The walk of a search: the netlist, then its state, then its size.
-ghost use Rattle.bs_job.specs.Walks.{Walks};
-ghost use Rattle.bs_entry.specs.Refusals.{CheckSays};
+ghost use Rattle.bs_top_plan.specs.Walks.{Walks};
+ghost use Rattle.bs_top_files.specs.Refusals.{CheckSays};
 ghost use Rattle.bs_target.specs.Target.{target_of};
 ghost use Rattle.bs_target.specs.Shown.{target_in};
 
 use crate::readings::{check_room, read_state};
 use crate::target::Target;
-use bs_entry::take_netlist;
-use bs_job::{File, JobFault, settle};
 use bs_outside::Shelf;
+use bs_top_files::take_netlist;
+use bs_top_plan::{File, JobFault, settle};
 use std::alloc::Global;
 
 /// The netlist of a file, with a state of it and a number of cycles for which the search is not too large.

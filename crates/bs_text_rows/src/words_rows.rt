@@ -1,5 +1,5 @@
 //! Worked command lines.
-use bs_words::{AuditJob, DumpJob, Job, ReachJob, RunJob, read_words};
+use bs_top_words::{AuditJob, DumpJob, Job, ReachJob, RunJob, read_words};
 use std::alloc::{AllocError, Global};
 use std::test::Fail;
 

@@ -1,9 +1,9 @@
 -- The job that words ask for, by what was read of them.
 use Rattle.std.proofs.Common.{◌≡◌, ℕ, ◌≤◌, List, Some, sym}
-use Rattle.bs_words.specs.Job.{RunJob, ReachJob, Run, Reach, job_of}
-use Rattle.bs_words.proofs.BudgetLemmas.{FitsRun, FitsReach, job_fits}
+use Rattle.bs_top_words.specs.Job.{RunJob, ReachJob, Run, Reach, job_of}
+use Rattle.bs_top_words.proofs.BudgetLemmas.{FitsRun, FitsReach, job_fits}
 use Rattle.bs_loop.specs.Budget.{IsBudget}
-use Rattle.bs_unroll.specs.declared.limits.TheConstants.{MAX_COPIES}
+use Rattle.bs_reach_unrolled.specs.declared.limits.TheConstants.{MAX_COPIES}
 use Rattle.bs_top.specs.Work.{budgets_of}
 
 -- the budgets of a run that words ask for are in their ranges

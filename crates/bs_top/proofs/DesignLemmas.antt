@@ -2,12 +2,12 @@
 use Rattle.std.proofs.Common.{◌≡◌, ℕ, List, Result, Ok, Err}
 use Rattle.bs_lex.specs.declared.token.Token.{Token}
 use Rattle.bs_lex.specs.Tokens.{tokens_of}
-use Rattle.bs_syntax.specs.declared.fault.VerilogFault.{VerilogFault}
-use Rattle.bs_syntax.specs.declared.fault.VerilogFault.TheVariants.{Syntax}
+use Rattle.bs_verilog_syntax.specs.declared.fault.VerilogFault.{VerilogFault}
+use Rattle.bs_verilog_syntax.specs.declared.fault.VerilogFault.TheVariants.{Syntax}
 use Rattle.bs_verilog.specs.Netlist.{tokenised}
 use Rattle.bs_whole.proofs.LawLemmas.{read_modules_are_whole}
-use Rattle.bs_entry.specs.Law.{NetlistsMeanDesigns}
-use Rattle.bs_entry.proofs.DesignLemmas.{AreRead, netlists_mean}
+use Rattle.bs_top_files.specs.Law.{NetlistsMeanDesigns}
+use Rattle.bs_top_files.proofs.DesignLemmas.{AreRead, netlists_mean}
 
 abbrev lexed_as : List Token → Result (List Token) VerilogFault
 lexed_as tokens = Ok tokens

@@ -2,7 +2,7 @@
 use Rattle.std.proofs.Common.{◌≡◌, None, ap, ◌∙◌}
 use Rattle.bs_report.specs.Reading.{report_in}
 use Rattle.bs_report.proofs.ReadBackLemmas.{read_back}
-use Rattle.bs_entry.specs.Refusals.{report_reason, with_reason}
+use Rattle.bs_top_files.specs.Refusals.{report_reason, with_reason}
 use Rattle.bs_top.specs.Rejected.{finding_status, finding_text}
 use Rattle.bs_top.specs.Law.{AuditAcceptsWhatRunWrites}
 

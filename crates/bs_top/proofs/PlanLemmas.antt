@@ -2,18 +2,18 @@
 use Rattle.std.proofs.Common.{◌≡◌, ◌<◌, ◌≤◌, ℕ, Bool, true, false, List, length, codes, Option, Some, None, Ok, refl, sym, ◌∙◌, ap}
 use Rattle.std.specs.Prelude.{nat_lt, if◌then◌else◌}
 use Rattle.std.proofs.lemmas.Bool.{le-ltb, lt-ltb}
-use Rattle.bs_entry.specs.Refusals.{Case}
+use Rattle.bs_top_files.specs.Refusals.{Case}
 use Rattle.bs_report.specs.declared.report.Budgets.{Budgets}
 use Rattle.bs_report.specs.declared.report.Report.{Report}
-use Rattle.bs_job.specs.declared.file.File.{File}
-use Rattle.bs_job.specs.declared.file.File.TheVariants as files
-use Rattle.bs_job.specs.declared.limits.TheConstants.{MAX_REPORT_BYTES}
-use Rattle.bs_job.specs.Files.{limit_of}
-use Rattle.bs_job.specs.Plan.{Tells, Wanted, Reason, exactly, Plan, fetch, refuse, end, ◌>>=◌, Outcome, refused, told_next, told_end}
-use Rattle.bs_job.proofs.Plans.{ready_in, refused_in, told_end_then, told_came_from}
-use Rattle.bs_words.specs.Job.{RunJob}
-use Rattle.bs_entry.specs.Entry.{Crashed, crashed_of, Claimed, claimed_of, report_of}
-use Rattle.bs_entry.specs.Readings.{report_read}
+use Rattle.bs_top_plan.specs.declared.file.File.{File}
+use Rattle.bs_top_plan.specs.declared.file.File.TheVariants as files
+use Rattle.bs_top_plan.specs.declared.limits.TheConstants.{MAX_REPORT_BYTES}
+use Rattle.bs_top_plan.specs.Files.{limit_of}
+use Rattle.bs_top_plan.specs.Plan.{Tells, Wanted, Reason, exactly, Plan, fetch, refuse, end, ◌>>=◌, Outcome, refused, told_next, told_end}
+use Rattle.bs_top_plan.proofs.Plans.{ready_in, refused_in, told_end_then, told_came_from}
+use Rattle.bs_top_words.specs.Job.{RunJob}
+use Rattle.bs_top_files.specs.Entry.{Crashed, crashed_of, Claimed, claimed_of, report_of}
+use Rattle.bs_top_files.specs.Readings.{report_read}
 use Rattle.bs_top.specs.Work.{to_run, to_audit, run_names, budgets_of}
 use Rattle.bs_top.specs.Law.{IsAcceptedText, audit_of, AuditEnds, AuditFollowsRun}
 use Rattle.bs_top.proofs.LawLemmas.{audit_accepts}

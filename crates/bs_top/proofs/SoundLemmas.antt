@@ -9,12 +9,12 @@ use Rattle.bs_encode.specs.Depth.{basis_of}
 use Rattle.bs_report.specs.declared.report.Budgets.{Budgets}
 use Rattle.bs_report.specs.declared.report.Report.{Report}
 use Rattle.bs_report.specs.Text.{HasReportText}
-use Rattle.bs_good.specs.Chain.{present_of}
-use Rattle.bs_good.specs.Good.{IsGood}
-use Rattle.bs_good.specs.Valid.{first_failing, IsValid}
-use Rattle.bs_good.proofs.EndLemmas.{unhit_is_first, finished_reach_reset}
-use Rattle.bs_good.proofs.ProgressLemmas.{progress}
-use Rattle.bs_good.proofs.ExecutionLemmas.{executed}
+use Rattle.bs_report_good.specs.Chain.{present_of}
+use Rattle.bs_report_good.specs.Good.{IsGood}
+use Rattle.bs_report_good.specs.Valid.{first_failing, IsValid}
+use Rattle.bs_report_good.proofs.EndLemmas.{unhit_is_first, finished_reach_reset}
+use Rattle.bs_report_good.proofs.ProgressLemmas.{progress}
+use Rattle.bs_report_good.proofs.ExecutionLemmas.{executed}
 use Rattle.bs_loop.specs.Bound.{HasBound}
 use Rattle.bs_audit.specs.declared.finding.Finding.{Finding}
 use Rattle.bs_audit.specs.Finding.{part_of, basis_for}

@@ -7,22 +7,22 @@ use Rattle.std.specs.Str.{bytes_eq}
 use Rattle.std.specs.declared.alloc.Global.{Global}
 use Rattle.bs_outside.specs.Files.{Files, held_in}
 use Rattle.bs_net.specs.Parts.{Parts}
-use Rattle.bs_job.specs.declared.walk.JobFault.{JobFault}
-use Rattle.bs_job.specs.declared.file.File.TheVariants as files
-use Rattle.bs_job.specs.Plan.{Tells, AllTold, with_texts, end, fetched, read_as, ◌>>=◌}
-use Rattle.bs_job.specs.Walks.{Walks, WalksAlone}
-use Rattle.bs_job.proofs.Walking.{told_then, told_fetched, told_read, walks_alone, sure_shelf}
+use Rattle.bs_top_plan.specs.declared.walk.JobFault.{JobFault}
+use Rattle.bs_top_plan.specs.declared.file.File.TheVariants as files
+use Rattle.bs_top_plan.specs.Plan.{Tells, AllTold, with_texts, end, fetched, read_as, ◌>>=◌}
+use Rattle.bs_top_plan.specs.Walks.{Walks, WalksAlone}
+use Rattle.bs_top_plan.proofs.Walking.{told_then, told_fetched, told_read, walks_alone, sure_shelf}
 use Rattle.bs_outside.specs.Memory.{sure_files, sure_held, sure_faults, sure_leads}
 use Rattle.bs_outside.specs.declared.sure.SureShelf.{SureShelf}
 use Rattle.bs_stim.specs.Runs.{Stimulus}
 use Rattle.bs_scan.specs.Choice.{Chosen}
 use Rattle.bs_scan.specs.Moments.{Moment}
 use Rattle.bs_gen.specs.Job.{netlist_for, signature_text, stimulus_for}
-use Rattle.bs_entry.specs.declared.ready.Placed.{Placed as CodePlaced}
-use Rattle.bs_entry.specs.Ready.{placed_in}
-use Rattle.bs_entry.specs.Refusals.{Case, CheckSays}
-use Rattle.bs_entry.specs.Entry.{Setup, placed_of, setup_of, netlist_of, signature_of, stimulus_of, input_width}
-use Rattle.bs_entry.specs.Readings.{netlist_in, signature_in, stimulus_in, moment_in}
+use Rattle.bs_top_files.specs.declared.ready.Placed.{Placed as CodePlaced}
+use Rattle.bs_top_files.specs.Ready.{placed_in}
+use Rattle.bs_top_files.specs.Refusals.{Case, CheckSays}
+use Rattle.bs_top_files.specs.Entry.{Setup, placed_of, setup_of, netlist_of, signature_of, stimulus_of, input_width}
+use Rattle.bs_top_files.specs.Readings.{netlist_in, signature_in, stimulus_in, moment_in}
 use Rattle.bs_top.specs.declared.budgets.TheConstants.{DEMO_RUN, DEMO_CYCLE}
 use Rattle.bs_top.specs.Demo.{demo_names, demo_of, demo_told, told_of}
 use Rattle.bs_top.specs.Texts.{AreTexts}

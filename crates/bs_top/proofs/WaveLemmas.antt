@@ -8,19 +8,19 @@ use Rattle.std.proofs.lemmas.List.Elements.{All-from_get_or}
 use Rattle.bs_net.specs.Decided.{passes}
 use Rattle.bs_net.specs.Netlist.{circuit_of}
 use Rattle.bs_net.specs.Parts.{Parts}
-use Rattle.bs_job.specs.declared.file.File.TheVariants as files
-use Rattle.bs_job.specs.declared.status.Status.TheVariants.{Done}
-use Rattle.bs_job.specs.Files.{limit_of}
-use Rattle.bs_job.specs.Plan.{Tells, Wanted, Reason, exactly, Plan, fetch, refuse, end, ◌>>=◌, read_as, Outcome, refused, told_next, told_end}
-use Rattle.bs_job.proofs.Plans.{ready_in, refused_in}
+use Rattle.bs_top_plan.specs.declared.file.File.TheVariants as files
+use Rattle.bs_top_plan.specs.declared.status.Status.TheVariants.{Done}
+use Rattle.bs_top_plan.specs.Files.{limit_of}
+use Rattle.bs_top_plan.specs.Plan.{Tells, Wanted, Reason, exactly, Plan, fetch, refuse, end, ◌>>=◌, read_as, Outcome, refused, told_next, told_end}
+use Rattle.bs_top_plan.proofs.Plans.{ready_in, refused_in}
 use Rattle.bs_verilog.specs.Law.{AreNames}
 use Rattle.bs_named.proofs.LawLemmas.{flat_nets_are_named}
-use Rattle.bs_entry.specs.Entry.{FileNames, Setup, Crashed, Claimed, netlist_of, signature_of, stimulus_of, dump_of, setup_of, crashed_of, report_of}
-use Rattle.bs_entry.specs.Entry.{claimed_of, drawn_of}
-use Rattle.bs_entry.specs.Readings.{checked_of, netlist_in, size_in, text_in}
-use Rattle.bs_entry.specs.Refusals.{Case, check_reason, text_reason, with_reason}
-use Rattle.bs_entry.proofs.TextLemmas.{parts_answer}
-use Rattle.bs_good.specs.declared.part.Part.{Part}
+use Rattle.bs_top_files.specs.Entry.{FileNames, Setup, Crashed, Claimed, netlist_of, signature_of, stimulus_of, dump_of, setup_of, crashed_of, report_of}
+use Rattle.bs_top_files.specs.Entry.{claimed_of, drawn_of}
+use Rattle.bs_top_files.specs.Readings.{checked_of, netlist_in, size_in, text_in}
+use Rattle.bs_top_files.specs.Refusals.{Case, check_reason, text_reason, with_reason}
+use Rattle.bs_top_files.proofs.TextLemmas.{parts_answer}
+use Rattle.bs_report_good.specs.declared.part.Part.{Part}
 use Rattle.bs_report.specs.declared.report.Report.{Report}
 use Rattle.bs_wave.specs.declared.value.Value.{Value}
 use Rattle.bs_wave.specs.declared.wave.Wave.{Wave}
@@ -28,7 +28,7 @@ use Rattle.bs_wave.specs.Wave.{value_of, IsSettledMoment, IsWaveOf}
 use Rattle.bs_wave.specs.WaveText.{HasWaveText}
 use Rattle.bs_wave.specs.WaveReading.{wave_in}
 use Rattle.bs_wave.proofs.ReadBackLemmas.{waves_read_back}
-use Rattle.bs_words.specs.Job.{AuditJob, Wave as WaveWords}
+use Rattle.bs_top_words.specs.Job.{AuditJob, Wave as WaveWords}
 use Rattle.bs_top.specs.Drawn.{IsDrawn}
 use Rattle.bs_top.specs.Law.{IsReadBack, WaveformsReadBack}
 use Rattle.bs_top.specs.Rejected.{finding_status}

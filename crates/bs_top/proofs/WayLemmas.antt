@@ -15,11 +15,11 @@ use Rattle.bs_report.specs.declared.report.Cand.{Cand}
 use Rattle.bs_report.specs.declared.report.HitLine.{HitLine}
 use Rattle.bs_report.specs.declared.report.Step.{Step}
 use Rattle.bs_report.specs.declared.report.Report.{Report}
-use Rattle.bs_good.specs.Step.{stored_of, listed, IsRightStep, IsCandidate}
-use Rattle.bs_good.specs.Trace.{hit_state, input_for}
-use Rattle.bs_good.specs.Good.{IsGood}
-use Rattle.bs_good.proofs.ProgressLemmas.{hit_at}
-use Rattle.bs_good.proofs.ExecutionLemmas.{led_widths}
+use Rattle.bs_report_good.specs.Step.{stored_of, listed, IsRightStep, IsCandidate}
+use Rattle.bs_report_good.specs.Trace.{hit_state, input_for}
+use Rattle.bs_report_good.specs.Good.{IsGood}
+use Rattle.bs_report_good.proofs.ProgressLemmas.{hit_at}
+use Rattle.bs_report_good.proofs.ExecutionLemmas.{led_widths}
 use Rattle.bs_wave.specs.Wave.{IsWayOf}
 
 -- a listed state has a candidate, and what holds of each holds of it

@@ -6,17 +6,17 @@ use Rattle.bs_bits.specs.declared.memory.NoMemory.{NoMemory}
 use Rattle.bs_outside.specs.Calls.{FetchCall}
 use Rattle.bs_report.specs.declared.report.Stop.{Stop}
 use Rattle.bs_report.specs.declared.report.Stop.TheVariants.{Reset, Length, Nohit, Empty, Candidates, Conflicts}
-use Rattle.bs_good.specs.declared.part.Part.{Part}
+use Rattle.bs_report_good.specs.declared.part.Part.{Part}
 use Rattle.bs_top.specs.Rejected.{finding_status}
-use Rattle.bs_job.specs.declared.status.Status.{Status}
-use Rattle.bs_job.specs.declared.reply.Reply.{Reply}
-use Rattle.bs_job.specs.Files.{is_work_status}
-use Rattle.bs_job.specs.Plan.{Tells, Counts, Plan}
-use Rattle.bs_job.specs.Walks.{Walks}
-use Rattle.bs_job.specs.Prepared.{Prepared, IsWork}
-use Rattle.bs_job.proofs.Preparing.{prepares_work, prepares_nothing}
-use Rattle.bs_words.specs.Job.{Job}
-use Rattle.bs_entry.specs.Refusals.{Case, CheckSays}
+use Rattle.bs_top_plan.specs.declared.status.Status.{Status}
+use Rattle.bs_top_plan.specs.declared.reply.Reply.{Reply}
+use Rattle.bs_top_plan.specs.Files.{is_work_status}
+use Rattle.bs_top_plan.specs.Plan.{Tells, Counts, Plan}
+use Rattle.bs_top_plan.specs.Walks.{Walks}
+use Rattle.bs_top_plan.specs.Prepared.{Prepared, IsWork}
+use Rattle.bs_top_plan.proofs.Preparing.{prepares_work, prepares_nothing}
+use Rattle.bs_top_words.specs.Job.{Job}
+use Rattle.bs_top_files.specs.Refusals.{Case, CheckSays}
 use Rattle.bs_top.specs.Work.{Work, to_run, to_audit, to_dump, to_demo, to_wave, to_reach, plan_of}
 use Rattle.bs_reach.specs.declared.reach.Outcome.{Outcome}
 use Rattle.bs_reach.specs.declared.reach.Outcome.TheVariants.{Reached, Unreached, Unknown}

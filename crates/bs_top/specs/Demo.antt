@@ -2,10 +2,10 @@
 use Rattle.std.specs.Prelude.{ℕ, List, Some, None, codes, if◌then◌else◌}
 use Rattle.std.specs.Str.{bytes_eq}
 use Rattle.bs_gen.specs.Job.{netlist_for, signature_text, stimulus_for}
-use Rattle.bs_job.specs.Plan.{Tells, Plan, with_texts}
+use Rattle.bs_top_plan.specs.Plan.{Tells, Plan, with_texts}
 use Rattle.bs_top.specs.declared.budgets.TheConstants.{DEMO_RUN, DEMO_CYCLE}
-use Rattle.bs_entry.specs.Entry.{FileNames, Placed, placed_of}
-use Rattle.bs_entry.specs.Refusals.{Case}
+use Rattle.bs_top_files.specs.Entry.{FileNames, Placed, placed_of}
+use Rattle.bs_top_files.specs.Refusals.{Case}
 
 abbrev pub demo_names : FileNames
 demo_names = record { netlist = codes "netlist"; signature = codes "signature"; stimulus = codes "stimulus" }

@@ -9,12 +9,12 @@ use Rattle.bs_report.specs.declared.report.Stop.{Stop}
 use Rattle.bs_report.specs.declared.report.Stop.TheVariants.{Reset, Length, Nohit, Empty, Candidates, Conflicts}
 use Rattle.bs_scan.specs.Crash.{Crash, crash_of, dump_at}
 use Rattle.bs_report.specs.Text.{report_text, HasReportText}
-use Rattle.bs_good.specs.declared.part.Part.{Part}
-use Rattle.bs_good.specs.Valid.{first_failing}
-use Rattle.bs_job.specs.declared.status.Status.{Status}
-use Rattle.bs_job.specs.declared.status.Status.TheVariants as S
+use Rattle.bs_report_good.specs.declared.part.Part.{Part}
+use Rattle.bs_report_good.specs.Valid.{first_failing}
+use Rattle.bs_top_plan.specs.declared.status.Status.{Status}
+use Rattle.bs_top_plan.specs.declared.status.Status.TheVariants as S
 use Rattle.bs_loop.specs.Bound.{HasBound}
-use Rattle.bs_entry.specs.Entry.{recording_in}
+use Rattle.bs_top_files.specs.Entry.{recording_in}
 use Rattle.bs_top.specs.declared.budgets.TheConstants.{DEMO_STEPS, DEMO_CANDIDATES, DEMO_CONFLICTS}
 use Rattle.bs_top.specs.Summary.{summary_text}
 use Rattle.bs_top.specs.Rejected.{finding_status, finding_text}

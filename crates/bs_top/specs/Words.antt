@@ -1,9 +1,9 @@
 -- Jobs of the code as the definitions see them.
-use Rattle.bs_words.specs.declared.job.RunJob.{RunJob as CodeRunJob}
-use Rattle.bs_words.specs.declared.job.AuditJob.{AuditJob as CodeAuditJob}
-use Rattle.bs_words.specs.declared.job.DumpJob.{DumpJob as CodeDumpJob}
-use Rattle.bs_words.specs.declared.job.ReachJob.{ReachJob as CodeReachJob}
-use Rattle.bs_words.specs.Job.{RunJob, AuditJob, DumpJob, ReachJob}
+use Rattle.bs_top_words.specs.declared.job.RunJob.{RunJob as CodeRunJob}
+use Rattle.bs_top_words.specs.declared.job.AuditJob.{AuditJob as CodeAuditJob}
+use Rattle.bs_top_words.specs.declared.job.DumpJob.{DumpJob as CodeDumpJob}
+use Rattle.bs_top_words.specs.declared.job.ReachJob.{ReachJob as CodeReachJob}
+use Rattle.bs_top_words.specs.Job.{RunJob, AuditJob, DumpJob, ReachJob}
 
 abbrev pub run_job : CodeRunJob → RunJob
 run_job r = record {

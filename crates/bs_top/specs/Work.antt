@@ -1,10 +1,10 @@
 -- What a job is ready for, and the files through which it comes to that.
 use Rattle.std.specs.Prelude.{ℕ}
 use Rattle.bs_report.specs.declared.report.Budgets.{Budgets}
-use Rattle.bs_words.specs.Job.{RunJob, AuditJob, DumpJob, Job, Run, Audit, Dump, Demo, Wave, Reach}
-use Rattle.bs_job.specs.Plan.{Plan, end, ◌>>=◌}
-use Rattle.bs_entry.specs.Entry.{FileNames, Placed, placed_of, Crashed, crashed_of, Claimed, claimed_of, drawn_of}
-use Rattle.bs_entry.specs.Refusals.{Case}
+use Rattle.bs_top_words.specs.Job.{RunJob, AuditJob, DumpJob, Job, Run, Audit, Dump, Demo, Wave, Reach}
+use Rattle.bs_top_plan.specs.Plan.{Plan, end, ◌>>=◌}
+use Rattle.bs_top_files.specs.Entry.{FileNames, Placed, placed_of, Crashed, crashed_of, Claimed, claimed_of, drawn_of}
+use Rattle.bs_top_files.specs.Refusals.{Case}
 use Rattle.bs_target.specs.Target.{Target, target_of}
 use Rattle.bs_top.specs.Demo.{demo_of}
 

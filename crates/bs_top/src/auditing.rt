@@ -1,25 +1,25 @@
 //! The command `audit`: whether a report is valid, or the first part of it that fails.
 ghost use Rattle.std.specs.Prelude.{◌≡◌, ◌++◌, codes, decimal, IfOk, OnOk, Some};
-ghost use Rattle.bs_job.specs.Prepared.{Prepared};
+ghost use Rattle.bs_top_plan.specs.Prepared.{Prepared};
 ghost use Rattle.bs_audit.specs.Finding.{part_of};
-ghost use Rattle.bs_entry.specs.Ready.{claimed_in};
-ghost use Rattle.bs_entry.specs.Refusals.{CheckSays};
-ghost use Rattle.bs_words.specs.Job.{Audit as AuditWords};
+ghost use Rattle.bs_top_files.specs.Ready.{claimed_in};
+ghost use Rattle.bs_top_files.specs.Refusals.{CheckSays};
+ghost use Rattle.bs_top_words.specs.Job.{Audit as AuditWords};
 ghost use Rattle.bs_top.specs.Work.{plan_of, to_audit};
 ghost use Rattle.bs_top.specs.Words.{audit_job};
 ghost use Rattle.bs_top.specs.Rejected.{finding_status, finding_text, part_words, rejected_text, step_words, why_word};
 ghost use Rattle.bs_scan.specs.Crash.{crash_of};
-ghost use Rattle.bs_entry.specs.Entry.{recording_in};
+ghost use Rattle.bs_top_files.specs.Entry.{recording_in};
 ghost use Rattle.bs_top.specs.Finishes.{finishes, Finds};
 
 use bs_audit::Finding;
 use bs_bits::{end_line, push_number, push_piece};
-use bs_entry::{Claimed, FileNames, take_claimed};
-use bs_good::Part;
-use bs_job::{Reply, Status, stopped};
 use bs_log::Why;
 use bs_outside::{NoMemory, Shelf};
-use bs_words::AuditJob;
+use bs_report_good::Part;
+use bs_top_files::{Claimed, FileNames, take_claimed};
+use bs_top_plan::{Reply, Status, stopped};
+use bs_top_words::AuditJob;
 use std::alloc::Global;
 
 /// The word for a reason for which a log line is refused.

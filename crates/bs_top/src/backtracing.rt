@@ -1,26 +1,26 @@
 //! The command `run`: the backtrace of a dump, and its report.
 ghost use Rattle.std.specs.Prelude.{◌≡◌, ◌+◌, length, IfOk, Some};
-ghost use Rattle.bs_job.specs.Prepared.{Prepared};
+ghost use Rattle.bs_top_plan.specs.Prepared.{Prepared};
 ghost use Rattle.bs_loop.specs.Budget.{IsBudget};
-ghost use Rattle.bs_entry.specs.Ready.{crashed_in, setup_in};
-ghost use Rattle.bs_entry.specs.Refusals.{CheckSays};
-ghost use Rattle.bs_words.specs.Job.{Run as RunWords};
+ghost use Rattle.bs_top_files.specs.Ready.{crashed_in, setup_in};
+ghost use Rattle.bs_top_files.specs.Refusals.{CheckSays};
+ghost use Rattle.bs_top_words.specs.Job.{Run as RunWords};
 ghost use Rattle.bs_top.specs.Work.{budgets_of, plan_of, to_run};
 ghost use Rattle.bs_top.specs.Words.{run_job};
 ghost use Rattle.bs_net.specs.Netlist.{circuit};
 ghost use Rattle.bs_scan.specs.Crash.{crash_of, DumpFits};
-ghost use Rattle.bs_entry.specs.Entry.{recording_in};
+ghost use Rattle.bs_top_files.specs.Entry.{recording_in};
 ghost use Rattle.bs_top.specs.Finishes.{finishes, IsBacktrace, stop_status};
 
 use bs_chip::Chip;
-use bs_entry::{Crashed, FileNames, Setup, take_crashed};
-use bs_job::{Reply, Status, stopped};
 use bs_loop::backtrace;
 use bs_outside::{NoMemory, Shelf};
 use bs_preimage::Preimage;
 use bs_report::{Budgets, Report, Stop};
 use bs_scan::Dump;
-use bs_words::RunJob;
+use bs_top_files::{Crashed, FileNames, Setup, take_crashed};
+use bs_top_plan::{Reply, Status, stopped};
+use bs_top_words::RunJob;
 use std::alloc::Global;
 
 /// The status of a backtrace by its stop.

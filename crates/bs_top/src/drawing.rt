@@ -1,11 +1,11 @@
 //! The command `wave`: the waveform of a valid report's trace, or the first part of the report that fails.
 ghost use Rattle.std.specs.Prelude.{◌≡◌, IfOk, None, Some};
 ghost use Rattle.bs_net.specs.Netlist.{circuit};
-ghost use Rattle.bs_job.specs.Prepared.{Prepared};
+ghost use Rattle.bs_top_plan.specs.Prepared.{Prepared};
 ghost use Rattle.bs_audit.specs.Finding.{part_of};
-ghost use Rattle.bs_entry.specs.Ready.{claimed_in};
-ghost use Rattle.bs_entry.specs.Refusals.{CheckSays};
-ghost use Rattle.bs_words.specs.Job.{Wave as WaveWords};
+ghost use Rattle.bs_top_files.specs.Ready.{claimed_in};
+ghost use Rattle.bs_top_files.specs.Refusals.{CheckSays};
+ghost use Rattle.bs_top_words.specs.Job.{Wave as WaveWords};
 ghost use Rattle.bs_wave.specs.Wave.{IsWayOf};
 ghost use Rattle.bs_top.specs.Drawn.{IsDrawn, IsTraceWave};
 ghost use Rattle.bs_top.specs.Work.{plan_of, to_wave};
@@ -14,11 +14,11 @@ ghost use Rattle.bs_top.specs.Finishes.{finishes};
 
 use crate::auditing::{find, finding_status, rejected};
 use bs_audit::Finding;
-use bs_entry::{Claimed, FileNames, take_drawn};
-use bs_job::{Reply, stopped};
 use bs_outside::{NoMemory, Shelf};
+use bs_top_files::{Claimed, FileNames, take_drawn};
+use bs_top_plan::{Reply, stopped};
+use bs_top_words::AuditJob;
 use bs_wave::Wave;
-use bs_words::AuditJob;
 use std::alloc::Global;
 
 /// The waveform of a report's trace.

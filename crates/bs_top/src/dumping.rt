@@ -1,22 +1,22 @@
 //! The command `dump`: the dump of a moment of the recorded runs.
 ghost use Rattle.std.specs.Prelude.{◌≡◌, IfOk, Some};
-ghost use Rattle.bs_job.specs.Prepared.{Prepared};
-ghost use Rattle.bs_entry.specs.Ready.{names_in, placed_in};
-ghost use Rattle.bs_entry.specs.Refusals.{CheckSays};
-ghost use Rattle.bs_words.specs.Job.{Dump as DumpWords};
+ghost use Rattle.bs_top_plan.specs.Prepared.{Prepared};
+ghost use Rattle.bs_top_files.specs.Ready.{names_in, placed_in};
+ghost use Rattle.bs_top_files.specs.Refusals.{CheckSays};
+ghost use Rattle.bs_top_words.specs.Job.{Dump as DumpWords};
 ghost use Rattle.bs_top.specs.Work.{dump_names, plan_of, to_dump};
 ghost use Rattle.bs_top.specs.Words.{dump_job};
 ghost use Rattle.bs_net.specs.Netlist.{circuit};
 ghost use Rattle.bs_scan.specs.Crash.{dump_at, DumpFits};
-ghost use Rattle.bs_entry.specs.Entry.{recording_in};
+ghost use Rattle.bs_top_files.specs.Entry.{recording_in};
 ghost use Rattle.bs_top.specs.Finishes.{finishes};
 
 use bs_chip::Chip;
-use bs_entry::{FileNames, Placed, take_placed};
-use bs_job::{Reply, Status, stopped};
 use bs_outside::{NoMemory, Shelf};
 use bs_scan::Dump;
-use bs_words::DumpJob;
+use bs_top_files::{FileNames, Placed, take_placed};
+use bs_top_plan::{Reply, Status, stopped};
+use bs_top_words::DumpJob;
 use std::alloc::Global;
 
 /// What a chip with the runs of a job dumps at its moment.

@@ -1,16 +1,16 @@
 //! The generated texts, walked as the files of a job are.
 ghost use Rattle.std.specs.Prelude.{◌≡◌, IfOk, string_bytes};
-ghost use Rattle.bs_job.specs.Walks.{WalksAlone};
-ghost use Rattle.bs_entry.specs.Ready.{placed_in};
-ghost use Rattle.bs_entry.specs.Refusals.{CheckSays};
+ghost use Rattle.bs_top_plan.specs.Walks.{WalksAlone};
+ghost use Rattle.bs_top_files.specs.Ready.{placed_in};
+ghost use Rattle.bs_top_files.specs.Refusals.{CheckSays};
 ghost use Rattle.bs_top.specs.Demo.{demo_of};
 ghost use Rattle.bs_top.specs.Texts.{AreTexts};
 
 use crate::budgets::{DEMO_CYCLE, DEMO_RUN};
-use bs_entry::{FileNames, Placed, take_placed};
 use bs_gen::{GeneratedJob, make};
-use bs_job::JobFault;
 use bs_outside::SureShelf;
+use bs_top_files::{FileNames, Placed, take_placed};
+use bs_top_plan::JobFault;
 use std::alloc::{AllocError, Global};
 
 /// A text under a name.

@@ -1,5 +1,5 @@
 //! The laws of the commands.
-ghost use Rattle.bs_entry.specs.Law.{NetlistsMeanDesigns};
+ghost use Rattle.bs_top_files.specs.Law.{NetlistsMeanDesigns};
 ghost use Rattle.bs_top.specs.Law.{AuditAcceptsWhatRunWrites, AuditFollowsRun, WaveformsReadBack};
 
 /// On the files of a run, `audit` accepts each report that `run` may write, if the report's text is within its limit.

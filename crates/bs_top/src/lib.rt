@@ -14,7 +14,7 @@ mod summary;
 mod summing;
 mod top;
 
-pub use bs_job::Status;
+pub use bs_top_plan::Status;
 pub use law::{
     audit_accepts_what_run_writes, audit_follows_run, netlists_mean_designs, waveforms_read_back,
 };

@@ -1,21 +1,21 @@
 //! The command `reach`: whether a state is reached from reset within a number of cycles, with an execution or a refutation.
 ghost use Rattle.std.specs.Prelude.{◌≡◌, ◌≤◌, IfOk, Some};
-ghost use Rattle.bs_job.specs.Prepared.{Prepared};
+ghost use Rattle.bs_top_plan.specs.Prepared.{Prepared};
 ghost use Rattle.bs_net.specs.Netlist.{circuit};
-ghost use Rattle.bs_entry.specs.Refusals.{CheckSays};
-ghost use Rattle.bs_unroll.specs.declared.limits.TheConstants.{MAX_COPIES};
+ghost use Rattle.bs_top_files.specs.Refusals.{CheckSays};
+ghost use Rattle.bs_reach_unrolled.specs.declared.limits.TheConstants.{MAX_COPIES};
 ghost use Rattle.bs_reach.specs.Reach.{IsReach};
 ghost use Rattle.bs_target.specs.Shown.{target_in};
-ghost use Rattle.bs_words.specs.Job.{Reach as ReachWords};
+ghost use Rattle.bs_top_words.specs.Job.{Reach as ReachWords};
 ghost use Rattle.bs_top.specs.Work.{plan_of, to_reach};
 ghost use Rattle.bs_top.specs.Words.{reach_job};
 ghost use Rattle.bs_top.specs.Finishes.{finishes, reach_status};
 
-use bs_job::{Reply, Status, stopped};
 use bs_outside::{NoMemory, Shelf};
 use bs_reach::{Outcome, Reach, bounded};
 use bs_target::{Target, take_target};
-use bs_words::ReachJob;
+use bs_top_plan::{Reply, Status, stopped};
+use bs_top_words::ReachJob;
 use std::alloc::Global;
 
 /// The status of an answer by its outcome.

@@ -1,9 +1,9 @@
 //! The command `demo`: the backtrace of a generated job, told in one line.
 ghost use Rattle.std.specs.Prelude.{◌≡◌, IfOk};
-ghost use Rattle.bs_job.specs.Prepared.{PreparesAlone};
-ghost use Rattle.bs_entry.specs.Ready.{placed_in};
-ghost use Rattle.bs_entry.specs.Refusals.{CheckSays};
-ghost use Rattle.bs_words.specs.Job.{Demo as DemoWords};
+ghost use Rattle.bs_top_plan.specs.Prepared.{PreparesAlone};
+ghost use Rattle.bs_top_files.specs.Ready.{placed_in};
+ghost use Rattle.bs_top_files.specs.Refusals.{CheckSays};
+ghost use Rattle.bs_top_words.specs.Job.{Demo as DemoWords};
 ghost use Rattle.bs_top.specs.Work.{plan_of, to_demo};
 ghost use Rattle.bs_top.specs.Finishes.{finishes};
 
@@ -12,10 +12,10 @@ use crate::budgets::{DEMO_CANDIDATES, DEMO_CONFLICTS, DEMO_STEPS};
 use crate::dumping::dump_of;
 use crate::generated::take_demo;
 use crate::summary::summary_line;
-use bs_entry::Placed;
-use bs_job::{Reply, Status, stopped};
 use bs_outside::NoMemory;
 use bs_report::Budgets;
+use bs_top_files::Placed;
+use bs_top_plan::{Reply, Status, stopped};
 use std::alloc::Global;
 
 /// The line of the backtrace of a moment's dump.

@@ -2,11 +2,11 @@
 ghost use Rattle.std.specs.Prelude.{◌≡◌, ◌≢◌, ℕ, List, map, string_bytes, option_map, IfOk, OnErr};
 ghost use Rattle.std.specs.Io.KnownBytes.{Keeps};
 ghost use Rattle.bs_outside.specs.Faults.{Rose};
-ghost use Rattle.bs_job.specs.Clauses.{Answered, AnsweredAsTold, AnsweredWhole, CallByCall, CallsWanting, IsCalm, IsWordsOnlyFor, ReadFaultOf, RefusesFirstOf};
-ghost use Rattle.bs_job.specs.Prepared.{Prepared};
-ghost use Rattle.bs_entry.specs.Law.{NetlistsMeanDesigns};
-ghost use Rattle.bs_entry.specs.Refusals.{CheckSays};
-ghost use Rattle.bs_words.specs.Job.{job_of};
+ghost use Rattle.bs_top_plan.specs.Clauses.{Answered, AnsweredAsTold, AnsweredWhole, CallByCall, CallsWanting, IsCalm, IsWordsOnlyFor, ReadFaultOf, RefusesFirstOf};
+ghost use Rattle.bs_top_plan.specs.Prepared.{Prepared};
+ghost use Rattle.bs_top_files.specs.Law.{NetlistsMeanDesigns};
+ghost use Rattle.bs_top_files.specs.Refusals.{CheckSays};
+ghost use Rattle.bs_top_words.specs.Job.{job_of};
 ghost use Rattle.bs_top.specs.Work.{plan_of};
 ghost use Rattle.bs_top.specs.Finishes.{finishes};
 
@@ -16,9 +16,9 @@ use crate::drawing::wave;
 use crate::dumping::dump;
 use crate::reaching::reach;
 use crate::summing::demo;
-use bs_job::{Reply, Status, deliver, refused_words};
 use bs_outside::{NoMemory, Shelf, Sink};
-use bs_words::{Job, read_words};
+use bs_top_plan::{Reply, Status, deliver, refused_words};
+use bs_top_words::{Job, read_words};
 use std::alloc::Global;
 
 /// What is to be answered and written.

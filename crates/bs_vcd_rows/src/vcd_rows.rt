@@ -1,7 +1,7 @@
 //! Dumps of iverilog and verilator, and refusals.
 
 use bs_bits::{Bits, NoMemory};
-use bs_vcd::{VcdFault, stimulus};
+use bs_inspect_vcd::{VcdFault, stimulus};
 use std::alloc::Global;
 use std::test::Fail;
 

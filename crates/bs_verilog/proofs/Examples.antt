@@ -6,22 +6,22 @@ use Rattle.bs_net.specs.declared.net.Mode.TheVariants.{Plain, Enable, Clear}
 use Rattle.std.specs.Prelude.{codes, ⊤}
 use Rattle.std.specs.Fmt.{digits}
 use Rattle.bs_lex.specs.Tokens.{piece_at, tokens_from, comment_size, quoted_size}
-use Rattle.bs_lexeme.specs.Lexemes.{word_of, decimal_from, name_text, without_zeros, names_from, sort_of, lexemes_of}
-use Rattle.bs_syntax.specs.Reading.{refused, with_commas}
-use Rattle.bs_syntax.specs.Terms.{index, term, num, time, timed, delay, attributes_from}
-use Rattle.bs_syntax.specs.Declarations.{range, port_says, net_says, names, declared_name, plain_port, header_port, carried, ports, header}
-use Rattle.bs_syntax.specs.Parts.{by_place, gate, place, pin, connections, instance, assignment, gates, instances, assignments}
-use Rattle.bs_syntax.specs.Modules.{item, items, top, skipped, begun, further, cells, leading, syntax_of}
-use Rattle.bs_scope.specs.Keys.{scalar_key, bit_key, keys}
-use Rattle.bs_scope.specs.Declaring.{said, first_after, known_nets, first_over, naming_fault, declaring_fault}
+use Rattle.bs_verilog_lexemes.specs.Lexemes.{word_of, decimal_from, name_text, without_zeros, names_from, sort_of, lexemes_of}
+use Rattle.bs_verilog_syntax.specs.Reading.{refused, with_commas}
+use Rattle.bs_verilog_syntax.specs.Terms.{index, term, num, time, timed, delay, attributes_from}
+use Rattle.bs_verilog_syntax.specs.Declarations.{range, port_says, net_says, names, declared_name, plain_port, header_port, carried, ports, header}
+use Rattle.bs_verilog_syntax.specs.Parts.{by_place, gate, place, pin, connections, instance, assignment, gates, instances, assignments}
+use Rattle.bs_verilog_syntax.specs.Modules.{item, items, top, skipped, begun, further, cells, leading, syntax_of}
+use Rattle.bs_verilog_scope.specs.Keys.{scalar_key, bit_key, keys}
+use Rattle.bs_verilog_scope.specs.Declaring.{said, first_after, known_nets, first_over, naming_fault, declaring_fault}
 use Rattle.bs_verilog.specs.Terminals.{is_gate, is_assignment, pins_of, cell_pins}
 use Rattle.bs_verilog.specs.Building.{each, implicit_net, declared_key, constant_net, named_net, term_net, with_connection, gates_of, with_part}
 use Rattle.bs_net.specs.Parts.{Parts}
-use Rattle.bs_scope.specs.Nets.{with_keys}
+use Rattle.bs_verilog_scope.specs.Nets.{with_keys}
 use Rattle.bs_verilog.specs.Netlist.{port_bits, supply_consts, built_of, meaning_of, netlist_text}
-use Rattle.bs_syntax.specs.declared.fault.What.TheVariants as what
-use Rattle.bs_syntax.specs.declared.fault.VerilogFault.{VerilogFault}
-use Rattle.bs_syntax.specs.declared.fault.VerilogFault.TheVariants.{Syntax, Unsupported, Redeclared, Port, Index, Terminals}
+use Rattle.bs_verilog_syntax.specs.declared.fault.What.TheVariants as what
+use Rattle.bs_verilog_syntax.specs.declared.fault.VerilogFault.{VerilogFault}
+use Rattle.bs_verilog_syntax.specs.declared.fault.VerilogFault.TheVariants.{Syntax, Unsupported, Redeclared, Port, Index, Terminals}
 
 -- what computes the netlist of a text
 unfoldable reading_a_netlist : ⊤

@@ -19,25 +19,25 @@ use Rattle.bs_net.specs.Parts.{Parts}
 use Rattle.bs_lex.specs.Bytes.{is_graphic}
 use Rattle.bs_lex.specs.Tokens.{tokens_of}
 use Rattle.bs_lex.specs.declared.token.Token.{Token}
-use Rattle.bs_lexeme.specs.declared.lexeme.Cell.{Cell}
-use Rattle.bs_lexeme.specs.declared.lexeme.Name.{Name}
-use Rattle.bs_lexeme.specs.Lexemes.{lexemes_of, names_of}
-use Rattle.bs_syntax.specs.declared.fault.VerilogFault.{VerilogFault}
-use Rattle.bs_syntax.specs.declared.fault.VerilogFault.TheVariants.{Syntax, Terminals}
-use Rattle.bs_syntax.specs.declared.tree.Component.{Component}
-use Rattle.bs_syntax.specs.declared.tree.Connection.{Connection}
-use Rattle.bs_syntax.specs.declared.tree.Module.{Module}
-use Rattle.bs_syntax.specs.declared.tree.Range.{Range}
-use Rattle.bs_syntax.specs.declared.tree.Says.{Says}
-use Rattle.bs_syntax.specs.declared.tree.Shape.{Shape}
-use Rattle.bs_syntax.specs.declared.tree.Shape.TheVariants as shapes
-use Rattle.bs_syntax.specs.declared.tree.Term.{Term}
-use Rattle.bs_syntax.specs.declared.tree.Term.TheVariants.{Constant, Named}
-use Rattle.bs_syntax.specs.Modules.{syntax_of}
-use Rattle.bs_scope.specs.declared.numbering.Known.{Known}
-use Rattle.bs_scope.specs.Declaring.{declaring_fault, keys_of, known_nets, said}
-use Rattle.bs_scope.specs.Keys.{bit_key, constant_key, index_at, is_plain, keys, scalar_key, text, width}
-use Rattle.bs_scope.specs.Nets.{net_of, numbered, with_keys}
+use Rattle.bs_verilog_lexemes.specs.declared.lexeme.Cell.{Cell}
+use Rattle.bs_verilog_lexemes.specs.declared.lexeme.Name.{Name}
+use Rattle.bs_verilog_lexemes.specs.Lexemes.{lexemes_of, names_of}
+use Rattle.bs_verilog_syntax.specs.declared.fault.VerilogFault.{VerilogFault}
+use Rattle.bs_verilog_syntax.specs.declared.fault.VerilogFault.TheVariants.{Syntax, Terminals}
+use Rattle.bs_verilog_syntax.specs.declared.tree.Component.{Component}
+use Rattle.bs_verilog_syntax.specs.declared.tree.Connection.{Connection}
+use Rattle.bs_verilog_syntax.specs.declared.tree.Module.{Module}
+use Rattle.bs_verilog_syntax.specs.declared.tree.Range.{Range}
+use Rattle.bs_verilog_syntax.specs.declared.tree.Says.{Says}
+use Rattle.bs_verilog_syntax.specs.declared.tree.Shape.{Shape}
+use Rattle.bs_verilog_syntax.specs.declared.tree.Shape.TheVariants as shapes
+use Rattle.bs_verilog_syntax.specs.declared.tree.Term.{Term}
+use Rattle.bs_verilog_syntax.specs.declared.tree.Term.TheVariants.{Constant, Named}
+use Rattle.bs_verilog_syntax.specs.Modules.{syntax_of}
+use Rattle.bs_verilog_scope.specs.declared.numbering.Known.{Known}
+use Rattle.bs_verilog_scope.specs.Declaring.{declaring_fault, keys_of, known_nets, said}
+use Rattle.bs_verilog_scope.specs.Keys.{bit_key, constant_key, index_at, is_plain, keys, scalar_key, text, width}
+use Rattle.bs_verilog_scope.specs.Nets.{net_of, numbered, with_keys}
 use Rattle.bs_verilog.specs.declared.building.Built.{Built}
 use Rattle.bs_verilog.specs.declared.placing.Made.{Made}
 use Rattle.bs_verilog.specs.declared.terminals.Pins.{Pins}

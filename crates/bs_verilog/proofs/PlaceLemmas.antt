@@ -4,8 +4,8 @@ use Rattle.std.specs.Prelude.{IsSome, not, ◌&&◌, nat_le, is_some}
 use Rattle.std.proofs.lemmas.Bool.{leb-false}
 use Rattle.std.proofs.lemmas.List.{drop_more, drop_all}
 use Rattle.bs_net.specs.Names.{number_of}
-use Rattle.bs_syntax.specs.declared.fault.VerilogFault.{VerilogFault}
-use Rattle.bs_syntax.specs.declared.fault.VerilogFault.TheVariants.{NoMemory}
+use Rattle.bs_verilog_syntax.specs.declared.fault.VerilogFault.{VerilogFault}
+use Rattle.bs_verilog_syntax.specs.declared.fault.VerilogFault.TheVariants.{NoMemory}
 use Rattle.bs_bits.specs.Reading.{◌>>=◌}
 use Rattle.bs_verilog.specs.Building.{each, is_full}
 

@@ -21,41 +21,41 @@ use Rattle.bs_net.specs.Names.{with_key, number_of}
 use Rattle.bs_net.specs.Parts.{IsFlopPlaced, IsModePlaced}
 use Rattle.bs_net.specs.Gate.{takes}
 use Rattle.bs_net.proofs.CallerLemmas.{with_key-grows}
-use Rattle.bs_syntax.specs.declared.fault.VerilogFault.{VerilogFault}
-use Rattle.bs_syntax.specs.declared.fault.VerilogFault.TheVariants.{TooManyNets, Index, Terminals}
-use Rattle.bs_syntax.specs.declared.tree.Says.{Says}
-use Rattle.bs_lexeme.specs.declared.lexeme.Name.{Name}
-use Rattle.bs_syntax.specs.declared.tree.Term.{Term}
-use Rattle.bs_syntax.specs.declared.tree.Term.TheVariants.{Constant, Named}
-use Rattle.bs_syntax.specs.declared.tree.Connection.{Connection}
-use Rattle.bs_syntax.specs.declared.tree.Connection.TheVariants.{Empty}
-use Rattle.bs_syntax.specs.declared.tree.Component.{Component}
-use Rattle.bs_syntax.specs.declared.tree.Shape.{Shape}
-use Rattle.bs_syntax.specs.declared.tree.Shape.TheVariants as shapes
-use Rattle.bs_lexeme.specs.declared.lexeme.Cell.{Cell}
-use Rattle.bs_lexeme.specs.declared.lexeme.Cell.TheVariants.{Dff, Dffs, Dffe, Dffr}
+use Rattle.bs_verilog_syntax.specs.declared.fault.VerilogFault.{VerilogFault}
+use Rattle.bs_verilog_syntax.specs.declared.fault.VerilogFault.TheVariants.{TooManyNets, Index, Terminals}
+use Rattle.bs_verilog_syntax.specs.declared.tree.Says.{Says}
+use Rattle.bs_verilog_lexemes.specs.declared.lexeme.Name.{Name}
+use Rattle.bs_verilog_syntax.specs.declared.tree.Term.{Term}
+use Rattle.bs_verilog_syntax.specs.declared.tree.Term.TheVariants.{Constant, Named}
+use Rattle.bs_verilog_syntax.specs.declared.tree.Connection.{Connection}
+use Rattle.bs_verilog_syntax.specs.declared.tree.Connection.TheVariants.{Empty}
+use Rattle.bs_verilog_syntax.specs.declared.tree.Component.{Component}
+use Rattle.bs_verilog_syntax.specs.declared.tree.Shape.{Shape}
+use Rattle.bs_verilog_syntax.specs.declared.tree.Shape.TheVariants as shapes
+use Rattle.bs_verilog_lexemes.specs.declared.lexeme.Cell.{Cell}
+use Rattle.bs_verilog_lexemes.specs.declared.lexeme.Cell.TheVariants.{Dff, Dffs, Dffe, Dffr}
 use Rattle.bs_verilog.specs.declared.terminals.Control.{Control}
 use Rattle.bs_verilog.specs.declared.terminals.Control.TheVariants as controls
 use Rattle.bs_verilog.specs.declared.terminals.Pins.{Pins}
 use Rattle.bs_verilog.specs.declared.placing.Made.{Made}
 use Rattle.bs_verilog.specs.declared.building.Built.{Built}
 use Rattle.bs_bits.specs.Reading.{◌>>=◌}
-use Rattle.bs_scope.specs.Keys.{text, scalar_key, constant_key, keys}
+use Rattle.bs_verilog_scope.specs.Keys.{text, scalar_key, constant_key, keys}
 use Rattle.bs_verilog.specs.Cells.{pin_list}
 use Rattle.bs_verilog.specs.Terminals.{term_of, has_term, is_single, is_gate, is_assignment, cell_pins, pins_of, is_constant, output_count}
 use Rattle.bs_verilog.specs.Building.{each, has_key, is_full, implicit_net, declared_key, constant_net, named_net, term_net, with_connection}
 use Rattle.bs_verilog.specs.Building.{connection_nets, gates_of, net_at, no_net, mode_of, flop_of, with_gates, with_flop, with_part, with_parts}
-use Rattle.bs_scope.specs.Nets.{net_of, with_keys, numbered, nets_of}
+use Rattle.bs_verilog_scope.specs.Nets.{net_of, with_keys, numbered, nets_of}
 use Rattle.bs_verilog.specs.Placement.{AreWithin, ConstsWithin, GateWithin, IsBuiltWithin, AreShort, IsFinished, WillFinish}
-use Rattle.bs_syntax.specs.declared.tree.Range.{Range}
-use Rattle.bs_syntax.specs.declared.tree.Module.{Module}
-use Rattle.bs_syntax.specs.declared.tree.Declared.{Declared}
-use Rattle.bs_syntax.specs.declared.tree.Direction as code
-use Rattle.bs_syntax.specs.declared.tree.Direction.TheVariants as directions
-use Rattle.bs_scope.specs.declared.numbering.Known.{Known}
-use Rattle.bs_scope.specs.Declaring.{said, is_in, known, known_nets, keys_of, first_over, direction_of}
+use Rattle.bs_verilog_syntax.specs.declared.tree.Range.{Range}
+use Rattle.bs_verilog_syntax.specs.declared.tree.Module.{Module}
+use Rattle.bs_verilog_syntax.specs.declared.tree.Declared.{Declared}
+use Rattle.bs_verilog_syntax.specs.declared.tree.Direction as code
+use Rattle.bs_verilog_syntax.specs.declared.tree.Direction.TheVariants as directions
+use Rattle.bs_verilog_scope.specs.declared.numbering.Known.{Known}
+use Rattle.bs_verilog_scope.specs.Declaring.{said, is_in, known, known_nets, keys_of, first_over, direction_of}
 use Rattle.bs_verilog.specs.Netlist.{is_towards, port_bits, port_nets, supplied, consts_of, supply_consts, start_of, parts_with, finished_of, built_of}
-use Rattle.bs_scope.proofs.NumberLemmas.{with_key-room, with_keys-room, with_keys-append, few_step, keys-length, one_bit}
+use Rattle.bs_verilog_scope.proofs.NumberLemmas.{with_key-room, with_keys-room, with_keys-append, few_step, keys-length, one_bit}
 
 -- Names and their numbers.
 

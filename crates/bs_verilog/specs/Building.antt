@@ -10,26 +10,26 @@ use Rattle.bs_net.specs.declared.net.Mode.TheVariants as modes
 use Rattle.bs_net.specs.declared.gate.Kind.{Kind}
 use Rattle.bs_net.specs.declared.gate.Kind.TheVariants.{Buf}
 use Rattle.bs_net.specs.Names.{with_key, number_of}
-use Rattle.bs_lexeme.specs.declared.lexeme.Cell.{Cell}
-use Rattle.bs_lexeme.specs.declared.lexeme.Name.{Name}
-use Rattle.bs_syntax.specs.declared.tree.Range.{Range}
-use Rattle.bs_syntax.specs.declared.tree.Says.{Says}
-use Rattle.bs_syntax.specs.declared.tree.Term.{Term}
-use Rattle.bs_syntax.specs.declared.tree.Term.TheVariants.{Constant, Named}
-use Rattle.bs_syntax.specs.declared.tree.Connection.{Connection}
-use Rattle.bs_syntax.specs.declared.tree.Component.{Component}
-use Rattle.bs_syntax.specs.declared.tree.Shape.TheVariants as shapes
+use Rattle.bs_verilog_lexemes.specs.declared.lexeme.Cell.{Cell}
+use Rattle.bs_verilog_lexemes.specs.declared.lexeme.Name.{Name}
+use Rattle.bs_verilog_syntax.specs.declared.tree.Range.{Range}
+use Rattle.bs_verilog_syntax.specs.declared.tree.Says.{Says}
+use Rattle.bs_verilog_syntax.specs.declared.tree.Term.{Term}
+use Rattle.bs_verilog_syntax.specs.declared.tree.Term.TheVariants.{Constant, Named}
+use Rattle.bs_verilog_syntax.specs.declared.tree.Connection.{Connection}
+use Rattle.bs_verilog_syntax.specs.declared.tree.Component.{Component}
+use Rattle.bs_verilog_syntax.specs.declared.tree.Shape.TheVariants as shapes
 use Rattle.bs_verilog.specs.declared.terminals.Control.{Control}
 use Rattle.bs_verilog.specs.declared.terminals.Control.TheVariants as controls
 use Rattle.bs_verilog.specs.declared.terminals.Pins.{Pins}
 use Rattle.bs_verilog.specs.declared.placing.Made.{Made}
 use Rattle.bs_verilog.specs.declared.building.Built.{Built}
-use Rattle.bs_syntax.specs.declared.fault.What.TheVariants as what
-use Rattle.bs_syntax.specs.declared.fault.VerilogFault.{VerilogFault}
-use Rattle.bs_syntax.specs.declared.fault.VerilogFault.TheVariants.{TooManyNets, Terminals, Index, Unsupported}
+use Rattle.bs_verilog_syntax.specs.declared.fault.What.TheVariants as what
+use Rattle.bs_verilog_syntax.specs.declared.fault.VerilogFault.{VerilogFault}
+use Rattle.bs_verilog_syntax.specs.declared.fault.VerilogFault.TheVariants.{TooManyNets, Terminals, Index, Unsupported}
 use Rattle.bs_bits.specs.Reading.{◌>>=◌}
-use Rattle.bs_scope.specs.Keys.{text, scalar_key, bit_key, constant_key, has_index}
-use Rattle.bs_scope.specs.Nets.{net_of}
+use Rattle.bs_verilog_scope.specs.Keys.{text, scalar_key, bit_key, constant_key, has_index}
+use Rattle.bs_verilog_scope.specs.Nets.{net_of}
 use Rattle.bs_verilog.specs.Cells.{starts_as_one}
 use Rattle.bs_verilog.specs.Terminals.{term_of, is_single, is_gate, is_assignment, cell_pins}
 

@@ -6,26 +6,26 @@ use Rattle.bs_net.specs.declared.net.Const.{Const}
 use Rattle.bs_net.specs.Parts.{Parts}
 use Rattle.bs_lex.specs.declared.token.Token.{Token}
 use Rattle.bs_lex.specs.Tokens.{tokens_of}
-use Rattle.bs_lexeme.specs.declared.lexeme.Name.{Name}
-use Rattle.bs_syntax.specs.declared.tree.Says.{Says}
-use Rattle.bs_syntax.specs.declared.tree.Module.{Module}
-use Rattle.bs_syntax.specs.declared.tree.Component.{Component}
-use Rattle.bs_syntax.specs.declared.tree.Declared.{Declared}
-use Rattle.bs_syntax.specs.declared.tree.Direction.TheVariants as directions
-use Rattle.bs_syntax.specs.declared.tree.Direction as code
-use Rattle.bs_syntax.specs.declared.tree.Net as code_net
-use Rattle.bs_syntax.specs.declared.tree.Net.TheVariants.{Supply0, Supply1}
-use Rattle.bs_scope.specs.declared.numbering.Known.{Known}
+use Rattle.bs_verilog_lexemes.specs.declared.lexeme.Name.{Name}
+use Rattle.bs_verilog_syntax.specs.declared.tree.Says.{Says}
+use Rattle.bs_verilog_syntax.specs.declared.tree.Module.{Module}
+use Rattle.bs_verilog_syntax.specs.declared.tree.Component.{Component}
+use Rattle.bs_verilog_syntax.specs.declared.tree.Declared.{Declared}
+use Rattle.bs_verilog_syntax.specs.declared.tree.Direction.TheVariants as directions
+use Rattle.bs_verilog_syntax.specs.declared.tree.Direction as code
+use Rattle.bs_verilog_syntax.specs.declared.tree.Net as code_net
+use Rattle.bs_verilog_syntax.specs.declared.tree.Net.TheVariants.{Supply0, Supply1}
+use Rattle.bs_verilog_scope.specs.declared.numbering.Known.{Known}
 use Rattle.bs_verilog.specs.declared.building.Built.{Built}
-use Rattle.bs_syntax.specs.declared.fault.VerilogFault.{VerilogFault}
-use Rattle.bs_syntax.specs.declared.fault.VerilogFault.TheVariants.{Syntax}
-use Rattle.bs_lexeme.specs.Packed.{Lexeme}
-use Rattle.bs_lexeme.specs.Lexemes.{lexemes_of, names_of}
+use Rattle.bs_verilog_syntax.specs.declared.fault.VerilogFault.{VerilogFault}
+use Rattle.bs_verilog_syntax.specs.declared.fault.VerilogFault.TheVariants.{Syntax}
+use Rattle.bs_verilog_lexemes.specs.Packed.{Lexeme}
+use Rattle.bs_verilog_lexemes.specs.Lexemes.{lexemes_of, names_of}
 use Rattle.bs_bits.specs.Reading.{◌>>=◌}
-use Rattle.bs_syntax.specs.Modules.{syntax_of}
-use Rattle.bs_scope.specs.Keys.{keys, text}
-use Rattle.bs_scope.specs.Declaring.{said, direction_of, declaring_fault, known, known_nets, keys_of}
-use Rattle.bs_scope.specs.Nets.{numbered, nets_of}
+use Rattle.bs_verilog_syntax.specs.Modules.{syntax_of}
+use Rattle.bs_verilog_scope.specs.Keys.{keys, text}
+use Rattle.bs_verilog_scope.specs.Declaring.{said, direction_of, declaring_fault, known, known_nets, keys_of}
+use Rattle.bs_verilog_scope.specs.Nets.{numbered, nets_of}
 use Rattle.bs_verilog.specs.Building.{with_parts}
 
 -- the direction is this one

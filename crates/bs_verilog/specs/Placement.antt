@@ -6,11 +6,11 @@ use Rattle.bs_net.specs.declared.net.Gate.{Gate}
 use Rattle.bs_net.specs.declared.net.Const.{Const}
 use Rattle.bs_net.specs.Parts.{ArePlaced, IsFlopPlaced}
 use Rattle.bs_net.specs.Gate.{takes}
-use Rattle.bs_syntax.specs.declared.tree.Component.{Component}
+use Rattle.bs_verilog_syntax.specs.declared.tree.Component.{Component}
 use Rattle.bs_verilog.specs.declared.building.Built.{Built}
-use Rattle.bs_lexeme.specs.declared.lexeme.Name.{Name}
-use Rattle.bs_syntax.specs.declared.tree.Says.{Says}
-use Rattle.bs_syntax.specs.declared.tree.Direction.TheVariants as directions
+use Rattle.bs_verilog_lexemes.specs.declared.lexeme.Name.{Name}
+use Rattle.bs_verilog_syntax.specs.declared.tree.Says.{Says}
+use Rattle.bs_verilog_syntax.specs.declared.tree.Direction.TheVariants as directions
 use Rattle.bs_verilog.specs.Building.{with_parts}
 use Rattle.bs_verilog.specs.Netlist.{port_nets}
 

@@ -5,20 +5,20 @@ use Rattle.std.specs.List.{list_any, list_all}
 use Rattle.std.specs.Str.{bytes_eq}
 use Rattle.bs_net.specs.declared.gate.Kind.{Kind}
 use Rattle.bs_net.specs.declared.gate.Kind.TheVariants.{Buf, Not}
-use Rattle.bs_syntax.specs.declared.tree.Term.{Term}
-use Rattle.bs_syntax.specs.declared.tree.Term.TheVariants.{Constant}
-use Rattle.bs_syntax.specs.declared.tree.Connection.{Connection}
-use Rattle.bs_syntax.specs.declared.tree.Connection.TheVariants as connections
-use Rattle.bs_syntax.specs.declared.tree.Connection.TheVariants.{Empty, Place}
-use Rattle.bs_lexeme.specs.declared.lexeme.Cell.{Cell}
-use Rattle.bs_lexeme.specs.declared.lexeme.Cell.TheVariants.{Dffe, Dffr}
+use Rattle.bs_verilog_syntax.specs.declared.tree.Term.{Term}
+use Rattle.bs_verilog_syntax.specs.declared.tree.Term.TheVariants.{Constant}
+use Rattle.bs_verilog_syntax.specs.declared.tree.Connection.{Connection}
+use Rattle.bs_verilog_syntax.specs.declared.tree.Connection.TheVariants as connections
+use Rattle.bs_verilog_syntax.specs.declared.tree.Connection.TheVariants.{Empty, Place}
+use Rattle.bs_verilog_lexemes.specs.declared.lexeme.Cell.{Cell}
+use Rattle.bs_verilog_lexemes.specs.declared.lexeme.Cell.TheVariants.{Dffe, Dffr}
 use Rattle.bs_verilog.specs.declared.cells.Pin.{Pin}
 use Rattle.bs_verilog.specs.declared.cells.Pin.TheVariants.{Clock, Output, Input, Enable, Clear}
 use Rattle.bs_verilog.specs.declared.terminals.Control.{Control}
 use Rattle.bs_verilog.specs.declared.terminals.Control.TheVariants as controls
 use Rattle.bs_verilog.specs.declared.terminals.Pins.{Pins}
 use Rattle.bs_verilog.specs.Cells.{pin_name, pin_list}
-use Rattle.bs_scope.specs.Keys.{text}
+use Rattle.bs_verilog_scope.specs.Keys.{text}
 
 abbrev pub term_of : Connection → Option Term
 term_of (Place t) = Some t

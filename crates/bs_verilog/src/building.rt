@@ -1,17 +1,17 @@
 //! The fourth pass: gates, flip-flops and constants.
 ghost use Rattle.std.specs.Prelude.{◌≡◌, ◌<◌, ◌≤◌, ◌-◌, ◌++◌, [], ◌∷◌, length, Ok, map, take, drop};
-ghost use Rattle.bs_scope.specs.Checking.{looked};
+ghost use Rattle.bs_verilog_scope.specs.Checking.{looked};
 ghost use Rattle.bs_verilog.specs.Building as spec;
 ghost use Rattle.bs_bits.specs.Reading.{Answers};
-ghost use Rattle.bs_syntax.specs.declared.fault.VerilogFault.TheVariants.{NoMemory as want};
+ghost use Rattle.bs_verilog_syntax.specs.declared.fault.VerilogFault.TheVariants.{NoMemory as want};
 
 use crate::cells::starts_as_one;
 use crate::placing::{Made, connection_nets};
 use crate::terminals::{Control, Pins, cell_pins, is_assignment, is_gate, is_single};
 use bs_bits::List;
-use bs_lexeme::{Cell, Table};
 use bs_net::{Flop, Gate, Kind, Mode, NetId, Terms};
-use bs_syntax::{Component, PackedConnection, Says, Shape, VerilogFault};
+use bs_verilog_lexemes::{Cell, Table};
+use bs_verilog_syntax::{Component, PackedConnection, Says, Shape, VerilogFault};
 use std::alloc::Global;
 
 /// What the parts so far have built.

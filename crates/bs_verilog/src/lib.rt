@@ -10,8 +10,8 @@ mod ports;
 mod reader;
 mod terminals;
 
-pub use bs_lexeme::numbers_are_told_apart;
-pub use bs_syntax::{VerilogFault, What};
+pub use bs_verilog_lexemes::numbers_are_told_apart;
+pub use bs_verilog_syntax::{VerilogFault, What};
 pub use law::nets_are_named;
 pub use netlist::meaning;
 pub use reader::read;

@@ -1,22 +1,22 @@
 //! The parts of a netlist, from what a module says.
 ghost use Rattle.std.specs.Prelude.{◌≡◌, ◌<◌, ◌≤◌, ◌^◌, ℕ, [], length, Ok, None, MatchResult};
 ghost use Rattle.bs_net.specs.Netlist.{parts_of};
-ghost use Rattle.bs_scope.specs.Checking.{looked};
+ghost use Rattle.bs_verilog_scope.specs.Checking.{looked};
 ghost use Rattle.bs_verilog.specs.Placement.{AreShort, IsFinished, WillFinish};
-ghost use Rattle.bs_scope.specs.Declaring as declaring_spec;
+ghost use Rattle.bs_verilog_scope.specs.Declaring as declaring_spec;
 ghost use Rattle.bs_verilog.specs.Netlist as spec;
-ghost use Rattle.bs_syntax.specs.declared.fault.VerilogFault.TheVariants.{NoMemory as OutOfMemory};
+ghost use Rattle.bs_verilog_syntax.specs.declared.fault.VerilogFault.TheVariants.{NoMemory as OutOfMemory};
 ghost use Rattle.bs_bits.specs.Reading.{Answers};
-ghost use Rattle.bs_syntax.specs.declared.fault.VerilogFault.TheVariants.{NoMemory as want};
+ghost use Rattle.bs_verilog_syntax.specs.declared.fault.VerilogFault.TheVariants.{NoMemory as want};
 
 use crate::building::{Built, with_parts};
 use crate::placing::Made;
 use crate::ports::{port_nets, supplies};
 use bs_bits::List;
-use bs_lexeme::{Name, Table};
 use bs_net::{NetId, Raw};
-use bs_scope::{Known, declare, numbered};
-use bs_syntax::{Component, Direction, Module, Says, VerilogFault};
+use bs_verilog_lexemes::{Name, Table};
+use bs_verilog_scope::{Known, declare, numbered};
+use bs_verilog_syntax::{Component, Direction, Module, Says, VerilogFault};
 use std::alloc::Global;
 
 /// A list of 2^32 members and more is past the memory that a text of 16 MiB can ask for.

@@ -1,17 +1,17 @@
 //! The nets of terms.
 ghost use Rattle.std.specs.Prelude.{◌≡◌, ◌<◌, ◌≤◌, ◌++◌, [], length, Ok, string_bytes};
-ghost use Rattle.bs_scope.specs.Checking.{looked};
-ghost use Rattle.bs_scope.specs.Keys as keys_spec;
+ghost use Rattle.bs_verilog_scope.specs.Checking.{looked};
+ghost use Rattle.bs_verilog_scope.specs.Keys as keys_spec;
 ghost use Rattle.bs_verilog.specs.Building as spec;
 ghost use Rattle.bs_bits.specs.Reading.{Answers};
-ghost use Rattle.bs_syntax.specs.declared.fault.VerilogFault.TheVariants.{NoMemory as want};
+ghost use Rattle.bs_verilog_syntax.specs.declared.fault.VerilogFault.TheVariants.{NoMemory as want};
 
 use crate::terminals::term_of;
 use bs_bits::List;
-use bs_lexeme::{Name, Table};
 use bs_net::{Const, MAX_NETS, Names, NetId};
-use bs_scope::{bit_key, constant_key, entry, has_index, net_of, scalar_key};
-use bs_syntax::{PackedConnection, Range, Says, Term, VerilogFault, What};
+use bs_verilog_lexemes::{Name, Table};
+use bs_verilog_scope::{bit_key, constant_key, entry, has_index, net_of, scalar_key};
+use bs_verilog_syntax::{PackedConnection, Range, Says, Term, VerilogFault, What};
 use std::alloc::Global;
 
 /// What the terms so far have made: the names in net order, and the constants.

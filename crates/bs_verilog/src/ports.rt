@@ -1,16 +1,16 @@
 //! The nets of ports and of supplies.
 ghost use Rattle.std.specs.Prelude.{◌≡◌, ◌<◌, ◌≤◌, ◌++◌, [], ◌∷◌, length, Ok, Some, map};
 ghost use Rattle.std.specs.List.{flat_map};
-ghost use Rattle.bs_scope.specs.Checking.{looked};
+ghost use Rattle.bs_verilog_scope.specs.Checking.{looked};
 ghost use Rattle.bs_verilog.specs.Netlist as spec;
 ghost use Rattle.bs_bits.specs.Reading.{Answers};
-ghost use Rattle.bs_syntax.specs.declared.fault.VerilogFault.TheVariants.{NoMemory as want};
+ghost use Rattle.bs_verilog_syntax.specs.declared.fault.VerilogFault.TheVariants.{NoMemory as want};
 
 use bs_bits::List;
-use bs_lexeme::{Name, Table};
 use bs_net::{Const, Names, NetId};
-use bs_scope::{direction_of, entry, known_net, nets_of};
-use bs_syntax::{Declared, Direction, Net, Says, VerilogFault};
+use bs_verilog_lexemes::{Name, Table};
+use bs_verilog_scope::{direction_of, entry, known_net, nets_of};
+use bs_verilog_syntax::{Declared, Direction, Net, Says, VerilogFault};
 use std::alloc::Global;
 
 fn is_towards(direction: Direction, of: Option<Direction>) -> bool

@@ -4,13 +4,13 @@ ghost use Rattle.bs_net.specs.Netlist.{parts_of};
 ghost use Rattle.bs_lex.specs.declared.limits.TheConstants.{MAX_BYTES};
 ghost use Rattle.bs_verilog.specs.Netlist as spec;
 ghost use Rattle.bs_bits.specs.Reading.{Answers};
-ghost use Rattle.bs_syntax.specs.declared.fault.VerilogFault.TheVariants.{NoMemory as want};
+ghost use Rattle.bs_verilog_syntax.specs.declared.fault.VerilogFault.TheVariants.{NoMemory as want};
 
 use crate::netlist::meaning;
 use bs_bits::List;
-use bs_lexeme::{LexFault, Lexeme, Table, lexemes};
 use bs_net::Raw;
-use bs_syntax::{Module, VerilogFault, syntax};
+use bs_verilog_lexemes::{LexFault, Lexeme, Table, lexemes};
+use bs_verilog_syntax::{Module, VerilogFault, syntax};
 use std::alloc::Global;
 
 /// The lexemes of a text and its names. A place where no token begins is a fault of syntax.

@@ -2,12 +2,12 @@
 ghost use Rattle.std.specs.Prelude.{◌≡◌, ◌<◌, ◌≤◌, length, take, position, slice_index_or};
 ghost use Rattle.std.specs.List.{list_all, list_any};
 ghost use Rattle.bs_verilog.specs.Terminals as spec;
-ghost use Rattle.bs_syntax.specs.declared.tree.Connection.TheVariants.{Empty};
+ghost use Rattle.bs_verilog_syntax.specs.declared.tree.Connection.TheVariants.{Empty};
 
 use crate::cells::{Pin, pin_list, pin_name};
-use bs_lexeme::{Cell, Table};
 use bs_net::Kind;
-use bs_syntax::{Connection, PackedConnection, Term};
+use bs_verilog_lexemes::{Cell, Table};
+use bs_verilog_syntax::{Connection, PackedConnection, Term};
 
 /// Where the pin of a cell stands that decides what its flip-flop loads, if there is one.
 #[derive(Clone, Copy, Debug, PartialEq, Eq)]

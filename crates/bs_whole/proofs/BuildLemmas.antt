@@ -4,18 +4,18 @@ use Rattle.std.proofs.lemmas.List.Elements.{All-weaker}
 use Rattle.bs_net.specs.declared.net.NetId.{NetId}
 use Rattle.bs_net.specs.declared.net.Gate.{Gate}
 use Rattle.bs_net.specs.Parts.{Parts}
-use Rattle.bs_syntax.specs.declared.fault.VerilogFault.{VerilogFault}
-use Rattle.bs_syntax.specs.declared.tree.Module.{Module}
-use Rattle.bs_syntax.specs.declared.tree.Direction.TheVariants as directions
+use Rattle.bs_verilog_syntax.specs.declared.fault.VerilogFault.{VerilogFault}
+use Rattle.bs_verilog_syntax.specs.declared.tree.Module.{Module}
+use Rattle.bs_verilog_syntax.specs.declared.tree.Direction.TheVariants as directions
 use Rattle.bs_bits.specs.Reading.{◌>>=◌}
-use Rattle.bs_scope.specs.Declaring.{said, known_nets}
-use Rattle.bs_scope.specs.Nets.{numbered}
+use Rattle.bs_verilog_scope.specs.Declaring.{said, known_nets}
+use Rattle.bs_verilog_scope.specs.Nets.{numbered}
 use Rattle.bs_verilog.specs.declared.building.Built.{Built}
 use Rattle.bs_verilog.specs.Building.{with_parts}
 use Rattle.bs_verilog.specs.Netlist.{port_nets, start_of, parts_with, built_of}
 use Rattle.bs_verilog.specs.Placement.{AreWithin}
 use Rattle.bs_verilog.proofs.PlacementLemmas.{GateUnder, module_built}
-use Rattle.bs_flat.specs.Flat.{HasNets}
+use Rattle.bs_flat_meaning.specs.Flat.{HasNets}
 
 -- a gate whose nets have names
 abbrev GateNamed : ℕ → Gate → Type 0

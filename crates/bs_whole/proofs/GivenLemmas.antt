@@ -2,9 +2,9 @@
 use Rattle.std.proofs.Common.{◌≡◌, Bool, true, false, cond, List, [], ◌∷◌, Result, Ok, Err, refl, subst}
 use Rattle.std.specs.List.{AllByRecursion}
 use Rattle.bs_bits.specs.Reading.{◌>>=◌}
-use Rattle.bs_syntax.specs.declared.fault.VerilogFault.{VerilogFault}
-use Rattle.bs_flat.specs.declared.fault.FlatFault.{FlatFault}
-use Rattle.bs_flat.specs.Reading.{◌then◌, as_verilog, all_of}
+use Rattle.bs_verilog_syntax.specs.declared.fault.VerilogFault.{VerilogFault}
+use Rattle.bs_flat_meaning.specs.declared.fault.FlatFault.{FlatFault}
+use Rattle.bs_flat_meaning.specs.Reading.{◌then◌, as_verilog, all_of}
 
 -- the value, if there is one, keeps this
 pub record Gives {A F : Type 0} (P : A → Type 0) (r : Result A F) : Type 0 where

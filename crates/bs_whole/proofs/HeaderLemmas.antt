@@ -4,26 +4,26 @@ use Rattle.std.proofs.lemmas.Bool.{false≢true}
 use Rattle.std.specs.Prelude.{is_some, if◌then◌else◌}
 use Rattle.std.specs.List.{AllByRecursion}
 use Prim.Native.String.{String}
-use Rattle.bs_lexeme.specs.Lexemes.{is_name}
-use Rattle.bs_syntax.specs.declared.fault.VerilogFault.TheVariants.{Syntax}
-use Rattle.bs_syntax.specs.declared.reading.Due.{Due}
-use Rattle.bs_syntax.specs.declared.reading.Due.TheVariants as due
-use Rattle.bs_syntax.specs.declared.reading.AttributeStep.{AttributeStep}
-use Rattle.bs_syntax.specs.declared.reading.AttributeStep.TheVariants.{On, Over, Unclosed}
-use Rattle.bs_syntax.specs.declared.tree.Direction as code
-use Rattle.bs_syntax.specs.declared.tree.Net.TheVariants as nets
-use Rattle.bs_syntax.specs.declared.tree.Range.{Range}
-use Rattle.bs_syntax.specs.declared.tree.Says.{Says}
-use Rattle.bs_syntax.specs.declared.tree.HeaderPort.{HeaderPort}
-use Rattle.bs_syntax.specs.declared.tree.Ports.{Ports}
-use Rattle.bs_syntax.specs.declared.tree.Adds.{Adds}
-use Rattle.bs_syntax.specs.declared.tree.Module.{Module}
+use Rattle.bs_verilog_lexemes.specs.Lexemes.{is_name}
+use Rattle.bs_verilog_syntax.specs.declared.fault.VerilogFault.TheVariants.{Syntax}
+use Rattle.bs_verilog_syntax.specs.declared.reading.Due.{Due}
+use Rattle.bs_verilog_syntax.specs.declared.reading.Due.TheVariants as due
+use Rattle.bs_verilog_syntax.specs.declared.reading.AttributeStep.{AttributeStep}
+use Rattle.bs_verilog_syntax.specs.declared.reading.AttributeStep.TheVariants.{On, Over, Unclosed}
+use Rattle.bs_verilog_syntax.specs.declared.tree.Direction as code
+use Rattle.bs_verilog_syntax.specs.declared.tree.Net.TheVariants as nets
+use Rattle.bs_verilog_syntax.specs.declared.tree.Range.{Range}
+use Rattle.bs_verilog_syntax.specs.declared.tree.Says.{Says}
+use Rattle.bs_verilog_syntax.specs.declared.tree.HeaderPort.{HeaderPort}
+use Rattle.bs_verilog_syntax.specs.declared.tree.Ports.{Ports}
+use Rattle.bs_verilog_syntax.specs.declared.tree.Adds.{Adds}
+use Rattle.bs_verilog_syntax.specs.declared.tree.Module.{Module}
 use Rattle.bs_bits.specs.Reading.{◌>>=◌}
-use Rattle.bs_syntax.specs.Reading.{Rest, Read, Skip, at, sort, rest, name, digits, is_at, refused, expect, expect_name, expect_digits, with_commas, listed}
-use Rattle.bs_syntax.specs.Terms.{attribute_step, attributes_from, attributes}
-use Rattle.bs_syntax.specs.Unsupported.{after_direction}
-use Rattle.bs_syntax.specs.Declarations.{range, direction, is_wire, port_says, plain_port, header_port, carried, nothing_said, ports, header}
-use Rattle.bs_syntax.specs.Modules.{items, top, is_endmodule, is_end, skipped, is_cell, is_module, begun, cells, leading, syntax_of}
+use Rattle.bs_verilog_syntax.specs.Reading.{Rest, Read, Skip, at, sort, rest, name, digits, is_at, refused, expect, expect_name, expect_digits, with_commas, listed}
+use Rattle.bs_verilog_syntax.specs.Terms.{attribute_step, attributes_from, attributes}
+use Rattle.bs_verilog_syntax.specs.Unsupported.{after_direction}
+use Rattle.bs_verilog_syntax.specs.Declarations.{range, direction, is_wire, port_says, plain_port, header_port, carried, nothing_said, ports, header}
+use Rattle.bs_verilog_syntax.specs.Modules.{items, top, is_endmodule, is_end, skipped, is_cell, is_module, begun, cells, leading, syntax_of}
 use Rattle.bs_whole.proofs.NameLemmas.{IsNumbered, IsSmall, AreSmall}
 use Rattle.bs_whole.proofs.GivenLemmas.{Gives, gives_ok, gives_err, gives_on, gives_if, gives_any}
 

@@ -8,7 +8,7 @@ use Rattle.std.proofs.lemmas.Bool.{false≢true, and_parts}
 use Rattle.std.proofs.lemmas.List.{append_cancel_right}
 use Rattle.std.proofs.lemmas.Fmt.{decimal_injective, decimal_is_IsNumeral}
 use Rattle.bs_lex.specs.Bytes.{begins_name, is_of_name}
-use Rattle.bs_scope.specs.Keys.{is_plain, scalar_key, bit_key}
+use Rattle.bs_verilog_scope.specs.Keys.{is_plain, scalar_key, bit_key}
 
 -- no byte of the list is this one
 abbrev HasNo : ℕ → List ℕ → Type 0

@@ -8,32 +8,32 @@ use Rattle.std.proofs.lemmas.List.Folds.{list_any-append, flat_map-map}
 use Rattle.std.proofs.lemmas.List.Concat.{flat_map-append}
 use Rattle.std.proofs.lemmas.List.Elements.{All-from_recursion}
 use Rattle.bs_net.specs.Parts.{Parts}
-use Rattle.bs_lexeme.specs.declared.lexeme.Name.{Name}
-use Rattle.bs_lexeme.specs.declared.limits.TheConstants.{MAX_INDEX}
-use Rattle.bs_lexeme.specs.Lexemes.{names_of, lexemes_of}
-use Rattle.bs_syntax.specs.declared.fault.VerilogFault.{VerilogFault}
-use Rattle.bs_syntax.specs.declared.tree.Range.{Range}
-use Rattle.bs_syntax.specs.declared.tree.Says.{Says}
-use Rattle.bs_syntax.specs.declared.tree.Declared.{Declared}
-use Rattle.bs_syntax.specs.declared.tree.Module as code
-use Rattle.bs_syntax.specs.Reading.{Rest}
-use Rattle.bs_syntax.specs.Modules.{syntax_of}
-use Rattle.bs_scope.specs.declared.numbering.Known.{Known}
-use Rattle.bs_scope.specs.Nets.{with_keys, numbered}
-use Rattle.bs_scope.specs.Declaring.{together, said, range_of, ◌or_else◌, first_after, is_in, stands_before, is_too_wide, repeated_fault}
-use Rattle.bs_scope.specs.Declaring.{redeclared_fault, naming_fault, stray_fault, bare_fault, wide_fault, many_fault, declaring_fault, nets_in}
-use Rattle.bs_scope.specs.Declaring.{known, known_nets, keys_of}
+use Rattle.bs_verilog_lexemes.specs.declared.lexeme.Name.{Name}
+use Rattle.bs_verilog_lexemes.specs.declared.limits.TheConstants.{MAX_INDEX}
+use Rattle.bs_verilog_lexemes.specs.Lexemes.{names_of, lexemes_of}
+use Rattle.bs_verilog_syntax.specs.declared.fault.VerilogFault.{VerilogFault}
+use Rattle.bs_verilog_syntax.specs.declared.tree.Range.{Range}
+use Rattle.bs_verilog_syntax.specs.declared.tree.Says.{Says}
+use Rattle.bs_verilog_syntax.specs.declared.tree.Declared.{Declared}
+use Rattle.bs_verilog_syntax.specs.declared.tree.Module as code
+use Rattle.bs_verilog_syntax.specs.Reading.{Rest}
+use Rattle.bs_verilog_syntax.specs.Modules.{syntax_of}
+use Rattle.bs_verilog_scope.specs.declared.numbering.Known.{Known}
+use Rattle.bs_verilog_scope.specs.Nets.{with_keys, numbered}
+use Rattle.bs_verilog_scope.specs.Declaring.{together, said, range_of, ◌or_else◌, first_after, is_in, stands_before, is_too_wide, repeated_fault}
+use Rattle.bs_verilog_scope.specs.Declaring.{redeclared_fault, naming_fault, stray_fault, bare_fault, wide_fault, many_fault, declaring_fault, nets_in}
+use Rattle.bs_verilog_scope.specs.Declaring.{known, known_nets, keys_of}
 use Rattle.bs_verilog.specs.Netlist.{meaning_of, built_of}
 use Rattle.bs_verilog.proofs.PlacementLemmas.{declared_has_nets}
-use Rattle.bs_flat.specs.declared.statements.Written.{Written}
-use Rattle.bs_flat.specs.declared.fault.FlatFault.TheVariants.{Twice}
-use Rattle.bs_flat.specs.Pieces.{Piece, modules_of, own_text}
-use Rattle.bs_flat.specs.Connecting.{ReadModule, Port, ports_of}
-use Rattle.bs_flat.specs.Reading.{as_verilog, all_of, no_fault, second_module, read_own, read_written, second_instance, first_of, gathered}
-use Rattle.bs_flat.specs.Reading.{read_modules, IsRead}
-use Rattle.bs_flat.proofs.MemberLemmas.{Member, missed, mapped}
-use Rattle.bs_flat.proofs.MemberLemmas
-use Rattle.bs_flat.proofs.NumberLemmas.{Apart}
+use Rattle.bs_flat_meaning.specs.declared.statements.Written.{Written}
+use Rattle.bs_flat_meaning.specs.declared.fault.FlatFault.TheVariants.{Twice}
+use Rattle.bs_flat_meaning.specs.Pieces.{Piece, modules_of, own_text}
+use Rattle.bs_flat_meaning.specs.Connecting.{ReadModule, Port, ports_of}
+use Rattle.bs_flat_meaning.specs.Reading.{as_verilog, all_of, no_fault, second_module, read_own, read_written, second_instance, first_of, gathered}
+use Rattle.bs_flat_meaning.specs.Reading.{read_modules, IsRead}
+use Rattle.bs_flat_meaning.proofs.MemberLemmas.{Member, missed, mapped}
+use Rattle.bs_flat_meaning.proofs.MemberLemmas
+use Rattle.bs_flat_meaning.proofs.NumberLemmas.{Apart}
 use Rattle.bs_whole.specs.Law.{ReadModulesAreWhole}
 use Rattle.bs_whole.proofs.NameLemmas.{AreSmall, ids, texts_apart, names_apart, lexemes_numbered}
 use Rattle.bs_whole.proofs.RoomLemmas.{IsBounded, AreBounded, keys_on, ports_have_room}
@@ -159,7 +159,7 @@ built_is_read table m parts ws a small none e =
       nets = built.nets;
       room =
           All-from_recursion (λ (p : Port). p.first + p.width ≤ length parts.names) (ports_of table k)
-          (Rattle.bs_flat.proofs.MemberLemmas.all_of (λ (p : Port). p.first + p.width ≤ length parts.names) (ports_of table k)
+          (Rattle.bs_flat_meaning.proofs.MemberLemmas.all_of (λ (p : Port). p.first + p.width ≤ length parts.names) (ports_of table k)
           (λ p l.
           let room =
           ports_have_room table scope m.header (flat_map (keys_of table) (others m)) p (texts_apart table m.header a small declared.once)

@@ -3,13 +3,13 @@ use Rattle.std.proofs.Common.{ℕ, zero, suc, ◌+◌, ◌-◌, Bool, true, fals
 use Rattle.std.proofs.Common.{Option, Some, None, Ok, Err, refl}
 use Rattle.std.specs.Prelude.{option_map, if◌then◌else◌}
 use Rattle.std.specs.List.{AllByRecursion, flat_map}
-use Rattle.bs_lexeme.specs.Packed.{Lexeme}
-use Rattle.bs_lexeme.specs.declared.lexeme.Sort.TheVariants as sorts
-use Rattle.bs_syntax.specs.Reading.{Rest, Skip, at, sort, is_at}
-use Rattle.bs_syntax.specs.Terms.{attributes}
-use Rattle.bs_syntax.specs.Modules.{is_module, is_endmodule}
-use Rattle.bs_flat.specs.Pieces.{Piece, to_endmodule, before, loose, first_piece, pieces_from, pieces, is_design, modules_of, to_semicolon, Item, items_from}
-use Rattle.bs_flat.specs.Pieces.{body_of, is_instancing, own_body, own_piece, own_text}
+use Rattle.bs_verilog_lexemes.specs.Packed.{Lexeme}
+use Rattle.bs_verilog_lexemes.specs.declared.lexeme.Sort.TheVariants as sorts
+use Rattle.bs_verilog_syntax.specs.Reading.{Rest, Skip, at, sort, is_at}
+use Rattle.bs_verilog_syntax.specs.Terms.{attributes}
+use Rattle.bs_verilog_syntax.specs.Modules.{is_module, is_endmodule}
+use Rattle.bs_flat_meaning.specs.Pieces.{Piece, to_endmodule, before, loose, first_piece, pieces_from, pieces, is_design, modules_of, to_semicolon, Item, items_from}
+use Rattle.bs_flat_meaning.specs.Pieces.{body_of, is_instancing, own_body, own_piece, own_text}
 use Rattle.bs_whole.proofs.NameLemmas.{all_append}
 use Rattle.bs_whole.proofs.GivenLemmas.{Gives}
 use Rattle.bs_whole.proofs.HeaderLemmas.{Sound, attributes_sound}

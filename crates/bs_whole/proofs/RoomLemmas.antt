@@ -7,15 +7,15 @@ use Rattle.std.proofs.lemmas.Bool.{leb-true, leb-false}
 use Rattle.std.proofs.lemmas.List.{length-append}
 use Rattle.bs_net.specs.Names.{with_key}
 use Rattle.bs_net.proofs.NamesLemmas.{with_key-grows}
-use Rattle.bs_lexeme.specs.declared.lexeme.Name.{Name}
-use Rattle.bs_syntax.specs.declared.tree.Range.{Range}
-use Rattle.bs_syntax.specs.declared.tree.Says.{Says}
-use Rattle.bs_scope.specs.Keys.{text, keys, scalar_key, bit_key, index_at, width}
-use Rattle.bs_scope.specs.Declaring.{range_of, known, keys_of}
-use Rattle.bs_scope.specs.Nets.{with_keys}
-use Rattle.bs_flat.specs.Connecting.{Port, ports_from}
-use Rattle.bs_flat.proofs.MemberLemmas.{Member, member_split, mapped, member_map, flattened, ranged}
-use Rattle.bs_flat.proofs.NumberLemmas.{Apart, apart_append}
+use Rattle.bs_verilog_lexemes.specs.declared.lexeme.Name.{Name}
+use Rattle.bs_verilog_syntax.specs.declared.tree.Range.{Range}
+use Rattle.bs_verilog_syntax.specs.declared.tree.Says.{Says}
+use Rattle.bs_verilog_scope.specs.Keys.{text, keys, scalar_key, bit_key, index_at, width}
+use Rattle.bs_verilog_scope.specs.Declaring.{range_of, known, keys_of}
+use Rattle.bs_verilog_scope.specs.Nets.{with_keys}
+use Rattle.bs_flat_meaning.specs.Connecting.{Port, ports_from}
+use Rattle.bs_flat_meaning.proofs.MemberLemmas.{Member, member_split, mapped, member_map, flattened, ranged}
+use Rattle.bs_flat_meaning.proofs.NumberLemmas.{Apart, apart_append}
 use Rattle.bs_whole.proofs.KeyLemmas.{key_at, keys_apart, IsIndex}
 
 -- ---- names after keys that are new

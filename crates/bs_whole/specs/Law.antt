@@ -2,9 +2,9 @@
 use Rattle.std.specs.Prelude.{◌≡◌, ℕ, List, Ok, All}
 use Rattle.bs_lex.specs.declared.token.Token.{Token}
 use Rattle.bs_lex.specs.Tokens.{tokens_of}
-use Rattle.bs_lexeme.specs.Lexemes.{names_of, lexemes_of}
-use Rattle.bs_flat.specs.Connecting.{ReadModule}
-use Rattle.bs_flat.specs.Reading.{read_modules, IsRead}
+use Rattle.bs_verilog_lexemes.specs.Lexemes.{names_of, lexemes_of}
+use Rattle.bs_flat_meaning.specs.Connecting.{ReadModule}
+use Rattle.bs_flat_meaning.specs.Reading.{read_modules, IsRead}
 
 -- of each module of a text that is read, its own parts have names for their nets, its ports stand first among the nets, and a name
 -- that is declared has nets

@@ -1,6 +1,6 @@
 use Rattle.std.proofs.Common.{length}
 use Rattle.bs_log.specs.Steps.{last_solve, is_spent}
-use Rattle.bs_good.specs.Valid.{finishes_in}
+use Rattle.bs_report_good.specs.Valid.{finishes_in}
 use Rattle.bs_audit.specs.StepLines.{undeleted}
 use Rattle.bs_audit.proofs.Lines.{spent_after}
 use Rattle.bs_audit.proofs.ends.ends_spent.Goals as goal

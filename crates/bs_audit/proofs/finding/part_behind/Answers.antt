@@ -2,7 +2,7 @@ use Rattle.std.specs.Prelude.{option_map}
 use Rattle.std.proofs.Common.{map}
 use Rattle.bs_net.specs.Netlist.{circuit}
 use Rattle.bs_encode.specs.Depth.{basis_of}
-use Rattle.bs_good.specs.Chain.{present_of}
+use Rattle.bs_report_good.specs.Chain.{present_of}
 use Rattle.bs_scan.specs.Present.{present_in}
 use Rattle.bs_audit.proofs.WholeLemmas.{stop_fails, trace_fails, behind_log, few_steps}
 use Rattle.bs_audit.proofs.finding.part_behind.Goals as goal

@@ -1,4 +1,4 @@
-use Rattle.bs_plane.proofs.PlaneLemmas.{has_put_bit}
+use Rattle.bs_lanes_planes.proofs.PlaneLemmas.{has_put_bit}
 use Rattle.bs_chip.proofs.lanes.put_one.Goals as goal
 
 pub returns : goal.returns

@@ -1,5 +1,5 @@
 use Rattle.std.proofs.Common.{◌≡◌}
-use Rattle.bs_plane.specs.Planes.{lane}
+use Rattle.bs_lanes_planes.specs.Planes.{lane}
 use Rattle.bs_chip.specs.Prints.{print_of}
 use Rattle.bs_chip.proofs.prints.lane_print.Given as goal
 

@@ -1,7 +1,7 @@
 use Rattle.std.proofs.Common.{◌∙◌, ℕ, List, subst, ap}
-use Rattle.bs_order.specs.declared.levels.Levels.{Levels}
-use Rattle.bs_order.specs.Ring.{IsLevels, IsRing, IsChildrenFirst}
-use Rattle.bs_order.specs.Tops as order_tops
+use Rattle.bs_flat_order.specs.declared.levels.Levels.{Levels}
+use Rattle.bs_flat_order.specs.Ring.{IsLevels, IsRing, IsChildrenFirst}
+use Rattle.bs_flat_order.specs.Tops as order_tops
 use Rattle.bs_hierarchy.proofs.RankLemmas.{ring_is, ranked_is}
 use Rattle.bs_hierarchy.proofs.ranks.rank_modules.Goals as goal
 

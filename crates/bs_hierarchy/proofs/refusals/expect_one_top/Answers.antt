@@ -1,7 +1,7 @@
 use Rattle.std.proofs.Common.{◌≡◌, ◌∙◌, ◌⊎◌, ◌<◌, ◌≤◌, ℕ, List, Option, Result, Ok, Err, map, length, subst, sym, ap, inl, inr, ⊎_elim}
 use Rattle.std.specs.Prelude.{MatchResult}
-use Rattle.bs_flat.specs.declared.fault.FlatFault.{FlatFault}
-use Rattle.bs_flat.specs.declared.fault.FlatFault.TheVariants as faults
+use Rattle.bs_flat_meaning.specs.declared.fault.FlatFault.{FlatFault}
+use Rattle.bs_flat_meaning.specs.declared.fault.FlatFault.TheVariants as faults
 use Rattle.bs_hierarchy.specs.Hierarchy.{IsHierarchy, IsRingOf, IsRankedSo}
 use Rattle.bs_hierarchy.specs.Refusals.{name_of, HasOneTop, IsRefused}
 use Rattle.bs_hierarchy.specs.declared.ranks.Ranked as code

@@ -1,5 +1,5 @@
-use Rattle.bs_job.proofs.Walking.{walks_as}
-use Rattle.bs_job.proofs.Preparing.{prepares_stop}
+use Rattle.bs_top_plan.proofs.Walking.{walks_as}
+use Rattle.bs_top_plan.proofs.Preparing.{prepares_stop}
 use Rattle.bs_inspect.specs.Work.{to_run}
 use Rattle.bs_inspect.specs.Finishes.{finishes}
 use Rattle.bs_inspect.proofs.WorkLemmas.{prepares_done}

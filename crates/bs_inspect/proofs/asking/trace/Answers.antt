@@ -1,9 +1,9 @@
 use Rattle.std.proofs.Common.{ℕ, Bool, Bor, List, map, sym}
-use Rattle.bs_job.specs.Plan.{Plan, end, ◌>>=◌}
-use Rattle.bs_job.proofs.Walking.{walks_as}
-use Rattle.bs_job.proofs.Preparing.{prepares_stop}
-use Rattle.bs_entry.specs.Refusals.{Case}
-use Rattle.bs_intake.specs.Taken.{picked_of}
+use Rattle.bs_top_plan.specs.Plan.{Plan, end, ◌>>=◌}
+use Rattle.bs_top_plan.proofs.Walking.{walks_as}
+use Rattle.bs_top_plan.proofs.Preparing.{prepares_stop}
+use Rattle.bs_top_files.specs.Refusals.{Case}
+use Rattle.bs_inspect_files.specs.Taken.{picked_of}
 use Rattle.bs_inspect.specs.Work.{Work, to_trace}
 use Rattle.bs_inspect.specs.Finishes.{finishes}
 use Rattle.bs_inspect.proofs.WorkLemmas.{prepares_done, prepared_with}

@@ -1,5 +1,5 @@
-use Rattle.bs_job.proofs.Clauses.{answered, answered_as_told, call_by_call, complete, complete_whole, read_counted, read_fault_of}
-use Rattle.bs_job.proofs.Clauses.{refuses_first_of, words_only}
+use Rattle.bs_top_plan.proofs.Clauses.{answered, answered_as_told, call_by_call, complete, complete_whole, read_counted, read_fault_of}
+use Rattle.bs_top_plan.proofs.Clauses.{refuses_first_of, words_only}
 use Rattle.bs_inspect.proofs.WorkLemmas.{is_work}
 use Rattle.bs_inspect.proofs.top.answer.Goals as goal
 

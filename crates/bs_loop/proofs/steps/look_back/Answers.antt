@@ -4,7 +4,7 @@ use Rattle.bs_net.specs.Circuit.{Circuit}
 use Rattle.bs_scan.specs.Choice.{Chosen}
 use Rattle.bs_scan.specs.Crash.{DumpFits}
 use Rattle.bs_report.specs.declared.report.Cand.{Cand}
-use Rattle.bs_good.specs.Step.{IsCandidate}
+use Rattle.bs_report_good.specs.Step.{IsCandidate}
 use Rattle.bs_preimage.specs.Listed.{HasListed}
 use Rattle.bs_loop.proofs.MeetLemmas.{candidate_widths, held_wide, hit_is, has_its_dump}
 use Rattle.bs_loop.proofs.steps.look_back.Goals as goal

@@ -1,8 +1,8 @@
 use Rattle.std.proofs.Common.{refl, ap, subst, ◌∙◌}
 use Rattle.bs_scan.specs.Crash.{IsRecording, crash_of}
 use Rattle.bs_report.specs.declared.report.Report.{Report}
-use Rattle.bs_good.specs.Trace.{trace_states, trace_inputs}
-use Rattle.bs_good.specs.Good.{IsGood}
+use Rattle.bs_report_good.specs.Trace.{trace_states, trace_inputs}
+use Rattle.bs_report_good.specs.Good.{IsGood}
 use Rattle.bs_loop.proofs.GoodLemmas.{IsReportOf, is_good, is_valid, is_lean, has_bound}
 use Rattle.bs_loop.proofs.ReadableLemmas.{readable}
 use Rattle.bs_loop.proofs.TraceLemmas.{one_state_more}

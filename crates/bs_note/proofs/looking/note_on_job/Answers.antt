@@ -1,4 +1,4 @@
-use Rattle.bs_words.specs.Shown.{job_in}
+use Rattle.bs_top_words.specs.Shown.{job_in}
 use Rattle.bs_note.specs.Shown.{names_in}
 use Rattle.bs_note.proofs.WalkLemmas.{job_noted}
 use Rattle.bs_note.proofs.looking.note_on_job.Goals as goal

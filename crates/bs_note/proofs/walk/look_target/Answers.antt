@@ -1,5 +1,5 @@
 use Rattle.std.proofs.lemmas.Result.{err_from_is_err_and}
-use Rattle.bs_job.proofs.Walking.{walks_stop, walks_then, reads_walk}
+use Rattle.bs_top_plan.proofs.Walking.{walks_stop, walks_then, reads_walk}
 use Rattle.bs_note.proofs.walk.look_target.Goals as goal
 
 pub returns-in_err-net : goal.returns-in_err-net

@@ -1,5 +1,5 @@
 use Rattle.std.proofs.lemmas.Result.{err_from_is_err_and}
-use Rattle.bs_job.proofs.Walking.{fetch_stop, reads_then}
+use Rattle.bs_top_plan.proofs.Walking.{fetch_stop, reads_then}
 use Rattle.bs_note.specs.Readings.{signature_noted}
 use Rattle.bs_note.proofs.walk.take_signature.Goals as goal
 

@@ -1,7 +1,7 @@
 use Rattle.std.proofs.Common.{◌≡◌, ◌∙◌, sym, arith, None, Some}
-use Rattle.bs_flat.specs.Meaning.{joined_with}
-use Rattle.bs_flatten.specs.Climbing.{joins_of_node}
-use Rattle.bs_flatten.proofs.ClimbLemmas.{leads_start, leads_more, root_here, root_at_top}
+use Rattle.bs_flat_meaning.specs.Meaning.{joined_with}
+use Rattle.bs_flat_nets.specs.Climbing.{joins_of_node}
+use Rattle.bs_flat_nets.proofs.ClimbLemmas.{leads_start, leads_more, root_here, root_at_top}
 use Rattle.bs_number.proofs.climbing.root_of.Goals as goal
 
 pub climb-init : goal.climb-init

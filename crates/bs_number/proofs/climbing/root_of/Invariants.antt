@@ -1,5 +1,5 @@
 use Rattle.std.proofs.Common.{◌<◌, length}
-use Rattle.bs_flatten.specs.Climbing.{LeadsUp}
+use Rattle.bs_flat_nets.specs.Climbing.{LeadsUp}
 use Rattle.bs_number.proofs.climbing.root_of.Given as goal
 
 abbrev pub decreases-climb : goal.decreases-climb

@@ -2,7 +2,7 @@ use Rattle.std.proofs.Common.{◌≡◌, ◌∙◌, ◌+◌, ◌-◌, ◌++◌, 
 use Rattle.std.specs.Prelude.{filter}
 use Rattle.std.specs.List.{range_with_len}
 use Rattle.std.proofs.lemmas.List.{take_more, take_all}
-use Rattle.bs_flatten.specs.declared.blocks.Run.{Run}
+use Rattle.bs_flat_nets.specs.declared.blocks.Run.{Run}
 use Rattle.bs_number.proofs.GapLemmas.{IsLeft, is_left, left_none, left_more, left_all}
 use Rattle.bs_number.proofs.free.free_between.Goals as goal
 

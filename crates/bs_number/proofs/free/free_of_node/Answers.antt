@@ -1,5 +1,5 @@
 use Rattle.std.proofs.Common.{◌∙◌, arith}
-use Rattle.bs_flatten.specs.Climbing.{node_at}
+use Rattle.bs_flat_nets.specs.Climbing.{node_at}
 use Rattle.bs_number.proofs.ChildLemmas.{row_is, row_wide, child_is, parent_there}
 use Rattle.bs_number.proofs.free.free_of_node.Goals as goal
 

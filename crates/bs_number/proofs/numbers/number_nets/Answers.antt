@@ -1,8 +1,8 @@
 use Rattle.std.proofs.Common.{◌<◌, ◌+◌, [], length, take, refl, sym, subst, arith}
-use Rattle.bs_flat.specs.Design.{paths}
-use Rattle.bs_flatten.specs.Blocks.{design_of}
-use Rattle.bs_flatten.specs.Climbing.{node_at}
-use Rattle.bs_flatten.proofs.WeightLemmas.{consts_placed}
+use Rattle.bs_flat_meaning.specs.Design.{paths}
+use Rattle.bs_flat_nets.specs.Blocks.{design_of}
+use Rattle.bs_flat_nets.specs.Climbing.{node_at}
+use Rattle.bs_flat_nets.proofs.WeightLemmas.{consts_placed}
 use Rattle.bs_number.specs.Free.{free_nets, free_of, free_of_node, count_in, known_in}
 use Rattle.bs_number.specs.Tally.{no_tally, IsTally}
 use Rattle.bs_number.specs.declared.tally.Tally.{Tally}

@@ -1,6 +1,6 @@
 use Rattle.std.proofs.Common.{take, length}
-use Rattle.bs_flat.specs.Design.{paths}
-use Rattle.bs_flatten.specs.Blocks.{design_of}
+use Rattle.bs_flat_meaning.specs.Design.{paths}
+use Rattle.bs_flat_nets.specs.Blocks.{design_of}
 use Rattle.bs_number.specs.Free.{free_of}
 use Rattle.bs_number.specs.Tally.{IsTally}
 use Rattle.bs_number.proofs.TallyLemmas.{Placed}

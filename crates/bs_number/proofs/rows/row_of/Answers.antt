@@ -1,7 +1,7 @@
 use Rattle.std.proofs.Common.{◌∙◌, ap, sym, subst, List}
 use Rattle.std.specs.List.{flat_map}
-use Rattle.bs_flatten.specs.Blocks.{joins_of_run}
-use Rattle.bs_flatten.specs.declared.blocks.Run.{Run}
+use Rattle.bs_flat_nets.specs.Blocks.{joins_of_run}
+use Rattle.bs_flat_nets.specs.declared.blocks.Run.{Run}
 use Rattle.bs_number.specs.Rows.{are_apart, IsRow}
 use Rattle.bs_number.proofs.RowLemmas.{row_is}
 use Rattle.bs_number.proofs.rows.row_of.Goals as goal

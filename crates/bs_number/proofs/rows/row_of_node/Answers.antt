@@ -1,6 +1,6 @@
 use Rattle.std.proofs.Common.{arith, sym, subst, List}
-use Rattle.bs_flatten.specs.Climbing.{node_at, joins_of_node}
-use Rattle.bs_flatten.specs.declared.blocks.Run.{Run}
+use Rattle.bs_flat_nets.specs.Climbing.{node_at, joins_of_node}
+use Rattle.bs_flat_nets.specs.declared.blocks.Run.{Run}
 use Rattle.bs_number.specs.Rows.{AreBlockRows, IsRow}
 use Rattle.bs_number.proofs.ChildLemmas.{parent_there}
 use Rattle.bs_number.proofs.RowLemmas.{beside_length, rows_in, rows_wide, row_in}

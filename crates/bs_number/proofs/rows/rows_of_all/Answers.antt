@@ -1,5 +1,5 @@
 use Rattle.std.proofs.Common.{◌+◌, sym, subst, List, take}
-use Rattle.bs_flatten.specs.declared.blocks.Run.{Run}
+use Rattle.bs_flat_nets.specs.declared.blocks.Run.{Run}
 use Rattle.bs_number.specs.Rows.{Beside, AreBlockRows}
 use Rattle.bs_number.proofs.RowLemmas.{beside_more}
 use Rattle.bs_number.proofs.rows.rows_of_all.Goals as goal

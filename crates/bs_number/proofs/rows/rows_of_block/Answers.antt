@@ -1,8 +1,8 @@
 use Rattle.std.proofs.Common.{◌∙◌, ◌+◌, ◌<◌, ap, sym, subst, List, take, length, get_or}
 use Rattle.std.specs.List.{flat_map}
-use Rattle.bs_flatten.specs.Blocks.{joins_of_run}
-use Rattle.bs_flatten.specs.declared.blocks.Run.{Run}
-use Rattle.bs_flatten.specs.declared.blocks.Child.{Child}
+use Rattle.bs_flat_nets.specs.Blocks.{joins_of_run}
+use Rattle.bs_flat_nets.specs.declared.blocks.Run.{Run}
+use Rattle.bs_flat_nets.specs.declared.blocks.Child.{Child}
 use Rattle.bs_number.specs.Rows.{Beside, IsChildRow, IsRow}
 use Rattle.bs_number.proofs.RowLemmas.{beside_more}
 use Rattle.bs_number.proofs.rows.rows_of_block.Goals as goal

@@ -1,4 +1,4 @@
-use Rattle.bs_unroll.proofs.UnrolledLemmas.{solver_range, solver_distinct}
+use Rattle.bs_reach_unrolled.proofs.UnrolledLemmas.{solver_range, solver_distinct}
 use Rattle.bs_reach.proofs.answer.solver_of.Goals as goal
 
 pub new-requires-clause-range : goal.new-requires-clause-range

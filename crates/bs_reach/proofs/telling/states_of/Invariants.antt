@@ -1,8 +1,8 @@
 use Rattle.std.proofs.Common.{◌≡◌, map}
 use Rattle.std.specs.List.{range_with_len}
-use Rattle.bs_book.specs.Values.{value_of}
+use Rattle.bs_solve_recording.specs.Values.{value_of}
 use Rattle.bs_encode.specs.Cycle.{bits_on}
-use Rattle.bs_unroll.specs.Unrolled.{states_at}
+use Rattle.bs_reach_unrolled.specs.Unrolled.{states_at}
 use Rattle.bs_reach.proofs.telling.states_of.Given as goal
 
 abbrev pub invariant-copies : goal.invariant-copies

@@ -1,4 +1,4 @@
-use Rattle.bs_unroll.proofs.UnrollLemmas.{flat_step}
+use Rattle.bs_reach_unrolled.proofs.UnrollLemmas.{flat_step}
 use Rattle.bs_reach.specs.Text.{cycle_text}
 use Rattle.bs_reach.proofs.text.push_states.Goals as goal
 

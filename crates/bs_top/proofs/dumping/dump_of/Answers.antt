@@ -1,8 +1,8 @@
 use Rattle.std.proofs.Common.{sym, subst}
 use Rattle.bs_scan.specs.Crash.{DumpFits}
 use Rattle.bs_scan.proofs.CrashLemmas.{dump_at_fits}
-use Rattle.bs_entry.specs.Entry.{recording_in}
-use Rattle.bs_entry.specs.Ready.{placed_in}
+use Rattle.bs_top_files.specs.Entry.{recording_in}
+use Rattle.bs_top_files.specs.Ready.{placed_in}
 use Rattle.bs_top.proofs.dumping.dump_of.Goals as goal
 
 pub returns-clause-fits : goal.returns-clause-fits

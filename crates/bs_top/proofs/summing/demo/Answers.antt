@@ -1,5 +1,5 @@
-use Rattle.bs_job.proofs.Walking.{alone_as}
-use Rattle.bs_job.proofs.Preparing.{alone_work, alone_stop}
+use Rattle.bs_top_plan.proofs.Walking.{alone_as}
+use Rattle.bs_top_plan.proofs.Preparing.{alone_work, alone_stop}
 use Rattle.bs_top.specs.Work.{to_demo}
 use Rattle.bs_top.specs.Finishes.{finishes}
 use Rattle.bs_top.proofs.WorkLemmas.{is_work}

@@ -1,8 +1,8 @@
 use Rattle.std.proofs.Common.{refl, rules, subst}
 use Rattle.bs_scan.specs.declared.dump.Dump.{Dump}
 use Rattle.bs_scan.specs.Crash.{crash_of}
-use Rattle.bs_entry.specs.Entry.{recording_in}
-use Rattle.bs_entry.specs.Ready.{placed_in}
+use Rattle.bs_top_files.specs.Entry.{recording_in}
+use Rattle.bs_top_files.specs.Ready.{placed_in}
 use Rattle.bs_top.specs.Finishes.{demo_budgets, IsBacktrace}
 use Rattle.bs_top.proofs.DemoLemmas.{demo_budget, demo_steps, demo_listed}
 use Rattle.bs_top.proofs.summing.summary_of.Goals as goal

@@ -1,8 +1,8 @@
 use Rattle.std.proofs.Common.{Some, sym, ◌∙◌, ap}
 use Rattle.std.specs.Prelude.{map, string_bytes}
-use Rattle.bs_job.proofs.Preparing.{prepares_alone}
-use Rattle.bs_words.specs.Job.{job_of}
-use Rattle.bs_words.specs.Shown.{job_in, shown_job}
+use Rattle.bs_top_plan.proofs.Preparing.{prepares_alone}
+use Rattle.bs_top_words.specs.Job.{job_of}
+use Rattle.bs_top_words.specs.Shown.{job_in, shown_job}
 use Rattle.bs_top.proofs.AskedLemmas.{budget_is, conflicts_fit, cycles_fit}
 use Rattle.bs_top.proofs.WorkLemmas.{prepared_for, prepared_short}
 use Rattle.bs_top.proofs.top.prepare.Goals as goal

@@ -1,5 +1,5 @@
 use Rattle.std.proofs.lemmas.Result.{err_from_is_err_and}
-use Rattle.bs_scope.specs.Checking.{looked}
+use Rattle.bs_verilog_scope.specs.Checking.{looked}
 use Rattle.bs_verilog.specs.Building.{with_part}
 use Rattle.bs_verilog.proofs.PlaceLemmas.{each_on_item, each_fault_item, each_end}
 use Rattle.bs_verilog.proofs.building.with_parts.Goals as goal

@@ -1,7 +1,7 @@
 use Rattle.std.proofs.Common.{sym}
-use Rattle.bs_scope.specs.Checking.{looked}
-use Rattle.bs_scope.proofs.TableLemmas.{ok_of}
-use Rattle.bs_scope.proofs.DeclaringLemmas.{none_over}
+use Rattle.bs_verilog_scope.specs.Checking.{looked}
+use Rattle.bs_verilog_scope.proofs.TableLemmas.{ok_of}
+use Rattle.bs_verilog_scope.proofs.DeclaringLemmas.{none_over}
 use Rattle.bs_verilog.proofs.PlacementLemmas.{will_finish, finished_as}
 use Rattle.bs_verilog.proofs.netlist.built.Goals as goal
 

@@ -1,5 +1,5 @@
-use Rattle.bs_scope.proofs.TableLemmas.{ok_of}
-use Rattle.bs_scope.specs.Checking.{looked}
+use Rattle.bs_verilog_scope.proofs.TableLemmas.{ok_of}
+use Rattle.bs_verilog_scope.specs.Checking.{looked}
 use Rattle.bs_verilog.proofs.PlacementLemmas.{finished_is}
 use Rattle.bs_verilog.proofs.netlist.finished.Goals as goal
 

@@ -1,5 +1,5 @@
 use Rattle.std.proofs.Common.{◌≡◌, drop}
-use Rattle.bs_scope.specs.Checking.{looked}
+use Rattle.bs_verilog_scope.specs.Checking.{looked}
 use Rattle.bs_verilog.specs.Building.{each, with_connection, connection_nets}
 use Rattle.bs_verilog.proofs.placing.connection_nets.Given as goal
 

@@ -1,2 +1,0 @@
-pub mod FlattenLemmas
-pub mod ReaderLemmas

@@ -1,8 +1,0 @@
-use Rattle.std.proofs.Common.{◌≡◌, map, take}
-use Rattle.bs_flat.specs.Flat.{flat_net}
-use Rattle.bs_flatten.specs.Blocks.{design_of}
-use Rattle.bs_flatten.specs.Climbing.{path_in}
-use Rattle.bs_elaborate.proofs.nets.terms_of.Given as goal
-
-abbrev pub invariant-nets : goal.invariant-nets
-invariant-nets l = l.all ≡ map (flat_net (design_of l.blocks l.top) (path_in (design_of l.blocks l.top) l.node)) (take l.net-index l.nets)

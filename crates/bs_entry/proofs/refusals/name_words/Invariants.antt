@@ -1,7 +1,0 @@
-use Rattle.std.proofs.Common.{◌≡◌, ◌++◌, take}
-use Rattle.std.specs.List.{flat_map}
-use Rattle.bs_entry.specs.Refusals.{name_piece}
-use Rattle.bs_entry.proofs.refusals.name_words.Given as goal
-
-abbrev pub invariant-names : goal.invariant-names
-invariant-names l = l.why.items ≡ l.word ++ flat_map name_piece (take l.name-index l.names)

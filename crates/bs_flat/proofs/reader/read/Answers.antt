@@ -1,0 +1,11 @@
+use Rattle.std.proofs.Common.{subst, sym, Err}
+use Rattle.bs_flat.specs.Answers.{IsAnswered}
+use Rattle.bs_flat.proofs.ReaderLemmas.{lexed_answers, fault_answers}
+use Rattle.bs_flat.proofs.reader.read.Goals as goal
+
+pub returns-in-Ok : goal.returns-in-Ok
+returns-in-Ok c = lexed_answers c.args.bytes.now _ _ c.read_lexemes.result c.in-Ok.ensures c.read_lexemes.ensures
+
+pub returns-in-Err : goal.returns-in-Err
+returns-in-Err c =
+    subst (λ f. IsAnswered c.args.bytes.now (Err f)) (sym c.fault_of.ensures) (fault_answers c.args.bytes.now c.in-Err.fault c.in-Err.ensures)

@@ -1,0 +1,24 @@
+use Rattle.std.proofs.Common.{◌≤◌, ◌∙◌, sym, subst, length, List, ℕ}
+use Rattle.bs_net.specs.declared.limits.TheConstants.{MAX_NETS}
+use Rattle.bs_flat_nets.specs.Blocks.{design_of}
+use Rattle.bs_flat_elaborate.specs.Naming.{keys_of}
+use Rattle.bs_flat_elaborate.specs.Whole.{AreNamed}
+use Rattle.bs_flat_elaborate.proofs.WholeLemmas.{flat_named, whole_is}
+use Rattle.bs_flat_elaborate.proofs.flat.flat.Goals as goal
+
+pub raw_of-requires : goal.raw_of-requires
+raw_of-requires c =
+    let d = design_of c.args.blocks.now c.args.top in
+    let few : length (keys_of d) ≤ MAX_NETS = subst (λ (l : List (List ℕ)). length l ≤ MAX_NETS) c.requires.named c.requires.few in
+    subst AreNamed
+    (sym
+    (whole_is d c.args.names c.in_ok-inputs.inputs c.in_ok-outputs.outputs c.in_ok-consts.consts c.in_ok-gates.gates c.in_ok-flops.flops c.requires.named
+    c.in_ok-inputs.ensures c.in_ok-outputs.ensures c.in_ok-consts.ensures c.in_ok-gates.ensures c.in_ok-flops.ensures))
+    (flat_named c.args.blocks.now c.args.top c.requires.laid.design c.requires.takes few)
+
+pub returns : goal.returns
+returns c =
+    let d = design_of c.args.blocks.now c.args.top in
+    c.in_ok-raw.ensures
+    ∙ whole_is d c.args.names c.in_ok-inputs.inputs c.in_ok-outputs.outputs c.in_ok-consts.consts c.in_ok-gates.gates c.in_ok-flops.flops c.requires.named
+    c.in_ok-inputs.ensures c.in_ok-outputs.ensures c.in_ok-consts.ensures c.in_ok-gates.ensures c.in_ok-flops.ensures

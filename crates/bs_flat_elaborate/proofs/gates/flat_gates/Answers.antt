@@ -1,0 +1,12 @@
+use Rattle.std.proofs.Common.{◌∙◌}
+use Rattle.bs_flat_nets.specs.Blocks.{design_of}
+use Rattle.bs_flat_elaborate.specs.Parts.{gates_on}
+use Rattle.bs_flat_elaborate.proofs.PartLemmas.{gates_are, all_paths}
+use Rattle.bs_flat_elaborate.proofs.gates.flat_gates.Goals as goal
+
+pub returns : goal.returns
+returns c =
+    let d = design_of c.args.blocks.now c.args.top in
+    all_paths c.args.blocks.now c.args.nodes.now c.args.top c.nodes.node c.in_ok-count.count (gates_on d) c.nodes.all c.requires.stand c.in_ok-count.ensures
+    c.nodes-test.false c.nodes.invariant
+    ∙ gates_are d

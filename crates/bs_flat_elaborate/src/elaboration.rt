@@ -1,0 +1,124 @@
+//! The flat netlist of a design of blocks.
+ghost use Rattle.std.specs.Prelude.{◌≡◌, ◌<◌, length, map, All, IfOk, IsTrue};
+ghost use Rattle.bs_bits.specs.Reading.{Answers};
+ghost use Rattle.bs_net.specs.Netlist.{parts_of};
+ghost use Rattle.bs_net.specs.Gate.{takes};
+ghost use Rattle.bs_flat_meaning.specs.Flat.{IsDesign};
+ghost use Rattle.bs_flat_meaning.specs.Reading.{elaborated};
+ghost use Rattle.bs_flat_meaning.specs.declared.fault.FlatFault.TheVariants.{NoMemory as want};
+ghost use Rattle.bs_flat_nets.specs.Blocks.{AreThere, design_of, module_of};
+ghost use Rattle.bs_flat_nets.specs.Order.{IsChildrenFirst};
+ghost use Rattle.bs_flat_elaborate.specs.Laid.{IsLaid};
+ghost use Rattle.bs_flat_elaborate.specs.Naming.{IsNamed, keys_of};
+ghost use Rattle.bs_flat_elaborate.specs.Whole as spec;
+
+use crate::flat::flat;
+use crate::naming::{Named, name_nets};
+use crate::sizes::check_sizes;
+use bs_bits::{List, NoMemory};
+use bs_flat_meaning::{FlatFault, Node};
+use bs_flat_nets::{Block, path_nodes};
+use bs_net::{Names, Raw};
+use bs_number::{Numbering, number_nets};
+use std::alloc::Global;
+
+/// The nodes of a design's paths, the numbering of its flat nets, and their names.
+#[derive(Drop)]
+pub struct Laid {
+    pub nodes: List<Node>,
+    pub numbering: Numbering,
+    pub named: Named,
+}
+
+/// Lays a design out.
+fn lay(alloc: Global, blocks: &[Block], top: u32) -> Result<Laid, NoMemory>
+    requires top { top < length blocks.now }
+    requires there { AreThere blocks.now }
+    requires design { IsDesign (design_of blocks.now top) }
+    ensures { IfOk result (λ laid. spec.IsMadeOf blocks.now top laid) }
+{
+    let nodes = path_nodes(alloc, blocks, top)?;
+    let numbering = number_nets(alloc, blocks, nodes.slice(), top)?;
+    let named = name_nets(alloc, blocks, nodes.slice(), top, &numbering)?;
+    Ok(Laid {
+        nodes,
+        numbering,
+        named,
+    })
+}
+
+/// The flat parts of a small design whose keys are the names of its flat nets.
+fn whole(
+    alloc: Global,
+    blocks: &[Block],
+    nodes: &[Node],
+    top: u32,
+    numbering: &Numbering,
+    names: Names,
+) -> Result<Raw, FlatFault>
+    requires laid { IsLaid blocks.now nodes.now top numbering.now }
+    requires takes { All (λ b. All (λ g. IsTrue (takes g.kind (length g.ins))) b.gates) blocks.now }
+    requires named { IsNamed (keys_of (design_of blocks.now top)) (Named.Apart names) }
+    requires small { spec.IsSmall (design_of blocks.now top) }
+    ensures { Answers want parts_of result (elaborated (design_of blocks.now top)) }
+{
+    match flat(alloc, blocks, nodes, top, numbering, names) {
+        Ok(raw) => Ok(raw),
+        Err(_) => Err(FlatFault::NoMemory),
+    }
+}
+
+/// The flat netlist of a small design, by its names.
+fn named_parts(
+    alloc: Global,
+    blocks: &[Block],
+    nodes: &[Node],
+    top: u32,
+    numbering: &Numbering,
+    named: Named,
+) -> Result<Raw, FlatFault>
+    requires laid { IsLaid blocks.now nodes.now top numbering.now }
+    requires takes { All (λ b. All (λ g. IsTrue (takes g.kind (length g.ins))) b.gates) blocks.now }
+    requires named { IsNamed (keys_of (design_of blocks.now top)) named }
+    requires small { spec.IsSmall (design_of blocks.now top) }
+    ensures { Answers want parts_of result (elaborated (design_of blocks.now top)) }
+{
+    match named {
+        Named::Apart(names) => whole(alloc, blocks, nodes, top, numbering, names),
+        Named::Long => Err(FlatFault::FlatKeys),
+        Named::Clash(key) => Err(FlatFault::NameClash(key)),
+    }
+}
+
+/// The same, by what is laid out.
+fn parts(alloc: Global, blocks: &[Block], top: u32, laid: Laid) -> Result<Raw, FlatFault>
+    requires laid { spec.IsMadeOf blocks.now top laid }
+    requires takes { All (λ b. All (λ g. IsTrue (takes g.kind (length g.ins))) b.gates) blocks.now }
+    requires small { spec.IsSmall (design_of blocks.now top) }
+    ensures { Answers want parts_of result (elaborated (design_of blocks.now top)) }
+{
+    let Laid {
+        nodes,
+        numbering,
+        named,
+    } = laid;
+    let raw = named_parts(alloc, blocks, nodes.slice(), top, &numbering, named)?;
+    Ok(raw)
+}
+
+/// The flat parts of a design of blocks, whose top has this number, with an order of its blocks in which each stands after those
+/// that it instances: or the first limit that it passes, or the first key that stands again later.
+pub fn elaborate(alloc: Global, blocks: &[Block], order: &[u32], top: u32) -> Result<Raw, FlatFault>
+    requires order { IsChildrenFirst (map module_of blocks.now) order.now }
+    requires top { top < length blocks.now }
+    requires there { AreThere blocks.now }
+    requires takes { All (λ b. All (λ g. IsTrue (takes g.kind (length g.ins))) b.gates) blocks.now }
+    requires design { IsDesign (design_of blocks.now top) }
+    ensures { Answers want parts_of result (elaborated (design_of blocks.now top)) }
+{
+    check_sizes(alloc, blocks, order, top)?;
+    match lay(alloc, blocks, top) {
+        Ok(laid) => parts(alloc, blocks, top, laid),
+        Err(_) => Err(FlatFault::NoMemory),
+    }
+}

@@ -1,0 +1,15 @@
+-- What a design is, what it means, its flat parts, and the law that these keep its meaning.
+pub mod Design
+pub mod Meaning
+pub mod Flat
+pub mod Law
+-- What the list of its paths is.
+pub mod Paths
+-- The design that a text of several modules is, or its first refusal.
+pub mod Pieces
+pub mod Instancing
+pub mod Connecting
+pub mod Reading
+-- How its parts and its depth are counted by modules, and its nets numbered by paths.
+pub mod Counts
+pub mod Numbers

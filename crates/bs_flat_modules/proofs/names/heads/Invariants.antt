@@ -1,0 +1,6 @@
+use Rattle.std.proofs.Common.{◌≡◌, take}
+use Rattle.bs_flat_modules.specs.Names as spec
+use Rattle.bs_flat_modules.proofs.names.heads.Given as goal
+
+abbrev pub invariant-modules : goal.invariant-modules
+invariant-modules l = l.names ≡ spec.heads l.ts (take l.place-index l.modules)

@@ -1,0 +1,150 @@
+//! The modules of a text of several, read one by one.
+ghost use Rattle.std.specs.Prelude.{◌≡◌, IfOk, MatchResult, None};
+ghost use Rattle.std.specs.List.{All};
+ghost use Rattle.bs_bits.specs.Reading.{Answers};
+ghost use Rattle.bs_verilog_syntax.specs.declared.fault.VerilogFault.TheVariants.{NoMemory as out_of_memory};
+ghost use Rattle.bs_verilog_scope.specs.Checking.{Checks, marked};
+ghost use Rattle.bs_verilog_scope.specs.Declaring.{is_in, repeated_fault};
+ghost use Rattle.bs_flat_meaning.specs.declared.fault.FlatFault.TheVariants.{NoMemory as want};
+ghost use Rattle.bs_flat_meaning.specs.Reading as flat;
+ghost use Rattle.bs_flat_modules.specs.Names as naming;
+ghost use Rattle.bs_flat_modules.specs.Reading as spec;
+
+use crate::dealing::{Dealt, deal};
+use crate::names::{all_apart, are_rising, heads};
+use crate::owns::{Modules, read_owns, read_written};
+use crate::wholeness::whole;
+use bs_flat_meaning::FlatFault;
+use bs_verilog_lexemes::{Lexeme, Table};
+use bs_verilog_scope::header_marks;
+use bs_verilog_syntax::VerilogFault;
+use std::alloc::Global;
+
+/// A refusal of a module's own text, or of an instance statement.
+fn fault_of(fault: VerilogFault) -> FlatFault
+    ensures { result ≡ spec.fault_of fault }
+{
+    match fault {
+        VerilogFault::NoMemory => FlatFault::NoMemory,
+        _ => FlatFault::Verilog(fault),
+    }
+}
+
+/// A refusal of a name that stands twice.
+fn twice_of(fault: VerilogFault) -> FlatFault
+    ensures { result ≡ spec.twice_of fault }
+{
+    match fault {
+        VerilogFault::Redeclared(at) => FlatFault::Twice(at),
+        _ => FlatFault::NoMemory,
+    }
+}
+
+/// The text dealt out. Places that do not rise, which no text has, are want of memory.
+fn dealt_out(alloc: Global, ts: &[Lexeme]) -> Result<Dealt, VerilogFault>
+    ensures { MatchResult result (λ d. spec.IsDealtOut ts.now d) (λ fault. fault ≡ out_of_memory) }
+{
+    let dealt = deal(alloc, ts)?;
+    if are_rising(ts, dealt.modules.slice()) {
+        Ok(dealt)
+    } else {
+        Err(VerilogFault::NoMemory)
+    }
+}
+
+/// A mark for each name of a module, by number; a name that stands twice is refused.
+fn marks_of(alloc: Global, ts: &[Lexeme], dealt: &Dealt) -> Result<Vec<bool>, VerilogFault>
+    ensures { Checks result (repeated_fault (naming.heads ts.now dealt.now.modules)) (λ v. marked v.items ≡ is_in (naming.heads ts.now dealt.now.modules)) }
+{
+    let names = heads(alloc, ts, dealt.modules.slice())?;
+    let marks = header_marks(alloc, names.slice())?;
+    Ok(marks)
+}
+
+/// What the own texts say, and then the instances.
+fn read_all(
+    alloc: Global,
+    table: &Table,
+    ts: &[Lexeme],
+    dealt: &Dealt,
+    marks: &[bool],
+) -> Result<Modules, VerilogFault>
+    ensures { Answers out_of_memory spec.parts_read result (spec.all_read table.now (marked marks.now) ts.now dealt.now) }
+{
+    let others = dealt.others.slice();
+    let modules = dealt.modules.slice();
+    let owns = read_owns(alloc, table, ts, others, marks, modules)?;
+    let written = read_written(alloc, ts, marks, modules)?;
+    Ok(Modules { owns, written })
+}
+
+/// The modules, where no instance name stands twice within one.
+fn with_names_apart(alloc: Global, read: Modules) -> Result<Modules, FlatFault>
+    ensures { Answers want (λ m. m) result (spec.apart read) }
+{
+    match all_apart(alloc, read.written.slice()) {
+        Ok(()) => Ok(read),
+        Err(fault) => Err(twice_of(fault)),
+    }
+}
+
+/// The modules of a text that was dealt out, with its modules' names marked.
+fn read_marked(
+    alloc: Global,
+    table: &Table,
+    ts: &[Lexeme],
+    dealt: &Dealt,
+    marks: &[bool],
+) -> Result<Modules, FlatFault>
+    requires dealt { spec.IsDealtOut ts.now dealt.now }
+    requires marks { marked marks.now ≡ is_in (naming.heads ts.now dealt.now.modules) }
+    requires apart { repeated_fault (naming.heads ts.now dealt.now.modules) ≡ None }
+    ensures read { Answers want spec.read_modules_of result (flat.read_modules table.now ts.now) }
+    ensures all { IfOk result (λ m. spec.AreAll ts.now m) }
+{
+    match read_all(alloc, table, ts, dealt, marks) {
+        Ok(read) => with_names_apart(alloc, read),
+        Err(fault) => Err(fault_of(fault)),
+    }
+}
+
+/// The modules of a text that was dealt out.
+fn read_dealt(
+    alloc: Global,
+    table: &Table,
+    ts: &[Lexeme],
+    dealt: &Dealt,
+) -> Result<Modules, FlatFault>
+    requires { spec.IsDealtOut ts.now dealt.now }
+    ensures read { Answers want spec.read_modules_of result (flat.read_modules table.now ts.now) }
+    ensures all { IfOk result (λ m. spec.AreAll ts.now m) }
+{
+    match marks_of(alloc, ts, dealt) {
+        Ok(marks) => read_marked(alloc, table, ts, dealt, &marks),
+        Err(fault) => Err(twice_of(fault)),
+    }
+}
+
+/// The modules of a text with these lexemes, read one by one.
+fn read_each(alloc: Global, table: &Table, ts: &[Lexeme]) -> Result<Modules, FlatFault>
+    ensures read { Answers want spec.read_modules_of result (flat.read_modules table.now ts.now) }
+    ensures all { IfOk result (λ m. spec.AreAll ts.now m) }
+{
+    match dealt_out(alloc, ts) {
+        Ok(dealt) => read_dealt(alloc, table, ts, &dealt),
+        Err(_) => Err(FlatFault::NoMemory),
+    }
+}
+
+/// The modules of a text with these lexemes, read one by one: its first refusal up to a second instance name within a module,
+/// else what each says, with the parts that its own text builds, and its instances as they are written. The ports of
+/// each stand first among its nets, all of which have names.
+pub fn read_modules(alloc: Global, table: &Table, ts: &[Lexeme]) -> Result<Modules, FlatFault>
+    ensures read { Answers want spec.read_modules_of result (flat.read_modules table.now ts.now) }
+    ensures whole { IfOk result (λ m. All (flat.IsRead table.now) (spec.read_modules_of m)) }
+    ensures all { IfOk result (λ m. spec.AreAll ts.now m) }
+{
+    let each = read_each(alloc, table, ts)?;
+    let read = whole(alloc, each)?;
+    Ok(read)
+}

@@ -1,8 +1,0 @@
-use Rattle.std.proofs.Common.{◌≡◌, ◌+◌, min, take}
-use Rattle.bs_flat.specs.Counts.{sum_of}
-use Rattle.bs_flatten.specs.Tables.{count_at}
-use Rattle.bs_flatten.specs.declared.blocks.Child.{Child}
-use Rattle.bs_flatten.proofs.counts.count_of.Given as goal
-
-abbrev pub invariant-children : goal.invariant-children
-invariant-children l = l.count ≡ min 400002 (l.own + sum_of (λ (c : Child). count_at l.counts c.of) (take l.child-index l.children))

@@ -1,0 +1,31 @@
+-- Whether the trace of a report has as many bits as a netlist has flip-flops and data inputs, and whether names are those of a netlist.
+use Rattle.std.specs.Prelude.{ℕ, ◌==◌, not, Bool, true, List, ◌++◌, length, codes, decimal, Option, Some, None, Result, Ok, Err}
+use Rattle.std.specs.List.{position}
+use Rattle.bs_net.specs.Parts.{Parts}
+use Rattle.bs_net.specs.Netlist.{circuit_of}
+use Rattle.bs_report.specs.declared.report.Report.{Report}
+use Rattle.bs_top_plan.specs.Plan.{Reason, exactly}
+use Rattle.bs_inspect_report.specs.Known.{first_unknown}
+use Rattle.bs_top_files.specs.Refusals.{Case}
+use Rattle.bs_inspect_files.specs.Words.{name_reason}
+
+-- the place of the first list of another length
+abbrev pub misfit : ℕ → List (List Bool) → Option ℕ
+misfit width lists = position (λ bits. not (length bits == width)) lists
+
+abbrev pub fit_of : (state input : Option ℕ) → Result Bool (Reason Case)
+fit_of (Some i) input = Err (exactly (codes "TraceState " ++ decimal i))
+fit_of None (Some i) = Err (exactly (codes "TraceInput " ++ decimal i))
+fit_of None None = Ok true
+
+-- the trace fits the netlist, or the place of its first state or input that does not
+abbrev pub fit_in : Parts → Report → Result Bool (Reason Case)
+fit_in r report = fit_of (misfit (length r.flops) report.states) (misfit (length (circuit_of r).inputs) report.inputs)
+
+abbrev pub known_of : Option (List ℕ) → Result Bool (Reason Case)
+known_of None = Ok true
+known_of (Some name) = Err (name_reason name)
+
+-- each name is that of a flip-flop, of a data input or of a vector of these, or the first one that is not
+abbrev pub known_in : Parts → List (List ℕ) → Result Bool (Reason Case)
+known_in r only = known_of (first_unknown r only)

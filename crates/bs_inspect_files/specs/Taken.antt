@@ -1,0 +1,58 @@
+-- The files of a request, one after the other, and what they make ready.
+use Rattle.std.specs.Prelude.{ℕ, List}
+use Rattle.bs_net.specs.Parts.{Parts}
+use Rattle.bs_report.specs.declared.report.Report.{Report}
+use Rattle.bs_stim.specs.Runs.{Stimulus as Runs}
+use Rattle.bs_top_plan.specs.declared.file.File.TheVariants as files
+use Rattle.bs_top_plan.specs.Plan.{Plan, end, ◌>>=◌, read_as}
+use Rattle.bs_top_files.specs.Entry.{netlist_of, report_of, stimulus_of}
+use Rattle.bs_top_files.specs.Readings.{size_in}
+use Rattle.bs_top_files.specs.Refusals.{Case}
+use Rattle.bs_inspect_files.specs.Fits.{fit_in, known_in}
+use Rattle.bs_inspect_files.specs.declared.ready.Traced.{Traced as CodeTraced}
+use Rattle.bs_inspect_files.specs.declared.ready.Exercised.{Exercised as CodeExercised}
+
+-- a netlist's parts, and a report whose trace fits them
+pub record Traced : Type 0 where
+  pub raw : Parts
+  pub report : Report
+
+-- two files, and last whether the trace of the report fits the netlist
+abbrev pub traced_of : (netlist report : List ℕ) → Plan Case Traced
+traced_of netlist report = do
+  raw ← netlist_of netlist
+  told ← report_of report
+  fits ← read_as files.Report (fit_in raw told)
+  end record { raw = raw; report = told }
+
+abbrev pub traced_in : CodeTraced → Traced
+traced_in t = record { raw = t.net.raw; report = t.report }
+
+-- the same, and last whether the netlist has these names
+abbrev pub picked_of : (netlist report : List ℕ) → List (List ℕ) → Plan Case Traced
+picked_of netlist report only = do
+  traced ← traced_of netlist report
+  known ← read_as files.Name (known_in traced.raw only)
+  end traced
+
+-- the same, and last whether a waveform of the trace is not too large
+abbrev pub charted_of : (netlist report : List ℕ) → Plan Case Traced
+charted_of netlist report = do
+  traced ← traced_of netlist report
+  small ← read_as files.Report (size_in traced.raw traced.report)
+  end traced
+
+-- a netlist's parts, and recorded runs
+pub record Exercised : Type 0 where
+  pub raw : Parts
+  pub runs : Runs
+
+-- two files
+abbrev pub exercised_of : (netlist stimulus : List ℕ) → Plan Case Exercised
+exercised_of netlist stimulus = do
+  raw ← netlist_of netlist
+  runs ← stimulus_of raw stimulus
+  end record { raw = raw; runs = runs }
+
+abbrev pub exercised_in : CodeExercised → Exercised
+exercised_in t = record { raw = t.net.raw; runs = t.runs }

@@ -1,0 +1,52 @@
+-- Lines, one after another; and how great a sum of shares is.
+use Rattle.std.proofs.Common.{◌≡◌, ℕ, ◌<◌, ◌≤◌, ◌+◌, ◌*◌, ◌^◌, arith, Bool, List, [], ◌∷◌, ◌++◌, length, map, take, get_or, ap, sym, ◌∙◌, append_assoc}
+use Rattle.std.specs.List.{flat_map, sum_by, count_by}
+use Rattle.std.proofs.lemmas.Grind.{flat_map-append}
+use Rattle.std.proofs.lemmas.List.{take_more, append-nil, length-map}
+use Rattle.std.proofs.lemmas.List.Sums.{count_by-le-length, sum_by-le}
+use Rattle.bs_bits.specs.Bits.{bits_eq}
+use Rattle.bs_scan.specs.Choice.{Chosen}
+use Rattle.bs_scan.specs.Signature.{signature}
+use Rattle.bs_inspect_proposal.specs.Apart.{states_apart, step_signature, steps_apart}
+use Rattle.bs_inspect_proposal.specs.Proposal.{xor_line}
+use Rattle.bs_inspect_proposal.specs.Sharing.{sharing, tally_of}
+use Rattle.bs_inspect_proposal.specs.declared.rows.TheConstants.{MAX_ROWS}
+use Rattle.bs_inspect_proposal.specs.declared.sharing.Tally.{Tally}
+
+pieces_more : {X : Type 0} (f : X → List ℕ) (xs : List X) (old before after : List ℕ) (i : ℕ) (d : X) → i < length xs →
+    before ≡ old ++ flat_map f (take i xs) → after ≡ before ++ f (get_or xs i d) → after ≡ old ++ flat_map f (take (i + 1) xs)
+pieces_more {X} f xs old before after i d lt e goes =
+    let more : flat_map f (take (i + 1) xs) ≡ flat_map f (take i xs) ++ f (get_or xs i d) =
+    ap (flat_map f) (take_more xs i d lt)
+    ∙ (flat_map-append f (take i xs) (get_or xs i d ∷ []) ∙ ap (λ (t : List ℕ). flat_map f (take i xs) ++ t) (append-nil (f (get_or xs i d)))) in
+    goes
+    ∙ (ap (λ (t : List ℕ). t ++ f (get_or xs i d)) e
+    ∙ (append_assoc old (flat_map f (take i xs)) (f (get_or xs i d)) ∙ ap (λ (t : List ℕ). old ++ t) (sym more)))
+
+pub piece_more : (f : ℕ → List ℕ) (xs : List ℕ) (old before after : List ℕ) (i d : ℕ) → i < length xs → before ≡ old ++ flat_map f (take i xs) →
+    after ≡ before ++ f (get_or xs i d) → after ≡ old ++ flat_map f (take (i + 1) xs)
+piece_more f xs old before after i d lt e goes = pieces_more f xs old before after i d lt e goes
+
+pub xor_more : (keys : List (List ℕ)) (items : List (List ℕ)) (old before after : List ℕ) (i : ℕ) (d : List ℕ) → i < length items →
+    before ≡ old ++ flat_map (xor_line keys) (take i items) → after ≡ before ++ xor_line keys (get_or items i d) →
+    after ≡ old ++ flat_map (xor_line keys) (take (i + 1) items)
+xor_more keys items old before after i d lt e goes = pieces_more (xor_line keys) items old before after i d lt e goes
+
+-- ---- sums of shares
+
+all_small : (all : List (List Bool)) → length all ≤ 65536 → sum_by (sharing all) all ≤ length all * 65536
+all_small all few =
+    sum_by-le (sharing all) 65536 all (λ k d lt. omega (arith, count_by-le-length (bits_eq (get_or all k d)) all, few))
+
+tally_small : (all : List (List Bool)) (tally : Tally) → tally ≡ tally_of all → length all ≤ 65536 → tally.sum < 2 ^ 56
+tally_small all tally e few = omega (arith, ap (λ (t : Tally). t.sum) e, all_small all few, few)
+
+pub states_small : (choice : Chosen) (states : List (List Bool)) (tally : Tally) → tally ≡ states_apart choice states → length states ≤ MAX_ROWS →
+    tally.sum < 2 ^ 56
+states_small choice states tally e few =
+    tally_small (map (signature choice) states) tally e (omega (arith, length-map states (signature choice), few))
+
+pub steps_small : (choice : Chosen) (steps : List (List Bool)) (tally : Tally) → tally ≡ steps_apart choice steps → length steps ≤ MAX_ROWS →
+    tally.sum < 2 ^ 56
+steps_small choice steps tally e few =
+    tally_small (map (step_signature choice) steps) tally e (omega (arith, length-map steps (step_signature choice), few))

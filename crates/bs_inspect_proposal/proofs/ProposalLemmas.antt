@@ -1,0 +1,71 @@
+-- What a proposal stands on.
+use Rattle.std.proofs.Common.{◌≡◌, ℕ, ◌<◌, ◌≤◌, ◌+◌, arith, Bool, List, ◌++◌, length, get_or, map, ap, sym, ◌∙◌, subst, append_assoc}
+use Rattle.std.specs.Prelude.{All, codes}
+use Rattle.std.specs.Borrow.{Bor}
+use Rattle.std.specs.List.{flat_map}
+use Rattle.std.proofs.lemmas.Grind.{get_or_default_zero}
+use Rattle.std.proofs.lemmas.List.{length-map}
+use Rattle.bs_bits.specs.Lines.{line}
+use Rattle.bs_scan.specs.ChoiceText.{chosen}
+use Rattle.bs_inspect_proposal.specs.Greedy.{IsGreedy, compared}
+use Rattle.bs_inspect_proposal.specs.Items.{IsLooked, single}
+use Rattle.bs_inspect_proposal.specs.Proposal.{TellsChoices, bit_line, bits_told, parities_told, parity_items, shares_text, xor_line}
+use Rattle.bs_inspect_proposal.specs.declared.rows.TheConstants.{MAX_ROWS}
+
+pub looked : (width n : ℕ) (states steps : List (List Bool)) → n ≡ width → All (λ s. length s ≡ width) states →
+    All (λ row. length row ≡ width + width) steps → length states ≤ MAX_ROWS → length steps ≤ MAX_ROWS → IsLooked n states steps
+looked width n states steps e states_wide steps_wide few_states few_steps = rw e record {
+  states_wide = states_wide;
+  steps_wide = steps_wide;
+  few_states = few_states;
+  few_steps = few_steps;
+}
+
+pub flops_within : (width : ℕ) (rows : List (List Bool)) (bits : ℕ) (flops : List ℕ) → IsGreedy width rows bits flops →
+    All (λ flop. flop < width) flops
+flops_within width rows bits flops greedy = λ k d lt. omega (arith, get_or_default_zero flops k d lt, (greedy.each k lt).there)
+
+-- three pieces behind one another
+whole : (old a b c one two three : List ℕ) → a ≡ old ++ one → b ≡ a ++ two → c ≡ b ++ three → c ≡ old ++ (one ++ (two ++ three))
+whole old a b c one two three e f g =
+    g ∙ (ap (λ (t : List ℕ). t ++ three) f
+    ∙ (ap (λ (t : List ℕ). (t ++ two) ++ three) e
+    ∙ (append_assoc (old ++ one) two three ∙ append_assoc old one (two ++ three))))
+
+pub bits_whole : (keys : List (Bor (List ℕ))) (states steps : List (List Bool)) (flops : List ℕ) (items : List (List ℕ)) (old a b c : List ℕ) →
+    items ≡ map single flops → a ≡ old ++ line (codes "choice bits") → b ≡ a ++ shares_text (chosen (length keys) 1 items) states steps →
+    c ≡ b ++ flat_map (bit_line (map (λ s. s.now) keys)) flops → c ≡ old ++ bits_told (map (λ s. s.now) keys) states steps flops
+bits_whole keys states steps flops items old a b c is e f g =
+    whole old a b c (line (codes "choice bits"))
+    (shares_text (chosen (length (map (λ (s : Bor (List ℕ)). s.now) keys)) 1 (map single flops)) states steps)
+    (flat_map (bit_line (map (λ (s : Bor (List ℕ)). s.now) keys)) flops) e
+    (f ∙ (λ t. a ++ shares_text (chosen (sym (length-map keys (λ (s : Bor (List ℕ)). s.now)) t) 1 (is t)) states steps)) g
+
+pub parities_whole : (keys : List (Bor (List ℕ))) (states steps : List (List Bool)) (bits : ℕ) (items : List (List ℕ)) (old a b c : List ℕ) →
+    items ≡ parity_items (length keys) bits → a ≡ old ++ line (codes "choice parities") →
+    b ≡ a ++ shares_text (chosen (length keys) 1 items) states steps → c ≡ b ++ flat_map (xor_line (map (λ s. s.now) keys)) items →
+    c ≡ old ++ parities_told (map (λ s. s.now) keys) states steps bits
+parities_whole keys states steps bits items old a b c is e f g =
+    let now : List (List ℕ) = map (λ (s : Bor (List ℕ)). s.now) keys in
+    let wide : length keys ≡ length now = sym (length-map keys (λ (s : Bor (List ℕ)). s.now)) in
+    let same : items ≡ parity_items (length now) bits = is ∙ ap (λ (n : ℕ). parity_items n bits) wide in
+    whole old a b c (line (codes "choice parities")) (shares_text (chosen (length now) 1 (parity_items (length now) bits)) states steps)
+    (flat_map (xor_line now) (parity_items (length now) bits)) e (f ∙ (λ t. a ++ shares_text (chosen (wide t) 1 (same t)) states steps))
+    (g ∙ ap (λ (xs : List (List ℕ)). b ++ flat_map (xor_line now) xs) same)
+
+pub tells : (keys : List (Bor (List ℕ))) (states steps : List (List Bool)) (bits : ℕ) (flops text : List ℕ) →
+    IsGreedy (length keys) (compared states) bits flops →
+    text ≡ bits_told (map (λ s. s.now) keys) states steps flops ++ parities_told (map (λ s. s.now) keys) states steps bits →
+    TellsChoices (map (λ s. s.now) keys) states steps bits text
+tells keys states steps bits flops text greedy told = record {
+  flops = flops;
+  best = subst (λ (n : ℕ). IsGreedy n (compared states) bits flops) (sym (length-map keys (λ (s : Bor (List ℕ)). s.now))) greedy;
+  told = told;
+}
+
+pub moved : (ks keys : List (List ℕ)) (states steps looked_states looked_steps : List (List Bool)) (bits : ℕ) (text : List ℕ) → ks ≡ keys →
+    states ≡ looked_states → steps ≡ looked_steps → TellsChoices ks states steps bits text → TellsChoices keys looked_states looked_steps bits text
+moved ks keys states steps looked_states looked_steps bits text e f g told =
+    subst (λ (k : List (List ℕ)). TellsChoices k looked_states looked_steps bits text) e
+    (subst (λ (s : List (List Bool)). TellsChoices ks s looked_steps bits text) f
+    (subst (λ (s : List (List Bool)). TellsChoices ks states s bits text) g told))

@@ -1,0 +1,9 @@
+use Rattle.std.proofs.Common.{take}
+use Rattle.bs_net.specs.Netlist.{circuit}
+use Rattle.bs_stim.specs.Runs.{inputs_of}
+use Rattle.bs_inspect_proposal.proofs.WidthLemmas.{states_wide}
+use Rattle.bs_inspect_proposal.proofs.listing.list_states.Goals as goal
+
+pub returns-clause-wide : goal.returns-clause-wide
+returns-clause-wide c =
+    states_wide (circuit c.args.net.now) c.args.cycles (take c.runs.k (inputs_of c.args.runs.now)) c.runs.rows c.runs.invariant.rows

@@ -1,0 +1,57 @@
+-- The trace of a report with the names of a netlist (docs/FORMATS.md, "Texts of `backspace_inspect`").
+use Rattle.std.specs.Prelude.{◌≡◌, ℕ, ◌+◌, ◌-◌, ◌==◌, nat_lt, ◌||◌, Bool, List, [], ◌++◌, length, codes, decimal, slice_get, Option, Some, None, if◌then◌else◌}
+use Rattle.std.specs.List.{flat_map, range_with_len}
+use Rattle.bs_bits.specs.Lines.{line}
+use Rattle.bs_inspect_names.specs.Signals.{AreSignals, Signal}
+use Rattle.bs_net.specs.Parts.{Parts}
+use Rattle.bs_report.specs.declared.report.HitLine.{HitLine}
+use Rattle.bs_report.specs.declared.report.Report.{Report}
+use Rattle.bs_report.specs.declared.report.Step.{Step}
+use Rattle.bs_inspect_report.specs.Keys.{flop_keys, input_keys}
+use Rattle.bs_inspect_report.specs.Signal.{signals_told}
+
+abbrev pub hit_words : Option HitLine → List ℕ
+hit_words None = codes " state none"
+hit_words (Some hit) = codes " state hit " ++ (decimal hit.run ++ (codes " " ++ decimal hit.cycle))
+
+abbrev pub step_words : Option Step → List ℕ
+step_words None = codes " state none"
+step_words (Some step) = hit_words step.hit
+
+-- where a state of the trace comes from: the last is the dump, and the one before it the hit of the first step, and so on
+abbrev pub origin_words : Report → ℕ → List ℕ
+origin_words r i =
+    if i + 1 == length r.states then codes " state dump" else step_words (slice_get r.steps (length r.states - 2 - i))
+
+-- the state before this one, where what has not changed since is left out
+abbrev pub state_before : Report → Bool → ℕ → Option (List Bool)
+state_before r all i = if all || (i == 0) then None else slice_get r.states (i - 1)
+
+-- the signals of the trace: those of its states and those of its inputs
+pub record Signals : Type 0 where
+  pub flops : List Signal
+  pub inputs : List Signal
+
+abbrev pub flops_at : Report → List Signal → Bool → ℕ → Option (List Bool) → List ℕ
+flops_at r flops all i None = []
+flops_at r flops all i (Some state) = signals_told (codes " flop ") i (state_before r all i) state flops
+
+abbrev pub inputs_at : List Signal → ℕ → Option (List Bool) → List ℕ
+inputs_at inputs i None = []
+inputs_at inputs i (Some input) = signals_told (codes " input ") i None input inputs
+
+-- a cycle of the trace: where its state comes from, the flip-flops that changed, and the input that leads on from it
+abbrev pub cycle_told : Report → Signals → Bool → ℕ → List ℕ
+cycle_told r signals all i =
+    line (decimal i ++ origin_words r i)
+    ++ (flops_at r signals.flops all i (slice_get r.states i) ++ inputs_at signals.inputs i (slice_get r.inputs i))
+
+abbrev pub trace_told : Report → Signals → Bool → List ℕ
+trace_told r signals all = flat_map (cycle_told r signals all) (range_with_len 0 (length r.states))
+
+-- the text tells each cycle of the report's trace, with the names of the netlist; where names are given, these alone
+pub record TellsTrace (raw : Parts) (r : Report) (all : Bool) (only : List (List ℕ)) (text : List ℕ) : Type 0 where
+  pub signals : Signals
+  pub flops : AreSignals only (flop_keys raw) signals.flops
+  pub inputs : AreSignals only (input_keys raw) signals.inputs
+  pub told : text ≡ trace_told r signals all

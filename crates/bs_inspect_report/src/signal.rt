@@ -1,0 +1,117 @@
+//! The lines of signals at a cycle.
+ghost use Rattle.std.specs.Prelude.{◌≡◌, ◌<◌, ◌^◌, ◌++◌, length, map, not, All, IfOk, OnOk, option_map};
+ghost use Rattle.std.specs.Bool.{beq};
+ghost use Rattle.std.specs.List.{list_any};
+ghost use Rattle.bs_inspect_names.specs.Signals.{signal_in};
+ghost use Rattle.bs_inspect_names.specs.Values.{value_text};
+ghost use Rattle.bs_inspect_report.specs.Signal.{bit_at, has_changed, signal_bits, signal_line, signal_piece, signals_told};
+
+use bs_bits::{Bits, NoMemory, end_line, push_number, push_piece};
+use bs_inspect_names::{Signal, push_name, push_value};
+use std::alloc::Global;
+
+/// The bit at a place of a state or an input; 0 past its end.
+pub(crate) fn bit_at(bits: &Bits, place: usize) -> bool
+    ensures { result ≡ bit_at bits.now place }
+{
+    if place < bits.len() {
+        bits.get(place)
+    } else {
+        false
+    }
+}
+
+/// The bits of a signal, the greatest first.
+#[tactic(auto, using(crate::proofs::SignalLemmas::bits_more))]
+fn signal_bits(alloc: Global, bits: &Bits, places: &[u32]) -> Result<Vec<bool>, NoMemory>
+    ensures { IfOk result (λ own. own.items ≡ signal_bits bits.now places.now) }
+{
+    let mut own = Vec::new(alloc);
+    'places: for place in places {
+        own.push(bit_at(bits, *place as usize))?;
+    }
+    Ok(own)
+}
+
+/// Whether one of these bits is another one than before.
+fn differs(before: &Bits, now: &Bits, places: &[u32]) -> bool
+    ensures { result ≡ list_any (λ p. not (beq (bit_at before.now p) (bit_at now.now p))) places.now }
+{
+    places.iter().any(|place| bit_at(before, *place as usize) != bit_at(now, *place as usize))
+}
+
+/// Whether a signal has another value than before, where there is a before.
+fn has_changed(before: Option<&Bits>, now: &Bits, places: &[u32]) -> bool
+    ensures { result ≡ has_changed (option_map (λ b. b.now) before.entry) now.now places.now }
+{
+    match before {
+        Some(before) => differs(before, now, places),
+        None => true,
+    }
+}
+
+/// Appends the value of a signal.
+fn push_signal_value(text: &mut Vec<u8>, bits: &Bits, places: &[u32]) -> Result<(), NoMemory>
+    requires { length places.now < 2 ^ 32 }
+    ensures { OnOk result (text.new.items ≡ text.old.items ++ value_text (signal_bits bits.now places.now)) }
+{
+    let own = signal_bits(*text.allocator(), bits, places)?;
+    push_value(text, own.as_slice())
+}
+
+/// Appends the line of a signal.
+fn push_signal(
+    text: &mut Vec<u8>,
+    kind: &[u8],
+    cycle: u64,
+    bits: &Bits,
+    signal: &Signal<'_>,
+) -> Result<(), NoMemory>
+    requires { length signal.now.places < 2 ^ 32 }
+    ensures { OnOk result (text.new.items ≡ text.old.items ++ signal_line kind.now cycle bits.now (signal_in signal.now)) }
+{
+    push_number(text, cycle)?;
+    push_piece(text, kind)?;
+    push_name(text, signal)?;
+    push_piece(text, b" = ")?;
+    push_signal_value(text, bits, signal.places.slice())?;
+    end_line(text)
+}
+
+/// Appends the line of a signal, where its value is another one than before.
+fn push_changed(
+    text: &mut Vec<u8>,
+    kind: &[u8],
+    cycle: u64,
+    before: Option<&Bits>,
+    now: &Bits,
+    signal: &Signal<'_>,
+) -> Result<(), NoMemory>
+    requires { length signal.now.places < 2 ^ 32 }
+    ensures { OnOk result (text.new.items ≡ text.old.items ++ signal_piece kind.now cycle (option_map (λ b. b.now) before.entry) now.now (signal_in signal.now)) }
+{
+    if has_changed(before, now, signal.places.slice()) {
+        push_signal(text, kind, cycle, now, signal)
+    } else {
+        Ok(())
+    }
+}
+
+/// Appends the lines of the signals whose values are others than before.
+#[tactic(auto, using(crate::proofs::SignalLemmas::signals_more))]
+pub(crate) fn push_signals(
+    text: &mut Vec<u8>,
+    kind: &[u8],
+    cycle: u64,
+    before: Option<&Bits>,
+    now: &Bits,
+    signals: &[Signal<'_>],
+) -> Result<(), NoMemory>
+    requires { All (λ s. length s.places < 2 ^ 32) signals.now }
+    ensures { OnOk result (text.new.items ≡ text.old.items ++ signals_told kind.now cycle (option_map (λ b. b.now) before.entry) now.now (map signal_in signals.now)) }
+{
+    'signals: for signal in signals {
+        push_changed(text, kind, cycle, before, now, signal)?;
+    }
+    Ok(())
+}

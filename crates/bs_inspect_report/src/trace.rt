@@ -1,0 +1,93 @@
+//! The trace of a report, cycle by cycle.
+ghost use Rattle.std.specs.Prelude.{◌≡◌, ◌<◌, ◌^◌, ◌++◌, length, map, All, IfOk, OnOk};
+ghost use Rattle.bs_inspect_names.specs.Signals.{AreSignals, signal_in};
+ghost use Rattle.bs_inspect_report.specs.Keys.{flop_keys, input_keys};
+ghost use Rattle.bs_inspect_report.specs.Told.{signals_in};
+ghost use Rattle.bs_inspect_report.specs.Trace.{TellsTrace, trace_told};
+
+use crate::keys::{flop_keys, input_keys};
+use crate::moment::push_cycle;
+use crate::named::Signals;
+use bs_bits::NoMemory;
+use bs_inspect_names::{Signal, signals};
+use bs_net::Netlist;
+use bs_report::Report;
+use std::alloc::Global;
+
+/// The signals of these names among keys, or of all keys where there are none.
+#[tactic(auto, using(crate::proofs::SignalLemmas::few_places))]
+fn named_signals<'a>(
+    alloc: Global,
+    keys: &[&'a str],
+    only: &[&str],
+) -> Result<Vec<Signal<'a>>, NoMemory>
+    requires { length keys.now < 2 ^ 32 }
+    ensures are { IfOk result (λ signals. AreSignals (map (λ s. s.now) only.now) (map (λ s. s.now) keys.now) (map signal_in signals.items)) }
+    ensures few { IfOk result (λ signals. All (λ s. length s.places < 2 ^ 32) signals.items) }
+{
+    let signals = signals(alloc, keys, only)?;
+    Ok(signals)
+}
+
+/// The signals of a netlist's flip-flops.
+fn flop_signals<'a>(
+    alloc: Global,
+    net: &'a Netlist,
+    only: &[&str],
+) -> Result<Vec<Signal<'a>>, NoMemory>
+    ensures are { IfOk result (λ signals. AreSignals (map (λ s. s.now) only.now) (flop_keys net.now.raw) (map signal_in signals.items)) }
+    ensures few { IfOk result (λ signals. All (λ s. length s.places < 2 ^ 32) signals.items) }
+{
+    let keys = flop_keys(alloc, net)?;
+    let signals = named_signals(alloc, keys.as_slice(), only)?;
+    Ok(signals)
+}
+
+/// The signals of a netlist's data inputs.
+fn input_signals<'a>(
+    alloc: Global,
+    net: &'a Netlist,
+    only: &[&str],
+) -> Result<Vec<Signal<'a>>, NoMemory>
+    ensures are { IfOk result (λ signals. AreSignals (map (λ s. s.now) only.now) (input_keys net.now.raw) (map signal_in signals.items)) }
+    ensures few { IfOk result (λ signals. All (λ s. length s.places < 2 ^ 32) signals.items) }
+{
+    let keys = input_keys(alloc, net)?;
+    let signals = named_signals(alloc, keys.as_slice(), only)?;
+    Ok(signals)
+}
+
+/// Appends the cycles of a trace.
+#[tactic(auto, using(crate::proofs::PieceLemmas::places_step))]
+fn push_trace(
+    text: &mut Vec<u8>,
+    report: &Report,
+    signals: &Signals<'_>,
+    all: bool,
+) -> Result<(), NoMemory>
+    ensures { OnOk result (text.new.items ≡ text.old.items ++ trace_told report.now (signals_in signals.now) all) }
+{
+    'cycles: for i in 0..report.states.len() {
+        push_cycle(text, report, signals, all, i)?;
+    }
+    Ok(())
+}
+
+/// The trace of a report with the names of a netlist, cycle by cycle: where the state comes from, the flip-flops that
+/// changed (or all), and the input. Bits of one vector stand together as one number. Where names are given, these alone.
+pub fn trace_text(
+    alloc: Global,
+    net: &Netlist,
+    report: &Report,
+    all: bool,
+    only: &[&str],
+) -> Result<Vec<u8>, NoMemory>
+    ensures { IfOk result (λ text. TellsTrace net.now.raw report.now all (map (λ s. s.now) only.now) text.items) }
+{
+    let flops = flop_signals(alloc, net, only)?;
+    let inputs = input_signals(alloc, net, only)?;
+    let signals = Signals { flops, inputs };
+    let mut text = Vec::new(alloc);
+    push_trace(&mut text, report, &signals, all)?;
+    Ok(text)
+}

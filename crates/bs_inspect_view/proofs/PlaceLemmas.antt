@@ -1,0 +1,55 @@
+-- Pieces that are appended one after another.
+use Rattle.std.proofs.Common.{◌≡◌, ℕ, suc, zero, ◌<◌, ◌+◌, List, [], ◌∷◌, ◌++◌, length, get_or, map, ap, sym, ◌∙◌, arith, append_assoc, refl, slice_get, Option, Some}
+use Rattle.std.specs.List.{flat_map, range_with_len}
+use Rattle.std.proofs.lemmas.Grind.{flat_map-append}
+use Rattle.std.proofs.lemmas.List.{append-nil, length-map}
+use Rattle.bs_inspect_names.specs.declared.signal.Signal.{Signal as CodeSignal}
+use Rattle.bs_inspect_names.specs.Signals.{Signal, signal_in}
+use Rattle.bs_bits.proofs.RangeLemmas.{range_push}
+use Rattle.bs_wave.specs.declared.value.Value.{Value}
+use Rattle.bs_inspect_view.specs.View.{change_at, change_text, changes, variable_at, variable_line, variables}
+
+-- what a place appends
+pub places_step : (f : ℕ → List ℕ) (old before after : List ℕ) (n : ℕ) → before ≡ old ++ flat_map f (range_with_len 0 n) → after ≡ before ++ f n →
+    after ≡ old ++ flat_map f (range_with_len 0 (n + 1))
+places_step f old before after n e g =
+    let more : flat_map f (range_with_len 0 (n + 1)) ≡ flat_map f (range_with_len 0 n) ++ f n =
+    ap (flat_map f) (range_push n)
+    ∙ (flat_map-append f (range_with_len 0 n) (n ∷ []) ∙ ap (λ (t : List ℕ). flat_map f (range_with_len 0 n) ++ t) (append-nil (f n))) in
+    g ∙ (ap (λ (t : List ℕ). t ++ f n) e ∙ (append_assoc old (flat_map f (range_with_len 0 n)) (f n) ∙ ap (λ (t : List ℕ). old ++ t) (sym more)))
+
+-- the signal at a place
+signal_at : (signals : List CodeSignal) (i : ℕ) (d : CodeSignal) → i < length signals → slice_get (map signal_in signals) i ≡ Some (signal_in (get_or signals i d))
+signal_at [] i d lt = absurd (omega (arith, lt))
+signal_at (s ∷ ss) zero d lt = refl
+signal_at (s ∷ ss) (suc i) d lt = signal_at ss i d (omega (arith, lt))
+
+pub variable_step : (signals : List CodeSignal) (old before after : List ℕ) (i : ℕ) (d : CodeSignal) → i < length signals →
+    before ≡ old ++ flat_map (λ k. variable_at (map signal_in signals) k (slice_get (map signal_in signals) k)) (range_with_len 0 i) →
+    after ≡ before ++ variable_line i (signal_in (get_or signals i d)) →
+    after ≡ old ++ flat_map (λ k. variable_at (map signal_in signals) k (slice_get (map signal_in signals) k)) (range_with_len 0 (i + 1))
+variable_step signals old before after i d lt e g =
+    places_step (λ (k : ℕ). variable_at (map signal_in signals) k (slice_get (map signal_in signals) k)) old before after i e
+    (g ∙ ap (λ (o : Option Signal). before ++ variable_at (map signal_in signals) i o) (sym (signal_at signals i d lt)))
+
+pub all_variables : (signals : List CodeSignal) (old after : List ℕ) →
+    after ≡ old ++ flat_map (λ k. variable_at (map signal_in signals) k (slice_get (map signal_in signals) k)) (range_with_len 0 (length signals)) →
+    after ≡ old ++ variables (map signal_in signals)
+all_variables signals old after e =
+    e ∙ ap (λ (n : ℕ). old ++ flat_map (λ k. variable_at (map signal_in signals) k (slice_get (map signal_in signals) k)) (range_with_len 0 n))
+    (sym (length-map signals signal_in))
+
+pub change_step : (signals : List CodeSignal) (was : Option (List Value)) (now : List Value) (old before after : List ℕ) (i : ℕ) (d : CodeSignal) →
+    i < length signals → before ≡ old ++ flat_map (λ k. change_at was now k (slice_get (map signal_in signals) k)) (range_with_len 0 i) →
+    after ≡ before ++ change_text was now i (signal_in (get_or signals i d)) →
+    after ≡ old ++ flat_map (λ k. change_at was now k (slice_get (map signal_in signals) k)) (range_with_len 0 (i + 1))
+change_step signals was now old before after i d lt e g =
+    places_step (λ (k : ℕ). change_at was now k (slice_get (map signal_in signals) k)) old before after i e
+    (g ∙ ap (λ (o : Option Signal). before ++ change_at was now i o) (sym (signal_at signals i d lt)))
+
+pub all_changes : (signals : List CodeSignal) (was : Option (List Value)) (now : List Value) (old after : List ℕ) →
+    after ≡ old ++ flat_map (λ k. change_at was now k (slice_get (map signal_in signals) k)) (range_with_len 0 (length signals)) →
+    after ≡ old ++ changes (map signal_in signals) was now
+all_changes signals was now old after e =
+    e ∙ ap (λ (n : ℕ). old ++ flat_map (λ k. change_at was now k (slice_get (map signal_in signals) k)) (range_with_len 0 n))
+    (sym (length-map signals signal_in))

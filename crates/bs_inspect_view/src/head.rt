@@ -1,0 +1,80 @@
+//! The variables of a waveform.
+ghost use Rattle.std.specs.Prelude.{◌≡◌, ◌++◌, length, map, slice_get, OnOk};
+ghost use Rattle.std.specs.List.{flat_map, range_with_len};
+ghost use Rattle.bs_inspect_names.specs.Signals.{signal_in};
+ghost use Rattle.bs_inspect_view.specs.View.{head_text, range_words, reference, variable_line, variables};
+ghost use Rattle.bs_wave.specs.WaveText.{id_of};
+
+use bs_bits::{NoMemory, push_line, push_number, push_piece};
+use bs_inspect_names::{Signal, push_range};
+
+/// Appends the id of a signal: its number in base 94, the lowest digit first.
+#[tactic(auto, using(crate::proofs::IdLemmas::last))]
+pub(crate) fn push_id(text: &mut Vec<u8>, number: usize) -> Result<(), NoMemory>
+    ensures { OnOk result (text.new.items ≡ text.old.items ++ id_of number) }
+{
+    let mut left = number;
+    'digits: while left >= 94 {
+        text.push(b'!' + (left % 94) as u8)?;
+        left /= 94;
+    }
+    text.push(b'!' + left as u8)?;
+    Ok(())
+}
+
+/// Appends the numbers of a vector's bits.
+fn push_range_words(text: &mut Vec<u8>, signal: &Signal<'_>) -> Result<(), NoMemory>
+    ensures { OnOk result (text.new.items ≡ text.old.items ++ range_words signal.now.high (length signal.now.places)) }
+{
+    match signal.high {
+        Some(high) => {
+            push_piece(text, b" ")?;
+            push_range(text, high, signal.places.len())
+        }
+        None => Ok(()),
+    }
+}
+
+/// Appends the name of a signal.
+fn push_reference(text: &mut Vec<u8>, signal: &Signal<'_>) -> Result<(), NoMemory>
+    ensures { OnOk result (text.new.items ≡ text.old.items ++ reference (signal_in signal.now)) }
+{
+    push_piece(text, signal.base)?;
+    push_range_words(text, signal)
+}
+
+/// Appends the variable of a signal.
+fn push_variable(text: &mut Vec<u8>, number: usize, signal: &Signal<'_>) -> Result<(), NoMemory>
+    ensures { OnOk result (text.new.items ≡ text.old.items ++ variable_line number (signal_in signal.now)) }
+{
+    push_piece(text, b"$var wire ")?;
+    push_number(text, signal.places.len() as u64)?;
+    push_piece(text, b" ")?;
+    push_id(text, number)?;
+    push_piece(text, b" ")?;
+    push_reference(text, signal)?;
+    push_line(text, b" $end")
+}
+
+/// Appends the variables of signals.
+#[tactic(auto, using(crate::proofs::PlaceLemmas::variable_step, crate::proofs::PlaceLemmas::all_variables))]
+fn push_variables(text: &mut Vec<u8>, signals: &[Signal<'_>]) -> Result<(), NoMemory>
+    ensures { OnOk result (text.new.items ≡ text.old.items ++ variables (map signal_in signals.now)) }
+{
+    'signals: for i in 0..signals.len() {
+        push_variable(text, i, &signals[i])?;
+    }
+    Ok(())
+}
+
+/// Appends the lines before the first moment.
+pub(crate) fn push_head(text: &mut Vec<u8>, signals: &[Signal<'_>]) -> Result<(), NoMemory>
+    ensures { OnOk result (text.new.items ≡ text.old.items ++ head_text (map signal_in signals.now)) }
+{
+    push_line(text, b"$timescale 1ns $end")?;
+    push_line(text, b"$scope module trace $end")?;
+    push_variables(text, signals)?;
+    push_line(text, b"$upscope $end")?;
+    push_line(text, b"$enddefinitions $end")?;
+    Ok(())
+}

@@ -1,0 +1,86 @@
+//! The moments of a waveform.
+ghost use Rattle.std.specs.Prelude.{◌≡◌, ◌<◌, ◌++◌, Some, length, map, slice_get, OnOk, option_map};
+ghost use Rattle.std.specs.List.{flat_map, range_with_len};
+ghost use Rattle.bs_bits.specs.Lines.{line};
+ghost use Rattle.bs_inspect_names.specs.Signals.{signal_in};
+ghost use Rattle.bs_inspect_view.specs.View.{changes, moment_at, moment_before, moment_text};
+ghost use Rattle.bs_wave.specs.WaveText.{time_line};
+
+use crate::value::push_changes;
+use bs_bits::{List, NoMemory, end_line, push_number, push_piece};
+use bs_inspect_names::Signal;
+use bs_wave::Value;
+
+/// The values of a moment, if there is such a moment.
+fn values_at(moments: &List<List<Value>>, t: usize) -> Option<&[Value]>
+    ensures { option_map (λ m. m.now) result ≡ slice_get moments.now t }
+{
+    if t < moments.len() {
+        Some(moments.get(t).slice())
+    } else {
+        None
+    }
+}
+
+/// The values of the moment before, which the first has none of.
+fn moment_before(moments: &List<List<Value>>, t: usize) -> Option<&[Value]>
+    ensures { option_map (λ m. m.now) result ≡ moment_before moments.now t }
+{
+    if t == 0 {
+        return None;
+    }
+    values_at(moments, t - 1)
+}
+
+/// Appends the time of a moment.
+fn push_time(text: &mut Vec<u8>, t: usize) -> Result<(), NoMemory>
+    ensures { OnOk result (text.new.items ≡ text.old.items ++ line (time_line t)) }
+{
+    push_piece(text, b"#")?;
+    push_number(text, t as u64)?;
+    end_line(text)
+}
+
+/// Appends a moment: its time, and the signals that have changed.
+fn push_moment(
+    text: &mut Vec<u8>,
+    signals: &[Signal<'_>],
+    t: usize,
+    before: Option<&[Value]>,
+    now: &[Value],
+) -> Result<(), NoMemory>
+    ensures { OnOk result (text.new.items ≡ text.old.items ++ moment_text (map signal_in signals.now) t (option_map (λ b. b.now) before.entry) (Some now.now)) }
+{
+    push_time(text, t)?;
+    push_changes(text, signals, before, now)
+}
+
+/// Appends the moment at a place.
+fn push_at(
+    text: &mut Vec<u8>,
+    signals: &[Signal<'_>],
+    moments: &List<List<Value>>,
+    t: usize,
+) -> Result<(), NoMemory>
+    ensures { OnOk result (text.new.items ≡ text.old.items ++ moment_at (map signal_in signals.now) moments.now t) }
+{
+    match values_at(moments, t) {
+        Some(now) => push_moment(text, signals, t, moment_before(moments, t), now),
+        None => Ok(()),
+    }
+}
+
+/// Appends the moments.
+#[tactic(auto, using(crate::proofs::PlaceLemmas::places_step))]
+pub(crate) fn push_moments(
+    text: &mut Vec<u8>,
+    signals: &[Signal<'_>],
+    moments: &List<List<Value>>,
+) -> Result<(), NoMemory>
+    ensures { OnOk result (text.new.items ≡ text.old.items ++ flat_map (moment_at (map signal_in signals.now) moments.now) (range_with_len 0 (length moments.now))) }
+{
+    'moments: for t in 0..moments.len() {
+        push_at(text, signals, moments, t)?;
+    }
+    Ok(())
+}

@@ -1,9 +1,0 @@
-use Rattle.std.proofs.Common.{◌≡◌, ◌≤◌, take}
-use Rattle.bs_listing.specs.Marks.{greatest_on}
-use Rattle.bs_listing.proofs.mark.greatest_on.Given as goal
-
-abbrev pub invariant-nets : goal.invariant-nets
-invariant-nets l = record {
-  is : l.greatest ≡ greatest_on l.table (take l.net-index l.nets);
-  small : l.greatest ≤ l.bound;
-}

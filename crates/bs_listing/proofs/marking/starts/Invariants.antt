@@ -1,6 +1,0 @@
-use Rattle.std.proofs.Common.{◌≡◌}
-use Rattle.bs_listing.specs.Marks.{starts}
-use Rattle.bs_listing.proofs.marking.starts.Given as goal
-
-abbrev pub invariant-nets : goal.invariant-nets
-invariant-nets l = l.table.items ≡ starts l.measure l.net

@@ -1,6 +1,0 @@
-use Rattle.std.proofs.Common.{◌≡◌, take}
-use Rattle.bs_listing.specs.Sizes.{greatest}
-use Rattle.bs_listing.proofs.sizes.greatest.Given as goal
-
-abbrev pub invariant-numbers : goal.invariant-numbers
-invariant-numbers l = l.greatest ≡ greatest (take l.number-index l.numbers)

@@ -1,6 +1,0 @@
-use Rattle.std.proofs.Common.{◌≡◌, take}
-use Rattle.bs_modules.specs.Names as spec
-use Rattle.bs_modules.proofs.ids.ids_at.Given as goal
-
-abbrev pub invariant-modules : goal.invariant-modules
-invariant-modules l = l.ids ≡ spec.ids_at l.ts (take l.place-index l.modules)

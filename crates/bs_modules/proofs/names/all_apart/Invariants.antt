@@ -1,6 +1,0 @@
-use Rattle.std.proofs.Common.{◌≡◌, drop}
-use Rattle.bs_modules.specs.Names as spec
-use Rattle.bs_modules.proofs.names.all_apart.Given as goal
-
-abbrev pub invariant-modules : goal.invariant-modules
-invariant-modules l = spec.all_apart (drop l.w-index l.written) ≡ spec.all_apart l.written

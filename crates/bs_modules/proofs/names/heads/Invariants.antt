@@ -1,6 +1,0 @@
-use Rattle.std.proofs.Common.{◌≡◌, take}
-use Rattle.bs_modules.specs.Names as spec
-use Rattle.bs_modules.proofs.names.heads.Given as goal
-
-abbrev pub invariant-modules : goal.invariant-modules
-invariant-modules l = l.names ≡ spec.heads l.ts (take l.place-index l.modules)

@@ -1,9 +1,0 @@
-use Rattle.std.proofs.Common.{map}
-use Rattle.bs_scope.specs.Checking.{marked}
-use Rattle.bs_modules.specs.Owns as spec
-use Rattle.bs_modules.proofs.EachLemmas.{IsEach}
-use Rattle.bs_modules.proofs.owns.read_owns.Given as goal
-
-abbrev pub invariant-modules : goal.invariant-modules
-invariant-modules l =
-    IsEach (λ p. spec.said l.table (spec.own_text (marked l.marks) l.others l.ts p)) (map spec.module_and_parts l.owns) l.place-index l.modules

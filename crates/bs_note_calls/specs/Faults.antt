@@ -1,0 +1,70 @@
+-- Notes on files that do not read, on an output that does not take the answer, and on a moment that no run has.
+use Rattle.std.specs.Prelude.{◌≡◌, ◌⊎◌, ℕ, List, [], ◌++◌, codes, decimal, length, nat_le, Bool, ◌&&◌, Option, Some, None, IfNone, if◌then◌else◌}
+use Rattle.std.specs.Option.{option_map_or}
+use Rattle.std.specs.declared.io.ErrorKind.{ErrorKind}
+use Rattle.bs_stim.specs.Runs.{Stimulus, run_at}
+use Rattle.bs_top_plan.specs.declared.file.File.{File}
+use Rattle.bs_top_plan.specs.Files.{file_word, limit_of}
+use Rattle.bs_note_files.specs.Notes.{file_text, pair_text, plain_text}
+
+-- a file that does not read: its name, and some reason
+abbrev pub IsUnreadNote : List ℕ → List ℕ → Type 0
+IsUnreadNote path note = (reason : List ℕ) × (note ≡ file_text path reason)
+
+-- a file that is longer than its limit
+abbrev pub long_sentence : File → List ℕ
+long_sentence file = codes "the file has more bytes than a " ++ (file_word file ++ (codes " may have: " ++ decimal (limit_of file)))
+
+abbrev pub long_text : File → List ℕ → List ℕ
+long_text file path = file_text path (long_sentence file)
+
+-- an output that did not take a line, after so many whole lines, for some reason
+abbrev pub output_sentence : ℕ → List ℕ → List ℕ
+output_sentence lines reason = codes "standard output failed after " ++ (decimal lines ++ (codes " whole lines: " ++ reason))
+
+abbrev pub output_text : ℕ → List ℕ → List ℕ
+output_text lines reason =
+    pair_text (output_sentence lines reason)
+    (codes "what went out is the front of the answer; send it to a file with room, or let the reader read on")
+
+pub record IsOutputNote (lines : ℕ) (kind : Option ErrorKind) (note : List ℕ) : Type 0 where
+  pub reason : List ℕ
+  pub none : IfNone kind (reason ≡ codes "no reason is known")
+  pub written : note ≡ output_text lines reason
+
+-- want of memory
+abbrev pub memory_text : List ℕ
+memory_text =
+    plain_text (codes "memory ran out, and nothing was written: give the program more, or lower --candidates and --conflicts")
+
+-- want of memory while the note was made
+abbrev pub want_text : List ℕ
+want_text = plain_text (codes "memory ran out while this answer was looked at once more")
+
+-- a report that is not valid
+abbrev pub rejected_text : List ℕ
+rejected_text =
+    pair_text (codes "the line names the first part of the report that fails (docs/FORMATS.md, Validity)")
+    (codes "is the report of these very files, in this order, and unchanged?")
+
+-- files in which no fault is found
+abbrev pub order_text : List ℕ
+order_text = plain_text (codes "looked at once more, the files are in order: did one of them change meanwhile?")
+
+-- a report whose trace has too large a waveform
+abbrev pub large_text : List ℕ → List ℕ
+large_text path = file_text path (codes "the waveform of this trace has too many values, one for each net at each state: draw a shorter trace")
+
+-- how many cycles a run has, where there is one of that number
+abbrev pub cycles_of : Stimulus → ℕ → Option ℕ
+cycles_of runs run = if nat_le 1 run && nat_le run (length runs.runs) then Some (length (run_at runs run).inputs) else None
+
+abbrev pub cycles_text : Option ℕ → List ℕ
+cycles_text None = []
+cycles_text (Some cycles) = codes "; and this run so many cycles: " ++ decimal cycles
+
+-- a moment that no run has
+abbrev pub range_text : Stimulus → ℕ → List ℕ
+range_text runs run =
+    pair_text (codes "there is no such moment: the stimulus has so many runs: " ++ (decimal (length runs.runs) ++ cycles_text (cycles_of runs run)))
+    (codes "RUN counts from 1 in the order of the file, and CYCLE from 0 up to the number of cycles")

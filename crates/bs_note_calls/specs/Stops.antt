@@ -1,0 +1,45 @@
+-- Notes on the stops of a run.
+use Rattle.std.specs.Prelude.{◌==◌, ℕ, List, ◌++◌, codes, decimal, Option, Some, None, Vec, if◌then◌else◌}
+use Rattle.std.specs.Option.{option_and_then}
+use Rattle.std.specs.declared.alloc.Global.{Global}
+use Rattle.bs_report.specs.declared.report.Stop.{Stop}
+use Rattle.bs_report.specs.declared.report.Stop.TheVariants as S
+use Rattle.bs_note_files.specs.Notes.{pair_text}
+
+-- the bytes of a note, where there is one
+abbrev pub items_of : Option (Vec ℕ Global) → Option (List ℕ)
+items_of None = None
+items_of (Some note) = Some note.items
+
+-- two sentences, the first with the number of a step behind it
+abbrev pub step_text : List ℕ → ℕ → List ℕ → List ℕ
+step_text first steps second = pair_text (first ++ (codes " " ++ decimal steps)) second
+
+-- a stop for want of a candidate: at the first step the dump itself is in question
+abbrev pub empty_text : ℕ → List ℕ
+empty_text steps =
+    if steps == 1 then pair_text (codes "no state with the stored signature leads to the dumped state")
+    (codes "look at the dump: its bits are in the order of the netlist's flip-flops, the first on the left; is it of this netlist, and `sig` of this signature?")
+    else step_text (codes "no state with the stored signature leads to the state of the hit before step") steps
+    (codes "a recorded run reached that state another way: are the netlist and the signature those of the chip?")
+
+-- why a run stopped, after so many steps, and which budget to raise; none where it came to reset
+abbrev pub text_of : ℕ → Stop → Option (List ℕ)
+text_of steps S.Reset = None
+text_of steps S.Length =
+    Some (step_text (codes "the budget of steps is spent: this many were made:") steps
+    (codes "ask for more with --steps L, up to 65536; the trace so far is right"))
+text_of steps S.Nohit =
+    Some (step_text (codes "no recorded run comes to a state that is listed in step") steps
+    (codes "record more or longer runs of what the chip did, or choose a signature that tells more states apart"))
+text_of steps S.Empty = Some (empty_text steps)
+text_of steps S.Candidates =
+    Some (step_text (codes "the budget of candidates is spent, and no run comes to a listed state, in step") steps
+    (codes "ask for more with --candidates K, up to 65536, or choose a signature that tells more states apart"))
+text_of steps S.Conflicts =
+    Some (step_text (codes "the budget of conflicts is spent, and no run comes to a listed state, in step") steps
+    (codes "ask for more with --conflicts B, up to 2^40, or choose a signature that tells more states apart"))
+
+-- the same of what was told
+abbrev pub stop_text : ℕ → Option Stop → Option (List ℕ)
+stop_text steps stop = option_and_then (λ (s : Stop). text_of steps s) stop

@@ -1,0 +1,91 @@
+-- Notes on words that are no job.
+use Rattle.std.specs.Prelude.{◌≡◌, ◌⊎◌, ℕ, ◌<◌, ◌+◌, List, [], ◌∷◌, ◌++◌, codes, decimal, length, map, slice_index_or, Option, Some, None, if◌then◌else◌}
+use Rattle.std.specs.Str.{bytes_eq}
+use Rattle.bs_note_places.specs.Quotes.{shown_line}
+use Rattle.bs_note_calls.specs.declared.word.WordFault.{WordFault}
+use Rattle.bs_note_calls.specs.declared.word.WordFault.TheVariants as W
+use Rattle.bs_note_files.specs.Notes.{pair_text, plain_text}
+
+-- the fault is one of a word behind the command, which is one of so many words
+abbrev pub IsOfWords : ℕ → WordFault → Type 0
+IsOfWords count (W.Option at) = at < count
+IsOfWords count (W.Value at) = at < count
+IsOfWords count W.Absent = ⊥
+IsOfWords count W.Command = ⊥
+IsOfWords count (W.Positions given) = ⊥
+IsOfWords count W.Rest = ⊥
+
+-- a word with its number from 1, what is said of it, and how the command is used
+abbrev pub named_text : ℕ → List ℕ → List ℕ → List ℕ → List ℕ
+named_text at word sentence usage =
+    plain_text (codes "word " ++ (decimal (at + 1) ++ (codes ", `" ++ (shown_line word ++ (codes "`, " ++ sentence))))) ++ plain_text usage
+
+-- the number of words by position, and how the command is used
+abbrev pub counted_text : ℕ → List ℕ → List ℕ
+counted_text given usage = plain_text (codes "the number of words by position behind the command is " ++ decimal given) ++ plain_text usage
+
+-- the first word, or none
+abbrev pub command_of : List (List ℕ) → List ℕ
+command_of words = slice_index_or words 0 []
+
+-- how many words by position a command takes, if it is one
+abbrev pub taken : List ℕ → Option ℕ
+taken command =
+    if bytes_eq command (codes "run") then Some 4
+    else (if bytes_eq command (codes "audit") then Some 5
+    else (if bytes_eq command (codes "wave") then Some 5
+    else (if bytes_eq command (codes "dump") then Some 5
+    else (if bytes_eq command (codes "demo") then Some 1
+    else (if bytes_eq command (codes "reach") then Some 3
+    else None)))))
+
+-- how a command is used, or all of them
+abbrev pub usage : List ℕ → List ℕ
+usage command =
+    if bytes_eq command (codes "run")
+    then codes "usage: backspace run NETLIST SIGNATURE STIMULUS DUMP [--steps L] [--candidates K] [--conflicts B]"
+    else (if bytes_eq command (codes "audit") then codes "usage: backspace audit NETLIST SIGNATURE STIMULUS DUMP REPORT"
+    else (if bytes_eq command (codes "wave") then codes "usage: backspace wave NETLIST SIGNATURE STIMULUS DUMP REPORT"
+    else (if bytes_eq command (codes "dump") then codes "usage: backspace dump NETLIST SIGNATURE STIMULUS RUN CYCLE"
+    else (if bytes_eq command (codes "demo") then codes "usage: backspace demo NUMBER"
+    else (if bytes_eq command (codes "reach") then codes "usage: backspace reach NETLIST STATE CYCLES [--conflicts B]"
+    else codes "usage: backspace run NETLIST SIGNATURE STIMULUS DUMP [options], audit NETLIST SIGNATURE STIMULUS DUMP REPORT, wave NETLIST SIGNATURE STIMULUS DUMP REPORT, dump NETLIST SIGNATURE STIMULUS RUN CYCLE, reach NETLIST STATE CYCLES [--conflicts B], or demo NUMBER")))))
+
+-- what else may be wrong where each word is of its form and their number is right
+abbrev pub rest_sentence : List ℕ → List ℕ
+rest_sentence command =
+    if bytes_eq command (codes "run") then codes "an option is given twice"
+    else (if bytes_eq command (codes "dump") then codes "RUN lies between 1 and 256 and CYCLE between 0 and 65536, each in digits alone"
+    else (if bytes_eq command (codes "reach")
+    then codes "STATE is one or more characters 0 and 1, CYCLES lies between 0 and 1024, in digits alone, and an option is given once"
+    else codes "NUMBER lies below 2^64, in digits alone"))
+
+-- the note on what is wrong with words
+abbrev pub fault_text : List (List ℕ) → WordFault → List ℕ
+fault_text words W.Absent = pair_text (codes "there are no words") (usage (command_of words))
+fault_text words W.Command = named_text 0 (command_of words) (codes "is no command") (usage (command_of words))
+fault_text words (W.Option at) = named_text at (slice_index_or words at []) (codes "is no option of this command") (usage (command_of words))
+fault_text words (W.Value at) =
+    named_text at (slice_index_or words at [])
+    (codes "wants a number in digits: --steps and --candidates 1 to 65536, --conflicts 1 to 2^40") (usage (command_of words))
+fault_text words (W.Positions given) = counted_text given (usage (command_of words))
+fault_text words W.Rest = pair_text (rest_sentence (command_of words)) (usage (command_of words))
+
+-- the fault agrees with so many words: there are none, or the first is no command, where it says so, and a word that it names is there
+abbrev pub IsWordFault : ℕ → List ℕ → WordFault → Type 0
+IsWordFault count command W.Absent = count ≡ 0
+IsWordFault count command W.Command = (0 < count) × (taken command ≡ None)
+IsWordFault count command (W.Option at) = at < count
+IsWordFault count command (W.Value at) = at < count
+IsWordFault count command (W.Positions given) = 0 < count
+IsWordFault count command W.Rest = 0 < count
+
+-- the note says what is wrong with the words
+pub record IsWordsNote (words : List (List ℕ)) (note : List ℕ) : Type 0 where
+  pub fault : WordFault
+  pub is : IsWordFault (length words) (command_of words) fault
+  pub written : note ≡ fault_text words fault
+
+-- words that are no text
+abbrev pub unread_text : List ℕ
+unread_text = pair_text (codes "the words of the command line are no text in UTF-8") (usage [])

@@ -1,0 +1,162 @@
+-- What is said of a fault, and what to do: a sentence, and a few words behind the caret.
+use Rattle.std.specs.Prelude.{ℕ, ◌==◌, List, ◌++◌, codes, decimal, length, Option, Some, None, if◌then◌else◌}
+use Rattle.std.specs.Str.{bytes_eq}
+use Rattle.bs_verilog_syntax.specs.declared.fault.What.{What}
+use Rattle.bs_verilog_syntax.specs.declared.fault.What.TheVariants as what
+use Rattle.bs_note_files.specs.Notes.{Saying, saying}
+
+-- ---- a line at sight
+
+abbrev pub mark_saying : Saying
+mark_saying = saying (codes "a byte that is no ASCII character, as a mark at the front of a file")
+    (codes "save the file as plain ASCII without a byte order mark")
+
+abbrev pub stray_saying : ℕ → Saying
+stray_saying b =
+    if b == 13 then saying (codes "a carriage return: lines end with a line feed alone") (codes "take the carriage returns out, as by `tr -d '\\r'`")
+    else (if b == 9 then saying (codes "a tab: words are parted by one space") (codes "write one space")
+    else (if b == 239 then mark_saying
+    else saying (codes "a byte that no line of this text may have") (codes "save the file as plain ASCII")))
+
+abbrev pub loose_saying : Saying
+loose_saying = saying (codes "a space too many: words are parted by one space, and none stands at an end of a line") (codes "take it out")
+
+-- ---- a netlist
+
+-- a part of the language that is left out
+abbrev pub what_saying : What → Saying
+what_saying what.Behaviour = saying (codes "behavioural Verilog is left out") (codes "synthesize to gates and flip-flops first")
+what_saying what.Parameter = saying (codes "parameters are left out") (codes "let synthesis settle them")
+what_saying what.NetType = saying (codes "net types other than wire, supply0 and supply1 are left out") (codes "write wire")
+what_saying what.Primitive = saying (codes "tri-state, switch and user primitives are left out") (codes "gates are and nand or nor xor xnor buf not")
+what_saying what.Direction = saying (codes "inout ports are left out") (codes "split it into an input and an output")
+what_saying what.Strength = saying (codes "drive strengths are left out") (codes "take it out")
+what_saying what.Array = saying (codes "arrays of instances are left out") (codes "write each instance")
+what_saying what.Expression =
+    saying (codes "expressions and concatenations are left out") (codes "a net, a bit of a vector or a constant of one bit may stand here")
+what_saying what.Width = saying (codes "a whole vector or a part of it is left out") (codes "name one bit, as a[0]")
+what_saying what.Constant = saying (codes "a constant here is of one bit") (codes "write 1'b0 or 1'b1")
+what_saying what.Directive = saying (codes "this compiler directive is left out") (codes "take it out, or run a preprocessor first")
+what_saying what.Hierarchy =
+    saying (codes "no cell of this name is known")
+    (codes "cells are dff and dffs (CK, Q, D), dffe (E too), dffr (R too), gates and nand or nor xor xnor buf not: flatten and map to these (docs/FORMATS.md)")
+
+-- a byte that cannot go on, or the text's end
+abbrev pub syntax_saying : Option ℕ → Saying
+syntax_saying None =
+    saying (codes "the text ends before its module does") (codes "is the netlist empty, cut short, or `endmodule` missing?")
+syntax_saying (Some b) =
+    if b == 239 then mark_saying
+    else (if b == 36 then saying (codes "no cell of this name is known")
+    (codes "cells are dff and dffs (CK, Q, D), dffe (E too), dffr (R too): flatten and map to these (docs/FORMATS.md, Netlists)")
+    else saying (codes "what begins here cannot stand here")
+    (codes "is a `;` missing before it? a structural netlist is read (docs/FORMATS.md, Netlists)"))
+
+abbrev pub port_saying : Saying
+port_saying =
+    saying (codes "each name of the header has one direction, and each direction a name of the header")
+    (codes "declare it as input or output once, and name it in the header")
+
+abbrev pub redeclared_saying : Saying
+redeclared_saying = saying (codes "this name is declared before") (codes "one direction and one type are taken, with equal ranges")
+
+abbrev pub nets_saying : Saying
+nets_saying = saying (codes "there are more than 100000 nets") (codes "split the netlist")
+
+abbrev pub terminals_saying : Saying
+terminals_saying =
+    saying (codes "this gate or cell has other terminals than it takes")
+    (codes "a gate has its output first; dff and dffs take (CK, Q, D), dffe (CK, Q, D, E), dffr (CK, Q, D, R), or pins of these names")
+
+abbrev pub index_saying : Saying
+index_saying = saying (codes "this index is none of the vector's, or a bound is above 65535") (codes "compare it with the declaration")
+
+abbrev pub want_saying : Saying
+want_saying = saying (codes "memory ran out") (codes "")
+
+-- ---- lines of bits
+
+-- how many bits a line has: `.` stands for none
+abbrev pub bits_in : List ℕ → ℕ
+bits_in text = if bytes_eq text (codes ".") then 0 else length text
+
+-- how many bits a line has, and how many are due, of what
+abbrev pub width_text : ℕ → ℕ → List ℕ → List ℕ
+width_text bits due of =
+    decimal bits ++ (codes " bits stand here, and " ++ (decimal due ++ (codes " are due: one for each " ++ of)))
+
+-- ---- a stimulus
+
+abbrev pub run_saying : Saying
+run_saying = saying (codes "a run is `run NAME CYCLES`, as many lines of bits, and `end`") (codes "this is none of these where it stands")
+
+abbrev pub inputs_saying : ℕ → List ℕ → Saying
+inputs_saying width line =
+    saying (width_text (bits_in line) width (codes "data input"))
+    (codes "data inputs are all input port bits but the clock, in the order of the ports; `.` stands for none")
+
+-- a line where another kind of line is due
+abbrev pub count_saying : List ℕ → Saying
+count_saying line =
+    if bytes_eq line (codes "end") then saying (codes "`end` stands here, and an input line is due")
+    (codes "CYCLES of the run's first line is greater than the number of its input lines")
+    else (if length line == 0 then saying (codes "the text ends inside a run") (codes "a run has as many input lines as its CYCLES, and then `end`")
+    else saying (codes "an input line stands here, and `end` is due")
+    (codes "CYCLES of the run's first line is less than the number of its input lines, or `end` is missing"))
+
+abbrev pub runs_saying : Saying
+runs_saying = saying (codes "a stimulus has at most 256 runs") (codes "this is the 257th")
+
+abbrev pub cycles_saying : Saying
+cycles_saying = saying (codes "a run has at most 65536 cycles") (codes "split it, or begin it later")
+
+-- ---- a dump
+
+-- the form of a line behind that of the last signature, where one is kept
+abbrev pub end_saying : ℕ → Saying
+end_saying number =
+    if number == 3 then saying (codes "the third line of a dump is `end`") (codes "and nothing follows it")
+    else saying (codes "nothing follows the line `end` of a dump") (codes "take it out")
+
+-- the same where two are kept
+abbrev pub older_saying : ℕ → Saying
+older_saying number =
+    if number == 3 then saying (codes "the third line of a dump of two cycles is `old BITS` or `old none`")
+    (codes "a bit for each item of the signature, and `old none` behind `sig none`")
+    else (if number == 4 then saying (codes "the fourth line of a dump of two cycles is `end`") (codes "and nothing follows it")
+    else saying (codes "nothing follows the line `end` of a dump") (codes "take it out"))
+
+-- the form of a line of a dump, of a register that keeps so many signatures
+abbrev pub dump_saying : ℕ → ℕ → Saying
+dump_saying depth number =
+    if number == 1 then saying (codes "the first line of a dump is `state BITS`") (codes "a bit for each flip-flop, in the order of the netlist")
+    else (if number == 2 then saying (codes "the second line of a dump is `sig BITS` or `sig none`") (codes "a bit for each item of the signature")
+    else (if depth == 2 then older_saying number else end_saying number))
+
+abbrev pub reset_saying : Saying
+reset_saying =
+    saying (codes "`sig none` goes with the reset state alone, and this is another state")
+    (codes "at reset dffs holds 1 and each other cell 0; in any later state the register holds a signature")
+
+-- ---- a report
+
+abbrev pub report_saying : Saying
+report_saying =
+    saying (codes "this line is not of a form that its place in a report allows")
+    (codes "a report is what `run` writes, unchanged (docs/FORMATS.md, Report)")
+
+abbrev pub short_saying : Saying
+short_saying = saying (codes "the text ends before the line `end` of a report is whole") (codes "was the report cut short, as by a full disk?")
+
+-- ---- a signature
+
+abbrev pub item_saying : Saying
+item_saying = saying (codes "`bit` takes one name") (codes "write `xor NAME NAME ..` for the parity of several, or a line for each")
+
+abbrev pub items_saying : Saying
+items_saying = saying (codes "a signature has at most 256 items") (codes "this is the 257th")
+
+abbrev pub line_saying : Saying
+line_saying =
+    saying (codes "a line of a signature is `bit NAME` or `xor NAME NAME ..`")
+    (codes "a name is the key of a flip-flop's output net, without empty lines between")

@@ -1,0 +1,70 @@
+-- Notes on a text that is no signature.
+use Rattle.std.specs.Prelude.{◌≡◌, ◌≢◌, ◌⊎◌, ◌≤◌, ◌<◌, ◌+◌, ◌-◌, ℕ, List, ◌++◌, codes, length, max, take, drop, nat_eq, if◌then◌else◌}
+use Rattle.std.specs.List.{flat_map, starts_with}
+use Rattle.bs_net.specs.Parts.{Parts}
+use Rattle.bs_scan.specs.declared.fault.ChoiceFault.{ChoiceFault}
+use Rattle.bs_scan.specs.declared.fault.ChoiceFault.TheVariants as choice
+use Rattle.bs_note_places.specs.Nearest.{AreNearest, key_at}
+use Rattle.bs_note_places.specs.Quotes.{shown_line}
+use Rattle.bs_note_files.specs.Notes.{Saying, saying, file_text, IsNoteOn}
+use Rattle.bs_note_files.specs.Flaws.{IsLineNote, IsStartNote}
+use Rattle.bs_note_files.specs.Parts.{IsNumbered}
+use Rattle.bs_note_files.specs.Sayings.{item_saying, line_saying, items_saying}
+
+-- no flip-flop has this key
+pub record IsNoKey (r : Parts) (name : List ℕ) : Type 0 where
+  pub none : (flop : ℕ) → flop < length r.flops → key_at r flop ≢ name
+
+-- the key of a flip-flop, as it is named
+abbrev pub key_piece : Parts → ℕ → List ℕ
+key_piece r flop = codes " " ++ shown_line (key_at r flop)
+
+-- what is said of a name that is no key
+abbrev pub unknown_sentence : List ℕ → List ℕ
+unknown_sentence name = codes "no flip-flop has the key `" ++ (shown_line name ++ codes "`, the name of its output net")
+
+-- the keys of these flip-flops
+abbrev pub unknown_label : Parts → List ℕ → List ℕ
+unknown_label r flops = codes "the nearest keys of flip-flops:" ++ flat_map (key_piece r) flops
+
+-- the bytes of a line from a place up to an end
+abbrev pub word_in : List ℕ → (ℕ × ℕ) → List ℕ
+word_in line word = take (word.1 - word.0) (drop word.0 line)
+
+-- no flip-flop has these bytes of the line as its key
+pub record IsUnknownWord (r : Parts) (line : List ℕ) (word : ℕ × ℕ) : Type 0 where
+  pub from : word.0 ≤ word.1
+  pub to : word.1 ≤ length line
+  pub unknown : IsNoKey r (word_in line word)
+
+-- the note names this name as no key, and the netlist's keys that are nearest to it
+pub record SaysUnknown (r : Parts) (path text : List ℕ) (at : ℕ) (name note : List ℕ) : Type 0 where
+  pub flops : List ℕ
+  pub nearest : AreNearest r name flops
+  pub placed : IsNoteOn path text at (saying (unknown_sentence name) (unknown_label r flops)) note
+
+-- the same of a word of a line that begins at a place
+pub record IsUnknownOn (r : Parts) (path text : List ℕ) (start : ℕ) (line note : List ℕ) : Type 0 where
+  pub word : ℕ × ℕ
+  pub is : IsUnknownWord r line word
+  pub named : SaysUnknown r path text (start + word.0) (word_in line word) note
+
+-- a note on the line with a number, in which a name is no key
+pub record IsUnknownIn (r : Parts) (path text : List ℕ) (number : ℕ) (note : List ℕ) : Type 0 where
+  pub start : ℕ
+  pub line : List ℕ
+  pub numbered : IsNumbered text (max number 1) start line
+  pub named : IsUnknownOn r path text start line note
+
+abbrev pub IsUnknownNote : Parts → List ℕ → List ℕ → ℕ → List ℕ → Type 0
+IsUnknownNote r path text number note = IsUnknownIn r path text number note ⊎ (note ≡ file_text path (codes "a name is no flip-flop's key"))
+
+-- the form of a line
+abbrev pub form_saying : List ℕ → Saying
+form_saying line = if starts_with nat_eq line (codes "bit ") then item_saying else line_saying
+
+abbrev pub IsSignatureNote : Parts → List ℕ → List ℕ → ChoiceFault → List ℕ → Type 0
+IsSignatureNote r path text (choice.Line number) note = IsLineNote path text number form_saying note
+IsSignatureNote r path text (choice.TooMany number) note = IsStartNote path text number (λ line. items_saying) note
+IsSignatureNote r path text (choice.UnknownFlop number) note = IsUnknownNote r path text number note
+IsSignatureNote r path text choice.NoMemory note = note ≡ file_text path (codes "memory ran out")

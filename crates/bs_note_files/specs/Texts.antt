@@ -1,0 +1,45 @@
+-- Notes on texts that are no stimulus, no dump and no report.
+use Rattle.std.specs.Prelude.{◌≡◌, ℕ, ◌==◌, List, codes, length, if◌then◌else◌}
+use Rattle.bs_stim.specs.declared.fault.StimFault.{StimFault}
+use Rattle.bs_stim.specs.declared.fault.StimFault.TheVariants as stimulus
+use Rattle.bs_scan.specs.declared.fault.DumpFault.{DumpFault}
+use Rattle.bs_scan.specs.declared.fault.DumpFault.TheVariants as dump
+use Rattle.bs_report.specs.declared.fault.ReportFault.{ReportFault}
+use Rattle.bs_report.specs.declared.fault.ReportFault.TheVariants as report
+use Rattle.bs_note_files.specs.declared.dump.Widths.{Widths}
+use Rattle.bs_note_files.specs.Notes.{Saying, saying, file_text, IsNoteOn}
+use Rattle.bs_note_files.specs.Flaws.{IsLineNote, IsStartNote}
+use Rattle.bs_note_files.specs.Parts.{behind}
+use Rattle.bs_note_files.specs.Sayings.{run_saying, inputs_saying, count_saying, runs_saying, cycles_saying, bits_in, width_text, dump_saying}
+use Rattle.bs_note_files.specs.Sayings.{reset_saying, report_saying, short_saying}
+
+abbrev pub IsStimNote : List ℕ → List ℕ → ℕ → StimFault → List ℕ → Type 0
+IsStimNote path text width stimulus.NoRun note = note ≡ file_text path (codes "the file has no run")
+IsStimNote path text width (stimulus.Line number) note = IsLineNote path text number (λ line. run_saying) note
+IsStimNote path text width (stimulus.Width number) note = IsStartNote path text number (inputs_saying width) note
+IsStimNote path text width (stimulus.Count number) note = IsStartNote path text number count_saying note
+IsStimNote path text width (stimulus.TooManyRuns number) note = IsStartNote path text number (λ line. runs_saying) note
+IsStimNote path text width (stimulus.TooManyCycles number) note = IsStartNote path text number (λ line. cycles_saying) note
+IsStimNote path text width stimulus.NoMemory note = note ≡ file_text path (codes "memory ran out")
+
+-- how many bits a line of a dump has, and how many are due
+abbrev pub bits_text : Widths → ℕ → List ℕ → List ℕ
+bits_text widths number line =
+    if number == 1 then width_text (bits_in (behind line 32)) widths.flops (codes "flip-flop of the netlist")
+    else width_text (bits_in (behind line 32)) widths.items (codes "item of the signature")
+
+abbrev pub bits_saying : Widths → ℕ → List ℕ → Saying
+bits_saying widths number line = saying (bits_text widths number line) (codes "is the dump of this netlist, with this signature?")
+
+abbrev pub IsDumpNote : List ℕ → List ℕ → Widths → DumpFault → List ℕ → Type 0
+IsDumpNote path text widths (dump.Line number) note = IsLineNote path text number (λ line. dump_saying widths.depth number) note
+IsDumpNote path text widths (dump.Width number) note = IsStartNote path text number (bits_saying widths number) note
+IsDumpNote path text widths dump.NotReset note = IsNoteOn path text 0 reset_saying note
+IsDumpNote path text widths dump.NoMemory note = note ≡ file_text path (codes "memory ran out")
+
+abbrev pub IsReportNote : List ℕ → List ℕ → ReportFault → List ℕ → Type 0
+IsReportNote path text (report.Line number) note = IsLineNote path text number (λ line. report_saying) note
+IsReportNote path text report.Short note = IsNoteOn path text (length text) short_saying note
+IsReportNote path text report.Extra note =
+    note ≡ file_text path (codes "bytes follow the line `end` of the report: a file holds one report and nothing else")
+IsReportNote path text report.NoMemory note = note ≡ file_text path (codes "memory ran out")

@@ -1,0 +1,310 @@
+//! Notes on a netlist that its check refuses.
+ghost use Rattle.std.specs.Prelude.{◌≡◌, ◌≤◌, ◌++◌, codes, decimal, length, take, slice_get, IfOk, IfNone, IfSome, OnOk};
+ghost use Rattle.bs_net.specs.Netlist.{parts_of};
+ghost use Rattle.bs_note_places.specs.Nearest.{net_key};
+ghost use Rattle.bs_note_places.specs.Quotes.{shown_line};
+ghost use Rattle.bs_note_files.specs.Checks.{base_of, count_sentence, first_key, is_joined, is_of_name, IsCheckNote, IsKeyNote, IsNamePlace, IsNetNote, IsRingNote};
+ghost use Rattle.bs_note_files.specs.Checks.{joins_before, keyed_text, output_of, ring_piece, ring_text, stands_at};
+ghost use Rattle.bs_note_files.specs.Notes.{file_text};
+ghost use Rattle.bs_note_files.specs.Parts.{IsFirstPlace, NoneOf};
+
+use crate::form::{Message, file_note, note_on};
+use crate::part::{before, behind};
+use bs_bits::{NoMemory, push_number, push_piece};
+use bs_net::{Count, NetFault, NetId, Raw};
+use bs_note_places::push_quoted;
+use std::alloc::Global;
+
+/// How many nets of a ring are named at most.
+pub const RING: usize = 8;
+
+/// The key of a net, or none where it has no name.
+fn key_of(raw: &Raw, net: NetId) -> &[u8]
+    ensures { result.now ≡ net_key (parts_of raw.now) net }
+{
+    if net.0 < raw.names.len() {
+        raw.names.key(net).as_bytes()
+    } else {
+        b""
+    }
+}
+
+/// The name that stands in the text for a key: a vector's without its index.
+fn base_of(key: &[u8]) -> &[u8]
+    ensures { result.now ≡ base_of key.now }
+{
+    if key.starts_with(b"[".as_slice()) {
+        return behind(key, b']');
+    }
+    if key.starts_with(b"\\".as_slice()) {
+        return key;
+    }
+    before(key, b'[')
+}
+
+/// Whether a byte may stand in a name.
+fn is_of_name(byte: u8) -> bool
+    ensures { result ≡ is_of_name byte }
+{
+    b'0' <= byte && byte <= b'9'
+        || (b'A' <= byte && byte <= b'Z'
+            || (b'a' <= byte && byte <= b'z' || (byte == b'_' || byte == b'$')))
+}
+
+/// Whether a byte of a name stands at a place.
+fn is_joined(text: &[u8], at: usize) -> bool
+    ensures { result ≡ is_joined (slice_get text.now at) }
+{
+    match text.get(at) {
+        Some(byte) => is_of_name(*byte),
+        None => false,
+    }
+}
+
+/// Whether a byte of a name stands before a place.
+fn joins_before(text: &[u8], at: usize) -> bool
+    ensures { result ≡ joins_before text.now at }
+{
+    if at == 0 {
+        false
+    } else {
+        is_joined(text, at - 1)
+    }
+}
+
+/// Whether a name stands at a place of a text, with no byte of a name before it or behind it.
+fn stands_at(text: &[u8], at: usize, name: &[u8]) -> bool
+    requires { at ≤ length text.now }
+    ensures { result ≡ stands_at text.now name.now at }
+{
+    let rest = &text[at..];
+    let starts = rest.starts_with(name);
+    let joined_before = joins_before(text, at);
+    let joined_behind = is_joined(rest, name.len());
+    starts && (!joined_before && !joined_behind)
+}
+
+/// The first place of a text at which a name stands, if it stands anywhere.
+fn first_place(text: &[u8], name: &[u8]) -> Option<usize>
+    ensures some { IfSome result (IsFirstPlace (stands_at text.now name.now) (length text.now)) }
+    ensures none { IfNone result (NoneOf (stands_at text.now name.now) (length text.now)) }
+{
+    'places: for at in 0..text.len() {
+        if stands_at(text, at, name) {
+            return Some(at);
+        }
+    }
+    None
+}
+
+/// The first place of a text at which a name stands; the text's front where it stands nowhere.
+fn place_of_name(text: &[u8], name: &[u8]) -> usize
+    ensures { IsNamePlace text.now name.now result }
+{
+    match first_place(text, name) {
+        Some(at) => at,
+        None => 0,
+    }
+}
+
+/// A sentence with the key of a net in its middle.
+fn keyed(alloc: Global, key: &[u8], last: &str) -> Result<Vec<u8>, NoMemory>
+    ensures { IfOk result (λ said. said.items ≡ keyed_text key.now last.now) }
+{
+    let mut said = b"the net `".to_vec(alloc)?;
+    push_quoted(&mut said, key)?;
+    push_piece(&mut said, b"`")?;
+    push_piece(&mut said, last.as_bytes())?;
+    Ok(said)
+}
+
+/// A note on the first place of a text at which the name of a key stands.
+pub fn key_note(
+    alloc: Global,
+    path: &str,
+    text: &[u8],
+    key: &[u8],
+    sentence: &[u8],
+    label: &[u8],
+) -> Result<Vec<u8>, NoMemory>
+    ensures { IfOk result (λ note. IsKeyNote path.now text.now key.now sentence.now label.now note.items) }
+{
+    let at = place_of_name(text, base_of(key));
+    let message = Message { sentence, label };
+    let note = note_on(alloc, path, text, at, message)?;
+    Ok(note)
+}
+
+/// A note on a net, where its name first stands in the text.
+fn net_note(
+    alloc: Global,
+    path: &str,
+    text: &[u8],
+    key: &[u8],
+    last: &str,
+    label: &[u8],
+) -> Result<Vec<u8>, NoMemory>
+    ensures { IfOk result (λ note. IsNetNote path.now text.now key.now last.now label.now note.items) }
+{
+    let said = keyed(alloc, key, last)?;
+    let note = key_note(alloc, path, text, key, &said, label)?;
+    Ok(note)
+}
+
+/// A note on too many of something.
+pub fn counted_note(
+    alloc: Global,
+    path: &str,
+    sentence: &str,
+    count: u32,
+) -> Result<Vec<u8>, NoMemory>
+    ensures { IfOk result (λ note. note.items ≡ file_text path.now (sentence.now ++ decimal count)) }
+{
+    let mut said = sentence.as_bytes().to_vec(alloc)?;
+    push_number(&mut said, u64::from(count))?;
+    file_note(alloc, path, &said)
+}
+
+/// The output net of a gate, if there is one.
+fn output_of(raw: &Raw, gate: u32) -> Option<NetId>
+    ensures { result ≡ output_of (parts_of raw.now) gate }
+{
+    match raw.gates.slice().get(gate as usize) {
+        Some(gate) => Some(gate.out),
+        None => None,
+    }
+}
+
+/// Appends a space and the key of a gate's output net.
+fn push_gate(said: &mut Vec<u8>, raw: &Raw, gate: u32) -> Result<(), NoMemory>
+    ensures { OnOk result (said.new.items ≡ said.old.items ++ ring_piece (parts_of raw.now) gate) }
+{
+    match output_of(raw, gate) {
+        Some(net) => push_net(said, raw, net),
+        None => Ok(()),
+    }
+}
+
+/// Appends a space and the key of a net.
+fn push_net(said: &mut Vec<u8>, raw: &Raw, net: NetId) -> Result<(), NoMemory>
+    ensures { OnOk result (said.new.items ≡ said.old.items ++ (codes " " ++ shown_line (net_key (parts_of raw.now) net))) }
+{
+    push_piece(said, b" ")?;
+    push_quoted(said, key_of(raw, net))
+}
+
+/// The first gates of a ring, as many as are named.
+#[tactic(auto, using(std::proofs::lemmas::List::take_min))]
+fn named(gates: &[u32]) -> &[u32]
+    ensures { result.now ≡ take RING gates.now }
+{
+    &gates[..RING.min(gates.len())]
+}
+
+/// The keys of the first gates of a ring.
+fn ring_keys(alloc: Global, raw: &Raw, gates: &[u32]) -> Result<Vec<u8>, NoMemory>
+    ensures { IfOk result (λ said. said.items ≡ ring_text (parts_of raw.now) gates.now) }
+{
+    let named = named(gates);
+    let mut said = b"gates read one another in a ring, by their output nets:".to_vec(alloc)?;
+    'gates: for &gate in named {
+        push_gate(&mut said, raw, gate)?;
+    }
+    Ok(said)
+}
+
+/// The key of the output net of the first gate.
+fn first_key<'a>(raw: &'a Raw, gates: &[u32]) -> &'a [u8]
+    ensures { result.now ≡ first_key (parts_of raw.now) gates.now }
+{
+    let gate = match gates.first() {
+        Some(gate) => *gate,
+        None => 0,
+    };
+    match output_of(raw, gate) {
+        Some(net) => key_of(raw, net),
+        None => b"",
+    }
+}
+
+/// A note on a ring of gates, where the output of its first gate first stands in the text.
+fn ring_note(
+    alloc: Global,
+    path: &str,
+    text: &[u8],
+    raw: &Raw,
+    gates: &[u32],
+) -> Result<Vec<u8>, NoMemory>
+    ensures { IfOk result (λ note. IsRingNote (parts_of raw.now) path.now text.now gates.now note.items) }
+{
+    let said = ring_keys(alloc, raw, gates)?;
+    let key = first_key(raw, gates);
+    let note = key_note(
+        alloc,
+        path,
+        text,
+        key,
+        &said,
+        b"a flip-flop must stand in every ring; latches are left out",
+    )?;
+    Ok(note)
+}
+
+/// What a number of too many counts.
+fn count_sentence(count: Count) -> &'static str
+    ensures { result.now ≡ count_sentence count }
+{
+    match count {
+        Count::Flops => "at most 4096 flip-flops are taken, and there are ",
+        Count::Inputs => "at most 4096 input port bits are taken, and there are ",
+        Count::Terminals => "a gate has at most 64 inputs, and one has ",
+    }
+}
+
+/// A note on a netlist that its check refuses.
+pub fn check_note(
+    alloc: Global,
+    path: &str,
+    text: &[u8],
+    raw: &Raw,
+    fault: &NetFault,
+) -> Result<Vec<u8>, NoMemory>
+    ensures { IfOk result (λ note. IsCheckNote (parts_of raw.now) path.now text.now fault.now note.items) }
+{
+    match fault {
+        NetFault::TooMany(count, number) => {
+            counted_note(alloc, path, count_sentence(*count), *number)
+        }
+        NetFault::SecondDriver(net) => net_note(
+            alloc,
+            path,
+            text,
+            key_of(raw, *net),
+            " has two drivers",
+            b"one input, gate output or flip-flop may drive a net",
+        ),
+        NetFault::Undriven(net) => net_note(
+            alloc,
+            path,
+            text,
+            key_of(raw, *net),
+            " is read and has no driver",
+            b"is the name misspelt, or a gate missing?",
+        ),
+        NetFault::Loop(gates) => ring_note(alloc, path, text, raw, gates.slice()),
+        NetFault::NoFlop => file_note(
+            alloc,
+            path,
+            b"there is no flip-flop: cells are dff, dffs, dffe and dffr (docs/FORMATS.md, Netlists)",
+        ),
+        NetFault::ClockMixed(net) => net_note(
+            alloc,
+            path,
+            text,
+            key_of(raw, *net),
+            " is no single clock",
+            b"all flip-flops take one input port bit as their clock, and no gate and no d, e or r reads it",
+        ),
+        NetFault::NoMemory => file_note(alloc, path, b"memory ran out"),
+    }
+}

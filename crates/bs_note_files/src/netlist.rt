@@ -1,0 +1,147 @@
+//! Notes on a text of one module that is no netlist.
+ghost use Rattle.std.specs.Prelude.{◌≡◌, slice_get, IfOk, Some};
+ghost use Rattle.bs_note_files.specs.Netlists.{fault_saying, IsNetlistNote, place_of};
+ghost use Rattle.bs_note_files.specs.Notes.{said};
+ghost use Rattle.bs_note_files.specs.Sayings.{syntax_saying, what_saying};
+
+use crate::form::{Message, note_on, say};
+use bs_bits::NoMemory;
+use bs_verilog_syntax::{VerilogFault, What};
+use std::alloc::Global;
+
+/// What is said of a part of the language that is left out.
+fn what_message(what: What) -> Message<'static>
+    ensures { said result ≡ what_saying what }
+{
+    match what {
+        What::Behaviour => say(
+            "behavioural Verilog is left out",
+            "synthesize to gates and flip-flops first",
+        ),
+        What::Parameter => say("parameters are left out", "let synthesis settle them"),
+        What::NetType => say(
+            "net types other than wire, supply0 and supply1 are left out",
+            "write wire",
+        ),
+        What::Primitive => say(
+            "tri-state, switch and user primitives are left out",
+            "gates are and nand or nor xor xnor buf not",
+        ),
+        What::Direction => say(
+            "inout ports are left out",
+            "split it into an input and an output",
+        ),
+        What::Strength => say("drive strengths are left out", "take it out"),
+        What::Array => say("arrays of instances are left out", "write each instance"),
+        What::Expression => say(
+            "expressions and concatenations are left out",
+            "a net, a bit of a vector or a constant of one bit may stand here",
+        ),
+        What::Width => say(
+            "a whole vector or a part of it is left out",
+            "name one bit, as a[0]",
+        ),
+        What::Constant => say("a constant here is of one bit", "write 1'b0 or 1'b1"),
+        What::Directive => say(
+            "this compiler directive is left out",
+            "take it out, or run a preprocessor first",
+        ),
+        What::Hierarchy => say(
+            "no cell of this name is known",
+            "cells are dff and dffs (CK, Q, D), dffe (E too), dffr (R too), gates and nand or nor xor xnor buf not: flatten and map to these (docs/FORMATS.md)",
+        ),
+    }
+}
+
+/// What is said of a byte that cannot go on.
+fn byte_message(byte: u8) -> Message<'static>
+    ensures { said result ≡ syntax_saying (Some byte) }
+{
+    if byte == 0xEF {
+        return say(
+            "a byte that is no ASCII character, as a mark at the front of a file",
+            "save the file as plain ASCII without a byte order mark",
+        );
+    }
+    if byte == b'$' {
+        return say(
+            "no cell of this name is known",
+            "cells are dff and dffs (CK, Q, D), dffe (E too), dffr (R too): flatten and map to these (docs/FORMATS.md, Netlists)",
+        );
+    }
+    say(
+        "what begins here cannot stand here",
+        "is a `;` missing before it? a structural netlist is read (docs/FORMATS.md, Netlists)",
+    )
+}
+
+/// What is said of a place that cannot go on.
+fn syntax_message(text: &[u8], at: usize) -> Message<'static>
+    ensures { said result ≡ syntax_saying (slice_get text.now at) }
+{
+    match text.get(at) {
+        None => say(
+            "the text ends before its module does",
+            "is the netlist empty, cut short, or `endmodule` missing?",
+        ),
+        Some(byte) => byte_message(*byte),
+    }
+}
+
+/// What is said of a text that is no netlist.
+fn message_of(text: &[u8], fault: VerilogFault) -> Message<'static>
+    ensures { said result ≡ fault_saying text.now fault }
+{
+    match fault {
+        VerilogFault::Syntax(at) => syntax_message(text, at as usize),
+        VerilogFault::Unsupported(_, what) => what_message(what),
+        VerilogFault::Port(_) => say(
+            "each name of the header has one direction, and each direction a name of the header",
+            "declare it as input or output once, and name it in the header",
+        ),
+        VerilogFault::Redeclared(_) => say(
+            "this name is declared before",
+            "one direction and one type are taken, with equal ranges",
+        ),
+        VerilogFault::TooManyNets(_) => say("there are more than 100000 nets", "split the netlist"),
+        VerilogFault::Terminals(_) => say(
+            "this gate or cell has other terminals than it takes",
+            "a gate has its output first; dff and dffs take (CK, Q, D), dffe (CK, Q, D, E), dffr (CK, Q, D, R), or pins of these names",
+        ),
+        VerilogFault::Index(_) => say(
+            "this index is none of the vector's, or a bound is above 65535",
+            "compare it with the declaration",
+        ),
+        VerilogFault::NoMemory => say("memory ran out", ""),
+    }
+}
+
+/// The place of a fault, a byte offset.
+fn place_of(fault: VerilogFault) -> u32
+    ensures { result ≡ place_of fault }
+{
+    match fault {
+        VerilogFault::Syntax(at) => at,
+        VerilogFault::Unsupported(at, _) => at,
+        VerilogFault::Port(at) => at,
+        VerilogFault::Redeclared(at) => at,
+        VerilogFault::TooManyNets(at) => at,
+        VerilogFault::Terminals(at) => at,
+        VerilogFault::Index(at) => at,
+        VerilogFault::NoMemory => 0,
+    }
+}
+
+/// A note on a text of one module that is no netlist, on the place of its fault.
+pub fn netlist_note(
+    alloc: Global,
+    path: &str,
+    text: &[u8],
+    fault: VerilogFault,
+) -> Result<Vec<u8>, NoMemory>
+    ensures { IfOk result (λ note. IsNetlistNote path.now text.now fault note.items) }
+{
+    let message = message_of(text, fault);
+    let note = note_on(alloc, path, text, place_of(fault) as usize, message)?;
+    Ok(note)
+}

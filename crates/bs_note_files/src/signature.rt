@@ -1,0 +1,202 @@
+//! Notes on a text that is no signature.
+ghost use Rattle.std.specs.Prelude.{◌≡◌, ◌≤◌, ◌<◌, ◌-◌, ◌++◌, ◌⊎◌, All, codes, length, take, drop, IfOk, IfSome, OnOk};
+ghost use Rattle.std.specs.Bool.{OnTrue};
+ghost use Rattle.std.specs.List.{flat_map};
+ghost use Rattle.bs_net.specs.Netlist.{parts_of};
+ghost use Rattle.bs_note_places.specs.Nearest.{AreNearest, IsNearest};
+ghost use Rattle.bs_note_places.specs.Quotes.{shown_line};
+ghost use Rattle.bs_note_files.specs.Flaws.{IsLineNote};
+ghost use Rattle.bs_note_files.specs.Notes.{said};
+ghost use Rattle.bs_note_files.specs.Signatures.{form_saying, IsNoKey, IsSignatureNote, IsUnknownNote, IsUnknownOn, IsUnknownWord, key_piece, SaysUnknown, unknown_label, unknown_sentence};
+
+use crate::flaw::{flaw_note, start_note};
+use crate::form::{Message, file_note, note_on, say};
+use crate::part::numbered_line;
+use bs_bits::{NoMemory, push_piece};
+use bs_net::{Netlist, Raw};
+use bs_note_places::{flop_key, nearest_flops, push_quoted};
+use bs_scan::ChoiceFault;
+use std::alloc::Global;
+
+/// Whether no flip-flop has this key.
+fn is_unknown(raw: &Raw, name: &[u8]) -> bool
+    ensures { OnTrue result (IsNoKey (parts_of raw.now) name.now) }
+{
+    'flops: for flop in 0..raw.flops.len() {
+        if flop_key(raw, flop) == name {
+            return false;
+        }
+    }
+    true
+}
+
+/// The end of the word that begins at a place: the next space, or the line's end.
+fn word_end(line: &[u8], from: usize) -> usize
+    requires { from ≤ length line.now }
+    ensures after { from ≤ result }
+    ensures within { result ≤ length line.now }
+{
+    match line[from..].iter().position(|byte| *byte == b' ') {
+        Some(at) => from + at,
+        None => line.len(),
+    }
+}
+
+/// The first word behind the first of a line that is no flip-flop's key, from its place up to its end.
+fn unknown_name(raw: &Raw, line: &[u8]) -> Option<(usize, usize)>
+    ensures { IfSome result (IsUnknownWord (parts_of raw.now) line.now) }
+{
+    let mut end = word_end(line, 0);
+    'words: while end < line.len() {
+        let at = end + 1;
+        end = word_end(line, at);
+        if is_unknown(raw, &line[at..end]) {
+            return Some((at, end));
+        }
+    }
+    None
+}
+
+/// Appends a space and the key of a flip-flop.
+fn push_key(label: &mut Vec<u8>, raw: &Raw, flop: usize) -> Result<(), NoMemory>
+    requires { flop < length raw.now.flops }
+    ensures { OnOk result (label.new.items ≡ label.old.items ++ key_piece (parts_of raw.now) flop) }
+{
+    push_piece(label, b" ")?;
+    push_quoted(label, flop_key(raw, flop))
+}
+
+/// The keys of flip-flops that are nearest to a name, as a label.
+fn label_of(alloc: Global, raw: &Raw, name: &[u8], flops: &[usize]) -> Result<Vec<u8>, NoMemory>
+    requires { AreNearest (parts_of raw.now) name.now flops.now }
+    ensures { IfOk result (λ label. label.items ≡ unknown_label (parts_of raw.now) flops.now) }
+{
+    let _name = name;
+    let mut label = b"the nearest keys of flip-flops:".to_vec(alloc)?;
+    'flops: for &flop in flops {
+        push_key(&mut label, raw, flop)?;
+    }
+    Ok(label)
+}
+
+/// What is said of a name that is no key.
+fn sentence_of(alloc: Global, name: &[u8]) -> Result<Vec<u8>, NoMemory>
+    ensures { IfOk result (λ said. said.items ≡ unknown_sentence name.now) }
+{
+    let mut said = b"no flip-flop has the key `".to_vec(alloc)?;
+    push_quoted(&mut said, name)?;
+    push_piece(&mut said, b"`, the name of its output net")?;
+    Ok(said)
+}
+
+/// A note on a name that is no flip-flop's key, on its place.
+fn name_note(
+    alloc: Global,
+    path: &str,
+    text: &[u8],
+    raw: &Raw,
+    at: usize,
+    name: &[u8],
+) -> Result<Vec<u8>, NoMemory>
+    ensures { IfOk result (λ note. SaysUnknown (parts_of raw.now) path.now text.now at name.now note.items) }
+{
+    let flops = nearest_flops(alloc, raw, name)?;
+    let sentence = sentence_of(alloc, name)?;
+    let label = label_of(alloc, raw, name, &flops)?;
+    let message = Message {
+        sentence: &sentence,
+        label: &label,
+    };
+    let note = note_on(alloc, path, text, at, message)?;
+    Ok(note)
+}
+
+/// A note on the word of a line, from its place up to its end, that is no flip-flop's key.
+fn word_note(
+    alloc: Global,
+    path: &str,
+    text: &[u8],
+    raw: &Raw,
+    start: usize,
+    line: &[u8],
+    word: (usize, usize),
+) -> Result<Vec<u8>, NoMemory>
+    requires start { start ≤ length text.now }
+    requires is { IsUnknownWord (parts_of raw.now) line.now word }
+    ensures { IfOk result (λ note. IsUnknownOn (parts_of raw.now) path.now text.now start line.now note.items) }
+{
+    let name = &line[word.0..word.1];
+    let note = name_note(alloc, path, text, raw, start + word.0, name)?;
+    Ok(note)
+}
+
+/// A note on the first name of the line with a number that is no flip-flop's key.
+fn unknown_note(
+    alloc: Global,
+    path: &str,
+    text: &[u8],
+    raw: &Raw,
+    number: u64,
+) -> Result<Vec<u8>, NoMemory>
+    ensures { IfOk result (λ note. IsUnknownNote (parts_of raw.now) path.now text.now number note.items) }
+{
+    let (start, line) = numbered_line(text, number);
+    match unknown_name(raw, line) {
+        Some(word) => {
+            let note = word_note(alloc, path, text, raw, start, line, word)?;
+            Ok(note)
+        }
+        None => file_note(alloc, path, b"a name is no flip-flop's key"),
+    }
+}
+
+/// The form of a line.
+fn form_of(line: &[u8]) -> Message<'static>
+    ensures { said result ≡ form_saying line.now }
+{
+    if line.starts_with(b"bit ".as_slice()) {
+        return say(
+            "`bit` takes one name",
+            "write `xor NAME NAME ..` for the parity of several, or a line for each",
+        );
+    }
+    say(
+        "a line of a signature is `bit NAME` or `xor NAME NAME ..`",
+        "a name is the key of a flip-flop's output net, without empty lines between",
+    )
+}
+
+/// A note on the line with a number that is none of a signature.
+fn form_note(alloc: Global, path: &str, text: &[u8], number: u64) -> Result<Vec<u8>, NoMemory>
+    ensures { IfOk result (λ note. IsLineNote path.now text.now number form_saying note.items) }
+{
+    let (start, line) = numbered_line(text, number);
+    let note = flaw_note(alloc, path, text, start, line, form_of(line))?;
+    Ok(note)
+}
+
+/// A note on a text that is no signature.
+pub fn signature_note(
+    alloc: Global,
+    path: &str,
+    text: &[u8],
+    net: &Netlist,
+    fault: ChoiceFault,
+) -> Result<Vec<u8>, NoMemory>
+    ensures { IfOk result (λ note. IsSignatureNote net.now.raw path.now text.now fault note.items) }
+{
+    match fault {
+        ChoiceFault::Line(number) => form_note(alloc, path, text, u64::from(number)),
+        ChoiceFault::TooMany(number) => start_note(
+            alloc,
+            path,
+            text,
+            u64::from(number),
+            say("a signature has at most 256 items", "this is the 257th"),
+        ),
+        ChoiceFault::UnknownFlop(number) => {
+            unknown_note(alloc, path, text, net.raw(), u64::from(number))
+        }
+        ChoiceFault::NoMemory => file_note(alloc, path, b"memory ran out"),
+    }
+}

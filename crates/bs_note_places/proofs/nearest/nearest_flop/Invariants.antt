@@ -1,0 +1,11 @@
+use Rattle.std.proofs.Common.{◌≡◌, ℕ, ◌<◌, ◌≤◌, length}
+use Rattle.bs_net.specs.Netlist.{parts_of}
+use Rattle.bs_note_places.specs.Nearest.{flop_apart}
+use Rattle.bs_note_places.proofs.nearest.nearest_flop.Given as goal
+
+abbrev pub invariant-flops : goal.invariant-flops
+invariant-flops l = record {
+  there : l.nearest < length l.raw.flops;
+  least : l.least ≡ flop_apart (parts_of l.raw) l.name l.nearest;
+  lowest : (flop : ℕ) → flop < l.flop → l.least ≤ flop_apart (parts_of l.raw) l.name flop;
+}

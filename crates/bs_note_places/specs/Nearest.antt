@@ -1,0 +1,47 @@
+-- How far two names are apart, and which keys of a netlist's flip-flops are nearest to a name.
+use Rattle.std.specs.Prelude.{◌≤◌, ◌<◌, ◌==◌, ◌-◌, ℕ, suc, List, [], ◌∷◌, length, reverse, drop, max, slice_index_or, slice_get, All, if◌then◌else◌}
+use Rattle.std.specs.Option.{option_map, unwrap_or}
+use Rattle.bs_net.specs.declared.net.NetId.{NetId}
+use Rattle.bs_net.specs.Parts.{Parts}
+use Rattle.bs_note_places.specs.declared.nearest.TheConstants.{NAMED}
+
+-- how many bytes two names have in common at their front
+abbrev pub common : List ℕ → List ℕ → ℕ
+common [] b = 0
+common (x ∷ xs) [] = 0
+common (x ∷ xs) (y ∷ ys) = if x == y then suc (common xs ys) else 0
+
+-- what is left of two names behind so many bytes, read from the end
+abbrev pub common_behind : List ℕ → List ℕ → ℕ → ℕ
+common_behind a b front = common (reverse (drop front a)) (reverse (drop front b))
+
+-- how many bytes of the longer name are left where the common front and then the common end are taken away
+abbrev pub apart : List ℕ → List ℕ → ℕ
+apart a b = max (length a) (length b) - common a b - common_behind a b (common a b)
+
+-- the key of a net
+abbrev pub net_key : Parts → NetId → List ℕ
+net_key r n = slice_index_or r.names n.0 []
+
+-- the key of a flip-flop: that of its output net
+abbrev pub key_at : Parts → ℕ → List ℕ
+key_at r flop = unwrap_or (option_map (λ f. net_key r f.q) (slice_get r.flops flop)) []
+
+-- how far the key of a flip-flop is from a name
+abbrev pub flop_apart : Parts → List ℕ → ℕ → ℕ
+flop_apart r name flop = apart name (key_at r flop)
+
+-- no key of a flip-flop is nearer to the name than this
+abbrev pub IsLeast : Parts → List ℕ → ℕ → Type 0
+IsLeast r name least = (flop : ℕ) → flop < length r.flops → least ≤ flop_apart r name flop
+
+-- it is a flip-flop, and no flip-flop's key is nearer to the name than its key
+pub record IsNearest (r : Parts) (name : List ℕ) (flop : ℕ) : Type 0 where
+  pub there : flop < length r.flops
+  pub least : IsLeast r name (flop_apart r name flop)
+
+-- a few of the nearest, and at least one where there is any
+pub record AreNearest (r : Parts) (name : List ℕ) (flops : List ℕ) : Type 0 where
+  pub few : length flops ≤ NAMED
+  pub nearest : All (IsNearest r name) flops
+  pub some : 0 < length r.flops → 0 < length flops

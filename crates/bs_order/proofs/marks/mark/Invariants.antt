@@ -1,6 +1,0 @@
-use Rattle.std.proofs.Common.{take}
-use Rattle.bs_order.specs.Tops.{Marks}
-use Rattle.bs_order.proofs.marks.mark.Given as goal
-
-abbrev pub invariant-modules : goal.invariant-modules
-invariant-modules l = Marks l.initial.marks.items l.marks.items (take l.module-index l.modules)

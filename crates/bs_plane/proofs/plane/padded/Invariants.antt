@@ -1,5 +1,0 @@
-use Rattle.bs_plane.specs.Planes.{IsPadded}
-use Rattle.bs_plane.proofs.plane.padded.Given as goal
-
-abbrev pub invariant-words : goal.invariant-words
-invariant-words l = IsPadded l.words l.start l.i l.all

@@ -1,5 +1,0 @@
-use Rattle.std.proofs.Common.{◌≡◌, take}
-use Rattle.bs_propose.proofs.apart.front.Given as goal
-
-abbrev pub invariant-places : goal.invariant-places
-invariant-places l = l.own ≡ take l.i l.bits

@@ -1,5 +1,0 @@
-use Rattle.bs_propose.specs.Begun.{begun_in, IsUnderWay}
-use Rattle.bs_propose.proofs.greedy.grow_all.Given as goal
-
-abbrev pub invariant-items : goal.invariant-items
-invariant-items l = IsUnderWay l.width l.rows l.columns l.counter (begun_in l.begun)

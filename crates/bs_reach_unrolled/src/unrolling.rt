@@ -1,0 +1,59 @@
+//! The unrolled clauses, and what the step of a length assumes over them.
+ghost use Rattle.std.specs.Prelude.{◌≡◌, ◌<◌, ◌≤◌, ◌++◌, [], ◌∷◌, map, length, IfOk, OnOk};
+ghost use Rattle.bs_encode.specs.Assuming.{signed};
+ghost use Rattle.bs_reach_unrolled.specs.Unrolled.{next_at, unrolled};
+ghost use Rattle.bs_reach_unrolled.specs.Room.{IsUnrollable};
+
+use crate::copies::add_copies;
+use crate::links::add_all_links;
+use bs_bits::Bits;
+use bs_clause::{Clauses, Lit, Lits, NoMemory};
+use bs_encode::{Encoding, push_signed, raise_all};
+use std::alloc::Global;
+
+/// Puts a unit of each literal at the end.
+fn add_units(alloc: Global, into: &mut Clauses, literals: &[Lit]) -> Result<(), NoMemory>
+    ensures { OnOk result (into.new ≡ into.old ++ map (λ l. l ∷ []) literals.now) }
+{
+    'literals: for l in literals {
+        into.push(Lits::copy(alloc, &[*l])?)?;
+    }
+    Ok(())
+}
+
+/// The clauses of one cycle or more from this state on (docs/FORMATS.md, "Unrolled clauses").
+pub fn unroll(alloc: Global, encoding: &Encoding, reset: &Bits, k: u32) -> Result<Clauses, NoMemory>
+    requires some { 1 ≤ k }
+    requires unrollable { IsUnrollable encoding.now k }
+    requires width { length encoding.now.states ≡ length reset.now }
+    ensures { IfOk result (λ all. all ≡ unrolled encoding.now reset.now k) }
+{
+    let mut all = Clauses::new(alloc);
+    let mut starts = Lits::new(alloc);
+    push_signed(&mut starts, encoding.states(), reset)?;
+    add_copies(alloc, &mut all, encoding, k)?;
+    add_units(alloc, &mut all, starts.slice())?;
+    add_all_links(alloc, &mut all, encoding, k)?;
+    Ok(all)
+}
+
+/// What the step of a length assumes: its guard, and that copy number `c` of the `k` copies, from 0, leads to the state.
+pub fn assume_length(
+    alloc: Global,
+    encoding: &Encoding,
+    guard: Lit,
+    state: &Bits,
+    c: u32,
+    k: u32,
+) -> Result<Lits, NoMemory>
+    requires unrollable { IsUnrollable encoding.now k }
+    requires within { c < k }
+    requires width { length encoding.now.next ≡ length state.now }
+    ensures { IfOk result (λ all. all ≡ guard ∷ signed (next_at encoding.now c) state.now) }
+{
+    let next = raise_all(alloc, encoding.next(), c * encoding.vars())?;
+    let mut all = Lits::new(alloc);
+    all.push(guard)?;
+    push_signed(&mut all, next.slice(), state)?;
+    Ok(all)
+}

@@ -1,0 +1,39 @@
+-- What one more step does to the chain, the last present and the trace.
+use Rattle.std.proofs.Common.{◌≡◌, Bool, List, [], ◌∷◌, ◌++◌, reverse, refl, ap, ◌∙◌, Option, Some}
+use Rattle.std.specs.Prelude.{filter_map, option_and_then, option_map}
+use Rattle.std.specs.List.{cons_option}
+use Rattle.std.proofs.lemmas.List.{reverse-append}
+use Rattle.std.proofs.lemmas.List.Elements.{filter_map-append}
+use Rattle.bs_report.specs.declared.report.HitLine.{HitLine}
+use Rattle.bs_report.specs.declared.report.Step.{Step}
+use Rattle.bs_scan.specs.Crash.{Crash}
+use Rattle.bs_scan.specs.Present.{Present}
+use Rattle.bs_report_good.specs.Chain.{present_of, present_after, last_present, Follow}
+use Rattle.bs_report_good.specs.Trace.{hit_state, input_for, trace_states, trace_inputs}
+
+pub follow_more : (crash : Crash) (now : Option Present) (steps : List Step) (step : Step) → Follow crash now steps →
+    last_present crash now steps ≡ Some (present_of step) → Follow crash now (steps ++ step ∷ [])
+follow_more crash now [] step f e = (e, tt)
+follow_more crash now (s ∷ ss) step f e = (f.0, follow_more crash (present_after crash s) ss step f.1 e)
+
+pub last_present_more : (crash : Crash) (now : Option Present) (steps : List Step) (step : Step) →
+    last_present crash now (steps ++ step ∷ []) ≡ present_after crash step
+last_present_more crash now [] step = refl
+last_present_more crash now (s ∷ ss) step = last_present_more crash (present_after crash s) ss step
+
+reverse_more : (f : Step → Option (List Bool)) (steps : List Step) (step : Step) (x : List Bool) → f step ≡ Some x →
+    reverse (filter_map f (steps ++ step ∷ [])) ≡ x ∷ reverse (filter_map f steps)
+reverse_more f steps step x e =
+    ap reverse (filter_map-append f steps (step ∷ []) ∙ ap (λ (o : Option (List Bool)). filter_map f steps ++ cons_option o []) e)
+    ∙ reverse-append (filter_map f steps) (x ∷ [])
+
+pub trace_states_more : (dumped : List Bool) (steps : List Step) (step : Step) (hit : HitLine) → step.hit ≡ Some hit →
+    trace_states dumped (steps ++ step ∷ []) ≡ hit.state ∷ trace_states dumped steps
+trace_states_more dumped steps step hit e =
+    ap (λ (l : List (List Bool)). l ++ dumped ∷ []) (reverse_more hit_state steps step hit.state (ap (option_map (λ (h : HitLine). h.state)) e))
+
+pub trace_inputs_more : (steps : List Step) (step : Step) (hit : HitLine) (x : List Bool) → step.hit ≡ Some hit → input_for step hit.state ≡ Some x →
+    trace_inputs (steps ++ step ∷ []) ≡ x ∷ trace_inputs steps
+trace_inputs_more steps step hit x e i =
+    reverse_more (λ (step : Step). option_and_then (input_for step) (hit_state step)) steps step x
+    (ap (λ (o : Option HitLine). option_and_then (input_for step) (option_map (λ (h : HitLine). h.state) o)) e ∙ i)

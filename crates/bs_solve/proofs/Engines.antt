@@ -1,0 +1,385 @@
+-- A solver with what it knows of its lemmas, from one call to the next.
+use Rattle.std.proofs.Common.{◌≡◌, ℕ, ◌+◌, ◌-◌, ◌*◌, ◌<◌, ◌≤◌, ◌^◌, arith, Bool}
+use Rattle.std.proofs.Common.{true, false, not, ◌&&◌, ◌||◌, List, [], ◌∷◌, ◌++◌, map, length, take}
+use Rattle.std.proofs.Common.{refl, sym, ap, subst, ◌∙◌, inl, inr, ◌⊎◌, Option, Some, None}
+use Rattle.std.specs.Prelude.{All, Contains, count_by}
+use Rattle.std.specs.List.{filter, list_any, AllByRecursion}
+use Rattle.std.proofs.lemmas.Bool.{true≢false, false≢true, and_parts}
+use Rattle.std.proofs.lemmas.List.{append-nil, append_assoc, take_all, map-append}
+use Rattle.std.proofs.lemmas.List.Elements.{All-contains, All-weaker, All-push, filter-append}
+use Rattle.bs_clause.specs.Literal.{Literal, Clause, negation}
+use Rattle.bs_clause.specs.Range.{HasVariables, IsWithin}
+use Rattle.bs_log.specs.declared.line.Line.{Line}
+use Rattle.bs_log.specs.declared.line.Line.TheVariants.{Solve, Lemma, Block, Finish, Retire, Delete}
+use Rattle.bs_log.specs.declared.origin.Origin.{Origin}
+use Rattle.bs_log.specs.declared.origin.Origin.TheVariants.{Axiom, Learnt, Blocked as FromBlock, Retired}
+use Rattle.bs_log.specs.History.{Problem, History, Entry, step_of, added, is_deleted, live}
+use Rattle.bs_log.specs.Refusal.{is_lemma, is_lemma_or_block}
+use Rattle.bs_log.specs.Kept.{is_kept, kept_lemmas, is_free_lemma, has_retired_guard}
+use Rattle.bs_log.specs.Lean.{is_block, LeavesKept, StepsLeaveKept}
+use Rattle.bs_log.specs.Steps.{is_lemma_line}
+use Rattle.bs_log.proofs.Laws.{step_of-positive}
+use Rattle.bs_arena.specs.Arena.{Content, Held, live_words}
+use Rattle.bs_watch.specs.Watch.{WatchState}
+use Rattle.bs_solve_analysis.specs.Marks.{MarkState, IsClear}
+use Rattle.bs_watch.specs.declared.lists.Watcher.{Watcher}
+use Rattle.bs_watch.specs.Trail.{IsOpenOn}
+use Rattle.bs_watch.specs.Places.{Place, IsUnassigned, literals_of}
+use Rattle.bs_solve_reduction.specs.Keeping.{over}
+use Rattle.bs_solve_reduction.specs.Rows.{going}
+use Rattle.bs_solve_recording.specs.declared.stage.Stage.{Stage}
+use Rattle.bs_solve_recording.specs.declared.stage.Stage.TheVariants.{Idle, Begun}
+use Rattle.bs_solve_recording.specs.declared.answer.Answer.{Answer}
+use Rattle.bs_solve_recording.specs.declared.answer.Answer.TheVariants.{Found, Refuted, Spent}
+use Rattle.bs_solve_recording.specs.Book.{Book, standing, without}
+use Rattle.bs_solve_recording.specs.Ending.{SomeLemmas}
+use Rattle.bs_solve_recording.specs.Stages.{is_solved, stage_of, begun_book, IsIdle, IsInside, Fits}
+use Rattle.bs_solve_recording.specs.Solver.{SolverState, IsReady, finished, retired, leaving}
+use Rattle.bs_solve_recording.proofs.Lists.{get_from_Contains, get_map_cases, get_within}
+use Rattle.bs_solve_recording.proofs.Clauses.{nothing_in, contains_cases, contains_first, all_from, filter_cases, filter_from, map_contains}
+use Rattle.bs_solve_search.specs.declared.stock.Stock.{Stock}
+use Rattle.bs_solve_search.specs.Stock.{entries, IsStocked}
+use Rattle.bs_solve_search.specs.Ground.{IsGround, IsOff, IsOwn}
+use Rattle.bs_solve_search.specs.Teaching.{IsAtRest}
+use Rattle.bs_solve_search.specs.Pausing.{IsKept, IsGrounded}
+use Rattle.bs_solve_search.proofs.Grounds.{ground_literal}
+use Rattle.bs_solve_search.proofs.Entries.{clauses_in}
+use Rattle.bs_solve.specs.declared.dropping.Known.{Known}
+use Rattle.bs_solve.specs.Dropping.{marked, without_ids, is_free, is_free_long, AreKnownIn}
+use Rattle.bs_solve.specs.Ending.{unit_of, HasSettled}
+use Rattle.bs_solve.specs.Starting.{IsWhole, IsEngine}
+use Rattle.bs_solve.proofs.Startings.{begun_entries, finished_entries, watch_vars, whole_begun, failed_whole}
+use Rattle.bs_solve.proofs.Knowns.{known_grows, known_with_guard}
+
+-- ---- the entries grow
+
+-- lemma lines leave what stands and add to it
+grown_by : (p : Problem) (lines : List Line) (h : History) → AllByRecursion (λ line. is_lemma_line line ≡ true) lines →
+    (more : List Entry) × (live p (lines ++ h) ≡ live p h ++ more)
+grown_by p [] h all = ([], sym (append-nil (live p h)))
+grown_by p (Lemma id lits hints ∷ lines) h all =
+    let (more, is) = grown_by p lines h all.1 in
+    let e : Entry = record { id = id; origin = Learnt; literals = lits } in (
+      more ++ filter (λ (x : Entry). not (is_deleted (lines ++ h) x.id)) (e ∷ []),
+      filter-append (λ (x : Entry). not (is_deleted (lines ++ h) x.id)) (added p (lines ++ h)) (e ∷ []) ∙
+          ap (λ es. es ++ filter (λ (x : Entry). not (is_deleted (lines ++ h) x.id)) (e ∷ [])) is ∙
+          append_assoc (live p h) more (filter (λ (x : Entry). not (is_deleted (lines ++ h) x.id)) (e ∷ [])),
+    )
+grown_by p (Solve ∷ lines) h all = absurd (false≢true all.0)
+grown_by p (Block id lits ∷ lines) h all = absurd (false≢true all.0)
+grown_by p (Finish id ∷ lines) h all = absurd (false≢true all.0)
+grown_by p (Retire id ∷ lines) h all = absurd (false≢true all.0)
+grown_by p (Delete ids ∷ lines) h all = absurd (false≢true all.0)
+
+lemmas_grow : (old new : Book) → SomeLemmas old new → (more : List Entry) × (entries new ≡ entries old ++ more)
+lemmas_grow old new l =
+    let (more, is) = grown_by old.problem l.lines old.history l.lemmas in
+    (more, ap (λ p. live p new.history) l.problem ∙ ap (live old.problem) l.history ∙ is)
+
+-- ---- a solver
+
+pub engine_failed : (book : Book) (vars : ℕ) (stage : Stage) (w : WatchState) (a : Content) (stock : Stock) (marks : MarkState) (own : ℕ) (known : Known) →
+    vars < 2 ^ 30 → IsEngine (record { book = book; vars = vars; stage = stage; failed = true }) w a stock marks own known
+engine_failed book vars stage w a stock marks own known bound = record {
+  whole = failed_whole book vars stage w a.clauses stock marks bound;
+  own_is = λ e. absurd (true≢false e);
+  own_clauses = λ e. absurd (true≢false e);
+  knows = λ e. absurd (true≢false e);
+  words = λ e s. absurd (true≢false e);
+}
+
+pub engine_new : (book : Book) (vars : ℕ) (w : WatchState) (a : Content) (stock : Stock) (marks : MarkState) (known : Known) →
+    IsWhole (record { book = book; vars = vars; stage = Idle; failed = false }) w a.clauses stock marks → vars ≡ book.problem.vars → IsOwn book.problem →
+    a.words ≡ live_words a.clauses → known ≡ record { rows = 0; long = 0 } →
+    IsEngine (record { book = book; vars = vars; stage = Idle; failed = false }) w a stock marks vars known
+engine_new book vars w a stock marks known whole own clauses words none = record {
+  whole = whole;
+  own_is = λ _. own;
+  own_clauses = λ _. clauses;
+  knows = λ _. subst (λ (k : Known). AreKnownIn vars (vars - vars) (marked (entries book)) k.rows k.long) (sym none)
+      (record { low = omega arith; free = λ k d less. absurd (omega (arith, less)); counted = refl });
+  words = λ _ _. omega (arith, words);
+}
+
+pub ready_begun : (old : SolverState) → IsReady old → old.failed ≡ false → old.stage ≡ Idle → old.vars + 1 < 2 ^ 30 →
+    IsReady (record { book = old.book; vars = old.vars + 1; stage = Begun; failed = false })
+ready_begun old ready well idle room =
+    let fits : IsIdle old.book old.vars = subst (λ s. Fits s old.book old.vars) idle (ready.fits well) in
+    record {
+      bound = room;
+      range = λ _. All-weaker (HasVariables old.vars) (HasVariables (old.vars + 1)) (λ c h. All-weaker (IsWithin old.vars) (IsWithin (old.vars + 1))
+          (λ l within. let low = within.0 in let high = within.1 in (low, omega (arith, high))) c h) (standing old.book) (ready.range well);
+      distinct = λ _. ready.distinct well;
+      fits = λ _. record { phase = fits.phase; vars_is = fits.vars_is; steps = fits.steps };
+      leaves = λ _. ready.leaves well;
+    }
+
+-- the clauses that stand with the unit
+pub unit_range : (b : Book) (vars : ℕ) (guard : Literal) → All (HasVariables vars) (standing b) → HasVariables vars (negation guard ∷ []) →
+    All (HasVariables vars) (clauses_in (entries b ++ unit_of b guard ∷ []))
+unit_range b vars guard range one =
+    subst (All (HasVariables vars)) (sym (map-append (λ (e : Entry). e.literals) (entries b) (unit_of b guard ∷ [])))
+    (All-push (HasVariables vars) (standing b) (negation guard ∷ []) range one)
+
+-- a step begins, and no clause names its guard
+pub engine_begun : (old : SolverState) (w : WatchState) (a : Content) (stock : Stock) (marks : MarkState) (own : ℕ) (known : Known) →
+    IsEngine old w a stock marks own known → old.failed ≡ false → old.stage ≡ Idle →
+    IsReady (record { book = old.book; vars = old.vars + 1; stage = Begun; failed = false }) →
+    IsEngine (record { book = old.book; vars = old.vars + 1; stage = Begun; failed = false }) w a stock marks own known
+engine_begun old w a stock marks own known e well idle ready =
+    let fits : IsIdle old.book old.vars = subst (λ s. Fits s old.book old.vars) idle (e.whole.ready.fits well) in
+    let positive = step_of-positive old.book.history in
+    let is = fits.vars_is in
+    let own_is = e.own_is well in
+    let enough : own ≤ old.vars = omega (arith, positive, is, own_is) in
+    let more : old.vars - own + 1 ≡ old.vars + 1 - own = omega (arith, enough) in
+    let all : own + (old.vars - own) ≡ old.vars = omega (arith, enough) in
+    record {
+      whole = whole_begun old w a.clauses stock marks e.whole well idle ready;
+      own_is = λ _. own_is;
+      own_clauses = λ _. e.own_clauses well;
+      knows = λ _. subst (λ n. AreKnownIn own n (marked (entries old.book)) known.rows known.long) more
+          (known_with_guard own (old.vars - own) (marked (entries old.book)) known.rows known.long (λ x there.
+          subst (λ n. HasVariables n x.literals) (sym all)
+          (All-contains (HasVariables old.vars) (standing old.book) x.literals (e.whole.ready.range well)
+          (map_contains (λ (y : Entry). y.literals) (entries old.book) x (filter_cases is_lemma_or_block (entries old.book) x there).0)))
+          (e.knows well));
+      words = λ _ _. e.words well (ap is_solved idle);
+    }
+
+solved_after : (answer : Answer) → is_solved (stage_of answer) ≡ true
+solved_after (Found values) = refl
+solved_after (Refuted id) = refl
+solved_after Spent = refl
+
+pub own_as : (p q : Problem) → q.vars ≡ p.vars → q.clauses ≡ p.clauses → IsOwn p → IsOwn q
+own_as p q vars clauses own = subst (λ cs. All (HasVariables q.vars) cs) (sym clauses) (subst (λ n. All (HasVariables n) p.clauses) (sym vars) own)
+
+-- more entries, in a step that has had a solve
+pub engine_more : (old : SolverState) (new : Book) (stage : Stage) (w now : WatchState) (a after : Content) (stock more : Stock) (marks new_marks : MarkState)
+    (own : ℕ) (known : Known) (es : List Entry) →
+    IsEngine old w a stock marks own known → old.failed ≡ false → is_solved stage ≡ true → new.problem.vars ≡ old.book.problem.vars →
+    new.problem.clauses ≡ old.book.problem.clauses → entries new ≡ entries old.book ++ es →
+    IsWhole (record { book = new; vars = old.vars; stage = stage; failed = false }) now after.clauses more new_marks →
+    IsEngine (record { book = new; vars = old.vars; stage = stage; failed = false }) now after more new_marks own known
+engine_more old new stage w now a after stock more marks new_marks own known es e well solved vars clauses grown whole = record {
+  whole = whole;
+  own_is = λ _. e.own_is well ∙ sym vars;
+  own_clauses = λ _. own_as old.book.problem new.problem vars clauses (e.own_clauses well);
+  knows = λ _. subst (λ xs. AreKnownIn own (old.vars - own) (marked xs) known.rows known.long) (sym grown)
+      (known_grows own (old.vars - own) (entries old.book) es known.rows known.long (e.knows well));
+  words = λ _ begun. absurd (true≢false (sym solved ∙ begun));
+}
+
+pub engine_solved : (old : SolverState) (begun new : Book) (first : Bool) (assumptions : Clause) (stage : Stage) (answer : Answer) (w now : WatchState)
+    (a after : Content) (stock more : Stock) (marks new_marks : MarkState) (own : ℕ) (known : Known) →
+    IsEngine old w a stock marks own known → old.failed ≡ false → begun ≡ begun_book first old.book assumptions → SomeLemmas begun new →
+    stage ≡ stage_of answer → IsWhole (record { book = new; vars = old.vars; stage = stage; failed = false }) now after.clauses more new_marks →
+    IsEngine (record { book = new; vars = old.vars; stage = stage; failed = false }) now after more new_marks own known
+engine_solved old begun new first assumptions stage answer w now a after stock more marks new_marks own known e well is lemmas is_stage whole =
+    let (es, grown) = lemmas_grow begun new lemmas in
+    engine_more old new stage w now a after stock more marks new_marks own known es e well (ap is_solved is_stage ∙ solved_after answer)
+    (ap (λ (p : Problem). p.vars) lemmas.problem ∙ ap (λ (b : Book). b.problem.vars) is ∙ begun_vars first old.book assumptions)
+    (ap (λ (p : Problem). p.clauses) lemmas.problem ∙ ap (λ (b : Book). b.problem.clauses) is ∙ begun_clauses first old.book assumptions)
+    (grown ∙ ap (λ xs. xs ++ es) (ap entries is ∙ begun_entries old.book first assumptions)) whole
+  where
+    begun_vars : (first : Bool) (b : Book) (c : Clause) → (begun_book first b c).problem.vars ≡ b.problem.vars
+    begun_vars true b c = refl
+    begun_vars false b c = refl
+
+    begun_clauses : (first : Bool) (b : Book) (c : Clause) → (begun_book first b c).problem.clauses ≡ b.problem.clauses
+    begun_clauses true b c = refl
+    begun_clauses false b c = refl
+
+-- ---- the end of a step
+
+finished_vars : (b : Book) (end : Option ℕ) → (finished b end).problem.vars ≡ b.problem.vars
+finished_vars b None = refl
+finished_vars b (Some id) = refl
+
+finished_step : (b : Book) (end : Option ℕ) → step_of (finished b end).history ≡ step_of b.history
+finished_step b None = refl
+finished_step b (Some id) = refl
+
+finished_problem : (b : Book) (end : Option ℕ) → (finished b end).problem ≡ b.problem
+finished_problem b None = refl
+finished_problem b (Some id) = refl
+
+finished_next : (b : Book) (end : Option ℕ) (guard : Literal) → unit_of (finished b end) guard ≡ unit_of b guard
+finished_next b None guard = refl
+finished_next b (Some id) guard = refl
+
+-- how many guards there are
+pub guards_are : (b : Book) (vars own : ℕ) → IsInside b vars → own ≡ b.problem.vars → vars - own ≡ step_of b.history
+guards_are b vars own inside is = let v = inside.vars_is in omega (arith, v, is)
+
+-- the ids that were noted are those that the log names
+pub noted_leave : (b fin ret : Book) (end : Option ℕ) (vars own steps : ℕ) (guard : Literal) (ids : List ℕ) → fin ≡ finished b end → ret ≡ retired fin →
+    entries ret ≡ entries fin ++ unit_of fin guard ∷ [] → IsInside b vars → own ≡ b.problem.vars → steps ≡ vars - own →
+    ids ≡ map (λ (e : Entry). e.id) (going b.problem steps (entries b ++ unit_of b guard ∷ [])) → ids ≡ leaving fin
+noted_leave b fin ret end vars own steps guard ids is_fin is_ret grown inside own_is steps_is ids_are =
+    let same_entries : entries b ++ unit_of b guard ∷ [] ≡ entries (retired fin) =
+    (λ i. sym (finished_entries b fin end is_fin) i ++ sym (ap (λ x. unit_of x guard) is_fin ∙ finished_next b end guard) i ∷ []) ∙ sym grown ∙
+    ap entries is_ret in
+    let same_problem : b.problem ≡ fin.problem = sym (ap (λ (x : Book). x.problem) is_fin ∙ finished_problem b end) in
+    let same_step : steps ≡ step_of fin.history = steps_is ∙ guards_are b vars own inside own_is ∙
+    sym (ap (λ (x : Book). step_of x.history) is_fin ∙ finished_step b end) in
+    ids_are ∙ (λ i. map (λ (e : Entry). e.id) (going (same_problem i) (same_step i) (same_entries i)))
+
+-- the lemmas that stay name no guard
+stays_free : (own steps : ℕ) (p : Problem) (es before : List Entry) → own ≡ p.vars → filter is_lemma es ≡ kept_lemmas p steps before →
+    list_any is_block es ≡ false → (e : Entry) → Contains (marked es) e → is_free own steps e ≡ true
+stays_free own steps p es before own_is lemmas blocks e there =
+    let in_es = filter_cases is_lemma_or_block es e there in
+    let lemma : is_lemma e ≡ true = by_origin e.origin (in_es.1) (no_block es e in_es.0 blocks) in
+    let kept = filter_cases (is_kept p steps before) before e (subst (λ xs. Contains xs e) lemmas (filter_from is_lemma es e in_es.0 lemma)) in
+    ap (λ n. is_lemma e && not (has_retired_guard (over n) steps e.literals)) own_is ∙ (and_parts (is_free_lemma p steps e) _ kept.1).0
+  where
+    no_block : (xs : List Entry) (x : Entry) → Contains xs x → list_any is_block xs ≡ false → is_block x ≡ false
+    no_block [] x c off = absurd (nothing_in x c)
+    no_block (y ∷ xs) x c off = elim (contains_cases y xs x c) [
+      | inl same ↦ subst (λ z. is_block z ≡ false) same (left_off (is_block y) (list_any is_block xs) off)
+      | inr later ↦ no_block xs x later (right_off (is_block y) (list_any is_block xs) off)
+    ]
+      where
+        left_off : (a b : Bool) → (a || b) ≡ false → a ≡ false
+        left_off true b off = absurd (true≢false off)
+        left_off false b off = refl
+
+        right_off : (a b : Bool) → (a || b) ≡ false → b ≡ false
+        right_off true b off = absurd (true≢false off)
+        right_off false b off = off
+
+    by_origin : (o : Origin) → is_lemma_or_block (record { id = e.id; origin = o; literals = e.literals }) ≡ true →
+        is_block (record { id = e.id; origin = o; literals = e.literals }) ≡ false → is_lemma (record { id = e.id; origin = o; literals = e.literals }) ≡ true
+    by_origin Axiom m b = absurd (false≢true m)
+    by_origin Learnt m b = refl
+    by_origin FromBlock m b = absurd (true≢false b)
+    by_origin Retired m b = absurd (false≢true m)
+
+-- what the last step has left
+left_last : (fin : Book) (ids : List ℕ) → StepsLeaveKept (without (retired fin) ids).problem (without (retired fin) ids).history →
+    LeavesKept fin.problem (step_of fin.history) (retired fin).history (without (retired fin) ids).history
+left_last fin [] leaves = leaves.0
+left_last fin (id ∷ ids) leaves = leaves.0
+
+without_vars : (b : Book) (ids : List ℕ) → (without b ids).problem ≡ b.problem
+without_vars b [] = refl
+without_vars b (id ∷ ids) = refl
+
+pub engine_ended : (old : SolverState) (fin ret new : Book) (end : Option ℕ) (guard : Literal) (ids : List ℕ) (steps : ℕ) (w empty mid now : WatchState)
+    (a : Content) (between : List Held) (after : Content) (stock held less : Stock) (marks : MarkState) (own : ℕ) (known later : Known) →
+    IsEngine old w a stock marks own known → old.failed ≡ false → IsInside old.book old.vars → is_solved old.stage ≡ true →
+    empty.trail.vars ≡ w.trail.vars → IsAtRest old.book empty a.clauses stock → fin ≡ finished old.book end → ret ≡ retired fin → new ≡ without ret ids →
+    entries ret ≡ entries fin ++ unit_of fin guard ∷ [] → entries new ≡ without_ids ids (entries ret) → steps ≡ old.vars - own →
+    IsStocked mid.lists between held (entries old.book ++ unit_of old.book guard ∷ []) → mid.trail.vars ≡ empty.trail.vars →
+    IsGround (entries old.book ++ unit_of old.book guard ∷ []) held.shorts.items between mid.trail.places → mid.levels ≡ empty.levels →
+    HasSettled own steps mid now between after.clauses held less ids later → after.words ≤ 2 * live_words after.clauses →
+    IsReady (record { book = new; vars = old.vars; stage = Idle; failed = false }) →
+    IsEngine (record { book = new; vars = old.vars; stage = Idle; failed = false }) now after less marks own later
+engine_ended old fin ret new end guard ids steps w empty mid now a between after stock held less marks own known later e well inside solved
+    empty_vars rest is_fin is_ret is_new grown gone steps_is stocked trail_vars ground levels settled words ready =
+    let es : List Entry = entries old.book ++ unit_of old.book guard ∷ [] in
+    let same : es ≡ entries ret =
+    (λ i. sym (finished_entries old.book fin end is_fin) i ++ sym (ap (λ x. unit_of x guard) is_fin ∙ finished_next old.book end guard) i ∷ []) ∙ sym grown in
+    let left : without_ids ids es ≡ entries new = ap (without_ids ids) same ∙ sym gone in
+    let v = watch_vars old w a.clauses stock marks e.whole well solved in
+    let vars : now.trail.vars ≡ w.trail.vars = settled.vars ∙ trail_vars ∙ empty_vars in
+    let new_is : new ≡ without (retired fin) ids = is_new ∙ ap (λ x. without x ids) is_ret in
+    let own_fin : own ≡ fin.problem.vars = e.own_is well ∙ sym (ap (λ (x : Book). x.problem.vars) is_fin ∙ finished_vars old.book end) in
+    let same_step : steps ≡ step_of fin.history = steps_is ∙ guards_are old.book old.vars own inside (e.own_is well) ∙
+    sym (ap (λ (x : Book). step_of x.history) is_fin ∙ finished_step old.book end) in
+    let kept = left_last fin ids (subst (λ (x : Book). StepsLeaveKept x.problem x.history) new_is (ready.leaves refl)) in
+    let problem : new.problem ≡ fin.problem = ap (λ (x : Book). x.problem) new_is ∙ without_vars (retired fin) ids in
+    let here : live fin.problem (without (retired fin) ids).history ≡ entries new =
+    ap (λ p. live p (without (retired fin) ids).history) (sym (without_vars (retired fin) ids)) ∙ ap entries (sym new_is) in
+    record {
+      whole = record {
+        ready = ready;
+        left = λ _. record {
+          stocked = subst (IsStocked now.lists after.clauses less) left (settled.stocked es stocked);
+          serves = settled.serves;
+          ground = subst (λ xs. IsGround xs less.shorts.items after.clauses now.trail.places) left (settled.ground es stocked ground);
+          levels = settled.levels ∙ levels ∙ rest.levels;
+        };
+        vars = λ _. omega (arith, v, vars);
+        clear = λ _. subst (λ n. IsClear (n + 1) marks) (sym vars) (e.whole.clear well);
+      };
+      own_is = λ _. own_fin ∙ sym (ap (λ (p : Problem). p.vars) problem);
+      own_clauses = λ _. subst IsOwn (sym (problem ∙ ap (λ (x : Book). x.problem) is_fin ∙ finished_problem old.book end)) (e.own_clauses well);
+      knows = λ _.
+          let rows : later.rows ≡ length (marked (entries new)) = settled.rows es stocked ∙ ap (λ xs. length (marked xs)) left in
+          let all : take later.rows (marked (entries new)) ≡ marked (entries new) = take_all later.rows (marked (entries new)) (omega (arith, rows)) in
+          subst (λ n. AreKnownIn own n (marked (entries new)) later.rows later.long) steps_is (record {
+            low = omega (arith, rows);
+            free = subst (All (λ x. is_free own steps x ≡ true)) (sym all) (all_from (λ x. is_free own steps x ≡ true) (marked (entries new))
+                (stays_free own steps fin.problem (entries new) (live fin.problem (retired fin).history) own_fin
+                (ap (filter is_lemma) (sym here) ∙ kept.lemmas ∙ ap (λ n. kept_lemmas fin.problem n (live fin.problem (retired fin).history)) (sym same_step))
+                (ap (list_any is_block) (sym here) ∙ kept.blocks)));
+            counted = settled.long es stocked ∙ ap (λ xs. count_by (is_free_long own steps) (marked xs)) left ∙
+                ap (count_by (is_free_long own steps)) (sym all);
+          });
+      words = λ _ _. words;
+    }
+
+-- ---- what stands for good is of other variables than a block, and than the guard
+
+-- a clause of the steps' own variables and of the guard
+pub record IsOfStep (b : Book) (vars : ℕ) (c : Clause) : Type 0 where
+  pub each : (l : Literal) → Contains c l → (l.variable ≤ b.problem.vars) ⊎ (l.variable ≡ vars)
+
+off_ground : (b : Book) (vars : ℕ) (lists : List (List Watcher)) (clauses : List Held) (stock : Stock) (places : List Place) (c : Clause) →
+    IsStocked lists clauses stock (entries b) → IsGround (entries b) stock.shorts.items clauses places → vars ≡ b.problem.vars + step_of b.history →
+    IsOfStep b vars c → IsOff places c
+off_ground b vars lists clauses stock places c s g vars_is of_step = all_from (IsOpenOn (literals_of places)) c (λ l there.
+    let gone : (x : Literal) → x.variable ≡ l.variable → ¬ Contains (literals_of places) x = λ x same holds.
+    let (k, found) = get_from_Contains (literals_of places) x holds in
+    let (p, at, is) = get_map_cases (λ (y : Place). y.literal) places k x found in
+    let (j, low, high, guard) = ground_literal b lists clauses stock places k p s g at in
+    let v = ap (λ (y : Literal). y.variable) (sym is ∙ guard) in
+    elim (of_step.each l there) [
+      | inl own ↦ omega (arith, own, v, same, low)
+      | inr mine ↦ omega (arith, mine, v, same, high, vars_is)
+    ] in
+    (gone l refl, gone (negation l) refl))
+
+pub kept_grounded : (b : Book) (vars : ℕ) (w : WatchState) (clauses : List Held) (stock : Stock) (c : Clause) → IsKept b w clauses stock →
+    vars ≡ b.problem.vars + step_of b.history → IsOfStep b vars c → IsGrounded w c
+kept_grounded b vars w clauses stock c (inl r) vars_is of_step = record {
+  none = λ none. off_ground b vars w.lists clauses stock w.trail.places c r.stocked r.ground vars_is of_step;
+  first = λ v e. absurd (let h = get_within w.levels 0 v e in let n = ap length r.levels in omega (arith, h, n));
+}
+kept_grounded b vars w clauses stock c (inr p) vars_is of_step = record {
+  none = λ none. absurd (let some = p.1.running.begun.some in let n = ap length none in omega (arith, some, n));
+  first = λ v e. off_ground b vars w.lists clauses stock (take v.start w.trail.places) c p.1.running.stocked (p.1.running.ground v e) vars_is of_step;
+}
+
+pub block_of_step : (b : Book) (vars : ℕ) (lits : Clause) → HasVariables b.problem.vars lits →
+    IsOfStep b vars (record { variable = vars; positive = false } ∷ lits)
+block_of_step b vars lits range = record {
+  each = λ l there. elim (contains_cases (record { variable = vars; positive = false }) lits l there) [
+    | inl first ↦ inr (sym (ap (λ (x : Literal). x.variable) first))
+    | inr later ↦ inl (All-contains (IsWithin b.problem.vars) lits l range later).1
+  ];
+}
+
+-- the guard has no value once the trail has gone back
+pub guard_is_free : (b : Book) (vars : ℕ) (w : WatchState) (clauses : List Held) (stock : Stock) (l : Literal) → IsAtRest b w clauses stock →
+    vars ≡ b.problem.vars + step_of b.history → w.trail.vars ≡ vars → l ≡ record { variable = vars; positive = false } → IsUnassigned w.trail l
+guard_is_free b vars w clauses stock l r vars_is all is = record {
+  in_range = (let v = ap (λ (x : Literal). x.variable) is in omega (arith, v, all));
+  unassigned = All-contains (IsOpenOn (literals_of w.trail.places)) (l ∷ []) l
+      (off_ground b vars w.lists clauses stock w.trail.places (l ∷ []) r.stocked r.ground vars_is (record {
+        each = λ m there. elim (contains_cases l [] m there) [
+          | inl same ↦ inr (ap (λ (x : Literal). x.variable) (sym same ∙ is))
+          | inr none ↦ absurd (nothing_in m none)
+        ];
+      })) (contains_first l []);
+}
+
+pub begun_own : (b begun : Book) (first : Bool) (a : Clause) → begun ≡ begun_book first b a → IsOwn b.problem → IsOwn begun.problem
+begun_own b begun first a is own = subst (λ (x : Book). IsOwn x.problem) (sym is) (by first)
+  where
+    by : (f : Bool) → IsOwn (begun_book f b a).problem
+    by true = own
+    by false = own

@@ -1,0 +1,109 @@
+-- What a caller of the solver asks of it: what still stands, which lines were logged, and the bound over its own clauses.
+use Rattle.std.proofs.Common.{◌≡◌, Bool, true, false, not, List, [], ◌∷◌, ◌++◌, map, refl, ap, subst, sym, ◌∙◌, ℕ}
+use Rattle.std.specs.Prelude.{Contains}
+use Rattle.std.specs.List.{AllByRecursion as Each, filter}
+use Rattle.std.proofs.lemmas.Bool.{false≢true}
+use Rattle.std.proofs.lemmas.List.{map-append}
+use Rattle.std.proofs.lemmas.List.Elements.{filter-append, Contains-append_left}
+use Rattle.bs_clause.specs.Literal.{Clause}
+use Rattle.bs_log.specs.declared.line.Line.{Line}
+use Rattle.bs_log.specs.declared.line.Line.TheVariants.{Solve, Lemma, Block, Finish, Retire, Delete}
+use Rattle.bs_log.specs.declared.origin.Origin.TheVariants.{Learnt}
+use Rattle.bs_log.specs.History.{Problem, History, Entry, added, is_deleted, live}
+use Rattle.bs_log.specs.Steps.{is_lemma_line}
+use Rattle.bs_solve_recording.specs.declared.answer.Answer.{Answer}
+use Rattle.bs_solve_recording.specs.declared.answer.Answer.TheVariants as answers
+use Rattle.bs_solve_recording.specs.Book.{Book, standing}
+use Rattle.bs_solve_recording.specs.Ending.{Ends, SomeLemmas, is_open_lemma}
+use Rattle.bs_solve_recording.specs.Stages.{is_begun, begun_book}
+use Rattle.bs_solve_recording.specs.Solver.{SolverState, HasSolved}
+use Rattle.bs_solve_recording.proofs.Endings.{some_lemmas, some_and_last}
+use Rattle.bs_solve_recording.proofs.Lines.{first_stands}
+pub use Rattle.bs_solve_recording.proofs.Standing.{axioms_stand_still, guards_stay_retired}
+pub use Rattle.bs_solve_recording.proofs.Guards.{runs_over, with_guards, run_with_guards, bound_is}
+
+-- ---- what stands
+
+-- the clauses that stand after these lines
+abbrev pub stands_at : Problem → History → List Clause
+stands_at p h = map (λ e. e.literals) (live p h)
+
+-- a new solver's own clauses stand
+pub axioms_stand : (p : Problem) → stands_at p [] ≡ p.clauses
+axioms_stand p = first_stands p
+
+-- one more clause takes none away
+one_more : (q : Entry → Bool) (xs : List Entry) (x : Entry) (c : Clause) → Contains (map (λ e. e.literals) (filter q xs)) c →
+    Contains (map (λ e. e.literals) (filter q (xs ++ x ∷ []))) c
+one_more q xs x c h =
+    subst (λ (cs : List Clause). Contains cs c)
+    (sym (ap (map (λ (e : Entry). e.literals)) (filter-append q xs (x ∷ [])) ∙ map-append (λ (e : Entry). e.literals) (filter q xs) (filter q (x ∷ []))))
+    (Contains-append_left (map (λ (e : Entry). e.literals) (filter q xs)) (map (λ (e : Entry). e.literals) (filter q (x ∷ []))) c h)
+
+-- what stood stands after further lemmas
+pub lemmas_keep : (p : Problem) (lines : List Line) (h : History) → Each (λ line. is_lemma_line line ≡ true) lines →
+    (c : Clause) → Contains (stands_at p h) c → Contains (stands_at p (lines ++ h)) c
+lemmas_keep p [] h all c there = there
+lemmas_keep p (Lemma id lits hints ∷ lines) h all c there =
+    one_more (λ e. not (is_deleted (lines ++ h) e.id)) (added p (lines ++ h)) (record { id = id; origin = Learnt; literals = lits }) c
+    (lemmas_keep p lines h all.1 c there)
+lemmas_keep p (Solve ∷ lines) h all c there = absurd (false≢true all.0)
+lemmas_keep p (Block id lits ∷ lines) h all c there = absurd (false≢true all.0)
+lemmas_keep p (Finish id ∷ lines) h all c there = absurd (false≢true all.0)
+lemmas_keep p (Retire id ∷ lines) h all c there = absurd (false≢true all.0)
+lemmas_keep p (Delete ids ∷ lines) h all c there = absurd (false≢true all.0)
+
+-- the same of books
+pub books_keep : (old new : Book) (lines : List Line) → new.problem ≡ old.problem → new.history ≡ lines ++ old.history →
+    Each (λ line. is_lemma_line line ≡ true) lines →
+    (c : Clause) → Contains (standing old) c → Contains (standing new) c
+books_keep old new lines p h all c there =
+    let same : new ≡ record { problem = old.problem; history = lines ++ old.history } = λ i. record { problem = p i; history = h i } in
+    subst (λ (b : Book). Contains (standing b) c) (sym same) (lemmas_keep old.problem lines old.history all c there)
+
+-- ---- the book as a search begins
+
+pub begun_history : (first : Bool) (b : Book) (a : Clause) → (begun_book first b a).history ≡ Solve ∷ b.history
+begun_history true b a = refl
+begun_history false b a = refl
+
+pub begun_vars : (first : Bool) (b : Book) (a : Clause) → (begun_book first b a).problem.vars ≡ b.problem.vars
+begun_vars true b a = refl
+begun_vars false b a = refl
+
+pub begun_clauses : (first : Bool) (b : Book) (a : Clause) → (begun_book first b a).problem.clauses ≡ b.problem.clauses
+begun_clauses true b a = refl
+begun_clauses false b a = refl
+
+-- ---- the lines of a solve
+
+pub open_is_lemma : (a : Clause) (line : Line) → is_open_lemma a line ≡ true → is_lemma_line line ≡ true
+open_is_lemma a (Lemma id lits hints) e = refl
+open_is_lemma a Solve e = e
+open_is_lemma a (Block id lits) e = e
+open_is_lemma a (Finish id) e = e
+open_is_lemma a (Retire id) e = e
+open_is_lemma a (Delete ids) e = e
+
+pub open_are_lemmas : (a : Clause) (lines : List Line) → Each (λ line. is_open_lemma a line ≡ true) lines → Each (λ line. is_lemma_line line ≡ true) lines
+open_are_lemmas a [] all = tt
+open_are_lemmas a (line ∷ lines) all = (open_is_lemma a line all.0, open_are_lemmas a lines all.1)
+
+-- a search logs lemmas alone, however it ends
+pub ends_by_lemmas : (old new : Book) (vars limit : ℕ) (answer : Answer) → Ends old new vars limit answer → SomeLemmas old new
+ends_by_lemmas old new vars limit (answers.Found values) e = some_lemmas old new e.count e.lemmas
+ends_by_lemmas old new vars limit (answers.Refuted id) e = some_and_last old e.middle new e.count id e.before e.last
+ends_by_lemmas old new vars limit answers.Spent e = some_lemmas old new limit e.lemmas
+
+-- a solve's lines behind its first
+pub solved_by_lemmas : (old new : SolverState) (a : Clause) (limit : ℕ) (answer : Answer) → HasSolved old new a limit answer →
+    SomeLemmas (begun_book (is_begun old.stage) old.book a) new.book
+solved_by_lemmas old new a limit answer s = ends_by_lemmas (begun_book (is_begun old.stage) old.book a) new.book old.vars limit answer s.ends
+
+-- what stood before a solve stands after it
+pub solved_keeps : (old new : SolverState) (a : Clause) (limit : ℕ) (answer : Answer) → HasSolved old new a limit answer →
+    (c : Clause) → Contains (standing old.book) c → Contains (standing new.book) c
+solved_keeps old new a limit answer s c there =
+    let lemmas = solved_by_lemmas old new a limit answer s in
+    books_keep (begun_book (is_begun old.stage) old.book a) new.book lemmas.lines lemmas.problem lemmas.history lemmas.lemmas c
+    (subst (λ (cs : List Clause). Contains cs c) (sym s.stands) there)

@@ -1,0 +1,126 @@
+-- Sound trails: what a push, a cut and one more clause leave of them.
+use Rattle.std.proofs.Common.{◌≡◌, ℕ, ◌<◌, ◌≤◌, arith, List, [], ◌∷◌, ◌++◌, length, take, sym, ap, subst, ◌∙◌, inl, inr, Some, false}
+use Rattle.std.specs.Prelude.{slice_get}
+use Rattle.std.proofs.lemmas.Bool.{cases_lt, cases_eq, false≢true}
+use Rattle.std.proofs.lemmas.List.{take-append-le, take-take, take_all, length-take-le, length_push, take_at}
+use Rattle.std.proofs.lemmas.List.Elements.{Contains-append_left}
+use Rattle.bs_clause.specs.Literal.{Literal, Clause}
+use Rattle.bs_solve_recording.specs.Place.{Place}
+use Rattle.bs_watch.specs.Trail.{IsQuiet}
+use Rattle.bs_solve_recording.specs.Places.{literals_of, IsWarranted, AreWarranted}
+use Rattle.bs_solve_recording.specs.Grown.{IsForced, Grows}
+use Rattle.bs_solve_recording.proofs.Lists.{none_is_not_some, get_push_cases, get_take, take_get, get_within}
+use Rattle.bs_solve_recording.proofs.Walks.{open_apart}
+
+-- the empty trail
+pub sound_nil : (clauses : List Clause) (base : ℕ) (a : List Literal) → AreWarranted clauses base a []
+sound_nil clauses base a = record { placed = λ k p e. absurd (none_is_not_some p e) }
+
+pub sound_push : (clauses : List Clause) (base : ℕ) (a : List Literal) (places : List Place) (p : Place) →
+    AreWarranted clauses base a places → IsWarranted clauses base a places p → AreWarranted clauses base a (places ++ p ∷ [])
+sound_push clauses base a places p s placed = record {
+  placed = λ k q e. elim (get_push_cases places p q k e) [
+    | inl there ↦
+        let within = get_within places k q there in
+        subst (λ earlier. IsWarranted clauses base a earlier q) (sym (take-append-le k places (p ∷ []) (omega arith))) (s.placed k q there)
+    | inr last ↦
+        let front : take k (places ++ p ∷ []) ≡ places = take_at places (p ∷ []) k (sym last.0) in
+        subst (λ earlier. IsWarranted clauses base a earlier q) (sym front) (subst (IsWarranted clauses base a places) last.1 placed)
+  ];
+}
+
+pub sound_take : (clauses : List Clause) (base : ℕ) (a : List Literal) (places : List Place) (n : ℕ) → AreWarranted clauses base a places →
+    AreWarranted clauses base a (take n places)
+sound_take clauses base a places n s = record {
+  placed = λ k p e.
+      let found = get_take n places k p e in
+      let before : k < n = found.0 in
+      subst (λ earlier. IsWarranted clauses base a earlier p) (sym (take-take k n places (omega arith))) (s.placed k p found.1);
+}
+
+-- one more clause, where the trail is quiet for all of them at each decision
+pub sound_clause : (clauses : List Clause) (c : Clause) (base : ℕ) (a : List Literal) (places : List Place) → AreWarranted clauses base a places →
+    ((k : ℕ) (p : Place) → slice_get places k ≡ Some p → p.forced ≡ false → base ≤ k → IsQuiet (literals_of (take k places)) (clauses ++ c ∷ [])) →
+    AreWarranted (clauses ++ c ∷ []) base a places
+sound_clause clauses c base a places s quiet = record {
+  placed = λ k p e.
+      let old = s.placed k p e in
+      let within = get_within places k p e in
+      let length_k : length (take k places) ≡ k = length-take-le k places (omega arith) in
+      record {
+        unassigned = old.unassigned;
+        forced = λ is. let f = old.forced is in (f.0, Contains-append_left clauses (c ∷ []) f.0 f.1, f.2);
+        assumed = old.assumed;
+        quiet = λ none above. quiet k p e none (omega (arith, above, length_k));
+      };
+}
+
+-- no variable has two places
+pub one_place : (clauses : List Clause) (base : ℕ) (a : List Literal) (places : List Place) → AreWarranted clauses base a places → (i j : ℕ) (p q : Place) →
+    slice_get places i ≡ Some p → slice_get places j ≡ Some q → p.literal.variable ≡ q.literal.variable → i ≡ j
+one_place clauses base a places s i j p q at_i at_j same = elim (cases_lt i j) [
+  | inl before ↦ absurd (open_apart (take j places) q.literal (s.placed j q at_j).unassigned i p (take_get j places i p before at_i) same)
+  | inr after ↦ elim (cases_eq i j) [
+    | inl equal ↦ equal
+    | inr different ↦
+        let later : j < i = omega (arith, after, λ (e : i ≡ j). different e) in
+        absurd (open_apart (take i places) p.literal (s.placed i p at_i).unassigned j q (take_get i places j q later at_j) (sym same))
+  ]
+]
+
+-- ---- propagation
+
+pub grows_none : (clauses : List Clause) (places : List Place) → Grows clauses places places
+grows_none clauses places = record {
+  longer = omega arith;
+  front = take_all (length places) places (omega arith);
+  forced = λ k p past e. absurd (let within = get_within places k p e in omega (arith, past, within));
+}
+
+pub grows_push : (clauses : List Clause) (old new : List Place) (p : Place) → Grows clauses old new → IsForced clauses new p → Grows clauses old (new ++ p ∷ [])
+grows_push clauses old new p g f = record {
+  longer = omega (arith, g.longer, length_push new p);
+  front = take-append-le (length old) new (p ∷ []) g.longer ∙ g.front;
+  forced = λ k q past e. elim (get_push_cases new p q k e) [
+    | inl there ↦
+        let within = get_within new k q there in
+        subst (λ earlier. IsForced clauses earlier q) (sym (take-append-le k new (p ∷ []) (omega arith))) (g.forced k q past there)
+    | inr last ↦
+        subst (λ earlier. IsForced clauses earlier q) (sym (take_at new (p ∷ []) k (sym last.0))) (subst (IsForced clauses new) last.1 f)
+  ];
+}
+
+-- a forced literal is placed on any level
+pub placed_from_forced : (clauses : List Clause) (base : ℕ) (a : List Literal) (earlier : List Place) (p : Place) → IsForced clauses earlier p →
+    IsWarranted clauses base a earlier p
+placed_from_forced clauses base a earlier p f = record {
+  unassigned = f.forces.unassigned;
+  forced = λ _. (f.clause, f.there, f.forces);
+  assumed = λ free. absurd (false≢true (sym free ∙ f.is));
+  quiet = λ free. absurd (false≢true (sym free ∙ f.is));
+}
+
+pub sound_grows : (clauses : List Clause) (base : ℕ) (a : List Literal) (old new : List Place) → AreWarranted clauses base a old → Grows clauses old new →
+    AreWarranted clauses base a new
+sound_grows clauses base a old new s g = record {
+  placed = λ k p e. elim (cases_lt k (length old)) [
+    | inl before ↦
+        let in_old : slice_get old k ≡ Some p = subst (λ xs. slice_get xs k ≡ Some p) g.front (take_get (length old) new k p before e) in
+        let front : take k old ≡ take k new = ap (take k) (sym g.front) ∙ take-take k (length old) new (omega arith) in
+        subst (λ earlier. IsWarranted clauses base a earlier p) front (s.placed k p in_old)
+    | inr past ↦ placed_from_forced clauses base a (take k new) p (g.forced k p past e)
+  ];
+}
+
+pub grows_trans : (clauses : List Clause) (a b c : List Place) → Grows clauses a b → Grows clauses b c → Grows clauses a c
+grows_trans clauses a b c g h = record {
+  longer = omega (arith, g.longer, h.longer);
+  front = sym (take-take (length a) (length b) c g.longer) ∙ ap (take (length a)) h.front ∙ g.front;
+  forced = λ k p past e. elim (cases_lt k (length b)) [
+    | inl before ↦
+        let in_b : slice_get b k ≡ Some p = subst (λ xs. slice_get xs k ≡ Some p) h.front (take_get (length b) c k p before e) in
+        let front : take k b ≡ take k c = ap (take k) (sym h.front) ∙ take-take k (length b) c (omega arith) in
+        subst (λ earlier. IsForced clauses earlier p) front (g.forced k p past in_b)
+    | inr beyond ↦ h.forced k p beyond e
+  ];
+}

@@ -1,0 +1,42 @@
+-- Options and numbers among the words of a command line (docs/FORMATS.md, "Command words").
+use Rattle.std.specs.Prelude.{ℕ, ◌==◌, nat_le, nat_eq, Bool, false, not, ◌&&◌, List, [], ◌∷◌, length, drop, codes, Option, Some, None, if◌then◌else◌}
+use Rattle.std.specs.Option.{option_and_then}
+use Rattle.std.specs.Str.{bytes_eq}
+use Rattle.std.specs.List.{starts_with}
+use Rattle.bs_bits.specs.Lines.{number_in}
+use Rattle.bs_top_words.specs.declared.limits.TheConstants.{MAX_STEPS, MAX_CANDIDATES, MAX_CONFLICTS}
+use Rattle.bs_top_words.specs.declared.options.Kind.{Kind}
+use Rattle.bs_top_words.specs.declared.options.Kind.TheVariants.{Steps, Candidates, Conflicts}
+
+-- the number that a word is, if it lies between two bounds, both included
+abbrev pub number_between : ℕ → ℕ → List ℕ → Option ℕ
+number_between low high word = option_and_then (λ (n : ℕ). if nat_le low n && nat_le n high then Some n else None) (number_in word)
+
+-- the greatest value of an option
+abbrev pub greatest : Kind → ℕ
+greatest Steps = MAX_STEPS
+greatest Candidates = MAX_CANDIDATES
+greatest Conflicts = MAX_CONFLICTS
+
+-- the value that a word gives an option
+abbrev pub value_in : Kind → List ℕ → Option ℕ
+value_in kind word = number_between 1 (greatest kind) word
+
+-- it begins with `-`
+abbrev pub has_dash : List ℕ → Bool
+has_dash [] = false
+has_dash (b ∷ bs) = b == 45
+
+-- it begins with `-` and is not the single `-`
+abbrev pub is_option : List ℕ → Bool
+is_option word = has_dash word && not (bytes_eq word (codes "-"))
+
+-- the option whose value is the next word
+abbrev pub kind_of : List ℕ → Option Kind
+kind_of word =
+    if bytes_eq word (codes "--steps") then Some Steps else
+    (if bytes_eq word (codes "--candidates") then Some Candidates else (if bytes_eq word (codes "--conflicts") then Some Conflicts else None))
+
+-- what stands behind a prefix
+abbrev pub rest_of : List ℕ → List ℕ → Option (List ℕ)
+rest_of prefix word = if starts_with nat_eq word prefix then Some (drop (length prefix) word) else None

@@ -1,0 +1,83 @@
+//! The options of a run, and numbers among the words.
+ghost use Rattle.std.specs.Prelude.{◌≡◌};
+ghost use Rattle.std.specs.Option.{option_copied};
+ghost use Rattle.bs_top_words.specs.Options.{greatest, has_dash, is_option, kind_of, number_between, rest_of, value_in};
+
+use crate::limits::{MAX_CANDIDATES, MAX_CONFLICTS, MAX_STEPS};
+use bs_bits::read_number;
+
+/// An option of a run: a budget.
+#[derive(Clone, Copy, Debug, PartialEq, Eq)]
+pub enum Kind {
+    Steps,
+    Candidates,
+    Conflicts,
+}
+
+/// The number that a word is, if it lies between two bounds, both included.
+pub fn number_between(low: u64, high: u64, word: &str) -> Option<u64>
+    ensures { result ≡ number_between low high word.now }
+{
+    match read_number(word.as_bytes()) {
+        Some(number) if low <= number && number <= high => Some(number),
+        _ => None,
+    }
+}
+
+/// The greatest value of an option. The least is 1.
+fn greatest(kind: Kind) -> u64
+    ensures { result ≡ greatest kind }
+{
+    match kind {
+        Kind::Steps => MAX_STEPS,
+        Kind::Candidates => MAX_CANDIDATES,
+        Kind::Conflicts => MAX_CONFLICTS,
+    }
+}
+
+/// The value that a word gives an option.
+pub fn value_in(kind: Kind, word: &str) -> Option<u64>
+    ensures { result ≡ value_in kind word.now }
+{
+    number_between(1, greatest(kind), word)
+}
+
+/// Whether a word begins with `-`.
+pub fn has_dash(word: &str) -> bool
+    ensures { result ≡ has_dash word.now }
+{
+    match word.as_bytes() {
+        [first, ..] => *first == b'-',
+        [] => false,
+    }
+}
+
+/// Whether a word begins with `-` and is not the single `-`.
+pub fn is_option(word: &str) -> bool
+    ensures { result ≡ is_option word.now }
+{
+    has_dash(word) && word != "-"
+}
+
+/// The option whose value is the next word.
+pub fn kind_of(word: &str) -> Option<Kind>
+    ensures { result ≡ kind_of word.now }
+{
+    if word == "--steps" {
+        return Some(Kind::Steps);
+    }
+    if word == "--candidates" {
+        return Some(Kind::Candidates);
+    }
+    if word == "--conflicts" {
+        return Some(Kind::Conflicts);
+    }
+    None
+}
+
+/// What stands behind a prefix.
+pub fn rest_of<'a>(prefix: &str, word: &'a str) -> Option<&'a str>
+    ensures { option_copied result ≡ rest_of prefix.now word.now }
+{
+    word.strip_prefix(prefix)
+}

@@ -1,7 +1,0 @@
-use Rattle.std.proofs.Common.{◌≡◌, ◌++◌}
-use Rattle.std.specs.List.{flat_map, range_with_len}
-use Rattle.bs_unroll.specs.Unrolled.{links_of}
-use Rattle.bs_unroll.proofs.links.add_all_links.Given as goal
-
-abbrev pub invariant-copies : goal.invariant-copies
-invariant-copies l = l.into ≡ l.initial.into ++ flat_map (links_of l.encoding) (range_with_len 0 l.c)

@@ -1,0 +1,66 @@
+//! The third pass: which names a module declares, and its nets.
+ghost use Rattle.std.specs.Prelude.{◌≡◌, ◌<◌, ◌≤◌, ℕ, None};
+ghost use Rattle.bs_verilog_scope.specs.Checking.{Checks, looked, marked};
+ghost use Rattle.bs_verilog_scope.specs.Declaring as spec;
+
+use crate::numbering::{Known, first_over, known_nets};
+use crate::scope::{bare_fault, header_marks, scope_of, stray_fault, wide_fault};
+use bs_bits::List;
+use bs_verilog_lexemes::{Name, Table};
+use bs_verilog_syntax::{Declared, Module, Says, VerilogFault};
+use std::alloc::Global;
+
+/// What a module declares: what is said of each name, by number, and the nets in the order of their numbers.
+#[derive(Drop)]
+pub struct Declarations {
+    pub scope: Vec<Option<Says>>,
+    pub nets: List<Known>,
+}
+
+fn many_fault(table: &Table, nets: &[Known]) -> Option<VerilogFault>
+    ensures { result ≡ spec.many_fault table.now nets.now }
+{
+    first_over(table, nets).map(|net| VerilogFault::TooManyNets(net.name.at))
+}
+
+fn none_of(fault: Option<VerilogFault>) -> Result<(), VerilogFault>
+    ensures { Checks result fault (λ _. fault ≡ None) }
+{
+    match fault {
+        Some(found) => Err(found),
+        None => Ok(()),
+    }
+}
+
+/// The nets of names that are declared at most once each, or the first fault of ports, bounds and their count.
+#[tactic(auto, unfolding(crate::specs::Declaring::naming_fault))]
+fn named(
+    alloc: Global,
+    table: &Table,
+    marks: &[bool],
+    scope: &[Option<Says>],
+    header: &[Name],
+    declared: &[Declared],
+) -> Result<List<Known>, VerilogFault>
+    ensures { Checks result (spec.naming_fault table.now (marked marks.now) (looked scope.now) header.now declared.now) (λ nets. (nets ≡ spec.nets_in (looked scope.now) (marked marks.now) header.now declared.now) × (spec.many_fault table.now nets ≡ None)) }
+{
+    none_of(stray_fault(marks, declared))?;
+    none_of(bare_fault(scope, header))?;
+    none_of(wide_fault(declared))?;
+    let nets = known_nets(alloc, scope, marks, header, declared)?;
+    none_of(many_fault(table, nets.slice()))?;
+    Ok(nets)
+}
+
+/// What a module declares, or the first fault of its declarations.
+#[tactic(auto, unfolding(crate::specs::Declaring::declaring_fault))]
+pub fn declare(alloc: Global, table: &Table, top: &Module) -> Result<Declarations, VerilogFault>
+    ensures { Checks result (spec.declaring_fault table.now top.now) (λ d. (looked d.scope.items ≡ spec.said top.now.declared) × (d.nets ≡ spec.known_nets top.now) × (spec.many_fault table.now d.nets ≡ None)) }
+{
+    let header = top.header.slice();
+    let declared = top.declared.slice();
+    let marks = header_marks(alloc, header)?;
+    let scope = scope_of(alloc, declared)?;
+    let nets = named(alloc, table, &marks, &scope, header, declared)?;
+    Ok(Declarations { scope, nets })
+}

@@ -1,5 +1,0 @@
-use Rattle.bs_words.proofs.JobLemmas.{spelled_jobs_are_read}
-use Rattle.bs_words.proofs.law.spelled_jobs_are_read.Goals as goal
-
-pub returns : goal.returns
-returns c = spelled_jobs_are_read

@@ -1,7 +1,0 @@
-//! Laws of the definitions.
-ghost use Rattle.bs_words.specs.Spelling.{SpelledJobsAreRead};
-
-/// The reading of words gives exactly the job that they spell.
-pub fn spelled_jobs_are_read()
-    ensures { SpelledJobsAreRead }
-{}
