@@ -1,4 +1,10 @@
 //! The audit of a report: it is accepted exactly where it is valid, or else refused with the first part that fails.
+//!
+//! It uses nothing of the solver. `finding` (what an audit finds), `replay`, `candidates` and
+//! `steps` (the parts of each step), `stop`, `trace`, `step_lines`, `blocks`, `assumed` and `ends`
+//! (a step against its lines), `logged` (the log as a whole), `law`. Used above: `audit` names
+//! exactly `first_failing`, and what it accepts is good. The parts and their order are
+//! bs_report_good's `specs/Valid`.
 #![tactic(auto)]
 
 mod assumed;

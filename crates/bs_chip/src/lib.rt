@@ -1,4 +1,11 @@
 //! The chip as a replay of recorded runs: the first moment in a list of states, and the dump of a moment.
+//!
+//! Modules: `replay` (`Chip`, `Hit`), `live` (runs that last to a cycle), `inputs` and `pass` (all
+//! runs in lock step at one cycle), `track` (the planes of the first cycles, kept), `looking` (the
+//! lowest run in a listed state, by the bank), `prints`, `notes` and `index` (at which kept cycle a
+//! look may begin), `player` and `moments` (one run replayed to a moment). Used above:
+//! `Chip::first`, clause `first`: the first moment of the runs in the listed states. How much is
+//! kept: `MAX_TRACK_BYTES`, `MAX_PRINTS`; when the index grows: `Pass::price`.
 #![tactic(auto)]
 
 mod index;

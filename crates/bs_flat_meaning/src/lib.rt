@@ -1,4 +1,11 @@
 //! What a hierarchical design means, and that its flat parts mean the same.
+//!
+//! Modules: `specs/Design` and `specs/Meaning` (what a design is, and when a valuation fits it),
+//! `specs/Flat` (its flat parts), `specs/Pieces`, `specs/Instancing` and `specs/Connecting` (the
+//! modules of a text, their instances and joins), `specs/Reading` (the refusals in their order). In
+//! code only `paths`, `statements`, `fault`, `limits` and `law`. Used above:
+//! `flat_parts_keep_meaning`: where the flat parts pass the check, exactly one valuation fits the
+//! design for each state and input, and its next state is the flat netlist's.
 #![tactic(auto)]
 
 mod fault;

@@ -1,4 +1,10 @@
 //! The modules of a netlist text of several: where each stands, what its own text says, and the instances that it writes.
+//!
+//! Modules: `dealing` (where the modules stand among the lexemes, and what stands outside), `names`
+//! (none twice), `items` (instance statements, and what an own text keeps), `copying` and `owns`
+//! (own texts, and what they say), `wholeness`, `reading` (`read_modules`). Used above:
+//! `read_modules` answers exactly what `specs/Reading` of bs_flat_meaning says, and what is read is
+//! whole.
 #![tactic(auto)]
 
 mod copying;

@@ -1,4 +1,11 @@
 //! The flat parts of a design, made module by module and path by path.
+//!
+//! Modules: `blocks` (a design in code: modules whose joined nets are runs of bits, never a table
+//! by path), `counts`, `joined`, `sums` (depths, parts and nets counted module by module along an
+//! order, before any path is made), `constants`, `nodes` (the paths), `climbing` (the uppermost net
+//! of a net on a path). Used above: `is_deep`, `has_many_parts` and `has_many_nets` answer the
+//! tests of bs_flat_meaning's `specs/Reading`. A further count is a further rule with `IsLocal` of
+//! it (`proofs/OrderLemmas`).
 #![tactic(auto)]
 
 mod blocks;

@@ -1,4 +1,9 @@
 //! Names of bits and of vectors: what a key says, which bits make a vector, and the number that a vector's bits are.
+//!
+//! Modules: `splits` (a text cut at a byte), `key` (`key_parts`), `signal` (`signals`: which bits
+//! make a vector), `hex` (`push_value`). Used above: `AreSignals`: each wanted bit stands in
+//! exactly one signal, and a signal is a net by itself or consecutive bits of a vector; and
+//! `value_text`.
 #![tactic(auto)]
 
 mod hex;

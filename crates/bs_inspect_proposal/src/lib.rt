@@ -1,4 +1,10 @@
 //! How well a signature tells the states of recorded runs apart, and the proposal of one.
+//!
+//! Modules: `rows` (rows of bits, each once), `listing` (the states and steps of the runs),
+//! `sharing` and `apart` (how many share a signature), `classes`, `best` and `greedy` (flip-flops
+//! chosen one after another), `items`, `lines`, `proposal` (`proposal_text`). Used above:
+//! `TellsProposal` (`specs/Proposal`), over `specs/Looked`, `specs/Apart` and `specs/Greedy`. To
+//! look at more states raise `MAX_ROWS`; to compare more, `MAX_COMPARED`.
 #![tactic(auto)]
 
 mod apart;

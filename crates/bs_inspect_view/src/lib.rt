@@ -1,4 +1,8 @@
 //! The waveform of a trace in the form that viewers take, with vectors as vectors.
+//!
+//! Modules: `nets` (the signals of the nets), `head` (the variables), `value` and `moment` (what
+//! changes), `view` (`view_text`). Used above: `IsViewOf` (`specs/View`): the text of the trace's
+//! wave and the nets' signals. A line: `specs/View`.
 #![tactic(auto)]
 
 mod head;

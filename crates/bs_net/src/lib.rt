@@ -1,4 +1,12 @@
 //! The netlist, its check, and its meaning as a machine.
+//!
+//! Modules: `net` and `gate` (what a netlist is made of, a gate's value), `names`, `raw` (`Raw`,
+//! the parts), `netlist` (`Netlist::check`), which takes `sizes`, `tallies` (how often each net is
+//! named), `drivers`, `search` and `loops` (an order of gates or a loop), `clock`; `law` (functions
+//! with empty bodies). Used above: on a checked netlist exactly one valuation fits each state and
+//! input (`exactly_one_valuation_fits`). What a flip-flop loads: `loaded` in `specs/Circuit`. What
+//! drives or reads a net: `specs/Check` and `tallies`. A new refusal: a variant of `NetFault`, its
+//! place in `specs/Check` and `specs/Decided`, and `proofs/RefusalLemmas`.
 #![tactic(auto)]
 
 mod clock;

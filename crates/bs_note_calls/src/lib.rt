@@ -1,4 +1,9 @@
 //! What is told of a call of the program: the words that it was given, what went out, how it stopped, and why a file or an output failed.
+//!
+//! Modules: `topic` (what a note is about), `told` and `ear` (the lines that went out), `output`,
+//! `cause` (why a file does not read), `word` (wrong words), `fault` (files and outputs that fail),
+//! `stop` (the stops of a run). Used above: `is_due`, whether an outcome has a note, and its text
+//! (`specs/Words`, `specs/Stops`, `specs/Faults`). A sentence: its text in specs and its module.
 #![tactic(auto)]
 
 mod cause;

@@ -1,4 +1,11 @@
 //! What the program reads and writes: files by name, and the output, with counted faults.
+//!
+//! Modules: `shelf` (`Shelf`, `Fetch`), `sink` (`Sink`, `Put`), `memory` (both in memory, with
+//! faults on demand), `sure` (those that never fail), `reading` and `writing` (a whole file out of
+//! any reader, a piece into any writer), `files` and `streams` (real files, standard output: the
+//! trusted edge, each one call of the generic function). Used above: `Fetches`, `Puts` and
+//! `CountsFaults`, and `leads`, that a state follows from another by these calls. For another place
+//! to read from, write an impl of `Shelf`.
 #![tactic(auto)]
 
 mod files;

@@ -1,4 +1,10 @@
 //! Lists of candidates for the state before the present one, by refutation.
+//!
+//! Modules: `candidate` (the state and input that an assignment shows), `turn` (one solve, and what
+//! comes of it), `finding` (turns until the list ends), `order`, `step` (begin, search and end of a
+//! step), `preimage` (`Preimage`). Used above: `HasListed` of `Preimage::list`, what a list is and
+//! what it adds to the log; and `into_log`, whose log is accepted. How a list ends: `specs/Finding`
+//! and `finding`. What stays between two lists: `specs/Rest`.
 #![tactic(auto)]
 
 mod candidate;

@@ -1,4 +1,10 @@
 //! A backtrace's report: what it says, and its one text, both ways.
+//!
+//! Modules: `report` (`Report`, `Step`, `Cand`, `ListEnd`, `HitLine`, `Stop`), `text`
+//! (`Report::text`), `forms` (each line by itself), `place` (what the next line may be), `reading`
+//! (`Report::read`), `limits`, `fault`, `law`. Used above: `report_text`, the one spelling of a
+//! report, and `report_in`, the report that a text is. A line: `specs/Text` and `specs/Forms`, with
+//! `text` and `forms`; the order of lines: `specs/Reading` and `place`.
 #![tactic(auto)]
 
 mod fault;

@@ -1,4 +1,9 @@
 //! When a report is good, when it is valid, and what follows from either.
+//!
+//! Definitions and laws; nothing runs. `part` (`Part`, the first part of a report that fails),
+//! `law`. Used above: `IsGood`, that a report is right for the chip, the runs, the dump and its
+//! budgets, which a valid report is. A right step or end: `specs/Step`; when a backtrace stops:
+//! `specs/Stop`; the parts of a valid report in their order: `specs/Valid`, then bs_audit.
 #![tactic(auto)]
 
 mod law;

@@ -1,4 +1,10 @@
 //! The checker of logs: it accepts a log, or names its first refused line with the first reason.
+//!
+//! It shares no data structure with the solver. `verdict` (`check`), `checker` (the rules, and the
+//! state between two lines), `hints` (propagation along hints), `trail` and `marks` (what is true:
+//! a mark for usual variables, a search tree for great ones), `live_clauses` (by id; literals are
+//! lent), `line_forms`, `problem`. Used above: `check`, clause `first`: the verdict's line is
+//! `first_refused`. A rule: bs_log's `specs/Refusal`, then `checker`.
 #![tactic(auto)]
 
 mod checker;

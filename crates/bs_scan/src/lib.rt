@@ -1,4 +1,11 @@
 //! What leaves the chip: signatures, scan chains and dumps; and the moments of recorded runs.
+//!
+//! Modules: `choice` and `choice_text` (a signature's items and its file), with `words` and `flops`
+//! (flip-flops by name), `register` (`SigReg`), `chain` (a ring over the captured bits), `dump` and
+//! `dump_text`, `moment`, `shown` (`HasState`). Used above: `Recording`, `Crash` and `DumpFits`
+//! (`specs/Crash`), `signature`, `stored_at` and `first_moment`. What a register keeps: `depth_of`
+//! in `specs/Choice`, `agrees` and `predecessors` in `specs/Signature`, `specs/Register`,
+//! `specs/DumpText`. The signature file: `specs/ChoiceText`.
 #![tactic(auto)]
 
 mod chain;

@@ -1,4 +1,9 @@
 //! An incremental solver that logs what it learns, over a clause arena and watched literals.
+//!
+//! Modules: `solver` (`Solver`), `room` and `starting` (the clauses that it is given, with room in
+//! the watch lists), `ending` and `dropping` (the end of a step: what leaves log, arena and watch
+//! lists). Used above: `Solver::solve` (`HasSolved`: values of all clauses, a refutation, or the
+//! budget spent) and `into_log` (accepted, lean). What holds between two calls: `specs/Starting`.
 #![tactic(auto)]
 
 mod dropping;

@@ -1,5 +1,11 @@
 //! What a search writes down: the log with the clauses that stand, where a solver stands between two calls, and the laws
 //! of the conflict bound.
+//!
+//! Modules: `recording` (`Recording`, the one door of the log), `ids`, `opening` (the lines with
+//! which a solve begins and a step ends), `stage`, `answer`, `solution` (the values that a solve
+//! found), `law` (the bound). Used above: no line is refused and lemmas are lean; `specs/Solver`
+//! says what a solve and a step's end log. To change what a line asks open `recording` and
+//! `proofs/Books`; what holds between two turns of a search, `specs/Turn`.
 #![tactic(auto)]
 
 mod answer;

@@ -1,4 +1,12 @@
 //! The search of a solve, over a clause arena and watched literals.
+//!
+//! Modules: `stock` (clauses by rows, the short ones apart), `laying` (the first level), `retiring`
+//! (a retired guard's unit), `turning` (decide, propagate, learn, refute: `search`), `lesson` and
+//! `teaching` (a learnt clause, and how far the trail goes back), `blocking` (a block:
+//! `add_between`), `pausing`. Used above: `search` ends as bs_solve_recording's `Ends` says, with
+//! the clauses that stand in the arena and watched (`IsAtRest`, or `IsPaused` where values were
+//! found). What holds between two turns: `specs/Running`; between two solves: `specs/Pausing`; what
+//! stands for good: `specs/Ground`.
 #![tactic(auto)]
 
 mod blocking;

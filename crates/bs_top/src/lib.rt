@@ -1,4 +1,11 @@
 //! The top call: the words of a command line, the files that they name, and what is written for them.
+//!
+//! Modules: `top` (`backspace`), `program` (up to the exit code), and a module a command:
+//! `backtracing`, `auditing`, `dumping`, `drawing`, `reaching`, `summing` with `generated` and
+//! `summary`; `budgets`, `law` (`audit` accepts what `run` writes). Used above: the clauses of
+//! `backspace`, over `plan_of` (`specs/Work`) and `finishes` (`specs/Finishes`). A command: an arm
+//! in each of these and in `prepare`, and a module with its walk and its answer; no clause of
+//! `backspace` changes. docs/HOW_TO_READ.md reads this contract.
 #![tactic(auto)]
 
 mod auditing;

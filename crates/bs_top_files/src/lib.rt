@@ -1,4 +1,11 @@
 //! The walk over the files of a job: each is fetched, read and checked before the next, up to what they make ready or the first refusal.
+//!
+//! Modules: `readings` (a function a file), `refusals` (the words behind a file's name), `ready`
+//! (`Setup`, `Placed`, `Crashed`, `Claimed`: what is ready, with what is right of it), `walks`
+//! (`take_crashed` and its kin). Used above: `Walks CheckSays ..`, that the code followed the plan
+//! of `specs/Entry`; `text_in` (`specs/Readings`), what a netlist's text is. A fault: a line in
+//! `specs/Refusals` and an arm in `refusals`. A file: its reading, a plan in `specs/Entry` and a
+//! walk.
 #![tactic(auto)]
 
 mod limits;

@@ -1,4 +1,11 @@
 //! A job as a plan: the files that it comes to one after the other, how it may end, and what is written for each end.
+//!
+//! It knows no netlist and no report. `file`, `status` (the exit codes), `limits` (of files),
+//! `walk` (`fetch_file`, `settle`), `reply` (`Reply`, the refusal lines), `output` (`deliver`).
+//! Used above: `Walks`, that a walk follows a plan to an end that agrees with the shelf; and the
+//! clauses of `specs/Clauses`, which follow from `Prepares` and `Delivers`. A new command changes
+//! nothing here; a new file is a variant of `File` and of `Status` and a line in each table of
+//! `specs/Files`.
 #![tactic(auto)]
 
 mod file;

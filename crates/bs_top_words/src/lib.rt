@@ -1,4 +1,10 @@
 //! The words of a command line: which are a job, and which job they are.
+//!
+//! Modules: `options` (numbers between bounds), `line` (the words behind the command, one after
+//! another), `job` (`Job`, `read_words`). Used above: `read_words` answers the job that the words
+//! spell (`specs/Spelling`, a relation without an order of reading); `job_of` is it as a function,
+//! for plans. A command: a record and a variant of `Job`, and a line in `command_job`. An option: a
+//! variant of `Kind`, a field of `Line`, and a line in each table of `specs/Options`.
 #![tactic(auto)]
 
 mod job;

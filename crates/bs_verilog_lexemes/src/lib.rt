@@ -1,4 +1,10 @@
 //! What the grammar sees of each token of a netlist text, with its names and its great numbers numbered.
+//!
+//! Modules: `lexeme` (what a token is to the grammar), `tag` and `packed` (a lexeme in eight
+//! bytes), `words` (keywords, cells, numbers), `naming` (one lexeme a token, and the table of
+//! names). Used above: `lexemes` gives exactly `lexemes_of` and `names_of`, or the first place
+//! where no token begins. To add a keyword or a cell: `specs/Lexemes` with `words`, and its tag in
+//! `specs/Packed`, `tag` and `packed`.
 #![tactic(auto)]
 
 mod fault;

@@ -1,4 +1,10 @@
 //! What each name of a module is, the keys and the numbers of its nets, and the first fault of its declarations.
+//!
+//! Modules: `keys` (the text by which a net is named), `scope` (what is said of each name, a table
+//! by name number, and the faults of ports and bounds), `declaring` (declarations one after
+//! another), `numbering` and `nets` (the declared nets and their numbers). Used above: `scope_of`
+//! and `nets_of` give exactly what the declarations say, or their first fault. A key's text:
+//! `specs/Keys`. What clashes: `is_clash` and `scope`.
 #![tactic(auto)]
 
 mod declaring;

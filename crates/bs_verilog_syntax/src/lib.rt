@@ -1,4 +1,11 @@
 //! The grammar of a netlist text: its top module as written, or the first fault with its place.
+//!
+//! Modules: `tree` (what is read), `packed` (a connection in sixteen bytes), `reading` (the next
+//! lexeme, attributes, the fault of a lexeme that cannot go on), `unsupported` (what is left out),
+//! `listing` (a list with commas), `terms`, `declarations`, `parts`, `modules` (the whole text),
+//! `fault`. Used above: `syntax` gives exactly `syntax_of`. To change a form open the definition of
+//! its name in `specs/Terms`, `Declarations`, `Parts` or `Modules`, the function of the same name,
+//! and its production in bs_verilog_grammar; what is left out, `specs/Unsupported`.
 #![tactic(auto)]
 
 mod declarations;

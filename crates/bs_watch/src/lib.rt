@@ -1,4 +1,11 @@
 //! A trail with levels and reasons, and propagation by two watched literals of each clause.
+//!
+//! Modules: `trail` (the literals that are true, oldest first), `cause` (reasons and levels),
+//! `lists` (the watchers of each literal), `attachment`, `look` and `visit` (a clause, a literal's
+//! watchers), `propagation`, `span` (variables in a row that are false), `watch` (`Watch`). Used
+//! above: `Watch::propagate` is Quiet exactly where no attached clause is false or unit, and
+//! Conflict only on a false clause. `Watch::pass` counts places as looked at that nobody watches;
+//! `Watch::reserve` makes room and changes nothing that contracts see.
 #![tactic(auto)]
 
 mod attachment;
