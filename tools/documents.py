@@ -77,7 +77,7 @@ def faults_of(document, below):
     text = read(document)
     faults = [f"{it} is no crate" for it in sorted(set(re.findall(r"\bbs_[a-z_]+\b", text)) - set(below) - CELLS)]
     for path, _, names in re.findall(r"`((?:crates|docs|examples|tools)/[\w./-]+)(: ([^`]+))?`", text):
-        if "/out/" not in path and "/NAME/" not in path:
+        if "/out/" not in path and "/NAME/" not in path and "/CRATE/" not in path:
             faults += faults_of_place(path.rstrip("."), names)
     for link in re.findall(r"\]\(([\w./-]+\.md)\b[^)]*\)", text):
         if not os.path.exists(os.path.join(os.path.dirname(document), link)):
