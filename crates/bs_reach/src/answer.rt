@@ -6,9 +6,9 @@ ghost use Rattle.bs_encode.specs.Transition.{variables};
 ghost use Rattle.bs_reach_unrolled.specs.declared.limits.TheConstants.{MAX_COPIES, MAX_COPY_VARIABLES};
 ghost use Rattle.bs_reach_unrolled.specs.Room.{IsUnrollable};
 ghost use Rattle.bs_reach_unrolled.specs.Unrolled.{unrolled};
-ghost use Rattle.bs_reach.specs.Search.{fresh_over};
+ghost use Rattle.bs_reach.specs.Search.{fresh_over, IsBetween};
 ghost use Rattle.bs_reach.specs.Reach.{IsReach};
-ghost use Rattle.bs_reach.specs.Sought.{HasSought};
+ghost use Rattle.bs_reach.specs.Sought.{HasSought, TellsEnd};
 
 use crate::reach::{Outcome, Reach};
 use crate::search::search;
@@ -80,6 +80,26 @@ fn answered(k: u32, b: u64, told: Told, log: Log) -> Reach
     }
 }
 
+/// What the search by a solver that was just made tells.
+fn sought(
+    alloc: Global,
+    encoding: &Encoding,
+    solver: &mut Solver,
+    state: &Bits,
+    k: u32,
+    b: u64,
+) -> Result<Told, NoMemory>
+    requires unrollable { IsUnrollable encoding.now k }
+    requires width { length encoding.now.next ≡ length state.now }
+    requires limit { 1 ≤ b }
+    requires start { IsBetween solver.old.book.problem.clauses encoding.now k state.now 0 solver.old }
+    ensures { IfOk result (TellsEnd solver.old.book.problem.clauses encoding.now k state.now b solver.new) }
+{
+    let end = search(alloc, encoding, solver, state, k, b)?;
+    let told = tell(alloc, encoding, &end, k)?;
+    Ok(told)
+}
+
 /// The answer of a search over the clauses of an encoding.
 fn seek(
     alloc: Global,
@@ -97,10 +117,8 @@ fn seek(
     ensures { IfOk result (HasSought encoding.now reset.now state.now k b) }
 {
     let mut solver = solver_of(alloc, encoding, reset, k)?;
-    let end = search(alloc, encoding, &mut solver, state, k, b)?;
-    let told = tell(alloc, encoding, &end, k)?;
-    let log = solver.into_log();
-    Ok(answered(k, b, told, log))
+    let told = sought(alloc, encoding, &mut solver, state, k, b)?;
+    Ok(answered(k, b, told, solver.into_log()))
 }
 
 /// The answer for a bound of one cycle or more, where the state is another one than at reset.
