@@ -3,6 +3,7 @@ ghost use Rattle.std.specs.Prelude.{◌≡◌, ◌≢◌, ◌*◌, ◌≤◌, []
 ghost use Rattle.bs_net.specs.Circuit.{reset_state};
 ghost use Rattle.bs_net.specs.Netlist.{circuit};
 ghost use Rattle.bs_encode.specs.Transition.{variables};
+ghost use Rattle.bs_encode.specs.Encoded.{encoding_of};
 ghost use Rattle.bs_reach_unrolled.specs.declared.limits.TheConstants.{MAX_COPIES, MAX_COPY_VARIABLES};
 ghost use Rattle.bs_reach_unrolled.specs.Room.{IsUnrollable};
 ghost use Rattle.bs_reach_unrolled.specs.Unrolled.{unrolled};
@@ -121,8 +122,16 @@ fn seek(
     Ok(answered(k, b, told, solver.into_log()))
 }
 
-/// The answer for a bound of one cycle or more, where the state is another one than at reset.
-fn look(alloc: Global, net: &Netlist, state: &Bits, k: u32, b: u64) -> Result<Reach, NoMemory>
+/// The answer by the clauses of one cycle, for a bound of one cycle or more, where the state is another one than at reset.
+fn look_over(
+    alloc: Global,
+    net: &Netlist,
+    encoding: &Encoding,
+    state: &Bits,
+    k: u32,
+    b: u64,
+) -> Result<Reach, NoMemory>
+    requires encoded { encoding.now ≡ encoding_of (circuit net.now) [] }
     requires width { length state.now ≡ length (circuit net.now).flops }
     requires some { 1 ≤ k }
     requires cycles { k ≤ MAX_COPIES }
@@ -133,9 +142,27 @@ fn look(alloc: Global, net: &Netlist, state: &Bits, k: u32, b: u64) -> Result<Re
 {
     unrolled_clauses_are_executions(net);
     netlists_unroll(net, k);
-    let encoding = Encoding::plain(alloc, net)?;
-    let reach = seek(alloc, &encoding, net.reset(), state, k, b)?;
+    let reach = seek(alloc, encoding, net.reset(), state, k, b)?;
     Ok(reach)
+}
+
+/// Lets the clauses of a cycle go.
+fn let_go(_encoding: Encoding) {}
+
+/// The answer for a bound of one cycle or more, where the state is another one than at reset.
+fn look(alloc: Global, net: &Netlist, state: &Bits, k: u32, b: u64) -> Result<Reach, NoMemory>
+    requires width { length state.now ≡ length (circuit net.now).flops }
+    requires some { 1 ≤ k }
+    requires cycles { k ≤ MAX_COPIES }
+    requires room { k * variables (circuit net.now) [] ≤ MAX_COPY_VARIABLES }
+    requires limit { 1 ≤ b }
+    requires other { reset_state (circuit net.now) ≢ state.now }
+    ensures { IfOk result (IsReach (circuit net.now) state.now k b) }
+{
+    let encoding = Encoding::plain(alloc, net)?;
+    let reach = look_over(alloc, net, &encoding, state, k, b);
+    let_go(encoding);
+    reach
 }
 
 /// Whether the state is reached from reset in at most `k` cycles, under any inputs: an execution of as few cycles as there
@@ -168,5 +195,7 @@ pub fn size(alloc: Global, net: &Netlist) -> Result<u64, NoMemory>
     ensures { IfOk result (λ n. n ≡ variables (circuit net.now) []) }
 {
     let encoding = Encoding::plain(alloc, net)?;
-    Ok(u64::from(encoding.vars()))
+    let count = u64::from(encoding.vars());
+    let_go(encoding);
+    Ok(count)
 }
