@@ -3,12 +3,13 @@ ghost use Rattle.std.specs.Prelude.{◌≡◌, ◌≢◌, ◌*◌, ◌≤◌, []
 ghost use Rattle.bs_net.specs.Circuit.{reset_state};
 ghost use Rattle.bs_net.specs.Netlist.{circuit};
 ghost use Rattle.bs_encode.specs.Transition.{variables};
+ghost use Rattle.bs_encode.specs.Encoded.{encoding_of};
 ghost use Rattle.bs_reach_unrolled.specs.declared.limits.TheConstants.{MAX_COPIES, MAX_COPY_VARIABLES};
 ghost use Rattle.bs_reach_unrolled.specs.Room.{IsUnrollable};
 ghost use Rattle.bs_reach_unrolled.specs.Unrolled.{unrolled};
-ghost use Rattle.bs_reach.specs.Search.{fresh_over};
+ghost use Rattle.bs_reach.specs.Search.{fresh_over, IsBetween};
 ghost use Rattle.bs_reach.specs.Reach.{IsReach};
-ghost use Rattle.bs_reach.specs.Sought.{HasSought};
+ghost use Rattle.bs_reach.specs.Sought.{HasSought, TellsEnd};
 
 use crate::reach::{Outcome, Reach};
 use crate::search::search;
@@ -80,6 +81,26 @@ fn answered(k: u32, b: u64, told: Told, log: Log) -> Reach
     }
 }
 
+/// What the search by a solver that was just made tells.
+fn sought(
+    alloc: Global,
+    encoding: &Encoding,
+    solver: &mut Solver,
+    state: &Bits,
+    k: u32,
+    b: u64,
+) -> Result<Told, NoMemory>
+    requires unrollable { IsUnrollable encoding.now k }
+    requires width { length encoding.now.next ≡ length state.now }
+    requires limit { 1 ≤ b }
+    requires start { IsBetween solver.old.book.problem.clauses encoding.now k state.now 0 solver.old }
+    ensures { IfOk result (TellsEnd solver.old.book.problem.clauses encoding.now k state.now b solver.new) }
+{
+    let end = search(alloc, encoding, solver, state, k, b)?;
+    let told = tell(alloc, encoding, &end, k)?;
+    Ok(told)
+}
+
 /// The answer of a search over the clauses of an encoding.
 fn seek(
     alloc: Global,
@@ -97,11 +118,36 @@ fn seek(
     ensures { IfOk result (HasSought encoding.now reset.now state.now k b) }
 {
     let mut solver = solver_of(alloc, encoding, reset, k)?;
-    let end = search(alloc, encoding, &mut solver, state, k, b)?;
-    let told = tell(alloc, encoding, &end, k)?;
-    let log = solver.into_log();
-    Ok(answered(k, b, told, log))
+    let told = sought(alloc, encoding, &mut solver, state, k, b)?;
+    Ok(answered(k, b, told, solver.into_log()))
 }
+
+/// The answer by the clauses of one cycle, for a bound of one cycle or more, where the state is another one than at reset.
+fn look_over(
+    alloc: Global,
+    net: &Netlist,
+    encoding: &Encoding,
+    state: &Bits,
+    k: u32,
+    b: u64,
+) -> Result<Reach, NoMemory>
+    requires encoded { encoding.now ≡ encoding_of (circuit net.now) [] }
+    requires width { length state.now ≡ length (circuit net.now).flops }
+    requires some { 1 ≤ k }
+    requires cycles { k ≤ MAX_COPIES }
+    requires room { k * variables (circuit net.now) [] ≤ MAX_COPY_VARIABLES }
+    requires limit { 1 ≤ b }
+    requires other { reset_state (circuit net.now) ≢ state.now }
+    ensures { IfOk result (IsReach (circuit net.now) state.now k b) }
+{
+    unrolled_clauses_are_executions(net);
+    netlists_unroll(net, k);
+    let reach = seek(alloc, encoding, net.reset(), state, k, b)?;
+    Ok(reach)
+}
+
+/// Lets the clauses of a cycle go.
+fn let_go(_encoding: Encoding) {}
 
 /// The answer for a bound of one cycle or more, where the state is another one than at reset.
 fn look(alloc: Global, net: &Netlist, state: &Bits, k: u32, b: u64) -> Result<Reach, NoMemory>
@@ -113,11 +159,10 @@ fn look(alloc: Global, net: &Netlist, state: &Bits, k: u32, b: u64) -> Result<Re
     requires other { reset_state (circuit net.now) ≢ state.now }
     ensures { IfOk result (IsReach (circuit net.now) state.now k b) }
 {
-    unrolled_clauses_are_executions(net);
-    netlists_unroll(net, k);
     let encoding = Encoding::plain(alloc, net)?;
-    let reach = seek(alloc, &encoding, net.reset(), state, k, b)?;
-    Ok(reach)
+    let reach = look_over(alloc, net, &encoding, state, k, b);
+    let_go(encoding);
+    reach
 }
 
 /// Whether the state is reached from reset in at most `k` cycles, under any inputs: an execution of as few cycles as there
@@ -150,5 +195,7 @@ pub fn size(alloc: Global, net: &Netlist) -> Result<u64, NoMemory>
     ensures { IfOk result (λ n. n ≡ variables (circuit net.now) []) }
 {
     let encoding = Encoding::plain(alloc, net)?;
-    Ok(u64::from(encoding.vars()))
+    let count = u64::from(encoding.vars());
+    let_go(encoding);
+    Ok(count)
 }

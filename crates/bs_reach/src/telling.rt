@@ -1,5 +1,5 @@
 //! What the end of a search tells: the outcome, and an execution where there is one.
-ghost use Rattle.std.specs.Prelude.{◌≡◌, ◌+◌, ◌*◌, ◌<◌, ◌≤◌, length, All, IfOk};
+ghost use Rattle.std.specs.Prelude.{◌≡◌, ◌+◌, ◌*◌, ◌<◌, ◌≤◌, [], length, All, IfOk, OnOk};
 ghost use Rattle.bs_solve_recording.specs.Values.{value_of};
 ghost use Rattle.bs_encode.specs.Cycle.{bits_on};
 ghost use Rattle.bs_encode.specs.Copy.{raised_all, HasRoom};
@@ -96,6 +96,28 @@ fn next_state_at(
     Ok(bits)
 }
 
+/// Puts the states of the execution whose last copy this is into an empty list.
+fn put_states(
+    states: &mut List<Bits>,
+    alloc: Global,
+    encoding: &Encoding,
+    values: &Solution,
+    c: u32,
+    k: u32,
+) -> Result<(), NoMemory>
+    requires empty { states.old ≡ [] }
+    requires unrollable { IsUnrollable encoding.now k }
+    requires within { c < k }
+    requires wide { k * encoding.now.variables ≤ length values.now }
+    ensures { OnOk result (states.new ≡ states_shown encoding.now (value_of values.now) (c + 1)) }
+{
+    'copies: for i in 0..c + 1 {
+        states.push(state_at(alloc, encoding, values, i, k)?)?;
+    }
+    states.push(next_state_at(alloc, encoding, values, c, k)?)?;
+    Ok(())
+}
+
 /// The states of the execution whose last copy this is.
 fn states_of(
     alloc: Global,
@@ -110,11 +132,29 @@ fn states_of(
     ensures { IfOk result (λ states. states ≡ states_shown encoding.now (value_of values.now) (c + 1)) }
 {
     let mut states = List::new(alloc);
-    'copies: for i in 0..c + 1 {
-        states.push(state_at(alloc, encoding, values, i, k)?)?;
-    }
-    states.push(next_state_at(alloc, encoding, values, c, k)?)?;
+    put_states(&mut states, alloc, encoding, values, c, k)?;
     Ok(states)
+}
+
+/// Puts the inputs of the execution whose last copy this is into an empty list.
+fn put_inputs(
+    inputs: &mut List<Bits>,
+    alloc: Global,
+    encoding: &Encoding,
+    values: &Solution,
+    c: u32,
+    k: u32,
+) -> Result<(), NoMemory>
+    requires empty { inputs.old ≡ [] }
+    requires unrollable { IsUnrollable encoding.now k }
+    requires within { c < k }
+    requires wide { k * encoding.now.variables ≤ length values.now }
+    ensures { OnOk result (inputs.new ≡ inputs_shown encoding.now (value_of values.now) (c + 1)) }
+{
+    'copies: for i in 0..c + 1 {
+        inputs.push(input_at(alloc, encoding, values, i, k)?)?;
+    }
+    Ok(())
 }
 
 /// The inputs of the execution whose last copy this is.
@@ -131,9 +171,7 @@ fn inputs_of(
     ensures { IfOk result (λ inputs. inputs ≡ inputs_shown encoding.now (value_of values.now) (c + 1)) }
 {
     let mut inputs = List::new(alloc);
-    'copies: for i in 0..c + 1 {
-        inputs.push(input_at(alloc, encoding, values, i, k)?)?;
-    }
+    put_inputs(&mut inputs, alloc, encoding, values, c, k)?;
     Ok(inputs)
 }
 

@@ -3,7 +3,7 @@ ghost use Rattle.std.specs.Prelude.{◌≡◌, ◌+◌, ◌-◌, ◌<◌, ◌≤
 ghost use Rattle.std.specs.List.{flat_map, range_with_len};
 ghost use Rattle.bs_clause.specs.Literal.{IsVariable};
 ghost use Rattle.bs_encode.specs.Copy.{link, links};
-ghost use Rattle.bs_reach_unrolled.specs.Unrolled.{links_of};
+ghost use Rattle.bs_reach_unrolled.specs.Unrolled.{links_of, next_at};
 ghost use Rattle.bs_reach_unrolled.specs.Room.{IsUnrollable};
 
 use bs_clause::{Clauses, Lit, Lits, NoMemory, Var};
@@ -47,6 +47,24 @@ fn add_links(
     Ok(())
 }
 
+/// Puts the links between a copy, by its next state, and the one behind it at the end.
+fn add_links_to(
+    alloc: Global,
+    into: &mut Clauses,
+    encoding: &Encoding,
+    next: &[Lit],
+    c: u32,
+    k: u32,
+) -> Result<(), NoMemory>
+    requires unrollable { IsUnrollable encoding.now k }
+    requires within { c + 1 < k }
+    requires shown { next.now ≡ next_at encoding.now c }
+    ensures { OnOk result (into.new ≡ into.old ++ links_of encoding.now c) }
+{
+    let states = raise_all(alloc, encoding.states(), (c + 1) * encoding.vars())?;
+    add_links(alloc, into, next, states.slice())
+}
+
 /// Puts the links between a copy and the one behind it at the end.
 fn add_links_of(
     alloc: Global,
@@ -60,8 +78,7 @@ fn add_links_of(
     ensures { OnOk result (into.new ≡ into.old ++ links_of encoding.now c) }
 {
     let next = raise_all(alloc, encoding.next(), c * encoding.vars())?;
-    let states = raise_all(alloc, encoding.states(), (c + 1) * encoding.vars())?;
-    add_links(alloc, into, next.slice(), states.slice())
+    add_links_to(alloc, into, encoding, next.slice(), c, k)
 }
 
 /// Puts the links between all copies at the end.

@@ -21,6 +21,21 @@ fn add_units(alloc: Global, into: &mut Clauses, literals: &[Lit]) -> Result<(), 
     Ok(())
 }
 
+/// Puts the units of the first copy's state at the end.
+fn add_reset(
+    alloc: Global,
+    into: &mut Clauses,
+    encoding: &Encoding,
+    reset: &Bits,
+) -> Result<(), NoMemory>
+    requires width { length encoding.now.states ≡ length reset.now }
+    ensures { OnOk result (into.new ≡ into.old ++ map (λ l. l ∷ []) (signed encoding.now.states reset.now)) }
+{
+    let mut starts = Lits::new(alloc);
+    push_signed(&mut starts, encoding.states(), reset)?;
+    add_units(alloc, into, starts.slice())
+}
+
 /// The clauses of one cycle or more from this state on (docs/FORMATS.md, "Unrolled clauses").
 pub fn unroll(alloc: Global, encoding: &Encoding, reset: &Bits, k: u32) -> Result<Clauses, NoMemory>
     requires some { 1 ≤ k }
@@ -29,11 +44,20 @@ pub fn unroll(alloc: Global, encoding: &Encoding, reset: &Bits, k: u32) -> Resul
     ensures { IfOk result (λ all. all ≡ unrolled encoding.now reset.now k) }
 {
     let mut all = Clauses::new(alloc);
-    let mut starts = Lits::new(alloc);
-    push_signed(&mut starts, encoding.states(), reset)?;
     add_copies(alloc, &mut all, encoding, k)?;
-    add_units(alloc, &mut all, starts.slice())?;
+    add_reset(alloc, &mut all, encoding, reset)?;
     add_all_links(alloc, &mut all, encoding, k)?;
+    Ok(all)
+}
+
+/// A guard, and literals with the signs of a state.
+fn guarded(alloc: Global, guard: Lit, next: &[Lit], state: &Bits) -> Result<Lits, NoMemory>
+    requires { length next.now ≡ length state.now }
+    ensures { IfOk result (λ all. all ≡ guard ∷ signed next.now state.now) }
+{
+    let mut all = Lits::new(alloc);
+    all.push(guard)?;
+    push_signed(&mut all, next, state)?;
     Ok(all)
 }
 
@@ -52,8 +76,6 @@ pub fn assume_length(
     ensures { IfOk result (λ all. all ≡ guard ∷ signed (next_at encoding.now c) state.now) }
 {
     let next = raise_all(alloc, encoding.next(), c * encoding.vars())?;
-    let mut all = Lits::new(alloc);
-    all.push(guard)?;
-    push_signed(&mut all, next.slice(), state)?;
+    let all = guarded(alloc, guard, next.slice(), state)?;
     Ok(all)
 }

@@ -7,15 +7,15 @@ returns c =
     subst (HasSought c.args.encoding.now c.args.reset.now c.args.state.now c.args.k c.args.b) (sym c.answered.ensures)
     (record {
       start = c.in_ok-solver.solver;
-      solver = c.search.new.solver;
-      end = c.in_ok-end.end;
+      solver = c.sought.new.solver;
+      end = c.in_ok-told.ensures.end;
       told = c.in_ok-told.told;
       is = refl;
       fresh = c.in_ok-solver.ensures;
-      ended = c.in_ok-end.ensures;
-      tells = c.in_ok-told.ensures;
-      lines = c.into_log-log.ensures.lines;
-      lean = λ well. record { steps = c.into_log-log.ensures.steps well; lemmas = c.into_log-log.ensures.lean };
-      texts = c.into_log-log.ensures.texts;
-      accepted = c.into_log-log.ensures.accepted;
+      ended = c.in_ok-told.ensures.ended;
+      tells = c.in_ok-told.ensures.tells;
+      lines = c.into_log.ensures.lines;
+      lean = λ well. record { steps = c.into_log.ensures.steps well; lemmas = c.into_log.ensures.lean };
+      texts = c.into_log.ensures.texts;
+      accepted = c.into_log.ensures.accepted;
     })
