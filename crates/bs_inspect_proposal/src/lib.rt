@@ -1,10 +1,10 @@
 //! How well a signature tells the states of recorded runs apart, and the proposal of one.
 #![tactic(auto)]
 
-mod apart;
 mod best;
 mod classes;
 mod greedy;
+mod halves;
 mod items;
 mod keys;
 mod lines;
@@ -13,7 +13,6 @@ mod proposal;
 mod rows;
 mod sharing;
 
-pub use apart::{tell_states, tell_steps};
 pub use greedy::MAX_COMPARED;
 pub use listing::{list_states, list_steps};
 pub use proposal::proposal_text;
