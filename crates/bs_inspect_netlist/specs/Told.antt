@@ -6,14 +6,10 @@ use Rattle.bs_bits.specs.Text.{digit_of}
 use Rattle.bs_net.specs.declared.net.NetId.{NetId}
 use Rattle.bs_net.specs.declared.net.Flop.{Flop}
 use Rattle.bs_net.specs.declared.net.Mode.TheVariants.{Plain}
-use Rattle.bs_net.specs.Parts.{Parts}
+use Rattle.bs_net.specs.Parts.{Parts, key_at}
 use Rattle.bs_net.specs.Netlist.{circuit_of}
 use Rattle.bs_inspect_netlist.specs.declared.mark.Measure.TheVariants.{Source}
 use Rattle.bs_inspect_netlist.specs.Marks.{AreMarks, mark_at}
-
--- the key of a net
-abbrev pub key_at : Parts → ℕ → List ℕ
-key_at r n = slice_index_or r.names n []
 
 -- the key of a net behind a space, where it is another net than this one and shows its value
 abbrev pub copy_piece : Parts → List ℕ → ℕ → ℕ → List ℕ

@@ -2,7 +2,8 @@
 ghost use Rattle.std.specs.Prelude.{◌≡◌, ◌<◌, ◌∷◌, [], ◌++◌, length, IfOk, OnOk};
 ghost use Rattle.bs_bits.specs.Text.{digit_of};
 ghost use Rattle.bs_net.specs.Netlist.{parts_of};
-ghost use Rattle.bs_inspect_netlist.specs.Told.{TellsFlops, TellsInputs, copies_text, copy_piece, flop_line, flops_told, input_line, inputs_told, key_at};
+ghost use Rattle.bs_net.specs.Parts.{key_at};
+ghost use Rattle.bs_inspect_netlist.specs.Told.{TellsFlops, TellsInputs, copies_text, copy_piece, flop_line, flops_told, input_line, inputs_told};
 
 use crate::mark::Measure;
 use crate::marking::marks;
@@ -39,7 +40,7 @@ fn push_copy(
 }
 
 /// Appends the keys of all nets that show the value of this one.
-#[tactic(auto, using(crate::proofs::TextLemmas::places_step))]
+#[tactic(auto, using(bs_bits::proofs::RangeLemmas::places_step))]
 fn push_copies(text: &mut Vec<u8>, raw: &Raw, sources: &[usize], net: u32) -> Result<(), NoMemory>
     requires { length sources.now ≡ length raw.now.names }
     ensures { OnOk result (text.new.items ≡ text.old.items ++ copies_text (parts_of raw.now) sources.now net) }
@@ -102,7 +103,7 @@ fn push_input(
 }
 
 /// Appends a line for each flip-flop.
-#[tactic(auto, using(crate::proofs::TextLemmas::places_step))]
+#[tactic(auto, using(bs_bits::proofs::RangeLemmas::places_step))]
 fn push_flops(text: &mut Vec<u8>, raw: &Raw, sources: &[usize]) -> Result<(), NoMemory>
     requires { length sources.now ≡ length raw.now.names }
     ensures { OnOk result (text.new.items ≡ text.old.items ++ flops_told (parts_of raw.now) sources.now) }
@@ -114,7 +115,7 @@ fn push_flops(text: &mut Vec<u8>, raw: &Raw, sources: &[usize]) -> Result<(), No
 }
 
 /// Appends a line for each data input.
-#[tactic(auto, using(crate::proofs::TextLemmas::places_step))]
+#[tactic(auto, using(bs_bits::proofs::RangeLemmas::places_step))]
 fn push_inputs(text: &mut Vec<u8>, net: &Netlist, sources: &[usize]) -> Result<(), NoMemory>
     requires { length sources.now ≡ length net.now.raw.names }
     ensures { OnOk result (text.new.items ≡ text.old.items ++ inputs_told net.now.raw sources.now) }

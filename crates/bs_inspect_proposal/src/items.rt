@@ -7,7 +7,7 @@ ghost use Rattle.bs_inspect_proposal.specs.Apart.{states_apart, step_signature, 
 ghost use Rattle.bs_inspect_proposal.specs.Items.{AreWithin, single};
 ghost use Rattle.bs_inspect_proposal.specs.Proposal.{every, parity_items};
 
-use crate::apart::{behind, front};
+use crate::halves::{behind, front};
 use crate::listing::joined;
 use crate::sharing::{Tally, tally_rows};
 use bs_bits::{Bits, List, NoMemory};

@@ -7,10 +7,10 @@
 //! look at more states raise `MAX_ROWS`; to compare more, `MAX_COMPARED`.
 #![tactic(auto)]
 
-mod apart;
 mod best;
 mod classes;
 mod greedy;
+mod halves;
 mod items;
 mod keys;
 mod lines;
@@ -19,7 +19,6 @@ mod proposal;
 mod rows;
 mod sharing;
 
-pub use apart::{tell_states, tell_steps};
 pub use greedy::MAX_COMPARED;
 pub use listing::{list_states, list_steps};
 pub use proposal::proposal_text;

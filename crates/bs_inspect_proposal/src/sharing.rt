@@ -79,7 +79,7 @@ fn tally_by(
 }
 
 /// The greatest number of members of a list that share their bits, and the sum over all members of how many share theirs.
-pub fn tally_rows(alloc: Global, rows: &[Bits]) -> Result<Tally, NoMemory>
+pub(crate) fn tally_rows(alloc: Global, rows: &[Bits]) -> Result<Tally, NoMemory>
     requires { length rows.now < 2 ^ 32 }
     ensures { IfOk result (λ tally. tally ≡ tally_of rows.now) }
 {

@@ -8,10 +8,10 @@ use Rattle.std.proofs.lemmas.List.Sums.{length-filter, count_by-le-length}
 use Rattle.bs_net.specs.declared.net.NetId.{NetId}
 use Rattle.bs_net.specs.declared.net.Flop.{Flop}
 use Rattle.std.specs.List.{All, count_by}
-use Rattle.bs_net.specs.Parts.{Parts, PartsArePlaced}
+use Rattle.bs_net.specs.Parts.{Parts, PartsArePlaced, key_at}
 use Rattle.bs_net.specs.Netlist.{circuit_of}
 use Rattle.bs_net.proofs.NetlistLemmas.{without_placed}
-use Rattle.bs_inspect_report.specs.Keys.{key_at, flop_keys, input_keys}
+use Rattle.bs_inspect_report.specs.Keys.{flop_keys, input_keys}
 
 -- what stands at a net's place is its key
 pub key_is : (r : Parts) (n : ℕ) (key : List ℕ) → slice_get r.names n ≡ Some key → key ≡ key_at r n

@@ -1,11 +1,7 @@
 -- The keys of a netlist's flip-flops and data inputs, in order.
-use Rattle.std.specs.Prelude.{ℕ, List, [], map, slice_index_or}
-use Rattle.bs_net.specs.Parts.{Parts}
+use Rattle.std.specs.Prelude.{ℕ, List, map}
+use Rattle.bs_net.specs.Parts.{Parts, key_at}
 use Rattle.bs_net.specs.Netlist.{circuit_of}
-
--- the key of a net
-abbrev pub key_at : Parts → ℕ → List ℕ
-key_at r n = slice_index_or r.names n []
 
 -- the keys of the flip-flops, in the order of a state's bits
 abbrev pub flop_keys : Parts → List (List ℕ)

@@ -49,9 +49,13 @@ cycle_told r signals all i =
 abbrev pub trace_told : Report → Signals → Bool → List ℕ
 trace_told r signals all = flat_map (cycle_told r signals all) (range_with_len 0 (length r.states))
 
+-- the signals of a netlist's flip-flops and of its data inputs; where names are given, these alone
+pub record AreTraced (raw : Parts) (only : List (List ℕ)) (signals : Signals) : Type 0 where
+  pub flops : AreSignals only (flop_keys raw) signals.flops
+  pub inputs : AreSignals only (input_keys raw) signals.inputs
+
 -- the text tells each cycle of the report's trace, with the names of the netlist; where names are given, these alone
 pub record TellsTrace (raw : Parts) (r : Report) (all : Bool) (only : List (List ℕ)) (text : List ℕ) : Type 0 where
   pub signals : Signals
-  pub flops : AreSignals only (flop_keys raw) signals.flops
-  pub inputs : AreSignals only (input_keys raw) signals.inputs
+  pub are : AreTraced raw only signals
   pub told : text ≡ trace_told r signals all

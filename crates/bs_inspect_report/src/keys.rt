@@ -1,7 +1,8 @@
 //! The keys of a netlist's flip-flops and data inputs.
 ghost use Rattle.std.specs.Prelude.{◌≡◌, ◌<◌, ◌^◌, length, map, IfOk};
 ghost use Rattle.bs_net.specs.Netlist.{parts_of};
-ghost use Rattle.bs_inspect_report.specs.Keys.{flop_keys, input_keys, key_at};
+ghost use Rattle.bs_net.specs.Parts.{key_at};
+ghost use Rattle.bs_inspect_report.specs.Keys.{flop_keys, input_keys};
 
 use bs_bits::NoMemory;
 use bs_net::{NetId, Netlist, Raw};

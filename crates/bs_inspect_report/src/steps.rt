@@ -138,7 +138,7 @@ fn push_at(text: &mut Vec<u8>, report: &Report, lemmas: &[u64], i: usize) -> Res
 }
 
 /// Appends the lines of the steps.
-#[tactic(auto, using(crate::proofs::PieceLemmas::places_step))]
+#[tactic(auto, using(bs_bits::proofs::RangeLemmas::places_step))]
 fn push_steps(text: &mut Vec<u8>, report: &Report, lemmas: &[u64]) -> Result<(), NoMemory>
     ensures { OnOk result (text.new.items ≡ text.old.items ++ steps_told report.now lemmas.now) }
 {

@@ -3,7 +3,7 @@ ghost use Rattle.std.specs.Prelude.{◌≡◌, ◌<◌, ◌^◌, ◌++◌, lengt
 ghost use Rattle.bs_inspect_names.specs.Signals.{AreSignals, signal_in};
 ghost use Rattle.bs_inspect_report.specs.Keys.{flop_keys, input_keys};
 ghost use Rattle.bs_inspect_report.specs.Told.{signals_in};
-ghost use Rattle.bs_inspect_report.specs.Trace.{TellsTrace, trace_told};
+ghost use Rattle.bs_inspect_report.specs.Trace.{AreTraced, TellsTrace, trace_told};
 
 use crate::keys::{flop_keys, input_keys};
 use crate::moment::push_cycle;
@@ -58,7 +58,7 @@ fn input_signals<'a>(
 }
 
 /// Appends the cycles of a trace.
-#[tactic(auto, using(crate::proofs::PieceLemmas::places_step))]
+#[tactic(auto, using(bs_bits::proofs::RangeLemmas::places_step))]
 fn push_trace(
     text: &mut Vec<u8>,
     report: &Report,
@@ -73,6 +73,51 @@ fn push_trace(
     Ok(())
 }
 
+/// The signals of a trace: these of its states, and those of a netlist's data inputs.
+fn with_inputs<'a>(
+    alloc: Global,
+    net: &'a Netlist,
+    only: &[&str],
+    flops: Vec<Signal<'a>>,
+) -> Result<Signals<'a>, NoMemory>
+    requires are { AreSignals (map (λ s. s.now) only.now) (flop_keys net.now.raw) (map signal_in flops.items) }
+    requires few { All (λ s. length s.places < 2 ^ 32) flops.items }
+    ensures { IfOk result (λ signals. AreTraced net.now.raw (map (λ s. s.now) only.now) (signals_in signals)) }
+{
+    match input_signals(alloc, net, only) {
+        Ok(inputs) => Ok(Signals { flops, inputs }),
+        Err(refused) => Err(refused),
+    }
+}
+
+/// The signals of a trace.
+fn trace_signals<'a>(
+    alloc: Global,
+    net: &'a Netlist,
+    only: &[&str],
+) -> Result<Signals<'a>, NoMemory>
+    ensures { IfOk result (λ signals. AreTraced net.now.raw (map (λ s. s.now) only.now) (signals_in signals)) }
+{
+    match flop_signals(alloc, net, only) {
+        Ok(flops) => with_inputs(alloc, net, only, flops),
+        Err(refused) => Err(refused),
+    }
+}
+
+/// The text of a trace with these signals.
+fn text_of(
+    alloc: Global,
+    report: &Report,
+    signals: &Signals<'_>,
+    all: bool,
+) -> Result<Vec<u8>, NoMemory>
+    ensures { IfOk result (λ text. text.items ≡ trace_told report.now (signals_in signals.now) all) }
+{
+    let mut text = Vec::new(alloc);
+    push_trace(&mut text, report, signals, all)?;
+    Ok(text)
+}
+
 /// The trace of a report with the names of a netlist, cycle by cycle: where the state comes from, the flip-flops that
 /// changed (or all), and the input. Bits of one vector stand together as one number. Where names are given, these alone.
 pub fn trace_text(
@@ -84,10 +129,8 @@ pub fn trace_text(
 ) -> Result<Vec<u8>, NoMemory>
     ensures { IfOk result (λ text. TellsTrace net.now.raw report.now all (map (λ s. s.now) only.now) text.items) }
 {
-    let flops = flop_signals(alloc, net, only)?;
-    let inputs = input_signals(alloc, net, only)?;
-    let signals = Signals { flops, inputs };
-    let mut text = Vec::new(alloc);
-    push_trace(&mut text, report, &signals, all)?;
-    Ok(text)
+    match trace_signals(alloc, net, only) {
+        Ok(signals) => text_of(alloc, report, &signals, all),
+        Err(refused) => Err(refused),
+    }
 }

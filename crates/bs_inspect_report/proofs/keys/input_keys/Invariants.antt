@@ -1,6 +1,6 @@
 use Rattle.std.proofs.Common.{◌≡◌, map, take}
 use Rattle.bs_net.specs.Netlist.{circuit}
-use Rattle.bs_inspect_report.specs.Keys.{key_at}
+use Rattle.bs_net.specs.Parts.{key_at}
 use Rattle.bs_inspect_report.proofs.keys.input_keys.Given as goal
 
 abbrev pub invariant-inputs : goal.invariant-inputs

@@ -1,6 +1,6 @@
 use Rattle.std.proofs.Common.{◌≡◌, ◌≤◌, take}
 use Rattle.std.specs.Prelude.{drop}
-use Rattle.bs_inspect_proposal.proofs.apart.behind.Given as goal
+use Rattle.bs_inspect_proposal.proofs.halves.behind.Given as goal
 
 abbrev pub invariant-places : goal.invariant-places
 invariant-places l = record {
