@@ -9,8 +9,8 @@ use Rattle.bs_report.specs.declared.report.Report.{Report}
 use Rattle.bs_report_good.specs.Chain.{present_of}
 use Rattle.bs_report_good.specs.Good.{IsGood}
 use Rattle.bs_report_good.specs.Valid.{IsValid}
-use Rattle.bs_audit.specs.declared.finding.Finding.{Finding}
-use Rattle.bs_audit.specs.declared.finding.Finding.TheVariants.{Accepted, Rejected}
+use Rattle.bs_audit.specs.declared.parts.Finding.{Finding}
+use Rattle.bs_audit.specs.declared.parts.Finding.TheVariants.{Accepted, Rejected}
 
 -- what a report's log is checked against: the clauses of the netlist, and what each step assumes of its present
 abbrev pub basis_for : Crash → Report → Basis

@@ -11,14 +11,14 @@ mod assumed;
 mod blocks;
 mod candidates;
 mod ends;
-mod finding;
 mod law;
 mod logged;
+mod parts;
 mod replay;
 mod step_lines;
 mod steps;
 mod stop;
 mod trace;
 
-pub use finding::{Finding, audit};
 pub use law::valid_reports_are_good;
+pub use parts::{Finding, audit};

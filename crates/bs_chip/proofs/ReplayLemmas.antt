@@ -42,6 +42,13 @@ played_more p net runs old new x run cycle same here e f =
     (λ (here : old ≡ state_of (circuit net) (inputs_of runs) (moment run cycle)).
     λ i. record { circuit = circuit net; runs = inputs_of runs; state = played_here net runs old new x run cycle here e f i }) here
 
+-- the input of a cycle, as the runs that drive a player have it
+pub input_seen : (p : Played) (net : Checked) (runs : Stimulus) (state x : List Bool) (run cycle : ℕ) →
+    record { circuit = circuit net; runs = inputs_of runs; state = state } ≡ p → x ≡ get_or (run_at runs run).inputs cycle [] →
+    x ≡ get_or (run_of p.runs run) cycle []
+input_seen p net runs state x run cycle same f =
+    f ∙ ap (λ (r : Run). get_or r cycle []) (sym (run_inputs runs run)) ∙ ap (λ (p : Played). get_or (run_of p.runs run) cycle []) same
+
 -- before the first cycle a register of any depth holds nothing
 pub register_first : (c : Circuit) (choice : Chosen) (run : Run) (r : Register) → r ≡ record { choice = choice; stored = [] } →
     r ≡ record { choice = choice; stored = stored_at c choice run 0 }

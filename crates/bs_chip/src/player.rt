@@ -1,10 +1,10 @@
 //! A simulator that recorded runs drive.
-ghost use Rattle.std.specs.Prelude.{◌≡◌, ◌≤◌, ◌+◌, ◌-◌, ◌*◌, length, IfOk};
+ghost use Rattle.std.specs.Prelude.{◌≡◌, ◌≤◌, ◌+◌, ◌-◌, ◌*◌, [], length, slice_index_or, IfOk};
 ghost use Rattle.bs_net.specs.Circuit.{reset_state};
 ghost use Rattle.bs_net.specs.Netlist.{circuit};
 ghost use Rattle.bs_stim.specs.Runs.{inputs_of};
 ghost use Rattle.bs_scan.specs.Crash.{IsRecording, recording_of};
-ghost use Rattle.bs_scan.specs.Moments.{IsMoment, moment, state_of};
+ghost use Rattle.bs_scan.specs.Moments.{IsMoment, moment, run_of, state_of};
 ghost use Rattle.bs_lanes_planes.specs.Planes.{lane};
 ghost use Rattle.bs_chip.specs.Lockstep.{wide_of};
 ghost use Rattle.bs_chip.specs.Replay.{Played, in_state};
@@ -102,6 +102,16 @@ impl<'a> Player<'a> {
         let wide = wide_for(self.runs);
         read_lane(planes, wide, run as usize - 1, &mut self.entered);
         self.sim.load(&self.entered);
+    }
+
+    /// The input of a cycle of a run, which leads to the next cycle.
+    pub fn input_at(&self, alloc: Global, run: u32, cycle: u32) -> Result<Bits, NoMemory>
+        requires { IsMoment self.now.runs (moment run (cycle + 1)) }
+        ensures { IfOk result (λ input. input ≡ slice_index_or (run_of self.now.runs run) cycle []) }
+    {
+        let mut input = zeros(alloc, self.runs.width())?;
+        self.runs.fill(run, cycle, &mut input);
+        Ok(input)
     }
 
     /// One clock edge under the input of a cycle of a run.

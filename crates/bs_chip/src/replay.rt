@@ -1,5 +1,5 @@
 //! The chip, which replays recorded runs.
-ghost use Rattle.std.specs.Prelude.{◌≡◌, length, map, option_map, slice_get, All, IfOk, IfSome};
+ghost use Rattle.std.specs.Prelude.{◌≡◌, ◌+◌, [], length, map, option_map, slice_get, slice_index_or, All, IfOk, IfSome};
 ghost use Rattle.bs_net.specs.Netlist.{circuit};
 ghost use Rattle.bs_scan.specs.Crash.{dump_at, recording_of, IsRecording};
 ghost use Rattle.bs_scan.specs.Moments.{first_moment as first_moment_of, moment, run_of, state_of, IsMoment};
@@ -173,6 +173,14 @@ impl<'a> Chip<'a> {
         let moment = Moment { run, cycle };
         bring(&mut self.player, &mut self.register, &self.track, moment);
         dump_of(alloc, self.player.state(), &self.register)
+    }
+
+    /// The input that was recorded of a run at a cycle. It leads from this cycle to the next one.
+    pub fn input_at(&self, alloc: Global, run: u32, cycle: u32) -> Result<Bits, NoMemory>
+        requires { IsMoment self.now.recording.runs (moment run (cycle + 1)) }
+        ensures { IfOk result (λ input. input ≡ slice_index_or (run_of self.now.recording.runs run) cycle []) }
+    {
+        self.player.input_at(alloc, run, cycle)
     }
 
     /// The first moment, by cycle and then by run, at which a run is in a listed state, with its dump. After a hit the

@@ -1,9 +1,9 @@
 -- What the search for candidates has found and logged, turn by turn.
-use Rattle.std.proofs.Common.{◌≡◌, ℕ, ◌+◌, ◌-◌, ◌<◌, ◌≤◌, Bool, true, false, not, List, [], ◌∷◌, ◌++◌, length, reverse, refl, ap, subst, sym, ◌∙◌}
+use Rattle.std.proofs.Common.{◌≡◌, ◌≢◌, ℕ, ◌+◌, ◌-◌, ◌<◌, ◌≤◌, Bool, true, false, not, List, [], ◌∷◌, ◌++◌, length, reverse, refl, ap, subst, sym, ◌∙◌}
 use Rattle.std.proofs.Common.{◌⊎◌, inl, inr, append_assoc, arith, Option, Some, None}
 use Rattle.std.specs.Prelude.{◌^◌, Contains, ◌||◌, ◌&&◌, ◌==◌, filter_map, unwrap_or}
 use Rattle.std.specs.List.{AllByRecursion as Each, list_any, list_all, IsDistinct}
-use Rattle.std.proofs.lemmas.Bool.{false≢true, true≢false, eq-eqb}
+use Rattle.std.proofs.lemmas.Bool.{false≢true, true≢false, or_right, eq-eqb}
 use Rattle.std.proofs.lemmas.List.{map-append, reverse-append, length-reverse, length-append}
 use Rattle.std.proofs.lemmas.List.Elements.{All-push, All-weaker, recursion_from_All, All-from_recursion, All-nil, Contains-push, Contains-append_left}
 use Rattle.std.proofs.lemmas.List.Sorted.{IsPermutation-to_front, IsPermutation-sym, IsPermutation-reverse, All-permutation}
@@ -17,7 +17,8 @@ use Rattle.bs_log.specs.History.{History, step_of}
 use Rattle.bs_log.specs.Refusal.{denies}
 use Rattle.bs_log.specs.Steps.{is_lemma_line, block_of_line, lemma_of_line, last_solve, is_spent}
 use Rattle.bs_net.proofs.NextLemmas.{bits_eq_Decides}
-use Rattle.bs_scan.proofs.SignatureLemmas.{bits_same_is}
+use Rattle.bs_scan.specs.Moments.{is_listed}
+use Rattle.bs_scan.proofs.SignatureLemmas.{bits_same, bits_same_is}
 use Rattle.bs_scan.proofs.MomentLemmas.{each_append}
 use Rattle.bs_solve_recording.specs.declared.stage.Stage.{Stage}
 use Rattle.bs_solve_recording.specs.declared.stage.Stage.TheVariants.{Begun, Blocked}
@@ -32,8 +33,9 @@ use Rattle.bs_report.specs.declared.report.ListEnd.{ListEnd}
 use Rattle.bs_report.specs.declared.report.ListEnd.TheVariants.{Finished, Candidates, Conflicts}
 use Rattle.bs_report_good.specs.Step.{listed}
 use Rattle.bs_report_good.specs.Valid.{blocks_due}
-use Rattle.bs_preimage.specs.Turn.{Extends, Keeps, HasSearched, MayTurn, HasListedOne, HasRefutedAll, HasSpent, IsShownIn, block_in, guard_in, steps_after}
-use Rattle.bs_preimage.specs.Finding.{is_inner, HasLogged, IsAgain, IsUnderWay, HasEndedSearch}
+use Rattle.bs_solve.specs.Budget.{last_lemmas, HasFewLemmas}
+use Rattle.bs_preimage.specs.Turn.{Extends, Keeps, HasSearched, MayTurn, HasNext, HasRefutedAll, HasSpent, IsOneOf, block_in, guard_in, steps_after}
+use Rattle.bs_preimage.specs.Finding.{is_inner, HasLogged, IsAgain, IsUnderWay, HasKnown, KeepsLimit, HasEndedSearch}
 use Rattle.bs_solve_recording.proofs.CallerLemmas.{runs_over}
 use Rattle.bs_preimage.proofs.TurnLemmas.{extends_then, extends_from}
 use Rattle.bs_preimage.proofs.InnerLemmas.{lemmas_inner, inner_step}
@@ -80,10 +82,10 @@ searched_logs e a start s s2 found lemmas h r =
 begun_stage : (s start : SolverState) → start.stage ≡ Begun → s ≡ start → s.stage ≡ Begun
 begun_stage s start b e = ap (λ (s : SolverState). s.stage) e ∙ b
 
-steps_now : (e : Encoded) (a : Clause) (start s s2 : SolverState) (found : List Cand) (lemmas : List Line) → start.stage ≡ Begun →
-    IsUnderWay e a start s found → HasSearched s s2 a lemmas →
+steps_now : (e : Encoded) (a : Clause) (known : Option Cand) (start s s2 : SolverState) (found : List Cand) (lemmas : List Line) →
+    start.stage ≡ Begun → IsUnderWay e a known start s found → HasSearched s s2 a lemmas →
     s2.book.problem.steps ≡ start.book.problem.steps ++ a ∷ []
-steps_now e a start s s2 found lemmas b u r = by u.stage
+steps_now e a known start s s2 found lemmas b u r = by u.stage
   where
     by : ((s ≡ start) × (found ≡ [])) ⊎ IsAgain e a start s → s2.book.problem.steps ≡ start.book.problem.steps ++ a ∷ []
     by (inl first) =
@@ -99,20 +101,42 @@ block_of_middle : (e : Encoded) (start s middle : SolverState) (found : List Can
 block_of_middle e start s middle found h m state = ap (λ (g : Literal). negation g ∷ block_for e state) (guard_kept e start middle found m)
 
 -- each state found before is another one
-others : (e : Encoded) (a : Clause) (start s s2 : SolverState) (found cands : List Cand) (cand : Cand) → IsUnderWay e a start s found →
-    HasListedOne e a s s2 cand →
+others : (e : Encoded) (start s : SolverState) (found cands : List Cand) (cand : Cand) → HasLogged e start s found →
+    ((t : List Bool) → Contains (standing s.book) (block_in e s.book t) → cand.state ≢ t) →
     Each (λ c. Contains (standing s.book) (block_in e start.book c.state)) cands → Each (λ t. bits_eq cand.state t ≡ false) (listed cands)
-others e a start s s2 found [] cand u one all = tt
-others e a start s s2 found (c ∷ cands) cand u one all =
-    (by (bits_eq cand.state c.state) refl, others e a start s s2 found cands cand u one all.1)
+others e start s found [] cand logged apart all = tt
+others e start s found (c ∷ cands) cand logged apart all =
+    (by (bits_eq cand.state c.state) refl, others e start s found cands cand logged apart all.1)
   where
     by : (b : Bool) → bits_eq cand.state c.state ≡ b → bits_eq cand.state c.state ≡ false
     by false e2 = e2
     by true e2 =
         absurd
-        (one.apart c.state (subst (λ (g : Literal). Contains (standing s.book) (negation g ∷ block_for e c.state))
-        (sym (guard_kept e start s found u.logged)) all.0)
+        (apart c.state (subst (λ (g : Literal). Contains (standing s.book) (negation g ∷ block_for e c.state))
+        (sym (guard_kept e start s found logged)) all.0)
         (bits_same_is cand.state c.state e2))
+
+-- what is not listed is another state than each listed one
+none_listed : (states : List (List Bool)) (s : List Bool) → is_listed states s ≡ false → Each (λ t. bits_eq s t ≡ false) states
+none_listed [] s e = tt
+none_listed (t ∷ ts) s e = by (bits_eq s t) refl e (none_listed ts s)
+  where
+    by : (b : Bool) → bits_eq s t ≡ b → (b || is_listed ts s) ≡ false → (is_listed ts s ≡ false → Each (λ t. bits_eq s t ≡ false) ts) →
+        (bits_eq s t ≡ false) × Each (λ t. bits_eq s t ≡ false) ts
+    by true b e rest = absurd (true≢false e)
+    by false b e rest = (b, rest e)
+
+-- the next candidate's state is another one than each found
+other_states : (e : Encoded) (a : Clause) (limit k : ℕ) (known : Option Cand) (start s s2 : SolverState) (found : List Cand) (cand : Cand) →
+    IsUnderWay e a known start s found → HasNext e a limit found known k s s2 cand → Each (λ t. bits_eq cand.state t ≡ false) (listed found)
+other_states e a limit k known start s s2 found cand u one = by one.apart
+  where
+    by : ((t : List Bool) → Contains (standing s.book) (block_in e s.book t) → cand.state ≢ t) ⊎ (is_listed (listed found) cand.state ≡ false) →
+        Each (λ t. bits_eq cand.state t ≡ false) (listed found)
+    by (inl apart) =
+        others e start s found found cand u.logged apart
+        (recursion_from_All (λ (c : Cand). Contains (standing s.book) (block_in e start.book c.state)) found u.blocked)
+    by (inr out) = none_listed (listed found) cand.state out
 
 pub flips : (x y : List Bool) → bits_eq x y ≡ bits_eq y x
 flips x y = by (bits_eq x y) (bits_eq y x) refl refl
@@ -128,10 +152,10 @@ distinct_push xs x d all =
     IsDistinct-IsPermutation bits_eq flips (x ∷ xs) (xs ++ x ∷ []) (IsPermutation-sym (xs ++ x ∷ []) (x ∷ xs) (IsPermutation-to_front xs x))
     (IsDistinct-cons bits_eq x xs all d)
 
-pub one_more_cand : (e : Encoded) (a : Clause) (start s s2 : SolverState) (found : List Cand) (cand : Cand) → start.stage ≡ Begun →
-    IsUnderWay e a start s found → HasListedOne e a s s2 cand →
-    IsUnderWay e a start s2 (found ++ cand ∷ [])
-one_more_cand e a start s s2 found cand b u one =
+pub one_more_cand : (e : Encoded) (a : Clause) (limit k : ℕ) (known : Option Cand) (start s s2 : SolverState) (found : List Cand) (cand : Cand) →
+    start.stage ≡ Begun → IsUnderWay e a known start s found → HasNext e a limit found known k s s2 cand →
+    IsUnderWay e a known start s2 (found ++ cand ∷ [])
+one_more_cand e a limit k known start s s2 found cand b u one =
     let m : HasLogged e start one.middle found = searched_logs e a start s one.middle found one.lemmas u.logged one.searched in
     let block : Clause = negation (guard_in one.middle.book) ∷ block_for e cand.state in
     let same : block ≡ block_in e start.book cand.state = block_of_middle e start s one.middle found u.logged m cand.state in
@@ -154,11 +178,9 @@ one_more_cand e a start s s2 found cand b u one =
         stand = λ c there. keeps c (m.stand c there);
       };
       cands = record {
-        shown = All-push (IsShownIn e a) found cand u.cands.shown one.shown;
+        shown = All-push (IsOneOf e a known) found cand u.cands.shown one.right;
         apart = subst (IsDistinct bits_eq) (sym (map-append (λ (c : Cand). c.state) found (cand ∷ [])))
-            (distinct_push (listed found) cand.state u.cands.apart
-            (others e a start s s2 found found cand u one
-            (recursion_from_All (λ (c : Cand). Contains (standing s.book) (block_in e start.book c.state)) found u.blocked)));
+            (distinct_push (listed found) cand.state u.cands.apart (other_states e a limit k known start s s2 found cand u one));
       };
       blocked = All-push (λ (c : Cand). Contains (standing s2.book) (block_in e start.book c.state)) found cand
           (All-weaker (λ (c : Cand). Contains (standing s.book) (block_in e start.book c.state))
@@ -166,7 +188,7 @@ one_more_cand e a start s s2 found cand b u one =
           (λ c there. keeps (block_in e start.book c.state) (one.searched.stand (block_in e start.book c.state) there)) found u.blocked) there;
       stage = inr (record {
         stage = one.blocked.stage;
-        steps = ap (λ (b : Book). b.problem.steps) one.blocked.book ∙ steps_now e a start s one.middle found one.lemmas b u one.searched;
+        steps = ap (λ (b : Book). b.problem.steps) one.blocked.book ∙ steps_now e a known start s one.middle found one.lemmas b u one.searched;
         assumed_is = one.blocked.step ∙ one.searched.assumed_is;
       });
     }
@@ -176,9 +198,9 @@ one_more_cand e a start s s2 found cand b u one =
 blocked_is_not_begun : (t : Stage) → t ≡ Begun → t ≡ Blocked → ⊥
 blocked_is_not_begun t b k = let e : Begun ≡ Blocked = sym b ∙ k in true≢false (ap is_begun e)
 
-pub may_turn_again : (e : Encoded) (a : Clause) (start s : SolverState) (found : List Cand) → start.stage ≡ Begun → MayTurn e start a →
-    IsUnderWay e a start s found → MayTurn e s a
-may_turn_again e a start s found b may u =
+pub may_turn_again : (e : Encoded) (a : Clause) (known : Option Cand) (start s : SolverState) (found : List Cand) → start.stage ≡ Begun →
+    MayTurn e start a → IsUnderWay e a known start s found → MayTurn e s a
+may_turn_again e a known start s found b may u =
     record {
       may = by u.stage;
       range = subst (λ (n : ℕ). HasVariables n a) (sym u.logged.guards) may.range;
@@ -200,14 +222,81 @@ none_distinct : IsDistinct bits_eq []
 unfolding IsDistinct
 none_distinct = tt
 
-pub under_way_at_first : (e : Encoded) (a : Clause) (start : SolverState) → IsUnderWay e a start start []
-under_way_at_first e a start =
+pub under_way_at_first : (e : Encoded) (a : Clause) (known : Option Cand) (start : SolverState) → IsUnderWay e a known start start []
+under_way_at_first e a known start =
     record {
       logged = record { guards = refl; vars = refl; clauses = refl; lines = []; history = refl; inner = tt; blocks = refl; stand = λ c there. there };
-      cands = record { shown = All-nil (IsShownIn e a); apart = none_distinct };
+      cands = record { shown = All-nil (IsOneOf e a known); apart = none_distinct };
       blocked = All-nil (λ (c : Cand). Contains (standing start.book) (block_in e start.book c.state));
       stage = inl (refl, refl);
     }
+
+-- ---- the lemmas of the solves
+
+lemmas_counted : (lemmas : List Line) (h : History) → Each (λ line. is_lemma_line line ≡ true) lemmas → last_lemmas (lemmas ++ Solve ∷ h) ≡ length lemmas
+lemmas_counted [] h all = refl
+lemmas_counted (Lemma id lits hints ∷ lemmas) h all = let rest = lemmas_counted lemmas h all.1 in omega (arith, rest)
+lemmas_counted (Solve ∷ lemmas) h all = absurd (false≢true all.0)
+lemmas_counted (Block id lits ∷ lemmas) h all = absurd (false≢true all.0)
+lemmas_counted (Finish id ∷ lemmas) h all = absurd (false≢true all.0)
+lemmas_counted (Retire id ∷ lemmas) h all = absurd (false≢true all.0)
+lemmas_counted (Delete ids ∷ lemmas) h all = absurd (false≢true all.0)
+
+few_lemmas : (limit : ℕ) (lemmas : List Line) (h : History) → Each (λ line. is_lemma_line line ≡ true) lemmas → length lemmas ≤ limit →
+    HasFewLemmas limit h → HasFewLemmas limit (lemmas ++ Solve ∷ h)
+few_lemmas limit [] h all n few = few
+few_lemmas limit (Lemma id lits hints ∷ lemmas) h all n few =
+    let count = lemmas_counted lemmas h all.1 in
+    (omega (arith, count, n), few_lemmas limit lemmas h all.1 (omega (arith, n)) few)
+few_lemmas limit (Solve ∷ lemmas) h all n few = absurd (false≢true all.0)
+few_lemmas limit (Block id lits ∷ lemmas) h all n few = absurd (false≢true all.0)
+few_lemmas limit (Finish id ∷ lemmas) h all n few = absurd (false≢true all.0)
+few_lemmas limit (Retire id ∷ lemmas) h all n few = absurd (false≢true all.0)
+few_lemmas limit (Delete ids ∷ lemmas) h all n few = absurd (false≢true all.0)
+
+searched_few : (a : Clause) (limit : ℕ) (start s s2 : SolverState) (lemmas : List Line) → KeepsLimit limit start s → HasSearched s s2 a lemmas →
+    length lemmas ≤ limit → KeepsLimit limit start s2
+searched_few a limit start s s2 lemmas k r n =
+    record { few = λ f. subst (HasFewLemmas limit) (sym r.history) (few_lemmas limit lemmas s.book.history r.are_lemmas n (k.few f)) }
+
+next_few : (e : Encoded) (a : Clause) (limit k : ℕ) (known : Option Cand) (start s s2 : SolverState) (found : List Cand) (cand : Cand) →
+    KeepsLimit limit start s → HasNext e a limit found known k s s2 cand → KeepsLimit limit start s2
+next_few e a limit k known start s s2 found cand keeps one =
+    let count : last_lemmas one.middle.book.history ≡ length one.lemmas =
+    ap last_lemmas one.searched.history ∙ lemmas_counted one.lemmas s.book.history one.searched.are_lemmas in
+    let middle : KeepsLimit limit start one.middle =
+    searched_few a limit start s one.middle one.lemmas keeps one.searched (omega (arith, one.few)) in
+    record { few = λ f. subst (λ (b : Book). HasFewLemmas limit b.history) (sym one.blocked.book) (omega (arith, count, one.few), middle.few f) }
+
+-- ---- the known candidate
+
+listed_more : (found : List Cand) (cand : Cand) (s : List Bool) → is_listed (listed found) s ≡ true → is_listed (listed (found ++ cand ∷ [])) s ≡ true
+listed_more [] cand s e = absurd (false≢true e)
+listed_more (c ∷ cs) cand s e = by (bits_eq s c.state) e (listed_more cs cand s)
+  where
+    by : (b : Bool) → (b || is_listed (listed cs) s) ≡ true → (is_listed (listed cs) s ≡ true → is_listed (listed (cs ++ cand ∷ [])) s ≡ true) →
+        (b || is_listed (listed (cs ++ cand ∷ [])) s) ≡ true
+    by true e rest = refl
+    by false e rest = rest e
+
+listed_last : (found : List Cand) (cand : Cand) → is_listed (listed (found ++ cand ∷ [])) cand.state ≡ true
+listed_last [] cand = ap (λ (b : Bool). b || false) (bits_same cand.state)
+listed_last (c ∷ cs) cand = or_right (bits_eq cand.state c.state) (is_listed (listed (cs ++ cand ∷ [])) cand.state) (listed_last cs cand)
+
+next_known : (e : Encoded) (a : Clause) (limit k : ℕ) (known : Option Cand) (s s2 : SolverState) (found : List Cand) (cand : Cand) →
+    length found < k → HasNext e a limit found known k s s2 cand → HasKnown known k (found ++ cand ∷ [])
+next_known e a limit k known s s2 found cand under one =
+    record {
+      there = λ c is n.
+          let longer = length-append found (cand ∷ []) in by c (one.last (omega (arith, longer, n, under)) c is);
+    }
+  where
+    by : (c : Cand) → (is_listed (listed found) c.state ≡ true) ⊎ (c ≡ cand) → is_listed (listed (found ++ cand ∷ [])) c.state ≡ true
+    by c (inl there) = listed_more found cand c.state there
+    by c (inr same) = ap (λ (x : Cand). is_listed (listed (found ++ cand ∷ [])) x.state) same ∙ listed_last found cand
+
+none_known : (known : Option Cand) (k : ℕ) (found : List Cand) → length found < k → HasKnown known k found
+none_known known k found under = record { there = λ c is n. absurd (omega (arith, under, n)) }
 
 -- ---- the ends
 
@@ -215,14 +304,16 @@ abbrev pub is_conflicts : ListEnd → Bool
 is_conflicts Conflicts = true
 is_conflicts end = false
 
-pub refuted_search : (e : Encoded) (a : Clause) (k limit id : ℕ) (start s s2 : SolverState) (found : List Cand) → start.stage ≡ Begun →
-    IsUnderWay e a start s found → HasRefutedAll a s s2 id →
-    length found < k → HasEndedSearch e a k limit start s2 found (Finished id)
-refuted_search e a k limit id start s s2 found b u r under =
+pub refuted_search : (e : Encoded) (a : Clause) (known : Option Cand) (k limit id : ℕ) (start s s2 : SolverState) (found : List Cand) →
+    start.stage ≡ Begun → IsUnderWay e a known start s found → KeepsLimit limit start s → HasRefutedAll a limit s s2 id →
+    length found < k → HasEndedSearch e a known k limit start s2 found (Finished id)
+refuted_search e a known k limit id start s s2 found b u keeps r under =
     record {
       logged = searched_logs e a start s s2 found r.lemmas u.logged r.searched;
       cands = u.cands;
-      steps = steps_now e a start s s2 found r.lemmas b u r.searched;
+      with_known = none_known known k found under;
+      limited = searched_few a limit start s s2 r.lemmas keeps r.searched r.few;
+      steps = steps_now e a known start s s2 found r.lemmas b u r.searched;
       ended = (r.ended, under);
       bound = λ e. absurd (false≢true (ap is_conflicts e));
     }
@@ -280,15 +371,17 @@ spent_is a limit lemmas before n all =
     all_true : (x y z : Bool) → x ≡ true → y ≡ true → z ≡ false → (x && y && not z) ≡ true
     all_true x y z e f g = rw (e, f, g) refl
 
-pub spent_search : (e : Encoded) (a : Clause) (k limit : ℕ) (start s s2 : SolverState) (found : List Cand) → start.stage ≡ Begun →
-    IsUnderWay e a start s found → HasSpent a limit s s2 →
-    length found < k → HasEndedSearch e a k limit start s2 found Conflicts
+pub spent_search : (e : Encoded) (a : Clause) (known : Option Cand) (k limit : ℕ) (start s s2 : SolverState) (found : List Cand) →
+    start.stage ≡ Begun → IsUnderWay e a known start s found → KeepsLimit limit start s → HasSpent a limit s s2 →
+    length found < k → HasEndedSearch e a known k limit start s2 found Conflicts
 unfolding searched_logs
-spent_search e a k limit start s s2 found b u r under =
+spent_search e a known k limit start s s2 found b u keeps r under =
     record {
       logged = searched_logs e a start s s2 found r.lemmas u.logged r.searched;
       cands = u.cands;
-      steps = steps_now e a start s s2 found r.lemmas b u r.searched;
+      with_known = none_known known k found under;
+      limited = searched_few a limit start s s2 r.lemmas keeps r.searched (omega (arith, r.all));
+      steps = steps_now e a known start s s2 found r.lemmas b u r.searched;
       ended = (r.stopped, under, spent_is a limit r.lemmas u.logged.lines r.all r.open_yet);
       bound = λ _ run unit.
           subst (λ (n : ℕ). limit < 2 ^ (n - length run)) u.logged.guards
@@ -296,16 +389,19 @@ spent_search e a k limit start s s2 found b u r under =
           (record { distinct = unit.distinct; implied = runs_over (standing start.book) (standing s.book) a [] run u.logged.stand unit.implied }));
     }
 
-pub full_search : (e : Encoded) (a : Clause) (k limit : ℕ) (start s : SolverState) (found : List Cand) → IsUnderWay e a start s found → 1 ≤ k →
+pub full_search : (e : Encoded) (a : Clause) (known : Option Cand) (k limit : ℕ) (start s : SolverState) (found : List Cand) →
+    IsUnderWay e a known start s found → KeepsLimit limit start s → HasKnown known k found → 1 ≤ k →
     length found ≡ k →
-    HasEndedSearch e a k limit start s found Candidates
-full_search e a k limit start s found u some n = by u.stage
+    HasEndedSearch e a known k limit start s found Candidates
+full_search e a known k limit start s found u keeps with_known some n = by u.stage
   where
-    by : ((s ≡ start) × (found ≡ [])) ⊎ IsAgain e a start s → HasEndedSearch e a k limit start s found Candidates
+    by : ((s ≡ start) × (found ≡ [])) ⊎ IsAgain e a start s → HasEndedSearch e a known k limit start s found Candidates
     by (inl first) = absurd (let none : length found ≡ 0 = ap length first.1 in omega (arith, n, none, some))
     by (inr again) = record {
       logged = u.logged;
       cands = u.cands;
+      with_known = with_known;
+      limited = keeps;
       steps = again.steps;
       ended = (again.stage, n);
       bound =
@@ -315,8 +411,9 @@ full_search e a k limit start s found u some n = by u.stage
 -- ---- extensions
 
 -- what has been logged since the step began
-pub under_way_extends : (e : Encoded) (a : Clause) (start s : SolverState) (found : List Cand) → IsUnderWay e a start s found → Extends true start.book s.book a
-under_way_extends e a start s found u =
+pub under_way_extends : (e : Encoded) (a : Clause) (known : Option Cand) (start s : SolverState) (found : List Cand) →
+    IsUnderWay e a known start s found → Extends true start.book s.book a
+under_way_extends e a known start s found u =
     record { vars = u.logged.vars; clauses = u.logged.clauses; more = u.logged.lines; history = u.logged.history; steps = by u.stage }
   where
     by : ((s ≡ start) × (found ≡ [])) ⊎ IsAgain e a start s →
@@ -325,10 +422,10 @@ under_way_extends e a start s found u =
     by (inr again) = inr (refl, again.steps)
 
 -- and with one turn more
-pub extends_on : (e : Encoded) (a : Clause) (start s : SolverState) (new : Book) (found : List Cand) → start.stage ≡ Begun → IsUnderWay e a start s found →
-    Extends (is_begun s.stage) s.book new a →
+pub extends_on : (e : Encoded) (a : Clause) (known : Option Cand) (start s : SolverState) (new : Book) (found : List Cand) → start.stage ≡ Begun →
+    IsUnderWay e a known start s found → Extends (is_begun s.stage) s.book new a →
     Extends true start.book new a
-extends_on e a start s new found b u x = by u.stage
+extends_on e a known start s new found b u x = by u.stage
   where
     by : ((s ≡ start) × (found ≡ [])) ⊎ IsAgain e a start s → Extends true start.book new a
     by (inl first) =
@@ -338,19 +435,35 @@ extends_on e a start s new found b u x = by u.stage
         extends_from start.book s.book new a true p [] h (subst (λ (t : Bool). Extends t s.book new a) begun x)
     by (inr again) =
         let late : is_begun s.stage ≡ false = ap is_begun again.stage in
-        extends_then true start.book s.book new a a (under_way_extends e a start s found u) (subst (λ (t : Bool). Extends t s.book new a) late x)
+        extends_then true start.book s.book new a a (under_way_extends e a known start s found u) (subst (λ (t : Bool). Extends t s.book new a) late x)
 
 -- ---- the loop
 
-pub under_way_start : (e : Encoded) (a : Clause) (start : SolverState) (found : List Cand) (k : ℕ) → found ≡ [] →
-    IsUnderWay e a start start found × (length found ≤ k)
-under_way_start e a start found k none =
-    (subst (IsUnderWay e a start start) (sym none) (under_way_at_first e a start), subst (λ (cs : List Cand). length cs ≤ k) (sym none) (omega arith))
+-- the search so far: at most k candidates, a known one among k, and few lemmas in each solve
+pub record IsSearching (e : Encoded) (a : Clause) (known : Option Cand) (k limit : ℕ) (start s : SolverState) (found : List Cand) : Type 0 where
+  pub way : IsUnderWay e a known start s found
+  pub most : length found ≤ k
+  pub with_known : HasKnown known k found
+  pub limited : KeepsLimit limit start s
 
-pub under_way_more : (e : Encoded) (a : Clause) (start s s2 : SolverState) (found : List Cand) (cand : Cand) (found2 : List Cand) (k : ℕ) →
-    start.stage ≡ Begun → IsUnderWay e a start s found →
-    HasListedOne e a s s2 cand → found2 ≡ found ++ cand ∷ [] → length found + 1 ≤ k → IsUnderWay e a start s2 found2 × (length found2 ≤ k)
-under_way_more e a start s s2 found cand found2 k b u one pushed room = (
-  subst (IsUnderWay e a start s2) (sym pushed) (one_more_cand e a start s s2 found cand b u one),
-  omega (arith, ap length pushed, length-append found (cand ∷ []), room),
-)
+pub searching_at_first : (e : Encoded) (a : Clause) (known : Option Cand) (k limit : ℕ) (start : SolverState) (found : List Cand) → 1 ≤ k → found ≡ [] →
+    IsSearching e a known k limit start start found
+searching_at_first e a known k limit start found some none =
+    subst (IsSearching e a known k limit start start) (sym none) (record {
+      way = under_way_at_first e a known start;
+      most = omega arith;
+      with_known = none_known known k [] (omega (arith, some));
+      limited = record { few = λ f. f };
+    })
+
+pub searching_more : (e : Encoded) (a : Clause) (known : Option Cand) (k limit : ℕ) (start s s2 : SolverState) (found : List Cand) (cand : Cand)
+    (found2 : List Cand) → start.stage ≡ Begun → IsSearching e a known k limit start s found → HasNext e a limit found known k s s2 cand →
+    found2 ≡ found ++ cand ∷ [] → length found < k → IsSearching e a known k limit start s2 found2
+searching_more e a known k limit start s s2 found cand found2 b u one pushed under =
+    let longer = length-append found (cand ∷ []) in
+    subst (IsSearching e a known k limit start s2) (sym pushed) (record {
+      way = one_more_cand e a limit k known start s s2 found cand b u.way one;
+      most = omega (arith, longer, under);
+      with_known = next_known e a limit k known s s2 found cand under one;
+      limited = next_few e a limit k known start s s2 found cand u.limited one;
+    })

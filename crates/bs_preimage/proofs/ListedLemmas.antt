@@ -2,14 +2,14 @@
 use Rattle.std.proofs.Common.{◌≡◌, ◌≢◌, ℕ, ◌+◌, ◌-◌, ◌<◌, ◌≤◌, Bool, true, false, cond, List, [], ◌∷◌, ◌++◌, length, reverse, get_or, refl, ap, subst, sym}
 use Rattle.std.proofs.Common.{◌∙◌, ◌⊎◌, inl, inr, append_assoc, arith, Option, Some, None}
 use mathlib.Core.List.{reverse_aux}
-use Rattle.std.specs.Prelude.{◌^◌, Contains, All, ◌==◌, ◌||◌, ◌&&◌, filter_map, slice_get, IsTrue}
+use Rattle.std.specs.Prelude.{◌^◌, Contains, All, IfSome, ◌==◌, ◌||◌, ◌&&◌, filter_map, slice_get, IsTrue}
 use Rattle.std.specs.Option.{option_to_list}
 use Rattle.std.specs.List.{AllByRecursion as Each}
 use Rattle.std.specs.List.Sorted.{IsPermutation}
 use Rattle.std.proofs.lemmas.Bool.{true≢false, and_from, or_right, eq-eqb}
 use Rattle.std.proofs.lemmas.List.{length-append, reverse-reverse}
 use Rattle.std.proofs.lemmas.List.Elements.{All-weaker, All-map, All-from_recursion, recursion_from_All, Contains-append_left, Contains-push}
-use Rattle.std.proofs.lemmas.List.Sorted.{length_permutation, All-permutation}
+use Rattle.std.proofs.lemmas.List.Sorted.{IsPermutation-map, IsPermutation-sym, length_permutation, list_any-IsPermutation, All-permutation}
 use Rattle.bs_bits.specs.Bits.{bits_eq}
 use Rattle.bs_clause.specs.Literal.{Literal, Clause, negation, literal_value, Satisfies}
 use Rattle.bs_clause.specs.UnitRun.{IsUnitRun}
@@ -31,7 +31,7 @@ use Rattle.bs_scan.specs.Moments.{is_listed}
 use Rattle.bs_scan.specs.Signature.{agrees, some_input_leads, predecessors}
 use Rattle.bs_scan.proofs.MomentLemmas.{each_member}
 use Rattle.bs_scan.proofs.SignatureLemmas.{bits_same, bits_same_is, is_predecessor}
-use Rattle.bs_solve_recording.specs.Book.{Book, standing, next_id}
+use Rattle.bs_solve_recording.specs.Book.{Book, standing, next_id, without}
 use Rattle.bs_solve_recording.specs.Solver.{SolverState, finished, retired, leaving}
 use Rattle.bs_encode.specs.Encoded.{Encoded}
 use Rattle.bs_encode.specs.Depth.{encoding_by}
@@ -40,16 +40,20 @@ use Rattle.bs_encode.specs.Cycle.{bits_on}
 use Rattle.bs_encode.specs.Listing.{IsTidy, PredecessorsAreShown, SolutionsArePredecessors, IsPredecessor, IsBefore, joins}
 use Rattle.bs_report.specs.declared.report.Cand.{Cand}
 use Rattle.bs_report.specs.declared.report.ListEnd.{ListEnd}
-use Rattle.bs_report.specs.declared.report.ListEnd.TheVariants.{Finished, Conflicts}
+use Rattle.bs_report.specs.declared.report.ListEnd.TheVariants.{Finished, Candidates, Conflicts}
 use Rattle.bs_report_good.specs.Step.{listed, IsCandidate}
 use Rattle.bs_report_good.specs.Valid.{is_right_before, HaveBefores, blocks_due, are_right_blocks, is_right_finish, blocks_in, finishes_in}
+use Rattle.bs_report_good.proofs.ExecutionLemmas.{led_widths}
 use Rattle.bs_report_good.proofs.SortedLemmas.{asc_of_pairs, asc_filter, asc_all_bits, same_lists}
 use Rattle.bs_report_good.proofs.ValidLemmas.{both}
 use Rattle.bs_report_good.proofs.GoodLemmas.{listed_member, filter_member, passing, all_bits_length}
 use Rattle.bs_preimage.specs.declared.listing.Listing.{Listing}
 use Rattle.bs_preimage.specs.Preimage.{next_guard}
 use Rattle.bs_preimage.specs.Rest.{IsAbout, IsAtRest, AreWholeSteps}
-use Rattle.bs_preimage.specs.Turn.{IsReadable, IsShownIn, guard_in}
+use Rattle.bs_solve.specs.Budget.{HasFewLemmas}
+use Rattle.bs_preimage.specs.Listed.{IsRightCand}
+use Rattle.bs_preimage.specs.Turn.{IsReadable, IsShownIn, IsOneOf, guard_in}
+use Rattle.bs_preimage.specs.Finding.{EndedBy}
 use Rattle.bs_preimage.specs.Order.{IsInOrder}
 use Rattle.bs_preimage.specs.Step.{HasSought, HasMadeStep, assumptions_at, ending_of}
 use Rattle.bs_solve_recording.proofs.Clauses.{contains_first}
@@ -70,6 +74,7 @@ pub record Sought : Type 0 where
   pub present : List Bool
   pub stored : List Bool
   pub older : Option (List Bool)
+  pub known : Option Cand
   pub k : ℕ
   pub b : ℕ
   pub found : List Cand
@@ -82,7 +87,8 @@ pub record Sought : Type 0 where
   pub older_wide : AreWide (length choice.items) older
   pub alone : depth_of choice ≡ 1 → older ≡ None
   pub kept : IsDepth (depth_of choice)
-  pub sought : HasSought e old new present stored older k b found end
+  pub known_right : IfSome known (IsRightCand c choice present stored older)
+  pub sought : HasSought e old new present stored older known k b found end
   pub order : IsInOrder found cands
   pub accepted : IsAccepted new.book.problem (reverse new.book.history)
   pub shown : PredecessorsAreShown c choice e
@@ -218,11 +224,6 @@ shows t cand h =
       before = h.before;
     }
 
-all_show : (t : Sought) → All (ShowsPredecessor t) t.cands
-all_show t =
-    All-permutation (ShowsPredecessor t) t.found t.cands t.order.same
-    (All-weaker (IsShownIn t.e (assumed_by t)) (ShowsPredecessor t) (shows t) t.found t.sought.search.cands.shown)
-
 candidate_of : (t : Sought) (cand : Cand) → ShowsPredecessor t cand → IsCandidate t.c t.choice t.present (t.stored ∷ option_to_list t.older) cand
 candidate_of t cand shown =
     let p = shown.is in
@@ -261,13 +262,28 @@ second_held : (stored : List Bool) (older : Option (List Bool)) → slice_get (s
 second_held stored None = refl
 second_held stored (Some older) = refl
 
+-- a candidate that is shown or known
+right_cand : (t : Sought) (cand : Cand) → IsOneOf t.e (assumed_by t) t.known cand → IsRightCand t.c t.choice t.present t.stored t.older cand
+right_cand t cand (inl is) =
+    let h : ShowsPredecessor t cand = shows t cand is in
+    record {
+      candidate = candidate_of t cand h;
+      before =
+          ap (is_right_before t.c t.choice t.older cand.state) h.before
+          ∙ right_before t.c t.choice t.older (asked t) cand.state cand.input h.state h.input h.joined t.kept t.alone (second_held t.stored t.older) h.is;
+    }
+right_cand t cand (inr is) = subst (λ (o : Option Cand). IfSome o (IsRightCand t.c t.choice t.present t.stored t.older)) is t.known_right
+
+all_right : (t : Sought) → All (IsRightCand t.c t.choice t.present t.stored t.older) t.cands
+all_right t =
+    All-permutation (IsRightCand t.c t.choice t.present t.stored t.older) t.found t.cands t.order.same
+    (All-weaker (IsOneOf t.e (assumed_by t) t.known) (IsRightCand t.c t.choice t.present t.stored t.older) (right_cand t) t.found
+    t.sought.search.cands.shown)
+
 befores : (t : Sought) → HaveBefores t.c t.choice t.older t.cands
 befores t =
-    All-weaker (ShowsPredecessor t) (λ (cand : Cand). IsTrue (is_right_before t.c t.choice t.older cand.state cand.before))
-    (λ cand h.
-    ap (is_right_before t.c t.choice t.older cand.state) h.before
-    ∙ right_before t.c t.choice t.older (asked t) cand.state cand.input h.state h.input h.joined t.kept t.alone (second_held t.stored t.older) h.is)
-    t.cands (all_show t)
+    All-weaker (IsRightCand t.c t.choice t.present t.stored t.older)
+    (λ (cand : Cand). IsTrue (is_right_before t.c t.choice t.older cand.state cand.before)) (λ cand h. h.before) t.cands (all_right t)
 
 -- ---- the blocks
 
@@ -294,6 +310,9 @@ not_listed (x ∷ cands) s e = by (bits_eq s x.state) refl e (not_listed cands s
     by true b e rest = absurd (true≢false e)
     by false b e rest = (λ same. true≢false (sym (ap (bits_eq s) same ∙ bits_same s) ∙ b), rest e)
 
+state_width : (t : Sought) (cand : Cand) → IsRightCand t.c t.choice t.present t.stored t.older cand → length cand.state ≡ length t.c.flops
+state_width t cand h = (led_widths t.c cand.state cand.input t.present h.candidate.leads).0
+
 blocks_hold : (t : Sought) (v : ℕ → Bool) (s : List Bool) → is_listed (listed t.cands) s ≡ false →
     ((u : List Bool) → length u ≡ length t.c.flops → u ≢ s → Satisfies v (negation (next_guard t.old.book.problem) ∷ block_for t.e u)) →
     Each (Satisfies v) (blocks_in (reverse (lines_by t)))
@@ -301,7 +320,7 @@ blocks_hold t v s out f =
     let g : Literal = next_guard t.old.book.problem in
     let apart : All (λ cand. cand.state ≢ s) t.cands = All-from_recursion (λ (cand : Cand). cand.state ≢ s) t.cands (not_listed t.cands s out) in
     let each : All (λ cand. Satisfies v (negation g ∷ block_for t.e cand.state)) t.cands = λ i d lt.
-    f (get_or t.cands i d).state (all_show t i d lt).is.state_width (apart i d lt) in
+    f (get_or t.cands i d).state (state_width t (get_or t.cands i d) (all_right t i d lt)) (apart i d lt) in
     recursion_from_All (Satisfies v) (blocks_in (reverse (lines_by t)))
     (All-permutation (Satisfies v) (blocks_due g (block_for t.e) t.cands) (blocks_in (reverse (lines_by t))) (due_blocks t)
     (All-map (Satisfies v) (λ (s : List Bool). negation g ∷ block_for t.e s) (listed t.cands)
@@ -352,7 +371,8 @@ each_listed asked (c ∷ cs) h = (h.0, each_listed asked cs h.1)
 
 candidates : (t : Sought) → All (IsCandidate t.c t.choice t.present (t.stored ∷ option_to_list t.older)) t.cands
 candidates t =
-    All-weaker (ShowsPredecessor t) (IsCandidate t.c t.choice t.present (t.stored ∷ option_to_list t.older)) (candidate_of t) t.cands (all_show t)
+    All-weaker (IsRightCand t.c t.choice t.present t.stored t.older) (IsCandidate t.c t.choice t.present (t.stored ∷ option_to_list t.older))
+    (λ cand h. h.candidate) t.cands (all_right t)
 
 whole : (t : Sought) (id : ℕ) → t.end ≡ Finished id → listed t.cands ≡ predecessors t.c t.choice t.present (t.stored ∷ option_to_list t.older)
 unfolding predecessors
@@ -392,11 +412,41 @@ bounded t ended run range unit =
     (omega (arith, t.rest.guards))
     (t.sought.search.bound ended) run (subst (λ (n : ℕ). HasVariables n run) (sym t.about.vars) range) unit)
 
+-- ---- the known candidate
+
+full : (k b : ℕ) (a : Clause) (s : SolverState) (lines : List Line) (count : ℕ) (end : ListEnd) → end ≡ Candidates → EndedBy k b a s lines count end →
+    k ≤ count
+full k b a s lines count end is h =
+    let ended : EndedBy k b a s lines count Candidates = subst (EndedBy k b a s lines count) is h in omega (arith, ended.1)
+
+has_known : (t : Sought) (cand : Cand) → t.known ≡ Some cand → t.end ≡ Candidates → is_listed (listed t.cands) cand.state ≡ true
+has_known t cand is ended =
+    let search = t.sought.search in
+    list_any-IsPermutation (bits_eq cand.state) (listed t.cands) (listed t.found)
+    (IsPermutation-map (λ (c : Cand). c.state) t.cands t.found (IsPermutation-sym t.found t.cands t.order.same))
+    ∙ search.with_known.there cand is (full t.k t.b (assumed_by t) t.sought.middle search.logged.lines (length t.found) t.end ended search.ended)
+
+-- ---- the lemmas of the solves
+
+finished_few : (limit : ℕ) (b : Book) (end : Option ℕ) → HasFewLemmas limit b.history → HasFewLemmas limit (finished b end).history
+finished_few limit b None few = few
+finished_few limit b (Some id) few = few
+
+without_few : (limit : ℕ) (b : Book) (ids : List ℕ) → HasFewLemmas limit b.history → HasFewLemmas limit (without b ids).history
+without_few limit b [] few = few
+without_few limit b (id ∷ ids) few = few
+
+few_after : (t : Sought) → HasFewLemmas t.b t.old.book.history → HasFewLemmas t.b t.new.book.history
+few_after t few =
+    subst (λ (b : Book). HasFewLemmas t.b b.history) (sym t.sought.ended.book)
+    (without_few t.b (retired (finished_by t)) (leaving (finished_by t))
+    (finished_few t.b t.sought.middle.book (ending_of t.end) (t.sought.search.limited.few few)))
+
 -- ---- the step
 
 pub made_step : (t : Sought) (listing : Listing) → listing ≡ record { cands = t.cands; end = t.end } →
-    HasMadeStep t.c t.choice t.old t.new t.present t.stored t.older t.k t.b listing
-made_step t listing e = subst (HasMadeStep t.c t.choice t.old t.new t.present t.stored t.older t.k t.b) (sym e) (record {
+    HasMadeStep t.c t.choice t.old t.new t.present t.stored t.older t.known t.k t.b listing
+made_step t listing e = subst (HasMadeStep t.c t.choice t.old t.new t.present t.stored t.older t.known t.k t.b) (sym e) (record {
   rest = rests t;
   count = one_longer t;
   listed = record {
@@ -428,6 +478,8 @@ made_step t listing e = subst (HasMadeStep t.c t.choice t.old t.new t.present t.
         (finishes_in (reverse (lines_by t)))) (sym t.about.encoding)
         ∙ finish_is t.k t.b (assumed_by t) t.sought.middle t.sought.search.logged.lines
         (length t.found) t.end t.sought.search.logged.inner t.sought.search.ended;
+    with_known = has_known t;
+    few = few_after t;
     bound = subst
         (λ (e : Encoded). t.end ≡ Conflicts → (run : List Literal) → HasVariables e.variables run →
         IsUnitRun e.clauses (assumptions_for e (next_guard t.old.book.problem) (asked t)) run →
@@ -477,3 +529,10 @@ solutions_by c choice e is h = subst (λ (e : Encoded). SolutionsArePredecessors
 
 pub accepted_by : (p : Problem) (h : History) (log : List Line) → history_of log ≡ h → IsAccepted p log → IsAccepted p (reverse h)
 accepted_by p h log e ok = subst (IsAccepted p) (sym (ap reverse (sym e) ∙ reverse-reverse log)) ok
+
+pub known_width : (c : Circuit) (choice : Chosen) (e : Encoded) (present stored : List Bool) (older : Option (List Bool)) (known : Option Cand) →
+    e ≡ encoding_by c choice → IsTidy c choice (encoding_by c choice) → IfSome known (IsRightCand c choice present stored older) →
+    IfSome known (λ cand. length cand.state ≡ length e.states)
+known_width c choice e present stored older None is tidy right = tt
+known_width c choice e present stored older (Some cand) is tidy right =
+    (led_widths c cand.state cand.input present right.candidate.leads).0 ∙ (sym tidy.states_width ∙ ap (λ (e : Encoded). length e.states) (sym is))

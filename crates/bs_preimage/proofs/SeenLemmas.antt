@@ -3,6 +3,7 @@ use Rattle.std.proofs.Common.{◌≡◌, ℕ, Bool, false, List, Option, refl, s
 use Rattle.bs_net.specs.Circuit.{Circuit}
 use Rattle.bs_scan.specs.Choice.{Chosen}
 use Rattle.bs_solve_recording.specs.Book.{Book}
+use Rattle.bs_report.specs.declared.report.Cand.{Cand}
 use Rattle.bs_preimage.specs.Preimage.{PreimageState}
 use Rattle.bs_preimage.specs.Listed.{HasListed}
 use Rattle.bs_preimage.specs.Step.{seen}
@@ -20,12 +21,12 @@ viewed c choice book calls failed =
       failed = failed;
     }
 
-listed_seen : (c : Circuit) (choice : Chosen) (before after : Book) (failed : Bool) (n m : ℕ) (present stored : List Bool) (older : Option
-    (List Bool)) (k b : ℕ) (listing : Listing) →
+listed_seen : (c : Circuit) (choice : Chosen) (before after : Book) (failed : Bool) (n m : ℕ) (present stored : List Bool)
+    (older : Option (List Bool)) (known : Option Cand) (k b : ℕ) (listing : Listing) →
     failed ≡ false →
-    HasListed (seen c choice before) (seen c choice after) present stored older k b listing →
-    HasListed (viewed c choice before n failed) (viewed c choice after m false) present stored older k b listing
-listed_seen c choice before after failed n m present stored older k b listing well h =
+    HasListed (seen c choice before) (seen c choice after) present stored older known k b listing →
+    HasListed (viewed c choice before n failed) (viewed c choice after m false) present stored older known k b listing
+listed_seen c choice before after failed n m present stored older known k b listing well h =
     record {
       was_well = well;
       well = refl;
@@ -46,15 +47,17 @@ listed_seen c choice before after failed n m present stored older k b listing we
       ends = h.ends;
       blocks = h.blocks;
       finish = h.finish;
+      with_known = h.with_known;
+      few = h.few;
       bound = h.bound;
     }
 
 -- a list, where its old state is so seen
 pub listed_again : (c : Circuit) (choice : Chosen) (before after : Book) (old : PreimageState) (failed : Bool) (n m : ℕ)
-    (present stored : List Bool) (older : Option (List Bool))
+    (present stored : List Bool) (older : Option (List Bool)) (known : Option Cand)
     (k b : ℕ) (listing : Listing) →
-    viewed c choice before n failed ≡ old → failed ≡ false → HasListed (seen c choice before) (seen c choice after) present stored older k b listing →
-    HasListed old (viewed c choice after m false) present stored older k b listing
-listed_again c choice before after old failed n m present stored older k b listing is well h =
-    subst (λ (s : PreimageState). HasListed s (viewed c choice after m false) present stored older k b listing) is
-    (listed_seen c choice before after failed n m present stored older k b listing well h)
+    viewed c choice before n failed ≡ old → failed ≡ false → HasListed (seen c choice before) (seen c choice after) present stored older known k b listing →
+    HasListed old (viewed c choice after m false) present stored older known k b listing
+listed_again c choice before after old failed n m present stored older known k b listing is well h =
+    subst (λ (s : PreimageState). HasListed s (viewed c choice after m false) present stored older known k b listing) is
+    (listed_seen c choice before after failed n m present stored older known k b listing well h)

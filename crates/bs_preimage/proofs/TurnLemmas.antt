@@ -1,9 +1,10 @@
 -- What a turn does.
-use Rattle.std.proofs.Common.{◌≡◌, ◌≢◌, ℕ, Bool, true, false, not, List, [], ◌∷◌, ◌++◌, map, refl, ap, subst, sym, ◌∙◌, ◌⊎◌, inl, inr, append_assoc}
-use Rattle.std.specs.Prelude.{Contains, All, ◌||◌, Option}
+use Rattle.std.proofs.Common.{◌≡◌, ◌≢◌, ℕ, ◌+◌, ◌<◌, ◌≤◌, Bool, true, false, not, List, [], ◌∷◌, ◌++◌, map, length, refl, ap, subst, sym, ◌∙◌, ◌⊎◌}
+use Rattle.std.proofs.Common.{inl, inr, append_assoc, arith, Option, Some, None}
+use Rattle.std.specs.Prelude.{Contains, All, ◌||◌, ◌&&◌, ◌==◌}
 use Rattle.std.specs.List.{AllByRecursion as Each, list_any}
 use Rattle.std.specs.Bool.{beq}
-use Rattle.std.proofs.lemmas.Bool.{false≢true, true≢false}
+use Rattle.std.proofs.lemmas.Bool.{false≢true, true≢false, eq-eqb}
 use Rattle.std.proofs.lemmas.List.Elements.{All-contains}
 use Rattle.bs_clause.specs.Literal.{Literal, Clause, negation, literal_value, Satisfies}
 use Rattle.bs_clause.specs.UnitRun.{IsUnitRun}
@@ -23,10 +24,15 @@ use Rattle.bs_solve_recording.proofs.Clauses.{all_from}
 use Rattle.bs_encode.specs.Encoded.{Encoded}
 use Rattle.bs_encode.specs.Assuming.{signed, block_for}
 use Rattle.bs_encode.specs.Cycle.{bits_on}
+use Rattle.bs_bits.specs.Bits.{bits_eq}
+use Rattle.bs_scan.specs.Moments.{is_listed}
 use Rattle.bs_report.specs.declared.report.Cand.{Cand}
+use Rattle.bs_report_good.specs.Step.{listed}
+use Rattle.bs_solve.specs.Opening.{HasOpened}
 use Rattle.bs_preimage.specs.declared.turn.TurnEnd.{TurnEnd}
 use Rattle.bs_preimage.specs.declared.turn.TurnEnd.TheVariants.{Listed, Refuted, Spent}
 use Rattle.bs_preimage.specs.Turn.{Extends, HasSearched, MayTurn, TurnsTo, HasShown, HasShownCand, HasListedOne, block_in, guard_in, steps_after}
+use Rattle.bs_preimage.specs.Turn.{HasListedKnown, HasTakenKnown, GoesTo}
 use Rattle.bs_solve_recording.proofs.CallerLemmas.{begun_history, begun_vars, begun_clauses, open_are_lemmas, solved_keeps}
 
 -- ---- the book as a search begins
@@ -149,7 +155,7 @@ shown_is_open value e guard s t g shows meets same =
     true≢false (sym meets ∙ is_false)
 
 found_shows : (e : Encoded) (a : Clause) (old middle new : SolverState) (limit : ℕ) (values : List (Option Bool)) (cand : Cand) → MayTurn e old a →
-    HasSolved old middle a limit (answers.Found values) → HasShownCand e values middle new cand → HasListedOne e a old new cand
+    HasSolved old middle a limit (answers.Found values) → HasShownCand e values middle new cand → HasListedOne e a limit old new cand
 found_shows e a old middle new limit values cand may s shown =
     let found = s.ends in
     let lines : List Line = found.lemmas.lines in
@@ -161,6 +167,7 @@ found_shows e a old middle new limit values cand may s shown =
       middle = middle;
       lemmas = lines;
       searched = searched;
+      few = omega (arith, found.lemmas.length_is, found.under);
       id = shown.id;
       blocked = shown.blocked;
       shown = record {
@@ -195,6 +202,7 @@ refuted_turn e a old new limit id s =
           (ap (λ (b : Book). b.problem) r.last.logged.book ∙ r.before.problem)
           (ap (λ (b : Book). b.history) r.last.logged.book ∙ ap (λ (h : List Line). Lemma id r.last.lemma r.last.logged.hints ∷ h) r.before.history)
           (refl, open_are_lemmas _ r.before.lines r.before.open_yet);
+      few = omega (arith, r.before.length_is, r.under);
       ended = s.stage;
     }
 
@@ -215,3 +223,119 @@ spent_turn e a old new limit s =
 
 pub blocked_extends : (old new : SolverState) (lits : Clause) (id : ℕ) → HasBlocked old new lits id → Extends false old.book new.book []
 blocked_extends old new lits id b = extends_line false old.book new.book (Block id (negation (guard_in old.book) ∷ lits)) [] b.book
+
+-- ---- a candidate that is known
+
+-- a solve without a search logs no lemma
+opened_searches : (old new : SolverState) (a : Clause) → HasOpened old new a → HasSearched old new a []
+opened_searches old new a h =
+    let t : Bool = is_begun old.stage in
+    record {
+      was_well = h.was_well;
+      well = h.well;
+      vars = ap (λ (b : Book). b.problem.vars) h.book ∙ begun_vars t old.book a;
+      clauses = ap (λ (b : Book). b.problem.clauses) h.book ∙ begun_clauses t old.book a;
+      steps = ap (λ (b : Book). b.problem.steps) h.book ∙ begun_steps t old.book a;
+      history = ap (λ (b : Book). b.history) h.book ∙ begun_history t old.book a;
+      are_lemmas = tt;
+      stand = λ c there. subst (λ (cs : List Clause). Contains cs c) (sym h.stands) there;
+      assumed_is = h.assumed_is;
+      guards = h.vars;
+    }
+
+pub known_listed : (e : Encoded) (a block : Clause) (known cand : Cand) (old middle new : SolverState) (id : ℕ) → cand ≡ known → HasOpened old middle a →
+    block ≡ block_for e cand.state → HasBlocked middle new block id → HasListedKnown e a known old new cand
+known_listed e a block known cand old middle new id is opened block_is blocked =
+    record {
+      is = is;
+      middle = middle;
+      searched = opened_searches old middle a opened;
+      id = id;
+      blocked = subst (λ (c : Clause). HasBlocked middle new c id) block_is blocked;
+    }
+
+pub opened_vars : (e : Encoded) (a : Clause) (old new : SolverState) → MayTurn e old a → HasOpened old new a → new.book.problem.vars ≡ e.variables
+opened_vars e a old new may h = ap (λ (b : Book). b.problem.vars) h.book ∙ (begun_vars (is_begun old.stage) old.book a ∙ may.vars)
+
+-- ---- the next turn
+
+no_known : (known cand : Cand) → None ≡ Some cand → ⊥
+no_known known cand e = cc
+
+pub none_is_known : (e : Encoded) (a : Clause) (limit : ℕ) (found : List Cand) (k : ℕ) (old new : SolverState) (turn : TurnEnd) →
+    TurnsTo e a limit old new turn → GoesTo e a limit found None k old new turn
+none_is_known e a limit found k old new (Listed cand) one =
+    record {
+      middle = one.middle;
+      lemmas = one.lemmas;
+      searched = one.searched;
+      few = one.few;
+      id = one.id;
+      blocked = one.blocked;
+      right = inl one.shown;
+      apart = inl one.apart;
+      last = λ n c is. absurd (no_known c c is);
+    }
+none_is_known e a limit found k old new (Refuted id) r = r
+none_is_known e a limit found k old new Spent r = r
+
+found_where_last : (last found : Bool) → last ≡ true → (last && not found) ≡ false → found ≡ true
+found_where_last true true e f = refl
+found_where_last true false e f = absurd (true≢false f)
+found_where_last false found e f = absurd (false≢true e)
+
+same_known : (known cand : Cand) → Some known ≡ Some cand → known ≡ cand
+same_known known cand e = cc
+
+-- whether a candidate found has a state
+found_is : (found : List Cand) (s : List Bool) → list_any (λ (cand : Cand). bits_eq s cand.state) found ≡ is_listed (listed found) s
+found_is [] s = refl
+found_is (c ∷ cs) s = ap (λ (b : Bool). bits_eq s c.state || b) (found_is cs s)
+
+pub due_is : (found : List Cand) (known : Cand) (k : ℕ) (b : Bool) →
+    ((length found + 1 == k) && not (list_any (λ (cand : Cand). bits_eq known.state cand.state) found)) ≡ b →
+    ((length found + 1 == k) && not (is_listed (listed found) known.state)) ≡ b
+due_is found known k b e = ap (λ (there : Bool). (length found + 1 == k) && not there) (sym (found_is found known.state)) ∙ e
+
+pub known_waits : (e : Encoded) (a : Clause) (limit : ℕ) (found : List Cand) (known : Cand) (k : ℕ) (old new : SolverState) (turn : TurnEnd) →
+    ((length found + 1 == k) && not (is_listed (listed found) known.state)) ≡ false → TurnsTo e a limit old new turn →
+    GoesTo e a limit found (Some known) k old new turn
+known_waits e a limit found known k old new (Listed cand) due one =
+    record {
+      middle = one.middle;
+      lemmas = one.lemmas;
+      searched = one.searched;
+      few = one.few;
+      id = one.id;
+      blocked = one.blocked;
+      right = inl one.shown;
+      apart = inl one.apart;
+      last = λ n c is. inl (subst (λ (x : Cand). is_listed (listed found) x.state ≡ true) (same_known known c is)
+          (found_where_last (length found + 1 == k) (is_listed (listed found) known.state) (eq-eqb (length found + 1) k n) due));
+    }
+known_waits e a limit found known k old new (Refuted id) due r = r
+known_waits e a limit found known k old new Spent due r = r
+
+not_found : (last found : Bool) → (last && not found) ≡ true → found ≡ false
+not_found true false e = refl
+not_found true true e = absurd (false≢true e)
+not_found false found e = absurd (false≢true e)
+
+pub known_comes : (e : Encoded) (a : Clause) (limit : ℕ) (found : List Cand) (known : Cand) (k : ℕ) (old new : SolverState) (turn : TurnEnd) →
+    1 ≤ limit → ((length found + 1 == k) && not (is_listed (listed found) known.state)) ≡ true → HasTakenKnown e a known old new turn →
+    GoesTo e a limit found (Some known) k old new turn
+known_comes e a limit found known k old new (Listed cand) some due h =
+    record {
+      middle = h.middle;
+      lemmas = [];
+      searched = h.searched;
+      few = omega (arith, some);
+      id = h.id;
+      blocked = h.blocked;
+      right = inr (ap Some (sym h.is));
+      apart = inr (ap (λ (x : Cand). is_listed (listed found) x.state) h.is
+          ∙ not_found (length found + 1 == k) (is_listed (listed found) known.state) due);
+      last = λ n c is. inr (sym (same_known known c is) ∙ sym h.is);
+    }
+known_comes e a limit found known k old new (Refuted id) some due h = absurd h
+known_comes e a limit found known k old new Spent some due h = absurd h

@@ -1,5 +1,5 @@
 -- The search for the candidates of a step: what it has found and logged.
-use Rattle.std.specs.Prelude.{◌≡◌, ◌⊎◌, ℕ, ◌-◌, ◌^◌, ◌<◌, Bool, true, false, List, [], ◌∷◌, ◌++◌, length, reverse, filter_map, All, Contains}
+use Rattle.std.specs.Prelude.{◌≡◌, ◌⊎◌, ℕ, ◌-◌, ◌^◌, ◌<◌, ◌≤◌, Bool, true, false, List, [], ◌∷◌, ◌++◌, length, reverse, filter_map, All, Contains, Option, Some}
 use Rattle.std.specs.List.{AllByRecursion, IsDistinct}
 use Rattle.bs_bits.specs.Bits.{bits_eq}
 use Rattle.bs_clause.specs.Literal.{Literal, Clause}
@@ -9,6 +9,7 @@ use Rattle.bs_log.specs.declared.line.Line.TheVariants.{Solve, Lemma, Block}
 use Rattle.bs_log.specs.Steps.{block_of_line, last_solve, is_spent}
 use Rattle.bs_encode.specs.Encoded.{Encoded}
 use Rattle.bs_encode.specs.Assuming.{block_for}
+use Rattle.bs_scan.specs.Moments.{is_listed}
 use Rattle.bs_report.specs.declared.report.Cand.{Cand}
 use Rattle.bs_report.specs.declared.report.ListEnd.{ListEnd}
 use Rattle.bs_report.specs.declared.report.ListEnd.TheVariants.{Finished, Candidates, Conflicts}
@@ -18,7 +19,8 @@ use Rattle.bs_solve_recording.specs.declared.stage.Stage.TheVariants.{Blocked, E
 use Rattle.bs_solve_recording.specs.Book.{standing}
 use Rattle.bs_solve_recording.specs.Search.{assumed}
 use Rattle.bs_solve_recording.specs.Solver.{SolverState}
-use Rattle.bs_preimage.specs.Turn.{IsShownIn, Keeps, guard_in, block_in}
+use Rattle.bs_solve.specs.Budget.{HasFewLemmas}
+use Rattle.bs_preimage.specs.Turn.{IsOneOf, Keeps, guard_in, block_in}
 
 -- a line inside a step
 abbrev pub is_inner : Line → Bool
@@ -38,9 +40,9 @@ pub record HasLogged (e : Encoded) (start s : SolverState) (found : List Cand) :
   pub blocks : filter_map block_of_line lines ≡ blocks_due (guard_in start.book) (block_for e) (reverse found)
   pub stand : Keeps start.book s.book
 
--- the candidates found are shown, and no two are the same
-pub record AreFound (e : Encoded) (assumptions : Clause) (found : List Cand) : Type 0 where
-  pub shown : All (IsShownIn e assumptions) found
+-- the candidates found are shown or known, and no two are the same
+pub record AreFound (e : Encoded) (assumptions : Clause) (known : Option Cand) (found : List Cand) : Type 0 where
+  pub shown : All (IsOneOf e assumptions known) found
   pub apart : IsDistinct bits_eq (listed found)
 
 -- each state that was found is blocked, and the assumptions are those of the step
@@ -50,9 +52,9 @@ pub record IsAgain (e : Encoded) (assumptions : Clause) (start s : SolverState) 
   pub assumed_is : assumed s.book ≡ assumptions
 
 -- the step has begun and nothing was found, or the last candidate was blocked
-pub record IsUnderWay (e : Encoded) (assumptions : Clause) (start s : SolverState) (found : List Cand) : Type 0 where
+pub record IsUnderWay (e : Encoded) (assumptions : Clause) (known : Option Cand) (start s : SolverState) (found : List Cand) : Type 0 where
   pub logged : HasLogged e start s found
-  pub cands : AreFound e assumptions found
+  pub cands : AreFound e assumptions known found
   pub blocked : All (λ cand. Contains (standing s.book) (block_in e start.book cand.state)) found
   pub stage : ((s ≡ start) × (found ≡ [])) ⊎ IsAgain e assumptions start s
 
@@ -63,9 +65,20 @@ EndedBy k limit assumptions s lines count Candidates = (s.stage ≡ Blocked) × 
 EndedBy k limit assumptions s lines count Conflicts =
     (s.stage ≡ Stopped) × (count < k) × (is_spent limit assumptions (last_solve (reverse lines)) ≡ true)
 
-pub record HasEndedSearch (e : Encoded) (assumptions : Clause) (k limit : ℕ) (start s : SolverState) (found : List Cand) (end : ListEnd) : Type 0 where
+-- a known candidate is among k that were found
+pub record HasKnown (known : Option Cand) (k : ℕ) (found : List Cand) : Type 0 where
+  pub there : (cand : Cand) → known ≡ Some cand → k ≤ length found → is_listed (listed found) cand.state ≡ true
+
+-- the solves logged no more lemmas than the limit, and fewer before a block, where those before did
+pub record KeepsLimit (limit : ℕ) (start s : SolverState) : Type 0 where
+  pub few : HasFewLemmas limit start.book.history → HasFewLemmas limit s.book.history
+
+pub record HasEndedSearch (e : Encoded) (assumptions : Clause) (known : Option Cand) (k limit : ℕ) (start s : SolverState) (found : List Cand)
+    (end : ListEnd) : Type 0 where
   pub logged : HasLogged e start s found
-  pub cands : AreFound e assumptions found
+  pub cands : AreFound e assumptions known found
+  pub with_known : HasKnown known k found
+  pub limited : KeepsLimit limit start s
   pub steps : s.book.problem.steps ≡ start.book.problem.steps ++ assumptions ∷ []
   pub ended : EndedBy k limit assumptions s logged.lines (length found) end
   pub bound : end ≡ Conflicts → (run : List Literal) → IsUnitRun (standing start.book) assumptions run → limit < 2 ^ (start.vars - length run)

@@ -32,10 +32,10 @@ abbrev pub assumptions_at : Encoded → Book → List Bool → List Bool → Opt
 assumptions_at e b present stored older = assumptions_for e (next_guard b.problem) (asking present stored older)
 
 -- a step was begun, searched and ended
-pub record HasSought (e : Encoded) (old new : SolverState) (present stored : List Bool) (older : Option (List Bool)) (k b : ℕ) (found : List Cand)
-    (end : ListEnd) : Type 0 where
+pub record HasSought (e : Encoded) (old new : SolverState) (present stored : List Bool) (older : Option (List Bool)) (known : Option Cand)
+    (k b : ℕ) (found : List Cand) (end : ListEnd) : Type 0 where
   pub middle : SolverState
-  pub search : HasEndedSearch e (assumptions_at e old.book present stored older) k b (begun old) middle found end
+  pub search : HasEndedSearch e (assumptions_at e old.book present stored older) known k b (begun old) middle found end
   pub ended : HasEnded middle new (ending_of end)
 
 -- a book of a circuit and its signature
@@ -51,8 +51,8 @@ seen c choice book =
     }
 
 -- the solver rests again, with one step more, which is that of the list
-pub record HasMadeStep (c : Circuit) (choice : Chosen) (old new : SolverState) (present stored : List Bool) (older : Option (List Bool)) (k b : ℕ)
-    (listing : Listing) : Type 0 where
+pub record HasMadeStep (c : Circuit) (choice : Chosen) (old new : SolverState) (present stored : List Bool) (older : Option (List Bool))
+    (known : Option Cand) (k b : ℕ) (listing : Listing) : Type 0 where
   pub rest : IsAtRest new
   pub count : length new.book.problem.steps ≡ length old.book.problem.steps + 1
-  pub listed : HasListed (seen c choice old.book) (seen c choice new.book) present stored older k b listing
+  pub listed : HasListed (seen c choice old.book) (seen c choice new.book) present stored older known k b listing

@@ -17,9 +17,11 @@ use Rattle.bs_encode.specs.Encoded.{Encoded}
 use Rattle.bs_encode.specs.Assuming.{block_for, assumptions_for}
 use Rattle.bs_encode.specs.Cycle.{bits_on}
 use Rattle.bs_encode.specs.Listing.{joins}
+use Rattle.bs_scan.specs.Moments.{is_listed}
 use Rattle.bs_scan.specs.Present.{Present}
 use Rattle.bs_report.specs.declared.report.Before.{Before}
 use Rattle.bs_report.specs.declared.report.Cand.{Cand}
+use Rattle.bs_report_good.specs.Step.{listed}
 use Rattle.bs_solve_recording.specs.declared.stage.Stage.TheVariants.{Ended, Stopped}
 use Rattle.bs_solve_recording.specs.Book.{Book, standing}
 use Rattle.bs_solve_recording.specs.Search.{assumed}
@@ -125,20 +127,22 @@ abbrev pub HasShown : Encoded → List (Option Bool) → SolverState → SolverS
 HasShown e values old new (Listed cand) = HasShownCand e values old new cand
 HasShown e values old new other = ⊥
 
--- the solve found a candidate whose state was not blocked, and the state is now
-pub record HasListedOne (e : Encoded) (assumptions : Clause) (old new : SolverState) (cand : Cand) : Type 0 where
+-- the solve logged fewer lemmas than its limit and found a candidate whose state was not blocked, and the state is now
+pub record HasListedOne (e : Encoded) (assumptions : Clause) (limit : ℕ) (old new : SolverState) (cand : Cand) : Type 0 where
   pub middle : SolverState
   pub lemmas : List Line
   pub searched : HasSearched old middle assumptions lemmas
+  pub few : length lemmas < limit
   pub id : ℕ
   pub blocked : HasBlocked middle new (block_for e cand.state) id
   pub shown : IsShownIn e assumptions cand
   pub apart : (t : List Bool) → Contains (standing old.book) (block_in e old.book t) → cand.state ≢ t
 
--- the last lemma of the solve ends the step
-pub record HasRefutedAll (assumptions : Clause) (old new : SolverState) (id : ℕ) : Type 0 where
+-- the last lemma of the solve, within its limit, ends the step
+pub record HasRefutedAll (assumptions : Clause) (limit : ℕ) (old new : SolverState) (id : ℕ) : Type 0 where
   pub lemmas : List Line
   pub searched : HasSearched old new assumptions lemmas
+  pub few : length lemmas ≤ limit
   pub ended : new.stage ≡ Ended id
 
 -- the solve logged its limit of lemmas, none of which ends the step; the limit is less than the number of values of the
@@ -152,6 +156,43 @@ pub record HasSpent (assumptions : Clause) (limit : ℕ) (old new : SolverState)
   pub open_yet : AllByRecursion (λ line. is_open_lemma assumptions line ≡ true) lemmas
 
 abbrev pub TurnsTo : Encoded → Clause → ℕ → SolverState → SolverState → TurnEnd → Type 0
-TurnsTo e assumptions limit old new (Listed cand) = HasListedOne e assumptions old new cand
-TurnsTo e assumptions limit old new (Refuted id) = HasRefutedAll assumptions old new id
+TurnsTo e assumptions limit old new (Listed cand) = HasListedOne e assumptions limit old new cand
+TurnsTo e assumptions limit old new (Refuted id) = HasRefutedAll assumptions limit old new id
 TurnsTo e assumptions limit old new Spent = HasSpent assumptions limit old new
+
+-- ---- a turn, where a candidate may be known
+
+-- the known candidate was listed without a search, and its state is blocked
+pub record HasListedKnown (e : Encoded) (assumptions : Clause) (known : Cand) (old new : SolverState) (cand : Cand) : Type 0 where
+  pub is : cand ≡ known
+  pub middle : SolverState
+  pub searched : HasSearched old middle assumptions []
+  pub id : ℕ
+  pub blocked : HasBlocked middle new (block_for e cand.state) id
+
+abbrev pub HasTakenKnown : Encoded → Clause → Cand → SolverState → SolverState → TurnEnd → Type 0
+HasTakenKnown e assumptions known old new (Listed cand) = HasListedKnown e assumptions known old new cand
+HasTakenKnown e assumptions known old new other = ⊥
+
+-- an assignment shows the candidate, or it is known
+abbrev pub IsOneOf : Encoded → Clause → Option Cand → Cand → Type 0
+IsOneOf e assumptions known cand = IsShownIn e assumptions cand ⊎ (known ≡ Some cand)
+
+-- One more candidate, whose state was not found before. Where its place is the last of k, a known candidate was found before or
+-- is this one.
+pub record HasNext (e : Encoded) (assumptions : Clause) (limit : ℕ) (found : List Cand) (known : Option Cand) (k : ℕ) (old new : SolverState)
+    (cand : Cand) : Type 0 where
+  pub middle : SolverState
+  pub lemmas : List Line
+  pub searched : HasSearched old middle assumptions lemmas
+  pub few : length lemmas < limit
+  pub id : ℕ
+  pub blocked : HasBlocked middle new (block_for e cand.state) id
+  pub right : IsOneOf e assumptions known cand
+  pub apart : ((t : List Bool) → Contains (standing old.book) (block_in e old.book t) → cand.state ≢ t) ⊎ (is_listed (listed found) cand.state ≡ false)
+  pub last : length found + 1 ≡ k → (c : Cand) → known ≡ Some c → (is_listed (listed found) c.state ≡ true) ⊎ (c ≡ cand)
+
+abbrev pub GoesTo : Encoded → Clause → ℕ → List Cand → Option Cand → ℕ → SolverState → SolverState → TurnEnd → Type 0
+GoesTo e assumptions limit found known k old new (Listed cand) = HasNext e assumptions limit found known k old new cand
+GoesTo e assumptions limit found known k old new (Refuted id) = HasRefutedAll assumptions limit old new id
+GoesTo e assumptions limit found known k old new Spent = HasSpent assumptions limit old new

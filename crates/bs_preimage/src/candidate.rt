@@ -93,3 +93,31 @@ pub(crate) fn candidate(
         before,
     })
 }
+
+/// An equal state and input of the cycle before, if there are any.
+fn copied_before(before: &Option<Before>) -> Result<Option<Before>, NoMemory>
+    ensures { IfOk result (λ copy. copy ≡ before.now) }
+{
+    match before {
+        None => Ok(None),
+        Some(before) => {
+            let state = before.state.copy()?;
+            let input = before.input.copy()?;
+            Ok(Some(Before { state, input }))
+        }
+    }
+}
+
+/// An equal candidate.
+pub(crate) fn copied(cand: &Cand) -> Result<Cand, NoMemory>
+    ensures { IfOk result (λ copy. copy ≡ cand.now) }
+{
+    let state = cand.state.copy()?;
+    let input = cand.input.copy()?;
+    let before = copied_before(&cand.before)?;
+    Ok(Cand {
+        state,
+        input,
+        before,
+    })
+}

@@ -1,5 +1,5 @@
 //! Lists of candidates by one solver, whose log goes on from list to list.
-ghost use Rattle.std.specs.Prelude.{◌≡◌, ◌+◌, ◌<◌, ◌≤◌, true, false, length, All, IfOk, IfErr, None, option_map};
+ghost use Rattle.std.specs.Prelude.{◌≡◌, ◌+◌, ◌<◌, ◌≤◌, true, false, length, All, IfOk, IfErr, IfSome, None, option_map};
 ghost use Rattle.bs_net.specs.Netlist.{circuit};
 ghost use Rattle.bs_log.specs.Refusal.{has_distinct_variables, history_of, NoneRefused, IsAccepted};
 ghost use Rattle.bs_log.specs.Lean.{LemmasAreLean, StepsLeaveKept};
@@ -11,7 +11,7 @@ ghost use Rattle.bs_encode.specs.Assuming.{AreWide};
 ghost use Rattle.bs_encode.specs.declared.encoding.TheConstants.{MAX_GUARDS};
 ghost use Rattle.bs_preimage.specs.Preimage.{fresh, assumptions_in, GoesOn, MayHaveStep};
 ghost use Rattle.bs_preimage.specs.Rest.{made};
-ghost use Rattle.bs_preimage.specs.Listed.{HasListed};
+ghost use Rattle.bs_preimage.specs.Listed.{HasListed, IsRightCand};
 
 use crate::listing::Listing;
 use crate::step::{Question, list_step};
@@ -20,6 +20,7 @@ use bs_clause::{Clauses, Lits};
 use bs_encode::{Encoding, encodings_are_tidy};
 use bs_log::Log;
 use bs_net::Netlist;
+use bs_report::Cand;
 use bs_scan::Choice;
 use bs_solve::Solver;
 use std::alloc::Global;
@@ -97,14 +98,15 @@ impl<'a> Preimage<'a> {
 
     /// Lists the states that agree with the stored signature and the older one, which is none where the register keeps one,
     /// and that lead to the present state, each with an input under which it does, and with a state and an input before it
-    /// where there is an older signature: all of them, or `k` of them, or those that are found until a solve has logged `b` lemmas. After want of memory every later
-    /// list answers it and logs nothing.
+    /// where there is an older signature: all of them, or `k` of them, or those that are found until a solve has logged `b` lemmas.
+    /// A candidate that is known is among `k` of them. After want of memory every later list answers it and logs nothing.
     pub fn list(
         &mut self,
         alloc: Global,
         present: &Bits,
         stored: &Bits,
         older: Option<&Bits>,
+        known: &Option<Cand>,
         k: u64,
         b: u64,
     ) -> Result<Listing, NoMemory>
@@ -112,10 +114,11 @@ impl<'a> Preimage<'a> {
         requires signature { length stored.now ≡ length self.old.choice.items }
         requires older { AreWide (length self.old.choice.items) (option_map (λ bits. bits.now) older) }
         requires alone { depth_of self.old.choice ≡ 1 → option_map (λ bits. bits.now) older ≡ None }
+        requires known { IfSome known.now (IsRightCand self.old.circuit self.old.choice present.now stored.now (option_map (λ bits. bits.now) older)) }
         requires candidates { 1 ≤ k }
         requires conflicts { 1 ≤ b }
         requires calls { self.old.calls < MAX_GUARDS }
-        ensures ok { IfOk result (HasListed self.old self.new present.now stored.now (option_map (λ bits. bits.now) older.entry) k b) }
+        ensures ok { IfOk result (HasListed self.old self.new present.now stored.now (option_map (λ bits. bits.now) older.entry) known.now k b) }
         ensures err { IfErr result (λ _. self.new.failed ≡ true) }
         ensures goes_on { GoesOn self.old self.new }
         ensures steps { MayHaveStep self.old self.new (assumptions_in self.old present.now stored.now (option_map (λ bits. bits.now) older.entry)) }
@@ -131,6 +134,7 @@ impl<'a> Preimage<'a> {
             present,
             stored,
             older,
+            known,
             k,
             b,
         };

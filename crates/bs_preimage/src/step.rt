@@ -1,9 +1,10 @@
 //! A step of the log: the list of candidates for one present state.
-ghost use Rattle.std.specs.Prelude.{◌≡◌, ◌≤◌, ◌<◌, [], true, length, IfOk, None, option_map};
+ghost use Rattle.std.specs.Prelude.{◌≡◌, ◌≤◌, ◌<◌, [], true, length, IfOk, IfSome, None, option_map};
 ghost use Rattle.bs_net.specs.Netlist.{circuit};
 ghost use Rattle.bs_scan.specs.Choice.{depth_of};
 ghost use Rattle.bs_encode.specs.Assuming.{AreWide};
 ghost use Rattle.bs_encode.specs.declared.encoding.TheConstants.{MAX_GUARDS};
+ghost use Rattle.bs_preimage.specs.Listed.{IsRightCand};
 ghost use Rattle.bs_preimage.specs.Rest.{IsAbout, IsAtRest};
 ghost use Rattle.bs_preimage.specs.Turn.{IsReadable, Extends};
 ghost use Rattle.bs_preimage.specs.Step.{ending_of, assumptions_at, HasSought, HasMadeStep};
@@ -21,12 +22,13 @@ use bs_solve::Solver;
 use std::alloc::Global;
 
 /// What is asked: which states that agree with the stored signature and the older one lead to the present one, at most `k`
-/// of them, with at most `b` lemmas in a solve.
+/// of them, with at most `b` lemmas in a solve. One may be known, which is then among `k`.
 #[derive(Clone, Copy)]
 pub(crate) struct Question<'a> {
     pub(crate) present: &'a Bits,
     pub(crate) stored: &'a Bits,
     pub(crate) older: Option<&'a Bits>,
+    pub(crate) known: &'a Option<Cand>,
     pub(crate) k: u64,
     pub(crate) b: u64,
 }
@@ -58,10 +60,11 @@ fn seek(
     requires state { length asked.now.present.now ≡ length encoding.now.next }
     requires signature { length asked.now.stored.now ≡ length encoding.now.signatures }
     requires older { AreWide (length encoding.now.older_signatures) (option_map (λ bits. bits.now) asked.now.older) }
+    requires width { IfSome asked.now.known.now (λ cand. length cand.state ≡ length encoding.now.states) }
     requires candidates { 1 ≤ asked.now.k }
     requires conflicts { 1 ≤ asked.now.b }
     requires none { found.old.items ≡ [] }
-    ensures ok { IfOk result (HasSought encoding.now solver.old solver.new asked.now.present.now asked.now.stored.now (option_map (λ bits. bits.now) asked.now.older) asked.now.k asked.now.b found.new.items) }
+    ensures ok { IfOk result (HasSought encoding.now solver.old solver.new asked.now.present.now asked.now.stored.now (option_map (λ bits. bits.now) asked.now.older) asked.now.known.now asked.now.k asked.now.b found.new.items) }
     ensures lines { Extends true solver.old.book solver.new.book (assumptions_at encoding.now solver.old.book asked.now.present.now asked.now.stored.now (option_map (λ bits. bits.now) asked.now.older)) }
 {
     let guard = solver.begin_step()?;
@@ -72,6 +75,7 @@ fn seek(
         solver,
         &assumptions,
         found,
+        asked.known,
         asked.k,
         asked.b,
     )?;
@@ -95,9 +99,10 @@ pub(crate) fn list_step(
     requires signature { length asked.now.stored.now ≡ length choice.now.items }
     requires older { AreWide (length choice.now.items) (option_map (λ bits. bits.now) asked.now.older) }
     requires alone { depth_of choice.now ≡ 1 → option_map (λ bits. bits.now) asked.now.older ≡ None }
+    requires known { IfSome asked.now.known.now (IsRightCand (circuit net.now) choice.now asked.now.present.now asked.now.stored.now (option_map (λ bits. bits.now) asked.now.older)) }
     requires candidates { 1 ≤ asked.now.k }
     requires conflicts { 1 ≤ asked.now.b }
-    ensures ok { IfOk result (HasMadeStep (circuit net.now) choice.now solver.old solver.new asked.now.present.now asked.now.stored.now (option_map (λ bits. bits.now) asked.now.older) asked.now.k asked.now.b) }
+    ensures ok { IfOk result (HasMadeStep (circuit net.now) choice.now solver.old solver.new asked.now.present.now asked.now.stored.now (option_map (λ bits. bits.now) asked.now.older) asked.now.known.now asked.now.k asked.now.b) }
     ensures lines { Extends true solver.old.book solver.new.book (assumptions_at encoding.now solver.old.book asked.now.present.now asked.now.stored.now (option_map (λ bits. bits.now) asked.now.older)) }
 {
     encodings_are_tidy(net, choice);

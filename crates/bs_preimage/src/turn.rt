@@ -1,10 +1,13 @@
-//! A turn of the search for candidates: one solve, and what comes of it.
-ghost use Rattle.std.specs.Prelude.{◌≡◌, ◌≤◌, [], false, length, IfOk};
+//! A turn of the search for candidates: one solve, and what comes of it, or a candidate that is known.
+ghost use Rattle.std.specs.Prelude.{◌≡◌, ◌==◌, ◌&&◌, ◌+◌, ◌<◌, ◌≤◌, [], false, not, length, IfOk, IfSome, Some};
+ghost use Rattle.std.specs.List.{list_any};
+ghost use Rattle.bs_bits.specs.Bits.{bits_eq};
 ghost use Rattle.bs_solve_recording.specs.Stages.{is_begun};
 ghost use Rattle.bs_solve_recording.specs.declared.stage.Stage.TheVariants.{Solved};
-ghost use Rattle.bs_preimage.specs.Turn.{IsReadable, MayTurn, TurnsTo, Extends, HasShown};
+ghost use Rattle.bs_preimage.specs.Turn.{IsReadable, MayTurn, TurnsTo, Extends, HasShown, HasTakenKnown, GoesTo};
 
-use crate::candidate::candidate;
+use crate::candidate::{candidate, copied};
+use bs_bits::Bits;
 use bs_clause::{Lits, NoMemory};
 use bs_encode::Encoding;
 use bs_report::Cand;
@@ -24,7 +27,7 @@ pub(crate) enum TurnEnd {
 }
 
 /// Solves once. The state of a candidate that is found is blocked.
-pub(crate) fn take_turn(
+fn take_turn(
     alloc: Global,
     encoding: &Encoding,
     solver: &mut Solver,
@@ -62,4 +65,94 @@ fn list_one(
     let block = encoding.block(alloc, &cand.state)?;
     solver.block(alloc, &block)?;
     Ok(TurnEnd::Listed(cand))
+}
+
+/// Whether a state is that of a candidate found.
+fn is_found(found: &[Cand], state: &Bits) -> bool
+    ensures { result ≡ list_any (λ cand. bits_eq state.now cand.state) found.now }
+{
+    found.iter().any(|cand| state.equals(&cand.state))
+}
+
+/// Whether the next place is the last one, and the known candidate's state is not among those found.
+fn is_due(found: &[Cand], known: &Cand, k: u64) -> bool
+    requires { length found.now < k }
+    ensures { result ≡ ((length found.now + 1 == k) && not (list_any (λ cand. bits_eq known.now.state cand.state) found.now)) }
+{
+    let is_last = found.len() as u64 + 1 == k;
+    let is_new = !is_found(found, &known.state);
+    is_last && is_new
+}
+
+/// Lists a candidate that is known, and blocks its state. Nothing is searched.
+fn list_known(
+    alloc: Global,
+    encoding: &Encoding,
+    solver: &mut Solver,
+    assumptions: &Lits,
+    known: &Cand,
+) -> Result<TurnEnd, NoMemory>
+    requires readable { IsReadable encoding.now }
+    requires may { MayTurn encoding.now solver.old assumptions.now }
+    requires width { length known.now.state ≡ length encoding.now.states }
+    ensures ok { IfOk result (HasTakenKnown encoding.now assumptions.now known.now solver.old solver.new) }
+    ensures lines { Extends (is_begun solver.old.stage) solver.old.book solver.new.book assumptions.now }
+{
+    let listed = copied(known)?;
+    let clause = encoding.block(alloc, &listed.state)?;
+    solver.solve_unsearched(alloc, assumptions)?;
+    solver.block(alloc, &clause)?;
+    Ok(TurnEnd::Listed(listed))
+}
+
+/// A turn beside a known candidate: where the next place is the last one and its state is not found yet, it takes the place; else
+/// a solve is made.
+fn turn_beside(
+    alloc: Global,
+    encoding: &Encoding,
+    solver: &mut Solver,
+    assumptions: &Lits,
+    found: &[Cand],
+    known: &Cand,
+    k: u64,
+    limit: u64,
+) -> Result<TurnEnd, NoMemory>
+    requires readable { IsReadable encoding.now }
+    requires may { MayTurn encoding.now solver.old assumptions.now }
+    requires width { length known.now.state ≡ length encoding.now.states }
+    requires few { length found.now < k }
+    requires limit { 1 ≤ limit }
+    ensures ok { IfOk result (GoesTo encoding.now assumptions.now limit found.now (Some known.now) k solver.old solver.new) }
+    ensures lines { Extends (is_begun solver.old.stage) solver.old.book solver.new.book assumptions.now }
+{
+    if is_due(found, known, k) {
+        list_known(alloc, encoding, solver, assumptions, known)
+    } else {
+        take_turn(alloc, encoding, solver, assumptions, limit)
+    }
+}
+
+/// A turn towards `k` candidates, behind those found, where one may be known.
+pub(crate) fn next_turn(
+    alloc: Global,
+    encoding: &Encoding,
+    solver: &mut Solver,
+    assumptions: &Lits,
+    found: &[Cand],
+    known: &Option<Cand>,
+    k: u64,
+    limit: u64,
+) -> Result<TurnEnd, NoMemory>
+    requires readable { IsReadable encoding.now }
+    requires may { MayTurn encoding.now solver.old assumptions.now }
+    requires width { IfSome known.now (λ cand. length cand.state ≡ length encoding.now.states) }
+    requires few { length found.now < k }
+    requires limit { 1 ≤ limit }
+    ensures ok { IfOk result (GoesTo encoding.now assumptions.now limit found.now known.now k solver.old solver.new) }
+    ensures lines { Extends (is_begun solver.old.stage) solver.old.book solver.new.book assumptions.now }
+{
+    match known {
+        None => take_turn(alloc, encoding, solver, assumptions, limit),
+        Some(cand) => turn_beside(alloc, encoding, solver, assumptions, found, cand, k, limit),
+    }
 }

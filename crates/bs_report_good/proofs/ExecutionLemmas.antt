@@ -95,13 +95,13 @@ leads_next c s x p checked led =
     let widths = led_widths c s x p led in
     sym ((next_is_led c s x p checked widths.0 widths.1).0 led)
 
-record CandFor (P : Cand → Type 0) (cands : List Cand) (s : List Bool) : Type 0 where
-  cand : Cand
-  first : find (λ (c : Cand). bits_eq c.state s) cands ≡ Some cand
-  state : cand.state ≡ s
-  right : P cand
+pub record CandFor (P : Cand → Type 0) (cands : List Cand) (s : List Bool) : Type 0 where
+  pub cand : Cand
+  pub first : find (λ (c : Cand). bits_eq c.state s) cands ≡ Some cand
+  pub state : cand.state ≡ s
+  pub right : P cand
 
-cand_for : (P : Cand → Type 0) (cands : List Cand) (s : List Bool) → Each P cands → is_listed (listed cands) s ≡ true → CandFor P cands s
+pub cand_for : (P : Cand → Type 0) (cands : List Cand) (s : List Bool) → Each P cands → is_listed (listed cands) s ≡ true → CandFor P cands s
 cand_for P [] s h e = absurd (false≢true e)
 cand_for P (c ∷ cs) s h e = by (bits_eq c.state s) refl (bits_eq s c.state) refl e (cand_for P cs s h.1)
   where

@@ -20,12 +20,15 @@ use Rattle.bs_report.specs.declared.report.ListEnd.{ListEnd}
 use Rattle.bs_report.specs.declared.report.ListEnd.TheVariants.{Finished, Candidates, Conflicts}
 use Rattle.bs_report.specs.declared.report.Step.{Step}
 use Rattle.bs_report.specs.declared.report.Budgets.{Budgets}
+use Rattle.bs_report.specs.declared.report.Report.{Report}
 use Rattle.bs_scan.specs.Crash.{Crash, IsCrash}
 use Rattle.bs_report_good.specs.Step.{stored_of, listed, asked_of, hit_of, IsRightStep, IsRightEnd}
 use Rattle.bs_scan.specs.Present.{Present}
 use Rattle.bs_report_good.specs.Chain.{present_of, present_of_hit, present_after, Follow}
 use Rattle.bs_report_good.specs.Stop.{IsFinished}
+use Rattle.bs_report_good.specs.Good.{IsGood}
 use Rattle.bs_report_good.specs.Law.{HitsEarlier, LaterHitsAreEarlier}
+use Rattle.bs_report_good.specs.Progress.{ListsBefore}
 
 each_at : {X : Type 0} (P : X → Type 0) (xs : List X) (i : ℕ) (x : X) → Each P xs → slice_get xs i ≡ Some x → P x
 each_at P [] i x h e = cc
@@ -64,29 +67,11 @@ pub none_at_reset : (c : Circuit) (choice : Chosen) (run : Run) (count : ℕ) �
 none_at_reset c choice run zero = refl
 none_at_reset c choice run (suc count) = refl
 
--- the list of the step has the state one cycle earlier
-earlier_hit : (crash : Crash) → IsCrash crash → (run cycle : ℕ) (later : Step) → IsMoment crash.runs (record { run = run; cycle = cycle }) →
-    state_at crash.circuit (run_of crash.runs run) cycle ≡ later.present →
-    stored_at crash.circuit crash.choice (run_of crash.runs run) cycle ≡ stored_of later →
-    listed later.cands ≡ asked_of crash later → HitBelow crash later cycle
-earlier_hit crash is run zero later im st sg all =
-    let none : [] ≡ stored_of later = sym (none_at_reset crash.circuit crash.choice (run_of crash.runs run) (depth_of crash.choice)) ∙ sg in
-    cc
-earlier_hit crash is run (suc k) later im st sg all =
-    let c : Circuit = crash.circuit in
-    let line : Run = run_of crash.runs run in
-    let before : Moment = record { run = run; cycle = k } in
-    let here : IsMoment crash.runs before = record { from_one = im.from_one; recorded = im.recorded; lasts = omega (arith, im.lasts) } in
-    let widths : (j : ℕ) → j ≤ k → length (get_or line j []) ≡ length c.inputs =
-    λ j le. is.inputs (run - 1) [] (omega (arith, im.from_one, im.recorded)) j [] (omega (arith, im.lasts, le)) in
-    let come : is_listed (predecessors c crash.choice (state_at c line (suc k)) (stored_at c crash.choice line (suc k))) (state_at c line k) ≡ true =
-    came_from c crash.choice line k (depth_is c crash.choice crash.dump is.fits) widths in
-    let asked : is_listed (asked_of crash later) (state_at c line k) ≡ true =
-    subst (λ (p : List Bool). is_listed (predecessors c crash.choice p (stored_of later)) (state_at c line k) ≡ true) st
-    (subst (λ (t : List (List Bool)). is_listed (predecessors c crash.choice (state_at c line (suc k)) t) (state_at c line k) ≡ true) sg come) in
-    let reached : IsReached c crash.runs (listed later.cands) before =
-    subst (λ (states : List (List Bool)). is_listed states (state_at c line k) ≡ true) (sym all) asked in
-    by (first_moment c crash.runs (listed later.cands)) refl before here reached refl
+-- a list that has the state of a moment is met there or before
+hit_where_listed : (crash : Crash) (run k : ℕ) (later : Step) → IsMoment crash.runs (record { run = run; cycle = k }) →
+    is_listed (listed later.cands) (state_at crash.circuit (run_of crash.runs run) k) ≡ true → HitBelow crash later (suc k)
+hit_where_listed crash run k later here reached =
+    by (first_moment crash.circuit crash.runs (listed later.cands)) refl (record { run = run; cycle = k }) here reached refl
   where
     by : (o : Option Moment) → first_moment crash.circuit crash.runs (listed later.cands) ≡ o →
         (before : Moment) → IsMoment crash.runs before → IsReached crash.circuit crash.runs (listed later.cands) before → before.cycle ≡ k →
@@ -108,6 +93,39 @@ earlier_hit crash is run (suc k) later im st sg all =
         low m before (inr (inl lt)) at_k = omega arith
         low m before (inr (inr same)) at_k = omega (arith, same.0)
 
+-- the list of the step has the state one cycle earlier
+earlier_hit : (crash : Crash) → IsCrash crash → (run cycle : ℕ) (later : Step) → IsMoment crash.runs (record { run = run; cycle = cycle }) →
+    state_at crash.circuit (run_of crash.runs run) cycle ≡ later.present →
+    stored_at crash.circuit crash.choice (run_of crash.runs run) cycle ≡ stored_of later →
+    listed later.cands ≡ asked_of crash later → HitBelow crash later cycle
+earlier_hit crash is run zero later im st sg all =
+    let none : [] ≡ stored_of later = sym (none_at_reset crash.circuit crash.choice (run_of crash.runs run) (depth_of crash.choice)) ∙ sg in
+    cc
+earlier_hit crash is run (suc k) later im st sg all =
+    let c : Circuit = crash.circuit in
+    let line : Run = run_of crash.runs run in
+    let here : IsMoment crash.runs (record { run = run; cycle = k }) = record { from_one = im.from_one; recorded = im.recorded; lasts = omega (arith, im.lasts) } in
+    let widths : (j : ℕ) → j ≤ k → length (get_or line j []) ≡ length c.inputs =
+    λ j le. is.inputs (run - 1) [] (omega (arith, im.from_one, im.recorded)) j [] (omega (arith, im.lasts, le)) in
+    let come : is_listed (predecessors c crash.choice (state_at c line (suc k)) (stored_at c crash.choice line (suc k))) (state_at c line k) ≡ true =
+    came_from c crash.choice line k (depth_is c crash.choice crash.dump is.fits) widths in
+    let asked : is_listed (asked_of crash later) (state_at c line k) ≡ true =
+    subst (λ (p : List Bool). is_listed (predecessors c crash.choice p (stored_of later)) (state_at c line k) ≡ true) st
+    (subst (λ (t : List (List Bool)). is_listed (predecessors c crash.choice (state_at c line (suc k)) t) (state_at c line k) ≡ true) sg come) in
+    hit_where_listed crash run k later here (subst (λ (states : List (List Bool)). is_listed states (state_at c line k) ≡ true) (sym all) asked)
+
+-- the list of the step is said to have it
+listed_hit : (crash : Crash) (run cycle : ℕ) (later : Step) → IsMoment crash.runs (record { run = run; cycle = cycle }) →
+    stored_at crash.circuit crash.choice (run_of crash.runs run) cycle ≡ stored_of later →
+    (1 ≤ cycle → is_listed (listed later.cands) (state_at crash.circuit (run_of crash.runs run) (cycle - 1)) ≡ true) → HitBelow crash later cycle
+listed_hit crash run zero later im sg there =
+    let none : [] ≡ stored_of later = sym (none_at_reset crash.circuit crash.choice (run_of crash.runs run) (depth_of crash.choice)) ∙ sg in
+    cc
+listed_hit crash run (suc k) later im sg there =
+    let back : suc k - 1 ≡ k = omega arith in
+    hit_where_listed crash run k later (record { from_one = im.from_one; recorded = im.recorded; lasts = omega (arith, im.lasts) })
+    (subst (λ (n : ℕ). is_listed (listed later.cands) (state_at crash.circuit (run_of crash.runs run) n) ≡ true) back (there (omega arith)))
+
 -- the moment of a hit
 pub record HitAt (crash : Crash) (step : Step) (hit : HitLine) : Type 0 where
   pub run_cycle : IsMoment crash.runs (record { run = hit.run; cycle = hit.cycle })
@@ -128,22 +146,28 @@ hit_at crash step hit e = by (first_moment crash.circuit crash.runs (listed step
         let same : hit ≡ record { run = m.run; cycle = m.cycle; state = state_of crash.circuit crash.runs m } = cc in
         subst (HitAt crash step) (sym same) (record { run_cycle = first.moment; state = refl; reached = first.reached })
 
-pub progress : LaterHitsAreEarlier
-progress crash r i earlier later is good e h fin =
+-- what is below an earlier hit
+abbrev pub FindsBelow : Crash → Step → Step → Type 0
+FindsBelow crash earlier later = (before : HitLine) → earlier.hit ≡ Some before → IsMoment crash.runs (record { run = before.run; cycle = before.cycle }) →
+    state_at crash.circuit (run_of crash.runs before.run) before.cycle ≡ later.present →
+    stored_at crash.circuit crash.choice (run_of crash.runs before.run) before.cycle ≡ stored_of later → HitBelow crash later before.cycle
+
+step_back : (crash : Crash) (r : Report) (i : ℕ) (earlier later : Step) → IsGood crash r →
+    slice_get r.steps i ≡ Some earlier → slice_get r.steps (i + 1) ≡ Some later → FindsBelow crash earlier later → HitsEarlier earlier later
+step_back crash r i earlier later good e h finds =
     let right = all_at (IsRightStep crash) r.steps i earlier good.steps e in
     let right_later = all_at (IsRightStep crash) r.steps (i + 1) later good.steps h in
     let next = follow_next crash _ r.steps i earlier later good.chain.follow e (rw add-one at h) in
-    let all = finished_list crash r.budgets (get_or (steps_of r.log) (i + 1) []) later later.end fin (good.ends (i + 1) later h) in
-    by earlier.hit refl right.hit next right_later.hit all
+    by earlier.hit refl right.hit next right_later.hit finds
   where
     by : (o : Option HitLine) → earlier.hit ≡ o → o ≡ hit_of crash earlier.cands → option_map (present_of_hit crash) o ≡ Some (present_of later) →
-        later.hit ≡ hit_of crash later.cands → listed later.cands ≡ asked_of crash later → HitsEarlier earlier later
-    by None e h next hit all = cc
-    by (Some before) e h next hit all =
+        later.hit ≡ hit_of crash later.cands → FindsBelow crash earlier later → HitsEarlier earlier later
+    by None e h next hit finds = cc
+    by (Some before) e h next hit finds =
         let present : present_of_hit crash before ≡ present_of later = cc in
         let at_before = hit_at crash earlier before h in
-        let below = earlier_hit crash is before.run before.cycle later at_before.run_cycle
-        (at_before.state ∙ ap (λ (p : Present). p.state) present) (ap (λ (p : Present). p.stored) present) all in
+        let below = finds before e at_before.run_cycle
+        (at_before.state ∙ ap (λ (p : Present). p.state) present) (ap (λ (p : Present). p.stored) present) in
         record {
           before = before;
           hit = record { run = below.moment.run; cycle = below.moment.cycle; state = state_of crash.circuit crash.runs below.moment };
@@ -151,3 +175,16 @@ progress crash r i earlier later is good e h fin =
           hit_is = hit ∙ ap (option_map (λ (m : Moment). record { run = m.run; cycle = m.cycle; state = state_of crash.circuit crash.runs m })) below.first;
           smaller = below.below;
         }
+
+pub progress : LaterHitsAreEarlier
+progress crash r i earlier later is good e h fin =
+    let all = finished_list crash r.budgets (get_or (steps_of r.log) (i + 1) []) later later.end fin (good.ends (i + 1) later h) in
+    step_back crash r i earlier later good e h
+    (λ before b im st sg. earlier_hit crash is before.run before.cycle later im st sg all)
+
+-- the same, where the list is said to have the state one cycle before the hit
+pub listed_progress : (crash : Crash) (r : Report) (i : ℕ) (earlier later : Step) → IsGood crash r →
+    slice_get r.steps i ≡ Some earlier → slice_get r.steps (i + 1) ≡ Some later → ListsBefore crash earlier later → HitsEarlier earlier later
+listed_progress crash r i earlier later good e h lists =
+    step_back crash r i earlier later good e h
+    (λ before b im st sg. listed_hit crash before.run before.cycle later im sg (lists.before before b))

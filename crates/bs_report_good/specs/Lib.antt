@@ -6,3 +6,4 @@ pub mod Good
 pub mod Law
 pub mod Valid
 pub mod ValidLaw
+pub mod Progress

@@ -13,8 +13,8 @@ use Rattle.bs_log.specs.declared.line.Line.{Line}
 use Rattle.bs_log.specs.declared.line.Line.TheVariants.{Solve, Lemma, Block, Finish, Retire, Delete}
 use Rattle.bs_log.specs.declared.origin.Origin.{Origin}
 use Rattle.bs_log.specs.declared.origin.Origin.TheVariants.{Axiom, Learnt, Blocked as FromBlock, Retired}
-use Rattle.bs_log.specs.History.{Problem, History, Entry, step_of, added, is_deleted, live}
-use Rattle.bs_log.specs.Refusal.{is_lemma, is_lemma_or_block}
+use Rattle.bs_log.specs.History.{Problem, History, Entry, step_of, phase_of, added, is_deleted, live}
+use Rattle.bs_log.specs.Refusal.{is_lemma, is_lemma_or_block, in_solve, has_distinct_variables}
 use Rattle.bs_log.specs.Kept.{is_kept, kept_lemmas, is_free_lemma, has_retired_guard}
 use Rattle.bs_log.specs.Lean.{is_block, LeavesKept, StepsLeaveKept}
 use Rattle.bs_log.specs.Steps.{is_lemma_line}
@@ -28,13 +28,17 @@ use Rattle.bs_watch.specs.Places.{Place, IsUnassigned, literals_of}
 use Rattle.bs_solve_reduction.specs.Keeping.{over}
 use Rattle.bs_solve_reduction.specs.Rows.{going}
 use Rattle.bs_solve_recording.specs.declared.stage.Stage.{Stage}
-use Rattle.bs_solve_recording.specs.declared.stage.Stage.TheVariants.{Idle, Begun}
+use Rattle.bs_solve_recording.specs.declared.stage.Stage.TheVariants.{Idle, Begun, Solved}
 use Rattle.bs_solve_recording.specs.declared.answer.Answer.{Answer}
 use Rattle.bs_solve_recording.specs.declared.answer.Answer.TheVariants.{Found, Refuted, Spent}
 use Rattle.bs_solve_recording.specs.Book.{Book, standing, without}
 use Rattle.bs_solve_recording.specs.Ending.{SomeLemmas}
-use Rattle.bs_solve_recording.specs.Stages.{is_solved, stage_of, begun_book, IsIdle, IsInside, Fits}
-use Rattle.bs_solve_recording.specs.Solver.{SolverState, IsReady, finished, retired, leaving}
+use Rattle.bs_solve_recording.specs.Search.{assumed}
+use Rattle.bs_solve_recording.specs.Stages.{is_begun, is_solved, stage_of, begun_book, IsIdle, IsInside, Fits}
+use Rattle.bs_solve_recording.specs.Solver.{SolverState, IsReady, MaySolve, finished, retired, leaving}
+use Rattle.bs_solve_recording.proofs.CallerLemmas.{begun_vars, begun_clauses}
+use Rattle.bs_solve_recording.proofs.Solving.{begun_stands, begun_assumptions, begun_inside, begun_phase}
+use Rattle.bs_solve_recording.proofs.Leavings.{leaves_begun}
 use Rattle.bs_solve_recording.proofs.Lists.{get_from_Contains, get_map_cases, get_within}
 use Rattle.bs_solve_recording.proofs.Clauses.{nothing_in, contains_cases, contains_first, all_from, filter_cases, filter_from, map_contains}
 use Rattle.bs_solve_search.specs.declared.stock.Stock.{Stock}
@@ -47,8 +51,9 @@ use Rattle.bs_solve_search.proofs.Entries.{clauses_in}
 use Rattle.bs_solve.specs.declared.dropping.Known.{Known}
 use Rattle.bs_solve.specs.Dropping.{marked, without_ids, is_free, is_free_long, AreKnownIn}
 use Rattle.bs_solve.specs.Ending.{unit_of, HasSettled}
-use Rattle.bs_solve.specs.Starting.{IsWhole, IsEngine}
-use Rattle.bs_solve.proofs.Startings.{begun_entries, finished_entries, watch_vars, whole_begun, failed_whole}
+use Rattle.bs_solve.specs.Opening.{HasOpened}
+use Rattle.bs_solve.specs.Starting.{IsWhole, IsEngine, KeepsRest}
+use Rattle.bs_solve.proofs.Startings.{begun_entries, finished_entries, watch_vars, whole_begun, failed_whole, kept_for_search, may_search}
 use Rattle.bs_solve.proofs.Knowns.{known_grows, known_with_guard}
 
 -- ---- the entries grow
@@ -182,14 +187,57 @@ engine_solved old begun new first assumptions stage answer w now a after stock m
     (ap (λ (p : Problem). p.vars) lemmas.problem ∙ ap (λ (b : Book). b.problem.vars) is ∙ begun_vars first old.book assumptions)
     (ap (λ (p : Problem). p.clauses) lemmas.problem ∙ ap (λ (b : Book). b.problem.clauses) is ∙ begun_clauses first old.book assumptions)
     (grown ∙ ap (λ xs. xs ++ es) (ap entries is ∙ begun_entries old.book first assumptions)) whole
-  where
-    begun_vars : (first : Bool) (b : Book) (c : Clause) → (begun_book first b c).problem.vars ≡ b.problem.vars
-    begun_vars true b c = refl
-    begun_vars false b c = refl
 
-    begun_clauses : (first : Bool) (b : Book) (c : Clause) → (begun_book first b c).problem.clauses ≡ b.problem.clauses
-    begun_clauses true b c = refl
-    begun_clauses false b c = refl
+-- ---- a solve without a search
+
+-- the solver as a solve begins whose values are known
+ready_opened : (old : SolverState) (begun : Book) (first : Bool) (a : Clause) → IsReady old → MaySolve old a → old.failed ≡ false →
+    first ≡ is_begun old.stage → begun ≡ begun_book first old.book a → IsReady (record { book = begun; vars = old.vars; stage = Solved; failed = false })
+ready_opened old begun first a ready may well is_first is =
+    let same : begun ≡ begun_book (is_begun old.stage) old.book a = is ∙ ap (λ f. begun_book f old.book a) is_first in
+    let stands = ap standing same ∙ begun_stands old.book (is_begun old.stage) a in
+    record {
+      bound = ready.bound;
+      range = λ _. subst (All (HasVariables old.vars)) (sym stands) (ready.range well);
+      distinct = λ _. subst (All (λ c. has_distinct_variables c ≡ true)) (sym stands) (ready.distinct well);
+      fits = λ _. record {
+        inside = subst (λ b. IsInside b old.vars) (sym same) (begun_inside old a ready may well);
+        phase = ap (λ (b : Book). in_solve (phase_of b.history)) same ∙ begun_phase old.book (is_begun old.stage) a;
+      };
+      leaves = λ _. subst (λ (b : Book). StepsLeaveKept b.problem b.history) (sym same) (leaves_begun (is_begun old.stage) old.book a (ready.leaves well));
+    }
+
+pub engine_opened : (old : SolverState) (begun : Book) (first : Bool) (a : Clause) (w now : WatchState) (arena : Content) (stock : Stock)
+    (marks new_marks : MarkState) (own : ℕ) (known : Known) →
+    IsEngine old w arena stock marks own known → MaySolve old a → old.failed ≡ false → first ≡ is_begun old.stage →
+    begun ≡ begun_book first old.book a → now.trail.vars ≡ old.vars → KeepsRest w now old.vars → IsClear (old.vars + 1) new_marks →
+    IsEngine (record { book = begun; vars = old.vars; stage = Solved; failed = false }) now arena stock new_marks own known
+engine_opened old begun first a w now arena stock marks new_marks own known e may well is_first is vars rest clear =
+    let m = may_search old a first begun e.whole.ready may well is_first is in
+    engine_more old begun Solved w now arena arena stock stock marks new_marks own known [] e well refl
+    (ap (λ (b : Book). b.problem.vars) is ∙ begun_vars first old.book a) (ap (λ (b : Book). b.problem.clauses) is ∙ begun_clauses first old.book a)
+    (m.same ∙ sym (append-nil (entries old.book)))
+    (record {
+      ready = ready_opened old begun first a e.whole.ready may well is_first is;
+      left = λ _. kept_for_search old a begun w now arena.clauses stock marks e.whole well may m.same m.assumed_is rest;
+      vars = λ _. omega (arith, vars);
+      clear = λ _. subst (λ n. IsClear (n + 1) new_marks) (sym vars) clear;
+    })
+
+pub has_opened : (inside now : SolverState) (a : Clause) (first : Bool) (begun : Book) → inside ≡ now → IsReady inside → MaySolve inside a →
+    inside.failed ≡ false → first ≡ is_begun inside.stage → begun ≡ begun_book first inside.book a →
+    HasOpened now (record { book = begun; vars = inside.vars; stage = Solved; failed = false }) a
+has_opened inside now a first begun view_is ready may well is_first is =
+    let same : begun ≡ begun_book (is_begun inside.stage) inside.book a = is ∙ ap (λ f. begun_book f inside.book a) is_first in
+    subst (λ s. HasOpened s (record { book = begun; vars = inside.vars; stage = Solved; failed = false }) a) view_is (record {
+      was_well = well;
+      book = same;
+      stands = ap standing same ∙ begun_stands inside.book (is_begun inside.stage) a;
+      assumed_is = ap assumed same ∙ begun_assumptions inside a ready may well;
+      vars = refl;
+      stage = refl;
+      well = refl;
+    })
 
 -- ---- the end of a step
 

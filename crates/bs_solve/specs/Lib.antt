@@ -1,3 +1,5 @@
+pub mod Budget
 pub mod Dropping
 pub mod Ending
+pub mod Opening
 pub mod Starting

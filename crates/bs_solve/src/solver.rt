@@ -10,6 +10,7 @@ ghost use Rattle.bs_solve_recording.specs.Book.{standing, lemma_ids};
 ghost use Rattle.bs_solve_recording.specs.Stages.{is_begun, is_solved};
 ghost use Rattle.bs_solve_recording.specs.Solver.{MaySolve, HasSolved, HasBlocked, HasEnded, Follows, finished};
 ghost use Rattle.bs_arena.specs.Arena.{live_words};
+ghost use Rattle.bs_solve.specs.Opening.{HasOpened};
 ghost use Rattle.bs_solve.specs.Starting.{HoldsStanding};
 
 use crate::dropping::Known;
@@ -148,6 +149,24 @@ impl Solver {
         self.stage = stage_after(&answer);
         self.failed = false;
         Ok(answer)
+    }
+
+    /// Begins a solve for values that the caller knows: nothing is searched, and no lemma is logged. A block may follow.
+    pub fn solve_unsearched(&mut self, alloc: Global, assumptions: &Lits) -> Result<(), NoMemory>
+        requires stage { MaySolve self.old assumptions.now }
+        ensures ok { IfOk result (λ _. HasOpened self.old self.new assumptions.now) }
+        ensures lines { Follows (is_begun self.old.stage) self.old.book self.new.book assumptions.now }
+        ensures err { IfErr result (λ _. self.new.failed ≡ true) }
+    {
+        if self.failed {
+            return Err(NoMemory);
+        }
+        self.failed = true;
+        begin_solve(alloc, &mut self.book, is_begun(self.stage), assumptions)?;
+        grow_to(alloc, &mut self.watch, &mut self.marks, self.vars)?;
+        self.stage = Stage::Solved;
+        self.failed = false;
+        Ok(())
     }
 
     /// Keeps a solution from coming again in this step: adds the clause of the negated guard and these literals. It

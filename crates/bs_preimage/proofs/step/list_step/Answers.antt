@@ -1,7 +1,7 @@
 use Rattle.std.proofs.Common.{refl}
 use Rattle.std.specs.Prelude.{option_map}
 use Rattle.bs_net.specs.Netlist.{circuit}
-use Rattle.bs_preimage.proofs.ListedLemmas.{readable_by, older_width, shown_by, solutions_by, accepted_by, made_step}
+use Rattle.bs_preimage.proofs.ListedLemmas.{readable_by, older_width, shown_by, solutions_by, accepted_by, known_width, made_step}
 use Rattle.bs_preimage.proofs.step.list_step.Goals as goal
 
 -- src/step.rt:109:15
@@ -13,6 +13,11 @@ pub seek-requires-clause-older : goal.seek-requires-clause-older
 seek-requires-clause-older c =
     older_width (circuit c.args.net.now) c.args.choice.now c.args.encoding.now (option_map (λ bits. bits.now) c.args.asked.now.older)
     c.requires.about.encoding c.encodings_are_tidy.ensures c.items-items.ensures.sound.kept c.requires.alone c.requires.older
+
+pub seek-requires-clause-width : goal.seek-requires-clause-width
+seek-requires-clause-width c =
+    known_width (circuit c.args.net.now) c.args.choice.now c.args.encoding.now c.args.asked.now.present.now c.args.asked.now.stored.now (option_map
+    (λ bits. bits.now) c.args.asked.now.older) c.args.asked.now.known.now c.requires.about.encoding c.encodings_are_tidy.ensures c.requires.known
 
 -- src/step.rt:89:1
 pub returns-clause-ok : goal.returns-clause-ok
@@ -27,6 +32,7 @@ returns-clause-ok c =
       present = c.args.asked.now.present.now;
       stored = c.args.asked.now.stored.now;
       older = option_map (λ bits. bits.now) c.args.asked.now.older;
+      known = c.args.asked.now.known.now;
       k = c.args.asked.now.k;
       b = c.args.asked.now.b;
       found = c.seek.new.found.items;
@@ -39,6 +45,7 @@ returns-clause-ok c =
       older_wide = c.requires.older;
       alone = c.requires.alone;
       kept = c.items-items.ensures.sound.kept;
+      known_right = c.requires.known;
       sought = c.in_ok-end.ensures.ok;
       order = c.in_ok-cands.ensures;
       accepted = accepted_by c.seek.new.solver.book.problem c.seek.new.solver.book.history c.log-log.result.now c.log-log.ensures.lines

@@ -4,7 +4,7 @@ use Rattle.bs_scan.specs.Choice.{depth_of}
 use Rattle.bs_scan.specs.Crash.{crash_of, recording_of}
 use Rattle.bs_audit.specs.Finding.{basis_for}
 use Rattle.bs_audit.proofs.WholeLemmas.{format_fails}
-use Rattle.bs_audit.proofs.finding.failing_part.Goals as goal
+use Rattle.bs_audit.proofs.parts.failing_part.Goals as goal
 
 pub returns-then-report-depth : goal.returns-then-report-depth
 returns-then-report-depth c =

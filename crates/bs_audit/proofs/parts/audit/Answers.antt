@@ -1,5 +1,5 @@
 use Rattle.std.proofs.Common.{◌∙◌, sym}
-use Rattle.bs_audit.proofs.finding.audit.Goals as goal
+use Rattle.bs_audit.proofs.parts.audit.Goals as goal
 
 pub returns-clause-good : goal.returns-clause-good
 returns-clause-good c accepted =

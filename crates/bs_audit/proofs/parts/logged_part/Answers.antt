@@ -1,7 +1,7 @@
 use Rattle.std.proofs.Common.{◌∙◌, sym}
 use Rattle.bs_audit.specs.Logged.{basis_with}
 use Rattle.bs_audit.proofs.WholeLemmas.{log_refused, log_accepted}
-use Rattle.bs_audit.proofs.finding.logged_part.Goals as goal
+use Rattle.bs_audit.proofs.parts.logged_part.Goals as goal
 
 pub returns-in-Some : goal.returns-in-Some
 returns-in-Some c =

@@ -5,7 +5,7 @@ use Rattle.bs_encode.specs.Depth.{basis_of}
 use Rattle.bs_report_good.specs.Chain.{present_of}
 use Rattle.bs_scan.specs.Present.{present_in}
 use Rattle.bs_audit.proofs.WholeLemmas.{stop_fails, trace_fails, behind_log, few_steps}
-use Rattle.bs_audit.proofs.finding.part_behind.Goals as goal
+use Rattle.bs_audit.proofs.parts.part_behind.Goals as goal
 
 pub returns-then-not-is_right_stop : goal.returns-then-not-is_right_stop
 returns-then-not-is_right_stop c =

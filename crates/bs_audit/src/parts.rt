@@ -1,4 +1,4 @@
-//! What an audit finds of a report.
+//! The parts of an audit in their order, and what it finds of a report.
 ghost use Rattle.std.specs.Prelude.{◌≡◌, ◌+◌, ◌<◌, ◌≤◌, ◌^◌, length, map, None, All, IfOk, option_map};
 ghost use Rattle.bs_net.specs.Netlist.{circuit};
 ghost use Rattle.bs_encode.specs.Depth.{basis_of, encoding_by};
@@ -78,6 +78,44 @@ fn logged_part(
     }
 }
 
+/// The same, where the assumptions are done with.
+fn part_over(
+    alloc: Global,
+    encoding: &Encoding,
+    width: usize,
+    report: &Report,
+    assumptions: List<Lits>,
+) -> Result<Option<Part>, NoMemory>
+    requires width { width ≡ length encoding.now.states }
+    requires room { encoding.now.variables + length report.now.steps < 2 ^ 30 }
+    requires sound { AreFit encoding.now report.now.steps }
+    requires assumptions { length assumptions ≡ length report.now.steps }
+    ensures { IfOk result (λ part. part ≡ first_of_all (logged_parts (basis_with encoding.now assumptions) report.now)) }
+{
+    logged_part(alloc, encoding, width, report, &assumptions)
+}
+
+/// The first part that fails against the log, over the encoding's clauses.
+fn encoded_part(
+    alloc: Global,
+    net: &Netlist,
+    choice: &Choice,
+    encoding: Encoding,
+    report: &Report,
+) -> Result<Option<Part>, NoMemory>
+    requires value { encoding ≡ encoding_by (circuit net.now) choice.now }
+    requires tidy { IsTidy (circuit net.now) choice.now encoding }
+    requires few { length report.now.steps ≤ MAX_STEPS }
+    requires sound { All (IsFit (length (circuit net.now).flops) (length choice.now.items) (depth_of choice.now)) report.now.steps }
+    ensures { IfOk result (λ part. part ≡ first_of_all (logged_parts (basis_of (circuit net.now) choice.now (map present_of report.now.steps)) report.now)) }
+{
+    let _depth = choice.depth();
+    match assumptions(alloc, &encoding, report.steps.slice()) {
+        Ok(assumptions) => part_over(alloc, &encoding, net.width(), report, assumptions),
+        Err(want) => Err(want),
+    }
+}
+
 /// The first part that fails against the log.
 fn log_part(
     alloc: Global,
@@ -90,10 +128,10 @@ fn log_part(
     requires sound { All (IsFit (length (circuit net.now).flops) (length choice.now.items) (depth_of choice.now)) report.now.steps }
     ensures { IfOk result (λ part. part ≡ first_of_all (logged_parts (basis_of (circuit net.now) choice.now (map present_of report.now.steps)) report.now)) }
 {
-    let encoding = encoding(alloc, net, choice)?;
-    let _depth = choice.depth();
-    let assumptions = assumptions(alloc, &encoding, report.steps.slice())?;
-    logged_part(alloc, &encoding, net.width(), report, &assumptions)
+    match encoding(alloc, net, choice) {
+        Ok(encoding) => encoded_part(alloc, net, choice, encoding, report),
+        Err(want) => Err(want),
+    }
 }
 
 /// The first part behind the steps that fails, where the next step is due to begin at a dump if at all.
@@ -119,6 +157,14 @@ fn part_behind(
     log_part(alloc, net, choice, report)
 }
 
+/// What is found of the steps by a replay, which is done with then.
+fn walked_by(alloc: Global, replay: Replay<'_>, report: &Report) -> Result<Walk, NoMemory>
+    ensures { IfOk result (IsWalked replay.entry report.now) }
+{
+    let mut replay = replay;
+    replay.walk(alloc, report)
+}
+
 /// What is found of the steps.
 fn walked(
     alloc: Global,
@@ -132,8 +178,10 @@ fn walked(
     requires runs { runs.now.width ≡ length (circuit net.now).inputs }
     ensures { IfOk result (IsWalked (crash_of (recording_of net.now.raw choice.now runs.now) dump.now) report.now) }
 {
-    let mut replay = Replay::new(alloc, net, choice, runs, dump)?;
-    replay.walk(alloc, report)
+    match Replay::new(alloc, net, choice, runs, dump) {
+        Ok(replay) => walked_by(alloc, replay, report),
+        Err(want) => Err(want),
+    }
 }
 
 /// The first part that fails, where this is found of the steps.

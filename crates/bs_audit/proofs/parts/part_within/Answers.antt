@@ -3,7 +3,7 @@ use Rattle.bs_scan.specs.Choice.{depth_of}
 use Rattle.bs_scan.specs.Crash.{crash_of, recording_of}
 use Rattle.bs_audit.specs.Finding.{basis_for}
 use Rattle.bs_audit.proofs.WholeLemmas.{leaves_fit, parts_are}
-use Rattle.bs_audit.proofs.finding.part_within.Goals as goal
+use Rattle.bs_audit.proofs.parts.part_within.Goals as goal
 
 pub part_after-requires-clause-sound : goal.part_after-requires-clause-sound
 part_after-requires-clause-sound c =
