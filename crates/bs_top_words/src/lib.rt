@@ -1,16 +1,23 @@
-//! The words of a command line: which are a job, and which job they are.
+//! The words of a command line, of both programs: which are a job or a request, and which one they are.
 #![tactic(auto)]
 
+mod flags;
+mod given;
 mod job;
 mod law;
 mod limits;
 mod line;
 mod options;
+mod proposed;
+mod request;
+mod signature;
+mod stimulus;
 
 pub use job::{AuditJob, DumpJob, Job, ReachJob, RunJob, read_words};
 pub use law::spelled_jobs_are_read;
 pub use limits::{
-    DEFAULT_CANDIDATES, DEFAULT_CONFLICTS, DEFAULT_STEPS, MAX_BOUND, MAX_CANDIDATES, MAX_CONFLICTS,
-    MAX_STEPS,
+    DEFAULT_CANDIDATES, DEFAULT_CONFLICTS, DEFAULT_STEPS, MAX_BITS, MAX_BOUND, MAX_CANDIDATES,
+    MAX_CONFLICTS, MAX_STEPS,
 };
-pub use options::{has_dash, is_option, number_between, rest_of};
+pub use proposed::SignatureRequest;
+pub use request::{Request, StimulusRequest, TraceRequest, WaveRequest, read_request};
