@@ -12,7 +12,7 @@ use Rattle.bs_top_plan.specs.Walks.{Walks}
 use Rattle.bs_top_plan.specs.Prepared.{Prepared, IsWork}
 use Rattle.bs_top_plan.proofs.Preparing.{prepares_work}
 use Rattle.bs_top_files.specs.Refusals.{Case, CheckSays}
-use Rattle.bs_request.specs.Request.{Request}
+use Rattle.bs_top_words.specs.Request.{Request}
 use Rattle.bs_inspect.specs.Work.{Work, plan_of, to_help, to_version, to_flops, to_inputs, to_stats, to_steps, to_trace, to_run, to_wave, to_signature}
 use Rattle.bs_inspect.specs.Finishes.{finishes}
 

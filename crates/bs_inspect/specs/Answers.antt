@@ -9,7 +9,7 @@ use Rattle.bs_top_plan.specs.declared.status.Status.TheVariants.{Words, ReadFaul
 use Rattle.bs_top_plan.specs.Plan.{Tells, Counts, Plan}
 use Rattle.bs_top_plan.specs.Clauses.{Answered, AnsweredAsTold, AnsweredWhole, CallByCall, CallsWanting, IsCalm, IsWordsOnlyFor, ReadFaultOf, RefusesFirstOf}
 use Rattle.bs_top_plan.specs.Delivery.{Delivers, PutsLines}
-use Rattle.bs_request.specs.Request.{Request}
+use Rattle.bs_top_words.specs.Request.{Request}
 use Rattle.bs_top_files.specs.Refusals.{Case, CheckSays}
 use Rattle.bs_inspect.specs.Usage.{usage_text}
 use Rattle.bs_inspect.specs.Work.{Work, plan_of}

@@ -9,7 +9,7 @@ use Rattle.bs_top_plan.specs.declared.status.Status.TheVariants.{Words}
 use Rattle.bs_top_plan.specs.declared.status.TheConstants.{NO_MEMORY_CODE}
 use Rattle.bs_top_plan.specs.Plan.{Tells, Counts}
 use Rattle.bs_top_plan.specs.Statuses.{code_of, exit_code}
-use Rattle.bs_request.specs.Request.{request_of}
+use Rattle.bs_top_words.specs.Request.{request_of}
 use Rattle.bs_inspect.specs.Answers.{AnswersRequest}
 
 -- The exit code is that of an answer to the words.

@@ -2,7 +2,7 @@
 use Rattle.std.specs.Prelude.{ℕ, Bool, List}
 use Rattle.bs_net.specs.Parts.{Parts}
 use Rattle.bs_report.specs.declared.report.Report.{Report}
-use Rattle.bs_request.specs.Request.{Request, Help, Version, Flops, Inputs, Stats, Steps, Trace, Stimulus, Wave, Signature}
+use Rattle.bs_top_words.specs.Request.{Request, Help, Version, Flops, Inputs, Stats, Steps, Trace, Stimulus, Wave, Signature}
 use Rattle.bs_top_plan.specs.Plan.{Plan, end, ◌>>=◌}
 use Rattle.bs_top_files.specs.Entry.{netlist_of, report_of}
 use Rattle.bs_top_files.specs.Refusals.{Case}

@@ -2,8 +2,8 @@
 ghost use Rattle.std.specs.Prelude.{◌≡◌, Some};
 ghost use Rattle.bs_top_plan.specs.Prepared.{Prepared};
 ghost use Rattle.bs_top_files.specs.Refusals.{CheckSays};
-ghost use Rattle.bs_request.specs.Request.{Flops as FlopsOf, Help as HelpOf, Inputs as InputsOf, Signature as SignatureOf, Stats as StatsOf, Steps as StepsOf, Stimulus as StimulusOf, Trace as TraceOf, Version as VersionOf, Wave as WaveOf};
-ghost use Rattle.bs_request.specs.Shown.{request_in, signature_in, stimulus_in, trace_in, wave_in};
+ghost use Rattle.bs_top_words.specs.Request.{Flops as FlopsOf, Help as HelpOf, Inputs as InputsOf, Signature as SignatureOf, Stats as StatsOf, Steps as StepsOf, Stimulus as StimulusOf, Trace as TraceOf, Version as VersionOf, Wave as WaveOf};
+ghost use Rattle.bs_top_words.specs.Asked.{request_in, signature_in, stimulus_in, trace_in, wave_in};
 ghost use Rattle.bs_inspect.specs.Finishes.{finishes};
 ghost use Rattle.bs_inspect.specs.Work.{plan_of};
 
@@ -15,9 +15,9 @@ use bs_inspect_files::{
     Sampling, take_charted, take_exercised, take_picked, take_report, take_simulated,
 };
 use bs_outside::{NoMemory, Shelf};
-use bs_request::{Request, SignatureRequest, StimulusRequest, TraceRequest, WaveRequest};
 use bs_top_files::take_netlist;
 use bs_top_plan::{Reply, stopped};
+use bs_top_words::{Request, SignatureRequest, StimulusRequest, TraceRequest, WaveRequest};
 use std::alloc::Global;
 
 /// The answer to `flops`.

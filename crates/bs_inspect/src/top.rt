@@ -4,8 +4,8 @@ ghost use Rattle.std.specs.Io.KnownBytes.{Keeps};
 ghost use Rattle.bs_outside.specs.Faults.{Rose};
 ghost use Rattle.bs_top_plan.specs.Clauses.{Answered, AnsweredAsTold, AnsweredWhole, CallByCall, CallsWanting, IsCalm, IsWordsOnlyFor, ReadFaultOf, RefusesFirstOf};
 ghost use Rattle.bs_top_files.specs.Refusals.{CheckSays};
-ghost use Rattle.bs_request.specs.Request.{request_of};
-ghost use Rattle.bs_request.specs.Shown.{request_in};
+ghost use Rattle.bs_top_words.specs.Request.{request_of};
+ghost use Rattle.bs_top_words.specs.Asked.{request_in};
 ghost use Rattle.bs_inspect.specs.Answers.{AnswersPlan, AnswersRequest, ShowsUsage};
 ghost use Rattle.bs_inspect.specs.Work.{plan_of};
 ghost use Rattle.bs_inspect.specs.Finishes.{finishes};
@@ -14,8 +14,8 @@ ghost use Rattle.bs_inspect.specs.Usage.{usage_text};
 use crate::asking::prepare;
 use crate::usage::usage_text;
 use bs_outside::{NoMemory, Shelf, Sink};
-use bs_request::{Request, read_request};
 use bs_top_plan::{Reply, Status, deliver};
+use bs_top_words::{Request, read_request};
 use std::alloc::Global;
 
 /// Does what a request asks, and writes what its plan calls for.

@@ -1,5 +1,5 @@
 -- The budgets of a job are in their ranges.
-use Rattle.std.proofs.Common.{◌≡◌, ℕ, ◌≤◌, ◌-◌, ◌^◌, Bool, true, false, List, [], ◌∷◌, Option, Some, None, refl, sym, subst, codes, if◌then◌else◌, arith}
+use Rattle.std.proofs.Common.{◌≡◌, ℕ, ◌≤◌, ◌-◌, ◌^◌, Bool, true, false, List, [], ◌∷◌, Option, Some, None, refl, sym, subst, ◌∙◌, codes, if◌then◌else◌, arith}
 use Rattle.std.specs.Prelude.{nat_le, ◌&&◌, IfSome}
 use Rattle.std.specs.Option.{option_map, option_and_then, unwrap_or}
 use Rattle.std.specs.Str.{bytes_eq}
@@ -10,10 +10,10 @@ use Rattle.bs_top_words.specs.declared.limits.TheConstants.{MAX_STEPS, MAX_CANDI
 use Rattle.bs_top_words.specs.declared.limits.TheConstants.{DEFAULT_STEPS, DEFAULT_CANDIDATES, DEFAULT_CONFLICTS}
 use Rattle.bs_top_words.specs.declared.options.Kind.{Kind}
 use Rattle.bs_top_words.specs.declared.options.Kind.TheVariants.{Steps, Candidates, Conflicts}
-use Rattle.bs_top_words.specs.declared.line.Mode.{Mode}
-use Rattle.bs_top_words.specs.declared.line.Mode.TheVariants.{Plain, Wants, Names}
-use Rattle.bs_top_words.specs.Options.{number_between, value_in, has_dash, is_option, kind_of, rest_of}
-use Rattle.bs_top_words.specs.Line.{Line, once, set_to, set_if, set_by, add_to, State, in_mode, option_step, plain_step, step, finish, read_all, start}
+use Rattle.bs_top_words.specs.Options.{number_between, value_in, has_dash, is_option}
+use Rattle.bs_top_words.specs.Line.{Line, once, set_to, read_line}
+use Rattle.bs_top_words.proofs.Taking.{Mode, Plain, Wants, Names, State, behind, kind_of, set_if, set_by, add_to, in_mode, option_step, plain_step, step}
+use Rattle.bs_top_words.proofs.Taking.{finish, read_all, start, same_line}
 use Rattle.bs_top_words.specs.Job.{RunJob, ReachJob, Job, Run, Audit, Dump, Demo, Wave, Reach, run_job, run_at, audit_at, audit_job, dump_of, dump_at}
 use Rattle.bs_top_words.specs.Job.{dump_job, demo_at, demo_job, wave_at, wave_job, is_state, reach_of, reach_at, reach_if, reach_job, has_budget, command_job}
 use Rattle.bs_top_words.specs.Job.{job_of}
@@ -108,9 +108,9 @@ if_fits l kind (Some word) other new fits rest e = set_fits l kind word new fits
 
 by_fits : (l : Line) (word : List ℕ) (new : Line) → Fits l → set_by l word ≡ Some new → Fits new
 by_fits l word new fits e =
-    if_fits l Steps (rest_of (codes "--steps=") word) _ new fits
-    (if_fits l Candidates (rest_of (codes "--candidates=") word) _ new fits
-    (if_fits l Conflicts (rest_of (codes "--conflicts=") word) None new fits (λ k. absurd (no_some Line new k)))) e
+    if_fits l Steps (behind Steps word) _ new fits
+    (if_fits l Candidates (behind Candidates word) _ new fits
+    (if_fits l Conflicts (behind Conflicts word) None new fits (λ k. absurd (no_some Line new k)))) e
 
 -- ---- states
 
@@ -296,7 +296,8 @@ command_fits command l fits =
 job_fits_if : (words : List (List ℕ)) → FitsIf (job_of words)
 job_fits_if [] = tt
 job_fits_if (command ∷ words) =
-    by (read_all (has_budget command) words start) (λ l k. all_fits (has_budget command) words start l start_fits k)
+    by (read_line (has_budget command) words)
+    (λ l k. all_fits (has_budget command) words start l start_fits (sym (same_line (has_budget command) words) ∙ k))
   where
     by : (o : Option Line) → ((l : Line) → o ≡ Some l → Fits l) → FitsIf (option_and_then (command_job command) o)
     by None h = tt

@@ -13,17 +13,17 @@ use Rattle.bs_stim.specs.declared.limits.TheConstants.{MAX_RUNS, MAX_CYCLES}
 use Rattle.bs_top_words.specs.declared.limits.TheConstants.{DEFAULT_STEPS, DEFAULT_CANDIDATES, DEFAULT_CONFLICTS, MAX_BOUND}
 use Rattle.bs_top_words.specs.declared.options.Kind.{Kind}
 use Rattle.bs_top_words.specs.declared.options.Kind.TheVariants.{Steps, Candidates, Conflicts}
-use Rattle.bs_top_words.specs.declared.line.Mode.TheVariants.{Plain}
 use Rattle.bs_top_words.specs.Options.{number_between}
-use Rattle.bs_top_words.specs.Line.{Line, read_all, start}
+use Rattle.bs_top_words.specs.Line.{Line, plain, read_line}
+use Rattle.bs_top_words.proofs.Taking.{Plain, state, read_all, start, same_line}
 use Rattle.bs_top_words.specs.Job.{RunJob, AuditJob, DumpJob, ReachJob, Job, Run, Audit, Dump, Demo, Wave, Reach}
 use Rattle.bs_top_words.specs.Job.{is_bit, is_state, reach_of, reach_at, reach_if, reach_job, wave_at, wave_job, run_at, run_job, audit_at, audit_job}
 use Rattle.bs_top_words.specs.Job.{dump_of, dump_at}
 use Rattle.bs_top_words.specs.Job.{dump_job, demo_at, demo_job, job_of}
-use Rattle.bs_top_words.specs.Spelling.{spelling, positions_of, options_of, given, values_of, listed, IsLine, plain, IsRun, IsDump, IsDemo}
+use Rattle.bs_top_words.specs.Spelling.{spelling, positions_of, options_of, given, values_of, listed, IsLine, IsRun, IsDump, IsDemo}
 use Rattle.bs_top_words.specs.Spelling.{IsStateWord, IsReach, IsJob}
 use Rattle.bs_top_words.specs.Spelling.{IsNoJob, SpelledJobsAreRead}
-use Rattle.bs_top_words.proofs.SpellingLemmas.{Rest, Once, Fresh, state, after, read_sound, read_pieces, read_names, after_positions, after_given}
+use Rattle.bs_top_words.proofs.SpellingLemmas.{Rest, Once, Fresh, after, read_sound, read_pieces, read_names, after_positions, after_given}
 use Rattle.bs_top_words.proofs.SpellingLemmas.{fresh_from, listed_same, own_values, between_is, between_again}
 
 -- ---- lines
@@ -72,7 +72,7 @@ no_options (option ∷ options) h =
 
 -- a line that is spelled is read
 line_read : (options : Bool) (words : List (List ℕ)) (line : Line) → IsLine words line →
-    (options ≡ true) ⊎ ((kind : Kind) → listed (given line kind) ≡ []) → read_all options words start ≡ Some line
+    (options ≡ true) ⊎ ((kind : Kind) → listed (given line kind) ≡ []) → read_line options words ≡ Some line
 line_read options words line h allowed =
     let once : Once start.line h.pieces =
     λ kind. (given line kind, h.options kind ∙ ap (λ xs. xs ++ values_of kind (options_of h.pieces)) (sym (start_gives_none kind))) in
@@ -86,7 +86,8 @@ line_read options words line h allowed =
     ∙ (ap (λ xs. xs ++ values_of kind (options_of h.pieces)) (start_gives_none kind) ∙ sym (h.options kind)) in
     let read : (rest : List (List ℕ)) → read_all options (flat_map spelling h.pieces ++ rest) start ≡ read_all options rest (state Plain end) =
     λ rest. read_pieces options h.pieces start.line rest h.right fresh allows in
-    ⊎_elim
+    same_line options words
+    ∙ ⊎_elim
     (λ (k : (words ≡ flat_map spelling h.pieces) × (h.behind ≡ [])).
     ap (λ ws. read_all options ws start) (k.0 ∙ sym (append-nil (flat_map spelling h.pieces)))
     ∙ (read []
@@ -269,13 +270,13 @@ job_said (command ∷ words) job e =
     named : (name : List ℕ) → bytes_eq command name ≡ true → IsJob (name ∷ words) job → IsJob (command ∷ words) job
     named name is h = subst (λ (c : List ℕ). IsJob (c ∷ words) job) (sym ((bytes_eq-Decides command name).0 is)) h
 
-    read : (options : Bool) (line : Line) → read_all options words start ≡ Some line → Rest options start.line words line
-    read options line e = read_sound options words Plain start.line line e
+    read : (options : Bool) (line : Line) → read_line options words ≡ Some line → Rest options start.line words line
+    read options line e = read_sound options words Plain start.line line (sym (same_line options words) ∙ e)
 
-    bare : (line : Line) → read_all false words start ≡ Some line → IsLine words (plain line.positions)
+    bare : (line : Line) → read_line false words ≡ Some line → IsLine words (plain line.positions)
     bare line e = subst (IsLine words) (plain_is words line (read false line e)) (line_is false words line (read false line e))
 
-    others : (line : Line) → read_all false words start ≡ Some line → (a : Bool) → bytes_eq command (codes "audit") ≡ a → (d : Bool) →
+    others : (line : Line) → read_line false words ≡ Some line → (a : Bool) → bytes_eq command (codes "audit") ≡ a → (d : Bool) →
         bytes_eq command (codes "dump") ≡ d → (m : Bool) → bytes_eq command (codes "demo") ≡ m → (v : Bool) → bytes_eq command (codes "wave") ≡ v →
         cond a (audit_job line) (cond d (dump_job line) (cond m (demo_job line) (cond v (wave_job line) None))) ≡ Some job → IsJob (command ∷ words) job
     others line is true a d f m g v h e = named (codes "audit") a (audit_said words line.positions job (bare line is) e)
@@ -284,16 +285,16 @@ job_said (command ∷ words) job e =
     others line is false a false f false g true h e = named (codes "wave") h (wave_said words line.positions job (bare line is) e)
     others line is false a false f false g false h e = absurd cc
 
-    on_run : (o : Option Line) → read_all true words start ≡ o → option_and_then run_job o ≡ Some job → IsJob (codes "run" ∷ words) job
+    on_run : (o : Option Line) → read_line true words ≡ o → option_and_then run_job o ≡ Some job → IsJob (codes "run" ∷ words) job
     on_run None is e = absurd cc
     on_run (Some line) is e = run_said words line line.positions job refl (line_is true words line (read true line is)) e
 
-    on_reach : (o : Option Line) → read_all true words start ≡ o → option_and_then reach_job o ≡ Some job → IsJob (codes "reach" ∷ words) job
+    on_reach : (o : Option Line) → read_line true words ≡ o → option_and_then reach_job o ≡ Some job → IsJob (codes "reach" ∷ words) job
     on_reach None is e = absurd cc
     on_reach (Some line) is e =
         reach_asked words line job (line_is true words line (read true line is)) line.steps refl line.candidates refl e
 
-    on_others : (o : Option Line) → read_all false words start ≡ o →
+    on_others : (o : Option Line) → read_line false words ≡ o →
         option_and_then (λ (line : Line). cond (bytes_eq command (codes "audit")) (audit_job line)
         (cond (bytes_eq command (codes "dump")) (dump_job line)
         (cond (bytes_eq command (codes "demo")) (demo_job line)
@@ -311,11 +312,11 @@ job_said (command ∷ words) job e =
         (cond (bytes_eq command (codes "dump")) (dump_job line)
         (cond (bytes_eq command (codes "demo")) (demo_job line)
         (cond (bytes_eq command (codes "wave")) (wave_job line) None))))))
-        (read_all (r || h) words start) ≡ Some job →
+        (read_line (r || h) words) ≡ Some job →
         IsJob (command ∷ words) job
-    by true r h k e = named (codes "run") r (on_run (read_all true words start) refl e)
-    by false r true k e = named (codes "reach") k (on_reach (read_all true words start) refl e)
-    by false r false k e = on_others (read_all false words start) refl e
+    by true r h k e = named (codes "run") r (on_run (read_line true words) refl e)
+    by false r true k e = named (codes "reach") k (on_reach (read_line true words) refl e)
+    by false r false k e = on_others (read_line false words) refl e
 
 -- ---- from the job to what is read
 

@@ -1,4 +1,7 @@
 pub mod Prefixes
+pub mod Taking
 pub mod BudgetLemmas
 pub mod SpellingLemmas
 pub mod JobLemmas
+pub mod SettingLemmas
+pub mod ValueLemmas

@@ -12,11 +12,12 @@ use Rattle.bs_bits.proofs.NumberLemmas.{canonical, decimal_canonical, number_of_
 use Rattle.bs_bits.proofs.LineTextLemmas.{Lacks, number_lacks}
 use Rattle.bs_top_words.specs.declared.options.Kind.{Kind}
 use Rattle.bs_top_words.specs.declared.options.Kind.TheVariants.{Steps, Candidates, Conflicts}
-use Rattle.bs_top_words.specs.declared.line.Mode.{Mode}
-use Rattle.bs_top_words.specs.declared.line.Mode.TheVariants.{Plain, Wants, Names}
-use Rattle.bs_top_words.specs.Options.{number_between, greatest, value_in, has_dash, is_option, kind_of, rest_of}
-use Rattle.bs_top_words.specs.Line.{Line, once, set_to, set_if, set_by, add_to, State, in_mode, option_step, plain_step, step, finish, read_all}
-use Rattle.bs_top_words.specs.Spelling.{name_of, Piece, Word, Apart, Joined, spelling, IsBudget, IsPiece, positions_of, options_of, given, values_if}
+use Rattle.bs_top_words.specs.Options.{number_between, greatest, value_in, has_dash, is_option, rest_of}
+use Rattle.bs_top_words.specs.Flags.{kind_name}
+use Rattle.bs_top_words.specs.Line.{Line, once, set_to}
+use Rattle.bs_top_words.proofs.Taking.{Mode, Plain, Wants, Names, state, behind, kind_of, set_if, set_by, add_to, in_mode, option_step, plain_step}
+use Rattle.bs_top_words.proofs.Taking.{step, finish, read_all, read_on}
+use Rattle.bs_top_words.specs.Spelling.{Piece, Word, Apart, Joined, spelling, IsBudget, IsPiece, positions_of, options_of, given, values_if}
 use Rattle.bs_top_words.specs.Spelling.{values_of, listed}
 
 -- ---- numbers
@@ -128,12 +129,12 @@ set_again l Conflicts n h free =
 
 -- ---- one word that is an option
 
-wants_name : (l : Line) (kind : Kind) → plain_step true l (name_of kind) ≡ Some (record { mode = Wants kind; line = l })
+wants_name : (l : Line) (kind : Kind) → plain_step true l (kind_name kind) ≡ Some (record { mode = Wants kind; line = l })
 wants_name l Steps = refl
 wants_name l Candidates = refl
 wants_name l Conflicts = refl
 
-takes_joined : (l : Line) (kind : Kind) (digits : List ℕ) → plain_step true l (name_of kind ++ (codes "=" ++ digits)) ≡ in_mode Plain (set_to l kind digits)
+takes_joined : (l : Line) (kind : Kind) (digits : List ℕ) → plain_step true l (kind_name kind ++ (codes "=" ++ digits)) ≡ in_mode Plain (set_to l kind digits)
 takes_joined l Steps digits = refl
 takes_joined l Candidates digits = refl
 takes_joined l Conflicts digits = refl
@@ -156,40 +157,47 @@ rest_is prefix word rest e = by (starts_with nat_eq word prefix) refl e
 record Joins (l : Line) (word : List ℕ) (new : Line) : Type 0 where
   kind : Kind
   digits : List ℕ
-  spelled : word ≡ name_of kind ++ (codes "=" ++ digits)
+  spelled : word ≡ kind_name kind ++ (codes "=" ++ digits)
   sets : Sets l kind digits new
 
-joins_is : (l : Line) (word : List ℕ) (new : Line) → set_by l word ≡ Some new → Joins l word new
-joins_is l word new e =
-    steps (rest_of (codes "--steps=") word) refl (rest_of (codes "--candidates=") word) refl (rest_of (codes "--conflicts=") word) refl e
+behind_is : (kind : Kind) (word rest : List ℕ) → behind kind word ≡ Some rest → word ≡ kind_name kind ++ (codes "=" ++ rest)
+behind_is kind word rest e = by (rest_of (kind_name kind) word) refl e
   where
-    one : (kind : Kind) (rest : List ℕ) → word ≡ name_of kind ++ (codes "=" ++ rest) → set_to l kind rest ≡ Some new → Joins l word new
-    one kind rest is e = record { kind = kind; digits = rest; spelled = is; sets = set_is l kind rest new e }
+    by : (o : Option (List ℕ)) → rest_of (kind_name kind) word ≡ o → option_and_then (rest_of (codes "=")) o ≡ Some rest →
+        word ≡ kind_name kind ++ (codes "=" ++ rest)
+    by None is e = absurd cc
+    by (Some more) is e = rest_is (kind_name kind) word more is ∙ ap (λ t. kind_name kind ++ t) (rest_is (codes "=") more rest e)
 
-    conflicts : (o : Option (List ℕ)) → rest_of (codes "--conflicts=") word ≡ o → set_if l Conflicts o None ≡ Some new → Joins l word new
+joins_is : (l : Line) (word : List ℕ) (new : Line) → set_by l word ≡ Some new → Joins l word new
+joins_is l word new e = steps (behind Steps word) refl (behind Candidates word) refl (behind Conflicts word) refl e
+  where
+    one : (kind : Kind) (rest : List ℕ) → behind kind word ≡ Some rest → set_to l kind rest ≡ Some new → Joins l word new
+    one kind rest is e = record { kind = kind; digits = rest; spelled = behind_is kind word rest is; sets = set_is l kind rest new e }
+
+    conflicts : (o : Option (List ℕ)) → behind Conflicts word ≡ o → set_if l Conflicts o None ≡ Some new → Joins l word new
     conflicts None r e = absurd cc
-    conflicts (Some rest) r e = one Conflicts rest (rest_is (codes "--conflicts=") word rest r) e
+    conflicts (Some rest) r e = one Conflicts rest r e
 
-    candidates : (o : Option (List ℕ)) → rest_of (codes "--candidates=") word ≡ o → (p : Option (List ℕ)) → rest_of (codes "--conflicts=") word ≡ p →
+    candidates : (o : Option (List ℕ)) → behind Candidates word ≡ o → (p : Option (List ℕ)) → behind Conflicts word ≡ p →
         set_if l Candidates o (set_if l Conflicts p None) ≡ Some new → Joins l word new
     candidates None r p q e = conflicts p q e
-    candidates (Some rest) r p q e = one Candidates rest (rest_is (codes "--candidates=") word rest r) e
+    candidates (Some rest) r p q e = one Candidates rest r e
 
-    steps : (s : Option (List ℕ)) → rest_of (codes "--steps=") word ≡ s → (o : Option (List ℕ)) → rest_of (codes "--candidates=") word ≡ o →
-        (p : Option (List ℕ)) → rest_of (codes "--conflicts=") word ≡ p →
+    steps : (s : Option (List ℕ)) → behind Steps word ≡ s → (o : Option (List ℕ)) → behind Candidates word ≡ o →
+        (p : Option (List ℕ)) → behind Conflicts word ≡ p →
         set_if l Steps s (set_if l Candidates o (set_if l Conflicts p None)) ≡ Some new → Joins l word new
     steps None t o r p q e = candidates o r p q e
-    steps (Some rest) t o r p q e = one Steps rest (rest_is (codes "--steps=") word rest t) e
+    steps (Some rest) t o r p q e = one Steps rest t e
 
-kind_is : (word : List ℕ) (kind : Kind) → kind_of word ≡ Some kind → word ≡ name_of kind
+kind_is : (word : List ℕ) (kind : Kind) → kind_of word ≡ Some kind → word ≡ kind_name kind
 kind_is word kind e = by (bytes_eq word (codes "--steps")) refl (bytes_eq word (codes "--candidates")) refl (bytes_eq word (codes "--conflicts")) refl e
   where
-    one : (k : Kind) → bytes_eq word (name_of k) ≡ true → k ≡ kind → word ≡ name_of kind
-    one k is same = (bytes_eq-Decides word (name_of k)).0 is ∙ ap name_of same
+    one : (k : Kind) → bytes_eq word (kind_name k) ≡ true → k ≡ kind → word ≡ kind_name kind
+    one k is same = (bytes_eq-Decides word (kind_name k)).0 is ∙ ap kind_name same
 
     by : (s : Bool) → bytes_eq word (codes "--steps") ≡ s → (c : Bool) → bytes_eq word (codes "--candidates") ≡ c → (m : Bool) →
         bytes_eq word (codes "--conflicts") ≡ m →
-        cond s (Some Steps) (cond c (Some Candidates) (cond m (Some Conflicts) None)) ≡ Some kind → word ≡ name_of kind
+        cond s (Some Steps) (cond c (Some Candidates) (cond m (Some Conflicts) None)) ≡ Some kind → word ≡ kind_name kind
     by true s c q m p e = one Steps s cc
     by false s true q m p e = one Candidates q cc
     by false s false q true p e = one Conflicts p cc
@@ -241,9 +249,6 @@ own_values Conflicts v vs = refl
 
 -- ---- from a line to what was read
 
-abbrev pub state : Mode → Line → State
-state mode l = record { mode = mode; line = l }
-
 -- the words that are left spell what a line has more than before
 pub record Rest (options : Bool) (l : Line) (words : List (List ℕ)) (line : Line) : Type 0 where
   pub pieces : List Piece
@@ -292,16 +297,16 @@ with_positions l Candidates v = refl
 with_positions l Conflicts v = refl
 
 before_apart : (l line : Line) (kind : Kind) (v : ℕ) (rest : List (List ℕ)) → IsBudget kind v → given l kind ≡ None →
-    Rest true (with l kind v) rest line → Rest true l (name_of kind ∷ decimal v ∷ rest) line
+    Rest true (with l kind v) rest line → Rest true l (kind_name kind ∷ decimal v ∷ rest) line
 before_apart l line kind v rest h free r =
-    before true l (with l kind v) line (Apart kind v) (name_of kind ∷ decimal v ∷ rest) rest refl h
+    before true l (with l kind v) line (Apart kind v) (kind_name kind ∷ decimal v ∷ rest) rest refl h
     (λ xs ys. ap (λ ps. ps ++ (positions_of xs ++ ys)) (with_positions l kind v)) (λ xs k. spread l kind v k (values_of k (options_of xs)) free)
     (λ off. absurd (true≢false off)) r
 
 before_joined : (l line : Line) (kind : Kind) (v : ℕ) (rest : List (List ℕ)) → IsBudget kind v → given l kind ≡ None → Rest true (with l kind v) rest line →
-    Rest true l ((name_of kind ++ (codes "=" ++ decimal v)) ∷ rest) line
+    Rest true l ((kind_name kind ++ (codes "=" ++ decimal v)) ∷ rest) line
 before_joined l line kind v rest h free r =
-    before true l (with l kind v) line (Joined kind v) ((name_of kind ++ (codes "=" ++ decimal v)) ∷ rest) rest refl h
+    before true l (with l kind v) line (Joined kind v) ((kind_name kind ++ (codes "=" ++ decimal v)) ∷ rest) rest refl h
     (λ xs ys. ap (λ ps. ps ++ (positions_of xs ++ ys)) (with_positions l kind v)) (λ xs k. spread l kind v k (values_of k (options_of xs)) free)
     (λ off. absurd (true≢false off)) r
 
@@ -332,9 +337,6 @@ nothing_left options Names l line e =
 -- what the words behind one more say
 abbrev Later : Bool → List (List ℕ) → Line → Type 0
 Later options rest line = (mode : Mode) (l : Line) → read_all options rest (state mode l) ≡ Some line → From options mode l rest line
-
-abbrev read_on : Bool → List (List ℕ) → Option State → Option Line
-read_on options rest o = option_and_then (λ (s : State). read_all options rest s) o
 
 behind_dashes : (options : Bool) (l line : Line) (rest : List (List ℕ)) → line ≡ record l { positions = l.positions ++ rest } →
     Rest options l (codes "--" ∷ rest) line
@@ -378,7 +380,7 @@ sound_joined l line word rest later e = by (set_by l word) refl e
         let j = joins_is l word new is in
         let s = j.sets in
         let r : Rest true new rest line = later Plain new e in
-        let spelled : word ≡ name_of j.kind ++ (codes "=" ++ decimal s.value) = j.spelled ∙ ap (λ d. name_of j.kind ++ (codes "=" ++ d)) s.word_is in
+        let spelled : word ≡ kind_name j.kind ++ (codes "=" ++ decimal s.value) = j.spelled ∙ ap (λ d. kind_name j.kind ++ (codes "=" ++ d)) s.word_is in
         subst (λ (w : List ℕ). Rest true l (w ∷ rest) line) (sym spelled)
         (before_joined l line j.kind s.value rest s.budget s.free (subst (λ (k : Line). Rest true k rest line) (sym s.new_is) r))
 
@@ -390,7 +392,7 @@ sound_option l line word rest later e = by (kind_of word) refl e
     by None is e = sound_joined l line word rest later e
     by (Some kind) is e =
         let w = later (Wants kind) l e in
-        let whole : word ∷ rest ≡ name_of kind ∷ decimal w.0 ∷ w.1 = ap (λ t. t ∷ rest) (kind_is word kind is) ∙ ap (λ ws. name_of kind ∷ ws) w.2 in
+        let whole : word ∷ rest ≡ kind_name kind ∷ decimal w.0 ∷ w.1 = ap (λ t. t ∷ rest) (kind_is word kind is) ∙ ap (λ ws. kind_name kind ∷ ws) w.2 in
         subst (λ (ws : List (List ℕ)). Rest true l ws line) (sym whole) (before_apart l line kind w.0 w.1 w.3 w.4 w.5)
 
 sound_plain : (options : Bool) (l line : Line) (word : List ℕ) (rest : List (List ℕ)) → Later options rest line →

@@ -6,7 +6,7 @@ use Rattle.std.specs.Str.{bytes_eq}
 use Rattle.bs_stim.specs.declared.limits.TheConstants.{MAX_RUNS, MAX_CYCLES}
 use Rattle.bs_top_words.specs.declared.limits.TheConstants.{DEFAULT_STEPS, DEFAULT_CANDIDATES, DEFAULT_CONFLICTS, MAX_BOUND}
 use Rattle.bs_top_words.specs.Options.{number_between}
-use Rattle.bs_top_words.specs.Line.{Line, read_all, start}
+use Rattle.bs_top_words.specs.Line.{Line, read_line}
 
 -- the files and budgets of `run`
 pub record RunJob : Type 0 where
@@ -154,4 +154,4 @@ command_job command line =
 -- the job that words are: the first is the command, and options belong to `run` and `reach`
 abbrev pub job_of : List (List ℕ) → Option Job
 job_of [] = None
-job_of (command ∷ words) = option_and_then (command_job command) (read_all (has_budget command) words start)
+job_of (command ∷ words) = option_and_then (command_job command) (read_line (has_budget command) words)

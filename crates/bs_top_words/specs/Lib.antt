@@ -1,5 +1,9 @@
 pub mod Options
+pub mod Flags
+pub mod Given
 pub mod Line
 pub mod Job
 pub mod Spelling
 pub mod Shown
+pub mod Request
+pub mod Asked

@@ -12,13 +12,13 @@ use Rattle.bs_top_words.specs.declared.options.Kind.TheVariants.{Steps, Candidat
 abbrev pub number_between : ℕ → ℕ → List ℕ → Option ℕ
 number_between low high word = option_and_then (λ (n : ℕ). if nat_le low n && nat_le n high then Some n else None) (number_in word)
 
--- the greatest value of an option
+-- the greatest value of a budget
 abbrev pub greatest : Kind → ℕ
 greatest Steps = MAX_STEPS
 greatest Candidates = MAX_CANDIDATES
 greatest Conflicts = MAX_CONFLICTS
 
--- the value that a word gives an option
+-- the value that a word gives a budget
 abbrev pub value_in : Kind → List ℕ → Option ℕ
 value_in kind word = number_between 1 (greatest kind) word
 
@@ -30,12 +30,6 @@ has_dash (b ∷ bs) = b == 45
 -- it begins with `-` and is not the single `-`
 abbrev pub is_option : List ℕ → Bool
 is_option word = has_dash word && not (bytes_eq word (codes "-"))
-
--- the option whose value is the next word
-abbrev pub kind_of : List ℕ → Option Kind
-kind_of word =
-    if bytes_eq word (codes "--steps") then Some Steps else
-    (if bytes_eq word (codes "--candidates") then Some Candidates else (if bytes_eq word (codes "--conflicts") then Some Conflicts else None))
 
 -- what stands behind a prefix
 abbrev pub rest_of : List ℕ → List ℕ → Option (List ℕ)

@@ -1,17 +1,13 @@
 -- Lines and jobs of the code as the definitions see them.
 use Rattle.std.specs.Prelude.{◌≡◌, Bool, true, false, map, Option, Some, None}
 use Rattle.bs_top_words.specs.declared.line.Line.{Line as CodeLine}
-use Rattle.bs_top_words.specs.declared.line.State.{State as CodeState}
 use Rattle.bs_top_words.specs.declared.job.Job.{Job as CodeJob}
 use Rattle.bs_top_words.specs.declared.job.Job.TheVariants as J
-use Rattle.bs_top_words.specs.Line.{Line, State}
+use Rattle.bs_top_words.specs.Line.{Line}
 use Rattle.bs_top_words.specs.Job.{Job, Run, Audit, Dump, Demo, Wave, Reach}
 
 abbrev pub line_in : CodeLine → Line
 line_in l = record { positions = map (λ s. s.now) l.positions.items; steps = l.steps; candidates = l.candidates; conflicts = l.conflicts }
-
-abbrev pub state_in : CodeState → State
-state_in s = record { mode = s.mode; line = line_in s.line }
 
 abbrev pub shown : Option CodeLine → Option Line
 shown None = None

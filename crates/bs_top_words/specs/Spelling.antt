@@ -8,16 +8,11 @@ use Rattle.bs_top_words.specs.declared.limits.TheConstants.{DEFAULT_STEPS, DEFAU
 use Rattle.bs_top_words.specs.declared.options.Kind.{Kind}
 use Rattle.bs_top_words.specs.declared.options.Kind.TheVariants.{Steps, Candidates, Conflicts}
 use Rattle.bs_top_words.specs.Options.{greatest, is_option}
-use Rattle.bs_top_words.specs.Line.{Line}
+use Rattle.bs_top_words.specs.Flags.{kind_name}
+use Rattle.bs_top_words.specs.Line.{Line, plain}
 use Rattle.bs_top_words.specs.Job.{RunJob, AuditJob, DumpJob, ReachJob, Job, Run, Audit, Dump, Demo, Wave, Reach, job_of}
 
 -- ---- pieces
-
--- the name of an option
-abbrev pub name_of : Kind → List ℕ
-name_of Steps = codes "--steps"
-name_of Candidates = codes "--candidates"
-name_of Conflicts = codes "--conflicts"
 
 -- what may stand before a word `--`: a word by position, or an option with its value in one of two spellings
 pub data Piece : Type 0 where
@@ -28,8 +23,8 @@ pub data Piece : Type 0 where
 -- its words: `--steps 5` are two, and `--steps=5` is one
 abbrev pub spelling : Piece → List (List ℕ)
 spelling (Word word) = word ∷ []
-spelling (Apart kind value) = name_of kind ∷ decimal value ∷ []
-spelling (Joined kind value) = (name_of kind ++ (codes "=" ++ decimal value)) ∷ []
+spelling (Apart kind value) = kind_name kind ∷ decimal value ∷ []
+spelling (Joined kind value) = (kind_name kind ++ (codes "=" ++ decimal value)) ∷ []
 
 -- the value of an option is at least 1 and not too great
 abbrev pub IsBudget : Kind → ℕ → Type 0
@@ -88,10 +83,6 @@ pub record IsLine (words : List (List ℕ)) (line : Line) : Type 0 where
   pub right : AllByRecursion IsPiece pieces
   pub positions : line.positions ≡ positions_of pieces ++ behind
   pub options : (kind : Kind) → listed (given line kind) ≡ values_of kind (options_of pieces)
-
--- words by position alone
-abbrev pub plain : List (List ℕ) → Line
-plain positions = record { positions = positions; steps = None; candidates = None; conflicts = None }
 
 -- ---- jobs
 

@@ -1,22 +1,30 @@
-//! The words of a command line: which are a job, and which job they are.
+//! The words of a command line, of both programs: which are a job or a request, and which one they are.
 //!
-//! Modules: `options` (numbers between bounds), `line` (the words behind the command, one after
-//! another), `job` (`Job`, `read_words`). Used above: `read_words` answers the job that the words
-//! spell (`specs/Spelling`, a relation without an order of reading); `job_of` is it as a function,
-//! for plans. A command: a record and a variant of `Job`, and a line in `command_job`. An option: a
-//! variant of `Kind`, a field of `Line`, and a line in each table of `specs/Options`.
+//! Modules: `flags` and `given` (one machine over a table of options), `options` (numbers between
+//! bounds), `line` (the words behind the command), `job` (`Job`, `read_words`), `request`
+//! (`Request`, `read_request`) with `signature` and `stimulus`. Used above: `read_words` answers
+//! the job that the words spell (`specs/Spelling`, a relation without an order of reading);
+//! `job_of` is it as a function, for plans. A command: a record and a variant of `Job`, and a line
+//! in `command_job`. An option: a line in the tables of `specs/Flags`.
 #![tactic(auto)]
 
+mod flags;
+mod given;
 mod job;
 mod law;
 mod limits;
 mod line;
 mod options;
+mod proposed;
+mod request;
+mod signature;
+mod stimulus;
 
 pub use job::{AuditJob, DumpJob, Job, ReachJob, RunJob, read_words};
 pub use law::spelled_jobs_are_read;
 pub use limits::{
-    DEFAULT_CANDIDATES, DEFAULT_CONFLICTS, DEFAULT_STEPS, MAX_BOUND, MAX_CANDIDATES, MAX_CONFLICTS,
-    MAX_STEPS,
+    DEFAULT_CANDIDATES, DEFAULT_CONFLICTS, DEFAULT_STEPS, MAX_BITS, MAX_BOUND, MAX_CANDIDATES,
+    MAX_CONFLICTS, MAX_STEPS,
 };
-pub use options::{has_dash, is_option, number_between, rest_of};
+pub use proposed::SignatureRequest;
+pub use request::{Request, StimulusRequest, TraceRequest, WaveRequest, read_request};

@@ -21,3 +21,6 @@ pub const DEFAULT_CANDIDATES: u64 = 256;
 
 /// The lemmas of a run or search that names none.
 pub const DEFAULT_CONFLICTS: u64 = 100_000;
+
+/// The most items of a signature.
+pub const MAX_BITS: u64 = 256;

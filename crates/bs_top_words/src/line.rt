@@ -1,21 +1,15 @@
-//! The words behind the command, one after another: words by position, and options among them.
+//! The words behind a command of `backspace`: words by position, and the budgets that are given.
 ghost use Rattle.std.specs.Prelude.{◌≡◌, map, string_bytes, IfOk};
-ghost use Rattle.bs_top_words.specs.Line.{plain_step, read_all, set_by, set_to, start, step};
-ghost use Rattle.bs_top_words.specs.Shown.{line_in, shown, state_in, Takes};
+ghost use Rattle.bs_top_words.specs.Asked.{given_in, setting_of, shown as shown_given};
+ghost use Rattle.bs_top_words.specs.Flags.{budgets_if};
+ghost use Rattle.bs_top_words.specs.Given.{read_all, start};
+ghost use Rattle.bs_top_words.specs.Line.{line_of, read_line, set_all, set_flag, set_to};
+ghost use Rattle.bs_top_words.specs.Shown.{line_in, shown, Takes};
 
-use crate::options::{Kind, has_dash, is_option, kind_of, rest_of, value_in};
+use crate::flags::Flag;
+use crate::given::{Given, Setting, read_given};
+use crate::options::{Kind, value_in};
 use std::alloc::{AllocError, Global};
-
-/// What the next word may be.
-#[derive(Clone, Copy, Debug, PartialEq, Eq)]
-pub enum Mode {
-    /// A word by position, or an option.
-    Plain,
-    /// The value of this option.
-    Wants(Kind),
-    /// A word by position: a word `--` has come.
-    Names,
-}
 
 /// The words by position, and the values of the options that are given.
 #[derive(Drop)]
@@ -26,14 +20,7 @@ pub struct Line<'a> {
     pub conflicts: Option<u64>,
 }
 
-/// What has been read, and what may come.
-#[derive(Drop)]
-pub struct State<'a> {
-    pub mode: Mode,
-    pub line: Line<'a>,
-}
-
-/// Gives an option its value, unless it has one.
+/// Gives a budget its value, unless it has one.
 fn set_to(line: &mut Line<'_>, kind: Kind, word: &str) -> bool
     ensures { Takes result (line_in line.new) (set_to (line_in line.old) kind word.now) }
 {
@@ -56,92 +43,75 @@ fn set_to(line: &mut Line<'_>, kind: Kind, word: &str) -> bool
     true
 }
 
-/// Takes a word as `--steps=5`.
-fn set_by(line: &mut Line<'_>, word: &str) -> bool
-    ensures { Takes result (line_in line.new) (set_by (line_in line.old) word.now) }
+/// Gives an option its value, if it is a budget.
+fn set_flag(line: &mut Line<'_>, flag: Flag, word: &str) -> bool
+    ensures { Takes result (line_in line.new) (set_flag (line_in line.old) flag word.now) }
 {
-    if let Some(value) = rest_of("--steps=", word) {
-        return set_to(line, Kind::Steps, value);
-    }
-    if let Some(value) = rest_of("--candidates=", word) {
-        return set_to(line, Kind::Candidates, value);
-    }
-    if let Some(value) = rest_of("--conflicts=", word) {
-        return set_to(line, Kind::Conflicts, value);
-    }
-    false
-}
-
-/// Takes a word where neither a value is due nor a word `--` has come.
-fn plain_step<'a>(options: bool, state: &mut State<'a>, word: &'a str) -> Result<bool, AllocError>
-    requires { state.old.mode ≡ Mode.Plain }
-    ensures { IfOk result (λ went. Takes went (state_in state.new) (plain_step options (line_in state.old.line) word.now)) }
-{
-    if word == "--" {
-        state.mode = Mode::Names;
-        return Ok(true);
-    }
-    if !is_option(word) {
-        state.line.positions.push(word)?;
-        return Ok(true);
-    }
-    if !options {
-        return Ok(false);
-    }
-    match kind_of(word) {
-        Some(kind) => {
-            state.mode = Mode::Wants(kind);
-            Ok(true)
-        }
-        None => Ok(set_by(&mut state.line, word)),
+    match flag {
+        Flag::Budget(kind) => set_to(line, kind, word),
+        _ => false,
     }
 }
 
-/// Takes the next word, if it may stand there.
-fn step<'a>(options: bool, state: &mut State<'a>, word: &'a str) -> Result<bool, AllocError>
-    ensures { IfOk result (λ went. Takes went (state_in state.new) (step options state.old.mode (line_in state.old.line) word.now)) }
+/// Gives the options their values, one after another.
+fn set_all(line: &mut Line<'_>, settings: &[Setting<'_>]) -> bool
+    ensures { Takes result (line_in line.new) (set_all (line_in line.old) (map setting_of settings.now)) }
 {
-    match state.mode {
-        Mode::Plain => plain_step(options, state, word),
-        Mode::Names => {
-            state.line.positions.push(word)?;
-            Ok(true)
+    'settings: for setting in settings {
+        if !set_flag(line, setting.flag, setting.value) {
+            return false;
         }
-        Mode::Wants(kind) => {
-            if has_dash(word) {
-                return Ok(false);
-            }
-            state.mode = Mode::Plain;
-            Ok(set_to(&mut state.line, kind, word))
-        }
+    }
+    true
+}
+
+/// The line of what was read.
+fn line_of(given: Given<'_>) -> Option<Line<'_>>
+    ensures { shown result ≡ line_of (given_in given.entry) }
+{
+    let mut line = Line {
+        positions: given.positions,
+        steps: None,
+        candidates: None,
+        conflicts: None,
+    };
+    if set_all(&mut line, &given.settings) {
+        Some(line)
+    } else {
+        None
     }
 }
 
-/// The words by position and the options, or none where the words are out of form. `options` says whether the command
+/// The words by position and the budgets in their order.
+fn read_budgets<'a>(
+    alloc: Global,
+    options: bool,
+    words: &'a [String],
+) -> Result<Option<Given<'a>>, AllocError>
+    ensures { IfOk result (λ given. shown_given given ≡ read_all (budgets_if options) (map string_bytes words.now) start) }
+{
+    if options {
+        let budgets = [
+            Flag::Budget(Kind::Steps),
+            Flag::Budget(Kind::Candidates),
+            Flag::Budget(Kind::Conflicts),
+        ];
+        return read_given(alloc, &budgets, words);
+    }
+    read_given(alloc, &[], words)
+}
+
+/// The words by position and the budgets, or none where the words are out of form. `options` says whether the command
 /// takes any.
 pub fn read_line<'a>(
     alloc: Global,
     options: bool,
     words: &'a [String],
 ) -> Result<Option<Line<'a>>, AllocError>
-    ensures { IfOk result (λ line. shown line ≡ read_all options (map string_bytes words.now) start) }
+    ensures { IfOk result (λ line. shown line ≡ read_line options (map string_bytes words.now)) }
 {
-    let mut state = State {
-        mode: Mode::Plain,
-        line: Line {
-            positions: Vec::new(alloc),
-            steps: None,
-            candidates: None,
-            conflicts: None,
-        },
-    };
-    for word in words {
-        if !step(options, &mut state, word.as_str())? {
-            return Ok(None);
-        }
-    }
-    match state.mode {
-        Mode::Wants(_) => Ok(None),
-        _ => Ok(Some(state.line)),
+    match read_budgets(alloc, options, words)? {
+        Some(given) => Ok(line_of(given)),
+        None => Ok(None),
     }
 }

@@ -1,12 +1,12 @@
-//! The options of a run, and numbers among the words.
+//! Numbers among the words, and the words that are options.
 ghost use Rattle.std.specs.Prelude.{◌≡◌};
 ghost use Rattle.std.specs.Option.{option_copied};
-ghost use Rattle.bs_top_words.specs.Options.{greatest, has_dash, is_option, kind_of, number_between, rest_of, value_in};
+ghost use Rattle.bs_top_words.specs.Options.{greatest, has_dash, is_option, number_between, rest_of, value_in};
 
 use crate::limits::{MAX_CANDIDATES, MAX_CONFLICTS, MAX_STEPS};
 use bs_bits::read_number;
 
-/// An option of a run: a budget.
+/// A budget of a run or of a search.
 #[derive(Clone, Copy, Debug, PartialEq, Eq)]
 pub enum Kind {
     Steps,
@@ -24,7 +24,7 @@ pub fn number_between(low: u64, high: u64, word: &str) -> Option<u64>
     }
 }
 
-/// The greatest value of an option. The least is 1.
+/// The greatest value of a budget. The least is 1.
 fn greatest(kind: Kind) -> u64
     ensures { result ≡ greatest kind }
 {
@@ -35,7 +35,7 @@ fn greatest(kind: Kind) -> u64
     }
 }
 
-/// The value that a word gives an option.
+/// The value that a word gives a budget.
 pub fn value_in(kind: Kind, word: &str) -> Option<u64>
     ensures { result ≡ value_in kind word.now }
 {
@@ -57,22 +57,6 @@ pub fn is_option(word: &str) -> bool
     ensures { result ≡ is_option word.now }
 {
     has_dash(word) && word != "-"
-}
-
-/// The option whose value is the next word.
-pub fn kind_of(word: &str) -> Option<Kind>
-    ensures { result ≡ kind_of word.now }
-{
-    if word == "--steps" {
-        return Some(Kind::Steps);
-    }
-    if word == "--candidates" {
-        return Some(Kind::Candidates);
-    }
-    if word == "--conflicts" {
-        return Some(Kind::Conflicts);
-    }
-    None
 }
 
 /// What stands behind a prefix.

@@ -1,5 +1,5 @@
 use Rattle.std.proofs.Common.{ap}
-use Rattle.bs_request.specs.Shown.{request_in}
+use Rattle.bs_top_words.specs.Asked.{request_in}
 use Rattle.bs_inspect.specs.Work.{to_help, to_version}
 use Rattle.bs_inspect.proofs.WorkLemmas.{prepares_end, prepared_asked}
 use Rattle.bs_inspect.proofs.asking.prepare.Goals as goal

@@ -1,18 +1,18 @@
 -- Words and requests of the code as the definitions see them.
 use Rattle.std.specs.Prelude.{map, Option, Some, None}
 use Rattle.std.specs.Option.{option_map}
-use Rattle.bs_request.specs.declared.given.Setting.{Setting as CodeSetting}
-use Rattle.bs_request.specs.declared.given.Given.{Given as CodeGiven}
-use Rattle.bs_request.specs.declared.given.Progress.{Progress as CodeTaken}
-use Rattle.bs_request.specs.declared.request.TraceRequest.{TraceRequest as CodeTraceRequest}
-use Rattle.bs_request.specs.declared.request.StimulusRequest.{StimulusRequest as CodeStimulusRequest}
-use Rattle.bs_request.specs.declared.request.WaveRequest.{WaveRequest as CodeWaveRequest}
-use Rattle.bs_request.specs.declared.proposed.SignatureRequest.{SignatureRequest as CodeSignatureRequest}
-use Rattle.bs_request.specs.declared.request.Request.{Request as CodeRequest}
-use Rattle.bs_request.specs.declared.request.Request.TheVariants as R
-use Rattle.bs_request.specs.Given.{Setting, Given, Progress}
-use Rattle.bs_request.specs.Request.{Request, Help, Version, Flops, Inputs, Stats, Steps, TraceRequest, Trace}
-use Rattle.bs_request.specs.Request.{StimulusRequest, Stimulus, WaveRequest, Wave, SignatureRequest, Signature}
+use Rattle.bs_top_words.specs.declared.given.Setting.{Setting as CodeSetting}
+use Rattle.bs_top_words.specs.declared.given.Given.{Given as CodeGiven}
+use Rattle.bs_top_words.specs.declared.given.Progress.{Progress as CodeTaken}
+use Rattle.bs_top_words.specs.declared.request.TraceRequest.{TraceRequest as CodeTraceRequest}
+use Rattle.bs_top_words.specs.declared.request.StimulusRequest.{StimulusRequest as CodeStimulusRequest}
+use Rattle.bs_top_words.specs.declared.request.WaveRequest.{WaveRequest as CodeWaveRequest}
+use Rattle.bs_top_words.specs.declared.proposed.SignatureRequest.{SignatureRequest as CodeSignatureRequest}
+use Rattle.bs_top_words.specs.declared.request.Request.{Request as CodeRequest}
+use Rattle.bs_top_words.specs.declared.request.Request.TheVariants as R
+use Rattle.bs_top_words.specs.Given.{Setting, Given, Progress}
+use Rattle.bs_top_words.specs.Request.{Request, Help, Version, Flops, Inputs, Stats, Steps, TraceRequest, Trace}
+use Rattle.bs_top_words.specs.Request.{StimulusRequest, Stimulus, WaveRequest, Wave, SignatureRequest, Signature}
 
 abbrev pub setting_of : CodeSetting → Setting
 setting_of s = record { flag = s.flag; value = s.value.now }

@@ -1,11 +1,12 @@
 //! The request that words are: a command, its files and its options.
 ghost use Rattle.std.specs.Prelude.{◌≡◌, ◌||◌, map, string_bytes, option_map, IfOk};
 ghost use Rattle.std.specs.List.{list_all, list_any};
-ghost use Rattle.bs_request.specs.declared.flags.Flag.TheVariants.{All as TheAll, Only as TheOnly};
-ghost use Rattle.bs_request.specs.Flags.{is_flag};
-ghost use Rattle.bs_request.specs.Request.{alone, are_for_trace, bare_request, command_request, is_alone, named, only_name, other_request, request_of, signature_request, stimulus_request, times, trace_of, trace_request, trace_words, values_of, wave_request};
-ghost use Rattle.bs_request.specs.Request.{Flops as FlopsOf, Help as HelpOf, Inputs as InputsOf, Stats as StatsOf, Steps as StepsOf, Version as VersionOf};
-ghost use Rattle.bs_request.specs.Shown.{given_in, setting_of, shown_request};
+ghost use Rattle.bs_top_words.specs.declared.flags.Flag.TheVariants.{All as TheAll, Only as TheOnly};
+ghost use Rattle.bs_top_words.specs.Flags.{is_flag, shown_flags};
+ghost use Rattle.bs_top_words.specs.Given.{read_all, start};
+ghost use Rattle.bs_top_words.specs.Request.{alone, are_for_trace, bare_request, command_request, is_alone, named, only_name, other_request, request_of, signature_request, stimulus_request, times, trace_of, trace_request, trace_words, values_of, wave_request};
+ghost use Rattle.bs_top_words.specs.Request.{Flops as FlopsOf, Help as HelpOf, Inputs as InputsOf, Stats as StatsOf, Steps as StepsOf, Version as VersionOf};
+ghost use Rattle.bs_top_words.specs.Asked.{given_in, setting_of, shown, shown_request};
 
 use crate::flags::{Flag, is_flag};
 use crate::given::{Given, Setting, read_given};
@@ -309,6 +310,21 @@ fn command_request<'a>(
     Ok(other_request(command, given))
 }
 
+/// The words by position and the options.
+fn read_shown<'a>(alloc: Global, words: &'a [String]) -> Result<Option<Given<'a>>, AllocError>
+    ensures { IfOk result (λ given. shown given ≡ read_all shown_flags (map string_bytes words.now) start) }
+{
+    let flags = [
+        Flag::All,
+        Flag::Only,
+        Flag::Clock,
+        Flag::Scope,
+        Flag::Map,
+        Flag::Bits,
+    ];
+    read_given(alloc, &flags, words)
+}
+
 /// The request that the words of a command line are, without the program's name, if they are one. The first word is the
 /// command.
 pub fn read_request(alloc: Global, words: &[String]) -> Result<Option<Request<'_>>, AllocError>
@@ -317,7 +333,7 @@ pub fn read_request(alloc: Global, words: &[String]) -> Result<Option<Request<'_
     let [command, rest @ ..] = words else {
         return Ok(None);
     };
-    let Some(given) = read_given(alloc, rest)? else {
+    let Some(given) = read_shown(alloc, rest)? else {
         return Ok(None);
     };
     let request = command_request(alloc, command.as_str(), &given)?;

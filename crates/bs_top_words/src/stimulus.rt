@@ -1,10 +1,10 @@
 //! The request of `stimulus`.
 ghost use Rattle.std.specs.Prelude.{◌≡◌, ◌||◌, map, option_map};
 ghost use Rattle.std.specs.List.{list_all};
-ghost use Rattle.bs_request.specs.declared.flags.Flag.TheVariants.{Clock as TheClock, Map as TheMap, Scope as TheScope};
-ghost use Rattle.bs_request.specs.Flags.{is_flag};
-ghost use Rattle.bs_request.specs.Request.{are_for_stimulus, stimulus_of, stimulus_request, stimulus_words, value_of};
-ghost use Rattle.bs_request.specs.Shown.{given_in, setting_of, shown_request};
+ghost use Rattle.bs_top_words.specs.declared.flags.Flag.TheVariants.{Clock as TheClock, Map as TheMap, Scope as TheScope};
+ghost use Rattle.bs_top_words.specs.Flags.{is_flag};
+ghost use Rattle.bs_top_words.specs.Request.{are_for_stimulus, stimulus_of, stimulus_request, stimulus_words, value_of};
+ghost use Rattle.bs_top_words.specs.Asked.{given_in, setting_of, shown_request};
 
 use crate::flags::{Flag, is_flag};
 use crate::given::{Given, Setting};

@@ -1,18 +1,18 @@
 //! The request of `signature`.
 ghost use Rattle.std.specs.Prelude.{◌≡◌, ◌<◌, map, option_map, IfSome};
 ghost use Rattle.std.specs.List.{list_all};
-ghost use Rattle.bs_request.specs.declared.flags.Flag.TheVariants.{Bits as TheBits};
-ghost use Rattle.bs_request.specs.Flags.{is_flag};
-ghost use Rattle.bs_request.specs.Request.{are_for_signature, items_in, signature_of, signature_request, signature_words};
-ghost use Rattle.bs_request.specs.Shown.{given_in, setting_of, shown_request};
+ghost use Rattle.bs_top_words.specs.declared.flags.Flag.TheVariants.{Bits as TheBits};
+ghost use Rattle.bs_top_words.specs.Flags.{is_flag};
+ghost use Rattle.bs_top_words.specs.Request.{are_for_signature, items_in, signature_of, signature_request, signature_words};
+ghost use Rattle.bs_top_words.specs.Asked.{given_in, setting_of, shown_request};
 
 use crate::flags::{Flag, is_flag};
 use crate::given::{Given, Setting};
 use crate::limits::MAX_BITS;
+use crate::options::number_between;
 use crate::proposed::SignatureRequest;
 use crate::request::{Request, times};
 use crate::stimulus::value_of;
-use bs_top_words::number_between;
 
 /// Whether each option is one of `signature`.
 fn all_for_signature(settings: &[Setting<'_>]) -> bool

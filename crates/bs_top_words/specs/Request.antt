@@ -4,11 +4,11 @@ use Rattle.std.specs.Option.{option_map, option_and_then}
 use Rattle.std.specs.List.{find, list_all, list_any}
 use Rattle.std.specs.Str.{bytes_eq}
 use Rattle.bs_top_words.specs.Options.{number_between}
-use Rattle.bs_request.specs.Flags.{is_flag}
-use Rattle.bs_request.specs.declared.flags.Flag.{Flag}
-use Rattle.bs_request.specs.declared.flags.Flag.TheVariants.{All, Only, Clock, Scope, Map, Bits}
-use Rattle.bs_request.specs.declared.limits.TheConstants.{MAX_BITS}
-use Rattle.bs_request.specs.Given.{Setting, Given, read_all, start}
+use Rattle.bs_top_words.specs.Flags.{is_flag, shown_flags}
+use Rattle.bs_top_words.specs.declared.flags.Flag.{Flag}
+use Rattle.bs_top_words.specs.declared.flags.Flag.TheVariants.{All, Only, Clock, Scope, Map, Bits}
+use Rattle.bs_top_words.specs.declared.limits.TheConstants.{MAX_BITS}
+use Rattle.bs_top_words.specs.Given.{Setting, Given, read_all, start}
 
 -- the files of `trace`, and what it shows: every flip-flop in each cycle, and these names alone, where there are any
 pub record TraceRequest : Type 0 where
@@ -171,4 +171,4 @@ command_request command given =
 -- the request that words are: the first is the command
 abbrev pub request_of : List (List ℕ) → Option Request
 request_of [] = None
-request_of (command ∷ words) = option_and_then (command_request command) (read_all words start)
+request_of (command ∷ words) = option_and_then (command_request command) (read_all shown_flags words start)

@@ -1,11 +1,12 @@
-//! The words behind the command, one after another: words by position, and options with their values among them.
+//! The words behind the command, one after another: words by position, and options of the command's table with their values
+//! among them.
 ghost use Rattle.std.specs.Prelude.{◌≡◌, map, string_bytes, IfOk, Some};
 ghost use Rattle.bs_top_words.specs.Shown.{Takes};
-ghost use Rattle.bs_request.specs.Given.{add_position, add_setting, awaited_after, equals_step, more_step, option_step, plain_step, read_all, setting_in, start, step, value_step};
-ghost use Rattle.bs_request.specs.Shown.{given_in, shown, shown_setting, progress_in};
+ghost use Rattle.bs_top_words.specs.Given.{add_position, add_setting, awaited_after, equals_step, more_step, option_step, plain_step, read_all, setting_in, start, step, value_step};
+ghost use Rattle.bs_top_words.specs.Asked.{given_in, shown, shown_setting, progress_in};
 
-use crate::flags::{Flag, flag_of};
-use bs_top_words::{has_dash, is_option, rest_of};
+use crate::flags::{Flag, flag_of, has_value, value_behind};
+use crate::options::{has_dash, is_option};
 use std::alloc::{AllocError, Global};
 
 /// What the next word may be.
@@ -83,55 +84,35 @@ fn awaited_after(flag: Flag) -> Awaited
 fn option_step<'a>(progress: &mut Progress<'a>, flag: Flag) -> Result<bool, AllocError>
     ensures { IfOk result (λ went. Takes went (progress_in progress.new) (Some (option_step (given_in progress.old.given) flag))) }
 {
-    if let Flag::All = flag {
+    if !has_value(flag) {
         return add_setting(progress, Awaited::Plain, flag, "");
     }
     progress.awaited = Awaited::Value(flag);
     Ok(true)
 }
 
-/// The option and the value of a word such as `--clock=ck`.
-fn setting_in<'a>(word: &'a str) -> Option<Setting<'a>>
-    ensures { shown_setting result ≡ setting_in word.now }
+/// The option of a table, and the value, of a word such as `--clock=ck`.
+#[tactic(auto, using(crate::proofs::ValueLemmas::setting_more, crate::proofs::ValueLemmas::setting_found, crate::proofs::ValueLemmas::setting_none))]
+fn setting_in<'a>(flags: &[Flag], word: &'a str) -> Option<Setting<'a>>
+    ensures { shown_setting result ≡ setting_in flags.now word.now }
 {
-    if let Some(value) = rest_of("--only=", word) {
-        return Some(Setting {
-            flag: Flag::Only,
-            value,
-        });
-    }
-    if let Some(value) = rest_of("--clock=", word) {
-        return Some(Setting {
-            flag: Flag::Clock,
-            value,
-        });
-    }
-    if let Some(value) = rest_of("--scope=", word) {
-        return Some(Setting {
-            flag: Flag::Scope,
-            value,
-        });
-    }
-    if let Some(value) = rest_of("--map=", word) {
-        return Some(Setting {
-            flag: Flag::Map,
-            value,
-        });
-    }
-    if let Some(value) = rest_of("--bits=", word) {
-        return Some(Setting {
-            flag: Flag::Bits,
-            value,
-        });
+    'flags: for &flag in flags {
+        if let Some(value) = value_behind(flag, word) {
+            return Some(Setting { flag, value });
+        }
     }
     None
 }
 
 /// Takes a word with an option and its value.
-fn equals_step<'a>(progress: &mut Progress<'a>, word: &'a str) -> Result<bool, AllocError>
-    ensures { IfOk result (λ went. Takes went (progress_in progress.new) (equals_step (given_in progress.old.given) word.now)) }
+fn equals_step<'a>(
+    flags: &[Flag],
+    progress: &mut Progress<'a>,
+    word: &'a str,
+) -> Result<bool, AllocError>
+    ensures { IfOk result (λ went. Takes went (progress_in progress.new) (equals_step flags.now (given_in progress.old.given) word.now)) }
 {
-    match setting_in(word) {
+    match setting_in(flags, word) {
         Some(setting) => add_setting(
             progress,
             awaited_after(setting.flag),
@@ -143,8 +124,12 @@ fn equals_step<'a>(progress: &mut Progress<'a>, word: &'a str) -> Result<bool, A
 }
 
 /// Takes a word where neither a value is due nor a word `--` has come.
-fn plain_step<'a>(progress: &mut Progress<'a>, word: &'a str) -> Result<bool, AllocError>
-    ensures { IfOk result (λ went. Takes went (progress_in progress.new) (plain_step (given_in progress.old.given) word.now)) }
+fn plain_step<'a>(
+    flags: &[Flag],
+    progress: &mut Progress<'a>,
+    word: &'a str,
+) -> Result<bool, AllocError>
+    ensures { IfOk result (λ went. Takes went (progress_in progress.new) (plain_step flags.now (given_in progress.old.given) word.now)) }
 {
     if word == "--" {
         progress.awaited = Awaited::Positions;
@@ -153,18 +138,22 @@ fn plain_step<'a>(progress: &mut Progress<'a>, word: &'a str) -> Result<bool, Al
     if !is_option(word) {
         return add_position(progress, Awaited::Plain, word);
     }
-    match flag_of(word) {
+    match flag_of(flags, word) {
         Some(flag) => option_step(progress, flag),
-        None => equals_step(progress, word),
+        None => equals_step(flags, progress, word),
     }
 }
 
 /// Takes a word where a further name may stand.
-fn more_step<'a>(progress: &mut Progress<'a>, word: &'a str) -> Result<bool, AllocError>
-    ensures { IfOk result (λ went. Takes went (progress_in progress.new) (more_step (given_in progress.old.given) word.now)) }
+fn more_step<'a>(
+    flags: &[Flag],
+    progress: &mut Progress<'a>,
+    word: &'a str,
+) -> Result<bool, AllocError>
+    ensures { IfOk result (λ went. Takes went (progress_in progress.new) (more_step flags.now (given_in progress.old.given) word.now)) }
 {
     if is_option(word) {
-        return plain_step(progress, word);
+        return plain_step(flags, progress, word);
     }
     add_setting(progress, Awaited::More, Flag::Only, word)
 }
@@ -184,20 +173,24 @@ fn value_step<'a>(
 }
 
 /// Takes the next word, if it may stand there.
-fn step<'a>(progress: &mut Progress<'a>, word: &'a str) -> Result<bool, AllocError>
-    ensures { IfOk result (λ went. Takes went (progress_in progress.new) (step progress.old.awaited (given_in progress.old.given) word.now)) }
+fn step<'a>(flags: &[Flag], progress: &mut Progress<'a>, word: &'a str) -> Result<bool, AllocError>
+    ensures { IfOk result (λ went. Takes went (progress_in progress.new) (step flags.now progress.old.awaited (given_in progress.old.given) word.now)) }
 {
     match progress.awaited {
-        Awaited::Plain => plain_step(progress, word),
-        Awaited::More => more_step(progress, word),
+        Awaited::Plain => plain_step(flags, progress, word),
+        Awaited::More => more_step(flags, progress, word),
         Awaited::Value(flag) => value_step(progress, flag, word),
         Awaited::Positions => add_position(progress, Awaited::Positions, word),
     }
 }
 
 /// The words by position and the options, or none where the words are out of form.
-pub fn read_given<'a>(alloc: Global, words: &'a [String]) -> Result<Option<Given<'a>>, AllocError>
-    ensures { IfOk result (λ given. shown given ≡ read_all (map string_bytes words.now) start) }
+pub fn read_given<'a>(
+    alloc: Global,
+    flags: &[Flag],
+    words: &'a [String],
+) -> Result<Option<Given<'a>>, AllocError>
+    ensures { IfOk result (λ given. shown given ≡ read_all flags.now (map string_bytes words.now) start) }
 {
     let mut progress = Progress {
         awaited: Awaited::Plain,
@@ -207,7 +200,7 @@ pub fn read_given<'a>(alloc: Global, words: &'a [String]) -> Result<Option<Given
         },
     };
     for word in words {
-        if !step(&mut progress, word.as_str())? {
+        if !step(flags, &mut progress, word.as_str())? {
             return Ok(None);
         }
     }

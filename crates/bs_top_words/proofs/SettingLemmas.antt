@@ -2,12 +2,12 @@
 use Rattle.std.proofs.Common.{◌≡◌, Bool, ℕ, true, ◌||◌, List, [], ◌∷◌, map, Option, refl, ap, sym, ◌∙◌}
 use Rattle.std.specs.List.{list_all, list_any}
 use Rattle.std.proofs.lemmas.List.Folds.{list_all-map}
-use Rattle.bs_request.specs.declared.flags.Flag.{Flag}
-use Rattle.bs_request.specs.declared.flags.Flag.TheVariants.{All, Only, Clock, Scope, Map, Bits}
-use Rattle.bs_request.specs.declared.given.Setting.{Setting as CodeSetting}
-use Rattle.bs_request.specs.Flags.{is_flag}
-use Rattle.bs_request.specs.Request.{Request, has_flag, are_for_trace, trace_of, trace_words, values_of, is_for_stimulus}
-use Rattle.bs_request.specs.Shown.{setting_of}
+use Rattle.bs_top_words.specs.declared.flags.Flag.{Flag}
+use Rattle.bs_top_words.specs.declared.flags.Flag.TheVariants.{All, Only, Clock, Scope, Map, Bits}
+use Rattle.bs_top_words.specs.declared.given.Setting.{Setting as CodeSetting}
+use Rattle.bs_top_words.specs.Flags.{is_flag}
+use Rattle.bs_top_words.specs.Request.{Request, has_flag, are_for_trace, trace_of, trace_words, values_of, is_for_stimulus}
+use Rattle.bs_top_words.specs.Asked.{setting_of}
 
 pub any_setting : (flag : Flag) (settings : List CodeSetting) →
     list_any (λ s. is_flag flag s.flag) settings ≡ list_any (has_flag flag) (map setting_of settings)

@@ -1,8 +1,0 @@
-use Rattle.std.proofs.Common.{◌≡◌, drop, map, string_bytes}
-use Rattle.bs_request.specs.Shown.{progress_in}
-use Rattle.bs_request.specs.Given.{read_all, start}
-use Rattle.bs_request.proofs.given.read_given.Given as goal
-
-abbrev pub invariant-loop-word : goal.invariant-loop-word
-invariant-loop-word l =
-    read_all (map string_bytes (drop l.word-index l.words)) (progress_in l.progress) ≡ read_all (map string_bytes l.words) start

@@ -1,0 +1,72 @@
+-- The options of all commands by their names (docs/FORMATS.md, "Command words").
+use Rattle.std.specs.Prelude.{ℕ, Bool, true, false, List, [], ◌∷◌, codes, Option, None, if◌then◌else◌}
+use Rattle.std.specs.Option.{option_and_then}
+use Rattle.std.specs.List.{find}
+use Rattle.std.specs.Str.{bytes_eq}
+use Rattle.bs_top_words.specs.Options.{rest_of}
+use Rattle.bs_top_words.specs.declared.options.Kind.{Kind}
+use Rattle.bs_top_words.specs.declared.options.Kind.TheVariants.{Steps, Candidates, Conflicts}
+use Rattle.bs_top_words.specs.declared.flags.Flag.{Flag}
+use Rattle.bs_top_words.specs.declared.flags.Flag.TheVariants.{Budget, All, Only, Clock, Scope, Map, Bits}
+
+-- the name of a budget
+abbrev pub kind_name : Kind → List ℕ
+kind_name Steps = codes "--steps"
+kind_name Candidates = codes "--candidates"
+kind_name Conflicts = codes "--conflicts"
+
+-- the name of an option
+abbrev pub name_of : Flag → List ℕ
+name_of (Budget kind) = kind_name kind
+name_of All = codes "--all"
+name_of Only = codes "--only"
+name_of Clock = codes "--clock"
+name_of Scope = codes "--scope"
+name_of Map = codes "--map"
+name_of Bits = codes "--bits"
+
+-- every option has a value but `--all`
+abbrev pub has_value : Flag → Bool
+has_value All = false
+has_value _ = true
+
+-- whether two budgets, or options, are the same
+abbrev pub is_kind : Kind → Kind → Bool
+is_kind Steps Steps = true
+is_kind Candidates Candidates = true
+is_kind Conflicts Conflicts = true
+is_kind _ _ = false
+
+abbrev pub is_flag : Flag → Flag → Bool
+is_flag (Budget one) (Budget other) = is_kind one other
+is_flag All All = true
+is_flag Only Only = true
+is_flag Clock Clock = true
+is_flag Scope Scope = true
+is_flag Map Map = true
+is_flag Bits Bits = true
+is_flag _ _ = false
+
+-- ---- the tables
+
+-- what `run` and `reach` take, and what the other commands of `backspace` do
+abbrev pub budgets_if : Bool → List Flag
+budgets_if true = Budget Steps ∷ Budget Candidates ∷ Budget Conflicts ∷ []
+budgets_if false = []
+
+-- what the commands of `backspace_inspect` take
+abbrev pub shown_flags : List Flag
+shown_flags = All ∷ Only ∷ Clock ∷ Scope ∷ Map ∷ Bits ∷ []
+
+-- ---- words
+
+abbrev pub is_named : List ℕ → Flag → Bool
+is_named word flag = bytes_eq word (name_of flag)
+
+-- the option of a table that a word names
+abbrev pub flag_of : List Flag → List ℕ → Option Flag
+flag_of flags word = find (is_named word) flags
+
+-- the value of an option in a word such as `--clock=ck`
+abbrev pub value_behind : Flag → List ℕ → Option (List ℕ)
+value_behind flag word = if has_value flag then option_and_then (rest_of (codes "=")) (rest_of (name_of flag) word) else None
