@@ -1,5 +1,7 @@
 //! The verdict on a log, found line by line.
-ghost use Rattle.std.specs.Prelude.{◌≡◌, ◌+◌, ◌<◌, length, IfOk};
+ghost use Rattle.std.specs.Prelude.{◌≡◌, ◌+◌, ◌<◌, [], length, IfOk};
+ghost use Rattle.bs_log.specs.History.{state_of};
+ghost use Rattle.bs_rup.specs.Problem.{meaning};
 ghost use Rattle.bs_rup.specs.Retired.{retired_units};
 ghost use Rattle.bs_rup.specs.Verdict.{IsVerdict, RefusesTheFirst, problem_of};
 
@@ -8,7 +10,7 @@ use crate::problem::Problem;
 use crate::trail::Trail;
 use bs_bits::{List, NoMemory};
 use bs_clause::{Clauses, Lit, Lits, VARIABLE_LIMIT, Var};
-use bs_log::{Log, Why};
+use bs_log::{Line, Log, Why};
 use std::alloc::Global;
 
 /// What the checker says of a log.
@@ -55,22 +57,51 @@ fn verdict_of(
         steps,
     };
     let retired = retired(alloc, vars, steps.len())?;
-    let mut trail = Trail::new(alloc, vars as usize + steps.len() + 1)?;
-    let mut state = Checker::new(alloc, &problem)?;
-    let lines = log.slice();
+    verdict_with(alloc, &problem, retired.slice(), log.slice())
+}
+
+/// The same, with the units of the steps' retire lines.
+fn verdict_with<'a>(
+    alloc: Global,
+    problem: &Problem<'a>,
+    retired: &'a [Lit],
+    lines: &'a [Line],
+) -> Result<Verdict, NoMemory>
+    requires room { problem.now.vars + length problem.now.steps.now < VARIABLE_LIMIT }
+    requires retired { retired.now ≡ retired_units problem.now.vars (length problem.now.steps.now) }
+    ensures { IfOk result (IsVerdict (meaning problem.now) lines.now) }
+{
+    let mut trail = Trail::new(alloc, problem.vars as usize + problem.steps.len() + 1)?;
+    let mut state = Checker::new(alloc, problem)?;
+    verdict_from(&mut state, &mut trail, problem, retired, lines)
+}
+
+/// The same, from the state before any line.
+fn verdict_from<'a>(
+    state: &mut Checker<'a>,
+    trail: &mut Trail,
+    problem: &Problem<'a>,
+    retired: &'a [Lit],
+    lines: &'a [Line],
+) -> Result<Verdict, NoMemory>
+    requires room { problem.now.vars + length problem.now.steps.now < VARIABLE_LIMIT }
+    requires retired { retired.now ≡ retired_units problem.now.vars (length problem.now.steps.now) }
+    requires state { state.old ≡ state_of (meaning problem.now) [] }
+    ensures { IfOk result (IsVerdict (meaning problem.now) lines.now) }
+{
     for i in 0..lines.len() {
         let line = &lines[i];
-        match state.refusal(&mut trail, &problem, line)? {
+        match state.refusal(trail, problem, line)? {
             Some(why) => {
                 return Ok(Verdict::Rejected {
                     line: i as u64 + 1,
                     why,
                 });
             }
-            None => state.add(vars, retired.slice(), line)?,
+            None => state.add(problem.vars, retired, line)?,
         }
     }
-    if state.is_complete(&problem) {
+    if state.is_complete(problem) {
         Ok(Verdict::Accepted)
     } else {
         Ok(Verdict::Rejected {

@@ -1,4 +1,5 @@
 //! Netlists with ample memory: each form of the grammar, and great numbers of parts and of nets.
+use bs_bits::{NoMemory, push_piece};
 use bs_lex::MAX_BYTES;
 use bs_net::Raw;
 use bs_verilog::{VerilogFault, read};
@@ -28,10 +29,10 @@ fn counted(alloc: Global, text: &[u8]) -> Result<Counts, VerilogFault> {
     Ok(counts_of(&raw))
 }
 
-const PLAIN: &[u8] =
-    b"module m(ck,v,\\u1.q ); input ck; input [1:2] v; input [3:3] \\u1.q ; wire \\w+x ; supply1 s; supply0 [1:0] t; buf (\\w+x ,y,v[2]); dffs f(.D(\\u1.q ),.CK(\\ck ),.Q(q)); endmodule";
+const PLAIN: &str =
+    "module m(ck,v,\\u1.q ); input ck; input [1:2] v; input [3:3] \\u1.q ; wire \\w+x ; supply1 s; supply0 [1:0] t; buf (\\w+x ,y,v[2]); dffs f(.D(\\u1.q ),.CK(\\ck ),.Q(q)); endmodule";
 
-const EACH_FORM: &[u8] = b"`timescale 1ns/1ps
+const EACH_FORM: &str = "`timescale 1ns/1ps
 module dff(CK,Q,D); input CK,D; output Q; reg Q; always @(posedge CK) Q <= D; endmodule
 (* top, keep = \"yes\" *) module m((* clock *) input wire ck, input [3:0] a, b, output z);
 (* src = \"x.v:1\" *) wire [1:0] w; wire u, v; supply0 lo; supply1 [1:0] hi;
@@ -46,30 +47,41 @@ endmodule
 `endcelldefine
 ";
 
-#[test]
-fn netlists_are_read(rt: HostRuntime) -> Result<(), Fail> {
-    let alloc = rt.alloc();
-    assert_eq!(rt; counted(alloc, PLAIN), Ok((10, 4, 0, 3, 2, 1)));
-    assert_eq!(rt; counted(alloc, EACH_FORM), Ok((31, 9, 1, 5, 13, 5)));
-    let mut great = Vec::new(alloc);
-    great.extend_from_slice(b"module m(ck); input ck; wire [65535:0] v; wire [34462:0] w;\n")?;
+/// A text of so many wires beside 65,536, and of 40,000 gates.
+fn great(alloc: Global, wires: &str) -> Result<Vec<u8>, NoMemory> {
+    let mut text = Vec::new(alloc);
+    push_piece(
+        &mut text,
+        "module m(ck); input ck; wire [65535:0] v; wire [".as_bytes(),
+    )?;
+    push_piece(&mut text, wires.as_bytes())?;
+    push_piece(&mut text, ":0] w;\n".as_bytes())?;
     for _ in 0..40_000 {
-        great.extend_from_slice(b"and (a,b,v[3]);")?;
+        push_piece(&mut text, "and (a,b,v[3]);".as_bytes())?;
     }
-    great.extend_from_slice(b"endmodule")?;
-    assert_eq!(rt; counted(alloc, &great), Err(VerilogFault::TooManyNets(65)));
-    Ok(())
+    push_piece(&mut text, "endmodule".as_bytes())?;
+    Ok(text)
+}
+
+/// Whether a text with so many wires is read as this.
+fn is_great(
+    alloc: Global,
+    wires: &str,
+    want: Result<Counts, VerilogFault>,
+) -> Result<bool, NoMemory> {
+    let text = great(alloc, wires)?;
+    Ok(counted(alloc, &text) == want)
 }
 
 #[test]
-fn many_parts_are_read(rt: HostRuntime) -> Result<(), Fail> {
+fn netlists_are_read(rt: HostRuntime) -> Result<(), Fail> {
     let alloc = rt.alloc();
-    let mut great = Vec::new(alloc);
-    great.extend_from_slice(b"module m(ck); input ck; wire [65535:0] v; wire [34460:0] w;\n")?;
-    for _ in 0..40_000 {
-        great.extend_from_slice(b"and (a,b,v[3]);")?;
-    }
-    great.extend_from_slice(b"endmodule")?;
-    assert_eq!(rt; counted(alloc, &great), Ok((100_000, 1, 0, 0, 40_000, 0)));
+    assert_eq!(rt; counted(alloc, PLAIN.as_bytes()), Ok((10, 4, 0, 3, 2, 1)));
+    assert_eq!(rt;
+        counted(alloc, EACH_FORM.as_bytes()),
+        Ok((31, 9, 1, 5, 13, 5))
+    );
+    assert!(rt; is_great(alloc, "34460", Ok((100_000, 1, 0, 0, 40_000, 0)))?);
+    assert!(rt; is_great(alloc, "34462", Err(VerilogFault::TooManyNets(65)))?);
     Ok(())
 }

@@ -2,6 +2,7 @@
 ghost use Rattle.std.specs.Prelude.{◌≡◌, ◌≤◌, ◌*◌, length, IsTrue, IfOk};
 ghost use Rattle.bs_lanes.specs.Lanes.{is_wide};
 
+use crate::netlists::netlist;
 use bs_bits::NoMemory;
 use bs_lanes::Lanes;
 use bs_lanes_planes::Planes;
@@ -9,7 +10,7 @@ use bs_net::Netlist;
 use std::alloc::Global;
 use std::test::Fail;
 
-const S27: &[u8] = b"module s27(GND,VDD,CK,G0,G1,G17,G2,G3);
+const S27: &str = "module s27(GND,VDD,CK,G0,G1,G17,G2,G3);
 input GND,VDD,CK,G0,G1,G2,G3;
 output G17;
 wire G5,G10,G6,G11,G7,G13,G14,G8,G15,G12,G16,G9;
@@ -28,17 +29,6 @@ nor NOR2_2(G12,G1,G7);
 nor NOR2_3(G13,G2,G12);
 endmodule
 ";
-
-/// The netlist of a text, if it is read and checked.
-fn netlist(alloc: Global, text: &[u8]) -> Option<Netlist> {
-    if text.len() > 1000 {
-        return None;
-    }
-    match bs_verilog::read(alloc, text) {
-        Ok(raw) => Netlist::check(alloc, raw).ok(),
-        Err(_) => None,
-    }
-}
 
 /// Planes of six inputs: 011001 in one run, and zeros in the others.
 fn one_input(alloc: Global, wide: usize, run: u32) -> Result<Planes, NoMemory>
@@ -63,8 +53,8 @@ fn is_alone(alloc: Global, lanes: &Lanes<'_>, count: u32, run: u32) -> Result<bo
         let state = lanes.state_of(alloc, other)?;
         let mut text = Vec::new(alloc);
         state.text(&mut text)?;
-        let want: &[u8] = if other == run { b"010" } else { b"000" };
-        if text.as_slice() != want {
+        let want = if other == run { "010" } else { "000" };
+        if text.as_slice() != want.as_bytes() {
             return Ok(false);
         }
     }
@@ -96,26 +86,28 @@ fn is_checked_row(alloc: Global, wide: usize, count: u32, run: u32) -> Result<bo
     if count > 256 || run < 1 || run > count || count as usize > 64 * wide {
         return Ok(false);
     }
-    match netlist(alloc, S27) {
+    match netlist(alloc, S27.as_bytes()) {
         Some(net) => is_row(alloc, &net, wide, count, run),
         None => Ok(false),
     }
 }
 
+/// Words of a plane, numbers of runs, and the one among them.
+const WIDTHS: [(usize, u32, u32); 8] = [
+    (1, 64, 1),
+    (1, 64, 63),
+    (1, 64, 64),
+    (2, 128, 65),
+    (2, 128, 128),
+    (4, 256, 64),
+    (4, 256, 129),
+    (4, 256, 256),
+];
+
 #[test]
 fn one_run_of_many_goes_its_own_way(rt: HostRuntime) -> Result<(), Fail> {
-    let alloc = rt.alloc();
-    for (wide, count, run) in [
-        (1, 64, 1),
-        (1, 64, 63),
-        (1, 64, 64),
-        (2, 128, 65),
-        (2, 128, 128),
-        (4, 256, 64),
-        (4, 256, 129),
-        (4, 256, 256),
-    ] {
-        assert!(rt; is_checked_row(alloc, wide, count, run)?);
+    for (wide, count, run) in &WIDTHS {
+        assert!(rt; is_checked_row(rt.alloc(), *wide, *count, *run)?);
     }
     Ok(())
 }

@@ -1,9 +1,10 @@
 //! First moments: over as many runs as the planes hold, of runs that end early, of lists of no, of equal and of all states,
 //! and with few kept cycles.
-ghost use Rattle.std.specs.Prelude.{◌≡◌, length, All, IfOk};
+ghost use Rattle.std.specs.Prelude.{◌≡◌, length, All};
 ghost use Rattle.bs_net.specs.Netlist.{circuit};
 
-use crate::recorded::{Pulse, choice, netlist, runs, stimulus};
+use crate::listed::states;
+use crate::recorded::{Pulse, choice, runs, shift_register, stimulus};
 use bs_bits::{Bits, NoMemory};
 use bs_chip::Chip;
 use bs_net::Netlist;
@@ -14,28 +15,6 @@ use std::test::Fail;
 
 /// A run from 1 and a cycle from 0.
 type Place = (u32, u32);
-
-/// The state of three flip-flops whose bits are those of a number, the lowest one first.
-fn state(alloc: Global, number: u8) -> Result<Bits, NoMemory>
-    ensures { IfOk result (λ bits. length bits ≡ 3) }
-{
-    let mut bits = Bits::new(alloc);
-    bits.push(number & 1 == 1)?;
-    bits.push(number & 2 == 2)?;
-    bits.push(number & 4 == 4)?;
-    Ok(bits)
-}
-
-/// The states of some numbers.
-fn states(alloc: Global, numbers: &[u8]) -> Result<Vec<Bits>, NoMemory>
-    ensures { IfOk result (λ states. All (λ s. length s ≡ 3) states.items) }
-{
-    let mut states = Vec::new(alloc);
-    'numbers: for number in numbers {
-        states.push(state(alloc, *number)?)?;
-    }
-    Ok(states)
-}
 
 /// The first moment of a list, asked for so often that looks begin where the index of states says.
 fn asked(alloc: Global, chip: &mut Chip<'_>, list: &[Bits]) -> Result<Option<Place>, NoMemory>
@@ -67,9 +46,11 @@ fn first(
     requires states { All (λ s. length s ≡ 3) list.now }
 {
     let mut chip = Chip::with_bound(alloc, net, choice, runs, bytes)?;
-    let found = asked(alloc, &mut chip, list)?;
-    Ok(found)
+    asked(alloc, &mut chip, list)
 }
+
+/// How many bytes the planes of kept cycles may take.
+const BOUNDS: [usize; 3] = [0, 400, usize::MAX];
 
 /// Whether this is the first moment of a list, however many cycles are kept.
 fn is_first(
@@ -85,8 +66,8 @@ fn is_first(
     if net.width() != 3 || choice.width() != 3 || net.data_inputs().len() != runs.width() {
         return Ok(false);
     }
-    for bytes in [0, 400, usize::MAX] {
-        if first(alloc, net, choice, runs, list, bytes)? != want {
+    for bytes in &BOUNDS {
+        if first(alloc, net, choice, runs, list, *bytes)? != want {
             return Ok(false);
         }
     }
@@ -130,48 +111,48 @@ fn is_row(
     numbers: &[u8],
     want: Option<Place>,
 ) -> Result<bool, NoMemory> {
-    match netlist(alloc) {
+    match shift_register(alloc) {
         Some(net) => is_of_net(alloc, &net, text, numbers, want),
         None => Ok(false),
     }
 }
 
-/// A run of so many cycles with a one in one of them.
-fn pulse(cycles: u32, one: u32) -> Pulse {
-    Pulse { cycles, one }
+/// How many runs, what all but the last are, what the last is, the numbers of the listed states, and their first moment.
+type First<'a> = (u32, Pulse, Pulse, &'a [u8], Option<Place>);
+
+/// Whether a list has its first moment.
+fn is_first_of(
+    alloc: Global,
+    (count, each, last, numbers, want): &First<'_>,
+) -> Result<bool, NoMemory> {
+    let text = stimulus(alloc, *count, *each, *last)?;
+    is_row(alloc, &text, numbers, *want)
 }
 
-/// A one comes to the first flip-flop one cycle later, to the second one two, and to the third one three.
+/// Lists and their first moments: a one comes to the first flip-flop one cycle later, to the second one two, and to the third
+/// one three.
+const MOMENTS: [First<'static>; 15] = [
+    (1, (0, 0), (9, 4), &[2], Some((1, 6))),
+    (63, (9, 9), (9, 4), &[2], Some((63, 6))),
+    (64, (0, 0), (9, 4), &[4, 2], Some((64, 6))),
+    (65, (0, 0), (9, 4), &[4], Some((65, 7))),
+    (128, (3, 3), (9, 4), &[1], Some((128, 5))),
+    (129, (3, 3), (9, 4), &[1, 1, 1], Some((129, 5))),
+    (256, (0, 0), (9, 4), &[4], Some((256, 7))),
+    (256, (9, 4), (9, 3), &[2], Some((256, 5))),
+    (256, (9, 4), (9, 4), &[2], Some((1, 6))),
+    (129, (5, 4), (9, 6), &[2], Some((129, 8))),
+    (65, (5, 4), (0, 0), &[2], None),
+    (256, (0, 0), (0, 0), &[0], Some((1, 0))),
+    (128, (0, 0), (9, 4), &[0, 1, 2, 3, 4, 5, 6, 7], Some((1, 0))),
+    (65, (9, 4), (9, 4), &[], None),
+    (64, (9, 4), (9, 7), &[3, 5, 6, 7], None),
+];
+
 #[test]
 fn first_moments_of_many_runs(rt: HostRuntime) -> Result<(), Fail> {
-    let alloc = rt.alloc();
-    let all: [u8; 8] = [0, 1, 2, 3, 4, 5, 6, 7];
-    let none: [u8; 0] = [];
-    for (count, each, last, numbers, want) in [
-        (1, pulse(0, 0), pulse(9, 4), &[2][..], Some((1, 6))),
-        (63, pulse(9, 9), pulse(9, 4), &[2][..], Some((63, 6))),
-        (64, pulse(0, 0), pulse(9, 4), &[4, 2][..], Some((64, 6))),
-        (65, pulse(0, 0), pulse(9, 4), &[4][..], Some((65, 7))),
-        (128, pulse(3, 3), pulse(9, 4), &[1][..], Some((128, 5))),
-        (
-            129,
-            pulse(3, 3),
-            pulse(9, 4),
-            &[1, 1, 1][..],
-            Some((129, 5)),
-        ),
-        (256, pulse(0, 0), pulse(9, 4), &[4][..], Some((256, 7))),
-        (256, pulse(9, 4), pulse(9, 3), &[2][..], Some((256, 5))),
-        (256, pulse(9, 4), pulse(9, 4), &[2][..], Some((1, 6))),
-        (129, pulse(5, 4), pulse(9, 6), &[2][..], Some((129, 8))),
-        (65, pulse(5, 4), pulse(0, 0), &[2][..], None),
-        (256, pulse(0, 0), pulse(0, 0), &[0][..], Some((1, 0))),
-        (128, pulse(0, 0), pulse(9, 4), &all[..], Some((1, 0))),
-        (65, pulse(9, 4), pulse(9, 4), &none[..], None),
-        (64, pulse(9, 4), pulse(9, 7), &[3, 5, 6, 7][..], None),
-    ] {
-        let text = stimulus(alloc, count, each, last)?;
-        assert!(rt; is_row(alloc, text.as_slice(), numbers, want)?);
+    for row in &MOMENTS {
+        assert!(rt; is_first_of(rt.alloc(), row)?);
     }
     Ok(())
 }
