@@ -3,7 +3,7 @@ use Rattle.std.proofs.Common.{◌≡◌, ℕ, List, ◌++◌, ap, ◌∙◌, app
 use Rattle.std.specs.Prelude.{codes}
 use Rattle.bs_bits.specs.Lines.{line}
 use Rattle.bs_inspect_names.specs.Signals.{Signal}
-use Rattle.bs_inspect_view.specs.View.{head_text, variables}
+use Rattle.bs_inspect_view.specs.View.{declarations, variables}
 
 -- five pieces behind one another
 five : (old a b c d e one two three four last : List ℕ) → a ≡ old ++ one → b ≡ a ++ two → c ≡ b ++ three → d ≡ c ++ four → e ≡ d ++ last →
@@ -19,7 +19,7 @@ five old a b c d e one two three four last f g h i j =
 
 pub head_whole : (signals : List Signal) (old a b c d e : List ℕ) → a ≡ old ++ line (codes "$timescale 1ns $end") →
     b ≡ a ++ line (codes "$scope module trace $end") → c ≡ b ++ variables signals → d ≡ c ++ line (codes "$upscope $end") →
-    e ≡ d ++ line (codes "$enddefinitions $end") → e ≡ old ++ head_text signals
+    e ≡ d ++ line (codes "$enddefinitions $end") → e ≡ old ++ declarations signals
 head_whole signals old a b c d e f g h i j =
     five old a b c d e (line (codes "$timescale 1ns $end")) (line (codes "$scope module trace $end")) (variables signals)
     (line (codes "$upscope $end")) (line (codes "$enddefinitions $end")) f g h i j

@@ -5,18 +5,9 @@ use Rattle.std.proofs.lemmas.Grind.{flat_map-append}
 use Rattle.std.proofs.lemmas.List.{append-nil, length-map}
 use Rattle.bs_inspect_names.specs.declared.signal.Signal.{Signal as CodeSignal}
 use Rattle.bs_inspect_names.specs.Signals.{Signal, signal_in}
-use Rattle.bs_bits.proofs.RangeLemmas.{range_push}
+use Rattle.bs_bits.proofs.RangeLemmas.{places_step}
 use Rattle.bs_wave.specs.declared.value.Value.{Value}
 use Rattle.bs_inspect_view.specs.View.{change_at, change_text, changes, variable_at, variable_line, variables}
-
--- what a place appends
-pub places_step : (f : ℕ → List ℕ) (old before after : List ℕ) (n : ℕ) → before ≡ old ++ flat_map f (range_with_len 0 n) → after ≡ before ++ f n →
-    after ≡ old ++ flat_map f (range_with_len 0 (n + 1))
-places_step f old before after n e g =
-    let more : flat_map f (range_with_len 0 (n + 1)) ≡ flat_map f (range_with_len 0 n) ++ f n =
-    ap (flat_map f) (range_push n)
-    ∙ (flat_map-append f (range_with_len 0 n) (n ∷ []) ∙ ap (λ (t : List ℕ). flat_map f (range_with_len 0 n) ++ t) (append-nil (f n))) in
-    g ∙ (ap (λ (t : List ℕ). t ++ f n) e ∙ (append_assoc old (flat_map f (range_with_len 0 n)) (f n) ∙ ap (λ (t : List ℕ). old ++ t) (sym more)))
 
 -- the signal at a place
 signal_at : (signals : List CodeSignal) (i : ℕ) (d : CodeSignal) → i < length signals → slice_get (map signal_in signals) i ≡ Some (signal_in (get_or signals i d))

@@ -34,8 +34,8 @@ variable_at signals i (Some s) = variable_line i s
 abbrev pub variables : List Signal → List ℕ
 variables signals = flat_map (λ i. variable_at signals i (slice_get signals i)) (range_with_len 0 (length signals))
 
-abbrev pub head_text : List Signal → List ℕ
-head_text signals =
+abbrev pub declarations : List Signal → List ℕ
+declarations signals =
     line (codes "$timescale 1ns $end") ++ (line (codes "$scope module trace $end")
     ++ (variables signals ++ (line (codes "$upscope $end") ++ line (codes "$enddefinitions $end"))))
 
@@ -84,12 +84,16 @@ moment_at signals moments t = moment_text signals t (moment_before moments t) (s
 
 -- the head, and at each moment the signals whose values are others than at the moment before
 abbrev pub view_told : List Signal → List (List Value) → List ℕ
-view_told signals moments = head_text signals ++ flat_map (moment_at signals moments) (range_with_len 0 (length moments))
+view_told signals moments = declarations signals ++ flat_map (moment_at signals moments) (range_with_len 0 (length moments))
+
+-- the text of a wave, whose variables are the netlist's nets: each once, and the bits of a vector as one
+pub record Views (raw : Parts) (wave : Wave) (text : List ℕ) : Type 0 where
+  pub signals : List Signal
+  pub are : AreSignals [] raw.names signals
+  pub told : text ≡ view_told signals wave.moments
 
 -- the text of the wave of a trace, whose variables are the netlist's nets: each once, and the bits of a vector as one
 pub record IsViewOf (raw : Parts) (states inputs : List (List Bool)) (text : List ℕ) : Type 0 where
   pub wave : Wave
   pub of : IsWaveOf raw states inputs wave
-  pub signals : List Signal
-  pub are : AreSignals [] raw.names signals
-  pub told : text ≡ view_told signals wave.moments
+  pub views : Views raw wave text

@@ -2,7 +2,7 @@
 ghost use Rattle.std.specs.Prelude.{◌≡◌, ◌++◌, length, map, slice_get, OnOk};
 ghost use Rattle.std.specs.List.{flat_map, range_with_len};
 ghost use Rattle.bs_inspect_names.specs.Signals.{signal_in};
-ghost use Rattle.bs_inspect_view.specs.View.{head_text, range_words, reference, variable_line, variables};
+ghost use Rattle.bs_inspect_view.specs.View.{declarations, range_words, reference, variable_line, variables};
 ghost use Rattle.bs_wave.specs.WaveText.{id_of};
 
 use bs_bits::{NoMemory, push_line, push_number, push_piece};
@@ -69,7 +69,7 @@ fn push_variables(text: &mut Vec<u8>, signals: &[Signal<'_>]) -> Result<(), NoMe
 
 /// Appends the lines before the first moment.
 pub(crate) fn push_head(text: &mut Vec<u8>, signals: &[Signal<'_>]) -> Result<(), NoMemory>
-    ensures { OnOk result (text.new.items ≡ text.old.items ++ head_text (map signal_in signals.now)) }
+    ensures { OnOk result (text.new.items ≡ text.old.items ++ declarations (map signal_in signals.now)) }
 {
     push_line(text, b"$timescale 1ns $end")?;
     push_line(text, b"$scope module trace $end")?;

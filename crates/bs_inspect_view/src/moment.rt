@@ -71,7 +71,7 @@ fn push_at(
 }
 
 /// Appends the moments.
-#[tactic(auto, using(crate::proofs::PlaceLemmas::places_step))]
+#[tactic(auto, using(bs_bits::proofs::RangeLemmas::places_step))]
 pub(crate) fn push_moments(
     text: &mut Vec<u8>,
     signals: &[Signal<'_>],

@@ -2,7 +2,7 @@
 ghost use Rattle.std.specs.Prelude.{◌≡◌, ◌++◌, map, OnOk, IfOk};
 ghost use Rattle.bs_inspect_names.specs.Signals.{signal_in};
 ghost use Rattle.bs_net.specs.Netlist.{circuit};
-ghost use Rattle.bs_inspect_view.specs.View.{IsViewOf, view_told};
+ghost use Rattle.bs_inspect_view.specs.View.{IsViewOf, Views, view_told};
 ghost use Rattle.bs_wave.specs.Wave.{IsWayOf};
 
 use crate::head::push_head;
@@ -28,6 +28,16 @@ fn text_of(
     Ok(text)
 }
 
+/// The text of a wave over the nets of a netlist.
+fn text_over(alloc: Global, net: &Netlist, wave: &Wave) -> Result<Vec<u8>, NoMemory>
+    ensures { IfOk result (λ text. Views net.now.raw wave.now text.items) }
+{
+    match net_signals(alloc, net) {
+        Ok(signals) => text_of(alloc, signals.as_slice(), &wave.moments),
+        Err(refused) => Err(refused),
+    }
+}
+
 /// The waveform of a trace as a value change dump for viewers: each net at each moment of the trace, the bits of a vector as
 /// one variable, and after the first moment the values that change. It takes one pass over the gates for each moment.
 pub fn view_text(
@@ -39,8 +49,8 @@ pub fn view_text(
     requires { IsWayOf (circuit net.now) states.now inputs.now }
     ensures { IfOk result (λ text. IsViewOf net.now.raw states.now inputs.now text.items) }
 {
-    let wave = Wave::of(alloc, net, states, inputs)?;
-    let signals = net_signals(alloc, net)?;
-    let text = text_of(alloc, signals.as_slice(), &wave.moments)?;
-    Ok(text)
+    match Wave::of(alloc, net, states, inputs) {
+        Ok(wave) => text_over(alloc, net, &wave),
+        Err(refused) => Err(refused),
+    }
 }
