@@ -11,9 +11,8 @@ mod owns;
 mod pieces;
 mod reading;
 mod sorts;
-mod wholeness;
 
-pub use dealing::{Dealt, Place, deal};
+pub use dealing::{Dealt, ModuleSpan, deal};
 pub use ids::module_ids;
 pub use limits::MAX_OWN_NETS;
 pub use owns::{Modules, Own};

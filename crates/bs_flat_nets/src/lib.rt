@@ -1,20 +1,28 @@
-//! The flat parts of a design, made module by module and path by path.
+//! The flat nets of a design of modules in code: how many there are, their order, and the number of the flat net that stands for
+//! each net on each path.
 #![tactic(auto)]
 
 mod blocks;
 mod climbing;
 mod constants;
 mod counts;
+mod free;
 mod joined;
 mod law;
+mod lookup;
 mod nodes;
+mod numbers;
+mod rows;
 mod sums;
+mod tally;
 
-pub use blocks::{Block, Child, Run};
-pub use climbing::{Place, root_of};
+pub use blocks::{Child, FlatModule, JoinedNets};
+pub use climbing::NetOnPath;
 pub use constants::{Bit, all_bits, block_bits};
 pub use counts::{has_many_parts, is_deep};
-pub use joined::{Sort, outer_of, weight};
-pub use law::{levelled_orders_are_children_first, numbered_orders_are_children_first};
+pub use joined::{Counted, outer_of, weight};
+pub use law::numbered_orders_are_children_first;
+pub use lookup::flat_net;
 pub use nodes::path_nodes;
+pub use numbers::{Numbering, number_nets};
 pub use sums::has_many_nets;
