@@ -18,7 +18,7 @@ use Rattle.bs_flat_nets.specs.declared.climbing.NetOnPath.{NetOnPath}
 use Rattle.bs_flat_nets.specs.declared.constants.Bit.{Bit}
 use Rattle.bs_flat_nets.proofs.OrderLemmas.{block_is}
 use Rattle.bs_flat_elaborate.specs.Keys.{IsPathText, has_net, key_on, key_of_place}
-use Rattle.bs_flat_elaborate.proofs.TextLemmas.{first_path}
+use Rattle.bs_flat_nets.proofs.ClimbLemmas.{first_path}
 
 -- ---- constants
 

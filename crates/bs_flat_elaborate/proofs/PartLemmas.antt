@@ -27,7 +27,7 @@ use Rattle.bs_flat_nets.specs.Numbering.{net_at, no_net, no_place}
 use Rattle.bs_flat_nets.specs.declared.numbers.Numbering.{Numbering}
 use Rattle.bs_flat_elaborate.specs.Laid.{IsLaid}
 use Rattle.bs_flat_elaborate.specs.Parts.{gates_on, flops_on, consts_on, is_root_at, is_itself}
-use Rattle.bs_flat_elaborate.proofs.TextLemmas.{first_path}
+use Rattle.bs_flat_nets.proofs.ClimbLemmas.{first_path}
 use Rattle.bs_flat_elaborate.proofs.KeyLemmas.{own_is}
 
 -- ---- one path after another
