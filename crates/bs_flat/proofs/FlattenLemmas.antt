@@ -8,7 +8,9 @@ use Rattle.bs_bits.specs.Reading.{Answers}
 use Rattle.bs_net.specs.Parts.{Parts}
 use Rattle.bs_net.specs.declared.raw.Raw.{Raw}
 use Rattle.bs_net.specs.Netlist.{parts_of}
+use Rattle.bs_verilog_lexemes.specs.Lexemes.{lexemes_of}
 use Rattle.bs_verilog_syntax.specs.declared.tree.Module as tree
+use Rattle.bs_verilog_syntax.specs.Reading.{Rest}
 use Rattle.bs_flat_meaning.specs.declared.fault.FlatFault.{FlatFault}
 use Rattle.bs_flat_meaning.specs.declared.fault.FlatFault.TheVariants.{NoMemory as want, Connect, Tops}
 use Rattle.bs_flat_meaning.specs.declared.statements.Written.{Written}
@@ -17,25 +19,35 @@ use Rattle.bs_flat_meaning.specs.Flat.{IsDesign}
 use Rattle.bs_flat_meaning.specs.Pieces.{Piece, name_id}
 use Rattle.bs_flat_meaning.specs.Connecting.{ReadModule}
 use Rattle.bs_flat_meaning.specs.Reading.{◌then◌, Answer, Answer.{plain}, IsRead, connect_fault, connected_modules, design_of as design_read, elaborated, first_top, flattened}
-use Rattle.bs_flat_meaning.specs.Reading.{gathered, limited, module_from, tops}
+use Rattle.bs_flat_meaning.specs.Reading.{gathered, limited, module_from, read_modules, tops}
 use Rattle.bs_flat_meaning.proofs.JoinLemmas.{design_whole}
+use Rattle.bs_flat_meaning.proofs.WholeLemmas.{read_modules_are_whole}
 use Rattle.bs_flat_modules.specs.declared.owns.Modules.{Modules}
 use Rattle.bs_flat_modules.specs.declared.owns.Own.{Own}
 use Rattle.bs_flat_modules.specs.Owns.{module_and_parts}
 use Rattle.bs_flat_modules.specs.Reading.{read_modules_of}
-use Rattle.bs_hierarchy.specs.declared.ranks.Ranked as code
-use Rattle.bs_hierarchy.specs.Hierarchy.{AreOf, IsRankedSo}
-use Rattle.bs_hierarchy.specs.Refusals.{HasOneTop, IsRefused}
-use Rattle.bs_flat_nets.specs.declared.blocks.Block.{Block}
+use Rattle.bs_flat_order.specs.declared.ranks.Ranked as code
+use Rattle.bs_flat_order.specs.Hierarchy.{AreOf, IsRankedSo}
+use Rattle.bs_flat_order.specs.Refusals.{HasOneTop, IsRefused}
+use Rattle.bs_flat_nets.specs.declared.blocks.FlatModule.{FlatModule}
 use Rattle.bs_flat_nets.specs.Blocks.{design_of, module_of}
 use Rattle.bs_flat_nets.specs.Order.{IsChildrenFirst, below_blocks}
 use Rattle.bs_flat_nets.proofs.ChildrenLemmas.{numbered_is_children_first}
 use Rattle.bs_flat_order.specs.Ring as numbers
-use Rattle.bs_hierarchy.specs.Numbers.{numbers_by}
+use Rattle.bs_flat_order.specs.Numbers.{numbers_by}
 use Rattle.bs_flat_connect.specs.Connecting.{ConnectsTo}
-use Rattle.bs_flat.specs.Modules.{AnswersModules, Flattens, HasModules, IsOfModules}
+use Rattle.bs_flat.specs.Modules.{AnswersModules, AreOfText, Flattens, HasModules, IsOfModules}
 
 -- ---- what was read
+
+pub read_whole : (table : List (List ℕ)) (ts : Rest) (modules : Modules) → AreOfText table ts → read_modules table ts ≡ Ok (read_modules_of modules) →
+    All (IsRead table) (read_modules_of modules)
+read_whole table ts modules t e =
+    let tokens = t.has.tokens in
+    subst (λ (n : List (List ℕ)). All (IsRead n) (read_modules_of modules)) t.has.names
+    (read_modules_are_whole t.source tokens (read_modules_of modules) t.has.are
+    (subst (λ (n : List (List ℕ)). read_modules n (lexemes_of t.source tokens) ≡ Ok (read_modules_of modules)) (sym t.has.names)
+    (subst (λ (l : Rest). read_modules table l ≡ Ok (read_modules_of modules)) (sym t.has.lexemes) e)))
 
 writes_in : (owns : List Own) (ws : List (List Written)) → length owns ≡ length ws →
     map (λ (k : ReadModule). k.written) (map gathered (zip (map module_and_parts owns) ws)) ≡ ws
@@ -69,7 +81,7 @@ few_tops ids written ms ks r h a = let same = ap length (h.ranked.tops ms ks a) 
 
 -- ---- connected modules
 
-pub flattens_blocks : (table : List (List ℕ)) (ids : List (Option ℕ)) (modules : Modules) (r : code.Ranked) (blocks : List Block) (result : Result Raw FlatFault) →
+pub flattens_blocks : (table : List (List ℕ)) (ids : List (Option ℕ)) (modules : Modules) (r : code.Ranked) (blocks : List FlatModule) (result : Result Raw FlatFault) →
     length modules.owns ≡ length ids → length modules.written ≡ length ids → HasOneTop ids modules.written r → ConnectsTo table ids modules (Ok blocks) →
     Answers want parts_of result (elaborated (design_of blocks (first_top r.tops))) → Flattens table ids modules result
 flattens_blocks table ids modules r blocks result lo lw h c ans =
@@ -128,7 +140,7 @@ read_is : (table : List (List ℕ)) (ms : List Piece) (ks : List ReadModule) →
 unfolding design_read
 read_is table ms ks = refl
 
-pub design_is_whole : (table : List (List ℕ)) (ids : List (Option ℕ)) (modules : Modules) (r : code.Ranked) (blocks : List Block) →
+pub design_is_whole : (table : List (List ℕ)) (ids : List (Option ℕ)) (modules : Modules) (r : code.Ranked) (blocks : List FlatModule) →
     length modules.owns ≡ length ids → length modules.written ≡ length ids → HasModules ids → All (IsRead table) (read_modules_of modules) →
     HasOneTop ids modules.written r → ConnectsTo table ids modules (Ok blocks) → IsDesign (design_of blocks (first_top r.tops))
 design_is_whole table ids modules r blocks lo lw texts read h c =
@@ -180,10 +192,10 @@ answers_refused table ids modules fault lo lw told =
 
 -- ---- an order of the blocks
 
-pub order_is : (ids : List (Option ℕ)) (written : List (List Written)) (below : List (List ℕ)) (r : code.Ranked) (blocks : List Block) → HasOneTop ids written r →
+pub order_is : (ids : List (Option ℕ)) (written : List (List Written)) (below : List (List ℕ)) (r : code.Ranked) (blocks : List FlatModule) → HasOneTop ids written r →
     below ≡ numbers_by ids written → below_blocks blocks ≡ below → IsChildrenFirst (map module_of blocks) r.order
 order_is ids written below r blocks h e b =
     numbered_is_children_first blocks r.order (subst (λ (l : List (List ℕ)). numbers.IsChildrenFirst l r.order) (sym (b ∙ e)) h.ranked.order)
 
-pub at_top : (blocks : List Block) (t u : ℕ) → t ≡ u → IsDesign (design_of blocks u) → IsDesign (design_of blocks t)
+pub at_top : (blocks : List FlatModule) (t u : ℕ) → t ≡ u → IsDesign (design_of blocks u) → IsDesign (design_of blocks t)
 at_top blocks t u e d = subst (λ n. IsDesign (design_of blocks n)) (sym e) d

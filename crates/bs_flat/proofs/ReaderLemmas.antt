@@ -20,7 +20,7 @@ use Rattle.bs_flat_meaning.specs.declared.fault.FlatFault.TheVariants.{NoMemory 
 use Rattle.bs_flat_meaning.specs.Pieces.{modules_of}
 use Rattle.bs_flat_meaning.specs.Reading.{IsAnswer, TokensAnswer, AnswerFor, as_verilog}
 use Rattle.bs_flat.specs.Answers.{IsAnswered, IsLexed, IsOfSort, fault_of}
-use Rattle.bs_flat.specs.Modules.{single_of, IsSeverally}
+use Rattle.bs_flat.specs.Modules.{single_of, AreOfText, HasTokens, IsSeverally}
 
 -- ---- the lexemes of a text
 
@@ -49,13 +49,6 @@ abbrev place_or : ℕ → Result (List Lexeme × List (List ℕ)) LexFault → �
 place_or d (Err (BadByte at)) = at
 place_or d r = d
 
--- a text that has tokens
-pub record HasTokens (source : List ℕ) (table : List (List ℕ)) (ts : List Lexeme) : Type 0 where
-  pub tokens : List Token
-  pub are : tokens_of source ≡ Ok tokens
-  pub lexemes : lexemes_of source tokens ≡ ts
-  pub names : names_of source tokens ≡ table
-
 has_tokens : (source : List ℕ) (table : List (List ℕ)) (ts : List Lexeme) → lexed source ≡ Ok (ts, table) → HasTokens source table ts
 has_tokens source table ts e = by (tokens_of source) refl e
   where
@@ -63,6 +56,9 @@ has_tokens source table ts e = by (tokens_of source) refl e
     by (Ok tokens) same q =
         record { tokens = tokens; are = same; lexemes = ap (λ r. (value_or (ts, table) r).0) q; names = ap (λ r. (value_or (ts, table) r).1) q }
     by (Err at) same q = absurd (false≢true (ap is_ok q))
+
+pub are_of_text : (source : List ℕ) (table : List (List ℕ)) (ts : List Lexeme) → lexed source ≡ Ok (ts, table) → AreOfText table ts
+are_of_text source table ts e = record { source = source; has = has_tokens source table ts e }
 
 netlist_by : List ℕ → Result (List Token) VerilogFault → Result Parts VerilogFault
 netlist_by source r = r >>= λ tokens. single_of (names_of source tokens) (lexemes_of source tokens)

@@ -4,6 +4,9 @@ use Rattle.bs_bits.specs.Reading.{◌>>=◌, Answers}
 use Rattle.bs_net.specs.Parts.{Parts}
 use Rattle.bs_net.specs.declared.raw.Raw.{Raw}
 use Rattle.bs_net.specs.Netlist.{parts_of}
+use Rattle.bs_lex.specs.declared.token.Token.{Token}
+use Rattle.bs_lex.specs.Tokens.{tokens_of}
+use Rattle.bs_verilog_lexemes.specs.Lexemes.{lexemes_of, names_of}
 use Rattle.bs_verilog_syntax.specs.declared.fault.VerilogFault.{VerilogFault}
 use Rattle.bs_verilog_syntax.specs.Reading.{Rest}
 use Rattle.bs_verilog_syntax.specs.Modules.{syntax_of}
@@ -18,6 +21,18 @@ use Rattle.bs_flat_modules.specs.Reading.{read_modules_of}
 -- the netlist of the lexemes of one module
 abbrev pub single_of : List (List ℕ) → Rest → Result Parts VerilogFault
 single_of table ts = syntax_of ts >>= λ m. meaning_of table m
+
+-- a text has tokens, of which these are the lexemes and the names
+pub record HasTokens (source : List ℕ) (table : List (List ℕ)) (ts : Rest) : Type 0 where
+  pub tokens : List Token
+  pub are : tokens_of source ≡ Ok tokens
+  pub lexemes : lexemes_of source tokens ≡ ts
+  pub names : names_of source tokens ≡ table
+
+-- the lexemes and the names are those of some text
+pub record AreOfText (table : List (List ℕ)) (ts : Rest) : Type 0 where
+  pub source : List ℕ
+  pub has : HasTokens source table ts
 
 -- the modules of some text have names with these numbers
 pub record HasModules (ids : List (Option ℕ)) : Type 0 where

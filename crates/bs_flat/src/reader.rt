@@ -5,6 +5,7 @@ ghost use Rattle.bs_lex.specs.declared.limits.TheConstants.{MAX_BYTES};
 ghost use Rattle.bs_flat_meaning.specs.Pieces.{modules_of, name_id};
 ghost use Rattle.bs_flat_meaning.specs.declared.fault.FlatFault.TheVariants.{NoMemory as want};
 ghost use Rattle.bs_flat.specs.Answers as spec;
+ghost use Rattle.bs_flat.specs.Modules.{AreOfText};
 
 use crate::several::read_several;
 use crate::single::read_single;
@@ -21,6 +22,7 @@ const MOST: usize = 4_294_967_295;
 
 /// What the lexemes of a text are answered with: as one module where there are fewer than two, cells aside.
 fn read_lexemes(alloc: Global, table: &Table, ts: List<Lexeme>) -> Result<Raw, FlatFault>
+    requires { AreOfText table.now ts }
     ensures { spec.IsLexed table.now ts result }
 {
     let ids = match module_ids(alloc, ts.slice()) {

@@ -10,8 +10,7 @@ ghost use Rattle.bs_net.specs.Gate.{takes};
 ghost use Rattle.bs_flat_meaning.specs.Flat.{IsDesign};
 ghost use Rattle.bs_flat_nets.specs.Blocks.{AreThere, design_of, module_of};
 ghost use Rattle.bs_flat_nets.specs.Order.{IsChildrenFirst};
-ghost use Rattle.bs_hierarchy.specs.Numbers.{numbers_by};
-ghost use Rattle.bs_hierarchy.specs.Refusals.{HasOneTop};
+ghost use Rattle.bs_flat_order.specs.Refusals.{HasOneTop};
 ghost use Rattle.bs_flat_modules.specs.Reading.{AreAll, read_modules_of};
 ghost use Rattle.bs_flat.specs.Modules as spec;
 
@@ -20,8 +19,8 @@ use bs_flat_connect::connect;
 use bs_flat_elaborate::elaborate;
 use bs_flat_meaning::FlatFault;
 use bs_flat_modules::{Modules, read_modules};
-use bs_flat_nets::Block;
-use bs_hierarchy::{Ranked, expect_one_top, module_numbers};
+use bs_flat_nets::FlatModule;
+use bs_flat_order::{Ranked, expect_one_top};
 use bs_net::Raw;
 use bs_verilog_lexemes::{Lexeme, Table};
 use std::alloc::Global;
@@ -38,7 +37,7 @@ fn top_of(ranked: &Ranked) -> u32
 }
 
 /// The flat netlist of blocks, in an order of which one at most is a top.
-fn flat(alloc: Global, blocks: List<Block>, ranked: Ranked) -> Result<Raw, FlatFault>
+fn flat(alloc: Global, blocks: List<FlatModule>, ranked: Ranked) -> Result<Raw, FlatFault>
     requires order { IsChildrenFirst (map module_of blocks) ranked.order }
     requires there { AreThere blocks }
     requires takes { All (λ b. All (λ g. IsTrue (takes g.kind (length g.ins))) b.gates) blocks }
@@ -53,13 +52,11 @@ fn flat(alloc: Global, blocks: List<Block>, ranked: Ranked) -> Result<Raw, FlatF
     Ok(raw)
 }
 
-/// The flat netlist of modules without a ring, of which one at most is a top. `ids` has the number of each module's name, and
-/// `below` those of the modules that each instances.
+/// The flat netlist of modules without a ring, of which one at most is a top. `ids` has the number of each module's name.
 fn flatten(
     alloc: Global,
     table: &Table,
     ids: &[Option<u32>],
-    below: &[List<u32>],
     modules: Modules,
     ranked: Ranked,
 ) -> Result<Raw, FlatFault>
@@ -67,36 +64,12 @@ fn flatten(
     requires written { length modules.written ≡ length ids.now }
     requires named { spec.HasModules ids.now }
     requires read { All (reading.IsRead table.now) (read_modules_of modules) }
-    requires below { below.now ≡ numbers_by ids.now modules.written }
-    requires there { All (λ ns. All (λ n. n < length ids.now) ns) below.now }
     requires ranked { HasOneTop ids.now modules.written ranked }
     ensures { spec.Flattens table.now ids.now modules result }
 {
-    match connect(alloc, table, below, ids, modules) {
+    match connect(alloc, table, ranked.below.slice(), ids, modules) {
         Ok(blocks) => flat(alloc, blocks, ranked),
         Err(fault) => Err(fault),
-    }
-}
-
-/// The same, where the numbers are not known yet.
-fn flatten_ranked(
-    alloc: Global,
-    table: &Table,
-    ids: &[Option<u32>],
-    modules: Modules,
-    ranked: Ranked,
-) -> Result<Raw, FlatFault>
-    requires few { length ids.now < 2 ^ 32 }
-    requires owns { length modules.owns ≡ length ids.now }
-    requires written { length modules.written ≡ length ids.now }
-    requires named { spec.HasModules ids.now }
-    requires read { All (reading.IsRead table.now) (read_modules_of modules) }
-    requires ranked { HasOneTop ids.now modules.written ranked }
-    ensures { spec.Flattens table.now ids.now modules result }
-{
-    match module_numbers(alloc, ids, modules.written.slice()) {
-        Ok(below) => flatten(alloc, table, ids, below.slice(), modules, ranked),
-        Err(_) => Err(FlatFault::NoMemory),
     }
 }
 
@@ -115,13 +88,14 @@ fn answer(
     ensures { spec.AnswersModules table.now ids.now modules result }
 {
     match expect_one_top(alloc, table, ids, modules.written.slice()) {
-        Ok(ranked) => flatten_ranked(alloc, table, ids, modules, ranked),
+        Ok(ranked) => flatten(alloc, table, ids, modules, ranked),
         Err(fault) => Err(fault),
     }
 }
 
-/// The modules of a text, which are let go of its lexemes.
+/// The modules of a text, all of which are whole by the law. The lexemes are let go.
 fn modules(alloc: Global, table: &Table, ts: List<Lexeme>) -> Result<Modules, FlatFault>
+    requires { spec.AreOfText table.now ts }
     ensures read { Answers want read_modules_of result (reading.read_modules table.now ts) }
     ensures whole { IfOk result (λ m. All (reading.IsRead table.now) (read_modules_of m)) }
     ensures all { IfOk result (λ m. AreAll ts m) }
@@ -138,6 +112,7 @@ pub fn read_several(
     ids: &[Option<u32>],
 ) -> Result<Raw, FlatFault>
     requires few { length ids.now < 2 ^ 32 }
+    requires text { spec.AreOfText table.now ts }
     requires ids { ids.now ≡ map name_id (modules_of ts) }
     ensures { spec.IsSeverally table.now ts result }
 {

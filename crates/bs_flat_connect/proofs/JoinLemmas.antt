@@ -11,13 +11,13 @@ use Rattle.bs_verilog.specs.Netlist.{is_towards}
 use Rattle.bs_flat_meaning.specs.Design.{Join}
 use Rattle.bs_flat_meaning.specs.Connecting as flat
 use Rattle.bs_flat_nets.specs.Blocks.{joins_of_run}
-use Rattle.bs_flat_nets.specs.declared.blocks.Run.{Run}
+use Rattle.bs_flat_nets.specs.declared.blocks.JoinedNets.{JoinedNets}
 use Rattle.bs_flat_wiring.specs.Wiring.{TellsTerm, StandsFor, side_by_side}
 use Rattle.bs_flat_wiring.specs.Ports.{port_in}
 use Rattle.bs_flat_wiring.specs.declared.ports.Port.{Port}
 use Rattle.bs_flat_wiring.specs.declared.terms.Stretch.{Stretch}
 use Rattle.bs_flat_wiring.specs.declared.wiring.Wiring.{Wiring}
-use Rattle.bs_flat_connect.specs.Joining.{unless, Tells, run_of, run_for, names_of, JoinsTerm, JoinsPlain}
+use Rattle.bs_flat_connect.specs.Joining.{unless, Tells, run_of, run_for, whole_names, JoinsTerm, JoinsPlain}
 use Rattle.bs_flat_connect.specs.declared.fault.Fault.{Fault}
 use Rattle.bs_flat_connect.specs.declared.fault.Fault.TheVariants.{At}
 
@@ -64,28 +64,28 @@ module _ (table : List (List ℕ)) (m below : flat.ReadModule) where
   goes_none q t e =
       ap (λ (o : Option (List (List ℕ))). elim o as (λ _. Bool) [ None ↦ false | Some ls ↦ length ls == q.width && not (is_driven q t) ]) e
 
-  told : (r : Run) (place : ℕ) (js : List Join) (b : Bool) → joins_of_run r ≡ js →
+  told : (r : JoinedNets) (place : ℕ) (js : List Join) (b : Bool) → joins_of_run r ≡ js →
       Tells joins_of_run (cond b (Ok r) (Err (At place))) (cond b None (Some place)) js
   told r place js true e = ap Ok (sym e)
   told r place js false e = inr refl
 
   term_there : (q : flat.Port) (t : Term) (s : Stretch) (ks : List (List ℕ)) → flat.term_keys table (flat.scope_of m) t ≡ Some ks → length ks ≡ s.width →
-      nets_of (names_of table m) ks ≡ side_by_side s.first s.width →
+      nets_of (whole_names table m) ks ≡ side_by_side s.first s.width →
       Tells joins_of_run (run_of (port_in below q) t s) (flat.term_fault table m below (Some q) (Some t))
-      (flat.joins_from (names_of table m) q.first (flat.keys_for table m (Some t)))
+      (flat.joins_from (whole_names table m) q.first (flat.keys_for table m (Some t)))
   term_there q t s ks e long nets =
-      let run : Run = record { inner = q.first; outer = s.first; width = s.width } in
+      let run : JoinedNets = record { inner = q.first; outer = s.first; width = s.width } in
       let keys : ks ≡ flat.keys_for table m (Some t) = sym (ap (λ o. unwrap_or o []) e) in
       let same : (s.width == q.width && not (is_driven q t)) ≡ flat.goes table m below q t =
       ap (λ n. n == q.width && not (is_driven q t)) (sym long) ∙ sym (goes_some q t ks e) in
-      let joined = run_joined (names_of table m) q.first s.first s.width ks long nets ∙ ap (flat.joins_from (names_of table m) q.first) keys in
-      subst (λ b. Tells joins_of_run (run_of (port_in below q) t s) (cond b None (Some (flat.place_of t)))
-      (flat.joins_from (names_of table m) q.first (flat.keys_for table m (Some t)))) same
-      (told run (flat.place_of t) _ (s.width == q.width && not (is_driven q t)) joined)
+      let joined = run_joined (whole_names table m) q.first s.first s.width ks long nets ∙ ap (flat.joins_from (whole_names table m) q.first) keys in
+      subst (λ b. Tells joins_of_run (run_of (port_in below q) t s) (cond b None (Some (flat.term_place t)))
+      (flat.joins_from (whole_names table m) q.first (flat.keys_for table m (Some t)))) same
+      (told run (flat.term_place t) _ (s.width == q.width && not (is_driven q t)) joined)
 
   term_absent : (q : flat.Port) (t : Term) (js : List Join) → flat.term_keys table (flat.scope_of m) t ≡ None →
-      Tells joins_of_run (Err (At (flat.place_of t))) (flat.term_fault table m below (Some q) (Some t)) js
-  term_absent q t js e = inr (ap (λ b. unless (cond b None (Some (flat.place_of t))) js) (goes_none q t e))
+      Tells joins_of_run (Err (At (flat.term_place t))) (flat.term_fault table m below (Some q) (Some t)) js
+  term_absent q t js e = inr (ap (λ b. unless (cond b None (Some (flat.term_place t))) js) (goes_none q t e))
 
 pub term_joined : (table : List (List ℕ)) (w : Wiring) (p : Port) (t : Term) (found : Option Stretch) → TellsTerm table w t found →
     JoinsTerm table w p t (run_for p t found)
@@ -93,12 +93,12 @@ term_joined table w p t found tells =
     record {
       is = λ m below q wired e.
           subst (λ (r : Port). Tells joins_of_run (run_for r t found) (flat.term_fault table m below (Some q) (Some t))
-          (flat.joins_from (names_of table m) q.first (flat.keys_for table m (Some t)))) (sym e) (by m below q found (tells.is m wired));
+          (flat.joins_from (whole_names table m) q.first (flat.keys_for table m (Some t)))) (sym e) (by m below q found (tells.is m wired));
     }
   where
     by : (m below : flat.ReadModule) (q : flat.Port) (o : Option Stretch) → StandsFor table m t o →
         Tells joins_of_run (run_for (port_in below q) t o) (flat.term_fault table m below (Some q) (Some t))
-        (flat.joins_from (names_of table m) q.first (flat.keys_for table m (Some t)))
+        (flat.joins_from (whole_names table m) q.first (flat.keys_for table m (Some t)))
     by m below q (Some s) h = term_there table m below q t s h.0 h.1 h.2 h.3
     by m below q None h = term_absent table m below q t _ h
 
@@ -106,7 +106,7 @@ term_joined table w p t found tells =
 
 pub no_term : (table : List (List ℕ)) (w : Wiring) (p : Option Port) → JoinsPlain table w p None (Ok None)
 unfolding flat.joins_from
-no_term table w p = record { is = λ m below q wired e. by (names_of table m) q }
+no_term table w p = record { is = λ m below q wired e. by (whole_names table m) q }
   where
     by : (names : List (List ℕ)) (q : Option flat.Port) → ◌≡◌ {A = Result (List Join) Fault} (Ok (flat.joins_with names q [])) (Ok [])
     by names (Some q) = refl

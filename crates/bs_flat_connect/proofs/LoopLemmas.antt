@@ -9,7 +9,7 @@ use Rattle.std.proofs.lemmas.List.Concat.{flat_map-append}
 use Rattle.bs_flat_meaning.specs.Connecting as flat
 use Rattle.bs_flat_meaning.specs.Reading.{first_of}
 use Rattle.bs_flat_nets.specs.Blocks.{joins_of_run}
-use Rattle.bs_flat_nets.specs.declared.blocks.Run.{Run}
+use Rattle.bs_flat_nets.specs.declared.blocks.JoinedNets.{JoinedNets}
 use Rattle.bs_flat_wiring.specs.Wiring.{IsWiringOf}
 use Rattle.bs_flat_wiring.specs.declared.wiring.Wiring.{Wiring}
 use Rattle.bs_flat_connect.specs.Matching.{matched_of}
@@ -78,7 +78,7 @@ so_far_all fault value xs i made le so_far =
 
 -- ---- the connections of an instance
 
-pub record JoinsSoFar (table : List (List ℕ)) (w : Wiring) (all : List Matched) (i : ℕ) (runs : List Run) : Type 0 where
+pub record JoinsSoFar (table : List (List ℕ)) (w : Wiring) (all : List Matched) (i : ℕ) (runs : List JoinedNets) : Type 0 where
   pub is : (m below : flat.ReadModule) (cs : List flat.Connected) → IsWiringOf table m w → all ≡ map (matched_of below) cs →
       SoFar (flat.connected_fault table m below) (flat.joins_of table m) cs i (flat_map joins_of_run runs)
 
@@ -95,7 +95,7 @@ one_of below all cs i one d e lt here =
     let within : i < length cs = omega (arith, lt, long) in
     (within, here ∙ (ap (λ (l : List Matched). get_or l i d) e ∙ get_or-map (matched_of below) cs i no_connection d within))
 
-pub joins_more : (table : List (List ℕ)) (w : Wiring) (all : List Matched) (i : ℕ) (one d : Matched) (runs : List Run) (new : Option Run) →
+pub joins_more : (table : List (List ℕ)) (w : Wiring) (all : List Matched) (i : ℕ) (one d : Matched) (runs : List JoinedNets) (new : Option JoinedNets) →
     i < length all → one ≡ get_or all i d → JoinsOne table w one (Ok new) → JoinsSoFar table w all i runs →
     JoinsSoFar table w all (i + 1) (runs ++ runs_of new)
 joins_more table w all i one d runs new lt here tells so_far =
@@ -108,7 +108,7 @@ joins_more table w all i one d runs new lt here tells so_far =
           (tells.is m below (get_or cs i no_connection) wired k.1));
     }
 
-pub joins_stop : (table : List (List ℕ)) (w : Wiring) (all : List Matched) (i : ℕ) (one d : Matched) (runs : List Run) (f : Fault) →
+pub joins_stop : (table : List (List ℕ)) (w : Wiring) (all : List Matched) (i : ℕ) (one d : Matched) (runs : List JoinedNets) (f : Fault) →
     i < length all → one ≡ get_or all i d → JoinsOne table w one (Err f) → JoinsSoFar table w all i runs → JoinsAll table w all (Err f)
 joins_stop table w all i one d runs f lt here tells so_far =
     record {
@@ -119,7 +119,7 @@ joins_stop table w all i one d runs f lt here tells so_far =
           (tells.is m below (get_or cs i no_connection) wired k.1);
     }
 
-pub joins_all : (table : List (List ℕ)) (w : Wiring) (all : List Matched) (i : ℕ) (runs : List Run) → length all ≤ i → JoinsSoFar table w all i runs →
+pub joins_all : (table : List (List ℕ)) (w : Wiring) (all : List Matched) (i : ℕ) (runs : List JoinedNets) → length all ≤ i → JoinsSoFar table w all i runs →
     JoinsAll table w all (Ok runs)
 joins_all table w all i runs le so_far =
     record {

@@ -22,11 +22,11 @@ use Rattle.bs_flat_meaning.specs.Design.{Module}
 use Rattle.bs_flat_meaning.specs.Pieces.{Piece, name_id}
 use Rattle.bs_flat_meaning.specs.Connecting as flat
 use Rattle.bs_flat_meaning.specs.Reading.{first_of, no_read_module, is_id, place_in, connect_fault, connected_modules, read_at, connections_of, module_from}
-use Rattle.bs_hierarchy.specs.Numbers.{numbers_by}
-use Rattle.bs_hierarchy.specs.Places.{place_of}
+use Rattle.bs_flat_order.specs.Numbers.{numbers_by}
+use Rattle.bs_flat_order.specs.Places.{place_by_id}
 use Rattle.bs_flat_nets.specs.Blocks.{instance_of, own_of, module_of, numbers_of, AreThere}
 use Rattle.bs_flat_nets.specs.Order.{below_blocks}
-use Rattle.bs_flat_nets.specs.declared.blocks.Block.{Block}
+use Rattle.bs_flat_nets.specs.declared.blocks.FlatModule.{FlatModule}
 use Rattle.bs_flat_nets.specs.declared.blocks.Child.{Child}
 use Rattle.bs_flat_modules.specs.Reading.{read_modules_of}
 use Rattle.bs_flat_modules.specs.declared.owns.Own.{Own}
@@ -84,7 +84,7 @@ keeps_whole : (table : List (List ℕ)) (m : flat.ReadModule) → Keeps m.own (f
 unfolding flat.whole_parts
 keeps_whole table m = keeps_terms table (flat.scope_of m) m.own (flat_map (λ (w : Written). flat.terms_of w.connections) m.written)
 
-own_same : (table : List (List ℕ)) (own : Own) (ws : List Written) (w : Wiring) (cs : List Child) (b : Block) → IsWiringOf table (read_of own ws) w →
+own_same : (table : List (List ℕ)) (own : Own) (ws : List Written) (w : Wiring) (cs : List Child) (b : FlatModule) → IsWiringOf table (read_of own ws) w →
     IsMade own w cs b → own_of b ≡ flat.whole_parts table (read_of own ws)
 own_same table own ws w cs b wired made =
     let keeps = keeps_whole table (read_of own ws) in
@@ -98,7 +98,7 @@ own_same table own ws w cs b wired made =
 
 -- ---- a module
 
-pub block_told : (table : List (List ℕ)) (ps : List Ports) (below : List ℕ) (own : Own) (ws : List Written) (w : Wiring) (cs : List Child) (b : Block) →
+pub block_told : (table : List (List ℕ)) (ps : List Ports) (below : List ℕ) (own : Own) (ws : List Written) (w : Wiring) (cs : List Child) (b : FlatModule) →
     IsWiringOf table (read_of own ws) w → IsMade own w cs b → TellsChildren table w ps below ws (Ok cs) → TellsBlock table ps below own ws (Ok b)
 block_told table ps below own ws w cs b wired made tells =
     record {
@@ -127,7 +127,7 @@ read_there (p ∷ ps) (w ∷ ws) zero o lt e = refl
 read_there (p ∷ ps) (w ∷ ws) (suc k) o lt e = read_there ps ws k o (omega (arith, lt)) (omega (arith, e))
 
 pub record BlocksSoFar (table : List (List ℕ)) (ps : List Ports) (below : List (List ℕ)) (owns : List Own) (written : List (List Written)) (k : ℕ)
-    (made : List Block) : Type 0 where
+    (made : List FlatModule) : Type 0 where
   pub is : (ks : List flat.ReadModule) (at : Written → ℕ) → ArePortsOfAll table ks ps → below ≡ map (map at) written →
       SoFar (fault_in table ks at) (λ m. module_by table ks at m ∷ []) (reads owns written) k (map module_of made)
 
@@ -137,7 +137,7 @@ blocks_none table ps below owns written =
     record { is = λ ks at ports e. so_far_none (fault_in table ks at) (λ m. module_by table ks at m ∷ []) (reads owns written) }
 
 told_at : (table : List (List ℕ)) (ps : List Ports) (below : List (List ℕ)) (owns : List Own) (written : List (List Written)) (k : ℕ) (o : Own)
-    (r : Result Block Fault) (ks : List flat.ReadModule) (at : Written → ℕ) → k < length owns → length owns ≡ length written →
+    (r : Result FlatModule Fault) (ks : List flat.ReadModule) (at : Written → ℕ) → k < length owns → length owns ≡ length written →
     TellsBlock table ps (get_or below k []) (get_or owns k o) (get_or written k []) r → ArePortsOfAll table ks ps → below ≡ map (map at) written →
     Tells module_of r (fault_in table ks at (get_or (reads owns written) k no_read_module)) (module_by table ks at (get_or (reads owns written) k no_read_module))
 told_at table ps below owns written k o r ks at lt long tells ports e =
@@ -147,7 +147,7 @@ told_at table ps below owns written k o r ks at lt long tells ports e =
     (tells.is ks at ports numbers)
 
 -- each gate of a module has as many inputs as its kind takes
-abbrev pub Takes : Block → Type 0
+abbrev pub Takes : FlatModule → Type 0
 Takes b = All (λ (g : Gate). IsTrue (takes g.kind (length g.ins))) b.gates
 
 pub counted : (below : List (List ℕ)) (written : List (List Written)) → map length below ≡ map length written → length below ≡ length written
@@ -169,7 +169,7 @@ same_default (x ∷ xs) (suc k) d e lt = same_default xs k d e (omega (arith, lt
 
 -- what is told of a module by its parts is told of it by its place
 pub told_here : (table : List (List ℕ)) (ps : List Ports) (below : List (List ℕ)) (owns : List Own) (written : List (List Written)) (k : ℕ) (ns d : List ℕ)
-    (o : Own) (ws w : List Written) (r : Result Block Fault) → k < length owns → length owns ≡ length written → map length below ≡ map length written →
+    (o : Own) (ws w : List Written) (r : Result FlatModule Fault) → k < length owns → length owns ≡ length written → map length below ≡ map length written →
     ns ≡ get_or below k d → o ≡ get_or owns k o → ws ≡ get_or written k w → TellsBlock table ps ns o ws r →
     TellsBlock table ps (get_or below k []) (get_or owns k o) (get_or written k []) r
 told_here table ps below owns written k ns d o ws w r lt long each numbers own instances tells =
@@ -181,7 +181,7 @@ told_here table ps below owns written k ns d o ws w r lt long each numbers own i
     (subst (λ (x : List Written). TellsBlock table ps ns o x r) last tells))
 
 pub blocks_more : (table : List (List ℕ)) (ps : List Ports) (below : List (List ℕ)) (owns : List Own) (written : List (List Written)) (k : ℕ) (o : Own)
-    (made : List Block) (b : Block) → k < length owns → length owns ≡ length written →
+    (made : List FlatModule) (b : FlatModule) → k < length owns → length owns ≡ length written →
     TellsBlock table ps (get_or below k []) (get_or owns k o) (get_or written k []) (Ok b) → BlocksSoFar table ps below owns written k made →
     BlocksSoFar table ps below owns written (k + 1) (made ++ b ∷ [])
 blocks_more table ps below owns written k o made b lt long tells so_far =
@@ -195,7 +195,7 @@ blocks_more table ps below owns written k o made b lt long tells so_far =
     }
 
 pub blocks_stop : (table : List (List ℕ)) (ps : List Ports) (below : List (List ℕ)) (owns : List Own) (written : List (List Written)) (k : ℕ) (o : Own)
-    (made : List Block) (f : Fault) → k < length owns → length owns ≡ length written →
+    (made : List FlatModule) (f : Fault) → k < length owns → length owns ≡ length written →
     TellsBlock table ps (get_or below k []) (get_or owns k o) (get_or written k []) (Err f) → BlocksSoFar table ps below owns written k made →
     TellsBlocks table ps below owns written (Err f)
 blocks_stop table ps below owns written k o made f lt long tells so_far =
@@ -208,7 +208,7 @@ blocks_stop table ps below owns written k o made f lt long tells so_far =
     }
 
 pub blocks_all : (table : List (List ℕ)) (ps : List Ports) (below : List (List ℕ)) (owns : List Own) (written : List (List Written)) (k : ℕ)
-    (made : List Block) → length owns ≤ k → length owns ≡ length written → BlocksSoFar table ps below owns written k made →
+    (made : List FlatModule) → length owns ≤ k → length owns ≡ length written → BlocksSoFar table ps below owns written k made →
     TellsBlocks table ps below owns written (Ok made)
 blocks_all table ps below owns written k made le long so_far =
     record {
@@ -219,7 +219,7 @@ blocks_all table ps below owns written k made le long so_far =
           (so_far.is ks at ports e);
     }
 
-pub connects : (table : List (List ℕ)) (ps : List Ports) (below : List (List ℕ)) (modules : Modules) (r : Result (List Block) Fault) →
+pub connects : (table : List (List ℕ)) (ps : List Ports) (below : List (List ℕ)) (modules : Modules) (r : Result (List FlatModule) Fault) →
     length modules.written ≡ length modules.owns → AreAllPorts modules.owns ps → TellsBlocks table ps below modules.owns modules.written r →
     Connects table below modules r
 connects table ps below modules r long ports tells =
@@ -227,15 +227,15 @@ connects table ps below modules r long ports tells =
 
 -- ---- the definition
 
-place_same : (ms : List Piece) (id : ℕ) → place_of (map name_id ms) id ≡ place_in ms id
+place_same : (ms : List Piece) (id : ℕ) → place_by_id (map name_id ms) id ≡ place_in ms id
 place_same [] id = refl
 place_same (p ∷ ps) id = ap (λ n. cond (not (is_id id (name_id p))) (1 + n) 0) (place_same ps id)
 
 numbers_same : (ms : List Piece) (ids : List (Option ℕ)) (written : List (List Written)) → map name_id ms ≡ ids →
     numbers_by ids written ≡ map (map (λ (w : Written). place_in ms w.of.id)) written
 numbers_same ms ids written e =
-    let each : (λ (w : Written). place_of ids w.of.id) ≡ (λ (w : Written). place_in ms w.of.id) =
-    λ i w. (ap (λ l. place_of l w.of.id) (sym e) ∙ place_same ms w.of.id) i in
+    let each : (λ (w : Written). place_by_id ids w.of.id) ≡ (λ (w : Written). place_in ms w.of.id) =
+    λ i w. (ap (λ l. place_by_id l w.of.id) (sym e) ∙ place_same ms w.of.id) i in
     ap (λ (at : Written → ℕ). map (map at) written) each
 
 fault_same : (table : List (List ℕ)) (ms : List Piece) (ks : List flat.ReadModule) →
@@ -249,7 +249,7 @@ fault_same table ms ks =
     first_each (λ (m : flat.ReadModule). flat_map (one m) m.written) ks ∙ ap (λ (f : flat.ReadModule → Option ℕ). first_of (map f ks)) each
 
 -- the answer of a text from the one of the modules
-abbrev pub as_flat : Result (List Block) Fault → Result (List Block) FlatFault
+abbrev pub as_flat : Result (List FlatModule) Fault → Result (List FlatModule) FlatFault
 as_flat (Ok bs) = Ok bs
 as_flat (Err f) = Err (fault_of f)
 
@@ -262,7 +262,7 @@ unfolding connected_modules
 modules_or table ms ks o e =
     ap (λ (p : Option ℕ). elim p as (λ _. Result (List Module) FlatFault) [ Some place ↦ Err (Connect place) | None ↦ Ok (map (module_from table ms ks) ks) ]) e
 
-pub connects_to : (table : List (List ℕ)) (ids : List (Option ℕ)) (below : List (List ℕ)) (modules : Modules) (r : Result (List Block) Fault) →
+pub connects_to : (table : List (List ℕ)) (ids : List (Option ℕ)) (below : List (List ℕ)) (modules : Modules) (r : Result (List FlatModule) Fault) →
     below ≡ numbers_by ids modules.written → Connects table below modules r → ConnectsTo table ids modules (as_flat r)
 connects_to table ids below modules r numbers h =
     record {
@@ -271,7 +271,7 @@ connects_to table ids below modules r numbers h =
           by ms r (h.is at (numbers ∙ numbers_same ms ids modules.written named));
     }
   where
-    by : (ms : List Piece) (q : Result (List Block) Fault) →
+    by : (ms : List Piece) (q : Result (List FlatModule) Fault) →
         Tells (λ bs. map module_of bs) q (first_of (map (fault_in table (read_modules_of modules) (λ (w : Written). place_in ms w.of.id)) (read_modules_of modules)))
         (map (module_by table (read_modules_of modules) (λ (w : Written). place_in ms w.of.id)) (read_modules_of modules)) →
         Answers want (λ bs. map module_of bs) (as_flat q) (connected_modules table ms (read_modules_of modules))
@@ -292,17 +292,17 @@ connects_to table ids below modules r numbers h =
 pub lengths_same : (ids : List (Option ℕ)) (written : List (List Written)) → map length (numbers_by ids written) ≡ map length written
 lengths_same ids [] = refl
 lengths_same ids (w ∷ ws) =
-    ap (λ n. n ∷ map length (numbers_by ids ws)) (length-map w (λ (x : Written). place_of ids x.of.id)) ∙ ap (λ l. length w ∷ l) (lengths_same ids ws)
+    ap (λ n. n ∷ map length (numbers_by ids ws)) (length-map w (λ (x : Written). place_by_id ids x.of.id)) ∙ ap (λ l. length w ∷ l) (lengths_same ids ws)
 
-pub are_there : (bs : List Block) (below : List (List ℕ)) (count : ℕ) → below_blocks bs ≡ below → All (λ ns. All (λ n. n < count) ns) below →
+pub are_there : (bs : List FlatModule) (below : List (List ℕ)) (count : ℕ) → below_blocks bs ≡ below → All (λ ns. All (λ n. n < count) ns) below →
     length below ≡ count → (length bs ≡ count) × AreThere bs
 are_there bs below count numbers within long =
     let wide = ap length numbers in
-    let size : length bs ≡ count = omega (arith, long, wide, length-map bs (λ (b : Block). numbers_of b.children)) in (
+    let size : length bs ≡ count = omega (arith, long, wide, length-map bs (λ (b : FlatModule). numbers_of b.children)) in (
       size,
       λ k d lt j e low.
           let here : numbers_of (get_or bs k d).children ≡ get_or below k [] =
-          sym (get_or-map (λ (b : Block). numbers_of b.children) bs k d [] lt) ∙ ap (λ l. get_or l k []) numbers in
+          sym (get_or-map (λ (b : FlatModule). numbers_of b.children) bs k d [] lt) ∙ ap (λ l. get_or l k []) numbers in
           let one : get_or (get_or below k []) j 0 ≡ (get_or (get_or bs k d).children j e).of =
           ap (λ l. get_or l j 0) (sym here) ∙ get_or-map (λ (c : Child). c.of) (get_or bs k d).children j e 0 low in
           let many = ap length here in

@@ -9,7 +9,7 @@ use Rattle.bs_flat_meaning.specs.Pieces.{Piece, name_id}
 use Rattle.bs_flat_meaning.specs.Connecting as flat
 use Rattle.bs_flat_meaning.specs.Reading.{gathered, first_of, connected_modules}
 use Rattle.bs_flat_nets.specs.Blocks.{module_of}
-use Rattle.bs_flat_nets.specs.declared.blocks.Block.{Block}
+use Rattle.bs_flat_nets.specs.declared.blocks.FlatModule.{FlatModule}
 use Rattle.bs_flat_nets.specs.declared.blocks.Child.{Child}
 use Rattle.bs_flat_modules.specs.Owns.{module_and_parts}
 use Rattle.bs_flat_modules.specs.Reading.{read_modules_of}
@@ -24,14 +24,14 @@ use Rattle.bs_flat_connect.specs.declared.fault.Fault.{Fault}
 use Rattle.bs_flat_connect.specs.declared.fault.Fault.TheVariants.{At, NoMemory}
 
 -- the blocks are the modules of a design whose connections go with their ports; or the first that does not is told
-pub record ConnectsTo (table : List (List ℕ)) (ids : List (Option ℕ)) (modules : Modules) (result : Result (List Block) FlatFault) : Type 0 where
+pub record ConnectsTo (table : List (List ℕ)) (ids : List (Option ℕ)) (modules : Modules) (result : Result (List FlatModule) FlatFault) : Type 0 where
   pub is : (ms : List Piece) → map name_id ms ≡ ids →
       Answers want (λ bs. map module_of bs) result (connected_modules table ms (read_modules_of modules))
 
 -- ---- what inner functions promise each other
 
 -- a module with its nets and its instances
-pub record IsMade (own : Own) (w : Wiring) (cs : List Child) (b : Block) : Type 0 where
+pub record IsMade (own : Own) (w : Wiring) (cs : List Child) (b : FlatModule) : Type 0 where
   pub names : map string_bytes b.names ≡ w.keys
   pub consts : b.consts ≡ w.consts
   pub inputs : b.inputs ≡ own.parts.inputs
@@ -48,7 +48,7 @@ abbrev pub module_by : List (List ℕ) → List flat.ReadModule → (Written →
 module_by table ks at m = record { own = flat.whole_parts table m; instances = map (instance_by table ks at m) m.written }
 
 pub record TellsBlock (table : List (List ℕ)) (ps : List Ports) (below : List ℕ) (own : Own) (written : List Written)
-    (result : Result Block Fault) : Type 0 where
+    (result : Result FlatModule Fault) : Type 0 where
   pub is : (ks : List flat.ReadModule) (at : Written → ℕ) → ArePortsOfAll table ks ps → below ≡ map at written →
       Tells module_of result (fault_in table ks at (read_of own written)) (module_by table ks at (read_of own written))
 
@@ -57,7 +57,7 @@ abbrev pub reads : List Own → List (List Written) → List flat.ReadModule
 reads owns written = map gathered (zip (map module_and_parts owns) written)
 
 pub record TellsBlocks (table : List (List ℕ)) (ps : List Ports) (below : List (List ℕ)) (owns : List Own) (written : List (List Written))
-    (result : Result (List Block) Fault) : Type 0 where
+    (result : Result (List FlatModule) Fault) : Type 0 where
   pub is : (ks : List flat.ReadModule) (at : Written → ℕ) → ArePortsOfAll table ks ps → below ≡ map (map at) written →
       Tells (λ bs. map module_of bs) result (first_of (map (fault_in table ks at) (reads owns written))) (map (module_by table ks at) (reads owns written))
 
@@ -67,6 +67,6 @@ fault_of (At place) = Connect place
 fault_of NoMemory = want
 
 -- the same of all modules
-pub record Connects (table : List (List ℕ)) (below : List (List ℕ)) (modules : Modules) (result : Result (List Block) Fault) : Type 0 where
+pub record Connects (table : List (List ℕ)) (below : List (List ℕ)) (modules : Modules) (result : Result (List FlatModule) Fault) : Type 0 where
   pub is : (at : Written → ℕ) → below ≡ map (map at) modules.written → let ks = read_modules_of modules in
       Tells (λ bs. map module_of bs) result (first_of (map (fault_in table ks at) ks)) (map (module_by table ks at) ks)

@@ -6,7 +6,7 @@ use Rattle.bs_verilog_syntax.specs.declared.tree.Term.{Term}
 use Rattle.bs_flat_meaning.specs.Connecting as flat
 use Rattle.bs_flat_meaning.specs.Reading.{first_of}
 use Rattle.bs_flat_nets.specs.Blocks.{joins_of_run}
-use Rattle.bs_flat_nets.specs.declared.blocks.Run.{Run}
+use Rattle.bs_flat_nets.specs.declared.blocks.JoinedNets.{JoinedNets}
 use Rattle.bs_flat_wiring.specs.Wiring.{IsWiringOf}
 use Rattle.bs_flat_wiring.specs.Ports.{port_in}
 use Rattle.bs_flat_wiring.specs.declared.ports.Port.{Port}
@@ -27,41 +27,41 @@ abbrev pub Tells : {A B : Type 0} → (A → B) → Result A Fault → Option �
 Tells view result fault value = Answers NoMemory view result (unless fault value)
 
 -- the run of a port with the nets for which a term stands
-abbrev pub run_of : Port → Term → Stretch → Result Run Fault
+abbrev pub run_of : Port → Term → Stretch → Result JoinedNets Fault
 run_of p t s =
     if s.width == p.width && not (flat.is_constant_term t && p.is_output) then Ok (record { inner = p.first; outer = s.first; width = s.width })
-    else Err (At (flat.place_of t))
+    else Err (At (flat.term_place t))
 
-abbrev pub run_for : Port → Term → Option Stretch → Result Run Fault
+abbrev pub run_for : Port → Term → Option Stretch → Result JoinedNets Fault
 run_for p t (Some s) = run_of p t s
-run_for p t None = Err (At (flat.place_of t))
+run_for p t None = Err (At (flat.term_place t))
 
-abbrev pub runs_of : Option Run → List Run
+abbrev pub runs_of : Option JoinedNets → List JoinedNets
 runs_of (Some r) = r ∷ []
 runs_of None = []
 
 -- the names of a module's nets
-abbrev pub names_of : List (List ℕ) → flat.ReadModule → List (List ℕ)
-names_of table m = (flat.whole_parts table m).names
+abbrev pub whole_names : List (List ℕ) → flat.ReadModule → List (List ℕ)
+whole_names table m = (flat.whole_parts table m).names
 
-pub record JoinsTerm (table : List (List ℕ)) (w : Wiring) (p : Port) (t : Term) (result : Result Run Fault) : Type 0 where
+pub record JoinsTerm (table : List (List ℕ)) (w : Wiring) (p : Port) (t : Term) (result : Result JoinedNets Fault) : Type 0 where
   pub is : (m below : flat.ReadModule) (q : flat.Port) → IsWiringOf table m w → p ≡ port_in below q →
       Tells joins_of_run result (flat.term_fault table m below (Some q) (Some t))
-      (flat.joins_from (names_of table m) q.first (flat.keys_for table m (Some t)))
+      (flat.joins_from (whole_names table m) q.first (flat.keys_for table m (Some t)))
 
-pub record JoinsPort (table : List (List ℕ)) (w : Wiring) (p : Option Port) (t : Term) (result : Result Run Fault) : Type 0 where
+pub record JoinsPort (table : List (List ℕ)) (w : Wiring) (p : Option Port) (t : Term) (result : Result JoinedNets Fault) : Type 0 where
   pub is : (m below : flat.ReadModule) (q : Option flat.Port) → IsWiringOf table m w → p ≡ option_map (port_in below) q →
-      Tells joins_of_run result (flat.term_fault table m below q (Some t)) (flat.joins_with (names_of table m) q (flat.keys_for table m (Some t)))
+      Tells joins_of_run result (flat.term_fault table m below q (Some t)) (flat.joins_with (whole_names table m) q (flat.keys_for table m (Some t)))
 
-pub record JoinsPlain (table : List (List ℕ)) (w : Wiring) (p : Option Port) (t : Option Term) (result : Result (Option Run) Fault) : Type 0 where
+pub record JoinsPlain (table : List (List ℕ)) (w : Wiring) (p : Option Port) (t : Option Term) (result : Result (Option JoinedNets) Fault) : Type 0 where
   pub is : (m below : flat.ReadModule) (q : Option flat.Port) → IsWiringOf table m w → p ≡ option_map (port_in below) q →
       Tells (λ o. flat_map joins_of_run (runs_of o)) result (flat.term_fault table m below q t)
-      (flat.joins_with (names_of table m) q (flat.keys_for table m t))
+      (flat.joins_with (whole_names table m) q (flat.keys_for table m t))
 
-pub record JoinsOne (table : List (List ℕ)) (w : Wiring) (one : Matched) (result : Result (Option Run) Fault) : Type 0 where
+pub record JoinsOne (table : List (List ℕ)) (w : Wiring) (one : Matched) (result : Result (Option JoinedNets) Fault) : Type 0 where
   pub is : (m below : flat.ReadModule) (c : flat.Connected) → IsWiringOf table m w → one ≡ matched_of below c →
       Tells (λ o. flat_map joins_of_run (runs_of o)) result (flat.connected_fault table m below c) (flat.joins_of table m c)
 
-pub record JoinsAll (table : List (List ℕ)) (w : Wiring) (all : List Matched) (result : Result (List Run) Fault) : Type 0 where
+pub record JoinsAll (table : List (List ℕ)) (w : Wiring) (all : List Matched) (result : Result (List JoinedNets) Fault) : Type 0 where
   pub is : (m below : flat.ReadModule) (cs : List flat.Connected) → IsWiringOf table m w → all ≡ map (matched_of below) cs →
       Tells (λ rs. flat_map joins_of_run rs) result (first_of (map (flat.connected_fault table m below) cs)) (flat_map (flat.joins_of table m) cs)

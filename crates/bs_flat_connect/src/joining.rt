@@ -6,15 +6,15 @@ ghost use Rattle.bs_flat_meaning.specs.Connecting as flat;
 use crate::fault::Fault;
 use crate::matching::Matched;
 use bs_bits::{List, NoMemory};
-use bs_flat_nets::Run;
+use bs_flat_nets::JoinedNets;
 use bs_flat_wiring::{Port, Stretch, Wiring, term_nets};
 use bs_verilog_lexemes::Table;
 use bs_verilog_syntax::Term;
 use std::alloc::Global;
 
 /// Where a term begins.
-fn place_of(term: Term) -> u32
-    ensures { result ≡ flat.place_of term }
+fn term_place(term: Term) -> u32
+    ensures { result ≡ flat.term_place term }
 {
     match term {
         Term::Constant(at, _) => at,
@@ -32,28 +32,28 @@ fn is_constant(term: Term) -> bool
 }
 
 /// The run of a port with the nets for which a term stands, where they go with it.
-fn run_of(port: Port, term: Term, stretch: Stretch) -> Result<Run, Fault>
+fn run_of(port: Port, term: Term, stretch: Stretch) -> Result<JoinedNets, Fault>
     ensures { result ≡ spec.run_of port term stretch }
 {
     let is_driven = is_constant(term) && port.is_output;
     if stretch.width == port.width && !is_driven {
-        Ok(Run {
+        Ok(JoinedNets {
             inner: port.first,
             outer: stretch.first,
             width: stretch.width,
         })
     } else {
-        Err(Fault::At(place_of(term)))
+        Err(Fault::At(term_place(term)))
     }
 }
 
 /// The run of a port with the nets for which a term stands, if it stands for any.
-fn run_for(port: Port, term: Term, found: Option<Stretch>) -> Result<Run, Fault>
+fn run_for(port: Port, term: Term, found: Option<Stretch>) -> Result<JoinedNets, Fault>
     ensures { result ≡ spec.run_for port term found }
 {
     match found {
         Some(stretch) => run_of(port, term, stretch),
-        None => Err(Fault::At(place_of(term))),
+        None => Err(Fault::At(term_place(term))),
     }
 }
 
@@ -64,7 +64,7 @@ fn join_term(
     wiring: &Wiring,
     port: Port,
     term: Term,
-) -> Result<Run, Fault>
+) -> Result<JoinedNets, Fault>
     ensures { spec.JoinsTerm table.now wiring.now port term result }
 {
     let found = term_nets(alloc, table, wiring, term)?;
@@ -78,12 +78,12 @@ fn join_port(
     wiring: &Wiring,
     port: Option<Port>,
     term: Term,
-) -> Result<Run, Fault>
+) -> Result<JoinedNets, Fault>
     ensures { spec.JoinsPort table.now wiring.now port term result }
 {
     match port {
         Some(port) => join_term(alloc, table, wiring, port, term),
-        None => Err(Fault::At(place_of(term))),
+        None => Err(Fault::At(term_place(term))),
     }
 }
 
@@ -94,7 +94,7 @@ fn join_plain(
     wiring: &Wiring,
     port: Option<Port>,
     term: Option<Term>,
-) -> Result<Option<Run>, Fault>
+) -> Result<Option<JoinedNets>, Fault>
     ensures { spec.JoinsPlain table.now wiring.now port term result }
 {
     match term {
@@ -112,7 +112,7 @@ fn join_one(
     table: &Table,
     wiring: &Wiring,
     one: Matched,
-) -> Result<Option<Run>, Fault>
+) -> Result<Option<JoinedNets>, Fault>
     ensures { spec.JoinsOne table.now wiring.now one result }
 {
     match one.refused {
@@ -122,7 +122,7 @@ fn join_one(
 }
 
 /// Puts a run at the end, if there is one.
-fn add(runs: &mut List<Run>, run: Option<Run>) -> Result<(), NoMemory>
+fn add(runs: &mut List<JoinedNets>, run: Option<JoinedNets>) -> Result<(), NoMemory>
     ensures { OnOk result (runs.new ≡ runs.old ++ spec.runs_of run) }
 {
     match run {
@@ -140,7 +140,7 @@ pub fn join(
     table: &Table,
     wiring: &Wiring,
     matched: &[Matched],
-) -> Result<List<Run>, Fault>
+) -> Result<List<JoinedNets>, Fault>
     ensures { spec.JoinsAll table.now wiring.now matched.now result }
 {
     let mut runs = List::new(alloc);

@@ -1,7 +1,7 @@
 //! The modules of a design with their joined nets, or the first connection that does not go with its port.
 ghost use Rattle.std.specs.Prelude.{◌≡◌, ◌<◌, length, map, All, IsTrue, IfOk};
 ghost use Rattle.bs_net.specs.Gate.{takes};
-ghost use Rattle.bs_hierarchy.specs.Numbers.{numbers_by};
+ghost use Rattle.bs_flat_order.specs.Numbers.{numbers_by};
 ghost use Rattle.bs_flat_nets.specs.Blocks.{AreThere, numbers_of};
 ghost use Rattle.bs_flat_nets.specs.Order.{below_blocks};
 ghost use Rattle.bs_flat_connect.specs.Connecting as spec;
@@ -12,13 +12,18 @@ use crate::instances::{all_ports, children};
 use bs_bits::{List, NoMemory};
 use bs_flat_meaning::{FlatFault, Written};
 use bs_flat_modules::{Modules, Own};
-use bs_flat_nets::{Block, Child};
+use bs_flat_nets::{Child, FlatModule};
 use bs_flat_wiring::{Ports, Wiring, wire};
 use bs_verilog_lexemes::Table;
 use std::alloc::Global;
 
 /// A module with its nets and its instances.
-fn made(alloc: Global, own: &Own, wiring: Wiring, children: List<Child>) -> Result<Block, NoMemory>
+fn made(
+    alloc: Global,
+    own: &Own,
+    wiring: Wiring,
+    children: List<Child>,
+) -> Result<FlatModule, NoMemory>
     ensures made { IfOk result (λ b. spec.IsMade own.now wiring children b) }
     ensures takes { IfOk result (λ b. All (λ g. IsTrue (takes g.kind (length g.ins))) b.gates) }
 {
@@ -27,7 +32,7 @@ fn made(alloc: Global, own: &Own, wiring: Wiring, children: List<Child>) -> Resu
     let gates = gates(alloc, own.parts.gates.slice())?;
     let flops = flops(alloc, own.parts.flops.slice())?;
     let names = wiring.keys.into_names(alloc)?;
-    Ok(Block {
+    Ok(FlatModule {
         names,
         inputs,
         outputs,
@@ -46,7 +51,7 @@ fn block(
     below: &[u32],
     own: &Own,
     written: &[Written],
-) -> Result<Block, Fault>
+) -> Result<FlatModule, Fault>
     requires each { length below.now ≡ length written.now }
     requires there { All (λ n. n < length ports.now) below.now }
     ensures tells { spec.TellsBlock table.now ports.now below.now own.now written.now result }
@@ -67,7 +72,7 @@ fn blocks(
     below: &[List<u32>],
     owns: &[Own],
     written: &[List<Written>],
-) -> Result<List<Block>, Fault>
+) -> Result<List<FlatModule>, Fault>
     requires owns { length owns.now ≡ length written.now }
     requires each { map length below.now ≡ map length written.now }
     requires there { All (λ ns. All (λ n. n < length ports.now) ns) below.now }
@@ -91,7 +96,7 @@ fn connected(
     table: &Table,
     below: &[List<u32>],
     modules: &Modules,
-) -> Result<List<Block>, Fault>
+) -> Result<List<FlatModule>, Fault>
     requires each { map length below.now ≡ map length modules.now.written }
     requires there { All (λ ns. All (λ n. n < length modules.now.owns) ns) below.now }
     requires owns { length modules.now.written ≡ length modules.now.owns }
@@ -131,7 +136,7 @@ pub fn connect(
     below: &[List<u32>],
     ids: &[Option<u32>],
     modules: Modules,
-) -> Result<List<Block>, FlatFault>
+) -> Result<List<FlatModule>, FlatFault>
     requires below { below.now ≡ numbers_by ids.now modules.written }
     requires there { All (λ ns. All (λ n. n < length modules.owns) ns) below.now }
     requires each { length modules.written ≡ length modules.owns }

@@ -22,7 +22,7 @@ pub struct Matched {
 fn port_with(ports: &Ports, id: u32) -> Option<Port>
     ensures { result ≡ spec.port_with ports.now.ids.keys ports.now.ports id }
 {
-    match ports.place_of(id) {
+    match ports.index_of(id) {
         Some(place) => ports.at(place),
         None => None,
     }

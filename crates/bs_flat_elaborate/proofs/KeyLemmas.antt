@@ -13,12 +13,12 @@ use Rattle.bs_flat_meaning.specs.declared.paths.Node.{Node}
 use Rattle.bs_flat_nets.specs.Blocks.{design_of, own_of}
 use Rattle.bs_flat_nets.specs.Climbing.{node_at, path_in}
 use Rattle.bs_flat_nets.specs.Constants.{entry, known_constants}
-use Rattle.bs_flat_nets.specs.declared.blocks.Block.{Block}
-use Rattle.bs_flat_nets.specs.declared.climbing.Place.{Place}
+use Rattle.bs_flat_nets.specs.declared.blocks.FlatModule.{FlatModule}
+use Rattle.bs_flat_nets.specs.declared.climbing.NetOnPath.{NetOnPath}
 use Rattle.bs_flat_nets.specs.declared.constants.Bit.{Bit}
 use Rattle.bs_flat_nets.proofs.OrderLemmas.{block_is}
-use Rattle.bs_flat_elaborate.specs.Keys.{IsPathText, has_net, key_on, key_at}
-use Rattle.bs_flat_elaborate.proofs.TextLemmas.{first_path}
+use Rattle.bs_flat_elaborate.specs.Keys.{IsPathText, has_net, key_on, key_of_place}
+use Rattle.bs_flat_nets.proofs.ClimbLemmas.{first_path}
 
 -- ---- constants
 
@@ -73,7 +73,7 @@ has_bit parts n lt = has_in (constant_bit parts) n 0 (length parts.names) (omega
 -- ---- blocks
 
 -- the parts on a node's path are those of its block
-pub own_is : (blocks : List Block) (nodes : List Node) (top k : ℕ) (b : Block) → ArePaths (design_of blocks top) nodes (paths (design_of blocks top)) →
+pub own_is : (blocks : List FlatModule) (nodes : List Node) (top k : ℕ) (b : FlatModule) → ArePaths (design_of blocks top) nodes (paths (design_of blocks top)) →
     k < length nodes → (node_at nodes k).of < length blocks → b ≡ get_or blocks (node_at nodes k).of b →
     own (design_of blocks top) (path_in (design_of blocks top) k) ≡ own_of b
 own_is blocks nodes top k b a lt there e =
@@ -83,7 +83,7 @@ cons_is : (i : ℕ) (p : Path) (k : ℕ) → nat_eq (length (i ∷ p)) 0 ≡ nat
 cons_is i p k = ne_eqb (length (i ∷ p)) 0 (λ e. omega (arith, e)) ∙ sym (ne_eqb (suc k) 0 (λ e. omega (arith, e)))
 
 -- only the top's path is empty
-path_empty : (blocks : List Block) (nodes : List Node) (top k : ℕ) → ArePaths (design_of blocks top) nodes (paths (design_of blocks top)) →
+path_empty : (blocks : List FlatModule) (nodes : List Node) (top k : ℕ) → ArePaths (design_of blocks top) nodes (paths (design_of blocks top)) →
     k < length nodes → nat_eq (length (path_in (design_of blocks top) k)) 0 ≡ nat_eq k 0
 path_empty blocks nodes top zero a lt = ap (λ (p : Path). nat_eq (length p) 0) (first_path (design_of blocks top))
 path_empty blocks nodes top (suc k) a lt =
@@ -108,11 +108,11 @@ flat_is d p n text parts known at_top eo et ex eb =
     (sym eo)))
 
 -- the key of a flat net, by its block
-pub key_is : (blocks : List Block) (nodes : List Node) (top : ℕ) (place : Place) (b : Block) (known : List Bit) (text : List ℕ) →
+pub key_is : (blocks : List FlatModule) (nodes : List Node) (top : ℕ) (place : NetOnPath) (b : FlatModule) (known : List Bit) (text : List ℕ) →
     ArePaths (design_of blocks top) nodes (paths (design_of blocks top)) → place.node < length nodes → (node_at nodes place.node).of < length blocks →
     b ≡ get_or blocks (node_at nodes place.node).of b → known ≡ known_constants (own_of b) → place.net < length b.names →
     IsPathText blocks nodes place.node text →
-    key_on text (own_of b) known (nat_eq place.node 0) place.net ≡ key_at (design_of blocks top) place
+    key_on text (own_of b) known (nat_eq place.node 0) place.net ≡ key_of_place (design_of blocks top) place
 key_is blocks nodes top place b known text a lt there e ek inside t =
     let d = design_of blocks top in
     let wide = length-map b.names string_bytes in

@@ -19,11 +19,11 @@ use Rattle.bs_flat_meaning.specs.declared.limits.TheConstants.{MAX_KEY_BYTES}
 use Rattle.bs_flat_meaning.specs.declared.paths.Node.{Node}
 use Rattle.bs_flat_meaning.proofs.MemberLemmas.{map_twice}
 use Rattle.bs_flat_nets.specs.Blocks.{design_of}
-use Rattle.bs_flat_nets.specs.declared.blocks.Block.{Block}
-use Rattle.bs_flat_nets.specs.declared.climbing.Place.{Place}
-use Rattle.bs_number.specs.Numbering.{net_at}
-use Rattle.bs_number.specs.declared.numbers.Numbering.{Numbering}
-use Rattle.bs_flat_elaborate.specs.Keys.{key_at}
+use Rattle.bs_flat_nets.specs.declared.blocks.FlatModule.{FlatModule}
+use Rattle.bs_flat_nets.specs.declared.climbing.NetOnPath.{NetOnPath}
+use Rattle.bs_flat_nets.specs.Numbering.{net_at}
+use Rattle.bs_flat_nets.specs.declared.numbers.Numbering.{Numbering}
+use Rattle.bs_flat_elaborate.specs.Keys.{key_of_place}
 use Rattle.bs_flat_elaborate.specs.Laid.{IsLaid}
 use Rattle.bs_flat_elaborate.specs.Naming.{keys_of, bytes_of, added, IsMade, IsSearched}
 use Rattle.bs_flat_elaborate.specs.declared.naming.Made.{Made}
@@ -152,7 +152,7 @@ made_key keys m key h le =
     }
 
 -- one place more
-pub made_more : (f : Place → List ℕ) (places : List Place) (i : ℕ) (p : Place) (key : List ℕ) (m after : Made) → i < length places → key ≡ f (get_or places i p) →
+pub made_more : (f : NetOnPath → List ℕ) (places : List NetOnPath) (i : ℕ) (p : NetOnPath) (key : List ℕ) (m after : Made) → i < length places → key ≡ f (get_or places i p) →
     IsMade (map f (take i places)) m → m.bytes + length key ≤ MAX_KEY_BYTES → after ≡ added m key → IsMade (map f (take (i + 1) places)) after
 made_more f places i p key m after lt ek h le ea =
     let at : i < length (map f places) = omega (arith, lt, length-map places f) in
@@ -165,7 +165,7 @@ made_more f places i p key m after lt ek h le ea =
     (subst (λ (l : List (List ℕ)). IsMade l (added m key)) (sym keys) (made_key (map f (take i places)) m key h le))
 
 -- one key is too long
-pub long_is : (f : Place → List ℕ) (places : List Place) (i : ℕ) (p : Place) (key : List ℕ) (m : Made) → i < length places → key ≡ f (get_or places i p) →
+pub long_is : (f : NetOnPath → List ℕ) (places : List NetOnPath) (i : ℕ) (p : NetOnPath) (key : List ℕ) (m : Made) → i < length places → key ≡ f (get_or places i p) →
     IsMade (map f (take i places)) m → MAX_KEY_BYTES < m.bytes + length key → MAX_KEY_BYTES < bytes_of (map f places)
 long_is f places i p key m lt ek h gt =
     let at : i < length (map f places) = omega (arith, lt, length-map places f) in
@@ -179,27 +179,27 @@ long_is f places i p key m lt ek h gt =
     omega (arith, first, part, gt, h.bytes)
 
 -- all places
-pub made_all : (f : Place → List ℕ) (places : List Place) (i : ℕ) (m : Made) → length places ≤ i → IsMade (map f (take i places)) m → IsMade (map f places) m
-made_all f places i m ge h = subst (λ (l : List Place). IsMade (map f l) m) (take_all i places ge) h
+pub made_all : (f : NetOnPath → List ℕ) (places : List NetOnPath) (i : ℕ) (m : Made) → length places ≤ i → IsMade (map f (take i places)) m → IsMade (map f places) m
+made_all f places i m ge h = subst (λ (l : List NetOnPath). IsMade (map f l) m) (take_all i places ge) h
 
 -- ---- the keys of a numbering
 
-pub keys_are : (blocks : List Block) (nodes : List Node) (top : ℕ) (n : Numbering) → IsLaid blocks nodes top n →
-    keys_of (design_of blocks top) ≡ map (key_at (design_of blocks top)) n.places
+pub keys_are : (blocks : List FlatModule) (nodes : List Node) (top : ℕ) (n : Numbering) → IsLaid blocks nodes top n →
+    keys_of (design_of blocks top) ≡ map (key_of_place (design_of blocks top)) n.places
 keys_are blocks nodes top n h =
     let d = design_of blocks top in
     ap (map (flat_key d)) (sym h.numbering.nets) ∙ map_twice (net_at d) (flat_key d) n.places
 
-pub key_read : (blocks : List Block) (nodes : List Node) (top : ℕ) (n : Numbering) (i : ℕ) (p : Place) → IsLaid blocks nodes top n → i < length n.places →
-    get_or (keys_of (design_of blocks top)) i [] ≡ key_at (design_of blocks top) (get_or n.places i p)
+pub key_read : (blocks : List FlatModule) (nodes : List Node) (top : ℕ) (n : Numbering) (i : ℕ) (p : NetOnPath) → IsLaid blocks nodes top n → i < length n.places →
+    get_or (keys_of (design_of blocks top)) i [] ≡ key_of_place (design_of blocks top) (get_or n.places i p)
 key_read blocks nodes top n i p h lt =
     let d = design_of blocks top in
-    ap (λ (l : List (List ℕ)). get_or l i []) (keys_are blocks nodes top n h) ∙ get_or-map (key_at d) n.places i p [] lt
+    ap (λ (l : List (List ℕ)). get_or l i []) (keys_are blocks nodes top n h) ∙ get_or-map (key_of_place d) n.places i p [] lt
 
-pub keys_count : (blocks : List Block) (nodes : List Node) (top : ℕ) (n : Numbering) → IsLaid blocks nodes top n →
+pub keys_count : (blocks : List FlatModule) (nodes : List Node) (top : ℕ) (n : Numbering) → IsLaid blocks nodes top n →
     length (keys_of (design_of blocks top)) ≡ length n.places
 keys_count blocks nodes top n h =
-    ap (λ (l : List (List ℕ)). length l) (keys_are blocks nodes top n h) ∙ length-map n.places (key_at (design_of blocks top))
+    ap (λ (l : List (List ℕ)). length l) (keys_are blocks nodes top n h) ∙ length-map n.places (key_of_place (design_of blocks top))
 
 -- ---- keys from the last on
 

@@ -19,15 +19,15 @@ use Rattle.bs_flat_meaning.specs.declared.paths.Node.{Node}
 use Rattle.bs_flat_meaning.proofs.MemberLemmas.{Member, map_twice, member_at}
 use Rattle.bs_flat_meaning.proofs.RootLemmas.{Valid}
 use Rattle.bs_flat_meaning.proofs.HomeLemmas.{number_home, number_within}
-use Rattle.bs_flat_meaning.proofs.NumberLemmas.{Apart, paths_apart}
+use Rattle.bs_flat_meaning.proofs.NumberLemmas.{Apart, paths_apart, flat_same}
 use Rattle.bs_flat_nets.specs.Blocks.{design_of, own_of}
 use Rattle.bs_flat_nets.specs.Climbing.{node_at, joins_of_node, path_in}
-use Rattle.bs_flat_nets.specs.declared.blocks.Block.{Block}
-use Rattle.bs_number.specs.Numbering.{net_at, no_net}
-use Rattle.bs_number.specs.declared.numbers.Numbering.{Numbering}
+use Rattle.bs_flat_nets.specs.declared.blocks.FlatModule.{FlatModule}
+use Rattle.bs_flat_nets.specs.Numbering.{net_at, no_net, no_place}
+use Rattle.bs_flat_nets.specs.declared.numbers.Numbering.{Numbering}
 use Rattle.bs_flat_elaborate.specs.Laid.{IsLaid}
-use Rattle.bs_flat_elaborate.specs.Parts.{gates_on, flops_on, consts_on, is_root_at, is_itself, no_place}
-use Rattle.bs_flat_elaborate.proofs.TextLemmas.{first_path}
+use Rattle.bs_flat_elaborate.specs.Parts.{gates_on, flops_on, consts_on, is_root_at, is_itself}
+use Rattle.bs_flat_nets.proofs.ClimbLemmas.{first_path}
 use Rattle.bs_flat_elaborate.proofs.KeyLemmas.{own_is}
 
 -- ---- one path after another
@@ -35,10 +35,6 @@ use Rattle.bs_flat_elaborate.proofs.KeyLemmas.{own_is}
 map_flat : {X Y Z : Type 0} (g : Y → Z) (f : X → List Y) (xs : List X) → map g (flat_map f xs) ≡ flat_map (λ x. map g (f x)) xs
 map_flat g f [] = refl
 map_flat g f (x ∷ xs) = map-append g (f x) (flat_map f xs) ∙ ap (λ u. map g (f x) ++ u) (map_flat g f xs)
-
-flat_same : {X Y : Type 0} (f g : X → List Y) (xs : List X) → ((x : X) → f x ≡ g x) → flat_map f xs ≡ flat_map g xs
-flat_same f g [] h = refl
-flat_same f g (x ∷ xs) h = ap (λ u. u ++ flat_map f xs) (h x) ∙ ap (λ u. g x ++ u) (flat_same f g xs h)
 
 -- what each path gives is what all that stands on paths gives
 each_all : {A B : Type 0} (d : Design) (f : Path → List A) (g : At A → B) → flat_map (λ p. map (λ a. g (on p a)) (f p)) (paths d) ≡ map g (on_each d f)
@@ -80,7 +76,7 @@ consts_are d =
     ∙ (sym (flat_flat one (λ p. map (on p) (own d p).consts) (paths d)) ∙ kept_are (is_repeat d) (flat_const d) (constants d))
 
 -- all nodes are gone over
-pub all_paths : {B : Type 0} (blocks : List Block) (nodes : List Node) (top k count : ℕ) (f : Path → List B) (all : List B) →
+pub all_paths : {B : Type 0} (blocks : List FlatModule) (nodes : List Node) (top k count : ℕ) (f : Path → List B) (all : List B) →
     ArePaths (design_of blocks top) nodes (paths (design_of blocks top)) → count ≡ length nodes → count ≤ k →
     all ≡ flat_map f (take k (paths (design_of blocks top))) → all ≡ flat_map f (paths (design_of blocks top))
 all_paths blocks nodes top k count f all a e ge h =
@@ -88,7 +84,7 @@ all_paths blocks nodes top k count f all a e ge h =
 
 -- ---- a repeat of a constant
 
-joins_are : (blocks : List Block) (nodes : List Node) (top k : ℕ) → ArePaths (design_of blocks top) nodes (paths (design_of blocks top)) →
+joins_are : (blocks : List FlatModule) (nodes : List Node) (top k : ℕ) → ArePaths (design_of blocks top) nodes (paths (design_of blocks top)) →
     k < length nodes → joins_at (design_of blocks top) (path_in (design_of blocks top) k) ≡ cond (nat_eq k 0) [] (joins_of_node blocks nodes k)
 joins_are blocks nodes top zero a lt = ap (joins_at (design_of blocks top)) (first_path (design_of blocks top))
 joins_are blocks nodes top (suc k) a lt =
@@ -123,7 +119,7 @@ same_path d i j li lj = by (bytes_eq (path_in d i) (path_in d j)) refl (nat_eq i
         absurd (false≢true (sym e ∙ (bytes_decides (path_in d i) (path_in d j)).1 same))
 
 -- whether a net is the flat net that stands for it
-itself_is : (blocks : List Block) (nodes : List Node) (top : ℕ) (n : Numbering) (node net number : ℕ) → IsLaid blocks nodes top n → node < length nodes →
+itself_is : (blocks : List FlatModule) (nodes : List Node) (top : ℕ) (n : Numbering) (node net number : ℕ) → IsLaid blocks nodes top n → node < length nodes →
     net < length (own (design_of blocks top) (path_in (design_of blocks top) node)).names →
     number ≡ flat_number (design_of blocks top) (on (path_in (design_of blocks top) node) net) →
     is_itself n number node net
@@ -146,7 +142,7 @@ itself_is blocks nodes top n node net number h lt inside e =
     ap (λ (b : Bool). b && nat_eq p.net net) (sym (same_path d p.node node placed here)) ∙ ap (λ (s : PathNet). is_same s a) at
 
 -- whether a constant is a repeat
-pub repeat_is : (blocks : List Block) (nodes : List Node) (top : ℕ) (n : Numbering) (node : ℕ) (b : Block) (k : Const) (number : ℕ) →
+pub repeat_is : (blocks : List FlatModule) (nodes : List Node) (top : ℕ) (n : Numbering) (node : ℕ) (b : FlatModule) (k : Const) (number : ℕ) →
     IsLaid blocks nodes top n → node < length nodes → b ≡ get_or blocks (node_at nodes node).of b → k.net.0 < length b.names →
     number ≡ flat_number (design_of blocks top) (on (path_in (design_of blocks top) node) k.net.0) →
     (is_root_at blocks nodes node k.net.0

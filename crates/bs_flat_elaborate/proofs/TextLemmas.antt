@@ -7,17 +7,9 @@ use Rattle.bs_flat_meaning.specs.Design.{Design, Module, Path, instance_in, modu
 use Rattle.bs_flat_meaning.specs.Flat.{path_text}
 use Rattle.bs_flat_nets.specs.Blocks.{design_of}
 use Rattle.bs_flat_nets.specs.Climbing.{node_at, path_in}
-use Rattle.bs_flat_nets.specs.declared.blocks.Block.{Block}
+use Rattle.bs_flat_nets.specs.declared.blocks.FlatModule.{FlatModule}
 use Rattle.bs_flat_elaborate.specs.Keys.{name_of_node, IsPathText}
-
-first_from : (n : ℕ) (d : Design) (p : Path) → get_or (paths_from (n + 1) d p) 0 [] ≡ p
-unfolding paths_from
-first_from n d p = rw add-one refl
-
--- the first path is the top's
-pub first_path : (d : Design) → path_in d 0 ≡ []
-unfolding paths
-first_path d = first_from MAX_DEPTH d []
+use Rattle.bs_flat_nets.proofs.ClimbLemmas.{first_path}
 
 text_of_top : (d : Design) → path_text d [] ≡ []
 unfolding path_text
@@ -28,7 +20,7 @@ unfolding path_text
 text_below d i p = refl
 
 -- the top's path has no text
-pub text_top : (blocks : List Block) (nodes : List Node) (at : ℕ) (text : List ℕ) → at ≡ 0 → text ≡ [] → IsPathText blocks nodes at text
+pub text_top : (blocks : List FlatModule) (nodes : List Node) (at : ℕ) (text : List ℕ) → at ≡ 0 → text ≡ [] → IsPathText blocks nodes at text
 text_top blocks nodes at text e none =
     record {
       is =
@@ -38,7 +30,7 @@ text_top blocks nodes at text e none =
     }
 
 -- a path's text has that of its parent before the last name
-pub text_more : (blocks : List Block) (nodes : List Node) (at : ℕ) (before after : List ℕ) → 0 < at → at < length nodes →
+pub text_more : (blocks : List FlatModule) (nodes : List Node) (at : ℕ) (before after : List ℕ) → 0 < at → at < length nodes →
     IsPathText blocks nodes (node_at nodes at).parent before → after ≡ before ++ (name_of_node blocks nodes at ++ codes ".") →
     IsPathText blocks nodes at after
 text_more blocks nodes at before after pos lt b e =

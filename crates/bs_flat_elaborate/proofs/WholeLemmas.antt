@@ -23,7 +23,7 @@ use Rattle.bs_flat_meaning.proofs.RootLemmas.{Valid, module_at_is, top_is_path, 
 use Rattle.bs_flat_meaning.proofs.HomeLemmas.{number_within}
 use Rattle.bs_flat_meaning.proofs.DriverLemmas.{IsModeValid, input_valid, flop_valid, const_valid, gate_valid}
 use Rattle.bs_flat_nets.specs.Blocks.{design_of, module_of}
-use Rattle.bs_flat_nets.specs.declared.blocks.Block.{Block}
+use Rattle.bs_flat_nets.specs.declared.blocks.FlatModule.{FlatModule}
 use Rattle.bs_flat_elaborate.specs.Naming.{keys_of}
 use Rattle.bs_flat_elaborate.specs.Whole.{IsGateNamed, AreNamed}
 
@@ -41,7 +41,7 @@ nodes_there d nodes a = let some = member_longer (paths d) [] (top_is_path d) in
 abbrev Takes : Gate → Type 0
 Takes g = IsTrue (takes g.kind (length g.ins))
 
-takes_in : (blocks : List Block) (top n : ℕ) → All (λ (b : Block). All Takes b.gates) blocks → All Takes (module_in (design_of blocks top) n).own.gates
+takes_in : (blocks : List FlatModule) (top n : ℕ) → All (λ (b : FlatModule). All Takes b.gates) blocks → All Takes (module_in (design_of blocks top) n).own.gates
 takes_in blocks top n h =
     ⊎_elim
     (λ (lt : n < length blocks). there blocks n h lt)
@@ -51,16 +51,16 @@ takes_in blocks top n h =
     (All-nil Takes))
     (cases_lt n (length blocks))
   where
-    some : (bs : List Block) (k : ℕ) → k < length bs → Block
+    some : (bs : List FlatModule) (k : ℕ) → k < length bs → FlatModule
     some [] k lt = absurd (omega (arith, lt))
     some (b ∷ bs) k lt = b
 
-    there : (bs : List Block) (k : ℕ) → All (λ (b : Block). All Takes b.gates) bs → k < length bs → All Takes (get_or (map module_of bs) k no_module).own.gates
+    there : (bs : List FlatModule) (k : ℕ) → All (λ (b : FlatModule). All Takes b.gates) bs → k < length bs → All Takes (get_or (map module_of bs) k no_module).own.gates
     there bs k a lt =
         let b = some bs k lt in
         subst (λ (m : Module). All Takes m.own.gates) (sym (get_or-map module_of bs k b no_module lt)) (a k b lt)
 
-takes_at : (blocks : List Block) (top : ℕ) (p : Path) → All (λ (b : Block). All Takes b.gates) blocks → All Takes (own (design_of blocks top) p).gates
+takes_at : (blocks : List FlatModule) (top : ℕ) (p : Path) → All (λ (b : FlatModule). All Takes b.gates) blocks → All Takes (own (design_of blocks top) p).gates
 unfolding module_at
 takes_at blocks top [] h = takes_in blocks top top h
 takes_at blocks top (i ∷ p) h = takes_in blocks top (instance_in (module_at (design_of blocks top) p) i).of h
@@ -144,7 +144,7 @@ module _ (d : Design) (h : IsDesign d) where
       }
 
 -- the flat parts of a design of blocks
-pub flat_named : (blocks : List Block) (top : ℕ) → IsDesign (design_of blocks top) → All (λ (b : Block). All Takes b.gates) blocks →
+pub flat_named : (blocks : List FlatModule) (top : ℕ) → IsDesign (design_of blocks top) → All (λ (b : FlatModule). All Takes b.gates) blocks →
     length (keys_of (design_of blocks top)) ≤ MAX_NETS → AreNamed (flat_parts (design_of blocks top))
 flat_named blocks top h takes_all few = named_all (design_of blocks top) h (λ p. takes_at blocks top p takes_all) few
 

@@ -9,18 +9,18 @@ use Rattle.bs_flat_meaning.specs.declared.paths.Node.{Node}
 use Rattle.bs_flat_nets.specs.Blocks.{design_of, module_of}
 use Rattle.bs_flat_nets.specs.Climbing.{node_at, path_in}
 use Rattle.bs_flat_nets.specs.Order.{module_in}
-use Rattle.bs_flat_nets.specs.declared.blocks.Block.{Block}
-use Rattle.bs_flat_nets.specs.declared.climbing.Place.{Place}
+use Rattle.bs_flat_nets.specs.declared.blocks.FlatModule.{FlatModule}
+use Rattle.bs_flat_nets.specs.declared.climbing.NetOnPath.{NetOnPath}
 use Rattle.bs_flat_nets.specs.declared.constants.Bit.{Bit}
-use Rattle.bs_number.specs.Numbering.{net_at}
+use Rattle.bs_flat_nets.specs.Numbering.{net_at}
 
 -- the name of the instance at the end of a node's path
-abbrev pub name_of_node : List Block → List Node → ℕ → List ℕ
+abbrev pub name_of_node : List FlatModule → List Node → ℕ → List ℕ
 name_of_node blocks nodes k =
     (instance_in (module_in (map module_of blocks) (node_at nodes (node_at nodes k).parent).of) (node_at nodes k).instance).name
 
 -- a text is that of a node's path
-pub record IsPathText (blocks : List Block) (nodes : List Node) (at : ℕ) (text : List ℕ) : Type 0 where
+pub record IsPathText (blocks : List FlatModule) (nodes : List Node) (at : ℕ) (text : List ℕ) : Type 0 where
   pub is :
       (top : ℕ) → ArePaths (design_of blocks top) nodes (paths (design_of blocks top))
       → text ≡ path_text (design_of blocks top) (path_in (design_of blocks top) at)
@@ -36,5 +36,5 @@ key_on text parts known at_top n =
     if at_top || has_net known n then key else key_below text key
 
 -- the key of a flat net
-abbrev pub key_at : Design → Place → List ℕ
-key_at d p = flat_key d (net_at d p)
+abbrev pub key_of_place : Design → NetOnPath → List ℕ
+key_of_place d p = flat_key d (net_at d p)

@@ -9,7 +9,7 @@ use Rattle.bs_flat_meaning.specs.Flat.{flat_nets, flat_key}
 use Rattle.bs_flat_meaning.specs.Reading.{clash_in}
 use Rattle.bs_flat_meaning.specs.declared.limits.TheConstants.{MAX_KEY_BYTES}
 use Rattle.bs_flat_meaning.specs.declared.paths.Node.{Node}
-use Rattle.bs_flat_nets.specs.declared.blocks.Block.{Block}
+use Rattle.bs_flat_nets.specs.declared.blocks.FlatModule.{FlatModule}
 use Rattle.bs_flat_elaborate.specs.Keys.{IsPathText}
 use Rattle.bs_flat_elaborate.specs.declared.labels.Label.{Label}
 use Rattle.bs_flat_elaborate.specs.declared.naming.Made.{Made}
@@ -21,7 +21,7 @@ abbrev pub keys_of : Design → List (List ℕ)
 keys_of d = map (flat_key d) (flat_nets d)
 
 -- a label has the text of its node's path
-pub record IsLabel (blocks : List Block) (nodes : List Node) (l : Label) : Type 0 where
+pub record IsLabel (blocks : List FlatModule) (nodes : List Node) (l : Label) : Type 0 where
   pub text : IsPathText blocks nodes l.node (string_bytes l.text)
 
 -- how many bytes keys have

@@ -9,9 +9,9 @@ use Rattle.bs_flat_meaning.specs.Meaning.{joined_with}
 use Rattle.bs_flat_meaning.specs.Flat.{flat_gate, flat_flop, flat_const, is_repeat}
 use Rattle.bs_flat_meaning.specs.declared.paths.Node.{Node}
 use Rattle.bs_flat_nets.specs.Climbing.{joins_of_node}
-use Rattle.bs_flat_nets.specs.declared.blocks.Block.{Block}
-use Rattle.bs_flat_nets.specs.declared.climbing.Place.{Place}
-use Rattle.bs_number.specs.declared.numbers.Numbering.{Numbering}
+use Rattle.bs_flat_nets.specs.declared.blocks.FlatModule.{FlatModule}
+use Rattle.bs_flat_nets.specs.Numbering.{no_place}
+use Rattle.bs_flat_nets.specs.declared.numbers.Numbering.{Numbering}
 
 -- the flat gate of a gate on a path, and those of a path
 abbrev pub gate_on : Design → Path → Gate → Gate
@@ -35,11 +35,8 @@ abbrev pub consts_on : Design → Path → List Const
 consts_on d p = flat_map (const_on d p) (own d p).consts
 
 -- whether a net on a node's path is joined with none of the parent
-abbrev pub is_root_at : List Block → List Node → ℕ → ℕ → Bool
+abbrev pub is_root_at : List FlatModule → List Node → ℕ → ℕ → Bool
 is_root_at blocks nodes node net = is_none (joined_with (if node == 0 then [] else joins_of_node blocks nodes node) net)
-
-abbrev pub no_place : Place
-no_place = record { node = 0; net = 0 }
 
 -- whether a flat net is a net on a node's path itself
 abbrev pub is_itself : Numbering → ℕ → ℕ → ℕ → Bool

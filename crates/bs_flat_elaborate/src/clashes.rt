@@ -13,9 +13,8 @@ use crate::labels::{first_label, next_key};
 use crate::naming::has_key;
 use bs_bits::{List, NoMemory};
 use bs_flat_meaning::Node;
-use bs_flat_nets::Block;
+use bs_flat_nets::{FlatModule, Numbering};
 use bs_net::{MAX_NETS, Names};
-use bs_number::Numbering;
 use std::alloc::Global;
 
 /// The bytes of a text.
@@ -37,7 +36,7 @@ fn noted(first: Option<usize>, at: usize, again: bool) -> Option<usize>
 /// The key of the flat net with this number.
 fn key_of(
     alloc: Global,
-    blocks: &[Block],
+    blocks: &[FlatModule],
     nodes: &[Node],
     top: u32,
     numbering: &Numbering,
@@ -58,7 +57,7 @@ fn key_of(
 /// not met where a key was met again.
 pub fn first_clash(
     alloc: Global,
-    blocks: &[Block],
+    blocks: &[FlatModule],
     nodes: &[Node],
     top: u32,
     numbering: &Numbering,

@@ -14,9 +14,8 @@ use crate::limits::MAX_TERMS;
 use crate::nets::{block_of, net_of, node_count};
 use bs_bits::{List, NoMemory};
 use bs_flat_meaning::Node;
-use bs_flat_nets::{Block, Run, outer_of};
+use bs_flat_nets::{FlatModule, JoinedNets, Numbering, outer_of};
 use bs_net::{Const, NetId};
-use bs_number::Numbering;
 use bs_verilog_scope::constant_key;
 use std::alloc::Global;
 
@@ -29,7 +28,7 @@ fn is_named_so(names: &[String], constant: Const) -> bool
 }
 
 /// The runs of the instance at the end of a node's path.
-fn runs_of<'a>(blocks: &'a [Block], nodes: &[Node], at: u32) -> &'a [Run]
+fn runs_of<'a>(blocks: &'a [FlatModule], nodes: &[Node], at: u32) -> &'a [JoinedNets]
     requires nodes { AreClimbable blocks.now nodes.now }
     requires there { at < length nodes.now }
     requires below { 0 < at }
@@ -45,7 +44,7 @@ fn runs_of<'a>(blocks: &'a [Block], nodes: &[Node], at: u32) -> &'a [Run]
 }
 
 /// Whether a net on a node's path is joined with none of the parent.
-fn is_root(blocks: &[Block], nodes: &[Node], node: u32, net: NetId) -> bool
+fn is_root(blocks: &[FlatModule], nodes: &[Node], node: u32, net: NetId) -> bool
     requires nodes { AreClimbable blocks.now nodes.now }
     requires there { node < length nodes.now }
     ensures { result ≡ spec.is_root_at blocks.now nodes.now node net.0 }
@@ -67,7 +66,7 @@ fn is_itself(numbering: &Numbering, number: NetId, node: u32, net: NetId) -> boo
 
 /// Whether a constant on a node's path stands elsewhere before.
 fn is_repeat(
-    blocks: &[Block],
+    blocks: &[FlatModule],
     nodes: &[Node],
     numbering: &Numbering,
     node: u32,
@@ -105,7 +104,7 @@ fn push_first(all: &mut List<Const>, constant: Const, repeat: bool) -> Result<()
 /// Adds the flat constant of one on a node's path, if that is no repeat. A net that the block has not is want of memory, and
 /// no design has one.
 fn add_const(
-    blocks: &[Block],
+    blocks: &[FlatModule],
     nodes: &[Node],
     top: u32,
     numbering: &Numbering,
@@ -133,7 +132,7 @@ fn add_const(
 
 /// Adds the flat constants of those on a node's path. More than `MAX_TERMS` of all are want of memory.
 fn add_consts(
-    blocks: &[Block],
+    blocks: &[FlatModule],
     nodes: &[Node],
     top: u32,
     numbering: &Numbering,
@@ -157,7 +156,7 @@ fn add_consts(
 /// The flat constants of a design.
 pub fn flat_consts(
     alloc: Global,
-    blocks: &[Block],
+    blocks: &[FlatModule],
     nodes: &[Node],
     top: u32,
     numbering: &Numbering,

@@ -17,9 +17,8 @@ use crate::naming::{Named, name_nets};
 use crate::sizes::check_sizes;
 use bs_bits::{List, NoMemory};
 use bs_flat_meaning::{FlatFault, Node};
-use bs_flat_nets::{Block, path_nodes};
+use bs_flat_nets::{FlatModule, Numbering, number_nets, path_nodes};
 use bs_net::{Names, Raw};
-use bs_number::{Numbering, number_nets};
 use std::alloc::Global;
 
 /// The nodes of a design's paths, the numbering of its flat nets, and their names.
@@ -31,7 +30,7 @@ pub struct Laid {
 }
 
 /// Lays a design out.
-fn lay(alloc: Global, blocks: &[Block], top: u32) -> Result<Laid, NoMemory>
+fn lay(alloc: Global, blocks: &[FlatModule], top: u32) -> Result<Laid, NoMemory>
     requires top { top < length blocks.now }
     requires there { AreThere blocks.now }
     requires design { IsDesign (design_of blocks.now top) }
@@ -50,7 +49,7 @@ fn lay(alloc: Global, blocks: &[Block], top: u32) -> Result<Laid, NoMemory>
 /// The flat parts of a small design whose keys are the names of its flat nets.
 fn whole(
     alloc: Global,
-    blocks: &[Block],
+    blocks: &[FlatModule],
     nodes: &[Node],
     top: u32,
     numbering: &Numbering,
@@ -71,7 +70,7 @@ fn whole(
 /// The flat netlist of a small design, by its names.
 fn named_parts(
     alloc: Global,
-    blocks: &[Block],
+    blocks: &[FlatModule],
     nodes: &[Node],
     top: u32,
     numbering: &Numbering,
@@ -91,7 +90,7 @@ fn named_parts(
 }
 
 /// The same, by what is laid out.
-fn parts(alloc: Global, blocks: &[Block], top: u32, laid: Laid) -> Result<Raw, FlatFault>
+fn parts(alloc: Global, blocks: &[FlatModule], top: u32, laid: Laid) -> Result<Raw, FlatFault>
     requires laid { spec.IsMadeOf blocks.now top laid }
     requires takes { All (λ b. All (λ g. IsTrue (takes g.kind (length g.ins))) b.gates) blocks.now }
     requires small { spec.IsSmall (design_of blocks.now top) }
@@ -108,7 +107,12 @@ fn parts(alloc: Global, blocks: &[Block], top: u32, laid: Laid) -> Result<Raw, F
 
 /// The flat parts of a design of blocks, whose top has this number, with an order of its blocks in which each stands after those
 /// that it instances: or the first limit that it passes, or the first key that stands again later.
-pub fn elaborate(alloc: Global, blocks: &[Block], order: &[u32], top: u32) -> Result<Raw, FlatFault>
+pub fn elaborate(
+    alloc: Global,
+    blocks: &[FlatModule],
+    order: &[u32],
+    top: u32,
+) -> Result<Raw, FlatFault>
     requires order { IsChildrenFirst (map module_of blocks.now) order.now }
     requires top { top < length blocks.now }
     requires there { AreThere blocks.now }

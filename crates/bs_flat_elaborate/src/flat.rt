@@ -14,9 +14,8 @@ use crate::gates::flat_gates;
 use crate::ports::{flat_inputs, flat_outputs};
 use bs_bits::{List, NoMemory};
 use bs_flat_meaning::Node;
-use bs_flat_nets::Block;
+use bs_flat_nets::{FlatModule, Numbering};
 use bs_net::{Const, Flop, Gate, MAX_NETS, Names, NetId, Raw};
-use bs_number::Numbering;
 use std::alloc::Global;
 
 /// A list of 2^32 members and more is want of memory.
@@ -71,7 +70,7 @@ fn raw_of(
 /// The flat parts of a design whose flat nets have these names.
 pub fn flat(
     alloc: Global,
-    blocks: &[Block],
+    blocks: &[FlatModule],
     nodes: &[Node],
     top: u32,
     numbering: &Numbering,

@@ -10,14 +10,13 @@ ghost use Rattle.bs_flat_elaborate.specs.Parts as spec;
 use crate::nets::{block_of, net_of, node_count};
 use bs_bits::{List, NoMemory};
 use bs_flat_meaning::Node;
-use bs_flat_nets::Block;
+use bs_flat_nets::{FlatModule, Numbering};
 use bs_net::{Flop, Mode};
-use bs_number::Numbering;
 use std::alloc::Global;
 
 /// What the flat flip-flop of one on a node's path loads.
 fn flat_mode(
-    blocks: &[Block],
+    blocks: &[FlatModule],
     nodes: &[Node],
     top: u32,
     numbering: &Numbering,
@@ -43,7 +42,7 @@ fn flat_mode(
 
 /// The flat flip-flop of one on a node's path.
 fn flat_flop(
-    blocks: &[Block],
+    blocks: &[FlatModule],
     nodes: &[Node],
     top: u32,
     numbering: &Numbering,
@@ -69,7 +68,7 @@ fn flat_flop(
 
 /// Adds the flat flip-flops of those on a node's path.
 fn add_flops(
-    blocks: &[Block],
+    blocks: &[FlatModule],
     nodes: &[Node],
     top: u32,
     numbering: &Numbering,
@@ -91,7 +90,7 @@ fn add_flops(
 /// The flat flip-flops of a design.
 pub fn flat_flops(
     alloc: Global,
-    blocks: &[Block],
+    blocks: &[FlatModule],
     nodes: &[Node],
     top: u32,
     numbering: &Numbering,

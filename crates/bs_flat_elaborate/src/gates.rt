@@ -11,9 +11,8 @@ use crate::limits::MAX_TERMS;
 use crate::nets::{block_of, net_of, node_count, terms_of};
 use bs_bits::{List, NoMemory};
 use bs_flat_meaning::Node;
-use bs_flat_nets::Block;
+use bs_flat_nets::{FlatModule, Numbering};
 use bs_net::Gate;
-use bs_number::Numbering;
 use std::alloc::Global;
 
 /// Takes inputs from those that may still be made.
@@ -29,7 +28,7 @@ fn spend(left: usize, inputs: usize) -> Result<usize, NoMemory>
 /// The flat gate of a gate on a node's path.
 fn flat_gate(
     alloc: Global,
-    blocks: &[Block],
+    blocks: &[FlatModule],
     nodes: &[Node],
     top: u32,
     numbering: &Numbering,
@@ -52,7 +51,7 @@ fn flat_gate(
 /// Adds the flat gates of the gates on a node's path, which may have so many inputs; tells how many more others may have.
 fn add_gates(
     alloc: Global,
-    blocks: &[Block],
+    blocks: &[FlatModule],
     nodes: &[Node],
     top: u32,
     numbering: &Numbering,
@@ -77,7 +76,7 @@ fn add_gates(
 /// The flat gates of a design. More than `MAX_TERMS` inputs of all are want of memory.
 pub fn flat_gates(
     alloc: Global,
-    blocks: &[Block],
+    blocks: &[FlatModule],
     nodes: &[Node],
     top: u32,
     numbering: &Numbering,

@@ -8,7 +8,7 @@ ghost use Rattle.bs_flat_elaborate.specs.Keys as spec;
 
 use bs_bits::NoMemory;
 use bs_flat_meaning::Node;
-use bs_flat_nets::{Bit, Block};
+use bs_flat_nets::{Bit, FlatModule};
 use std::alloc::Global;
 
 /// A key without a `\` with a path's text before its name.
@@ -33,7 +33,7 @@ fn key_below(alloc: Global, path: &str, key: &str) -> Result<String, NoMemory>
 }
 
 /// The name of the instance at the end of a node's path.
-fn name_of<'a>(blocks: &'a [Block], nodes: &[Node], at: u32) -> &'a str
+fn name_of<'a>(blocks: &'a [FlatModule], nodes: &[Node], at: u32) -> &'a str
     requires nodes { AreClimbable blocks.now nodes.now }
     requires there { at < length nodes.now }
     requires below { 0 < at }
@@ -61,7 +61,7 @@ fn longer(text: String, name: &str) -> Result<String, NoMemory>
 /// The names of the instances on a node's path from the top on, each with a `.` behind it.
 pub fn path_text(
     alloc: Global,
-    blocks: &[Block],
+    blocks: &[FlatModule],
     nodes: &[Node],
     at: u32,
 ) -> Result<String, NoMemory>
@@ -95,7 +95,7 @@ fn copy(alloc: Global, key: &str) -> Result<String, NoMemory>
 pub fn key_on(
     alloc: Global,
     text: &str,
-    block: &Block,
+    block: &FlatModule,
     known: &[Bit],
     at_top: bool,
     net: usize,

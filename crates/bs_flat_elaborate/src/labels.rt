@@ -9,8 +9,7 @@ ghost use Rattle.bs_flat_elaborate.specs.Naming.{IsLabel};
 use crate::keys::{key_on, path_text};
 use bs_bits::NoMemory;
 use bs_flat_meaning::Node;
-use bs_flat_nets::{Block, Place};
-use bs_number::Numbering;
+use bs_flat_nets::{FlatModule, NetOnPath, Numbering};
 use std::alloc::Global;
 
 /// A node, and the text of its path.
@@ -21,7 +20,7 @@ pub struct Label {
 }
 
 /// The top's label.
-pub fn first_label(alloc: Global, blocks: &[Block], nodes: &[Node]) -> Label
+pub fn first_label(alloc: Global, blocks: &[FlatModule], nodes: &[Node]) -> Label
     ensures { IsLabel blocks.now nodes.now result }
 {
     Label {
@@ -33,7 +32,7 @@ pub fn first_label(alloc: Global, blocks: &[Block], nodes: &[Node]) -> Label
 /// Makes a label that of a node.
 fn renew(
     alloc: Global,
-    blocks: &[Block],
+    blocks: &[FlatModule],
     nodes: &[Node],
     label: &mut Label,
     node: u32,
@@ -56,17 +55,17 @@ fn renew(
 /// The key of a flat net. A net that is not there is want of memory, and no numbering has one.
 pub fn next_key(
     alloc: Global,
-    blocks: &[Block],
+    blocks: &[FlatModule],
     nodes: &[Node],
     top: u32,
     numbering: &Numbering,
     label: &mut Label,
-    place: Place,
+    place: NetOnPath,
 ) -> Result<String, NoMemory>
     requires laid { IsLaid blocks.now nodes.now top numbering.now }
     requires there { place.node < length nodes.now }
     requires label { IsLabel blocks.now nodes.now label.old }
-    ensures is { IfOk result (λ key. string_bytes key ≡ keys.key_at (design_of blocks.now top) place) }
+    ensures is { IfOk result (λ key. string_bytes key ≡ keys.key_of_place (design_of blocks.now top) place) }
     ensures label { OnOk result (IsLabel blocks.now nodes.now label.new) }
 {
     renew(alloc, blocks, nodes, label, place.node)?;

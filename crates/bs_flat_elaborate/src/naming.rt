@@ -11,9 +11,8 @@ use crate::clashes::first_clash;
 use crate::labels::{first_label, next_key};
 use bs_bits::{List, NoMemory};
 use bs_flat_meaning::{MAX_KEY_BYTES, Node};
-use bs_flat_nets::Block;
+use bs_flat_nets::{FlatModule, Numbering};
 use bs_net::{MAX_NETS, Names};
-use bs_number::Numbering;
 use std::alloc::Global;
 
 /// What the keys so far have made: the names, the sum of their lengths, and whether one was met again.
@@ -77,7 +76,7 @@ fn nothing(alloc: Global) -> Made
 /// The names of the flat nets of a design, each made of its net's key.
 pub fn name_nets(
     alloc: Global,
-    blocks: &[Block],
+    blocks: &[FlatModule],
     nodes: &[Node],
     top: u32,
     numbering: &Numbering,

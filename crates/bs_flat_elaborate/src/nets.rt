@@ -7,14 +7,13 @@ ghost use Rattle.bs_flat_elaborate.specs.Laid.{IsLaid};
 
 use bs_bits::{List, NoMemory};
 use bs_flat_meaning::Node;
-use bs_flat_nets::Block;
+use bs_flat_nets::{FlatModule, Numbering, flat_net};
 use bs_net::{NetId, Terms};
-use bs_number::{Numbering, flat_net};
 use std::alloc::Global;
 
 /// The number of the flat net that stands for a net on a node's path. That none does is want of memory, and is never met.
 pub fn net_of(
-    blocks: &[Block],
+    blocks: &[FlatModule],
     nodes: &[Node],
     top: u32,
     numbering: &Numbering,
@@ -35,7 +34,7 @@ pub fn net_of(
 /// The same of some nets, in order.
 pub fn nets_of(
     alloc: Global,
-    blocks: &[Block],
+    blocks: &[FlatModule],
     nodes: &[Node],
     top: u32,
     numbering: &Numbering,
@@ -57,7 +56,7 @@ pub fn nets_of(
 /// The same of a gate's inputs.
 pub fn terms_of(
     alloc: Global,
-    blocks: &[Block],
+    blocks: &[FlatModule],
     nodes: &[Node],
     top: u32,
     numbering: &Numbering,
@@ -88,7 +87,7 @@ pub fn node_count(nodes: &[Node]) -> Result<u32, NoMemory>
 }
 
 /// The block of a node.
-pub fn block_of<'a>(blocks: &'a [Block], nodes: &[Node], node: u32) -> &'a Block
+pub fn block_of<'a>(blocks: &'a [FlatModule], nodes: &[Node], node: u32) -> &'a FlatModule
     requires there { node < length nodes.now }
     requires block { (node_at nodes.now node).of < length blocks.now }
     ensures { result.now ≡ slice_index_or blocks.now (node_at nodes.now node).of result.now }

@@ -8,15 +8,14 @@ ghost use Rattle.bs_flat_elaborate.specs.Laid.{IsLaid};
 use crate::nets::nets_of;
 use bs_bits::{List, NoMemory};
 use bs_flat_meaning::Node;
-use bs_flat_nets::Block;
+use bs_flat_nets::{FlatModule, Numbering};
 use bs_net::NetId;
-use bs_number::Numbering;
 use std::alloc::Global;
 
 /// The flat nets of the top's inputs.
 pub fn flat_inputs(
     alloc: Global,
-    blocks: &[Block],
+    blocks: &[FlatModule],
     nodes: &[Node],
     top: u32,
     numbering: &Numbering,
@@ -40,7 +39,7 @@ pub fn flat_inputs(
 /// The flat nets of the top's outputs.
 pub fn flat_outputs(
     alloc: Global,
-    blocks: &[Block],
+    blocks: &[FlatModule],
     nodes: &[Node],
     top: u32,
     numbering: &Numbering,

@@ -10,11 +10,16 @@ ghost use Rattle.bs_flat_nets.specs.Order.{IsChildrenFirst};
 ghost use Rattle.bs_flat_elaborate.specs.Whole as spec;
 
 use bs_flat_meaning::FlatFault;
-use bs_flat_nets::{Block, has_many_nets, has_many_parts, is_deep};
+use bs_flat_nets::{FlatModule, has_many_nets, has_many_parts, is_deep};
 use std::alloc::Global;
 
 /// No path has more than `MAX_DEPTH` instance names.
-fn check_depth(alloc: Global, blocks: &[Block], order: &[u32], top: u32) -> Result<(), FlatFault>
+fn check_depth(
+    alloc: Global,
+    blocks: &[FlatModule],
+    order: &[u32],
+    top: u32,
+) -> Result<(), FlatFault>
     requires order { IsChildrenFirst (map module_of blocks.now) order.now }
     requires top { top < length blocks.now }
     ensures { MatchResult result (λ _. reading.is_deep (design_of blocks.now top) ≡ false)
@@ -28,7 +33,12 @@ fn check_depth(alloc: Global, blocks: &[Block], order: &[u32], top: u32) -> Resu
 }
 
 /// There are at most `MAX_PARTS` gates, flip-flops and instances.
-fn check_parts(alloc: Global, blocks: &[Block], order: &[u32], top: u32) -> Result<(), FlatFault>
+fn check_parts(
+    alloc: Global,
+    blocks: &[FlatModule],
+    order: &[u32],
+    top: u32,
+) -> Result<(), FlatFault>
     requires order { IsChildrenFirst (map module_of blocks.now) order.now }
     requires top { top < length blocks.now }
     requires shallow { reading.is_deep (design_of blocks.now top) ≡ false }
@@ -44,7 +54,12 @@ fn check_parts(alloc: Global, blocks: &[Block], order: &[u32], top: u32) -> Resu
 }
 
 /// There are at most `MAX_NETS` flat nets.
-fn check_nets(alloc: Global, blocks: &[Block], order: &[u32], top: u32) -> Result<(), FlatFault>
+fn check_nets(
+    alloc: Global,
+    blocks: &[FlatModule],
+    order: &[u32],
+    top: u32,
+) -> Result<(), FlatFault>
     requires order { IsChildrenFirst (map module_of blocks.now) order.now }
     requires top { top < length blocks.now }
     requires shallow { reading.is_deep (design_of blocks.now top) ≡ false }
@@ -63,7 +78,7 @@ fn check_nets(alloc: Global, blocks: &[Block], order: &[u32], top: u32) -> Resul
 /// The first of these limits that a design passes.
 pub fn check_sizes(
     alloc: Global,
-    blocks: &[Block],
+    blocks: &[FlatModule],
     order: &[u32],
     top: u32,
 ) -> Result<(), FlatFault>

@@ -1,5 +1,5 @@
 -- Worked texts.
-use Rattle.std.proofs.Common.{◌≡◌, ℕ, List, [], ◌∷◌, ◌++◌, Ok, Err, false, true, refl, length, Result, codes}
+use Rattle.std.proofs.Common.{◌≡◌, arith, ℕ, List, [], ◌∷◌, ◌++◌, Ok, Err, false, true, refl, length, Result, codes}
 use Rattle.std.specs.Prelude.{if◌then◌else◌, nat_lt, ⊤}
 use Rattle.std.specs.Fmt.{digits}
 use Rattle.std.specs.List.{IsDistinct}
@@ -194,7 +194,7 @@ read_or_none (Err e) = []
 -- modules 0 and 1 are a ring
 a_ring : IsRing (pieces_in (as_verilog (tokenised ring_text)) ring_text) (read_or_none (modules_in (as_verilog (tokenised ring_text)) ring_text)) (0 ∷ 1 ∷ [])
 unfolding reading_a_design IsDistinct
-a_ring = (((refl, tt), (tt, tt)), (refl, refl, refl))
+a_ring = (((refl, tt), (tt, tt)), (omega arith, refl, refl))
 
 an_enable_on_its_path : answered (
     codes "module c(q,ck,d,e); output q; input ck,d,e; dffe f(.CK(ck),.Q(q),.D(d),.E(e)); endmodule "

@@ -14,7 +14,7 @@ use Rattle.bs_flat_meaning.specs.Flat.{IsDesign, bit_of, is_named_so, is_root, i
 use Rattle.bs_flat_meaning.proofs.MemberLemmas.{Member, all_member, member_filter, found, missed, first_passes}
 use Rattle.bs_flat_meaning.proofs.RootLemmas.{same_from, same_to, Valid, valid_member, member_valid, on_member, on_of, root_is, root_bare, linked_root, linked_same}
 
-is_bit_same : (b : Bool) → is_bit b (Some b) ≡ true
+pub is_bit_same : (b : Bool) → is_bit b (Some b) ≡ true
 is_bit_same true = refl
 is_bit_same false = refl
 

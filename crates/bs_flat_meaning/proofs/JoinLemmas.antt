@@ -32,7 +32,7 @@ use Rattle.bs_flat_meaning.specs.Pieces.{Piece}
 use Rattle.bs_flat_meaning.specs.declared.statements.Written.{Written}
 use Rattle.bs_flat_meaning.specs.Connecting.{ReadModule, Port, Connected, scope_of, width_of, ports_from, ports_of, term_by_place, is_id, by_places, by_pins}
 use Rattle.bs_flat_meaning.specs.Connecting.{has_pins, connected, term_keys, goes, term_fault, pin_fault, connected_fault, with_term, with_terms, terms_of}
-use Rattle.bs_flat_meaning.specs.Connecting.{whole_parts, joins_from, keys_for, joins_with, joins_of, place_of, is_constant_term}
+use Rattle.bs_flat_meaning.specs.Connecting.{whole_parts, joins_from, keys_for, joins_with, joins_of, term_place, is_constant_term}
 use Rattle.bs_flat_meaning.specs.Reading.{IsRead, DesignsAreWhole, read_at, no_read_module, place_in, connections_of, instance_of, module_from, design_of}
 use Rattle.bs_flat_meaning.specs.Reading.{connect_fault, first_of}
 use Rattle.bs_flat_meaning.proofs.MemberLemmas.{Member, all_member, all_of, member_map, mapped, member_left, member_right, member_split, member_flat, flattened}
@@ -254,7 +254,7 @@ module _ (table : List (List ℕ)) (m below : ReadModule) where
   term_fits p None e = omega arith
   term_fits p (Some t) e = by (goes table m below p t) refl e
     where
-      by : (b : Bool) → goes table m below p t ≡ b → cond b None (Some (place_of t)) ≡ None → length (keys_for table m (Some t)) ≤ p.width
+      by : (b : Bool) → goes table m below p t ≡ b → cond b None (Some (term_place t)) ≡ None → length (keys_for table m (Some t)) ≤ p.width
       by true g k = let same = goes_width p t g in omega (arith, same)
       by false g k = absurd cc
 

@@ -9,4 +9,14 @@ pub mod CountLemmas
 pub mod HeightLemmas
 pub mod NumberLemmas
 pub mod RingLemmas
+pub mod FlatKeyLemmas
+pub mod NamedLemmas
+pub mod KeyLemmas
+pub mod RoomLemmas
+pub mod BuildLemmas
+pub mod NameLemmas
+pub mod GivenLemmas
+pub mod HeaderLemmas
+pub mod OwnLemmas
+pub mod WholeLemmas
 pub mod Examples

@@ -90,11 +90,11 @@ paths_apart d = apart_from (MAX_DEPTH + 1) d []
 
 -- ---- the nets that stay on a path
 
-filter_flat : {X Y : Type 0} (t : Y → Bool) (f : X → List Y) (xs : List X) → filter t (flat_map f xs) ≡ flat_map (λ x. filter t (f x)) xs
+pub filter_flat : {X Y : Type 0} (t : Y → Bool) (f : X → List Y) (xs : List X) → filter t (flat_map f xs) ≡ flat_map (λ x. filter t (f x)) xs
 filter_flat t f [] = refl
 filter_flat t f (x ∷ xs) = filter-append t (f x) (flat_map f xs) ∙ ap (λ u. filter t (f x) ++ u) (filter_flat t f xs)
 
-flat_same : {X Y : Type 0} (f g : X → List Y) (xs : List X) → ((x : X) → f x ≡ g x) → flat_map f xs ≡ flat_map g xs
+pub flat_same : {X Y : Type 0} (f g : X → List Y) (xs : List X) → ((x : X) → f x ≡ g x) → flat_map f xs ≡ flat_map g xs
 flat_same f g [] h = refl
 flat_same f g (x ∷ xs) h = ap (λ u. u ++ flat_map f xs) (h x) ∙ ap (λ u. g x ++ u) (flat_same f g xs h)
 

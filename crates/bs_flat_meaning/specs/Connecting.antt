@@ -54,9 +54,9 @@ term_keys table scope (Named n index) =
     ]
 
 -- where a term begins
-abbrev pub place_of : Term → ℕ
-place_of (Constant place b) = place
-place_of (Named n index) = n.at
+abbrev pub term_place : Term → ℕ
+term_place (Constant place b) = place
+term_place (Named n index) = n.at
 
 -- whether a term is a constant
 abbrev pub is_constant_term : Term → Bool
@@ -136,8 +136,8 @@ goes table m below port t =
 -- the place of a term that does not go with its port
 abbrev pub term_fault : List (List ℕ) → ReadModule → ReadModule → Option Port → Option Term → Option ℕ
 term_fault table m below port None = None
-term_fault table m below None (Some t) = Some (place_of t)
-term_fault table m below (Some p) (Some t) = if goes table m below p t then None else Some (place_of t)
+term_fault table m below None (Some t) = Some (term_place t)
+term_fault table m below (Some p) (Some t) = if goes table m below p t then None else Some (term_place t)
 
 -- the place of a connection that does not go with its port
 abbrev pub pin_fault : List (List ℕ) → ReadModule → ReadModule → Connected → Option Name → Option ℕ

@@ -9,7 +9,11 @@ pub mod Paths
 pub mod Pieces
 pub mod Instancing
 pub mod Connecting
+pub mod Rings
 pub mod Reading
 -- How its parts and its depth are counted by modules, and its nets numbered by paths.
 pub mod Counts
 pub mod Numbers
+-- What the modules and the flat nets of every text keep.
+pub mod Wholeness
+pub mod Names

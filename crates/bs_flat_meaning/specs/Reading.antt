@@ -25,6 +25,7 @@ use Rattle.bs_flat_meaning.specs.Flat.{flat_parts, HasNets, IsDesign}
 use Rattle.bs_flat_meaning.specs.Pieces.{Piece, modules_of, name_id, own_text, statements_of}
 use Rattle.bs_flat_meaning.specs.declared.statements.Written.{Written}
 use Rattle.bs_flat_meaning.specs.Instancing.{instancing}
+use Rattle.bs_flat_meaning.specs.Rings as rings
 use Rattle.bs_flat_meaning.specs.Connecting.{ReadModule, Connected, connected, ports_of, scope_of, connected_fault, joins_of, whole_parts}
 
 -- go on with the value; a fault stays
@@ -126,13 +127,16 @@ instance_of table ms ks m w =
 abbrev pub module_from : List (List ℕ) → List Piece → List ReadModule → ReadModule → Module
 module_from table ms ks m = record { own = whole_parts table m; instances = map (instance_of table ms ks m) m.written }
 
--- the modules that a module instances, by their places
+-- the modules that each module instances, by their places
 abbrev pub instanced : List Piece → ReadModule → List ℕ
 instanced ms m = map (λ w. place_in ms w.of.id) m.written
 
+abbrev pub below_of : List Piece → List ReadModule → List (List ℕ)
+below_of ms ks = map (instanced ms) ks
+
 -- the modules that none instances
 unfoldable pub tops : List Piece → List ReadModule → List ℕ
-tops ms ks = filter (λ n. not (list_any (λ k. list_any (nat_eq n) (instanced ms k)) ks)) (range_with_len 0 (length ks))
+tops ms ks = rings.tops (below_of ms ks)
 
 abbrev pub first_top : List ℕ → ℕ
 first_top [] = 0
@@ -143,33 +147,12 @@ design_of table ms ks = record { modules = map (module_from table ms ks) ks; top
 
 -- ---- refusals of the design
 
--- modules that instance each other in a ring: distinct, the earliest first, each instancing the next and the last the first
-abbrev pub Instances : List Piece → List ReadModule → ℕ → ℕ → Type 0
-Instances ms ks m n = list_any (nat_eq n) (instanced ms (slice_index_or ks m no_read_module)) ≡ true
-
-abbrev pub FollowFrom : List Piece → List ReadModule → ℕ → ℕ → List ℕ → Type 0
-FollowFrom ms ks first m [] = Instances ms ks m first
-FollowFrom ms ks first m (n ∷ ns) = IsTrue (nat_lt first n) × Instances ms ks m n × FollowFrom ms ks first n ns
-
+-- modules that instance each other in a ring
 abbrev pub IsRing : List Piece → List ReadModule → List ℕ → Type 0
-IsRing ms ks [] = ⊥
-IsRing ms ks (m ∷ ns) = IsDistinct nat_eq (m ∷ ns) × FollowFrom ms ks m m ns
+IsRing ms ks ring = rings.IsRing (below_of ms ks) ring
 
-abbrev pub HasNoRing : List Piece → List ReadModule → Type 0
-HasNoRing ms ks = (ring : List ℕ) → IsRing ms ks ring → ⊥
-
--- from a module instances lead on to modules so many times
-unfoldable pub leads_on : ℕ → List Piece → List ReadModule → ℕ → Bool
-leads_on zero ms ks m = true
-leads_on (suc n) ms ks m = list_any (leads_on n ms ks) (instanced ms (slice_index_or ks m no_read_module))
-
--- from some module instances lead on as often as there are modules, and so come back to one
 unfoldable pub has_ring : List Piece → List ReadModule → Bool
-has_ring ms ks = list_any (leads_on (length ks) ms ks) (range_with_len 0 (length ks))
-
--- modules that instance each other in a ring are found so
-abbrev pub RingsAreFound : Type 0
-RingsAreFound = (ms : List Piece) (ks : List ReadModule) (ring : List ℕ) → IsRing ms ks ring → has_ring ms ks ≡ true
+has_ring ms ks = rings.has_ring (below_of ms ks)
 
 -- the first connection of the text that does not go with its port
 unfoldable pub connect_fault : List (List ℕ) → List Piece → List ReadModule → Option ℕ

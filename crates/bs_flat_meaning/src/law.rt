@@ -1,8 +1,11 @@
 //! The laws of flattening, as functions with empty bodies.
 ghost use Rattle.bs_flat_meaning.specs.Law.{FlatKeepsMeaning};
+ghost use Rattle.bs_flat_meaning.specs.Names.{FlatNetsAreNamed};
+ghost use Rattle.bs_flat_meaning.specs.Wholeness.{ReadModulesAreWhole};
 ghost use Rattle.bs_flat_meaning.specs.Counts.{DepthIsHeight, PartsAreSummed};
 ghost use Rattle.bs_flat_meaning.specs.Numbers.{NumbersAreRanks};
-ghost use Rattle.bs_flat_meaning.specs.Reading.{DesignsAreWhole, RingsAreFound};
+ghost use Rattle.bs_flat_meaning.specs.Reading.{DesignsAreWhole};
+ghost use Rattle.bs_flat_meaning.specs.Rings.{RingsAreFound};
 
 /// Where the flat parts of a design pass the check, exactly one valuation fits the design for each state and input, and the
 /// design's next state is that of the flat netlist.
@@ -32,4 +35,15 @@ pub fn flat_numbers_are_ranks()
 /// Modules that instance each other in a ring are found by how often instances lead on from one.
 pub fn rings_are_found()
     ensures { RingsAreFound }
+{}
+
+/// Each flat net of a text that is read has a name of one or more bytes 33 to 126.
+pub fn flat_nets_are_named()
+    ensures { FlatNetsAreNamed }
+{}
+
+/// Of each module of a text that is read, its own parts have names for their nets, its ports stand first among the nets, and a name
+/// that is declared has nets: whatever the text, so no reader need test it.
+pub fn modules_read_are_whole()
+    ensures { ReadModulesAreWhole }
 {}

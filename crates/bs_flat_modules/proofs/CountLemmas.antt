@@ -10,7 +10,7 @@ use Rattle.bs_verilog_syntax.specs.Reading.{Rest}
 use Rattle.bs_flat_meaning.specs.declared.fault.FlatFault.{FlatFault}
 use Rattle.bs_flat_meaning.specs.declared.fault.FlatFault.TheVariants.{NoMemory}
 use Rattle.bs_flat_meaning.specs.Pieces.{modules_of}
-use Rattle.bs_flat_modules.specs.declared.dealing.Place.{Place}
+use Rattle.bs_flat_modules.specs.declared.dealing.ModuleSpan.{ModuleSpan}
 use Rattle.bs_flat_modules.specs.declared.dealing.Dealt.{Dealt}
 use Rattle.bs_flat_modules.specs.declared.owns.Modules.{Modules}
 use Rattle.bs_flat_modules.specs.Copying.{part}
@@ -61,8 +61,8 @@ all_are : (table : List (List ℕ)) (ts : Rest) (d : Dealt) (marks : ℕ → Boo
 all_are table ts d marks m out read =
     let counts =
     both_count (owns table marks d.others ts d.modules) (all_written marks ts d.modules) (length d.modules) (map module_and_parts m.owns) m.written read
-    (λ os e. each_count (λ (p : Place). said table (own_text marks d.others ts p)) d.modules os e)
-    (λ ws e. each_count (λ (p : Place). written marks (part ts p.body p.stop)) d.modules ws e) in
+    (λ os e. each_count (λ (p : ModuleSpan). said table (own_text marks d.others ts p)) d.modules os e)
+    (λ ws e. each_count (λ (p : ModuleSpan). written marks (part ts p.body p.stop)) d.modules ws e) in
     let there : length d.modules ≡ length (modules_of ts) = sym (length-map d.modules (piece_in ts)) ∙ ap length (modules_are ts d out.dealt) in
     record {
       owns = sym (length-map m.owns module_and_parts) ∙ (counts.0 ∙ there);

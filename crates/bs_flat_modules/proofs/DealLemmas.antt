@@ -7,12 +7,12 @@ use Rattle.bs_verilog_syntax.specs.Reading.{Rest}
 use Rattle.bs_flat_meaning.specs.Pieces.{Piece, pieces, pieces_from, is_design}
 use Rattle.bs_flat_modules.specs.Copying.{part}
 use Rattle.bs_flat_modules.specs.declared.pieces.Cut.{Cut}
-use Rattle.bs_flat_modules.specs.declared.dealing.Place.{Place}
+use Rattle.bs_flat_modules.specs.declared.dealing.ModuleSpan.{ModuleSpan}
 use Rattle.bs_flat_modules.specs.Dealing.{CutsFirst, IsDealt, piece_at, is_design_body, designs_after, others_of, standing_at}
 use Rattle.bs_flat_modules.proofs.PieceLemmas.{pieces_cut, cut_within, drop_drop}
 
 -- the modules and the lexemes outside them so far, and those from a place on, are all
-pub record IsDealing (ts : Rest) (modules : List Place) (others : Rest) (from : ℕ) : Type 0 where
+pub record IsDealing (ts : Rest) (modules : List ModuleSpan) (others : Rest) (from : ℕ) : Type 0 where
   pub modules_so_far : map (standing_at ts) modules ++ designs_after (length others) (pieces (drop from ts)) ≡ designs_after 0 (pieces ts)
   pub others_so_far : others ++ others_of (pieces (drop from ts)) ≡ others_of (pieces ts)
 
@@ -36,16 +36,16 @@ next_pieces ts from c cut =
     pieces_cut (drop from ts) c cut ∙ ap (λ p. p ∷ pieces (drop c.stop (drop from ts))) (same_piece ts from c)
     ∙ ap (λ (xs : Rest). piece_in ts from c ∷ pieces xs) (drop_drop from c.stop ts)
 
-design_first : (n : ℕ) (p : Piece) (ps : List Piece) → is_design p ≡ true → designs_after n (p ∷ ps) ≡ record { before = n; piece = p } ∷ designs_after n ps
+pub design_first : (n : ℕ) (p : Piece) (ps : List Piece) → is_design p ≡ true → designs_after n (p ∷ ps) ≡ record { before = n; piece = p } ∷ designs_after n ps
 unfolding designs_after
 design_first n p ps e = rw e refl
 
-other_first : (n : ℕ) (p : Piece) (ps : List Piece) → is_design p ≡ false
+pub other_first : (n : ℕ) (p : Piece) (ps : List Piece) → is_design p ≡ false
     → designs_after n (p ∷ ps) ≡ designs_after (n + length (p.attributes ++ p.body)) ps
 unfolding designs_after
 other_first n p ps e = rw e refl
 
-outside_design : (p : Piece) (ps : List Piece) → is_design p ≡ true → others_of (p ∷ ps) ≡ others_of ps
+pub outside_design : (p : Piece) (ps : List Piece) → is_design p ≡ true → others_of (p ∷ ps) ≡ others_of ps
 outside_design p ps e = ap (λ b. cond b [] (p.attributes ++ p.body) ++ others_of ps) e
 
 outside_other : (p : Piece) (ps : List Piece) → is_design p ≡ false → others_of (p ∷ ps) ≡ (p.attributes ++ p.body) ++ others_of ps
@@ -54,12 +54,12 @@ outside_other p ps e = ap (λ b. cond b [] (p.attributes ++ p.body) ++ others_of
 pub deal_start : (ts : Rest) → IsDealing ts [] [] 0
 deal_start ts = record { modules_so_far = refl; others_so_far = refl }
 
-deal_design_at : (ts : Rest) (modules : List Place) (others : Rest) (from : ℕ) (c : Cut) → CutsFirst (drop from ts) c
+deal_design_at : (ts : Rest) (modules : List ModuleSpan) (others : Rest) (from : ℕ) (c : Cut) → CutsFirst (drop from ts) c
     → is_design_body (part ts (from + c.body) (from + c.stop)) ≡ true → IsDealing ts modules others from
     → IsDealing ts (modules ++ record { before = length others; from = from; body = from + c.body; stop = from + c.stop } ∷ []) others (from + c.stop)
 deal_design_at ts modules others from c cut e d =
     let p = piece_in ts from c in
-    let place : Place = record { before = length others; from = from; body = from + c.body; stop = from + c.stop } in
+    let place : ModuleSpan = record { before = length others; from = from; body = from + c.body; stop = from + c.stop } in
     let next = next_pieces ts from c cut in
     let later = pieces (drop (from + c.stop) ts) in
     let here : designs_after (length others) (pieces (drop from ts)) ≡ standing_at ts place ∷ designs_after (length others) later =
@@ -98,7 +98,7 @@ whole_piece ts from c h =
     ∙ split_take c.body c.stop (drop from ts) h
     ∙ ap (λ k. take k (drop from ts)) d
 
-deal_other_at : (ts : Rest) (modules : List Place) (others : Rest) (from : ℕ) (c : Cut) → CutsFirst (drop from ts) c
+deal_other_at : (ts : Rest) (modules : List ModuleSpan) (others : Rest) (from : ℕ) (c : Cut) → CutsFirst (drop from ts) c
     → is_design_body (part ts (from + c.body) (from + c.stop)) ≡ false → IsDealing ts modules others from
     → IsDealing ts modules (others ++ part ts from (from + c.stop)) (from + c.stop)
 deal_other_at ts modules others from c cut e d =
@@ -122,7 +122,7 @@ deal_other_at ts modules others from c cut e d =
           ∙ d.others_so_far;
     }
 
-pub deal_end : (ts : Rest) (modules : List Place) (others : Rest) (from : ℕ) → length ts ≤ from → IsDealing ts modules others from
+pub deal_end : (ts : Rest) (modules : List ModuleSpan) (others : Rest) (from : ℕ) → length ts ≤ from → IsDealing ts modules others from
     → IsDealt ts (record { modules = modules; others = others })
 unfolding designs_after pieces_from
 deal_end ts modules others from h d =
@@ -136,12 +136,12 @@ deal_end ts modules others from h d =
 
 -- ---- the same of what is left, as it is lent
 
-pub deal_design : (ts : Rest) (modules : List Place) (others : Rest) (from : ℕ) (c : Cut) (here : Rest) → here ≡ drop from ts → CutsFirst here c
+pub deal_design : (ts : Rest) (modules : List ModuleSpan) (others : Rest) (from : ℕ) (c : Cut) (here : Rest) → here ≡ drop from ts → CutsFirst here c
     → is_design_body (part ts (from + c.body) (from + c.stop)) ≡ true → IsDealing ts modules others from
     → IsDealing ts (modules ++ record { before = length others; from = from; body = from + c.body; stop = from + c.stop } ∷ []) others (from + c.stop)
 deal_design ts modules others from c here same cut e d = deal_design_at ts modules others from c (subst (λ xs. CutsFirst xs c) same cut) e d
 
-pub deal_other : (ts : Rest) (modules : List Place) (others : Rest) (from : ℕ) (c : Cut) (here : Rest) → here ≡ drop from ts → CutsFirst here c
+pub deal_other : (ts : Rest) (modules : List ModuleSpan) (others : Rest) (from : ℕ) (c : Cut) (here : Rest) → here ≡ drop from ts → CutsFirst here c
     → is_design_body (part ts (from + c.body) (from + c.stop)) ≡ false → IsDealing ts modules others from
     → IsDealing ts modules (others ++ part ts from (from + c.stop)) (from + c.stop)
 deal_other ts modules others from c here same cut e d = deal_other_at ts modules others from c (subst (λ xs. CutsFirst xs c) same cut) e d

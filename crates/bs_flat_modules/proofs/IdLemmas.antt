@@ -7,7 +7,7 @@ use Rattle.bs_flat_meaning.specs.Pieces.{Piece, name_id, modules_of}
 use Rattle.bs_flat_modules.specs.Dealing.{IsDealt}
 use Rattle.bs_flat_modules.specs.Names.{id_of, ids_at}
 use Rattle.bs_flat_modules.specs.declared.dealing.Dealt.{Dealt}
-use Rattle.bs_flat_modules.specs.declared.dealing.Place.{Place}
+use Rattle.bs_flat_modules.specs.declared.dealing.ModuleSpan.{ModuleSpan}
 use Rattle.bs_flat_modules.proofs.ReadLemmas.{modules_are, piece_in}
 
 abbrev id_in : Rest → Option ℕ
@@ -24,7 +24,7 @@ id_in_is (t ∷ ts) = refl
 id_is : (p : Piece) → id_of p.body ≡ name_id p
 id_is p = id_in_is (rest p.body)
 
-each_is : (ts : Rest) (places : List Place) → ids_at ts places ≡ map name_id (map (piece_in ts) places)
+each_is : (ts : Rest) (places : List ModuleSpan) → ids_at ts places ≡ map name_id (map (piece_in ts) places)
 each_is ts [] = refl
 each_is ts (p ∷ ps) = ap (λ i. i ∷ ids_at ts ps) (id_is (piece_in ts p)) ∙ ap (λ l. name_id (piece_in ts p) ∷ l) (each_is ts ps)
 

@@ -16,7 +16,7 @@ use Rattle.bs_flat_meaning.specs.Pieces.{Item, to_semicolon, items_from}
 use Rattle.bs_flat_modules.specs.Copying.{part}
 use Rattle.bs_flat_modules.specs.Items.{stays_inside, is_semicolon, IsItem, kept, own_items, with_item, written_items}
 use Rattle.bs_flat_modules.specs.Owns.{own_body, written}
-use Rattle.bs_flat_modules.proofs.PieceLemmas.{next_of, drop_drop, drop_all_of}
+use Rattle.bs_flat_modules.proofs.PieceLemmas.{next_of, drop_drop, drop_all_of, same_sort}
 
 -- ---- an item
 
@@ -111,7 +111,7 @@ item_all inside at ts h o =
 abbrev items_with : ℕ → Rest → Rest × Rest → List Item × Rest
 items_with n ts first = let others = items_from n first.1 in (record { lexemes = first.0; from = ts } ∷ others.0, others.1)
 
-items_is : (n : ℕ) (ts : Rest) → items_from (suc n) ts ≡ cond (is_endmodule (sort ts)) ([], ts) (items_with n ts (to_semicolon false ts))
+pub items_is : (n : ℕ) (ts : Rest) → items_from (suc n) ts ≡ cond (is_endmodule (sort ts)) ([], ts) (items_with n ts (to_semicolon false ts))
 unfolding items_from
 items_is n ts = refl
 
@@ -269,9 +269,6 @@ written_whole_fault_at marks body size fault is (inl memory) = inl memory
 written_whole_fault_at marks body size fault is (inr reads) = inr (sym (written_whole_at marks body size is) ∙ reads)
 
 -- ---- the same of what is left, as it is lent
-
-same_sort : (f : Sort → Bool) (here there : Rest) (b : Bool) → here ≡ there → f (sort here) ≡ b → f (sort there) ≡ b
-same_sort f here there b same e = sym (ap (λ xs. f (sort xs)) same) ∙ e
 
 pub open_on : (inside : Bool) (at : ℕ) (ts here : Rest) → here ≡ drop at ts → at < length ts → is_endmodule (sort here) ≡ false
     → is_semicolon inside here ≡ false → IsOpen inside at ts → IsOpen (stays_inside inside (sort here)) (at + 1) ts

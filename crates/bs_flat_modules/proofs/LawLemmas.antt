@@ -10,6 +10,7 @@ use Rattle.bs_verilog_syntax.specs.Reading.{Rest, at}
 use Rattle.bs_flat_meaning.specs.Pieces.{Piece, is_design, own_piece, own_body}
 use Rattle.bs_flat_modules.specs.Dealing.{Standing, designs_after, others_of}
 use Rattle.bs_flat_modules.specs.Names.{rises}
+use Rattle.bs_flat_modules.proofs.DealLemmas.{design_first as design_here, other_first as other_here, outside_design as others_design}
 
 -- where a module begins
 abbrev pub begins : Standing → ℕ
@@ -34,20 +35,8 @@ rising : (least n : ℕ) (ns : List ℕ) → rises least (n ∷ ns) ≡ true →
 unfolding rises
 rising least n ns e = let both = rises_first (nat_lt n least) (rises (n + 1) ns) e in (ltb-false n least both.0, both.1)
 
-design_here : (n : ℕ) (p : Piece) (ps : List Piece) → is_design p ≡ true → designs_after n (p ∷ ps) ≡ record { before = n; piece = p } ∷ designs_after n ps
-unfolding designs_after
-design_here n p ps e = rw e refl
-
-other_here : (n : ℕ) (p : Piece) (ps : List Piece) → is_design p ≡ false
-    → designs_after n (p ∷ ps) ≡ designs_after (n + length (p.attributes ++ p.body)) ps
-unfolding designs_after
-other_here n p ps e = rw e refl
-
 abbrev outer : Piece → Rest
 outer p = p.attributes ++ p.body
-
-others_design : (p : Piece) (ps : List Piece) → is_design p ≡ true → others_of (p ∷ ps) ≡ others_of ps
-others_design p ps e = ap (λ b. cond b [] (outer p) ++ others_of ps) e
 
 others_other : (p : Piece) (ps : List Piece) → is_design p ≡ false → others_of (p ∷ ps) ≡ outer p ++ others_of ps
 others_other p ps e = ap (λ b. cond b [] (outer p) ++ others_of ps) e

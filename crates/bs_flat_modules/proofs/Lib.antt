@@ -6,5 +6,4 @@ pub mod EachLemmas
 pub mod NameLemmas
 pub mod LawLemmas
 pub mod ReadLemmas
-pub mod WholeLemmas
 pub mod CountLemmas

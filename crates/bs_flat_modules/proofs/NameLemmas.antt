@@ -21,7 +21,7 @@ use Rattle.bs_flat_meaning.specs.declared.fault.FlatFault.{FlatFault}
 use Rattle.bs_flat_meaning.specs.declared.fault.FlatFault.TheVariants.{Twice}
 use Rattle.bs_flat_meaning.specs.Pieces.{Piece, name_id, is_named}
 use Rattle.bs_flat_meaning.specs.Reading.{is_id, second_module, second_instance, first_of, no_fault}
-use Rattle.bs_flat_modules.specs.declared.dealing.Place.{Place}
+use Rattle.bs_flat_modules.specs.declared.dealing.ModuleSpan.{ModuleSpan}
 use Rattle.bs_flat_modules.specs.Copying.{part}
 use Rattle.bs_flat_modules.specs.Names.{head_of, heads, all_apart, apart, unless, rises, begin}
 use Rattle.bs_flat_modules.specs.Reading.{twice_of}
@@ -246,18 +246,18 @@ instances_twofold (ws ∷ all) = twofold_by (first_after stands_before [] (names
 
 -- ---- as loops name them
 
-pub heads_more : (ts : Rest) (modules : List Place) (i : ℕ) (d : Place) (here : Rest) (names more : List Name) → i < length modules
+pub heads_more : (ts : Rest) (modules : List ModuleSpan) (i : ℕ) (d : ModuleSpan) (here : Rest) (names more : List Name) → i < length modules
     → here ≡ part ts (get_or modules i d).body (get_or modules i d).stop → more ≡ names ++ head_of here → names ≡ heads ts (take i modules)
     → more ≡ heads ts (take (i + 1) modules)
 heads_more ts modules i d here names more h cut added so_far =
     let p = get_or modules i d in
-    let f = λ (p : Place). head_of (part ts p.body p.stop) in
+    let f = λ (p : ModuleSpan). head_of (part ts p.body p.stop) in
     added ∙ ap (λ (ns : List Name). ns ++ head_of here) so_far ∙ ap (λ b. heads ts (take i modules) ++ head_of b) cut
     ∙ ap (λ ns. heads ts (take i modules) ++ ns) (sym (append-nil (f p)))
     ∙ sym (flat_map-append f (take i modules) (p ∷ []))
     ∙ sym (ap (heads ts) (take_more modules i d h))
 
-pub heads_all : (ts : Rest) (modules : List Place) (i : ℕ) (names : List Name) → length modules ≤ i → names ≡ heads ts (take i modules)
+pub heads_all : (ts : Rest) (modules : List ModuleSpan) (i : ℕ) (names : List Name) → length modules ≤ i → names ≡ heads ts (take i modules)
     → names ≡ heads ts modules
 heads_all ts modules i names h so_far = so_far ∙ ap (heads ts) (take_all i modules h)
 
@@ -293,13 +293,13 @@ pub apart_end : (all : List (List Written)) (i : ℕ) (total : Result ⊤ Verilo
 unfolding all_apart
 apart_end all i total h so_far = sym so_far ∙ ap all_apart (drop_all i all h)
 
-rise_next : (ts : Rest) (least : ℕ) (modules : List Place) (i : ℕ) (d : Place) → i < length modules
+rise_next : (ts : Rest) (least : ℕ) (modules : List ModuleSpan) (i : ℕ) (d : ModuleSpan) → i < length modules
     → rises least (map (begin ts) (drop i modules))
     ≡ (not (nat_lt (begin ts (get_or modules i d)) least) && rises (begin ts (get_or modules i d) + 1) (map (begin ts) (drop (i + 1) modules)))
 unfolding rises
 rise_next ts least modules i d h = ap (λ ps. rises least (map (begin ts) ps)) (drop_more modules i d h)
 
-pub rise_on : (ts : Rest) (least place : ℕ) (modules : List Place) (i : ℕ) (d : Place) (total : Bool) → i < length modules
+pub rise_on : (ts : Rest) (least place : ℕ) (modules : List ModuleSpan) (i : ℕ) (d : ModuleSpan) (total : Bool) → i < length modules
     → place ≡ begin ts (get_or modules i d) → least ≤ place → rises least (map (begin ts) (drop i modules)) ≡ total
     → rises (place + 1) (map (begin ts) (drop (i + 1) modules)) ≡ total
 rise_on ts least place modules i d total h e low so_far =
@@ -308,7 +308,7 @@ rise_on ts least place modules i d total h e low so_far =
     let less : nat_lt b least ≡ false = le-ltb b least (omega (arith, e, low)) in
     ap (λ k. rises (k + 1) later) e ∙ sym (rise_next ts least modules i d h ∙ ap (λ c. not c && rises (b + 1) later) less) ∙ so_far
 
-pub rise_fault : (ts : Rest) (least place : ℕ) (modules : List Place) (i : ℕ) (d : Place) (total : Bool) → i < length modules
+pub rise_fault : (ts : Rest) (least place : ℕ) (modules : List ModuleSpan) (i : ℕ) (d : ModuleSpan) (total : Bool) → i < length modules
     → place ≡ begin ts (get_or modules i d) → place < least → rises least (map (begin ts) (drop i modules)) ≡ total → false ≡ total
 rise_fault ts least place modules i d total h e low so_far =
     let b = begin ts (get_or modules i d) in
@@ -316,7 +316,7 @@ rise_fault ts least place modules i d total h e low so_far =
     let less : nat_lt b least ≡ true = lt-ltb b least (omega (arith, e, low)) in
     sym (rise_next ts least modules i d h ∙ ap (λ c. not c && rises (b + 1) later) less) ∙ so_far
 
-pub rise_end : (ts : Rest) (least : ℕ) (modules : List Place) (i : ℕ) (total : Bool) → length modules ≤ i
+pub rise_end : (ts : Rest) (least : ℕ) (modules : List ModuleSpan) (i : ℕ) (total : Bool) → length modules ≤ i
     → rises least (map (begin ts) (drop i modules)) ≡ total → true ≡ total
 unfolding rises
 rise_end ts least modules i total h so_far = sym (ap (λ ps. rises least (map (begin ts) ps)) (drop_all i modules h)) ∙ so_far

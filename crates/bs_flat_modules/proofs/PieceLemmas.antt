@@ -347,7 +347,7 @@ cut_within (t ∷ ts) c cut = cut.2
 
 -- ---- the same of what is left, as it is lent
 
-same_sort : (f : Sort → Bool) (here there : Rest) (b : Bool) → here ≡ there → f (sort here) ≡ b → f (sort there) ≡ b
+pub same_sort : (f : Sort → Bool) (here there : Rest) (b : Bool) → here ≡ there → f (sort here) ≡ b → f (sort there) ≡ b
 same_sort f here there b same e = sym (ap (λ xs. f (sort xs)) same) ∙ e
 
 pub end_on : (n : ℕ) (ts here : Rest) → here ≡ drop n ts → n < length ts → is_endmodule (sort here) ≡ false

@@ -24,7 +24,7 @@ use Rattle.bs_flat_meaning.specs.Pieces.{own_piece, statements_of}
 use Rattle.bs_flat_meaning.specs.Reading.{◌then◌, as_verilog, all_of, read_own, read_written, read_modules, second_module, no_fault, gathered}
 use Rattle.bs_flat_meaning.specs.Reading.{second_instance, first_of}
 use Rattle.bs_flat_meaning.specs.Connecting.{ReadModule}
-use Rattle.bs_flat_modules.specs.declared.dealing.Place.{Place}
+use Rattle.bs_flat_modules.specs.declared.dealing.ModuleSpan.{ModuleSpan}
 use Rattle.bs_flat_modules.specs.declared.dealing.Dealt.{Dealt}
 use Rattle.bs_flat_modules.specs.declared.owns.Modules.{Modules}
 use Rattle.bs_flat_modules.specs.Copying.{part}
@@ -35,6 +35,7 @@ use Rattle.bs_flat_modules.specs.Owns.{each_of, said, module_and_parts, own_text
 use Rattle.bs_flat_modules.specs.Reading.{IsDealtOut, fault_of, twice_of, read_modules_of, parts_read, all_read, apart_or, apart}
 use Rattle.bs_flat_modules.proofs.LawLemmas.{IsOwn, all_own, begins}
 use Rattle.bs_flat_modules.proofs.NameLemmas.{heads_of, marks_are, modules_once, modules_twice, Twofold, instances_twofold}
+use Rattle.bs_flat_modules.proofs.ItemLemmas.{items_is}
 
 -- ---- instances
 
@@ -62,10 +63,6 @@ regrouped all r (Err e) = refl
 
 abbrev items_with : ℕ → Rest → Rest × Rest → List Item × Rest
 items_with n ts first = let others = items_from n first.1 in (record { lexemes = first.0; from = ts } ∷ others.0, others.1)
-
-items_is : (n : ℕ) (ts : Rest) → items_from (suc n) ts ≡ cond (is_endmodule (sort ts)) ([], ts) (items_with n ts (to_semicolon false ts))
-unfolding items_from
-items_is n ts = refl
 
 written_is : (marks : ℕ → Bool) (n : ℕ) (all : List Written) (ts : Rest)
     → written_items marks (suc n) all ts
@@ -145,7 +142,7 @@ said_by table (Ok m) = said_with m (meaning_of table m)
 pub said_same : (table : List (List ℕ)) (ts : Rest) (p : Piece) → read_own table ts p ≡ as_verilog (said table (flat_own_text ts p))
 said_same table ts p = said_by table (syntax_of (flat_own_text ts p))
 
-own_same : (ms : List Piece) (ts : Rest) (place : Place) (os : Rest)
+own_same : (ms : List Piece) (ts : Rest) (place : ModuleSpan) (os : Rest)
     → IsOwn ms (pieces ts) 0 0 (standing_at ts place) → os ≡ others_of (pieces ts)
     → flat_map (own_piece ms (begin ts place)) (pieces ts) ≡ own_text (names_one ms) os ts place
 own_same ms ts place os own e =
@@ -193,7 +190,7 @@ designs_are n (p ∷ ps) = by (is_design p) n p ps (λ k. designs_are k ps)
     by true n p ps later = ap (λ qs. p ∷ qs) (later n)
     by false n p ps later = later (n + length (p.attributes ++ p.body))
 
-abbrev pub piece_in : Rest → Place → Piece
+abbrev pub piece_in : Rest → ModuleSpan → Piece
 piece_in ts p = record { attributes = part ts p.from p.body; body = part ts p.body p.stop }
 
 map_map : {A B C : Type 0} (g : B → C) (f : A → B) (xs : List A) → map g (map f xs) ≡ map (λ x. g (f x)) xs

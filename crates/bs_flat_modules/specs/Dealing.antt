@@ -8,7 +8,7 @@ use Rattle.bs_verilog_syntax.specs.Modules.{is_module, is_cell}
 use Rattle.bs_flat_meaning.specs.Pieces.{Piece, to_endmodule, first_piece, pieces, is_design}
 use Rattle.bs_flat_modules.specs.Copying.{part}
 use Rattle.bs_flat_modules.specs.declared.pieces.Cut.{Cut}
-use Rattle.bs_flat_modules.specs.declared.dealing.Place.{Place}
+use Rattle.bs_flat_modules.specs.declared.dealing.ModuleSpan.{ModuleSpan}
 use Rattle.bs_flat_modules.specs.declared.dealing.Dealt.{Dealt}
 
 -- the attributes are so many lexemes, or are not closed
@@ -55,7 +55,7 @@ abbrev pub others_of : List Piece → Rest
 others_of ps = flat_map outside ps
 
 -- the module that stands at a place
-abbrev pub standing_at : Rest → Place → Standing
+abbrev pub standing_at : Rest → ModuleSpan → Standing
 standing_at ts p = record { before = p.before; piece = record { attributes = part ts p.from p.body; body = part ts p.body p.stop } }
 
 -- the modules of a text, and the lexemes outside them

@@ -5,7 +5,6 @@ pub mod Dealing
 -- What the own text of each module says, and its instances.
 pub mod Owns
 pub mod Items
-pub mod Wholeness
 pub mod Names
 -- Lexemes put together from parts of a text.
 pub mod Copying

@@ -8,7 +8,7 @@ use Rattle.bs_verilog_syntax.specs.declared.fault.VerilogFault.{VerilogFault}
 use Rattle.bs_verilog_syntax.specs.Reading.{Rest, at, sort, rest, name}
 use Rattle.bs_verilog_scope.specs.Declaring.{repeated_fault}
 use Rattle.bs_flat_meaning.specs.declared.statements.Written.{Written}
-use Rattle.bs_flat_modules.specs.declared.dealing.Place.{Place}
+use Rattle.bs_flat_modules.specs.declared.dealing.ModuleSpan.{ModuleSpan}
 use Rattle.bs_flat_modules.specs.Copying.{part}
 
 -- the name of a module with this body, at its `module`, if it has a name
@@ -16,7 +16,7 @@ abbrev pub head_of : Rest → List Name
 head_of body = if is_name (sort (rest body)) then record { at = at body; id = (name (rest body)).id } ∷ [] else []
 
 -- the names of the modules at these places
-abbrev pub heads : Rest → List Place → List Name
+abbrev pub heads : Rest → List ModuleSpan → List Name
 heads ts places = flat_map (λ p. head_of (part ts p.body p.stop)) places
 
 -- the number of the name of a module with this body, if it has a name
@@ -24,7 +24,7 @@ abbrev pub id_of : Rest → Option ℕ
 id_of body = if is_name (sort (rest body)) then Some (name (rest body)).id else None
 
 -- of the modules at these places
-abbrev pub ids_at : Rest → List Place → List (Option ℕ)
+abbrev pub ids_at : Rest → List ModuleSpan → List (Option ℕ)
 ids_at ts places = map (λ p. id_of (part ts p.body p.stop)) places
 
 -- no fault goes on
@@ -42,7 +42,7 @@ all_apart [] = Ok tt
 all_apart (ws ∷ all) = apart ws >>= λ _. all_apart all
 
 -- where the `module` at a place begins
-abbrev pub begin : Rest → Place → ℕ
+abbrev pub begin : Rest → ModuleSpan → ℕ
 begin ts p = at (part ts p.body p.stop)
 
 -- places that rise, from a least one on

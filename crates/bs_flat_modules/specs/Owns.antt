@@ -10,7 +10,7 @@ use Rattle.bs_verilog_syntax.specs.Modules.{syntax_of}
 use Rattle.bs_verilog.specs.Netlist.{meaning_of}
 use Rattle.bs_flat_meaning.specs.declared.statements.Written.{Written}
 use Rattle.bs_flat_meaning.specs.Pieces.{to_semicolon}
-use Rattle.bs_flat_modules.specs.declared.dealing.Place.{Place}
+use Rattle.bs_flat_modules.specs.declared.dealing.ModuleSpan.{ModuleSpan}
 use Rattle.bs_flat_modules.specs.declared.owns.Own.{Own}
 use Rattle.bs_flat_modules.specs.Copying.{part}
 use Rattle.bs_flat_modules.specs.Items.{own_items, written_items}
@@ -32,12 +32,12 @@ abbrev pub own_body : (ℕ → Bool) → Rest → Rest
 own_body marks body = let head = to_semicolon false body in head.0 ++ own_items marks (length head.1) head.1
 
 -- the own text of the module at a place
-abbrev pub own_text : (ℕ → Bool) → Rest → Rest → Place → Rest
+abbrev pub own_text : (ℕ → Bool) → Rest → Rest → ModuleSpan → Rest
 own_text marks others ts p =
     take p.before others ++ (part ts p.from p.body ++ (own_body marks (part ts p.body p.stop) ++ drop p.before others))
 
 -- what the own texts of the modules at these places say
-abbrev pub owns : List (List ℕ) → (ℕ → Bool) → Rest → Rest → List Place → Result (List (Module × Parts)) VerilogFault
+abbrev pub owns : List (List ℕ) → (ℕ → Bool) → Rest → Rest → List ModuleSpan → Result (List (Module × Parts)) VerilogFault
 owns table marks others ts places = each_of (λ p. said table (own_text marks others ts p)) places
 
 -- the instances that a module with this body writes
@@ -45,5 +45,5 @@ abbrev pub written : (ℕ → Bool) → Rest → Result (List Written) VerilogFa
 written marks body = let head = to_semicolon false body in written_items marks (length head.1) [] head.1
 
 -- the instances of the modules at these places
-abbrev pub all_written : (ℕ → Bool) → Rest → List Place → Result (List (List Written)) VerilogFault
+abbrev pub all_written : (ℕ → Bool) → Rest → List ModuleSpan → Result (List (List Written)) VerilogFault
 all_written marks ts places = each_of (λ p. written marks (part ts p.body p.stop)) places

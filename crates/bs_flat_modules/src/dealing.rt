@@ -11,7 +11,7 @@ use std::alloc::Global;
 /// Where a module that is no cell stands among the lexemes of its text: its attributes begin at `from`, its `module` is at `body`,
 /// and `stop` is behind its `endmodule`. `before` counts the lexemes outside all such modules that stand before it.
 #[derive(Clone, Copy)]
-pub struct Place {
+pub struct ModuleSpan {
     pub before: usize,
     pub from: usize,
     pub body: usize,
@@ -21,7 +21,7 @@ pub struct Place {
 /// The modules of a text that are no cells, in file order, and the lexemes outside them.
 #[derive(Drop)]
 pub struct Dealt {
-    pub modules: List<Place>,
+    pub modules: List<ModuleSpan>,
     pub others: List<Lexeme>,
 }
 
@@ -38,7 +38,7 @@ pub fn deal(alloc: Global, ts: &[Lexeme]) -> Result<Dealt, NoMemory>
         let stop = from + cut.stop;
         if is_design(part(ts, body, stop)) {
             let before = others.len();
-            modules.push(Place {
+            modules.push(ModuleSpan {
                 before,
                 from,
                 body,

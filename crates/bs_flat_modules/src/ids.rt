@@ -4,7 +4,7 @@ ghost use Rattle.bs_flat_meaning.specs.Pieces as pieces;
 ghost use Rattle.bs_flat_modules.specs.Names as spec;
 
 use crate::copying::part;
-use crate::dealing::{Place, deal};
+use crate::dealing::{ModuleSpan, deal};
 use bs_bits::{List, NoMemory};
 use bs_verilog_lexemes::{Lexeme, is_name};
 use bs_verilog_syntax::{name_of, rest_of, sort_of};
@@ -23,7 +23,11 @@ fn id_of(body: &[Lexeme]) -> Option<u32>
 }
 
 /// The same of the modules at these places.
-fn ids_at(alloc: Global, ts: &[Lexeme], modules: &[Place]) -> Result<List<Option<u32>>, NoMemory>
+fn ids_at(
+    alloc: Global,
+    ts: &[Lexeme],
+    modules: &[ModuleSpan],
+) -> Result<List<Option<u32>>, NoMemory>
     ensures { IfOk result (λ ids. ids ≡ spec.ids_at ts.now modules.now) }
 {
     let mut ids = List::new(alloc);

@@ -2,9 +2,8 @@
 //!
 //! Modules: `dealing` (where the modules stand among the lexemes, and what stands outside), `names`
 //! (none twice), `items` (instance statements, and what an own text keeps), `copying` and `owns`
-//! (own texts, and what they say), `wholeness`, `reading` (`read_modules`). Used above:
-//! `read_modules` answers exactly what `specs/Reading` of bs_flat_meaning says, and what is read is
-//! whole.
+//! (own texts, and what they say), `reading` (`read_modules`). Used above: `read_modules` answers
+//! exactly what `specs/Reading` of bs_flat_meaning says, and what is read is whole.
 #![tactic(auto)]
 
 mod copying;
@@ -17,9 +16,8 @@ mod owns;
 mod pieces;
 mod reading;
 mod sorts;
-mod wholeness;
 
-pub use dealing::{Dealt, Place, deal};
+pub use dealing::{Dealt, ModuleSpan, deal};
 pub use ids::module_ids;
 pub use limits::MAX_OWN_NETS;
 pub use owns::{Modules, Own};

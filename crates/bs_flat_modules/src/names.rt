@@ -5,7 +5,7 @@ ghost use Rattle.bs_verilog_syntax.specs.declared.fault.VerilogFault.TheVariants
 ghost use Rattle.bs_flat_modules.specs.Names as spec;
 
 use crate::copying::part;
-use crate::dealing::Place;
+use crate::dealing::ModuleSpan;
 use bs_bits::{List, NoMemory};
 use bs_flat_meaning::Written;
 use bs_verilog_lexemes::{Lexeme, Name, is_name};
@@ -28,7 +28,7 @@ fn add_head(names: &mut List<Name>, body: &[Lexeme]) -> Result<(), NoMemory>
 }
 
 /// The names of the modules at these places, each at its `module`.
-pub fn heads(alloc: Global, ts: &[Lexeme], modules: &[Place]) -> Result<List<Name>, NoMemory>
+pub fn heads(alloc: Global, ts: &[Lexeme], modules: &[ModuleSpan]) -> Result<List<Name>, NoMemory>
     ensures { IfOk result (λ ns. ns ≡ spec.heads ts.now modules.now) }
 {
     let mut names = List::new(alloc);
@@ -69,7 +69,7 @@ pub fn all_apart(alloc: Global, written: &[List<Written>]) -> Result<(), Verilog
 }
 
 /// Whether the `module`s at these places stand one behind another.
-pub fn are_rising(ts: &[Lexeme], modules: &[Place]) -> bool
+pub fn are_rising(ts: &[Lexeme], modules: &[ModuleSpan]) -> bool
     ensures { result ≡ spec.rises 0 (map (spec.begin ts.now) modules.now) }
 {
     let mut least: usize = 0;

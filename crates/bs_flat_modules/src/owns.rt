@@ -6,7 +6,7 @@ ghost use Rattle.bs_verilog_syntax.specs.declared.fault.VerilogFault.TheVariants
 ghost use Rattle.bs_flat_modules.specs.Owns as spec;
 
 use crate::copying::{copy, part};
-use crate::dealing::Place;
+use crate::dealing::ModuleSpan;
 use crate::items::{item_size, own_items, written_items};
 use crate::limits::MAX_OWN_NETS;
 use bs_bits::{List, NoMemory};
@@ -48,7 +48,7 @@ fn own_text(
     ts: &[Lexeme],
     others: &[Lexeme],
     marks: &[bool],
-    place: Place,
+    place: ModuleSpan,
 ) -> Result<List<Lexeme>, NoMemory>
     ensures { IfOk result (λ own. own ≡ spec.own_text (marked marks.now) others.now ts.now place) }
 {
@@ -76,7 +76,7 @@ fn read_own(
     ts: &[Lexeme],
     others: &[Lexeme],
     marks: &[bool],
-    place: Place,
+    place: ModuleSpan,
 ) -> Result<Own, VerilogFault>
     ensures { Answers want spec.module_and_parts result (spec.said table.now (spec.own_text (marked marks.now) others.now ts.now place)) }
 {
@@ -103,7 +103,7 @@ pub fn read_owns(
     ts: &[Lexeme],
     others: &[Lexeme],
     marks: &[bool],
-    modules: &[Place],
+    modules: &[ModuleSpan],
 ) -> Result<List<Own>, VerilogFault>
     ensures { Answers want (λ os. map spec.module_and_parts os) result (spec.owns table.now (marked marks.now) others.now ts.now modules.now) }
 {
@@ -131,7 +131,7 @@ pub fn read_written(
     alloc: Global,
     ts: &[Lexeme],
     marks: &[bool],
-    modules: &[Place],
+    modules: &[ModuleSpan],
 ) -> Result<List<List<Written>>, VerilogFault>
     ensures { Answers want (λ ws. ws) result (spec.all_written (marked marks.now) ts.now modules.now) }
 {

@@ -1,6 +1,5 @@
 //! The modules of a text of several, read one by one.
 ghost use Rattle.std.specs.Prelude.{◌≡◌, IfOk, MatchResult, None};
-ghost use Rattle.std.specs.List.{All};
 ghost use Rattle.bs_bits.specs.Reading.{Answers};
 ghost use Rattle.bs_verilog_syntax.specs.declared.fault.VerilogFault.TheVariants.{NoMemory as out_of_memory};
 ghost use Rattle.bs_verilog_scope.specs.Checking.{Checks, marked};
@@ -13,7 +12,6 @@ ghost use Rattle.bs_flat_modules.specs.Reading as spec;
 use crate::dealing::{Dealt, deal};
 use crate::names::{all_apart, are_rising, heads};
 use crate::owns::{Modules, read_owns, read_written};
-use crate::wholeness::whole;
 use bs_flat_meaning::FlatFault;
 use bs_verilog_lexemes::{Lexeme, Table};
 use bs_verilog_scope::header_marks;
@@ -125,8 +123,9 @@ fn read_dealt(
     }
 }
 
-/// The modules of a text with these lexemes, read one by one.
-fn read_each(alloc: Global, table: &Table, ts: &[Lexeme]) -> Result<Modules, FlatFault>
+/// The modules of a text with these lexemes, read one by one: its first refusal up to a second instance name within a module,
+/// else what each says, with the parts that its own text builds, and its instances as they are written.
+pub fn read_modules(alloc: Global, table: &Table, ts: &[Lexeme]) -> Result<Modules, FlatFault>
     ensures read { Answers want spec.read_modules_of result (flat.read_modules table.now ts.now) }
     ensures all { IfOk result (λ m. spec.AreAll ts.now m) }
 {
@@ -134,17 +133,4 @@ fn read_each(alloc: Global, table: &Table, ts: &[Lexeme]) -> Result<Modules, Fla
         Ok(dealt) => read_dealt(alloc, table, ts, &dealt),
         Err(_) => Err(FlatFault::NoMemory),
     }
-}
-
-/// The modules of a text with these lexemes, read one by one: its first refusal up to a second instance name within a module,
-/// else what each says, with the parts that its own text builds, and its instances as they are written. The ports of
-/// each stand first among its nets, all of which have names.
-pub fn read_modules(alloc: Global, table: &Table, ts: &[Lexeme]) -> Result<Modules, FlatFault>
-    ensures read { Answers want spec.read_modules_of result (flat.read_modules table.now ts.now) }
-    ensures whole { IfOk result (λ m. All (flat.IsRead table.now) (spec.read_modules_of m)) }
-    ensures all { IfOk result (λ m. spec.AreAll ts.now m) }
-{
-    let each = read_each(alloc, table, ts)?;
-    let read = whole(alloc, each)?;
-    Ok(read)
 }

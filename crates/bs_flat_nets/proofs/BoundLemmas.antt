@@ -10,7 +10,7 @@ use Rattle.bs_flat_meaning.proofs.CountLemmas.{sum_members, parts_are_summed}
 use Rattle.bs_flat_meaning.proofs.HeightLemmas.{tallest_same, depth_is_height}
 use Rattle.bs_flat_meaning.proofs.MemberLemmas.{Member}
 use Rattle.bs_flat_meaning.proofs.RootLemmas.{top_is_path}
-use Rattle.bs_flat_order.specs.Ring.{place_in}
+use Rattle.bs_flat_order.specs.Ring.{place_in_order}
 use Rattle.bs_flat_nets.specs.Order.{IsChildrenFirst}
 use Rattle.bs_flat_nets.proofs.ChildrenLemmas.{children_earlier}
 use Rattle.bs_flat_nets.specs.Tables.{Follows, depth_by, count_by_parts}
@@ -165,7 +165,7 @@ ends_above b x = by (nat_lt b x) refl
 pub depth_decides : (d : Design) (order table : List ℕ) → IsChildrenFirst d.modules order → Follows (depth_by (MAX_DEPTH + 1)) 0 d.modules table →
     nat_lt MAX_DEPTH (get_or table d.top 0) ≡ is_deep d
 depth_decides d order table o t =
-    let rank : ℕ → ℕ = place_in order in
+    let rank : ℕ → ℕ = place_in_order order in
     let f : Falls d rank = children_earlier d.modules order o in
     let h = heights_are d rank f in
     let at = depths_bounded d rank (height_of d rank) (λ k. get_or table k 0) (MAX_DEPTH + 1) f h t.each (suc (rank d.top)) d.top (omega arith) in
@@ -185,7 +185,7 @@ one_less m g f p v pos e = by (nat_lt (m + 1) v) refl
 pub count_decides : (d : Design) (order table : List ℕ) → IsChildrenFirst d.modules order → is_deep d ≡ false →
     Follows (count_by_parts (MAX_PARTS + 2)) 1 d.modules table → nat_lt (MAX_PARTS + 1) (get_or table d.top 1) ≡ nat_lt MAX_PARTS (part_count d)
 count_decides d order table o shallow t =
-    let rank : ℕ → ℕ = place_in order in
+    let rank : ℕ → ℕ = place_in_order order in
     let f : Falls d rank = children_earlier d.modules order o in
     let h = heights_are d rank f in
     let s = totals_are d rank (height_of d rank) f h in

@@ -11,7 +11,7 @@ use Rattle.bs_flat_meaning.proofs.MemberLemmas.{Member, member_at}
 use Rattle.bs_flat_meaning.proofs.RootLemmas.{Rooted, rooted}
 use Rattle.bs_flat_nets.specs.Blocks.{design_of}
 use Rattle.bs_flat_nets.specs.Climbing.{node_at, joins_of_node, AreClimbable, path_in, LeadsUp, IsRootOf}
-use Rattle.bs_flat_nets.specs.declared.blocks.Block.{Block}
+use Rattle.bs_flat_nets.specs.declared.blocks.FlatModule.{FlatModule}
 
 -- ---- paths
 
@@ -20,12 +20,12 @@ unfolding paths_from
 first_from n d p = rw add-one refl
 
 -- the first path is the top's
-first_path : (d : Design) → path_in d 0 ≡ []
+pub first_path : (d : Design) → path_in d 0 ≡ []
 unfolding paths
 first_path d = first_from MAX_DEPTH d []
 
 -- the joins of a node's path are those of its instance
-joins_are : (blocks : List Block) (nodes : List Node) (top k : ℕ) → ArePaths (design_of blocks top) nodes (paths (design_of blocks top)) → 0 < k →
+joins_are : (blocks : List FlatModule) (nodes : List Node) (top k : ℕ) → ArePaths (design_of blocks top) nodes (paths (design_of blocks top)) → 0 < k →
     k < length nodes → joins_at (design_of blocks top) (path_in (design_of blocks top) k) ≡ joins_of_node blocks nodes k
 joins_are blocks nodes top k a pos lt =
     let d = design_of blocks top in
@@ -48,10 +48,10 @@ root_top d n = refl
 
 -- ---- one step
 
-pub leads_start : (blocks : List Block) (nodes : List Node) (at net : ℕ) → LeadsUp blocks nodes at net at net
+pub leads_start : (blocks : List FlatModule) (nodes : List Node) (at net : ℕ) → LeadsUp blocks nodes at net at net
 leads_start blocks nodes at net = record { leads = λ top a. refl }
 
-pub leads_more : (blocks : List Block) (nodes : List Node) (at net node outer m : ℕ) → 0 < node → node < length nodes →
+pub leads_more : (blocks : List FlatModule) (nodes : List Node) (at net node outer m : ℕ) → 0 < node → node < length nodes →
     joined_with (joins_of_node blocks nodes node) outer ≡ Some m → LeadsUp blocks nodes at net node outer →
     LeadsUp blocks nodes at net (node_at nodes node).parent m
 leads_more blocks nodes at net node outer m pos lt e l =
@@ -67,7 +67,7 @@ leads_more blocks nodes at net node outer m pos lt e l =
           l.leads top a ∙ (ap (λ (q : Path). root d q outer) path ∙ root_some d i p outer m joined);
     }
 
-pub root_here : (blocks : List Block) (nodes : List Node) (at net node outer : ℕ) → 0 < node → node < length nodes →
+pub root_here : (blocks : List FlatModule) (nodes : List Node) (at net node outer : ℕ) → 0 < node → node < length nodes →
     joined_with (joins_of_node blocks nodes node) outer ≡ None → LeadsUp blocks nodes at net node outer →
     IsRootOf blocks nodes at net (record { node = node; net = outer })
 root_here blocks nodes at net node outer pos lt e l =
@@ -84,7 +84,7 @@ root_here blocks nodes at net node outer pos lt e l =
           ∙ (ap (λ (q : Path). root d q outer) path ∙ (root_none d i p outer joined ∙ ap (λ (q : Path). on q outer) (sym path)));
     }
 
-pub root_at_top : (blocks : List Block) (nodes : List Node) (at net node outer : ℕ) → node ≡ 0 → LeadsUp blocks nodes at net node outer →
+pub root_at_top : (blocks : List FlatModule) (nodes : List Node) (at net node outer : ℕ) → node ≡ 0 → LeadsUp blocks nodes at net node outer →
     IsRootOf blocks nodes at net (record { node = node; net = outer })
 root_at_top blocks nodes at net node outer e l =
     record {
@@ -98,7 +98,7 @@ root_at_top blocks nodes at net node outer e l =
 
 -- ---- nodes of paths
 
-pub paths_climb : (blocks : List Block) (nodes : List Node) (top : ℕ) → ArePaths (design_of blocks top) nodes (paths (design_of blocks top)) →
+pub paths_climb : (blocks : List FlatModule) (nodes : List Node) (top : ℕ) → ArePaths (design_of blocks top) nodes (paths (design_of blocks top)) →
     All (λ (p : Node). p.of < length blocks) nodes → AreClimbable blocks nodes
 paths_climb blocks nodes top a within =
     let d = design_of blocks top in

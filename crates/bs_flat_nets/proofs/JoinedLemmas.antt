@@ -17,7 +17,7 @@ use Rattle.bs_flat_meaning.proofs.MemberLemmas.{ranged, filter_same}
 use Rattle.bs_flat_nets.specs.Blocks.{joins_of_run}
 use Rattle.bs_flat_nets.specs.Nets.{is_free_constant, plain_count, constant_count}
 use Rattle.bs_flat_nets.specs.Constants.{entry, bit_at, known_constants, is_free, plain_left}
-use Rattle.bs_flat_nets.specs.declared.blocks.Run.{Run}
+use Rattle.bs_flat_nets.specs.declared.blocks.JoinedNets.{JoinedNets}
 use Rattle.bs_flat_nets.specs.declared.constants.Bit.{Bit}
 use Rattle.bs_flat_nets.proofs.NetLemmas.{count_none, count_either, count_append}
 
@@ -155,17 +155,17 @@ constants_counted b parts js = sym (count_bits b parts js (range_with_len 0 (len
 
 -- ---- runs
 
-pub run_width : (r : Run) → length (joins_of_run r) ≡ r.width
+pub run_width : (r : JoinedNets) → length (joins_of_run r) ≡ r.width
 run_width r = length-map (range_with_len 0 r.width) _ ∙ length-range_with_len 0 r.width
 
 pub widths_none : length (flat_map joins_of_run []) ≡ 0
 widths_none = refl
 
 -- the widths of one run more
-pub widths_more : (rs : List Run) (i : ℕ) (d : Run) → i < length rs →
+pub widths_more : (rs : List JoinedNets) (i : ℕ) (d : JoinedNets) → i < length rs →
     length (flat_map joins_of_run (take (i + 1) rs)) ≡ length (flat_map joins_of_run (take i rs)) + (get_or rs i d).width
 widths_more rs i d lt =
-    ap (λ (us : List Run). length (flat_map joins_of_run us)) (take_more rs i d lt)
+    ap (λ (us : List JoinedNets). length (flat_map joins_of_run us)) (take_more rs i d lt)
     ∙ (ap length (flat_map-append joins_of_run (take i rs) (get_or rs i d ∷ []))
     ∙ (length-append (flat_map joins_of_run (take i rs)) (joins_of_run (get_or rs i d) ++ [])
     ∙ ap (λ n. length (flat_map joins_of_run (take i rs)) + n) (ap length (append-nil (joins_of_run (get_or rs i d))) ∙ run_width (get_or rs i d))))

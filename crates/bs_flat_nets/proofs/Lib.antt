@@ -10,4 +10,9 @@ pub mod SumLemmas
 pub mod BitLemmas
 pub mod WeightLemmas
 pub mod ClimbLemmas
-pub mod LevelLemmas
+pub mod FreeLemmas
+pub mod GapLemmas
+pub mod LeftLemmas
+pub mod TallyLemmas
+pub mod PlaceLemmas
+pub mod RowLemmas

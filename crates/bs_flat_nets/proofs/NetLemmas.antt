@@ -20,7 +20,7 @@ use Rattle.bs_flat_meaning.proofs.HomeLemmas.{home_is, home_none, home_some}
 use Rattle.bs_flat_meaning.proofs.NumberLemmas.{Apart, apart_append, paths_apart}
 use Rattle.bs_flat_nets.specs.Nets.{plain_count, constant_count, below_sum}
 use Rattle.bs_flat_nets.specs.Sums.{top_sum}
-use Rattle.bs_flat_nets.specs.declared.joined.Sort.TheVariants.{Plain, Constant}
+use Rattle.bs_flat_nets.specs.declared.joined.Counted.TheVariants.{Plain, Constant}
 
 -- ---- counts of lists
 
@@ -91,7 +91,7 @@ count_first {X} eq q e (x ∷ xs) d a = by (q x) (count_first eq q e xs d a.1)
 
 -- ---- no net stands twice
 
-apart_range : (a k : ℕ) → Apart (range_with_len a k)
+pub apart_range : (a k : ℕ) → Apart (range_with_len a k)
 apart_range a zero = tt
 apart_range a (suc k) = (λ m. let r = ranged (a + 1) k a m in omega (arith, r.0), apart_range (a + 1) k)
 
@@ -102,7 +102,7 @@ apart_on p (n ∷ ns) a = (
   apart_on p ns a.1,
 )
 
-apart_nets : (f : Path → List ℕ) (ps : List Path) → Apart ps → ((p : Path) → Apart (f p)) → Apart (flat_map (λ p. map (on p) (f p)) ps)
+pub apart_nets : (f : Path → List ℕ) (ps : List Path) → Apart ps → ((p : Path) → Apart (f p)) → Apart (flat_map (λ p. map (on p) (f p)) ps)
 apart_nets f [] a h = tt
 apart_nets f (p ∷ ps) a h =
     apart_append (map (on p) (f p)) (flat_map (λ q. map (on q) (f q)) ps) (apart_on p (f p) (h p)) (apart_nets f ps a.1 h)
@@ -113,7 +113,7 @@ apart_nets f (p ∷ ps) a h =
     let same : p ≡ t.0 = sym (ap (λ (v : PathNet). v.path) s.2) ∙ ap (λ (v : PathNet). v.path) u.2 in
     a.0 (subst (λ (v : Path). Member v ps) (sym same) t.1))
 
-nets_apart : (d : Design) → Apart (path_nets d)
+pub nets_apart : (d : Design) → Apart (path_nets d)
 nets_apart d =
     apart_nets (λ p. range_with_len 0 (length (own d p).names)) (paths d) (paths_apart d) (λ p. apart_range 0 (length (own d p).names))
 

@@ -6,11 +6,11 @@ use Rattle.bs_flat_meaning.specs.Design.{Module, no_module, no_instance, instanc
 use Rattle.bs_flat_meaning.specs.Paths.{IsOf, AreModules, no_instanced}
 use Rattle.bs_flat_meaning.specs.declared.paths.Instanced.{Instanced}
 use Rattle.bs_flat_nets.specs.Blocks.{design_of, instance_of, module_of, AreThere, numbers_of, shape_of}
-use Rattle.bs_flat_nets.specs.declared.blocks.Block.{Block}
+use Rattle.bs_flat_nets.specs.declared.blocks.FlatModule.{FlatModule}
 use Rattle.bs_flat_nets.specs.declared.blocks.Child.{Child}
 
 -- the instances of a block and of its shape
-same_count : (b : Block) → length (module_of b).instances ≡ length (shape_of b).instances
+same_count : (b : FlatModule) → length (module_of b).instances ≡ length (shape_of b).instances
 same_count b = length-map b.children instance_of ∙ sym (length-map b.children (λ (c : Child). c.of))
 
 same_of : (cs : List Child) (i : ℕ) → i < length (numbers_of cs) → (get_or (map instance_of cs) i no_instance).of ≡ get_or (numbers_of cs) i 0
@@ -18,16 +18,16 @@ same_of [] i lt = absurd (omega (arith, lt))
 same_of (c ∷ cs) zero lt = refl
 same_of (c ∷ cs) (suc i) lt = same_of cs i (omega (arith, lt))
 
-pub block_in : (blocks : List Block) (top k : ℕ) (b : Block) → k < length blocks →
+pub block_in : (blocks : List FlatModule) (top k : ℕ) (b : FlatModule) → k < length blocks →
     (module_in (design_of blocks top) k ≡ module_of (get_or blocks k b)) × (get_or (map shape_of blocks) k no_instanced ≡ shape_of (get_or blocks k b))
 block_in blocks top k b lt = (get_or-map module_of blocks k b no_module lt, get_or-map shape_of blocks k b no_instanced lt)
 
 -- some block, where there is one
-first_of : (blocks : List Block) (k : ℕ) → k < length blocks → Block
+first_of : (blocks : List FlatModule) (k : ℕ) → k < length blocks → FlatModule
 first_of [] k lt = absurd (omega (arith, lt))
 first_of (b ∷ bs) k lt = b
 
-pub blocks_are : (blocks : List Block) (top : ℕ) → IsOf (map shape_of blocks) (design_of blocks top)
+pub blocks_are : (blocks : List FlatModule) (top : ℕ) → IsOf (map shape_of blocks) (design_of blocks top)
 blocks_are blocks top =
     let d = design_of blocks top in
     let wide : length (map shape_of blocks) ≡ length blocks = length-map blocks shape_of in
@@ -48,7 +48,7 @@ blocks_are blocks top =
           ∙ (same_of (get_or blocks k b).children i li2 ∙ ap (λ (s : Instanced). get_or s.instances i 0) (sym r.1));
     }
 
-pub shapes_within : (blocks : List Block) → AreThere blocks → AreModules (map shape_of blocks)
+pub shapes_within : (blocks : List FlatModule) → AreThere blocks → AreModules (map shape_of blocks)
 shapes_within blocks t =
     λ k s lt i n li.
     let wide : length (map shape_of blocks) ≡ length blocks = length-map blocks shape_of in

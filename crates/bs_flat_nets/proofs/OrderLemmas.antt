@@ -8,9 +8,9 @@ use Rattle.std.proofs.lemmas.List.Sums.{passes_at_first}
 use Rattle.bs_flat_meaning.specs.Design.{Module, Instance, instance_in, no_module, no_instance}
 use Rattle.bs_flat_meaning.specs.Counts.{sum_of, tallest}
 use Rattle.bs_flat_nets.specs.Blocks.{instance_of, module_of}
-use Rattle.bs_flat_nets.specs.declared.blocks.Block.{Block}
+use Rattle.bs_flat_nets.specs.declared.blocks.FlatModule.{FlatModule}
 use Rattle.bs_flat_nets.specs.declared.blocks.Child.{Child}
-use Rattle.bs_flat_order.specs.Ring.{place_in}
+use Rattle.bs_flat_order.specs.Ring.{place_in_order}
 use Rattle.bs_flat_nets.specs.Order.{module_in, IsChildrenFirst}
 use Rattle.bs_flat_nets.proofs.ChildrenLemmas.{all_there, each_placed, children_earlier}
 use Rattle.bs_flat_nets.specs.Tables.{Follows, FollowsFirst, depth_by, count_by_parts, own_count}
@@ -23,9 +23,9 @@ pub follows_none : (rule : (ℕ → ℕ) → Module → ℕ) (past : ℕ) (modul
 follows_none rule past modules order table = record { each = λ j lt. absurd (omega (arith, lt)) }
 
 -- the numbers of modules that stand before another in the order stay where that one's is set
-kept : (past : ℕ) (order table : List ℕ) (m c v : ℕ) → place_in order c < place_in order m → get_or (set table m v) c past ≡ get_or table c past
+kept : (past : ℕ) (order table : List ℕ) (m c v : ℕ) → place_in_order order c < place_in_order order m → get_or (set table m v) c past ≡ get_or table c past
 kept past order table m c v less =
-    let apart : c ≡ m → ⊥ = λ e. let same = ap (place_in order) e in omega (arith, less, same) in
+    let apart : c ≡ m → ⊥ = λ e. let same = ap (place_in_order order) e in omega (arith, less, same) in
     get_or-set_other table m c v past apart
 
 pub follows_more : (rule : (ℕ → ℕ) → Module → ℕ) (past : ℕ) (modules : List Module) (order table after : List ℕ) (i m v : ℕ) → IsLocal rule →
@@ -33,9 +33,9 @@ pub follows_more : (rule : (ℕ → ℕ) → Module → ℕ) (past : ℕ) (modul
     v ≡ rule (λ j. get_or table j past) (module_in modules m) → after ≡ set table m v →
     FollowsFirst rule past modules order i table → FollowsFirst rule past modules order (i + 1) after
 follows_more rule past modules order table after i m v l o lt em wide ev ea first =
-    let here : place_in order m ≡ i = ap (place_in order) em ∙ o.once i lt in
+    let here : place_in_order order m ≡ i = ap (place_in_order order) em ∙ o.once i lt in
     let At : List ℕ → ℕ → ℕ = λ t j. get_or t j past in
-    let below : (k : ℕ) → place_in order k ≤ i → rule (At after) (module_in modules k) ≡ rule (At table) (module_in modules k) =
+    let below : (k : ℕ) → place_in_order order k ≤ i → rule (At after) (module_in modules k) ≡ rule (At table) (module_in modules k) =
     λ k le.
     l.same (At after) (At table) (module_in modules k)
     (λ x lx.
@@ -48,7 +48,7 @@ follows_more rule past modules order table after i m v l o lt em wide ev ea firs
           let k = get_or order j 0 in
           ⊎_elim
           (λ (b : j < i).
-          let place : place_in order k ≡ j = o.once j (omega (arith, b, lt)) in
+          let place : place_in_order order k ≡ j = o.once j (omega (arith, b, lt)) in
           ap (λ (t : List ℕ). get_or t k past) ea
           ∙ (kept past order table m k v (omega (arith, b, place, here))
           ∙ (first.each j b ∙ sym (below k (omega (arith, b, place))))))
@@ -72,8 +72,8 @@ follows_all rule past modules order table count o rest wide all first =
           ⊎_elim
           (λ (b : k < length modules).
           let there = each_placed modules order o k b in
-          let read : k ≡ get_or order (place_in order k) 0 = eqb-true k (get_or order (place_in order k) 0) (passes_at_first (nat_eq k) order 0 there) in
-          subst (λ n. At n ≡ rule At (module_in modules n)) (sym read) (first.each (place_in order k) (omega (arith, there, all))))
+          let read : k ≡ get_or order (place_in_order order k) 0 = eqb-true k (get_or order (place_in_order order k) 0) (passes_at_first (nat_eq k) order 0 there) in
+          subst (λ n. At n ≡ rule At (module_in modules n)) (sym read) (first.each (place_in_order order k) (omega (arith, there, all))))
           (λ (g : length modules ≤ k).
           get_or_past table k past (omega (arith, g, wide))
           ∙ (sym (rest At) ∙ ap (rule At) (sym (get_or_past modules k no_module g))))
@@ -82,15 +82,15 @@ follows_all rule past modules order table count o rest wide all first =
 
 -- ---- the modules of blocks
 
-pub block_is : (blocks : List Block) (m : ℕ) (b : Block) → m < length blocks → b ≡ get_or blocks m b → module_in (map module_of blocks) m ≡ module_of b
+pub block_is : (blocks : List FlatModule) (m : ℕ) (b : FlatModule) → m < length blocks → b ≡ get_or blocks m b → module_in (map module_of blocks) m ≡ module_of b
 block_is blocks m b lt e = get_or-map module_of blocks m b no_module lt ∙ ap module_of (sym e)
 
-pub in_order : (blocks : List Block) (order : List ℕ) (i : ℕ) → IsChildrenFirst (map module_of blocks) order → i < length order →
+pub in_order : (blocks : List FlatModule) (order : List ℕ) (i : ℕ) → IsChildrenFirst (map module_of blocks) order → i < length order →
     get_or order i 0 < length blocks
 in_order blocks order i o lt = let there = all_there (map module_of blocks) order o i 0 lt in omega (arith, there, length-map blocks module_of)
 
 -- an instance of a block is of a module that is there
-pub children_within : (blocks : List Block) (order : List ℕ) (m : ℕ) (b : Block) → IsChildrenFirst (map module_of blocks) order → m < length blocks →
+pub children_within : (blocks : List FlatModule) (order : List ℕ) (m : ℕ) (b : FlatModule) → IsChildrenFirst (map module_of blocks) order → m < length blocks →
     b ≡ get_or blocks m b → All (λ (c : Child). c.of < length blocks) b.children
 children_within blocks order m b o lt e =
     λ x d lx.
@@ -102,11 +102,11 @@ children_within blocks order m b o lt e =
     let lx2 : x < length (module_in modules m).instances = subst (λ (u : Module). x < length u.instances) (sym same) (omega (arith, lx, count)) in
     let child : (instance_in (module_in modules m) x).of ≡ k =
     ap (λ (u : Module). (instance_in u x).of) same ∙ ap (λ (u : Instance). u.of) (get_or-map instance_of b.children x d no_instance lx) in
-    let less : place_in order (instance_in (module_in modules m) x).of < place_in order m = children_earlier modules order o m x lx2 in
-    let here : place_in order m < length order = each_placed modules order o m (omega (arith, lt, wide)) in
-    let there : place_in order k < length order = subst (λ n. place_in order n < length order) child (omega (arith, less, here)) in
-    let read : k ≡ get_or order (place_in order k) 0 = eqb-true k (get_or order (place_in order k) 0) (passes_at_first (nat_eq k) order 0 there) in
-    subst (λ n. n < length blocks) (sym read) (in_order blocks order (place_in order k) o there)
+    let less : place_in_order order (instance_in (module_in modules m) x).of < place_in_order order m = children_earlier modules order o m x lx2 in
+    let here : place_in_order order m < length order = each_placed modules order o m (omega (arith, lt, wide)) in
+    let there : place_in_order order k < length order = subst (λ n. place_in_order order n < length order) child (omega (arith, less, here)) in
+    let read : k ≡ get_or order (place_in_order order k) 0 = eqb-true k (get_or order (place_in_order order k) 0) (passes_at_first (nat_eq k) order 0 there) in
+    subst (λ n. n < length blocks) (sym read) (in_order blocks order (place_in_order order k) o there)
 
 tallest_map : {A B : Type 0} (f : B → ℕ) (g : A → B) (xs : List A) → tallest f (map g xs) ≡ tallest (λ x. f (g x)) xs
 unfolding tallest
@@ -119,12 +119,12 @@ sum_map f g [] = refl
 sum_map f g (x ∷ xs) = ap (λ n. f (g x) + n) (sum_map f g xs)
 
 -- what the rules give for a block
-pub depth_rule : (blocks : List Block) (m bound : ℕ) (b : Block) (v : ℕ → ℕ) → m < length blocks → b ≡ get_or blocks m b →
+pub depth_rule : (blocks : List FlatModule) (m bound : ℕ) (b : FlatModule) (v : ℕ → ℕ) → m < length blocks → b ≡ get_or blocks m b →
     depth_by bound v (module_in (map module_of blocks) m) ≡ min bound (tallest (λ (c : Child). v c.of) b.children)
 depth_rule blocks m bound b v lt e =
     ap (depth_by bound v) (block_is blocks m b lt e) ∙ ap (min bound) (tallest_map (λ (i : Instance). v i.of) instance_of b.children)
 
-pub count_rule : (blocks : List Block) (m bound own : ℕ) (b : Block) (v : ℕ → ℕ) → m < length blocks → b ≡ get_or blocks m b →
+pub count_rule : (blocks : List FlatModule) (m bound own : ℕ) (b : FlatModule) (v : ℕ → ℕ) → m < length blocks → b ≡ get_or blocks m b →
     own ≡ min bound (own_count b) →
     count_by_parts bound v (module_in (map module_of blocks) m) ≡ min bound (own + sum_of (λ (c : Child). v c.of) b.children)
 count_rule blocks m bound own b v lt e eo =

@@ -10,7 +10,7 @@ use Rattle.bs_flat_meaning.specs.Design.{Join}
 use Rattle.bs_flat_meaning.specs.Meaning.{joined_with}
 use Rattle.bs_flat_nets.specs.Blocks.{joins_of_run}
 use Rattle.bs_flat_nets.specs.Constants.{covers}
-use Rattle.bs_flat_nets.specs.declared.blocks.Run.{Run}
+use Rattle.bs_flat_nets.specs.declared.blocks.JoinedNets.{JoinedNets}
 use Rattle.bs_flat_nets.proofs.JoinedLemmas.{joined_more}
 
 joined_append : (xs ys : List Join) (n : ℕ) → is_some (joined_with (xs ++ ys) n) ≡ (is_some (joined_with xs n) || is_some (joined_with ys n))
@@ -73,14 +73,14 @@ from_place inner outer n a (suc w) =
         (λ (g : all ≡ false). f ∙ sym g)
         (cases_Bool all)
 
-run_joins : (r : Run) (n : ℕ) → is_some (joined_with (joins_of_run r) n) ≡ covers r n
+run_joins : (r : JoinedNets) (n : ℕ) → is_some (joined_with (joins_of_run r) n) ≡ covers r n
 run_joins r n =
     let low : r.inner + 0 ≡ r.inner = omega arith in
     from_place r.inner r.outer n 0 r.width
     ∙ (ap (λ k. nat_le k n && nat_lt (n - r.inner) (0 + r.width)) low ∙ ap (λ k. nat_le r.inner n && nat_lt (n - r.inner) k) (zero-add r.width))
 
 -- runs join a net where one of them covers it
-pub runs_join : (rs : List Run) (n : ℕ) → is_some (joined_with (flat_map joins_of_run rs) n) ≡ list_any (λ r. covers r n) rs
+pub runs_join : (rs : List JoinedNets) (n : ℕ) → is_some (joined_with (flat_map joins_of_run rs) n) ≡ list_any (λ r. covers r n) rs
 runs_join [] n = refl
 runs_join (r ∷ rs) n =
     joined_append (joins_of_run r) (flat_map joins_of_run rs) n
@@ -132,30 +132,30 @@ value_from inner outer n a (suc w) low high =
     by false e rest = let apart = eqb-false (inner + a) n e in rest (omega (arith, low, apart)) (omega (arith, high))
 
 -- what a run that covers a net says of it
-pub record IsCovered (r : Run) (n : ℕ) : Type 0 where
+pub record IsCovered (r : JoinedNets) (n : ℕ) : Type 0 where
   pub low : r.inner ≤ n
   pub high : n - r.inner < r.width
 
-pub covered : (r : Run) (n : ℕ) → covers r n ≡ true → IsCovered r n
+pub covered : (r : JoinedNets) (n : ℕ) → covers r n ≡ true → IsCovered r n
 covered r n e =
     let both = and_parts (nat_le r.inner n) (nat_lt (n - r.inner) r.width) e in
     record { low = leb-true r.inner n both.0; high = ltb-true (n - r.inner) r.width both.1 }
 
-run_value : (r : Run) (n : ℕ) → covers r n ≡ true → joined_with (joins_of_run r) n ≡ Some (r.outer + (n - r.inner))
+run_value : (r : JoinedNets) (n : ℕ) → covers r n ≡ true → joined_with (joins_of_run r) n ≡ Some (r.outer + (n - r.inner))
 run_value r n e = let c = covered r n e in value_from r.inner r.outer n 0 r.width (omega (arith, c.low)) (omega (arith, c.high))
 
 -- the first run that covers a net says with which it is joined
-pub runs_here : (rs : List Run) (i n : ℕ) (d : Run) → i < length rs → covers (get_or rs i d) n ≡ true →
+pub runs_here : (rs : List JoinedNets) (i n : ℕ) (d : JoinedNets) → i < length rs → covers (get_or rs i d) n ≡ true →
     joined_with (flat_map joins_of_run (drop i rs)) n ≡ Some ((get_or rs i d).outer + (n - (get_or rs i d).inner))
 runs_here rs i n d lt e =
-    ap (λ (us : List Run). joined_with (flat_map joins_of_run us) n) (drop_more rs i d lt)
+    ap (λ (us : List JoinedNets). joined_with (flat_map joins_of_run us) n) (drop_more rs i d lt)
     ∙ joined_front (joins_of_run (get_or rs i d)) (flat_map joins_of_run (drop (i + 1) rs)) n _ (run_value (get_or rs i d) n e)
 
-pub runs_past : (rs : List Run) (i n : ℕ) (d : Run) → i < length rs → covers (get_or rs i d) n ≡ false →
+pub runs_past : (rs : List JoinedNets) (i n : ℕ) (d : JoinedNets) → i < length rs → covers (get_or rs i d) n ≡ false →
     joined_with (flat_map joins_of_run (drop i rs)) n ≡ joined_with (flat_map joins_of_run (drop (i + 1) rs)) n
 runs_past rs i n d lt e =
-    ap (λ (us : List Run). joined_with (flat_map joins_of_run us) n) (drop_more rs i d lt)
+    ap (λ (us : List JoinedNets). joined_with (flat_map joins_of_run us) n) (drop_more rs i d lt)
     ∙ joined_past (joins_of_run (get_or rs i d)) (flat_map joins_of_run (drop (i + 1) rs)) n (run_joins (get_or rs i d) n ∙ e)
 
-pub runs_none : (rs : List Run) (i n : ℕ) → length rs ≤ i → joined_with (flat_map joins_of_run (drop i rs)) n ≡ None
-runs_none rs i n le = ap (λ (us : List Run). joined_with (flat_map joins_of_run us) n) (drop_all i rs le)
+pub runs_none : (rs : List JoinedNets) (i n : ℕ) → length rs ≤ i → joined_with (flat_map joins_of_run (drop i rs)) n ≡ None
+runs_none rs i n le = ap (λ (us : List JoinedNets). joined_with (flat_map joins_of_run us) n) (drop_all i rs le)

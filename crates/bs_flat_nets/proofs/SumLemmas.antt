@@ -7,7 +7,7 @@ use Rattle.bs_flat_meaning.specs.Reading.{is_deep}
 use Rattle.bs_flat_meaning.specs.declared.limits.TheConstants.{MAX_DEPTH}
 use Rattle.bs_flat_meaning.proofs.CountLemmas.{sum_members}
 use Rattle.bs_flat_meaning.proofs.HeightLemmas.{depth_is_height}
-use Rattle.bs_flat_order.specs.Ring.{place_in}
+use Rattle.bs_flat_order.specs.Ring.{place_in_order}
 use Rattle.bs_flat_nets.specs.Order.{IsChildrenFirst}
 use Rattle.bs_flat_nets.proofs.ChildrenLemmas.{children_earlier}
 use Rattle.bs_flat_nets.specs.Tables.{Follows}
@@ -95,7 +95,7 @@ module _ (d : Design) (g : Instance → ℕ) (v : ℕ → ℕ) (h : IsHeight d v
 pub sum_decides : (d : Design) (g : Instance → ℕ) (b : ℕ) (order table : List ℕ) → IsChildrenFirst d.modules order → is_deep d ≡ false →
     Follows (sum_below b g) 0 d.modules table → get_or table d.top 0 ≡ min b (below_sum MAX_DEPTH d g (module_at d []))
 sum_decides d g b order table o shallow t =
-    let rank : ℕ → ℕ = place_in order in
+    let rank : ℕ → ℕ = place_in_order order in
     let v : ℕ → ℕ = height_of d rank in
     let h = heights_are d rank (children_earlier d.modules order o) in
     let low = ltb-false MAX_DEPTH (v d.top) (sym (depth_is_height d v h) ∙ shallow) in

@@ -2,6 +2,7 @@
 use Rattle.std.proofs.Common.{◌≡◌, ℕ, ◌<◌, ◌+◌, max, List, [], ◌∷◌, ◌++◌, length, get_or, take, refl, arith, ap, ◌∙◌}
 use Rattle.std.proofs.lemmas.List.{take_more}
 use Rattle.bs_flat_meaning.specs.Counts.{sum_of, tallest}
+use Rattle.bs_flat_meaning.proofs.CountLemmas.{sum_append}
 
 -- ---- one member more
 
@@ -23,11 +24,6 @@ tallest_more f xs i d lt =
 pub tallest_none : {A : Type 0} (f : A → ℕ) → tallest f [] ≡ 0
 unfolding tallest
 tallest_none f = refl
-
-sum_append : {A : Type 0} (f : A → ℕ) (xs ys : List A) → sum_of f (xs ++ ys) ≡ sum_of f xs + sum_of f ys
-unfolding sum_of
-sum_append f [] ys = omega arith
-sum_append f (x ∷ xs) ys = let rest = sum_append f xs ys in omega (arith, rest)
 
 sum_one : {A : Type 0} (f : A → ℕ) (x : A) → sum_of f (x ∷ []) ≡ f x
 unfolding sum_of

@@ -8,7 +8,7 @@ use Rattle.bs_net.specs.Parts.{Parts}
 use Rattle.bs_flat_meaning.specs.Design.{Join}
 use Rattle.bs_flat_meaning.specs.Meaning.{joined_with}
 use Rattle.bs_flat_meaning.specs.Flat.{constant_bit}
-use Rattle.bs_flat_nets.specs.declared.blocks.Run.{Run}
+use Rattle.bs_flat_nets.specs.declared.blocks.JoinedNets.{JoinedNets}
 use Rattle.bs_flat_nets.specs.declared.constants.Bit.{Bit}
 
 -- a net with its bit, where that is known
@@ -46,5 +46,5 @@ noted named k table =
     if named then slice_set table k.net.0 (Some (unwrap_or (slice_index_or table k.net.0 None) k.value)) else table
 
 -- whether a run joins a net
-abbrev pub covers : Run → ℕ → Bool
+abbrev pub covers : JoinedNets → ℕ → Bool
 covers r n = nat_le r.inner n && nat_lt (n - r.inner) r.width

@@ -11,3 +11,11 @@ pub mod Constants
 pub mod Sums
 -- How nets are climbed.
 pub mod Climbing
+-- The nets that joins leave to an instance.
+pub mod Free
+-- The flat nets, taken one by one.
+pub mod Tally
+-- The runs of each instance in order.
+pub mod Rows
+-- What the flat nets of a design are numbered by.
+pub mod Numbering

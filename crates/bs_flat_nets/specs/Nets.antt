@@ -6,8 +6,8 @@ use Rattle.bs_flat_meaning.specs.Design.{Design, Module, Instance, Join, module_
 use Rattle.bs_flat_meaning.specs.Meaning.{joined_with}
 use Rattle.bs_flat_meaning.specs.Flat.{constant_bit, is_bit}
 use Rattle.bs_flat_meaning.specs.Counts.{sum_of}
-use Rattle.bs_flat_nets.specs.declared.joined.Sort.{Sort}
-use Rattle.bs_flat_nets.specs.declared.joined.Sort.TheVariants.{Plain, Constant}
+use Rattle.bs_flat_nets.specs.declared.joined.Counted.{Counted}
+use Rattle.bs_flat_nets.specs.declared.joined.Counted.TheVariants.{Plain, Constant}
 
 -- a net that is joined with none of the parent, and is no constant
 abbrev pub is_plain_net : Parts → List Join → ℕ → Bool
@@ -26,7 +26,7 @@ unfoldable pub constant_count : Bool → Parts → List Join → ℕ
 constant_count b parts joins = length (filter (is_free_constant b parts joins) (range_with_len 0 (length parts.names)))
 
 -- how many nets of a module with these joins are of a sort
-abbrev pub weigh : Sort → Parts → List Join → ℕ
+abbrev pub weigh : Counted → Parts → List Join → ℕ
 weigh Plain parts joins = plain_count parts joins
 weigh (Constant b) parts joins = constant_count b parts joins
 

@@ -7,7 +7,7 @@ use Rattle.bs_net.specs.Order.{IsOrder, no_gate}
 use Rattle.bs_flat_meaning.specs.Design.{Module, instance_in, no_module}
 use Rattle.bs_flat_order.specs.Ring as numbers
 use Rattle.bs_flat_nets.specs.Blocks.{module_of, numbers_of}
-use Rattle.bs_flat_nets.specs.declared.blocks.Block.{Block}
+use Rattle.bs_flat_nets.specs.declared.blocks.FlatModule.{FlatModule}
 
 -- the module with a number
 abbrev pub module_in : List Module → ℕ → Module
@@ -22,7 +22,7 @@ abbrev pub below_of : List Module → List (List ℕ)
 below_of modules = map instanced modules
 
 -- the same of each block
-abbrev pub below_blocks : List Block → List (List ℕ)
+abbrev pub below_blocks : List FlatModule → List (List ℕ)
 below_blocks blocks = map (λ b. numbers_of b.children) blocks
 
 -- the order has each module once, and the modules that one instances before it
@@ -32,17 +32,4 @@ IsChildrenFirst modules order = numbers.IsChildrenFirst (below_of modules) order
 -- an order by the numbers of blocks' instances is one of the modules that the blocks are
 abbrev pub NumberedIsChildrenFirst : Type 0
 NumberedIsChildrenFirst =
-    (blocks : List Block) (order : List ℕ) → numbers.IsChildrenFirst (below_blocks blocks) order → IsChildrenFirst (map module_of blocks) order
-
--- gates that stand for modules: each drives the net of its module's number, and reads those of the modules that it instances
-pub record AreGatesOf (modules : List Module) (gates : List Gate) : Type 0 where
-  pub count : length gates ≡ length modules
-  pub outs : (k : ℕ) → k < length modules → (slice_index_or gates k no_gate).out.0 ≡ k
-  pub ins : (k i : ℕ) → k < length modules → i < length (module_in modules k).instances →
-      Contains (slice_index_or gates k no_gate).ins (net (instance_in (module_in modules k) i).of)
-  pub there : (k i : ℕ) → i < length (module_in modules k).instances → (instance_in (module_in modules k) i).of < length modules
-
--- an order of such gates is one of their modules, each after those that it instances
-abbrev pub LevelledIsChildrenFirst : Type 0
-LevelledIsChildrenFirst =
-    (modules : List Module) (gates : List Gate) (order : List ℕ) → AreGatesOf modules gates → IsOrder gates order → IsChildrenFirst modules order
+    (blocks : List FlatModule) (order : List ℕ) → numbers.IsChildrenFirst (below_blocks blocks) order → IsChildrenFirst (map module_of blocks) order

@@ -3,7 +3,7 @@ use Rattle.std.specs.Prelude.{◌≡◌, ℕ, ◌+◌, ◌<◌, List, length, mi
 use Rattle.bs_flat_meaning.specs.Design.{Module}
 use Rattle.bs_flat_meaning.specs.Counts.{sum_of, tallest, parts_in}
 use Rattle.bs_flat_nets.specs.Order.{module_in}
-use Rattle.bs_flat_nets.specs.declared.blocks.Block.{Block}
+use Rattle.bs_flat_nets.specs.declared.blocks.FlatModule.{FlatModule}
 
 -- the depth of a module: one past the end of the table has no instances
 abbrev pub depth_at : List ℕ → ℕ → ℕ
@@ -14,7 +14,7 @@ abbrev pub count_at : List ℕ → ℕ → ℕ
 count_at table k = slice_index_or table k 1
 
 -- the own parts of a block, and its path
-abbrev pub own_count : Block → ℕ
+abbrev pub own_count : FlatModule → ℕ
 own_count b = length b.gates + (length b.flops + 1)
 
 -- a module's depth of those of its instances, up to a bound

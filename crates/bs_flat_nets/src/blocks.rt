@@ -6,7 +6,7 @@ use bs_net::{Const, Flop, Gate, NetId};
 /// Joined nets side by side: for each number below `width`, the net of the instance so far behind `inner` is joined with the
 /// net of the module around it so far behind `outer`.
 #[derive(Clone, Copy, Debug, PartialEq, Eq)]
-pub struct Run {
+pub struct JoinedNets {
     pub inner: u32,
     pub outer: u32,
     pub width: u32,
@@ -17,12 +17,12 @@ pub struct Run {
 pub struct Child {
     pub name: String,
     pub of: u32,
-    pub joins: List<Run>,
+    pub joins: List<JoinedNets>,
 }
 
 /// A module: its own parts, each net by the place of its key among `names`, and its instances in file order.
 #[derive(Drop)]
-pub struct Block {
+pub struct FlatModule {
     pub names: List<String>,
     pub inputs: List<NetId>,
     pub outputs: List<NetId>,

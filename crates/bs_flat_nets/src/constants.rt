@@ -7,7 +7,7 @@ ghost use Rattle.bs_verilog_scope.specs.Keys as keys;
 ghost use Rattle.bs_flat_nets.specs.Blocks.{own_of};
 ghost use Rattle.bs_flat_nets.specs.Constants as spec;
 
-use crate::blocks::Block;
+use crate::blocks::FlatModule;
 use bs_bits::{List, NoMemory};
 use bs_net::Const;
 use bs_verilog_scope::constant_key;
@@ -49,7 +49,7 @@ fn note(table: &mut Vec<Option<bool>>, constant: Const, named: bool)
 }
 
 /// The bit of each net of a block that is a constant.
-fn bit_table(alloc: Global, block: &Block) -> Result<Vec<Option<bool>>, NoMemory>
+fn bit_table(alloc: Global, block: &FlatModule) -> Result<Vec<Option<bool>>, NoMemory>
     requires { All (λ k. k.net.0 < length block.now.names) block.now.consts }
     ensures { IfOk result (λ t. t.items ≡ map (constant_bit (own_of block.now)) (range_with_len 0 (length (own_of block.now).names))) }
 {
@@ -88,7 +88,7 @@ fn known_bits(alloc: Global, table: &[Option<bool>]) -> Result<List<Bit>, NoMemo
 }
 
 /// The constants of a block in the order of its nets.
-pub fn block_bits(alloc: Global, block: &Block) -> Result<List<Bit>, NoMemory>
+pub fn block_bits(alloc: Global, block: &FlatModule) -> Result<List<Bit>, NoMemory>
     requires { All (λ k. k.net.0 < length block.now.names) block.now.consts }
     ensures { IfOk result (λ bits. bits ≡ spec.known_constants (own_of block.now)) }
 {
@@ -98,7 +98,7 @@ pub fn block_bits(alloc: Global, block: &Block) -> Result<List<Bit>, NoMemory>
 }
 
 /// The constants of all blocks.
-pub fn all_bits(alloc: Global, blocks: &[Block]) -> Result<List<List<Bit>>, NoMemory>
+pub fn all_bits(alloc: Global, blocks: &[FlatModule]) -> Result<List<List<Bit>>, NoMemory>
     requires { All (λ b. All (λ k. k.net.0 < length b.names) b.consts) blocks.now }
     ensures { IfOk result (λ all. all ≡ map (λ b. spec.known_constants (own_of b)) blocks.now) }
 {

@@ -7,7 +7,7 @@ ghost use Rattle.bs_flat_nets.specs.Blocks.{design_of, module_of};
 ghost use Rattle.bs_flat_nets.specs.Order.{IsChildrenFirst};
 ghost use Rattle.bs_flat_nets.specs.Tables.{Follows, depth_by, count_by_parts, depth_at, count_at, own_count};
 
-use crate::blocks::{Block, Child};
+use crate::blocks::{Child, FlatModule};
 use bs_bits::NoMemory;
 use bs_flat_meaning::MAX_DEPTH;
 use std::alloc::Global;
@@ -58,7 +58,7 @@ fn count_of(counts: &[u32], own: u32, children: &[Child]) -> u32
 }
 
 /// The own parts of a block and its path; at most `TOO_MANY`.
-fn own_parts(block: &Block) -> u32
+fn own_parts(block: &FlatModule) -> u32
     ensures { result ≡ min TOO_MANY (own_count block.now) }
 {
     let parts = block.gates.len().saturating_add(block.flops.len());
@@ -67,7 +67,7 @@ fn own_parts(block: &Block) -> u32
 }
 
 /// The depths of all modules.
-fn depths(alloc: Global, blocks: &[Block], order: &[u32]) -> Result<Vec<u32>, NoMemory>
+fn depths(alloc: Global, blocks: &[FlatModule], order: &[u32]) -> Result<Vec<u32>, NoMemory>
     requires { IsChildrenFirst (map module_of blocks.now) order.now }
     ensures wide { IfOk result (λ t. length t.items ≡ length blocks.now) }
     ensures follows { IfOk result (λ t. Follows (depth_by TOO_DEEP) 0 (map module_of blocks.now) t.items) }
@@ -81,7 +81,7 @@ fn depths(alloc: Global, blocks: &[Block], order: &[u32]) -> Result<Vec<u32>, No
 }
 
 /// The counts of all modules.
-fn counts(alloc: Global, blocks: &[Block], order: &[u32]) -> Result<Vec<u32>, NoMemory>
+fn counts(alloc: Global, blocks: &[FlatModule], order: &[u32]) -> Result<Vec<u32>, NoMemory>
     requires { IsChildrenFirst (map module_of blocks.now) order.now }
     ensures wide { IfOk result (λ t. length t.items ≡ length blocks.now) }
     ensures follows { IfOk result (λ t. Follows (count_by_parts TOO_MANY) 1 (map module_of blocks.now) t.items) }
@@ -104,7 +104,12 @@ fn at(table: &[u32], k: u32) -> u32
 }
 
 /// Whether a path of the design has more than `MAX_DEPTH` instance names.
-pub fn is_deep(alloc: Global, blocks: &[Block], order: &[u32], top: u32) -> Result<bool, NoMemory>
+pub fn is_deep(
+    alloc: Global,
+    blocks: &[FlatModule],
+    order: &[u32],
+    top: u32,
+) -> Result<bool, NoMemory>
     requires order { IsChildrenFirst (map module_of blocks.now) order.now }
     requires top { top < length blocks.now }
     ensures { IfOk result (λ deep. deep ≡ reading.is_deep (design_of blocks.now top)) }
@@ -116,7 +121,7 @@ pub fn is_deep(alloc: Global, blocks: &[Block], order: &[u32], top: u32) -> Resu
 /// Whether a design that is not too deep has more than `MAX_PARTS` gates, flip-flops and instances.
 pub fn has_many_parts(
     alloc: Global,
-    blocks: &[Block],
+    blocks: &[FlatModule],
     order: &[u32],
     top: u32,
 ) -> Result<bool, NoMemory>

@@ -6,12 +6,12 @@ ghost use Rattle.bs_flat_nets.specs.Blocks.{joins_of_run, own_of};
 ghost use Rattle.bs_flat_nets.specs.Constants as spec;
 ghost use Rattle.bs_flat_nets.specs.Nets.{weigh};
 
-use crate::blocks::{Block, Run};
+use crate::blocks::{FlatModule, JoinedNets};
 use crate::constants::Bit;
 
 /// Which nets of an instance are counted, of those that are joined with no net of the parent.
 #[derive(Clone, Copy, Debug, PartialEq, Eq)]
-pub enum Sort {
+pub enum Counted {
     /// Those that are no constant.
     Plain,
     /// Those that are this constant.
@@ -19,7 +19,7 @@ pub enum Sort {
 }
 
 /// Whether a run joins a net of its instance.
-fn covers(run: Run, net: usize) -> bool
+pub fn covers(run: JoinedNets, net: usize) -> bool
     ensures { result ≡ spec.covers run net }
 {
     let inner = run.inner as usize;
@@ -27,21 +27,21 @@ fn covers(run: Run, net: usize) -> bool
 }
 
 /// Whether one of some runs joins a net of their instance.
-fn any_covers(runs: &[Run], net: usize) -> bool
+fn any_covers(runs: &[JoinedNets], net: usize) -> bool
     ensures { result ≡ list_any (λ r. spec.covers r net) runs.now }
 {
     runs.iter().any(|run| covers(*run, net))
 }
 
 /// Whether runs join a net of their instance.
-fn is_joined(runs: &[Run], net: usize) -> bool
+fn is_joined(runs: &[JoinedNets], net: usize) -> bool
     ensures { result ≡ is_some (joined_with (flat_map joins_of_run runs.now) net) }
 {
     any_covers(runs, net)
 }
 
 /// How many of so many nets are left where runs join theirs.
-fn unjoined(nets: usize, runs: &[Run]) -> usize
+fn unjoined(nets: usize, runs: &[JoinedNets]) -> usize
     ensures { result ≡ nets - length (flat_map joins_of_run runs.now) }
 {
     let mut left = nets;
@@ -52,7 +52,7 @@ fn unjoined(nets: usize, runs: &[Run]) -> usize
 }
 
 /// Whether a constant has a value and is joined by no run.
-fn is_free(bit: Bit, runs: &[Run], value: bool) -> bool
+fn is_free(bit: Bit, runs: &[JoinedNets], value: bool) -> bool
     ensures { result ≡ spec.is_free value (flat_map joins_of_run runs.now) bit }
 {
     let joined = is_joined(runs, bit.net);
@@ -68,7 +68,7 @@ fn one_if(holds: bool) -> usize
 }
 
 /// How many constants with a value runs do not join.
-fn free_constants(bits: &[Bit], runs: &[Run], value: bool) -> usize
+fn free_constants(bits: &[Bit], runs: &[JoinedNets], value: bool) -> usize
     ensures { result ≡ spec.free_count value (flat_map joins_of_run runs.now) bits.now }
 {
     let mut count = 0;
@@ -80,7 +80,7 @@ fn free_constants(bits: &[Bit], runs: &[Run], value: bool) -> usize
 }
 
 /// How many of so many nets runs do not join, the constants aside.
-fn plain_nets(nets: usize, bits: &[Bit], runs: &[Run]) -> usize
+fn plain_nets(nets: usize, bits: &[Bit], runs: &[JoinedNets]) -> usize
     ensures { result ≡ spec.plain_left nets (flat_map joins_of_run runs.now) bits.now }
 {
     let zeros = free_constants(bits, runs, false);
@@ -91,20 +91,20 @@ fn plain_nets(nets: usize, bits: &[Bit], runs: &[Run]) -> usize
 }
 
 /// How many nets of a block with these joins are of a sort.
-pub fn weight(sort: Sort, block: &Block, bits: &[Bit], runs: &[Run]) -> usize
+pub fn weight(sort: Counted, block: &FlatModule, bits: &[Bit], runs: &[JoinedNets]) -> usize
     requires bits { bits.now ≡ spec.known_constants (own_of block.now) }
     requires within { All (λ j. j.inner.0 < length block.now.names) (flat_map joins_of_run runs.now) }
     requires once { IsDistinct nat_eq (map (λ j. j.inner.0) (flat_map joins_of_run runs.now)) }
     ensures { result ≡ weigh sort (own_of block.now) (flat_map joins_of_run runs.now) }
 {
     match sort {
-        Sort::Plain => plain_nets(block.names.len(), bits, runs),
-        Sort::Constant(value) => free_constants(bits, runs, value),
+        Counted::Plain => plain_nets(block.names.len(), bits, runs),
+        Counted::Constant(value) => free_constants(bits, runs, value),
     }
 }
 
 /// The net of the parent with which a run joins a net that it covers.
-fn outer_net(run: Run, net: usize) -> usize
+pub fn outer_net(run: JoinedNets, net: usize) -> usize
     requires low { run.inner ≤ net }
     requires high { net - run.inner < run.width }
     ensures { result ≡ run.outer + (net - run.inner) }
@@ -113,7 +113,7 @@ fn outer_net(run: Run, net: usize) -> usize
 }
 
 /// The net of the parent with which runs join a net of their instance, if one does.
-pub fn outer_of(runs: &[Run], net: usize) -> Option<usize>
+pub fn outer_of(runs: &[JoinedNets], net: usize) -> Option<usize>
     ensures { result ≡ joined_with (flat_map joins_of_run runs.now) net }
 {
     'each: for run in runs {

@@ -1,27 +1,35 @@
-//! The flat parts of a design, made module by module and path by path.
+//! The flat nets of a design of modules in code: how many there are, their order, and the number of the flat net that stands for
+//! each net on each path.
 //!
-//! Modules: `blocks` (a design in code: modules whose joined nets are runs of bits, never a table
-//! by path), `counts`, `joined`, `sums` (depths, parts and nets counted module by module along an
-//! order, before any path is made), `constants`, `nodes` (the paths), `climbing` (the uppermost net
-//! of a net on a path). Used above: `is_deep`, `has_many_parts` and `has_many_nets` answer the
-//! tests of bs_flat_meaning's `specs/Reading`. A further count is a further rule with `IsLocal` of
-//! it (`proofs/OrderLemmas`).
+//! Modules: `blocks` (a design in code: modules whose joined nets are runs of bits), `counts`,
+//! `joined`, `sums` (depths, parts and nets counted module by module along an order, before any
+//! path is made), `constants`, `nodes` (the paths), the flat nets in their order and a search for
+//! the number of one, with the uppermost net by a search among the runs. Used above: `is_deep`,
+//! `has_many_parts`, `has_many_nets`; `number_nets` lists exactly `flat_nets` of the design, and
+//! `flat_net` tells exactly `flat_number`. A further count is a further rule with `IsLocal` of it.
 #![tactic(auto)]
 
 mod blocks;
 mod climbing;
 mod constants;
 mod counts;
+mod free;
 mod joined;
 mod law;
+mod lookup;
 mod nodes;
+mod numbers;
+mod rows;
 mod sums;
+mod tally;
 
-pub use blocks::{Block, Child, Run};
-pub use climbing::{Place, root_of};
+pub use blocks::{Child, FlatModule, JoinedNets};
+pub use climbing::NetOnPath;
 pub use constants::{Bit, all_bits, block_bits};
 pub use counts::{has_many_parts, is_deep};
-pub use joined::{Sort, outer_of, weight};
-pub use law::{levelled_orders_are_children_first, numbered_orders_are_children_first};
+pub use joined::{Counted, outer_of, weight};
+pub use law::numbered_orders_are_children_first;
+pub use lookup::flat_net;
 pub use nodes::path_nodes;
+pub use numbers::{Numbering, number_nets};
 pub use sums::has_many_nets;

@@ -5,7 +5,7 @@ ghost use Rattle.bs_flat_meaning.specs.Paths.{ArePaths};
 ghost use Rattle.bs_flat_nets.specs.Climbing.{AreClimbable};
 ghost use Rattle.bs_flat_nets.specs.Blocks.{design_of, AreThere, numbers_of, shape_of};
 
-use crate::blocks::{Block, Child};
+use crate::blocks::{Child, FlatModule};
 use bs_bits::{List, NoMemory};
 use bs_flat_meaning::{Instanced, Node, all_paths};
 use std::alloc::Global;
@@ -22,7 +22,7 @@ fn numbers(alloc: Global, children: &[Child]) -> Result<List<u32>, NoMemory>
 }
 
 /// The instances of all modules, by the numbers of their modules.
-fn shapes(alloc: Global, blocks: &[Block]) -> Result<List<Instanced>, NoMemory>
+fn shapes(alloc: Global, blocks: &[FlatModule]) -> Result<List<Instanced>, NoMemory>
     ensures { IfOk result (λ l. l ≡ map shape_of blocks.now) }
 {
     let mut all = List::new(alloc);
@@ -34,7 +34,7 @@ fn shapes(alloc: Global, blocks: &[Block]) -> Result<List<Instanced>, NoMemory>
 }
 
 /// The paths of the design as nodes, in the order of the design. More than `MAX_PATHS` are want of memory.
-pub fn path_nodes(alloc: Global, blocks: &[Block], top: u32) -> Result<List<Node>, NoMemory>
+pub fn path_nodes(alloc: Global, blocks: &[FlatModule], top: u32) -> Result<List<Node>, NoMemory>
     requires top { top < length blocks.now }
     requires there { AreThere blocks.now }
     ensures all { IfOk result (λ nodes. ArePaths (design_of blocks.now top) nodes (paths (design_of blocks.now top))) }

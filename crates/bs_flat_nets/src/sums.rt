@@ -10,9 +10,9 @@ ghost use Rattle.bs_flat_nets.specs.Order.{IsChildrenFirst};
 ghost use Rattle.bs_flat_nets.specs.Sums.{IsFit, all_bits_of, top_sum, weight_in};
 ghost use Rattle.bs_flat_nets.specs.Tables.{Follows};
 
-use crate::blocks::{Block, Child, Run};
+use crate::blocks::{Child, FlatModule, JoinedNets};
 use crate::constants::{Bit, all_bits};
-use crate::joined::{Sort, weight};
+use crate::joined::{Counted, weight};
 use bs_bits::{List, NoMemory};
 use bs_net::MAX_NETS;
 use std::alloc::Global;
@@ -30,8 +30,8 @@ fn zeros(alloc: Global, count: usize) -> Result<Vec<usize>, NoMemory>
 
 /// The nets of a sort of some instances and of all below them; at most `TOO_MANY`.
 fn sum_children(
-    sort: Sort,
-    blocks: &[Block],
+    sort: Counted,
+    blocks: &[FlatModule],
     bits: &[List<Bit>],
     sums: &[usize],
     children: &[Child],
@@ -58,8 +58,8 @@ fn sum_children(
 /// The nets of a sort below each module.
 fn sums(
     alloc: Global,
-    sort: Sort,
-    blocks: &[Block],
+    sort: Counted,
+    blocks: &[FlatModule],
     bits: &[List<Bit>],
     order: &[u32],
 ) -> Result<Vec<usize>, NoMemory>
@@ -87,7 +87,7 @@ fn at(table: &[usize], k: u32) -> usize
 }
 
 /// No joined nets.
-fn no_runs(alloc: Global) -> List<Run>
+fn no_runs(alloc: Global) -> List<JoinedNets>
     ensures { result ≡ [] }
 {
     List::new(alloc)
@@ -96,8 +96,8 @@ fn no_runs(alloc: Global) -> List<Run>
 /// The nets of a sort of the top and of all below it; at most `TOO_MANY`.
 fn total(
     alloc: Global,
-    sort: Sort,
-    blocks: &[Block],
+    sort: Counted,
+    blocks: &[FlatModule],
     bits: &[List<Bit>],
     order: &[u32],
     top: u32,
@@ -121,7 +121,7 @@ fn total(
 /// Whether the flat nets of a design that is not too deep are more than `MAX_NETS`.
 pub fn has_many_nets(
     alloc: Global,
-    blocks: &[Block],
+    blocks: &[FlatModule],
     order: &[u32],
     top: u32,
 ) -> Result<bool, NoMemory>
@@ -132,10 +132,10 @@ pub fn has_many_nets(
     ensures { IfOk result (λ many. many ≡ nat_lt most (length (flat_parts (design_of blocks.now top)).names)) }
 {
     let bits = all_bits(alloc, blocks)?;
-    let plain = total(alloc, Sort::Plain, blocks, bits.slice(), order, top)?;
+    let plain = total(alloc, Counted::Plain, blocks, bits.slice(), order, top)?;
     let zeros = total(
         alloc,
-        Sort::Constant(false),
+        Counted::Constant(false),
         blocks,
         bits.slice(),
         order,
@@ -143,7 +143,7 @@ pub fn has_many_nets(
     )?;
     let ones = total(
         alloc,
-        Sort::Constant(true),
+        Counted::Constant(true),
         blocks,
         bits.slice(),
         order,

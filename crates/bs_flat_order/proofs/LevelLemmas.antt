@@ -13,19 +13,12 @@ use Rattle.bs_net.specs.declared.net.NetId.{NetId}
 use Rattle.bs_net.specs.declared.net.Gate.{Gate}
 use Rattle.bs_net.specs.Names.{net}
 use Rattle.bs_net.specs.Order.{IsLevelled, IsOrder, gates_in, no_gate}
-use Rattle.bs_flat_order.specs.Ring.{instanced_by, place_in, IsChildrenFirst}
+use Rattle.bs_flat_meaning.specs.Rings.{instanced_by}
+use Rattle.bs_flat_meaning.proofs.RingLemmas.{any_place}
+use Rattle.bs_flat_order.specs.Ring.{place_in_order, IsChildrenFirst}
 use Rattle.bs_flat_order.specs.Gates.{gates_of, gate_for, nets_of, are_narrow}
 use Rattle.bs_flat_order.specs.declared.levels.TheConstants.{MOST}
 use Rattle.std.specs.Prelude.{nat_le}
-
-pub any_place : (t : ℕ → Bool) (xs : List ℕ) → list_any t xs ≡ true → position_or_len t xs < length xs
-any_place t [] e = absurd (false≢true e)
-any_place t (x ∷ xs) e = by (t x) e (any_place t xs)
-  where
-    by : (b : Bool) → (b || list_any t xs) ≡ true → (list_any t xs ≡ true → position_or_len t xs < length xs) →
-        cond (not b) (1 + position_or_len t xs) 0 < length (x ∷ xs)
-    by true q rest = omega arith
-    by false q rest = let less = rest q in omega (arith, less)
 
 any_range : (k a n : ℕ) → a ≤ k → k < a + n → list_any (nat_eq k) (range_with_len a n) ≡ true
 any_range k a zero low high = absurd (omega (arith, low, high))
@@ -121,7 +114,7 @@ order_is below order there o =
     in_modules : All (λ k. k < length below) order
     in_modules = All-permutation (λ k. k < length below) (range_with_len 0 N) order o.each_once in_range
 
-    each : (k : ℕ) → k < length below → place_in order k < length order
+    each : (k : ℕ) → k < length below → place_in_order order k < length order
     each k lt =
         any_place (nat_eq k) order
         (sym (list_any-IsPermutation (nat_eq k) (range_with_len 0 N) order o.each_once) ∙ any_range k 0 N (omega arith) (omega (arith, lt, wide)))
@@ -129,19 +122,19 @@ order_is below order there o =
     distinct : IsDistinct nat_eq order
     distinct = IsDistinct-IsPermutation nat_eq flips (range_with_len 0 N) order o.each_once (range_apart 0 N)
 
-    once : (j : ℕ) → j < length order → place_in order (get_or order j 0) ≡ j
+    once : (j : ℕ) → j < length order → place_in_order order (get_or order j 0) ≡ j
     once j lt =
         position_or_len_is (nat_eq (get_or order j 0)) order j 0 (omega (arith, lt)) (λ k less. apart_at order k j distinct less lt)
         (λ l. eq-eqb (get_or order j 0) (get_or order j 0) refl)
 
-    gate_at_place : (k : ℕ) → k < length below → get_or (gates_in order gates) (place_in order k) no_gate ≡ gate_for below k
+    gate_at_place : (k : ℕ) → k < length below → get_or (gates_in order gates) (place_in_order order k) no_gate ≡ gate_for below k
     gate_at_place k lt =
         let here = each k lt in
-        get_or-map (λ i. get_or gates i no_gate) order (place_in order k) 0 no_gate here
-        ∙ (ap (λ i. get_or gates i no_gate) (sym (eqb-true k (get_or order (place_in order k) 0) (passes_at_first (nat_eq k) order 0 here)))
+        get_or-map (λ i. get_or gates i no_gate) order (place_in_order order k) 0 no_gate here
+        ∙ (ap (λ i. get_or gates i no_gate) (sym (eqb-true k (get_or order (place_in_order order k) 0) (passes_at_first (nat_eq k) order 0 here)))
         ∙ gate_is below k no_gate lt)
 
-    earlier : (k i : ℕ) → k < length below → i < length (instanced_by below k) → place_in order (get_or (instanced_by below k) i 0) < place_in order k
+    earlier : (k i : ℕ) → k < length below → i < length (instanced_by below k) → place_in_order order (get_or (instanced_by below k) i 0) < place_in_order order k
     earlier k i lt li =
         let c = get_or (instanced_by below k) i 0 in
         let inside : c < length below = there k [] lt i 0 li in
@@ -149,14 +142,14 @@ order_is below order there o =
         let reads : Contains (nets_of (instanced_by below k)) (net c) =
         (i, omega (arith, li, count), get_or-map net (instanced_by below k) i 0 (net c) li) in
         ⊎_elim
-        (λ (b : place_in order c < place_in order k). b)
-        (λ (g : place_in order k ≤ place_in order c).
+        (λ (b : place_in_order order c < place_in_order order k). b)
+        (λ (g : place_in_order order k ≤ place_in_order order c).
         let long : length (gates_in order gates) ≡ length order = length-map order _ in
         absurd
-        (later_apart (gates_in order gates) (place_in order k) (place_in order c) o.earlier g (omega (arith, each c inside, long)) (net c)
+        (later_apart (gates_in order gates) (place_in_order order k) (place_in_order order c) o.earlier g (omega (arith, each c inside, long)) (net c)
         (subst (λ (h : Gate). Contains h.ins (net c)) (sym (gate_at_place k lt)) reads)
         (ap (λ (h : Gate). h.out.0) (gate_at_place c inside))))
-        (cases_lt (place_in order c) (place_in order k))
+        (cases_lt (place_in_order order c) (place_in_order order k))
 
 -- ---- what the search of gates asks of them
 

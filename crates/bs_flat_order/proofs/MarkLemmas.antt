@@ -8,7 +8,8 @@ use Rattle.std.proofs.lemmas.List.{length-set}
 use Rattle.std.proofs.lemmas.List.Elements.{filter-append}
 use Rattle.std.proofs.lemmas.List.Folds.{list_any_more}
 use Rattle.bs_bits.proofs.RangeLemmas.{range_push}
-use Rattle.bs_flat_order.specs.Tops.{Marks, AreInstanced, is_instanced, unmarked, tops}
+use Rattle.bs_flat_meaning.specs.Rings.{is_instanced, tops}
+use Rattle.bs_flat_order.specs.Marks.{Marks, AreInstanced, unmarked}
 
 or_false : (b : Bool) → (b || false) ≡ b
 or_false true = refl

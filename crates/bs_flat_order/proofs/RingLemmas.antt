@@ -12,22 +12,24 @@ use Rattle.bs_net.specs.declared.net.NetId.{NetId}
 use Rattle.bs_net.specs.declared.net.Gate.{Gate}
 use Rattle.bs_net.specs.Circuit.{number}
 use Rattle.bs_net.specs.Loops.{IsLoop, feeds, feeds_along, last_of, is_in, gate_at}
-use Rattle.bs_flat_order.specs.Ring.{instanced_by, instances, place_in, FollowFrom, IsRing, IsChildrenFirst, RingsHaveNoOrder}
+use Rattle.bs_flat_meaning.specs.Rings.{instanced_by, instances, FollowFrom, IsRing}
+use Rattle.bs_flat_meaning.proofs.RingLemmas.{any_place}
+use Rattle.bs_flat_order.specs.Ring.{place_in_order, IsChildrenFirst, RingsHaveNoOrder}
 use Rattle.bs_flat_order.specs.Gates.{gates_of, nets_of, turned}
-use Rattle.bs_flat_order.proofs.LevelLemmas.{gate_is, gates_count, flips, any_place}
+use Rattle.bs_flat_order.proofs.LevelLemmas.{gate_is, gates_count, flips}
 
 -- ---- no order
 
-falls : (below : List (List ℕ)) (order : List ℕ) (m n : ℕ) → IsChildrenFirst below order → instances below m n ≡ true → place_in order n < place_in order m
+falls : (below : List (List ℕ)) (order : List ℕ) (m n : ℕ) → IsChildrenFirst below order → instances below m n ≡ true → place_in_order order n < place_in_order order m
 falls below order m n o e =
     let ns = instanced_by below m in
     let at = position_or_len (nat_eq n) ns in
     let inside : at < length ns = any_place (nat_eq n) ns e in
     let same : n ≡ get_or ns at 0 = eqb-true n (get_or ns at 0) (passes_at_first (nat_eq n) ns 0 inside) in
-    subst (λ k. place_in order k < place_in order m) (sym same) (o.earlier m at inside)
+    subst (λ k. place_in_order order k < place_in_order order m) (sym same) (o.earlier m at inside)
 
 falls_round : (below : List (List ℕ)) (order : List ℕ) (first m : ℕ) (ns : List ℕ) → IsChildrenFirst below order → FollowFrom below first m ns →
-    place_in order first < place_in order m
+    place_in_order order first < place_in_order order m
 falls_round below order first m [] o f = falls below order m first o f
 falls_round below order first m (n ∷ ns) o f =
     let one = falls below order m n o f.1 in
@@ -76,10 +78,10 @@ follow_onto below first m j (k ∷ ks) acc less lt b along last f =
     let parts : (feeds (gates_of below) j k ≡ true) × (feeds_along (gates_of below) k ks ≡ true) = and_parts _ _ along in
     follow_onto below first m k ks (j ∷ acc) b.0 b.1 b.2 parts.1 last (less, fed below j k lt b.1 parts.0, f)
 
-behind : (below : List (List ℕ)) (first : ℕ) (js : List ℕ) → AllByRecursion (λ y. nat_eq first y ≡ false) js → AllByRecursion (λ j. first ≤ j) js →
+are_behind : (below : List (List ℕ)) (first : ℕ) (js : List ℕ) → AllByRecursion (λ y. nat_eq first y ≡ false) js → AllByRecursion (λ j. first ≤ j) js →
     AllByRecursion (λ j. j < length below) js → AreBehind below first js
-behind below first [] d l p = tt
-behind below first (j ∷ js) d l p = let apart = eqb-false first j d.0 in let le = l.0 in (omega (arith, le, apart), p.0, behind below first js d.1 l.1 p.1)
+are_behind below first [] d l p = tt
+are_behind below first (j ∷ js) d l p = let apart = eqb-false first j d.0 in let le = l.0 in (omega (arith, le, apart), p.0, are_behind below first js d.1 l.1 p.1)
 
 last_placed : (n i : ℕ) (js : List ℕ) → i < n → AllByRecursion (λ j. j < n) js → last_of i js < n
 last_placed n i [] lt p = lt
@@ -107,7 +109,7 @@ loop_is_ring below (i ∷ is) l = (
     by [] least p d r = fed below i i p.0 p.0 r.0
     by (j ∷ js) least p d r =
         let parts : (feeds (gates_of below) i j ≡ true) × (feeds_along (gates_of below) j js ≡ true) = and_parts _ _ r.1 in
-        let b = behind below i (j ∷ js) d least p.1 in
+        let b = are_behind below i (j ∷ js) d least p.1 in
         subst (FollowFrom below i i) (onto_is (j ∷ js) [] ∙ append-nil (reverse (j ∷ js)))
         (follow_onto below i i j js [] b.0 b.1 b.2 parts.1 (fed below (last_of j js) i (last_placed (length below) j js b.1 p.1.1) p.0 r.0)
         (fed below i j p.0 b.1 parts.0))

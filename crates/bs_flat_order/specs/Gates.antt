@@ -6,7 +6,7 @@ use Rattle.bs_net.specs.declared.net.Gate.{Gate}
 use Rattle.bs_net.specs.declared.gate.Kind.TheVariants.{And}
 use Rattle.bs_net.specs.Names.{net}
 use Rattle.bs_flat_order.specs.declared.levels.TheConstants.{MOST}
-use Rattle.bs_flat_order.specs.Ring.{instanced_by}
+use Rattle.bs_flat_meaning.specs.Rings.{instanced_by}
 
 abbrev pub nets_of : List ℕ → List NetId
 nets_of modules = map net modules

@@ -1,6 +1,7 @@
 //! The modules that none instances.
 ghost use Rattle.std.specs.Prelude.{◌≡◌, ◌<◌, ◌++◌, ◌∷◌, [], if◌then◌else◌, length, All, IfOk, OnOk, replicate, false};
-ghost use Rattle.bs_flat_order.specs.Tops as spec;
+ghost use Rattle.bs_flat_meaning.specs.Rings as rings;
+ghost use Rattle.bs_flat_order.specs.Marks as spec;
 
 use bs_bits::{List, NoMemory};
 use std::alloc::Global;
@@ -66,7 +67,7 @@ fn unmarked(alloc: Global, marks: &[bool]) -> Result<List<u32>, NoMemory>
 /// The modules that none instances, in file order. For each module `below` has the modules that it instances.
 pub fn tops(alloc: Global, below: &[List<u32>]) -> Result<List<u32>, NoMemory>
     requires there { All (λ ns. All (λ n. n < length below.now) ns) below.now }
-    ensures { IfOk result (λ ns. ns ≡ spec.tops below.now) }
+    ensures { IfOk result (λ ns. ns ≡ rings.tops below.now) }
 {
     let marks = instanced(alloc, below)?;
     let all = unmarked(alloc, marks.as_slice())?;

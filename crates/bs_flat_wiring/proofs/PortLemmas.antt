@@ -12,7 +12,7 @@ use Rattle.bs_verilog.specs.Netlist.{is_towards}
 use Rattle.bs_flat_meaning.specs.Connecting.{ports_from, ports_of, width_of, scope_of}
 use Rattle.bs_flat_meaning.specs.Connecting as flat
 use Rattle.bs_flat_modules.specs.declared.owns.Own.{Own}
-use Rattle.bs_flat_modules.specs.Wholeness.{bit_count}
+use Rattle.bs_flat_wiring.specs.Wiring.{bit_count}
 use Rattle.bs_flat_wiring.specs.declared.ports.Port.{Port}
 use Rattle.bs_flat_wiring.specs.declared.ports.Ports.{Ports}
 use Rattle.bs_flat_wiring.specs.Wiring.{read_of}

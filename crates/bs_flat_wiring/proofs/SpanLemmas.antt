@@ -15,6 +15,7 @@ use Rattle.bs_verilog_scope.specs.Nets.{net_of, nets_of}
 use Rattle.bs_verilog_scope.proofs.NumberLemmas.{keys_to, placed_bit, placed_all, keys-length}
 use Rattle.bs_verilog_scope.proofs.TableLemmas.{entry_read}
 use Rattle.bs_flat_wiring.specs.Wiring.{side_by_side, net_at, StandFrom, IsSpan, AreSpans, spanned, keys_by}
+use Rattle.bs_bits.proofs.RangeLemmas.{range_push}
 
 -- ---- a net that is found
 
@@ -28,27 +29,13 @@ found_net names key n e = by (number_of names key) refl e
 
 -- ---- side by side
 
-suc_plus : (n : ℕ) → suc n + 1 ≡ suc (n + 1)
-suc_plus n = omega arith
-
 plus_zero : (a : ℕ) → a + 0 ≡ a
 plus_zero a = omega arith
-
-moved : (a n : ℕ) → a + 1 + n ≡ a + suc n
-moved a n = omega arith
-
-zero_plus : (n : ℕ) → 0 + n ≡ n
-zero_plus n = omega arith
-
-range_snoc : (a n : ℕ) → range_with_len a (n + 1) ≡ range_with_len a n ++ (a + n) ∷ []
-range_snoc a zero = rw (plus_zero a) refl
-range_snoc a (suc n) =
-    ap (range_with_len a) (suc_plus n) ∙ ap (λ xs. a ∷ xs) (range_snoc (a + 1) n) ∙ ap (λ k. a ∷ (range_with_len (a + 1) n ++ k ∷ [])) (moved a n)
 
 pub side_more : (first n : ℕ) → side_by_side first (n + 1) ≡ side_by_side first n ++ net_at first n ∷ []
 side_more first n =
     let f : ℕ → NetId = λ k. net_at first k in
-    ap (map f) (range_snoc 0 n ∙ ap (λ k. range_with_len 0 n ++ k ∷ []) (zero_plus n)) ∙ map-append f (range_with_len 0 n) (n ∷ [])
+    ap (map f) (range_push n) ∙ map-append f (range_with_len 0 n) (n ∷ [])
 
 pub bit_more : (names : List (List ℕ)) (first : ℕ) (name : List ℕ) (r : Range) (bit : ℕ) (key : List ℕ) → key ≡ bit_key name (index_at r bit)
     → net_of names key ≡ net_at first bit → side_by_side first bit ≡ nets_of names (keys_to name r bit)

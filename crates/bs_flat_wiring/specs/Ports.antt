@@ -9,10 +9,9 @@ use Rattle.bs_flat_meaning.specs.declared.statements.Written.{Written}
 use Rattle.bs_flat_meaning.specs.Connecting.{ReadModule, scope_of, ports_of}
 use Rattle.bs_flat_meaning.specs.Connecting as flat
 use Rattle.bs_flat_modules.specs.declared.owns.Own.{Own}
-use Rattle.bs_flat_modules.specs.Wholeness.{bit_count}
 use Rattle.bs_flat_wiring.specs.declared.ports.Port.{Port}
 use Rattle.bs_flat_wiring.specs.declared.ports.Ports.{Ports}
-use Rattle.bs_flat_wiring.specs.Wiring.{read_of}
+use Rattle.bs_flat_wiring.specs.Wiring.{bit_count, read_of}
 
 -- a port with its direction
 abbrev pub port_in : ReadModule → flat.Port → Port

@@ -6,16 +6,20 @@ use Rattle.bs_verilog_syntax.specs.declared.tree.Range.{Range}
 use Rattle.bs_verilog_syntax.specs.declared.tree.Says.{Says}
 use Rattle.bs_verilog_syntax.specs.declared.tree.Term.{Term}
 use Rattle.bs_verilog_scope.specs.Checking.{looked}
-use Rattle.bs_verilog_scope.specs.Keys.{keys}
+use Rattle.bs_verilog_scope.specs.Keys.{keys, width}
 use Rattle.bs_verilog_scope.specs.Nets.{nets_of}
 use Rattle.bs_flat_meaning.specs.declared.statements.Written.{Written}
 use Rattle.bs_flat_meaning.specs.Connecting.{ReadModule, scope_of, term_keys, declared_keys, whole_parts}
 use Rattle.bs_flat_meaning.specs.Reading.{gathered}
 use Rattle.bs_flat_modules.specs.declared.owns.Own.{Own}
 use Rattle.bs_flat_modules.specs.Owns.{module_and_parts}
-use Rattle.bs_flat_modules.specs.Wholeness.{bit_count}
 use Rattle.bs_flat_wiring.specs.declared.terms.Stretch.{Stretch}
 use Rattle.bs_flat_wiring.specs.declared.wiring.Wiring.{Wiring}
+
+-- how many bits a declared name has
+abbrev pub bit_count : Option Range → ℕ
+bit_count (Some r) = width r
+bit_count None = 1
 
 -- a module as it was read
 abbrev pub read_of : Own → List Written → ReadModule

@@ -3,7 +3,7 @@ ghost use Rattle.std.specs.Prelude.{◌≡◌, ◌≤◌, IfOk, string_bytes};
 ghost use Rattle.bs_verilog_scope.specs.Checking.{looked};
 ghost use Rattle.bs_verilog_scope.specs.Declaring as declaring;
 ghost use Rattle.bs_verilog_scope.specs.Keys as keys;
-ghost use Rattle.bs_flat_modules.specs.Wholeness as wholeness;
+ghost use Rattle.bs_flat_wiring.specs.Wiring as wiring;
 
 use bs_bits::NoMemory;
 use bs_verilog_scope::{bit_key, scalar_key, scope_of, width};
@@ -22,7 +22,7 @@ pub fn said(alloc: Global, declared: &[Declared]) -> Result<Vec<Option<Says>>, N
 
 /// How many bits a declared name has.
 pub fn bit_count(range: Option<Range>) -> usize
-    ensures count { result ≡ wholeness.bit_count range }
+    ensures count { result ≡ wiring.bit_count range }
     ensures few { result ≤ 4294967296 }
 {
     match range {

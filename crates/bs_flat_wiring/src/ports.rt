@@ -39,7 +39,7 @@ impl Ports {
     }
 
     /// The place of the port with this name.
-    pub fn place_of(&self, id: u32) -> Option<usize>
+    pub fn index_of(&self, id: u32) -> Option<usize>
         ensures { result ≡ position (λ k. k == id) self.now.ids.keys }
     {
         self.ids.get_index_of(&id)

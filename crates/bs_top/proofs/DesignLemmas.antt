@@ -5,7 +5,7 @@ use Rattle.bs_lex.specs.Tokens.{tokens_of}
 use Rattle.bs_verilog_syntax.specs.declared.fault.VerilogFault.{VerilogFault}
 use Rattle.bs_verilog_syntax.specs.declared.fault.VerilogFault.TheVariants.{Syntax}
 use Rattle.bs_verilog.specs.Netlist.{tokenised}
-use Rattle.bs_whole.proofs.LawLemmas.{read_modules_are_whole}
+use Rattle.bs_flat_meaning.proofs.WholeLemmas.{read_modules_are_whole}
 use Rattle.bs_top_files.specs.Law.{NetlistsMeanDesigns}
 use Rattle.bs_top_files.proofs.DesignLemmas.{AreRead, netlists_mean}
 

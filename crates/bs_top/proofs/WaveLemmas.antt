@@ -14,7 +14,7 @@ use Rattle.bs_top_plan.specs.Files.{limit_of}
 use Rattle.bs_top_plan.specs.Plan.{Tells, Wanted, Reason, exactly, Plan, fetch, refuse, end, ◌>>=◌, read_as, Outcome, refused, told_next, told_end}
 use Rattle.bs_top_plan.proofs.Plans.{ready_in, refused_in}
 use Rattle.bs_verilog.specs.Law.{AreNames}
-use Rattle.bs_named.proofs.LawLemmas.{flat_nets_are_named}
+use Rattle.bs_flat_meaning.proofs.NamedLemmas.{flat_nets_are_named}
 use Rattle.bs_top_files.specs.Entry.{FileNames, Setup, Crashed, Claimed, netlist_of, signature_of, stimulus_of, dump_of, setup_of, crashed_of, report_of}
 use Rattle.bs_top_files.specs.Entry.{claimed_of, drawn_of}
 use Rattle.bs_top_files.specs.Readings.{checked_of, netlist_in, size_in, text_in}

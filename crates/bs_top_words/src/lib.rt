@@ -1,11 +1,11 @@
 //! The words of a command line, of both programs: which are a job or a request, and which one they are.
 //!
-//! Modules: `flags` and `given` (one machine over a table of options), `options` (numbers between
-//! bounds), `line` (the words behind the command), `job` (`Job`, `read_words`), `request`
-//! (`Request`, `read_request`) with `signature` and `stimulus`. Used above: `read_words` answers
-//! the job that the words spell (`specs/Spelling`, a relation without an order of reading);
-//! `job_of` is it as a function, for plans. A command: a record and a variant of `Job`, and a line
-//! in `command_job`. An option: a line in the tables of `specs/Flags`.
+//! Modules: `options` (numbers between bounds), `line` (the words behind the command, one after
+//! another), `job` (`Job`, `read_words`). Used above: `read_words` answers the job that the words
+//! spell (`specs/Spelling`, a relation without an order of reading); `job_of` is it as a function,
+//! for plans. A command: a record and a variant of `Job`, and a line in `command_job`. An option: a
+//! variant of `Kind`, a field of `Line`, and a line in each table of `specs/Options`. The requests
+//! of the companion are read by the same machine.
 #![tactic(auto)]
 
 mod flags;

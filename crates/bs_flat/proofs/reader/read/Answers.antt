@@ -1,6 +1,6 @@
 use Rattle.std.proofs.Common.{subst, sym, Err}
 use Rattle.bs_flat.specs.Answers.{IsAnswered}
-use Rattle.bs_flat.proofs.ReaderLemmas.{lexed_answers, fault_answers}
+use Rattle.bs_flat.proofs.ReaderLemmas.{are_of_text, lexed_answers, fault_answers}
 use Rattle.bs_flat.proofs.reader.read.Goals as goal
 
 pub returns-in-Ok : goal.returns-in-Ok
@@ -9,3 +9,6 @@ returns-in-Ok c = lexed_answers c.args.bytes.now _ _ c.read_lexemes.result c.in-
 pub returns-in-Err : goal.returns-in-Err
 returns-in-Err c =
     subst (λ f. IsAnswered c.args.bytes.now (Err f)) (sym c.fault_of.ensures) (fault_answers c.args.bytes.now c.in-Err.fault c.in-Err.ensures)
+
+pub read_lexemes-requires : goal.read_lexemes-requires
+read_lexemes-requires c = are_of_text c.args.bytes.now _ _ c.in-Ok.ensures

@@ -1,14 +1,14 @@
 use Rattle.std.proofs.Common.{subst, ◌⊎◌, ◌≡◌, List}
 use Rattle.bs_flat_meaning.specs.declared.fault.FlatFault.TheVariants.{NoMemory}
 use Rattle.bs_flat_meaning.specs.declared.statements.Written.{Written}
-use Rattle.bs_hierarchy.specs.Refusals.{HasOneTop, IsRefused}
+use Rattle.bs_flat_order.specs.Refusals.{HasOneTop, IsRefused}
 use Rattle.bs_flat.proofs.FlattenLemmas.{answers_flat, answers_refused}
 use Rattle.bs_flat.proofs.several.answer.Goals as goal
 
 pub returns-in-Ok : goal.returns-in-Ok
 returns-in-Ok c =
-    answers_flat c.args.table.now c.args.ids.now c.args.modules c.in-Ok.ranked c.flatten_ranked.result c.requires.owns c.requires.written
-    (subst (λ (w : List (List Written)). HasOneTop c.args.ids.now w c.in-Ok.ranked) c.slice.ensures c.in-Ok.ensures) c.flatten_ranked.ensures
+    answers_flat c.args.table.now c.args.ids.now c.args.modules c.in-Ok.ranked c.flatten.result c.requires.owns c.requires.written
+    (subst (λ (w : List (List Written)). HasOneTop c.args.ids.now w c.in-Ok.ranked) c.slice.ensures c.in-Ok.ensures) c.flatten.ensures
 
 pub returns-in-Err : goal.returns-in-Err
 returns-in-Err c =

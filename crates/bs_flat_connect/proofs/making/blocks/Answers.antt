@@ -4,7 +4,7 @@ use Rattle.std.proofs.lemmas.List.{take_more, map-append}
 use Rattle.std.proofs.lemmas.List.Elements.{All-nil, All-push}
 use Rattle.bs_flat_nets.specs.Blocks.{numbers_of}
 use Rattle.bs_flat_nets.specs.Order.{below_blocks}
-use Rattle.bs_flat_nets.specs.declared.blocks.Block.{Block}
+use Rattle.bs_flat_nets.specs.declared.blocks.FlatModule.{FlatModule}
 use Rattle.bs_flat_connect.specs.declared.fault.Fault.{Fault}
 use Rattle.bs_flat_connect.specs.Connecting.{TellsBlock, TellsBlocks}
 use Rattle.bs_flat_connect.proofs.LoopLemmas.{fails}
@@ -15,9 +15,9 @@ pub modules-init : goal.modules-init
 modules-init c =
     record {
       tells =
-          subst (λ (l : List Block). BlocksSoFar c.args.table.now c.args.ports.now c.args.below.now c.args.owns.now c.args.written.now 0 l)
+          subst (λ (l : List FlatModule). BlocksSoFar c.args.table.now c.args.ports.now c.args.below.now c.args.owns.now c.args.written.now 0 l)
           (sym c.new-all.ensures) (blocks_none c.args.table.now c.args.ports.now c.args.below.now c.args.owns.now c.args.written.now);
-      takes = subst (λ (l : List Block). All Takes l) (sym c.new-all.ensures) (All-nil Takes);
+      takes = subst (λ (l : List FlatModule). All Takes l) (sym c.new-all.ensures) (All-nil Takes);
       numbers = ap below_blocks c.new-all.ensures;
     }
 
@@ -37,7 +37,7 @@ returns-in_err-block-clause-tells c =
     told_here c.args.table.now c.args.ports.now c.args.below.now c.args.owns.now c.args.written.now c.modules.k c.slice-numbers.result.now
     c.index-below-k.result c.index-owns-k.result c.slice-instances.result.now c.index-written-k.result (Err f) c.modules-test.true c.requires.owns c.requires.each
     (c.slice-numbers.ensures ∙ c.index-below-k.is) c.index-owns-k.is (c.slice-instances.ensures ∙ c.index-written-k.is) c.in_err-block.ensures.tells in
-    subst (λ (r : Result (List Block) Fault). TellsBlocks c.args.table.now c.args.ports.now c.args.below.now c.args.owns.now c.args.written.now r)
+    subst (λ (r : Result (List FlatModule) Fault). TellsBlocks c.args.table.now c.args.ports.now c.args.below.now c.args.owns.now c.args.written.now r)
     (sym (fails c.from_residual.result f c.from_residual.ensures))
     (blocks_stop c.args.table.now c.args.ports.now c.args.below.now c.args.owns.now c.args.written.now c.modules.k c.index-owns-k.result c.modules.all f
     c.modules-test.true c.requires.owns here c.modules.invariant.tells)
@@ -54,16 +54,16 @@ modules-preserved c =
     omega (arith, c.modules-test.true, c.requires.owns, counted c.args.below.now c.args.written.now c.requires.each) in
     record {
       tells =
-          subst (λ (l : List Block). BlocksSoFar c.args.table.now c.args.ports.now c.args.below.now c.args.owns.now c.args.written.now (c.modules.k + 1) l)
+          subst (λ (l : List FlatModule). BlocksSoFar c.args.table.now c.args.ports.now c.args.below.now c.args.owns.now c.args.written.now (c.modules.k + 1) l)
           (sym c.in_ok-push.ensures.ok)
           (blocks_more c.args.table.now c.args.ports.now c.args.below.now c.args.owns.now c.args.written.now c.modules.k c.index-owns-k.result c.modules.all block
           c.modules-test.true c.requires.owns here c.modules.invariant.tells);
       takes =
-          subst (λ (l : List Block). All Takes l) (sym c.in_ok-push.ensures.ok)
+          subst (λ (l : List FlatModule). All Takes l) (sym c.in_ok-push.ensures.ok)
           (All-push Takes c.modules.all block c.modules.invariant.takes c.in_ok-block.ensures.takes);
       numbers =
           ap below_blocks c.in_ok-push.ensures.ok
-          ∙ (map-append (λ (b : Block). numbers_of b.children) c.modules.all (block ∷ [])
+          ∙ (map-append (λ (b : FlatModule). numbers_of b.children) c.modules.all (block ∷ [])
           ∙ (ap (λ l. l ++ numbers_of block.children ∷ []) c.modules.invariant.numbers
           ∙ (ap (λ ns. take c.modules.k c.args.below.now ++ ns ∷ [])
           (c.in_ok-block.ensures.numbers ∙ (c.slice-numbers.ensures ∙ c.index-below-k.is))

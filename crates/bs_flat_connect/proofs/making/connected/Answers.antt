@@ -1,7 +1,7 @@
 use Rattle.std.proofs.Common.{◌≡◌, ◌<◌, List, Result, Ok, Err, ap, sym, subst, ◌∙◌, length}
 use Rattle.std.specs.List.{All}
 use Rattle.bs_flat_meaning.specs.declared.statements.Written.{Written}
-use Rattle.bs_flat_nets.specs.declared.blocks.Block.{Block}
+use Rattle.bs_flat_nets.specs.declared.blocks.FlatModule.{FlatModule}
 use Rattle.bs_flat_modules.specs.declared.owns.Own.{Own}
 use Rattle.bs_flat_wiring.specs.declared.ports.Ports.{Ports}
 use Rattle.bs_flat_connect.specs.declared.fault.Fault.{Fault}
@@ -29,7 +29,7 @@ returns-in_err-all-clause-connects c =
     subst (λ (l : List (List Written)). TellsBlocks c.args.table.now c.slice.result.now c.args.below.now c.args.modules.now.owns l (Err f)) c.slice-2.ensures
     (subst (λ (l : List Own). TellsBlocks c.args.table.now c.slice.result.now c.args.below.now l c.slice-2.result.now (Err f)) c.slice-owns.ensures
     c.in_err-all.ensures.tells) in
-    subst (λ (r : Result (List Block) Fault). Connects c.args.table.now c.args.below.now c.args.modules.now r)
+    subst (λ (r : Result (List FlatModule) Fault). Connects c.args.table.now c.args.below.now c.args.modules.now r)
     (sym (fails c.from_residual-in_err-all.result f c.from_residual-in_err-all.ensures))
     (connects c.args.table.now c.slice.result.now c.args.below.now c.args.modules.now (Err f) c.requires.owns ports tells)
 

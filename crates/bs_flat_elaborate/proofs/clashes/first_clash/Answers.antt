@@ -3,8 +3,8 @@ use Rattle.std.specs.List.{list_any}
 use Rattle.std.specs.Str.{bytes_eq}
 use Rattle.bs_net.specs.Names.{with_key}
 use Rattle.bs_flat_nets.specs.Blocks.{design_of}
-use Rattle.bs_flat_nets.specs.declared.climbing.Place.{Place}
-use Rattle.bs_flat_elaborate.specs.Keys.{key_at}
+use Rattle.bs_flat_nets.specs.declared.climbing.NetOnPath.{NetOnPath}
+use Rattle.bs_flat_elaborate.specs.Keys.{key_of_place}
 use Rattle.bs_flat_elaborate.specs.Naming.{keys_of}
 use Rattle.bs_flat_elaborate.proofs.NamingLemmas.{key_read, keys_count, searched_none, searched_more}
 use Rattle.bs_flat_elaborate.proofs.clashes.first_clash.Goals as goal
@@ -30,7 +30,7 @@ nets-preserved c =
     let low : now < length c.args.numbering.now.places = omega (arith, count, few, c.nets-test.true) in
     let read : key ≡ get_or keys now [] =
     c.in_ok-key.ensures.is
-    ∙ (ap (λ (p : Place). key_at d p) c.get-place.ensures.value
+    ∙ (ap (λ (p : NetOnPath). key_of_place d p) c.get-place.ensures.value
     ∙ sym (key_read c.args.blocks.now c.args.nodes.now c.args.top c.args.numbering.now now c.get-place.result.now c.requires.laid low)) in
     let has : c.has_key.result ≡ list_any (bytes_eq key) later =
     c.has_key.ensures ∙ ap (λ (k : List ℕ). list_any (bytes_eq k) later) c.deref.ensures in

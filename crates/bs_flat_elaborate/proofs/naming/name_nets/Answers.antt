@@ -2,8 +2,8 @@ use Rattle.std.proofs.Common.{◌≡◌, ◌<◌, ◌+◌, ◌∙◌, ap, sym, s
 use Rattle.std.proofs.lemmas.Bool.{ltb-true, ltb-false}
 use Rattle.bs_flat_meaning.specs.declared.limits.TheConstants.{MAX_KEY_BYTES}
 use Rattle.bs_flat_nets.specs.Blocks.{design_of}
-use Rattle.bs_flat_nets.specs.declared.climbing.Place.{Place}
-use Rattle.bs_flat_elaborate.specs.Keys.{key_at}
+use Rattle.bs_flat_nets.specs.declared.climbing.NetOnPath.{NetOnPath}
+use Rattle.bs_flat_elaborate.specs.Keys.{key_of_place}
 use Rattle.bs_flat_elaborate.specs.Naming.{keys_of, bytes_of, added, IsMade}
 use Rattle.bs_flat_elaborate.proofs.NamingLemmas.{keys_are, keys_count, made_more, made_all, long_is}
 use Rattle.bs_flat_elaborate.proofs.naming.name_nets.Goals as goal
@@ -11,7 +11,7 @@ use Rattle.bs_flat_elaborate.proofs.naming.name_nets.Goals as goal
 pub returns-then-is_long : goal.returns-then-is_long
 returns-then-is_long c =
     let d = design_of c.args.blocks.now c.args.top in
-    let f = key_at d in
+    let f = key_of_place d in
     let places = c.slice-places.result.now in
     let keys : keys_of d ≡ map f places =
     keys_are c.args.blocks.now c.args.nodes.now c.args.top c.args.numbering.now c.requires.laid ∙ ap (map f) (sym c.slice-places.ensures) in
@@ -24,7 +24,7 @@ returns-then-is_long c =
 pub nets-preserved : goal.nets-preserved
 nets-preserved c =
     let d = design_of c.args.blocks.now c.args.top in
-    let f = key_at d in
+    let f = key_of_place d in
     let places = c.slice-places.result.now in
     let key = string_bytes c.in_ok-key.key in
     let same = ap (λ (k : List ℕ). length k) c.deref.ensures in
@@ -39,12 +39,12 @@ nets-preserved c =
 pub returns : goal.returns
 returns c =
     let d = design_of c.args.blocks.now c.args.top in
-    let f = key_at d in
+    let f = key_of_place d in
     let places = c.slice-places.result.now in
     let keys : keys_of d ≡ map f places =
     keys_are c.args.blocks.now c.args.nodes.now c.args.top c.args.numbering.now c.requires.laid ∙ ap (map f) (sym c.slice-places.ensures) in
     let all : IsMade (keys_of d) c.nets.made =
     subst (λ (l : List (List ℕ)). IsMade l c.nets.made) (sym keys) (made_all f places c.nets.place-index c.nets.made c.nets-test.false c.nets.invariant.made) in
     let count = keys_count c.args.blocks.now c.args.nodes.now c.args.top c.args.numbering.now c.requires.laid in
-    let same = ap (λ (l : List Place). length l) c.slice-places.ensures in
+    let same = ap (λ (l : List NetOnPath). length l) c.slice-places.ensures in
     (all.names c.if-made.false, omega (arith, all.bytes, all.low), all.apart c.if-made.false, omega (arith, count, same, c.if-places.false))

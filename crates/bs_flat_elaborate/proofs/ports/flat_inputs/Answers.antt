@@ -6,7 +6,7 @@ use Rattle.bs_flat_meaning.specs.Flat.{flat_net}
 use Rattle.bs_flat_nets.specs.Blocks.{design_of}
 use Rattle.bs_flat_nets.specs.Climbing.{path_in}
 use Rattle.bs_flat_nets.proofs.WeightLemmas.{top_own}
-use Rattle.bs_flat_elaborate.proofs.TextLemmas.{first_path}
+use Rattle.bs_flat_nets.proofs.ClimbLemmas.{first_path}
 use Rattle.bs_flat_elaborate.proofs.WholeLemmas.{nodes_there}
 use Rattle.bs_flat_elaborate.proofs.ports.flat_inputs.Goals as goal
 

@@ -1,10 +1,10 @@
 use Rattle.std.proofs.Common.{◌∙◌, ap}
 use Rattle.bs_verilog_syntax.specs.Reading.{at}
-use Rattle.bs_flat_modules.specs.declared.dealing.Place.{Place}
+use Rattle.bs_flat_modules.specs.declared.dealing.ModuleSpan.{ModuleSpan}
 use Rattle.bs_flat_modules.proofs.NameLemmas.{rise_on, rise_fault, rise_end}
 use Rattle.bs_flat_modules.proofs.names.are_rising.Goals as goal
 
-abbrev nowhere : Place
+abbrev nowhere : ModuleSpan
 nowhere = record { before = 0; from = 0; body = 0; stop = 0 }
 
 pub returns-then-at-least : goal.returns-then-at-least

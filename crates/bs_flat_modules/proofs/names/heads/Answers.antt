@@ -1,8 +1,8 @@
-use Rattle.bs_flat_modules.specs.declared.dealing.Place.{Place}
+use Rattle.bs_flat_modules.specs.declared.dealing.ModuleSpan.{ModuleSpan}
 use Rattle.bs_flat_modules.proofs.NameLemmas.{heads_more, heads_all}
 use Rattle.bs_flat_modules.proofs.names.heads.Goals as goal
 
-abbrev nowhere : Place
+abbrev nowhere : ModuleSpan
 nowhere = record { before = 0; from = 0; body = 0; stop = 0 }
 
 pub modules-preserved : goal.modules-preserved

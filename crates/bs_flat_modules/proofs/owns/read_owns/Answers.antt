@@ -1,12 +1,12 @@
 use Rattle.std.proofs.Common.{map}
 use Rattle.std.proofs.lemmas.Result.{err_from_is_err_and}
 use Rattle.bs_verilog_scope.specs.Checking.{marked}
-use Rattle.bs_flat_modules.specs.declared.dealing.Place.{Place}
+use Rattle.bs_flat_modules.specs.declared.dealing.ModuleSpan.{ModuleSpan}
 use Rattle.bs_flat_modules.specs.Owns as spec
 use Rattle.bs_flat_modules.proofs.EachLemmas.{each_seen, each_fault, each_end}
 use Rattle.bs_flat_modules.proofs.owns.read_owns.Goals as goal
 
-abbrev nowhere : Place
+abbrev nowhere : ModuleSpan
 nowhere = record { before = 0; from = 0; body = 0; stop = 0 }
 
 pub returns-in_err-own : goal.returns-in_err-own

@@ -1,12 +1,12 @@
 use Rattle.std.proofs.lemmas.Result.{err_from_is_err_and}
 use Rattle.bs_verilog_scope.specs.Checking.{marked}
-use Rattle.bs_flat_modules.specs.declared.dealing.Place.{Place}
+use Rattle.bs_flat_modules.specs.declared.dealing.ModuleSpan.{ModuleSpan}
 use Rattle.bs_flat_modules.specs.Copying.{part}
 use Rattle.bs_flat_modules.specs.Owns as spec
 use Rattle.bs_flat_modules.proofs.EachLemmas.{each_on_at, each_fault_at, each_end}
 use Rattle.bs_flat_modules.proofs.owns.read_written.Goals as goal
 
-abbrev nowhere : Place
+abbrev nowhere : ModuleSpan
 nowhere = record { before = 0; from = 0; body = 0; stop = 0 }
 
 pub returns-in_err-written : goal.returns-in_err-written

@@ -1,5 +1,4 @@
-use Rattle.std.proofs.Common.{◌≡◌, ◌∙◌, ap, sym, List, arith, None, Some}
-use Rattle.bs_flat_meaning.specs.Design.{Join}
+use Rattle.std.proofs.Common.{◌≡◌, ◌∙◌, sym, arith, None, Some}
 use Rattle.bs_flat_meaning.specs.Meaning.{joined_with}
 use Rattle.bs_flat_nets.specs.Climbing.{joins_of_node}
 use Rattle.bs_flat_nets.proofs.ClimbLemmas.{leads_start, leads_more, root_here, root_at_top}
@@ -14,7 +13,7 @@ climb-preserved c =
     let nodes = c.args.nodes.now in
     let up = c.requires.nodes.parent c.climb.node c.climb-test.true c.climb.invariant.there in
     let joined : joined_with (joins_of_node blocks nodes c.climb.node) c.climb.outer ≡ Some c.in-Some.next =
-    sym (ap (λ (js : List Join). joined_with js c.climb.outer) c.runs_of.ensures) ∙ (sym c.outer_of.ensures ∙ c.in-Some.is) in
+    sym (c.outer_by_row.ensures.is (joins_of_node blocks nodes c.climb.node) c.row_of_node.ensures) ∙ c.in-Some.is in
     record {
       there = omega (arith, up, c.climb.invariant.there);
       leads =
@@ -27,7 +26,7 @@ returns-in-None c =
     let blocks = c.args.blocks.now in
     let nodes = c.args.nodes.now in
     let joined : joined_with (joins_of_node blocks nodes c.climb.node) c.climb.outer ≡ None =
-    sym (ap (λ (js : List Join). joined_with js c.climb.outer) c.runs_of.ensures) ∙ (sym c.outer_of.ensures ∙ c.in-None.is) in
+    sym (c.outer_by_row.ensures.is (joins_of_node blocks nodes c.climb.node) c.row_of_node.ensures) ∙ c.in-None.is in
     record {
       is =
           root_here blocks nodes c.args.at c.args.net c.climb.node c.climb.outer c.climb-test.true c.climb.invariant.there joined

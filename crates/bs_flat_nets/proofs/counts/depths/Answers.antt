@@ -4,7 +4,7 @@ use Rattle.bs_flat_nets.specs.Blocks.{module_of}
 use Rattle.bs_flat_nets.specs.Order.{module_in}
 use Rattle.bs_flat_nets.specs.Tables.{depth_by, depth_at}
 use Rattle.bs_flat_nets.specs.declared.blocks.Child.{Child}
-use Rattle.bs_flat_nets.specs.declared.blocks.Block.{Block}
+use Rattle.bs_flat_nets.specs.declared.blocks.FlatModule.{FlatModule}
 use Rattle.bs_flat_nets.proofs.BoundLemmas.{depth_is_local, depth_past}
 use Rattle.bs_flat_nets.proofs.OrderLemmas.{follows_none, follows_more, follows_all, in_order, children_within, depth_rule}
 use Rattle.std.proofs.lemmas.List.{length-map, length-replicate}
@@ -17,7 +17,7 @@ depth_of-depth-requires c =
     let there : m < length c.args.blocks.now = in_order c.args.blocks.now c.args.order.now c.order.k-index c.requires c.order-test.true in
     let inside = children_within c.args.blocks.now c.args.order.now m c.index-blocks-k.result c.requires there c.index-blocks-k.is in
     let cs : c.slice.result.now ≡ c.index-blocks-k.result.children =
-    cc (c.slice.ensures, ap (λ (b : Block). b.children) c.index-blocks-k.is) in
+    cc (c.slice.ensures, ap (λ (b : FlatModule). b.children) c.index-blocks-k.is) in
     let wide : length c.as_slice.result.now ≡ length c.args.blocks.now = ap length c.as_slice.ensures.value ∙ c.order.invariant.wide in
     let lt2 = subst (λ (cs : List Child). k < length cs) cs lt in
     subst (λ n. (get_or c.slice.result.now k d).of < n) (sym wide)
@@ -38,7 +38,7 @@ order-preserved c =
     let m = get_or order c.order.k-index 0 in
     let there : m < length blocks = in_order blocks order c.order.k-index c.requires c.order-test.true in
     let cs_are : c.slice.result.now ≡ c.index-blocks-k.result.children =
-    cc (c.slice.ensures, ap (λ (b : Block). b.children) c.index-blocks-k.is) in
+    cc (c.slice.ensures, ap (λ (b : FlatModule). b.children) c.index-blocks-k.is) in
     let v : c.depth_of-depth.result ≡ depth_by 257 (λ j. get_or table j 0) (module_in (map module_of blocks) m) =
     c.depth_of-depth.ensures
     ∙ (ap (λ (t : List ℕ). min 257 (tallest (λ (y : Child). depth_at t y.of) c.slice.result.now)) c.as_slice.ensures.value

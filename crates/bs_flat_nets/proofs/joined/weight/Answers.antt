@@ -7,7 +7,7 @@ use Rattle.bs_flat_meaning.specs.Design.{Join}
 use Rattle.bs_flat_nets.specs.Blocks.{joins_of_run, own_of}
 use Rattle.bs_flat_nets.specs.Constants.{free_count, plain_left, known_constants}
 use Rattle.bs_flat_nets.specs.Nets.{plain_count, constant_count, weigh}
-use Rattle.bs_flat_nets.specs.declared.joined.Sort.{Sort}
+use Rattle.bs_flat_nets.specs.declared.joined.Counted.{Counted}
 use Rattle.bs_flat_nets.proofs.JoinedLemmas.{constants_counted, plain_counted}
 use Rattle.bs_flat_nets.proofs.joined.weight.Goals as goal
 
@@ -23,7 +23,7 @@ returns-in-Plain c =
     ∙ (ap (plain_left c.len.result js) c.requires.bits
     ∙ (ap (λ n. plain_left n js (known_constants own)) (c.len.ensures ∙ sym wide)
     ∙ sym (plain_counted own js (recursion_from_All (λ (j : Join). j.inner.0 < length own.names) js within) c.requires.once))) in
-    subst (λ (s : Sort). c.plain_nets.result ≡ weigh s own js) (sym c.in-Plain.is) is
+    subst (λ (s : Counted). c.plain_nets.result ≡ weigh s own js) (sym c.in-Plain.is) is
 
 pub returns-in-Constant : goal.returns-in-Constant
 returns-in-Constant c =
@@ -33,4 +33,4 @@ returns-in-Constant c =
     c.free_constants.ensures
     ∙ (ap (free_count c.in-Constant.value js) c.requires.bits
     ∙ sym (constants_counted c.in-Constant.value own js)) in
-    subst (λ (s : Sort). c.free_constants.result ≡ weigh s own js) (sym c.in-Constant.is) is
+    subst (λ (s : Counted). c.free_constants.result ≡ weigh s own js) (sym c.in-Constant.is) is

@@ -7,7 +7,7 @@ use Rattle.bs_flat_nets.specs.Blocks.{instance_of, module_of}
 use Rattle.bs_flat_nets.specs.Order.{module_in}
 use Rattle.bs_flat_nets.specs.Nets.{sum_below}
 use Rattle.bs_flat_nets.specs.Sums.{weight_in, IsFit}
-use Rattle.bs_flat_nets.specs.declared.blocks.Block.{Block}
+use Rattle.bs_flat_nets.specs.declared.blocks.FlatModule.{FlatModule}
 use Rattle.bs_flat_nets.specs.declared.blocks.Child.{Child}
 use Rattle.bs_flat_nets.proofs.SumLemmas.{sum_is_local, sum_past}
 use Rattle.bs_flat_nets.proofs.OrderLemmas.{follows_none, follows_more, follows_all, in_order, children_within}
@@ -20,10 +20,10 @@ sum_children-sum-requires c =
     let m = get_or c.args.order.now c.each.k-index 0 in
     let b = c.index-blocks-k.result in
     let there : m < length blocks = in_order blocks c.args.order.now c.each.k-index c.requires.order c.each-test.true in
-    let cs : c.slice-children.result.now ≡ b.children = c.slice-children.ensures ∙ ap (λ (u : Block). u.children) (sym c.index-blocks-k.is) in
+    let cs : c.slice-children.result.now ≡ b.children = c.slice-children.ensures ∙ ap (λ (u : FlatModule). u.children) (sym c.index-blocks-k.is) in
     let inside = children_within blocks c.args.order.now m b c.requires.order there c.index-blocks-k.is in
     let fit : All (IsFit blocks) b.children =
-    subst (λ (u : Block). All (IsFit blocks) u.children) (sym c.index-blocks-k.is) (c.requires.fit m b there) in
+    subst (λ (u : FlatModule). All (IsFit blocks) u.children) (sym c.index-blocks-k.is) (c.requires.fit m b there) in
     record {
       there = subst (λ (u : List Child). All (λ (y : Child). y.of < length blocks) u) (sym cs) inside;
       wide = ap length c.as_slice.ensures.value ∙ c.each.invariant.wide;
@@ -49,7 +49,7 @@ each-preserved c =
     let b = c.index-blocks-k.result in
     let g : Instance → ℕ = weight_in c.args.sort (map module_of blocks) in
     let there : m < length blocks = in_order blocks order c.each.k-index c.requires.order c.each-test.true in
-    let cs : c.slice-children.result.now ≡ b.children = c.slice-children.ensures ∙ ap (λ (u : Block). u.children) (sym c.index-blocks-k.is) in
+    let cs : c.slice-children.result.now ≡ b.children = c.slice-children.ensures ∙ ap (λ (u : FlatModule). u.children) (sym c.index-blocks-k.is) in
     let v : c.sum_children-sum.result ≡ sum_below 100001 g (λ j. get_or table j 0) (module_in (map module_of blocks) m) =
     c.sum_children-sum.ensures
     ∙ (ap (λ (t : List ℕ). min 100001 (sum_of (λ (y : Child). g (instance_of y) + get_or t y.of 0) c.slice-children.result.now)) c.as_slice.ensures.value

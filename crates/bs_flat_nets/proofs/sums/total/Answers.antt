@@ -6,7 +6,7 @@ use Rattle.bs_flat_meaning.specs.declared.limits.TheConstants.{MAX_DEPTH}
 use Rattle.bs_flat_nets.specs.Blocks.{joins_of_run, own_of, module_of, design_of}
 use Rattle.bs_flat_nets.specs.Nets.{weigh, below_sum}
 use Rattle.bs_flat_nets.specs.Sums.{weight_in}
-use Rattle.bs_flat_nets.specs.declared.blocks.Run.{Run}
+use Rattle.bs_flat_nets.specs.declared.blocks.JoinedNets.{JoinedNets}
 use Rattle.bs_flat_nets.proofs.SumLemmas.{sum_decides}
 use Rattle.bs_flat_nets.proofs.WeightLemmas.{known_is, top_own, nothing_distinct}
 use Rattle.bs_flat_nets.proofs.sums.total.Goals as goal
@@ -26,8 +26,8 @@ weight-own-requires c =
           ∙ known_is c.args.blocks.now c.args.bits.now c.args.top b c.index-bits-top.result c.requires.bits c.requires.top c.index-blocks-top.is
           c.index-bits-top.is;
       within =
-          subst (λ (rs : List Run). All (λ (j : Join). j.inner.0 < length b.names) (flat_map joins_of_run rs)) (sym none) (λ k d lt. absurd (omega (arith, lt)));
-      once = subst (λ (rs : List Run). IsDistinct nat_eq (map (λ (j : Join). j.inner.0) (flat_map joins_of_run rs))) (sym none) nothing_distinct;
+          subst (λ (rs : List JoinedNets). All (λ (j : Join). j.inner.0 < length b.names) (flat_map joins_of_run rs)) (sym none) (λ k d lt. absurd (omega (arith, lt)));
+      once = subst (λ (rs : List JoinedNets). IsDistinct nat_eq (map (λ (j : Join). j.inner.0) (flat_map joins_of_run rs))) (sym none) nothing_distinct;
     }
 
 pub returns : goal.returns
@@ -38,7 +38,7 @@ returns c =
     let none : c.slice.result.now ≡ [] = c.slice.ensures ∙ c.no_runs-none.ensures in
     let first : c.weight-own.result ≡ weigh c.args.sort (own d []) [] =
     c.weight-own.ensures
-    ∙ (ap (λ (rs : List Run). weigh c.args.sort (own_of b) (flat_map joins_of_run rs)) none
+    ∙ (ap (λ (rs : List JoinedNets). weigh c.args.sort (own_of b) (flat_map joins_of_run rs)) none
     ∙ ap (λ (o : Parts). weigh c.args.sort o []) (sym (top_own c.args.blocks.now c.args.top b c.requires.top c.index-blocks-top.is))) in
     let below : c.at-below.result ≡ min 100001 (below_sum MAX_DEPTH d g (module_at d [])) =
     c.at-below.ensures

@@ -5,7 +5,7 @@ use Rattle.bs_net.specs.declared.loops.Levelling.{Levelling}
 use Rattle.bs_net.specs.Order.{IsOrder}
 use Rattle.bs_net.specs.Loops.{IsLoop, IsLevelling}
 use Rattle.bs_flat_order.specs.Gates.{turned}
-use Rattle.bs_flat_order.specs.Ring.{IsRing}
+use Rattle.bs_flat_meaning.specs.Rings.{IsRing}
 use Rattle.bs_flat_order.proofs.LevelLemmas.{gates_count, gates_outs, gates_ins, gates_narrow, gates_single, order_is}
 use Rattle.bs_flat_order.proofs.RingLemmas.{loop_is_ring, loop_is_some}
 use Rattle.bs_flat_order.proofs.levels.module_levels.Goals as goal

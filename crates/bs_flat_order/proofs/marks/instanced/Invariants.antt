@@ -1,5 +1,5 @@
 use Rattle.std.proofs.Common.{◌≡◌, ℕ, take, length, get_or, false}
-use Rattle.bs_flat_order.specs.Tops.{is_instanced}
+use Rattle.bs_flat_meaning.specs.Rings.{is_instanced}
 use Rattle.bs_flat_order.proofs.marks.instanced.Given as goal
 
 abbrev pub invariant-modules : goal.invariant-modules

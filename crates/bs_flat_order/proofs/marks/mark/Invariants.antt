@@ -1,5 +1,5 @@
 use Rattle.std.proofs.Common.{take}
-use Rattle.bs_flat_order.specs.Tops.{Marks}
+use Rattle.bs_flat_order.specs.Marks.{Marks}
 use Rattle.bs_flat_order.proofs.marks.mark.Given as goal
 
 abbrev pub invariant-modules : goal.invariant-modules

@@ -1,0 +1,54 @@
+use Rattle.std.proofs.Common.{◌<◌, ◌+◌, [], length, take, refl, sym, subst, arith}
+use Rattle.bs_flat_meaning.specs.Design.{paths}
+use Rattle.bs_flat_nets.specs.Blocks.{design_of}
+use Rattle.bs_flat_nets.specs.Climbing.{node_at}
+use Rattle.bs_flat_nets.proofs.WeightLemmas.{consts_placed}
+use Rattle.bs_flat_nets.specs.Free.{free_nets, free_of, free_of_node, count_in, known_in}
+use Rattle.bs_flat_nets.specs.Tally.{no_tally, IsTally}
+use Rattle.bs_flat_nets.specs.declared.tally.Tally.{Tally}
+use Rattle.bs_flat_nets.proofs.TallyLemmas.{Placed, placed_none, placed_nets}
+use Rattle.bs_flat_nets.proofs.PlaceLemmas.{some_node, tally_top, tally_node, numbering_is}
+use Rattle.bs_flat_nets.proofs.numbers.number_nets.Goals as goal
+
+pub all_bits-requires : goal.all_bits-requires
+all_bits-requires c = consts_placed c.args.blocks.now c.args.top c.requires.design
+
+pub nodes-init : goal.nodes-init
+nodes-init c =
+    let blocks = c.args.blocks.now in
+    let nodes = c.args.nodes.now in
+    let top = c.args.top in
+    let d = design_of blocks top in
+    record {
+      nets =
+          subst (λ (t : Tally). IsTally d (free_of d (take 1 (paths d))) t) (sym c.in_ok-tally.ensures)
+          (tally_top blocks nodes top c.requires.design c.requires.paths);
+      placed =
+          subst (λ (t : Tally). Placed (length nodes) t) (sym c.in_ok-tally.ensures)
+          (placed_nets (length nodes) 0 (known_in blocks top) (free_nets [] (count_in blocks top)) no_tally (some_node blocks nodes top c.requires.paths)
+          (placed_none (length nodes)));
+    }
+
+pub nodes-preserved : goal.nodes-preserved
+nodes-preserved c =
+    let blocks = c.args.blocks.now in
+    let nodes = c.args.nodes.now in
+    let top = c.args.top in
+    let d = design_of blocks top in
+    let at = c.nodes.at in
+    let up : 0 < at = omega (arith, c.nodes.auto.at) in
+    record {
+      nets =
+          subst (λ (t : Tally). IsTally d (free_of d (take (at + 1) (paths d))) t) (sym c.in_ok-push_node.ensures)
+          (tally_node blocks nodes top at c.nodes.tally c.requires.design c.requires.paths up c.nodes-test.true c.nodes.invariant.nets);
+      placed =
+          subst (λ (t : Tally). Placed (length nodes) t) (sym c.in_ok-push_node.ensures)
+          (placed_nets (length nodes) at (known_in blocks (node_at nodes at).of) (free_of_node blocks nodes at) c.nodes.tally c.nodes-test.true
+          c.nodes.invariant.placed);
+    }
+
+pub returns : goal.returns
+returns c =
+    numbering_is c.args.blocks.now c.args.nodes.now c.args.top c.nodes.at c.nodes.tally _ c.requires.design c.requires.paths c.nodes-test.false
+    c.nodes.invariant.nets c.nodes.invariant.placed refl c.in_ok-bits.ensures refl refl
+    c.in_ok-rows.ensures

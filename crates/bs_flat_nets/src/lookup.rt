@@ -1,0 +1,119 @@
+//! The number of the flat net that stands for a net on a path.
+ghost use Rattle.std.specs.Prelude.{◌≡◌, ◌<◌, ◌==◌, ◌&&◌, length, IfSome, slice_index_or};
+ghost use Rattle.bs_flat_meaning.specs.Design.{on, paths};
+ghost use Rattle.bs_flat_meaning.specs.Flat.{IsDesign, flat_number};
+ghost use Rattle.bs_flat_meaning.specs.Paths.{ArePaths};
+ghost use Rattle.bs_flat_nets.specs.Blocks.{design_of};
+ghost use Rattle.bs_flat_nets.specs.Climbing.{AreClimbable, path_in, node_at};
+ghost use Rattle.bs_flat_nets.specs.Sums.{all_bits_of};
+ghost use Rattle.bs_flat_nets.specs.Free.{count_in, known_in};
+ghost use Rattle.bs_flat_nets.specs.Numbering.{IsNumberIn, IsNumbering, no_place};
+ghost use Rattle.bs_flat_nets.specs.Tally as tally;
+
+use crate::blocks::FlatModule;
+use crate::climbing::{NetOnPath, root_of};
+use crate::numbers::{Numbering, bits_of, count_of};
+use crate::tally::bit_in;
+use bs_flat_meaning::Node;
+use bs_net::NetId;
+
+/// Whether two places are the same.
+fn is_same(a: NetOnPath, b: NetOnPath) -> bool
+    ensures { result ≡ (a.node == b.node && a.net == b.net) }
+{
+    a.node == b.node && a.net == b.net
+}
+
+/// Where the first place stands whose net is no lower than one, of those from one place to another, if their nets rise.
+fn first_from(places: &[NetOnPath], from: usize, to: usize, net: usize) -> usize {
+    let mut low = from;
+    let mut high = to.min(places.len());
+    'search: while low < high {
+        let middle = low + (high - low) / 2;
+        if places[middle].net < net {
+            low = middle + 1;
+        } else {
+            high = middle;
+        }
+    }
+    low
+}
+
+/// Where a place stands among those of its node, if it does.
+fn number_of_place(places: &[NetOnPath], starts: &[usize], place: NetOnPath) -> Option<usize>
+    ensures within { IfSome result (λ i. i < length places.now) }
+    ensures is { IfSome result (λ i. slice_index_or places.now i no_place ≡ place) }
+{
+    let node = place.node as usize;
+    if node + 1 >= starts.len() {
+        return None;
+    }
+    let at = first_from(places, starts[node], starts[node + 1], place.net);
+    if at >= places.len() {
+        return None;
+    }
+    if is_same(places[at], place) {
+        Some(at)
+    } else {
+        None
+    }
+}
+
+/// The number of the flat net that an uppermost net is, or whose constant it is.
+fn number_of(numbering: &Numbering, place: NetOnPath, bit: Option<bool>) -> Option<usize>
+    ensures { IfSome result (λ i. IsNumberIn numbering.now bit place i) }
+{
+    match bit {
+        None => number_of_place(numbering.places.slice(), numbering.starts.slice(), place),
+        Some(true) => numbering.one,
+        Some(false) => numbering.zero,
+    }
+}
+
+/// The number of the flat net that stands for an uppermost net.
+fn home_number(
+    blocks: &[FlatModule],
+    nodes: &[Node],
+    numbering: &Numbering,
+    place: NetOnPath,
+) -> Option<usize>
+    requires climb { AreClimbable blocks.now nodes.now }
+    requires known { numbering.now.bits ≡ all_bits_of blocks.now }
+    requires there { place.node < length nodes.now }
+    ensures net { IfSome result (λ _. place.net < count_in blocks.now (node_at nodes.now place.node).of) }
+    ensures is { IfSome result (λ i. IsNumberIn numbering.now (tally.bit_in (known_in blocks.now (node_at nodes.now place.node).of) place.net) place i) }
+{
+    let of = nodes[place.node as usize].of;
+    if place.net >= count_of(blocks, of) {
+        return None;
+    }
+    let known = bits_of(numbering.bits.slice(), blocks, of);
+    let bit = bit_in(known, place.net);
+    number_of(numbering, place, bit)
+}
+
+/// The flat net that stands for a net on a node's path. None is never met, where the net is one of the block there; a caller
+/// takes it for want of memory. It takes time by the path's length, and by the logarithms of the runs on it and of the flat nets.
+pub fn flat_net(
+    blocks: &[FlatModule],
+    nodes: &[Node],
+    top: u32,
+    numbering: &Numbering,
+    node: u32,
+    net: usize,
+) -> Option<NetId>
+    requires paths { ArePaths (design_of blocks.now top) nodes.now (paths (design_of blocks.now top)) }
+    requires climb { AreClimbable blocks.now nodes.now }
+    requires design { IsDesign (design_of blocks.now top) }
+    requires numbering { IsNumbering blocks.now nodes.now top numbering.now }
+    requires there { node < length nodes.now }
+    ensures is { IfSome result (λ n. n.0 ≡ flat_number (design_of blocks.now top) (on (path_in (design_of blocks.now top) node) net)) }
+    ensures within { IfSome result (λ n. n.0 < length numbering.now.places) }
+{
+    let root = root_of(blocks, nodes, numbering.rows.slice(), node, net);
+    let number = home_number(blocks, nodes, numbering, root)?;
+    if number > u32::MAX as usize {
+        return None;
+    }
+    Some(NetId(number as u32))
+}

@@ -1,4 +1,0 @@
-pub mod PlaceLemmas
-pub mod NumberLemmas
-pub mod RankLemmas
-pub mod RefusalLemmas

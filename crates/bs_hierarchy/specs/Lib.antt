@@ -1,7 +1,0 @@
--- What the modules of a text are to each other.
-pub mod Hierarchy
-pub mod Refusals
--- Each instance by the number of its module.
-pub mod Numbers
--- Where the module with a name stands among all.
-pub mod Places

@@ -1,2 +1,0 @@
--- The law of the names of flat nets.
-pub mod Law

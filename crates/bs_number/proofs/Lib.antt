@@ -1,6 +1,0 @@
-pub mod FreeLemmas
-pub mod GapLemmas
-pub mod ChildLemmas
-pub mod TallyLemmas
-pub mod PlaceLemmas
-pub mod RowLemmas

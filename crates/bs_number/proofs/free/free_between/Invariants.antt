@@ -1,6 +1,0 @@
-use Rattle.std.proofs.Common.{take}
-use Rattle.bs_number.proofs.GapLemmas.{IsLeft}
-use Rattle.bs_number.proofs.free.free_between.Given as goal
-
-abbrev pub invariant-runs : goal.invariant-runs
-invariant-runs l = IsLeft (take l.run-index l.runs) l.next l.nets

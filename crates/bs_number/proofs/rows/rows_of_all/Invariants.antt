@@ -1,6 +1,0 @@
-use Rattle.std.proofs.Common.{take}
-use Rattle.bs_number.specs.Rows.{Beside, AreBlockRows}
-use Rattle.bs_number.proofs.rows.rows_of_all.Given as goal
-
-abbrev pub invariant-each : goal.invariant-each
-invariant-each l = Beside AreBlockRows (take l.block-index l.blocks) l.rows

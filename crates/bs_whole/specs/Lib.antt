@@ -1,2 +1,0 @@
--- The law that the modules of a text are whole.
-pub mod Law
