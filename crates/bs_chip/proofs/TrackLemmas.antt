@@ -23,7 +23,7 @@ ok_weaker P Q (Err e) f h = h
 
 -- ---- the track
 
-pub first_shows : (c : Circuit) (runs : List Run) (planes : List ℕ) (track : List (List ℕ)) → ShowsCycle c runs planes 0 → track ≡ planes ∷ [] →
+first_shows : (c : Circuit) (runs : List Run) (planes : List ℕ) (track : List (List ℕ)) → ShowsCycle c runs planes 0 → track ≡ planes ∷ [] →
     TrackShows c runs track
 first_shows c runs planes track h e = subst (λ (t : List (List ℕ)). TrackShows c runs t) (sym e) only
   where
@@ -33,6 +33,12 @@ first_shows c runs planes track h e = subst (λ (t : List (List ℕ)). TrackShow
 
     only : TrackShows c runs (planes ∷ [])
     only = record { some = omega arith; few = omega arith; each = each }
+
+-- the same of a pass that stands at reset
+pub starts_with : (p : Passing) (c : Circuit) (runs : List Run) (planes : List ℕ) (track : List (List ℕ)) →
+    p ≡ record { circuit = c; runs = runs; cycle = 0 } → ShowsCycle p.circuit p.runs planes p.cycle → track ≡ planes ∷ [] → TrackShows c runs track
+starts_with p c runs planes track e h =
+    first_shows c runs planes track (subst (λ (q : Passing). ShowsCycle q.circuit q.runs planes q.cycle) e h)
 
 at_end : (track : List (List ℕ)) (planes : List ℕ) → get_or (track ++ planes ∷ []) (length track) [] ≡ planes
 at_end [] planes = refl
@@ -162,16 +168,13 @@ filled_all c choice run first cycle k r e same f =
 -- ---- a chip
 
 -- a new chip stands at reset and keeps that cycle
-pub new_chip : (made : Recording) (p : Passing) (kept : List ℕ) (track : List (List ℕ)) (index : Index) → IsRecording made → p.circuit ≡ made.circuit →
-    p.runs ≡ made.runs → p.cycle ≡ 0 → ShowsCycle p.circuit p.runs kept p.cycle → track ≡ kept ∷ [] → index.cycles ≡ 0 → IsChip made p track index
-new_chip made p kept track index recording e f g shows t none =
-    let P : Circuit → Type 0 = λ c. ShowsCycle c p.runs kept p.cycle in
-    let Q : List Run → Type 0 = λ runs. ShowsCycle made.circuit runs kept p.cycle in
-    let R : ℕ → Type 0 = λ n. ShowsCycle made.circuit made.runs kept n in
+pub new_chip : (made : Recording) (p : Passing) (track : List (List ℕ)) (index : Index) → IsRecording made → p.circuit ≡ made.circuit →
+    p.runs ≡ made.runs → TrackShows made.circuit made.runs track → index.cycles ≡ 0 → IsChip made p track index
+new_chip made p track index recording e f shows none =
     record {
       recording = recording;
       circuit = e;
       runs = f;
-      shows = first_shows made.circuit made.runs kept track (subst R g (subst Q f (subst P e shows))) t;
+      shows = shows;
       notes = cycles_none made.circuit made.runs index.first index.cycles none;
     }

@@ -1,6 +1,6 @@
-//! The lane of a run in planes, read and written bit by bit.
-ghost use Rattle.std.specs.Prelude.{◌≡◌, ◌<◌, ◌≤◌, ◌+◌, ◌*◌, true, false, length, IsTrue};
-ghost use Rattle.bs_stim.specs.Packing.{bit_in, HasPut};
+//! The lane of a run in planes, read bit by bit.
+ghost use Rattle.std.specs.Prelude.{◌≡◌, ◌<◌, ◌≤◌, ◌+◌, ◌*◌, length, IsTrue};
+ghost use Rattle.bs_stim.specs.Packing.{bit_in};
 ghost use Rattle.bs_stim.specs.Runs.{inputs_of};
 ghost use Rattle.bs_lanes_planes.specs.Planes.{lane as lane_in};
 ghost use Rattle.bs_lanes.specs.Lanes.{is_wide};
@@ -32,39 +32,6 @@ pub fn bit_of(words: &[u64], at: usize, low: usize) -> bool
     ensures { result ≡ bit_in words.now (at * 64 + low) }
 {
     (words[at] >> low) & 1 == 1
-}
-
-/// Makes a bit of a word 1.
-fn put_one(words: &mut [u64], at: usize, low: usize)
-    requires word { at < length words.old }
-    requires low { low < 64 }
-    ensures { HasPut (at * 64 + low) true words.old words.new }
-{
-    let word = words[at];
-    words[at] = word | (1 << low);
-}
-
-/// Makes a bit of a word 0.
-fn put_zero(words: &mut [u64], at: usize, low: usize)
-    requires word { at < length words.old }
-    requires low { low < 64 }
-    ensures { HasPut (at * 64 + low) false words.old words.new }
-{
-    let word = words[at];
-    words[at] = word & !(1 << low);
-}
-
-/// Writes a bit of a word.
-pub fn put_bit(words: &mut [u64], at: usize, low: usize, bit: bool)
-    requires word { at < length words.old }
-    requires low { low < 64 }
-    ensures { HasPut (at * 64 + low) bit words.old words.new }
-{
-    if bit {
-        put_one(words, at, low);
-    } else {
-        put_zero(words, at, low);
-    }
 }
 
 /// Writes a lane of planes of so many words over a list of bits.

@@ -6,8 +6,8 @@ ghost use Rattle.bs_stim.specs.Runs.{inputs_of};
 ghost use Rattle.bs_chip.specs.Live.{AreLive, IsLive, IsLiveWord, LastTo};
 ghost use Rattle.bs_chip.specs.Lockstep.{IsLongest};
 
-use crate::lanes::put_bit;
 use bs_bits::NoMemory;
+use bs_lanes_planes::put_bit;
 use bs_stim::{MAX_CYCLES, Runs};
 use std::alloc::Global;
 use std::marker::Model;

@@ -69,10 +69,10 @@ impl<'a> Pass<'a> {
     {
         let _count = runs.count();
         let wide = wide_for(runs);
+        let inputs = zero_planes(alloc, runs.width(), wide)?;
+        let live = Live::new(alloc, runs)?;
         let lanes = Lanes::new(alloc, net, wide)?;
         let _planes = lanes.flops();
-        let live = Live::new(alloc, runs)?;
-        let inputs = zero_planes(alloc, runs.width(), wide)?;
         Ok(Pass {
             runs,
             lanes,

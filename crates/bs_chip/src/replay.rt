@@ -12,7 +12,7 @@ use crate::index::{Index, grow, start};
 use crate::moments::{replay, unload};
 use crate::pass::Pass;
 use crate::player::Player;
-use crate::track::{first_moment, first_track, recall};
+use crate::track::{at_reset, first_moment, recall};
 use bs_bits::{Bits, List, NoMemory};
 use bs_break::Bank;
 use bs_lanes::Lanes;
@@ -141,15 +141,14 @@ impl<'a> Chip<'a> {
         let _depth = choice.depth();
         let _count = runs.count();
         let player = Player::new(alloc, net, runs)?;
-        let pass = Pass::new(alloc, net, runs)?;
-        let track = first_track(alloc, pass.planes())?;
         let register = SigReg::new(alloc, choice)?;
-        let most = cycles_within(bytes, pass.planes().len());
+        let started = at_reset(alloc, net, runs)?;
+        let most = cycles_within(bytes, started.pass.planes().len());
         Ok(Chip {
             player,
             register,
-            pass,
-            track,
+            pass: started.pass,
+            track: started.track,
             most,
             index: Index::new(alloc),
             credit: 0,

@@ -1,5 +1,7 @@
 //! The track: the flip-flops' planes of the first cycles, which are stepped once and looked at many times.
 ghost use Rattle.std.specs.Prelude.{◌≡◌, ◌<◌, ◌≤◌, ◌+◌, ◌∷◌, [], length, IfOk, IfSome, MatchOption};
+ghost use Rattle.bs_net.specs.Netlist.{circuit};
+ghost use Rattle.bs_stim.specs.Runs.{inputs_of};
 ghost use Rattle.bs_scan.specs.Moments.{IsMoment, first_moment as first_moment_of, run_of, state_of};
 ghost use Rattle.bs_scan.specs.Signature.{stored_at};
 ghost use Rattle.bs_chip.specs.Lockstep.{Extends, IsFirstIn, IsSamePass, NoneBefore, NoneReached, TrackShows};
@@ -9,16 +11,40 @@ use crate::pass::Pass;
 use crate::player::Player;
 use bs_bits::{List, NoMemory};
 use bs_break::Bank;
+use bs_net::Netlist;
 use bs_scan::{HasState, Moment, SigReg};
+use bs_stim::Runs;
 use std::alloc::Global;
 
 /// A track of one cycle.
-pub fn first_track(alloc: Global, planes: &[u64]) -> Result<List<List<u64>>, NoMemory>
+fn first_track(alloc: Global, planes: &[u64]) -> Result<List<List<u64>>, NoMemory>
     ensures { IfOk result (λ track. track ≡ planes.now ∷ []) }
 {
     let mut track = List::new(alloc);
     track.push(List::of(Vec::from_slice(alloc, planes)?))?;
     Ok(track)
+}
+
+/// All runs at reset, and a track of that cycle.
+#[derive(Drop)]
+pub struct Started<'a> {
+    pub pass: Pass<'a>,
+    pub track: List<List<u64>>,
+}
+
+/// All runs of a netlist at reset, with a track of that cycle.
+pub fn at_reset<'a>(
+    alloc: Global,
+    net: &'a Netlist,
+    runs: &'a Runs,
+) -> Result<Started<'a>, NoMemory>
+    requires { runs.now.width ≡ length (circuit net.now).inputs }
+    ensures pass { IfOk result (λ s. s.pass ≡ record { circuit = circuit net.now; runs = inputs_of runs.now; cycle = 0 }) }
+    ensures track { IfOk result (λ s. TrackShows (circuit net.now) (inputs_of runs.now) s.track) }
+{
+    let pass = Pass::new(alloc, net, runs)?;
+    let track = first_track(alloc, pass.planes())?;
+    Ok(Started { pass, track })
 }
 
 /// Puts the planes of a cycle at the end of a track that has all cycles before, unless it has as many cycles as it may.

@@ -9,6 +9,7 @@ use Rattle.std.proofs.lemmas.List.{length-map, map-append, drop_more}
 use Rattle.std.proofs.lemmas.Option.{get_or_from_slice_get}
 use Rattle.std.proofs.Common.{drop, slice_get, Some}
 use Rattle.std.proofs.lemmas.List.Sums.{sum_by-cons}
+use Rattle.bs_bits.proofs.RangeLemmas.{range_more}
 use Rattle.bs_clause.specs.Literal.{Literal, Clause}
 use Rattle.bs_clause.proofs.Literals.{beq-true}
 use Rattle.bs_net.specs.declared.net.NetId.{NetId}
@@ -342,12 +343,6 @@ count_more next n whole item rest left e step so_far =
     omega (arith, ap (sum_by (λ (i : List ℕ). item_helpers i + 1)) e, sum_by-cons (λ (i : List ℕ). item_helpers i + 1) item rest, step, so_far)
 
 -- ---- literals of variables in a row
-
-range_more : (a n : ℕ) → range_with_len a (suc n) ≡ range_with_len a n ++ (a + n) ∷ []
-range_more a zero = let e : a ≡ a + 0 = omega arith in ap (λ x. x ∷ []) e
-range_more a (suc n) =
-    let e : (a + 1) + n ≡ a + suc n = omega arith in
-    ap (λ u. a ∷ u) (range_more (a + 1) n ∙ ap (λ x. range_with_len (a + 1) n ++ x ∷ []) e)
 
 pub literals_more : (first i : ℕ) → literals (range_with_len first (i + 1)) ≡ literals (range_with_len first i) ++ lit (first + i) true ∷ []
 literals_more first i =

@@ -5,4 +5,4 @@ mod plane;
 mod planes;
 
 pub use plane::{inverse, lane_bit, plane_at, put_plane, widened};
-pub use planes::{Plane, Planes};
+pub use planes::{Plane, Planes, put_bit};

@@ -48,7 +48,7 @@ fn put_zero(words: &mut [u64], at: usize, low: usize)
 }
 
 /// Writes a bit of a word.
-fn put_bit(words: &mut [u64], at: usize, low: usize, bit: bool)
+pub fn put_bit(words: &mut [u64], at: usize, low: usize, bit: bool)
     requires word { at < length words.old }
     requires low { low < 64 }
     ensures { HasPut (at * 64 + low) bit words.old words.new }
