@@ -71,7 +71,7 @@ struct Edge {
 }
 
 /// An edge that is given as texts.
-fn edge(alloc: Global, state: &str, input: &str, next: &str) -> Result<Edge, NoMemory> {
+fn edge_of(alloc: Global, state: &str, input: &str, next: &str) -> Result<Edge, NoMemory> {
     let state = bits(alloc, state)?;
     let input = bits(alloc, input)?;
     let next = bits(alloc, next)?;
@@ -157,7 +157,7 @@ fn are_edges(alloc: Global, net: &Netlist, edge: &Edge, probe: NetId) -> Result<
 
 /// Whether both simulators step from 000 under 011001 to 010, with a net that shows 0.
 fn are_steps(alloc: Global, net: &Netlist, probe: NetId) -> Result<bool, NoMemory> {
-    let edge = edge(alloc, "000", "011001", "010")?;
+    let edge = edge_of(alloc, "000", "011001", "010")?;
     are_edges(alloc, net, &edge, probe)
 }
 
