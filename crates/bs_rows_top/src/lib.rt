@@ -12,6 +12,8 @@ mod fault_rows;
 #[cfg(test)]
 mod files;
 #[cfg(test)]
+mod floor_rows;
+#[cfg(test)]
 mod limit_rows;
 #[cfg(test)]
 mod mode_rows;
