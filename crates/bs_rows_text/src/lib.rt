@@ -1,0 +1,42 @@
+//! Worked rows on what is read and written: bits and lines, files, stimuli, reports, words, designs of several modules, value
+//! changes, waveforms and proposals, each with ample memory: tests alone.
+#![tactic(auto)]
+
+#[cfg(test)]
+mod bits_rows;
+#[cfg(test)]
+mod design_answers;
+#[cfg(test)]
+mod design_limits;
+#[cfg(test)]
+mod design_rows;
+#[cfg(test)]
+mod gen_rows;
+#[cfg(test)]
+mod job_rows;
+#[cfg(test)]
+mod module_rows;
+#[cfg(test)]
+mod netlists;
+#[cfg(test)]
+mod outside_rows;
+#[cfg(test)]
+mod proposal_rows;
+#[cfg(test)]
+mod proposals;
+#[cfg(test)]
+mod report_rows;
+#[cfg(test)]
+mod stim_rows;
+#[cfg(test)]
+mod traces;
+#[cfg(test)]
+mod vcd_rows;
+#[cfg(test)]
+mod view_rows;
+#[cfg(test)]
+mod wave_rows;
+#[cfg(test)]
+mod waves;
+#[cfg(test)]
+mod words_rows;
