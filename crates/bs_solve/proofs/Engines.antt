@@ -35,8 +35,8 @@ use Rattle.bs_solve_recording.specs.Book.{Book, standing, without}
 use Rattle.bs_solve_recording.specs.Ending.{SomeLemmas}
 use Rattle.bs_solve_recording.specs.Stages.{is_solved, stage_of, begun_book, IsIdle, IsInside, Fits}
 use Rattle.bs_solve_recording.specs.Solver.{SolverState, IsReady, finished, retired, leaving}
-use Rattle.bs_solve_recording.proofs.Lists.{get_from_Contains, get_map_cases, get_within}
-use Rattle.bs_solve_recording.proofs.Clauses.{nothing_in, contains_cases, contains_first, all_from, filter_cases, filter_from, map_contains}
+use Rattle.bs_watch.proofs.Gets.{get_from_Contains, get_map_cases, get_within}
+use Rattle.bs_solve_analysis.proofs.Clauses.{nothing_in, contains_cases, contains_first, all_from, filter_cases, filter_from, map_contains}
 use Rattle.bs_solve_search.specs.declared.stock.Stock.{Stock}
 use Rattle.bs_solve_search.specs.Stock.{entries, IsStocked}
 use Rattle.bs_solve_search.specs.Ground.{IsGround, IsOff, IsOwn}

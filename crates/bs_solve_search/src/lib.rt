@@ -1,6 +1,7 @@
 //! The search of a solve, over a clause arena and watched literals.
 #![tactic(auto)]
 
+mod activity;
 mod blocking;
 mod laying;
 mod lesson;
@@ -12,7 +13,7 @@ mod teaching;
 mod turning;
 mod value;
 
-pub use blocking::{Spot, add_between};
+pub use blocking::{Retreat, add_between};
 pub use laying::begin_level;
 pub use lesson::take_lesson;
 pub use pausing::rest;
