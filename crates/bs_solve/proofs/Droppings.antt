@@ -23,8 +23,8 @@ use Rattle.bs_solve_reduction.specs.Keeping.{AreHeld, Ascends, renamed_ref, rena
 use Rattle.bs_solve_reduction.specs.Notes.{GoBy, HasKilled, AreOut}
 use Rattle.bs_solve_reduction.specs.Rows.{IsRowOf, AreRowsOf, AreRowsAmong}
 use Rattle.bs_solve_reduction.proofs.Removals.{killed_still, first_stay}
-use Rattle.bs_solve_recording.proofs.Lists.{none_is_not_some, same_some, get_from_Contains, Contains_from_get, get_map, get_map_cases, get_take, get_within}
-use Rattle.bs_solve_recording.proofs.Clauses.{nothing_in, contains_first, cons_contains, contains_cases, filter_cases, filter_from, map_cases, map_contains, all_from}
+use Rattle.bs_watch.proofs.Gets.{none_is_not_some, same_some, get_from_Contains, Contains_from_get, get_map, get_map_cases, get_take, get_within}
+use Rattle.bs_solve_analysis.proofs.Clauses.{nothing_in, contains_first, cons_contains, contains_cases, filter_cases, filter_from, map_cases, map_contains, all_from}
 use Rattle.bs_solve_recording.proofs.Entries.{found_id}
 use Rattle.bs_solve_search.specs.declared.stock.Stock.{Stock}
 use Rattle.bs_solve_search.specs.Stock.{is_live, id_in, IsStocked}

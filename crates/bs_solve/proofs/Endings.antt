@@ -24,8 +24,8 @@ use Rattle.bs_solve_reduction.specs.Notes.{IsNoted}
 use Rattle.bs_solve_reduction.specs.Rows.{AreInOrder, AreRowsOf, AreRowsAmong, going}
 use Rattle.bs_solve_reduction.proofs.Deletions.{leaving_ids}
 use Rattle.bs_solve_recording.specs.Book.{Book, next_id}
-use Rattle.bs_solve_recording.proofs.Lists.{same_some, get_from_Contains, Contains_from_get}
-use Rattle.bs_solve_recording.proofs.Clauses.{all_from, nothing_in, contains_cases, filter_cases, map_cases, map_contains}
+use Rattle.bs_watch.proofs.Gets.{same_some, get_from_Contains, Contains_from_get}
+use Rattle.bs_solve_analysis.proofs.Clauses.{all_from, nothing_in, contains_cases, filter_cases, map_cases, map_contains}
 use Rattle.bs_solve_recording.proofs.Entries.{found_stands, found_still}
 use Rattle.bs_solve_search.specs.declared.stock.Stock.{Stock}
 use Rattle.bs_solve_search.specs.Stock.{entries, is_live, id_in, IsStocked}

@@ -39,8 +39,8 @@ use Rattle.bs_solve_recording.specs.Solver.{SolverState, IsReady, MaySolve, fini
 use Rattle.bs_solve_recording.proofs.CallerLemmas.{begun_vars, begun_clauses}
 use Rattle.bs_solve_recording.proofs.Solving.{begun_stands, begun_assumptions, begun_inside, begun_phase}
 use Rattle.bs_solve_recording.proofs.Leavings.{leaves_begun}
-use Rattle.bs_solve_recording.proofs.Lists.{get_from_Contains, get_map_cases, get_within}
-use Rattle.bs_solve_recording.proofs.Clauses.{nothing_in, contains_cases, contains_first, all_from, filter_cases, filter_from, map_contains}
+use Rattle.bs_watch.proofs.Gets.{get_from_Contains, get_map_cases, get_within}
+use Rattle.bs_solve_analysis.proofs.Clauses.{nothing_in, contains_cases, contains_first, all_from, filter_cases, filter_from, map_contains}
 use Rattle.bs_solve_search.specs.declared.stock.Stock.{Stock}
 use Rattle.bs_solve_search.specs.Stock.{entries, IsStocked}
 use Rattle.bs_solve_search.specs.Ground.{IsGround, IsOff, IsOwn}

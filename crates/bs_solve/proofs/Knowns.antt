@@ -19,8 +19,8 @@ use Rattle.bs_solve_reduction.specs.Rows.{IsRowOf, AreRowsOf, AreInOrder}
 use Rattle.bs_solve_reduction.proofs.Rules.{lemma_back}
 use Rattle.bs_solve_reduction.proofs.Deletions.{chain_of, chain_filter}
 use Rattle.bs_solve_recording.proofs.Entries.{order_of}
-use Rattle.bs_solve_recording.proofs.Lists.{none_is_not_some, same_some}
-use Rattle.bs_solve_recording.proofs.Clauses.{contains_first, cons_contains, contains_cases, nothing_in, all_from}
+use Rattle.bs_watch.proofs.Gets.{none_is_not_some, same_some}
+use Rattle.bs_solve_analysis.proofs.Clauses.{contains_first, cons_contains, contains_cases, nothing_in, all_from}
 use Rattle.bs_solve.specs.Dropping.{marked, is_free, is_free_long, AreKnownIn}
 
 -- ---- a row and its entry pass alike

@@ -32,8 +32,8 @@ use Rattle.bs_solve_recording.specs.Ending.{SomeLemmas}
 use Rattle.bs_solve_recording.specs.Stages.{is_begun, is_solved, begun_book, IsIdle}
 use Rattle.bs_solve_recording.specs.Solver.{SolverState, IsReady, MaySolve, HasSolved, finished}
 use Rattle.bs_solve_recording.proofs.Lines.{live_with_member}
-use Rattle.bs_solve_recording.proofs.Lists.{none_is_not_some, same_some, get_within}
-use Rattle.bs_solve_recording.proofs.Clauses.{nothing_in, all_from}
+use Rattle.bs_watch.proofs.Gets.{none_is_not_some, same_some, get_within}
+use Rattle.bs_solve_analysis.proofs.Clauses.{nothing_in, all_from}
 use Rattle.bs_solve_recording.proofs.Solving.{ready_after_solve, has_solved, begun_stands, begun_assumptions, begun_phase}
 use Rattle.bs_solve_search.specs.Searching.{IsOver}
 use Rattle.bs_solve_search.specs.declared.stock.Stock.{Stock}
@@ -43,7 +43,7 @@ use Rattle.bs_solve_reduction.specs.Keeping.{AreHeld}
 use Rattle.bs_solve_reduction.specs.Rows.{AreRowsAmong}
 use Rattle.bs_watch.specs.Trail.{IsTrueOn, IsOpenOn}
 use Rattle.bs_solve_analysis.specs.Marks.{MarkState, IsClear, StaysClear}
-use Rattle.bs_solve_recording.specs.Places.{AreWarranted, literals_of as logged_literals}
+use Rattle.bs_solve_recording.specs.Places.{AreWarranted, logged_literals}
 use Rattle.bs_solve_search.specs.Seen.{seen}
 use Rattle.bs_solve_search.specs.Ground.{HasStocked, IsGround, IsOff}
 use Rattle.bs_solve_search.specs.Teaching.{IsAtRest}

@@ -2,7 +2,7 @@
 use Rattle.std.proofs.Common.{◌≡◌, ◌≢◌, ℕ, zero, suc, ◌<◌, arith, Bool, true, false, not, ◌||◌, cond, List, [], ◌∷◌, ◌++◌, map, get_or, refl, sym, ap}
 use Rattle.std.proofs.Common.{subst, ◌∙◌, inl, inr, ◌⊎◌, eqb}
 use Rattle.std.specs.Prelude.{All, Any, Contains}
-use Rattle.std.specs.List.{list_any, filter}
+use Rattle.std.specs.List.{list_any, list_all, filter}
 use Rattle.std.proofs.lemmas.Bool.{cases_Bool, false≢true, and_from, and_parts, both_ways, not-true, eqb-true, eq-eqb, false_from_ne_true}
 use Rattle.std.proofs.lemmas.List.Elements.{Contains-get_or, Contains-append_cases, Contains-append_left, Contains-append_right}
 use Rattle.bs_clause.specs.Literal.{Literal, Clause, negation, same_literal, has_literal}
@@ -26,6 +26,10 @@ contains_cases x xs y (suc k, h, e) = inr (k, omega (arith, h), e)
 
 pub all_from : {X : Type 0} (P : X → Type 0) (xs : List X) → ((x : X) → Contains xs x → P x) → All P xs
 all_from P xs f = λ k d h. f (get_or xs k d) (Contains-get_or xs k d h)
+
+pub all_list : {X : Type 0} (q : X → Bool) (xs : List X) → All (λ x. q x ≡ true) xs → list_all q xs ≡ true
+all_list q [] all = refl
+all_list q (x ∷ xs) all = and_from (q x) (list_all q xs) (all 0 x (omega arith)) (all_list q xs (λ k d h. all (suc k) d (omega (arith, h))))
 
 pub any_cases : {X : Type 0} (P : X → Type 0) (x : X) (xs : List X) → Any P (x ∷ xs) → P x ⊎ Any P xs
 any_cases P x xs (zero, y, h, e, p) = inl (subst P (sym e) p)

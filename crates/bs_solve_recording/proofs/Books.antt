@@ -20,10 +20,10 @@ use Rattle.bs_log.proofs.Tests.{IsRight, none_from_right, right_from_none}
 use Rattle.bs_log.proofs.Histories.{live-push}
 use Rattle.bs_solve_reduction.proofs.Deletions.{live_after}
 use Rattle.bs_solve_recording.specs.Ids.{Rises, is_among}
-use Rattle.bs_solve_recording.specs.Walk.{IsLearnt}
+use Rattle.bs_solve_recording.specs.Walk.{IsLoggedLearnt}
 use Rattle.bs_solve_recording.specs.Book.{Book, lemma_ids, next_id, IsKept, IsRecorded, with_line, with_lemma, without}
-use Rattle.bs_solve_recording.proofs.Lists.{none_is_not_some}
-use Rattle.bs_solve_recording.proofs.Clauses.{all_list}
+use Rattle.bs_watch.proofs.Gets.{none_is_not_some}
+use Rattle.bs_solve_analysis.proofs.Clauses.{all_list}
 use Rattle.bs_solve_reduction.specs.Rows.{AreInOrder}
 use Rattle.bs_solve_recording.proofs.Entries.{live_in_order, ascending_rises, hints_are_ids, deleted_are_ids, finished_is_id, ids_with, ids_without}
 
@@ -168,7 +168,7 @@ pub lemma_stands : (b : Book) (id : ℕ) (lits : Clause) (hints : List ℕ) → 
 lemma_stands b id lits hints k next = live-push b.problem b.history (record { id = id; origin = Learnt; literals = lits }) k.right next
 
 pub recorded_lemma : (last id : ℕ) (ids : List ℕ) (b : Book) (lits : Clause) (hints : List ℕ) → IsRecorded last ids b → id ≡ last + 1 → id < 2 ^ 64 →
-    in_solve (phase_of b.history) ≡ true → IsLearnt (live b.problem b.history) lits hints → All HasVariable lits → IsNew b.problem b.history lits →
+    in_solve (phase_of b.history) ≡ true → IsLoggedLearnt (live b.problem b.history) lits hints → All HasVariable lits → IsNew b.problem b.history lits →
     IsRecorded id (ids ++ id ∷ []) (with_lemma b id lits hints)
 recorded_lemma last id ids b lits hints r is high phase learnt range new =
     let next : id ≡ last_id b.problem b.history + 1 = is ∙ ap (λ n. n + 1) r.last_is in

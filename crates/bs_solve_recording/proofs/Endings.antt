@@ -19,28 +19,28 @@ use Rattle.bs_log.specs.declared.line.Line.TheVariants.{Solve, Lemma, Block, Fin
 use Rattle.bs_log.specs.History.{phase_of}
 use Rattle.bs_log.specs.Refusal.{has_distinct_variables, in_solve, denies}
 use Rattle.bs_log.specs.Steps.{is_lemma_line}
-use Rattle.bs_solve_recording.specs.Place.{Place}
+use Rattle.bs_solve_recording.specs.Place.{LoggedPlace}
 use Rattle.bs_watch.specs.Trail.{IsTrueOn, IsFalseOn, IsOpenOn, IsConflict, IsQuiet}
 use Rattle.bs_solve_recording.specs.Bound.{number}
-use Rattle.bs_solve_recording.specs.Places.{TrailState, literals_of, AreWarranted, IsUnassigned}
-use Rattle.bs_solve_recording.specs.Grown.{Grows}
+use Rattle.bs_solve_recording.specs.Places.{LoggedTrail, logged_literals, AreWarranted, IsLoggedUnassigned}
+use Rattle.bs_solve_recording.specs.Grown.{LoggedGrows}
 use Rattle.bs_solve_recording.specs.Learning.{digits}
 use Rattle.bs_solve_recording.specs.Book.{Book, standing}
 use Rattle.bs_solve_recording.specs.Search.{assumed, assumption_places, HasLemma, HasLearnt, HasRefuted}
 use Rattle.bs_solve_recording.specs.Values.{positive, AreAssigned, HasValues, value_of, IsSolution}
 use Rattle.bs_solve_recording.specs.Ending.{is_open_lemma, HasLemmas, SomeLemmas, IsSpent, IsFound}
 use Rattle.bs_solve_recording.specs.Turn.{InSearch}
-use Rattle.bs_solve_recording.proofs.Lists.{none_is_not_some, Contains_from_get, get_map_cases, get_within}
+use Rattle.bs_watch.proofs.Gets.{none_is_not_some, Contains_from_get, get_map_cases, get_within}
 use Rattle.bs_solve_recording.proofs.Quiet.{has-from_Contains, Contains-from_has, unit_runs_are_on_quiet_trails}
 use Rattle.bs_solve_recording.proofs.Numbers.{number_bounded}
 use Rattle.bs_solve_recording.proofs.Places.{sound_push, sound_grows}
-use Rattle.bs_solve_recording.proofs.Clauses.{nothing_in, cons_contains, contains_first, contains_cases, all_from, distinct_parts}
+use Rattle.bs_solve_analysis.proofs.Clauses.{nothing_in, cons_contains, contains_first, contains_cases, all_from, distinct_parts}
 use Rattle.bs_solve_recording.proofs.Lessons.{consistent, growing_lowers_nothing}
 use Rattle.bs_solve_recording.proofs.Walks.{true_at_end}
 
 -- ---- the assumptions on the trail
 
-pub literals_assumed : (a : Clause) → literals_of (assumption_places a) ≡ a
+pub literals_assumed : (a : Clause) → logged_literals (assumption_places a) ≡ a
 literals_assumed [] = refl
 literals_assumed (l ∷ a) = ap (λ r. l ∷ r) (literals_assumed a)
 
@@ -67,9 +67,9 @@ pub assumed_are_sound : (clauses : List Clause) (base : ℕ) (a : Clause) → ha
 assumed_are_sound clauses base a d low = record {
   placed = λ k p e.
       let (l, at, is) = get_map_cases (λ (x : Literal). record { literal = x; forced = false }) a k p e in
-      let same_literal : p.literal ≡ l = ap (λ (q : Place). q.literal) (sym is) in
-      let none : p.forced ≡ false = ap (λ (q : Place). q.forced) (sym is) in
-      let front : literals_of (take k (assumption_places a)) ≡ take k a = ap literals_of (take_assumed k a) ∙ literals_assumed (take k a) in
+      let same_literal : p.literal ≡ l = ap (λ (q : LoggedPlace). q.literal) (sym is) in
+      let none : p.forced ≡ false = ap (λ (q : LoggedPlace). q.forced) (sym is) in
+      let front : logged_literals (take k (assumption_places a)) ≡ take k a = ap logged_literals (take_assumed k a) ∙ literals_assumed (take k a) in
       let within = get_within a k l at in
       let length_k : length (take k (assumption_places a)) ≡ k = ap length (take_assumed k a) ∙
       length-map (take k a) (λ (x : Literal). record { literal = x; forced = false }) ∙ length-take-le k a (omega (arith, within)) in
@@ -84,16 +84,16 @@ assumed_are_sound clauses base a d low = record {
 -- ---- longer trails
 
 -- what stood on the front is true still
-pub given_after : (base : ℕ) (old new : List Place) (a : Clause) → take base new ≡ take base old → All (IsTrueOn (literals_of (take base old))) a →
-    All (IsTrueOn (literals_of (take base new))) a
-given_after base old new a same given = subst (λ ps. All (IsTrueOn (literals_of ps)) a) (sym same) given
+pub given_after : (base : ℕ) (old new : List LoggedPlace) (a : Clause) → take base new ≡ take base old → All (IsTrueOn (logged_literals (take base old))) a →
+    All (IsTrueOn (logged_literals (take base new))) a
+given_after base old new a same given = subst (λ ps. All (IsTrueOn (logged_literals ps)) a) (sym same) given
 
-pub front_after : (clauses : List Clause) (base : ℕ) (old new : List Place) → base ≤ length old → Grows clauses old new → take base new ≡ take base old
+pub front_after : (clauses : List Clause) (base : ℕ) (old new : List LoggedPlace) → base ≤ length old → LoggedGrows clauses old new → take base new ≡ take base old
 front_after clauses base old new low g =
     let parts : old ++ drop (length old) new ≡ new = ap (λ xs. xs ++ drop (length old) new) (sym g.front) ∙ take-append-drop (length old) new in
     ap (take base) (sym parts) ∙ take-append-le base old (drop (length old) new) low
 
-pub number_after : (clauses : List Clause) (n base : ℕ) (old new : List Place) → base ≤ length old → Grows clauses old new →
+pub number_after : (clauses : List Clause) (n base : ℕ) (old new : List LoggedPlace) → base ≤ length old → LoggedGrows clauses old new →
     number n (drop base (digits old)) ≤ number n (drop base (digits new))
 number_after clauses n base old new low g =
     let parts : old ++ drop (length old) new ≡ new = ap (λ xs. xs ++ drop (length old) new) (sym g.front) ∙ take-append-drop (length old) new in
@@ -263,15 +263,15 @@ power_grows a (suc k) =
     subst (λ n. 2 ^ a ≤ 2 ^ n) (let e : suc (a + k) ≡ a + suc k = omega arith in e) (omega (arith, rest, double))
 
 -- so many conflicts are fewer than the bound of any unit run
-pub bound_of_run : (clauses : List Clause) (a : Clause) (vars base count : ℕ) (places : List Place) (digits : List Bool) →
-    IsQuiet (literals_of (take base places)) clauses →
-    All (IsTrueOn (literals_of (take base places))) a → count ≤ number (vars - base) digits → (run : List Literal) → IsUnitRun clauses a run →
+pub bound_of_run : (clauses : List Clause) (a : Clause) (vars base count : ℕ) (places : List LoggedPlace) (digits : List Bool) →
+    IsQuiet (logged_literals (take base places)) clauses →
+    All (IsTrueOn (logged_literals (take base places))) a → count ≤ number (vars - base) digits → (run : List Literal) → IsUnitRun clauses a run →
     count < 2 ^ (vars - length run)
 bound_of_run clauses a vars base count places digits quiet given counted run r =
-    let trail : List Literal = literals_of (take base places) in
+    let trail : List Literal = logged_literals (take base places) in
     let all : All (IsTrueOn trail) run = unit_runs_are_on_quiet_trails clauses a run trail quiet given r in
     let short = run_is_short trail run r.distinct all in
-    let few : length run ≤ base = omega (arith, short, length-map (take base places) (λ (p : Place). p.literal), length-take base places) in
+    let few : length run ≤ base = omega (arith, short, length-map (take base places) (λ (p : LoggedPlace). p.literal), length-take base places) in
     let below = number_bounded (vars - base) digits in
     let far : 2 ^ (vars - base) ≤ 2 ^ (vars - length run) = wider (vars - base) (vars - length run) (omega (arith, few)) in
     omega (arith, counted, below, far)
@@ -282,8 +282,8 @@ bound_of_run clauses a vars base count places digits quiet given counted run r =
 -- ---- the search between two turns
 
 -- the trail of the first level is sound
-pub first_is_sound : (b : Book) (a : Clause) (places : List Place) → has_distinct_variables a ≡ true → assumed b ≡ a →
-    Grows (standing b) (assumption_places a) places →
+pub first_is_sound : (b : Book) (a : Clause) (places : List LoggedPlace) → has_distinct_variables a ≡ true → assumed b ≡ a →
+    LoggedGrows (standing b) (assumption_places a) places →
     AreWarranted (standing b) (length places) (assumed b) places
 first_is_sound b a places distinct is g =
     let count : length (assumption_places a) ≡ length a = length-map a (λ (x : Literal). record { literal = x; forced = false }) in
@@ -293,22 +293,22 @@ first_is_sound b a places distinct is g =
     (assumed_are_sound (standing b) (length places) a distinct (omega (arith, count, longer)))) g
 
 -- the first propagation was quiet
-pub search_begins : (b : Book) (vars limit : ℕ) (a : Clause) (places : List Place) → has_distinct_variables a ≡ true → HasVariables vars a →
+pub search_begins : (b : Book) (vars limit : ℕ) (a : Clause) (places : List LoggedPlace) → has_distinct_variables a ≡ true → HasVariables vars a →
     assumed b ≡ a → 1 ≤ limit → All (HasVariables vars) (standing b) →
-    All (λ c. has_distinct_variables c ≡ true) (standing b) → in_solve (phase_of b.history) ≡ true → Grows (standing b) (assumption_places a) places →
-    IsQuiet (literals_of places) (standing b) → InSearch b vars (length places) 0 limit b places true
+    All (λ c. has_distinct_variables c ≡ true) (standing b) → in_solve (phase_of b.history) ≡ true → LoggedGrows (standing b) (assumption_places a) places →
+    IsQuiet (logged_literals places) (standing b) → InSearch b vars (length places) 0 limit b places true
 search_begins b vars limit a places distinct range_a is one range distinct_b phase g quiet =
     let whole : take (length places) places ≡ places = take_all (length places) places (omega arith) in
     record {
       logged = no_lemmas b;
       under = one;
       sound = first_is_sound b a places distinct is g;
-      given = subst (λ ps. All (IsTrueOn (literals_of ps)) (assumed b)) (sym whole) (subst (All (IsTrueOn (literals_of places))) (sym is)
-          (all_from (IsTrueOn (literals_of places)) a (λ l there.
-          let in_front : IsTrueOn (literals_of (take (length (assumption_places a)) places)) l =
-          subst (λ ps. IsTrueOn (literals_of ps) l) (sym g.front) (subst (λ xs. Contains xs l) (sym (literals_assumed a)) there) in
+      given = subst (λ ps. All (IsTrueOn (logged_literals ps)) (assumed b)) (sym whole) (subst (All (IsTrueOn (logged_literals places))) (sym is)
+          (all_from (IsTrueOn (logged_literals places)) a (λ l there.
+          let in_front : IsTrueOn (logged_literals (take (length (assumption_places a)) places)) l =
+          subst (λ ps. IsTrueOn (logged_literals ps) l) (sym g.front) (subst (λ xs. Contains xs l) (sym (literals_assumed a)) there) in
           true_at_end places (length (assumption_places a)) l in_front)));
-      start = subst (λ ps. IsQuiet (literals_of ps) (standing b)) (sym whole) quiet;
+      start = subst (λ ps. IsQuiet (logged_literals ps) (standing b)) (sym whole) quiet;
       counted = omega arith;
       low = omega arith;
       range = range;
@@ -319,12 +319,12 @@ search_begins b vars limit a places distinct range_a is one range distinct_b pha
     }
 
 -- a decision, and the propagation after it
-pub search_decides : (old : Book) (vars base conflicts limit : ℕ) (book : Book) (places new : List Place) (l : Literal) (is_quiet : Bool) →
-    InSearch old vars base conflicts limit book places true → IsOpenOn (literals_of places) l →
-    Grows (standing book) (places ++ record { literal = l; forced = false } ∷ []) new →
-    (is_quiet ≡ true → IsQuiet (literals_of new) (standing book)) → InSearch old vars base conflicts limit book new is_quiet
+pub search_decides : (old : Book) (vars base conflicts limit : ℕ) (book : Book) (places new : List LoggedPlace) (l : Literal) (is_quiet : Bool) →
+    InSearch old vars base conflicts limit book places true → IsOpenOn (logged_literals places) l →
+    LoggedGrows (standing book) (places ++ record { literal = l; forced = false } ∷ []) new →
+    (is_quiet ≡ true → IsQuiet (logged_literals new) (standing book)) → InSearch old vars base conflicts limit book new is_quiet
 search_decides old vars base conflicts limit book places new l is_quiet s is_open g ended =
-    let decided : List Place = places ++ record { literal = l; forced = false } ∷ [] in
+    let decided : List LoggedPlace = places ++ record { literal = l; forced = false } ∷ [] in
     let longer : length decided ≡ length places + 1 = length_push places (record { literal = l; forced = false }) in
     let low : base ≤ length decided = omega (arith, s.low, longer) in
     let front : take base new ≡ take base places = front_after (standing book) base decided new low g ∙
@@ -340,7 +340,7 @@ search_decides old vars base conflicts limit book places new l is_quiet s is_ope
             quiet = λ _ _. s.ended refl;
           })) g;
       given = given_after base places new (assumed book) front s.given;
-      start = subst (λ ps. IsQuiet (literals_of ps) (standing old)) (sym front) s.start;
+      start = subst (λ ps. IsQuiet (logged_literals ps) (standing old)) (sym front) s.start;
       counted = omega (
         arith,
         s.counted,
@@ -356,11 +356,11 @@ search_decides old vars base conflicts limit book places new l is_quiet s is_ope
     }
 
 -- a learnt clause, and the propagation after it
-pub search_learns : (old : Book) (vars base conflicts limit : ℕ) (book new_book : Book) (places : List Place) (after : TrailState) (new : List Place)
+pub search_learns : (old : Book) (vars base conflicts limit : ℕ) (book new_book : Book) (places : List LoggedPlace) (after : LoggedTrail) (new : List LoggedPlace)
     (o is_quiet : Bool) →
     InSearch old vars base conflicts limit book places o → HasLearnt base book new_book (record { vars = vars; places = places }) after →
     conflicts + 1 ≢ limit →
-    Grows (standing new_book) after.places new → (is_quiet ≡ true → IsQuiet (literals_of new) (standing new_book)) →
+    LoggedGrows (standing new_book) after.places new → (is_quiet ≡ true → IsQuiet (logged_literals new) (standing new_book)) →
     InSearch old vars base (conflicts + 1) limit new_book new is_quiet
 search_learns old vars base conflicts limit book new_book places after new o is_quiet s h not_all g ended =
     let same_assumed : assumed new_book ≡ assumed book = ap assumed h.logged.book in
@@ -369,8 +369,8 @@ search_learns old vars base conflicts limit book new_book places after new o is_
       logged = one_more old book new_book conflicts h.id h.lemma s.logged h.logged h.open_yet;
       under = let below = s.under in omega (arith, below, λ (e : conflicts + 1 ≡ limit). not_all e);
       sound = sound_grows (standing new_book) base (assumed new_book) after.places new h.sound g;
-      given = given_after base places new (assumed new_book) front (subst (All (IsTrueOn (literals_of (take base places)))) (sym same_assumed) s.given);
-      start = subst (λ ps. IsQuiet (literals_of ps) (standing old)) (sym front) s.start;
+      given = given_after base places new (assumed new_book) front (subst (All (IsTrueOn (logged_literals (take base places)))) (sym same_assumed) s.given);
+      start = subst (λ ps. IsQuiet (logged_literals ps) (standing old)) (sym front) s.start;
       counted = learnt_counts conflicts vars base places after new (standing new_book) s.counted h.vars h.rises h.low g;
       low = omega (arith, h.low, g.longer);
       assumed_range = subst (HasVariables vars) (sym same_assumed) s.assumed_range;
@@ -382,10 +382,10 @@ search_learns old vars base conflicts limit book new_book places after new o is_
       ended = ended;
     }
   where
-    learnt_counts : (count vars base : ℕ) (places : List Place) (after : TrailState) (new : List Place) (clauses : List Clause) →
+    learnt_counts : (count vars base : ℕ) (places : List LoggedPlace) (after : LoggedTrail) (new : List LoggedPlace) (clauses : List Clause) →
         count ≤ number (vars - base) (drop base (digits places)) → after.vars ≡ vars →
         number (after.vars - base) (drop base (digits places)) + 1 ≤ number (after.vars - base) (drop base (digits after.places)) →
-        base ≤ length after.places → Grows clauses after.places new →
+        base ≤ length after.places → LoggedGrows clauses after.places new →
         count + 1 ≤ number (vars - base) (drop base (digits new))
     learnt_counts count vars base places after new clauses counted is rises low g =
         let rises_here : number (vars - base) (drop base (digits places)) + 1 ≤ number (vars - base) (drop base (digits after.places)) =
@@ -393,14 +393,14 @@ search_learns old vars base conflicts limit book new_book places after new o is_
         omega (arith, counted, rises_here, number_after clauses (vars - base) base after.places new low g)
 
 -- the limit is reached
-pub search_is_spent : (old : Book) (vars base conflicts limit : ℕ) (book new_book : Book) (places : List Place) (after : TrailState) (o : Bool) →
+pub search_is_spent : (old : Book) (vars base conflicts limit : ℕ) (book new_book : Book) (places : List LoggedPlace) (after : LoggedTrail) (o : Bool) →
     InSearch old vars base conflicts limit book places o → HasLearnt base book new_book (record { vars = vars; places = places }) after →
     conflicts + 1 ≡ limit → IsSpent old new_book vars limit
 search_is_spent old vars base conflicts limit book new_book places after o s h all = record {
   lemmas = subst (HasLemmas old new_book) all (one_more old book new_book conflicts h.id h.lemma s.logged h.logged h.open_yet);
   bound = λ run r. subst (λ n. n < 2 ^ (vars - length run)) all
       (bound_of_run (standing old) (assumed old) vars base (conflicts + 1) places (drop base (digits after.places)) s.start
-      (subst (All (IsTrueOn (literals_of (take base places)))) s.logged.same_step s.given)
+      (subst (All (IsTrueOn (logged_literals (take base places)))) s.logged.same_step s.given)
       (let counted = s.counted in
       let rises : number (vars - base) (drop base (digits places)) + 1 ≤ number (vars - base) (drop base (digits after.places)) =
       subst (λ n. number (n - base) (drop base (digits places)) + 1 ≤ number (n - base) (drop base (digits after.places))) h.vars h.rises in
@@ -409,14 +409,14 @@ search_is_spent old vars base conflicts limit book new_book places after o s h a
 }
 
 -- what the propagation after a learnt clause needs
-pub learnt_ranges : (old : Book) (vars base conflicts limit : ℕ) (book new_book : Book) (places : List Place) (before after : TrailState) (o : Bool) →
+pub learnt_ranges : (old : Book) (vars base conflicts limit : ℕ) (book new_book : Book) (places : List LoggedPlace) (before after : LoggedTrail) (o : Bool) →
     InSearch old vars base conflicts limit book places o → HasLearnt base book new_book before after → before.vars ≡ vars →
     All (HasVariables after.vars) (standing new_book)
 learnt_ranges old vars base conflicts limit book new_book places before after o s h is =
     subst (All (HasVariables after.vars)) (sym h.logged.stands)
     (All-push (HasVariables after.vars) (standing book) h.lemma (subst (λ n. All (HasVariables n) (standing book)) (sym (h.vars ∙ is)) s.range) h.range)
 
-pub learnt_distinct : (old : Book) (vars base conflicts limit : ℕ) (book new_book : Book) (places : List Place) (before after : TrailState) (o : Bool) →
+pub learnt_distinct : (old : Book) (vars base conflicts limit : ℕ) (book new_book : Book) (places : List LoggedPlace) (before after : LoggedTrail) (o : Bool) →
     InSearch old vars base conflicts limit book places o → HasLearnt base book new_book before after →
     All (λ c. has_distinct_variables c ≡ true) (standing new_book)
 learnt_distinct old vars base conflicts limit book new_book places before after o s h =
@@ -424,25 +424,25 @@ learnt_distinct old vars base conflicts limit book new_book places before after 
     (All-push (λ c. has_distinct_variables c ≡ true) (standing book) h.lemma s.distinct h.distinct)
 
 -- each variable is assigned and nothing is false or unit
-pub search_finds : (old : Book) (vars base conflicts limit : ℕ) (book : Book) (places : List Place) (values : List (Option Bool)) →
+pub search_finds : (old : Book) (vars base conflicts limit : ℕ) (book : Book) (places : List LoggedPlace) (values : List (Option Bool)) →
     InSearch old vars base conflicts limit book places true →
-    AreAssigned (literals_of places) vars → HasValues (literals_of places) vars values → IsFound old book vars limit values
+    AreAssigned (logged_literals places) vars → HasValues (logged_literals places) vars values → IsFound old book vars limit values
 search_finds old vars base conflicts limit book places values s all has = record {
   count = conflicts;
   lemmas = s.logged;
   under = s.under;
-  solution = solution (literals_of places) vars (standing book) (assumed book) values (s.ended refl) all
+  solution = solution (logged_literals places) vars (standing book) (assumed book) values (s.ended refl) all
       (consistent (standing book) base (assumed book) places s.sound)
       (λ c there l in_c. All-contains (IsWithin vars) c l (All-contains (HasVariables vars) (standing book) c s.range there) in_c)
       (λ l there. All-contains (IsWithin vars) (assumed book) l s.assumed_range there)
-      (all_from (IsTrueOn (literals_of places)) (assumed book)
-      (λ l there. true_at_end places base l (All-contains (IsTrueOn (literals_of (take base places))) (assumed book) l s.given there)))
+      (all_from (IsTrueOn (logged_literals places)) (assumed book)
+      (λ l there. true_at_end places base l (All-contains (IsTrueOn (logged_literals (take base places))) (assumed book) l s.given there)))
       has;
 }
 
 -- the next assumption has no value yet
 pub assumed_next : (vars : ℕ) (a : Clause) (i : ℕ) (l : Literal) → has_distinct_variables a ≡ true → HasVariables vars a → slice_get a i ≡ Some l →
-    IsUnassigned (record { vars = vars; places = assumption_places (take i a) }) l
+    IsLoggedUnassigned (record { vars = vars; places = assumption_places (take i a) }) l
 assumed_next vars a i l d range at = record {
   in_range = (All-contains (IsWithin vars) a l range (Contains_from_get a i l at)).1;
   unassigned = subst (λ xs. IsOpenOn xs l) (sym (literals_assumed (take i a))) (open_ahead a i l d at);

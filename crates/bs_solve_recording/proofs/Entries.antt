@@ -17,8 +17,8 @@ use Rattle.bs_log.proofs.Histories.{next_given, live-push}
 use Rattle.bs_solve_reduction.specs.Rows.{AreInOrder}
 use Rattle.bs_solve_reduction.proofs.Deletions.{InChain, chain_filter, named}
 use Rattle.bs_solve_recording.specs.Ids.{Rises}
-use Rattle.bs_solve_recording.proofs.Lists.{none_is_not_some, same_some, Contains_from_get}
-use Rattle.bs_solve_recording.proofs.Clauses.{nothing_in, contains_first, cons_contains, contains_cases, filter_cases}
+use Rattle.bs_watch.proofs.Gets.{none_is_not_some, same_some, Contains_from_get}
+use Rattle.bs_solve_analysis.proofs.Clauses.{nothing_in, contains_first, cons_contains, contains_cases, filter_cases}
 
 -- ---- what an id names
 

@@ -8,7 +8,7 @@ use Rattle.bs_clause.specs.Literal.{Literal, Clause, negation, HasDistinctVariab
 use Rattle.bs_clause.specs.UnitRun.{IsUnitRun, RunsFrom, IsImplied}
 use Rattle.bs_clause.specs.Range.{HasVariables, IsWithin}
 use Rattle.bs_log.specs.History.{Problem, guard_of}
-use Rattle.bs_solve_recording.proofs.Clauses.{contains_first}
+use Rattle.bs_solve_analysis.proofs.Clauses.{contains_first}
 
 -- a run over some clauses is one over more
 implied_over : (from to : List Clause) → ((c : Clause) → Contains from c → Contains to c) → (earlier : List Literal) (l : Literal) →

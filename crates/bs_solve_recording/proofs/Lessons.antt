@@ -9,66 +9,66 @@ use Rattle.bs_clause.specs.Literal.{Literal, Clause, negation, same_literal, has
 use Rattle.bs_clause.proofs.Literals.{same_literal-true}
 use Rattle.bs_log.specs.Refusal.{denies}
 use Rattle.bs_log.specs.Lean.{IsContained}
-use Rattle.bs_solve_recording.specs.Place.{Place}
+use Rattle.bs_solve_recording.specs.Place.{LoggedPlace}
 use Rattle.bs_watch.specs.Trail.{IsTrueOn, IsFalseOn, IsOpenOn, Forces, IsQuiet}
 use Rattle.bs_solve_recording.specs.Bound.{number}
-use Rattle.bs_solve_recording.specs.Places.{literals_of, AreWarranted}
-use Rattle.bs_solve_recording.specs.Point.{is_alone_at, IsDecisionAt, IsCut, IsUnforced, AreForced}
+use Rattle.bs_solve_recording.specs.Places.{logged_literals, AreWarranted}
+use Rattle.bs_solve_recording.specs.Point.{is_alone_at, IsLoggedDecision, IsCut, IsLoggedUnforced, AreForced}
 use Rattle.bs_solve_recording.specs.Learning.{digits, after_learning}
-use Rattle.bs_solve_recording.proofs.Lists.{none_is_not_some, same_some, get_take, get_within}
+use Rattle.bs_watch.proofs.Gets.{none_is_not_some, same_some, get_take, get_within}
 use Rattle.bs_solve_recording.proofs.Quiet.{same_literal-refl, has-from_Contains, Contains-from_has, absent, learnt_clauses_are_new, learnt_clauses_keep_quiet}
 use Rattle.bs_solve_recording.proofs.Numbers.{number_rises, number_grows}
 use Rattle.bs_solve_recording.proofs.Places.{one_place, sound_take, sound_clause, sound_push, placed_from_forced}
-use Rattle.bs_solve_recording.proofs.Clauses.{nothing_in, cons_contains, contains_first, contains_cases, all_from, not_same}
+use Rattle.bs_solve_analysis.proofs.Clauses.{nothing_in, cons_contains, contains_first, contains_cases, all_from, not_same}
 use Rattle.bs_solve_recording.proofs.Walks.{negation-negation}
 use Rattle.bs_solve_recording.proofs.Walks.{true_later, true_at_end, open_earlier, place_of}
 
 -- ---- all but one false
 
 -- each literal is the one, or false
-pub others_from_alone : (places : List Place) (end : ℕ) (u : Literal) (c : Clause) → is_alone_at places end u c ≡ true →
-    (m : Literal) → Contains c m → (m ≡ u) ⊎ IsFalseOn (literals_of (take end places)) m
+pub others_from_alone : (places : List LoggedPlace) (end : ℕ) (u : Literal) (c : Clause) → is_alone_at places end u c ≡ true →
+    (m : Literal) → Contains c m → (m ≡ u) ⊎ IsFalseOn (logged_literals (take end places)) m
 others_from_alone places end u [] e m there = absurd (nothing_in m there)
 others_from_alone places end u (x ∷ c) e m there =
-    let parts = and_parts (same_literal u x || has_literal (literals_of (take end places)) (negation x)) (is_alone_at places end u c) e in
+    let parts = and_parts (same_literal u x || has_literal (logged_literals (take end places)) (negation x)) (is_alone_at places end u c) e in
     elim (contains_cases x c m there) [
-      | inl same ↦ subst (λ y. (y ≡ u) ⊎ IsFalseOn (literals_of (take end places)) y) same
-          (elim (or_cases (same_literal u x) (has_literal (literals_of (take end places)) (negation x)) parts.0) [
+      | inl same ↦ subst (λ y. (y ≡ u) ⊎ IsFalseOn (logged_literals (take end places)) y) same
+          (elim (or_cases (same_literal u x) (has_literal (logged_literals (take end places)) (negation x)) parts.0) [
             | inl is ↦ inl (sym (same_literal-true u x is))
-            | inr f ↦ inr (Contains-from_has (literals_of (take end places)) (negation x) f)
+            | inr f ↦ inr (Contains-from_has (logged_literals (take end places)) (negation x) f)
           ])
       | inr later ↦ others_from_alone places end u c parts.1 m later
     ]
 
-pub alone_from_others : (places : List Place) (end : ℕ) (u : Literal) (c : Clause) →
-    ((m : Literal) → Contains c m → (m ≡ u) ⊎ IsFalseOn (literals_of (take end places)) m) →
+pub alone_from_others : (places : List LoggedPlace) (end : ℕ) (u : Literal) (c : Clause) →
+    ((m : Literal) → Contains c m → (m ≡ u) ⊎ IsFalseOn (logged_literals (take end places)) m) →
     is_alone_at places end u c ≡ true
 alone_from_others places end u [] f = refl
 alone_from_others places end u (x ∷ c) f =
-    and_from (same_literal u x || has_literal (literals_of (take end places)) (negation x)) (is_alone_at places end u c)
+    and_from (same_literal u x || has_literal (logged_literals (take end places)) (negation x)) (is_alone_at places end u c)
     (elim (f x (contains_first x c)) [
-      | inl same ↦ or_left (same_literal u x) (has_literal (literals_of (take end places)) (negation x)) (ap (same_literal u) same ∙ same_literal-refl u)
-      | inr there ↦ or_right (same_literal u x) (has_literal (literals_of (take end places)) (negation x))
-          (has-from_Contains (literals_of (take end places)) (negation x) there)
+      | inl same ↦ or_left (same_literal u x) (has_literal (logged_literals (take end places)) (negation x)) (ap (same_literal u) same ∙ same_literal-refl u)
+      | inr there ↦ or_right (same_literal u x) (has_literal (logged_literals (take end places)) (negation x))
+          (has-from_Contains (logged_literals (take end places)) (negation x) there)
     ])
     (alone_from_others places end u c (λ m there. f m (cons_contains x c m there)))
 
 -- one more than this literal was not false
-pub record Another (places : List Place) (end : ℕ) (u : Literal) (c : Clause) : Type 0 where
+pub record Another (places : List LoggedPlace) (end : ℕ) (u : Literal) (c : Clause) : Type 0 where
   pub literal : Literal
   pub stands : Contains c literal
   pub other : u ≢ literal
-  pub not_false : ¬ IsFalseOn (literals_of (take end places)) literal
+  pub not_false : ¬ IsFalseOn (logged_literals (take end places)) literal
 
-pub another : (places : List Place) (end : ℕ) (u : Literal) (c : Clause) → is_alone_at places end u c ≡ false → Another places end u c
+pub another : (places : List LoggedPlace) (end : ℕ) (u : Literal) (c : Clause) → is_alone_at places end u c ≡ false → Another places end u c
 another places end u [] e = absurd (true≢false e)
 another places end u (x ∷ c) e =
-    by (same_literal u x) (has_literal (literals_of (take end places)) (negation x)) refl refl e (another places end u c)
+    by (same_literal u x) (has_literal (logged_literals (take end places)) (negation x)) refl refl e (another places end u c)
   where
     later : Another places end u c → Another places end u (x ∷ c)
     later rest = record { literal = rest.literal; stands = cons_contains x c rest.literal rest.stands; other = rest.other; not_false = rest.not_false }
 
-    by : (s t : Bool) → same_literal u x ≡ s → has_literal (literals_of (take end places)) (negation x) ≡ t → ((s || t) && is_alone_at places end u c) ≡ false →
+    by : (s t : Bool) → same_literal u x ≡ s → has_literal (logged_literals (take end places)) (negation x) ≡ t → ((s || t) && is_alone_at places end u c) ≡ false →
         (is_alone_at places end u c ≡ false → Another places end u c) → Another places end u (x ∷ c)
     by true t s_is t_is e rest = later (rest e)
     by false true s_is t_is e rest = later (rest e)
@@ -76,19 +76,19 @@ another places end u (x ∷ c) e =
       literal = x;
       stands = contains_first x c;
       other = not_same u x s_is;
-      not_false = absent (literals_of (take end places)) (negation x) t_is;
+      not_false = absent (logged_literals (take end places)) (negation x) t_is;
     }
 
 -- nothing is true and false
-pub consistent : (clauses : List Clause) (base : ℕ) (a : List Literal) (places : List Place) → AreWarranted clauses base a places → (l : Literal) →
-    IsTrueOn (literals_of places) l → ¬ IsFalseOn (literals_of places) l
+pub consistent : (clauses : List Clause) (base : ℕ) (a : List Literal) (places : List LoggedPlace) → AreWarranted clauses base a places → (l : Literal) →
+    IsTrueOn (logged_literals places) l → ¬ IsFalseOn (logged_literals places) l
 consistent clauses base a places s l t f =
     let (i, p, at_i, is_p) = place_of places l t in
     let (j, q, at_j, is_q) = place_of places (negation l) f in
     let together : i ≡ j = one_place clauses base a places s i j p q at_i at_j
     (ap (λ (x : Literal). x.variable) is_p ∙ sym (ap (λ (x : Literal). x.variable) is_q)) in
     let same_place : p ≡ q = same_some p q (sym at_i ∙ ap (slice_get places) together ∙ at_j) in
-    not_itself l.positive (ap (λ (x : Literal). x.positive) (sym is_p ∙ ap (λ (r : Place). r.literal) same_place ∙ is_q))
+    not_itself l.positive (ap (λ (x : Literal). x.positive) (sym is_p ∙ ap (λ (r : LoggedPlace). r.literal) same_place ∙ is_q))
   where
     not_itself : (b : Bool) → b ≡ not b → ⊥
     not_itself true e = false≢true (sym e)
@@ -99,18 +99,18 @@ open_negation trail l o = (o.1, (λ f. o.0 (subst (Contains trail) (negation-neg
 
 -- ---- the learnt clause
 
-pub record Learns (clauses : List Clause) (base : ℕ) (a : List Literal) (places : List Place) (c : Clause) (u : Literal) (cut : ℕ) : Type 0 where
-  pub forces : Forces (literals_of (take cut places)) c u
+pub record Learns (clauses : List Clause) (base : ℕ) (a : List Literal) (places : List LoggedPlace) (c : Clause) (u : Literal) (cut : ℕ) : Type 0 where
+  pub forces : Forces (logged_literals (take cut places)) c u
   pub new : All (λ d. ¬ IsContained d c) clauses
   pub sound : AreWarranted (clauses ++ c ∷ []) base a (after_learning places u cut)
-  pub free : IsOpenOn (literals_of (take cut places)) u
+  pub free : IsOpenOn (logged_literals (take cut places)) u
 
-pub learns : (clauses : List Clause) (base start at : ℕ) (a : List Literal) (places : List Place) (c : Clause) (p : Place) (cut : ℕ) →
+pub learns : (clauses : List Clause) (base start at : ℕ) (a : List Literal) (places : List LoggedPlace) (c : Clause) (p : LoggedPlace) (cut : ℕ) →
     AreWarranted clauses base a places → slice_get places at ≡ Some p → start ≤ at → Contains c (negation p.literal) →
     IsCut places base start (negation p.literal) c cut → Learns clauses base a places c (negation p.literal) cut
 learns clauses base start at a places c p cut s there low denied k = record {
   forces = forces;
-  new = learnt_clauses_are_new clauses (literals_of (take cut places)) c u quiet free forces.others;
+  new = learnt_clauses_are_new clauses (logged_literals (take cut places)) c u quiet free forces.others;
   sound = sound_push (clauses ++ c ∷ []) base a (take cut places) (record { literal = u; forced = true }) kept
       (placed_from_forced (clauses ++ c ∷ []) base a (take cut places) (record { literal = u; forced = true })
       (record { is = refl; clause = c; there = Contains-append_right clauses (c ∷ []) c (contains_first c []); forces = forces }));
@@ -120,15 +120,15 @@ learns clauses base start at a places c p cut s there low denied k = record {
     u : Literal
     u = negation p.literal
 
-    free : IsOpenOn (literals_of (take cut places)) (negation p.literal)
-    free = open_negation (literals_of (take cut places)) p.literal
+    free : IsOpenOn (logged_literals (take cut places)) (negation p.literal)
+    free = open_negation (logged_literals (take cut places)) p.literal
         (open_earlier places cut at p.literal (let h = k.high in omega (arith, h, low)) (s.placed at p there).unassigned)
 
-    forces : Forces (literals_of (take cut places)) c (negation p.literal)
+    forces : Forces (logged_literals (take cut places)) c (negation p.literal)
     forces = record {
       stands = denied;
       unassigned = free;
-      others = all_from (λ m. (m ≡ u) ⊎ IsFalseOn (literals_of (take cut places)) m) c (others_from_alone places cut u c k.alone);
+      others = all_from (λ m. (m ≡ u) ⊎ IsFalseOn (logged_literals (take cut places)) m) c (others_from_alone places cut u c k.alone);
     }
 
     cut_within : cut < length places
@@ -137,44 +137,44 @@ learns clauses base start at a places c p cut s there low denied k = record {
     length_cut : length (take cut places) ≡ cut
     length_cut = length-take-le cut places (let h = cut_within in omega (arith, h))
 
-    quiet : IsQuiet (literals_of (take cut places)) clauses
+    quiet : IsQuiet (logged_literals (take cut places)) clauses
     quiet = (s.placed cut k.decided.place k.decided.there).quiet k.decided.decision (let h = length_cut in let l = k.low in omega (arith, h, l))
 
-    quiet_at : (j : ℕ) (q : Place) → slice_get (take cut places) j ≡ Some q → q.forced ≡ false → base ≤ j →
-        IsQuiet (literals_of (take j (take cut places))) (clauses ++ c ∷ [])
+    quiet_at : (j : ℕ) (q : LoggedPlace) → slice_get (take cut places) j ≡ Some q → q.forced ≡ false → base ≤ j →
+        IsQuiet (logged_literals (take j (take cut places))) (clauses ++ c ∷ [])
     quiet_at j q found none above =
         let at_j = get_take cut places j q found in
         let before : j < cut = at_j.0 in
         let within = get_within places j q at_j.1 in
-        let old : IsQuiet (literals_of (take j places)) clauses =
+        let old : IsQuiet (logged_literals (take j places)) clauses =
         (s.placed j q at_j.1).quiet none (let e = length-take-le j places (omega (arith, within)) in omega (arith, e, above)) in
         let one : Another places j u c = another places j u c (k.earlier j above before (record { place = q; there = at_j.1; decision = none })) in
-        let false_m : IsFalseOn (literals_of (take cut places)) one.literal = elim (others_from_alone places cut u c k.alone one.literal one.stands) [
+        let false_m : IsFalseOn (logged_literals (take cut places)) one.literal = elim (others_from_alone places cut u c k.alone one.literal one.stands) [
           | inl same ↦ absurd (one.other (sym same))
           | inr f ↦ f
         ] in
-        let open_m : IsOpenOn (literals_of (take j places)) one.literal = (
+        let open_m : IsOpenOn (logged_literals (take j places)) one.literal = (
           (λ t. consistent clauses base a places s one.literal (true_at_end places j one.literal t)
               (true_at_end places cut (negation one.literal) false_m)),
           one.not_false,
         ) in
-        let open_u : IsOpenOn (literals_of (take j places)) u = open_earlier places j cut u (omega (arith, before)) free in
-        subst (λ xs. IsQuiet (literals_of xs) (clauses ++ c ∷ [])) (sym (take-take j cut places (omega (arith, before))))
-        (learnt_clauses_keep_quiet clauses (literals_of (take j places)) c u one.literal old one.other denied open_u one.stands open_m)
+        let open_u : IsOpenOn (logged_literals (take j places)) u = open_earlier places j cut u (omega (arith, before)) free in
+        subst (λ xs. IsQuiet (logged_literals xs) (clauses ++ c ∷ [])) (sym (take-take j cut places (omega (arith, before))))
+        (learnt_clauses_keep_quiet clauses (logged_literals (take j places)) c u one.literal old one.other denied open_u one.stands open_m)
 
     kept : AreWarranted (clauses ++ c ∷ []) base a (take cut places)
     kept = sound_clause clauses c base a (take cut places) (sound_take clauses base a places cut s) quiet_at
 
 -- the clause does not end its step
-pub not_denying : (clauses : List Clause) (base start at : ℕ) (a : List Literal) (places : List Place) (c : Clause) (p : Place) →
+pub not_denying : (clauses : List Clause) (base start at : ℕ) (a : List Literal) (places : List LoggedPlace) (c : Clause) (p : LoggedPlace) →
     AreWarranted clauses base a places → slice_get places at ≡ Some p → base ≤ start → start ≤ at → Contains c (negation p.literal) →
-    All (IsTrueOn (literals_of (take base places))) a → denies a c ≡ false
+    All (IsTrueOn (logged_literals (take base places))) a → denies a c ≡ false
 not_denying clauses base start at a places c p s there low high denied given = elim (cases_Bool (denies a c)) [
   | inr unlike ↦ unlike
   | inl alike ↦ absurd (
       let has : has_literal a (negation (negation p.literal)) ≡ true = at_member c (negation p.literal) denied alike in
       let in_a : Contains a p.literal = subst (Contains a) (negation-negation p.literal) (Contains-from_has a (negation (negation p.literal)) has) in
-      let early : IsTrueOn (literals_of (take base places)) p.literal = All-contains (IsTrueOn (literals_of (take base places))) a p.literal given in_a in
+      let early : IsTrueOn (logged_literals (take base places)) p.literal = All-contains (IsTrueOn (logged_literals (take base places))) a p.literal given in_a in
       (s.placed at p there).unassigned.0 (true_later places base at p.literal (omega (arith, low, high)) early))
 ]
   where
@@ -188,8 +188,8 @@ not_denying clauses base start at a places c p s there low high denied given = e
         ]
 
 -- without a decision the unforced literals are assumptions
-pub denies_from_unforced : (clauses : List Clause) (base : ℕ) (a : List Literal) (places : List Place) (c : Clause) → AreWarranted clauses base a places →
-    AreForced places base → All (λ l. IsUnforced places (negation l)) c → denies a c ≡ true
+pub denies_from_unforced : (clauses : List Clause) (base : ℕ) (a : List Literal) (places : List LoggedPlace) (c : Clause) → AreWarranted clauses base a places →
+    AreForced places base → All (λ l. IsLoggedUnforced places (negation l)) c → denies a c ≡ true
 denies_from_unforced clauses base a places [] s f all = refl
 denies_from_unforced clauses base a places (l ∷ c) s f all =
     and_from (has_literal a (negation l)) (denies a c)
@@ -211,21 +211,21 @@ split_at [] k x e = absurd (none_is_not_some x e)
 split_at (y ∷ xs) zero x e = ap (λ z. z ∷ xs) (same_some y x e)
 split_at (y ∷ xs) (suc k) x e = ap (λ r. y ∷ r) (split_at xs k x e)
 
-pub learning_rises : (base vars : ℕ) (places : List Place) (u : Literal) (cut : ℕ) → base ≤ cut → IsDecisionAt places cut →
+pub learning_rises : (base vars : ℕ) (places : List LoggedPlace) (u : Literal) (cut : ℕ) → base ≤ cut → IsLoggedDecision places cut →
     length places ≤ vars →
     number (vars - base) (drop base (digits places)) + 1 ≤ number (vars - base) (drop base (digits (after_learning places u cut)))
 learning_rises base vars places u cut low d room =
-    let front : List Place = take cut places in
+    let front : List LoggedPlace = take cut places in
     let within = get_within places cut d.place d.there in
     let length_front : length front ≡ cut = length-take-le cut places (omega (arith, within)) in
-    let length_digits : length (digits front) ≡ cut = length-map front (λ (p : Place). p.forced) ∙ length_front in
+    let length_digits : length (digits front) ≡ cut = length-map front (λ (p : LoggedPlace). p.forced) ∙ length_front in
     let old : drop base (digits places) ≡ drop base (digits front) ++ false ∷ digits (drop (suc cut) places) =
     ap (λ ps. drop base (digits ps)) (split_at places cut d.place d.there) ∙
-    ap (drop base) (map-append (λ (p : Place). p.forced) front (d.place ∷ drop (suc cut) places)) ∙
+    ap (drop base) (map-append (λ (p : LoggedPlace). p.forced) front (d.place ∷ drop (suc cut) places)) ∙
     drop-append-le base (digits front) (d.place.forced ∷ digits (drop (suc cut) places)) (omega (arith, length_digits, low)) ∙
     ap (λ o. drop base (digits front) ++ o ∷ digits (drop (suc cut) places)) d.decision in
     let new : drop base (digits (after_learning places u cut)) ≡ drop base (digits front) ++ true ∷ [] =
-    ap (drop base) (map-append (λ (p : Place). p.forced) front (record { literal = u; forced = true } ∷ [])) ∙
+    ap (drop base) (map-append (λ (p : LoggedPlace). p.forced) front (record { literal = u; forced = true } ∷ [])) ∙
     drop-append-le base (digits front) (true ∷ []) (omega (arith, length_digits, low)) in
     let short : length (drop base (digits front)) < vars - base =
     omega (arith, length-drop base (digits front), length_digits, low, within, room) in
@@ -234,10 +234,10 @@ learning_rises base vars places u cut low d room =
     (number_rises (vars - base) (drop base (digits front)) (digits (drop (suc cut) places)) short))
 
 -- more literals lower no digit
-pub growing_lowers_nothing : (n base : ℕ) (places : List Place) (more : List Place) → base ≤ length places →
+pub growing_lowers_nothing : (n base : ℕ) (places : List LoggedPlace) (more : List LoggedPlace) → base ≤ length places →
     number n (drop base (digits places)) ≤ number n (drop base (digits (places ++ more)))
 growing_lowers_nothing n base places more low =
     subst (λ xs. number n (drop base (digits places)) ≤ number n xs)
-    (sym (ap (drop base) (map-append (λ (p : Place). p.forced) places more) ∙
-    drop-append-le base (digits places) (digits more) (omega (arith, low, length-map places (λ (p : Place). p.forced)))))
+    (sym (ap (drop base) (map-append (λ (p : LoggedPlace). p.forced) places more) ∙
+    drop-append-le base (digits places) (digits more) (omega (arith, low, length-map places (λ (p : LoggedPlace). p.forced)))))
     (number_grows n (drop base (digits places)) (digits more))

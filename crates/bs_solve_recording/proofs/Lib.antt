@@ -1,9 +1,7 @@
-pub mod Lists
 pub mod Walks
 pub mod Numbers
 pub mod Quiet
 pub mod Places
-pub mod Clauses
 pub mod Lessons
 pub mod Rising
 pub mod Entries

@@ -5,18 +5,18 @@ use Rattle.std.proofs.lemmas.Bool.{cases_lt, cases_eq, false≢true}
 use Rattle.std.proofs.lemmas.List.{take-append-le, take-take, take_all, length-take-le, length_push, take_at}
 use Rattle.std.proofs.lemmas.List.Elements.{Contains-append_left}
 use Rattle.bs_clause.specs.Literal.{Literal, Clause}
-use Rattle.bs_solve_recording.specs.Place.{Place}
+use Rattle.bs_solve_recording.specs.Place.{LoggedPlace}
 use Rattle.bs_watch.specs.Trail.{IsQuiet}
-use Rattle.bs_solve_recording.specs.Places.{literals_of, IsWarranted, AreWarranted}
-use Rattle.bs_solve_recording.specs.Grown.{IsForced, Grows}
-use Rattle.bs_solve_recording.proofs.Lists.{none_is_not_some, get_push_cases, get_take, take_get, get_within}
+use Rattle.bs_solve_recording.specs.Places.{logged_literals, IsWarranted, AreWarranted}
+use Rattle.bs_solve_recording.specs.Grown.{IsLoggedForced, LoggedGrows}
+use Rattle.bs_watch.proofs.Gets.{none_is_not_some, get_push_cases, get_take, take_get, get_within}
 use Rattle.bs_solve_recording.proofs.Walks.{open_apart}
 
 -- the empty trail
 pub sound_nil : (clauses : List Clause) (base : ℕ) (a : List Literal) → AreWarranted clauses base a []
 sound_nil clauses base a = record { placed = λ k p e. absurd (none_is_not_some p e) }
 
-pub sound_push : (clauses : List Clause) (base : ℕ) (a : List Literal) (places : List Place) (p : Place) →
+pub sound_push : (clauses : List Clause) (base : ℕ) (a : List Literal) (places : List LoggedPlace) (p : LoggedPlace) →
     AreWarranted clauses base a places → IsWarranted clauses base a places p → AreWarranted clauses base a (places ++ p ∷ [])
 sound_push clauses base a places p s placed = record {
   placed = λ k q e. elim (get_push_cases places p q k e) [
@@ -29,7 +29,7 @@ sound_push clauses base a places p s placed = record {
   ];
 }
 
-pub sound_take : (clauses : List Clause) (base : ℕ) (a : List Literal) (places : List Place) (n : ℕ) → AreWarranted clauses base a places →
+pub sound_take : (clauses : List Clause) (base : ℕ) (a : List Literal) (places : List LoggedPlace) (n : ℕ) → AreWarranted clauses base a places →
     AreWarranted clauses base a (take n places)
 sound_take clauses base a places n s = record {
   placed = λ k p e.
@@ -39,8 +39,8 @@ sound_take clauses base a places n s = record {
 }
 
 -- one more clause, where the trail is quiet for all of them at each decision
-pub sound_clause : (clauses : List Clause) (c : Clause) (base : ℕ) (a : List Literal) (places : List Place) → AreWarranted clauses base a places →
-    ((k : ℕ) (p : Place) → slice_get places k ≡ Some p → p.forced ≡ false → base ≤ k → IsQuiet (literals_of (take k places)) (clauses ++ c ∷ [])) →
+pub sound_clause : (clauses : List Clause) (c : Clause) (base : ℕ) (a : List Literal) (places : List LoggedPlace) → AreWarranted clauses base a places →
+    ((k : ℕ) (p : LoggedPlace) → slice_get places k ≡ Some p → p.forced ≡ false → base ≤ k → IsQuiet (logged_literals (take k places)) (clauses ++ c ∷ [])) →
     AreWarranted (clauses ++ c ∷ []) base a places
 sound_clause clauses c base a places s quiet = record {
   placed = λ k p e.
@@ -56,7 +56,7 @@ sound_clause clauses c base a places s quiet = record {
 }
 
 -- no variable has two places
-pub one_place : (clauses : List Clause) (base : ℕ) (a : List Literal) (places : List Place) → AreWarranted clauses base a places → (i j : ℕ) (p q : Place) →
+pub one_place : (clauses : List Clause) (base : ℕ) (a : List Literal) (places : List LoggedPlace) → AreWarranted clauses base a places → (i j : ℕ) (p q : LoggedPlace) →
     slice_get places i ≡ Some p → slice_get places j ≡ Some q → p.literal.variable ≡ q.literal.variable → i ≡ j
 one_place clauses base a places s i j p q at_i at_j same = elim (cases_lt i j) [
   | inl before ↦ absurd (open_apart (take j places) q.literal (s.placed j q at_j).unassigned i p (take_get j places i p before at_i) same)
@@ -70,28 +70,28 @@ one_place clauses base a places s i j p q at_i at_j same = elim (cases_lt i j) [
 
 -- ---- propagation
 
-pub grows_none : (clauses : List Clause) (places : List Place) → Grows clauses places places
+pub grows_none : (clauses : List Clause) (places : List LoggedPlace) → LoggedGrows clauses places places
 grows_none clauses places = record {
   longer = omega arith;
   front = take_all (length places) places (omega arith);
   forced = λ k p past e. absurd (let within = get_within places k p e in omega (arith, past, within));
 }
 
-pub grows_push : (clauses : List Clause) (old new : List Place) (p : Place) → Grows clauses old new → IsForced clauses new p → Grows clauses old (new ++ p ∷ [])
+pub grows_push : (clauses : List Clause) (old new : List LoggedPlace) (p : LoggedPlace) → LoggedGrows clauses old new → IsLoggedForced clauses new p → LoggedGrows clauses old (new ++ p ∷ [])
 grows_push clauses old new p g f = record {
   longer = omega (arith, g.longer, length_push new p);
   front = take-append-le (length old) new (p ∷ []) g.longer ∙ g.front;
   forced = λ k q past e. elim (get_push_cases new p q k e) [
     | inl there ↦
         let within = get_within new k q there in
-        subst (λ earlier. IsForced clauses earlier q) (sym (take-append-le k new (p ∷ []) (omega arith))) (g.forced k q past there)
+        subst (λ earlier. IsLoggedForced clauses earlier q) (sym (take-append-le k new (p ∷ []) (omega arith))) (g.forced k q past there)
     | inr last ↦
-        subst (λ earlier. IsForced clauses earlier q) (sym (take_at new (p ∷ []) k (sym last.0))) (subst (IsForced clauses new) last.1 f)
+        subst (λ earlier. IsLoggedForced clauses earlier q) (sym (take_at new (p ∷ []) k (sym last.0))) (subst (IsLoggedForced clauses new) last.1 f)
   ];
 }
 
 -- a forced literal is placed on any level
-pub placed_from_forced : (clauses : List Clause) (base : ℕ) (a : List Literal) (earlier : List Place) (p : Place) → IsForced clauses earlier p →
+pub placed_from_forced : (clauses : List Clause) (base : ℕ) (a : List Literal) (earlier : List LoggedPlace) (p : LoggedPlace) → IsLoggedForced clauses earlier p →
     IsWarranted clauses base a earlier p
 placed_from_forced clauses base a earlier p f = record {
   unassigned = f.forces.unassigned;
@@ -100,7 +100,7 @@ placed_from_forced clauses base a earlier p f = record {
   quiet = λ free. absurd (false≢true (sym free ∙ f.is));
 }
 
-pub sound_grows : (clauses : List Clause) (base : ℕ) (a : List Literal) (old new : List Place) → AreWarranted clauses base a old → Grows clauses old new →
+pub sound_grows : (clauses : List Clause) (base : ℕ) (a : List Literal) (old new : List LoggedPlace) → AreWarranted clauses base a old → LoggedGrows clauses old new →
     AreWarranted clauses base a new
 sound_grows clauses base a old new s g = record {
   placed = λ k p e. elim (cases_lt k (length old)) [
@@ -112,7 +112,7 @@ sound_grows clauses base a old new s g = record {
   ];
 }
 
-pub grows_trans : (clauses : List Clause) (a b c : List Place) → Grows clauses a b → Grows clauses b c → Grows clauses a c
+pub grows_trans : (clauses : List Clause) (a b c : List LoggedPlace) → LoggedGrows clauses a b → LoggedGrows clauses b c → LoggedGrows clauses a c
 grows_trans clauses a b c g h = record {
   longer = omega (arith, g.longer, h.longer);
   front = sym (take-take (length a) (length b) c g.longer) ∙ ap (take (length a)) h.front ∙ g.front;
@@ -120,7 +120,7 @@ grows_trans clauses a b c g h = record {
     | inl before ↦
         let in_b : slice_get b k ≡ Some p = subst (λ xs. slice_get xs k ≡ Some p) h.front (take_get (length b) c k p before e) in
         let front : take k b ≡ take k c = ap (take k) (sym h.front) ∙ take-take k (length b) c (omega arith) in
-        subst (λ earlier. IsForced clauses earlier p) front (g.forced k p past in_b)
+        subst (λ earlier. IsLoggedForced clauses earlier p) front (g.forced k p past in_b)
     | inr beyond ↦ h.forced k p beyond e
   ];
 }

@@ -7,8 +7,8 @@ use Rattle.std.proofs.lemmas.Bool.{cases_Bool, cases_lt, cases_eq, eq-eqb, eqb-t
 use Rattle.std.proofs.lemmas.List.Elements.{All-contains, All-push, All-weaker}
 use Rattle.std.proofs.lemmas.Option.{slice_get-get_or}
 use Rattle.bs_solve_recording.specs.Ids.{Rises, is_among}
-use Rattle.bs_solve_recording.proofs.Lists.{none_is_not_some, same_some, get_from_Contains, Contains_from_get, take_get, take_push_at}
-use Rattle.bs_solve_recording.proofs.Clauses.{nothing_in, contains_first, contains_cases, cons_contains, all_from}
+use Rattle.bs_watch.proofs.Gets.{none_is_not_some, same_some, get_from_Contains, Contains_from_get, take_get, take_push_at}
+use Rattle.bs_solve_analysis.proofs.Clauses.{nothing_in, contains_first, contains_cases, cons_contains, all_from}
 
 -- ---- whether an id is among others
 

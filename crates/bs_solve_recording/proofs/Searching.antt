@@ -11,16 +11,16 @@ use Rattle.bs_log.specs.History.{Entry, live}
 use Rattle.bs_log.specs.Refusal.{entry_of, clauses_of, denies}
 use Rattle.bs_log.specs.Lean.{IsContained, IsNew}
 use Rattle.bs_log.specs.LineForms.{HasVariable}
-use Rattle.bs_solve_recording.specs.Place.{Place}
+use Rattle.bs_solve_recording.specs.Place.{LoggedPlace}
 use Rattle.bs_watch.specs.Trail.{IsTrueOn}
-use Rattle.bs_solve_recording.specs.Places.{literals_of, AreWarranted}
-use Rattle.bs_solve_recording.specs.Walk.{IsLearnt}
-use Rattle.bs_solve_recording.specs.Point.{IsPoint, IsCut, IsUnforced, AreForced}
+use Rattle.bs_solve_recording.specs.Places.{logged_literals, AreWarranted}
+use Rattle.bs_solve_recording.specs.Walk.{IsLoggedLearnt}
+use Rattle.bs_solve_recording.specs.Point.{IsLoggedPoint, IsCut, IsLoggedUnforced, AreForced}
 use Rattle.bs_solve_recording.specs.Learning.{after_learning}
 use Rattle.bs_solve_recording.specs.Book.{Book, standing}
 use Rattle.bs_solve_recording.specs.Search.{assumed, HasLemma, HasLearnt}
-use Rattle.bs_solve_recording.proofs.Lists.{get_within}
-use Rattle.bs_solve_recording.proofs.Clauses.{all_from, nothing_in, contains_cases, map_contains}
+use Rattle.bs_watch.proofs.Gets.{get_within}
+use Rattle.bs_solve_analysis.proofs.Clauses.{all_from, nothing_in, contains_cases, map_contains}
 use Rattle.bs_solve_recording.proofs.Entries.{found_stands}
 use Rattle.bs_solve_recording.proofs.Lessons.{Learns, learns, not_denying, denies_from_unforced, learning_rises}
 
@@ -40,7 +40,7 @@ named_stands entries (id ∷ ids) c there = by (entry_of entries id) refl there 
     ]
 
 -- a learnt clause is over the clauses' variables
-pub learnt_range : (entries : List Entry) (vars : ℕ) (lemma : Clause) (hints : List ℕ) → IsLearnt entries lemma hints →
+pub learnt_range : (entries : List Entry) (vars : ℕ) (lemma : Clause) (hints : List ℕ) → IsLoggedLearnt entries lemma hints →
     All (HasVariables vars) (map (λ (e : Entry). e.literals) entries) → HasVariables vars lemma
 learnt_range entries vars lemma hints learnt range = all_from (IsWithin vars) lemma (λ l in_lemma.
     let stands : Any (λ c. Contains c l) (clauses_of entries hints) = ((learnt.resolvent.literals l).0 in_lemma).0 in
@@ -60,16 +60,16 @@ new_lemma b lemma new = inr (all_from (λ (e : Entry). ¬ IsContained e.literals
     All-contains (λ d. ¬ IsContained d lemma) (standing b) e.literals new (map_contains (λ (x : Entry). x.literals) (live b.problem b.history) e there)))
 
 -- what conflict analysis above the first level leads to
-pub learns_at : (b : Book) (base start cut : ℕ) (places : List Place) (lits : Clause) (at : ℕ) →
-    AreWarranted (standing b) base (assumed b) places → (p : IsPoint places start lits at) → IsCut places base start (negation p.place.literal) lits cut →
+pub learns_at : (b : Book) (base start cut : ℕ) (places : List LoggedPlace) (lits : Clause) (at : ℕ) →
+    AreWarranted (standing b) base (assumed b) places → (p : IsLoggedPoint places start lits at) → IsCut places base start (negation p.place.literal) lits cut →
     Learns (standing b) base (assumed b) places lits (negation p.place.literal) cut
 learns_at b base start cut places lits at s p k = learns (standing b) base start at (assumed b) places lits p.place cut s p.there p.low p.denied k
 
-pub has_learnt : (old new : Book) (vars base start cut at id : ℕ) (places : List Place) (lits : Clause) (hints : List ℕ) (denied : Literal) →
-    AreWarranted (standing old) base (assumed old) places → All (IsTrueOn (literals_of (take base places))) (assumed old) →
+pub has_learnt : (old new : Book) (vars base start cut at id : ℕ) (places : List LoggedPlace) (lits : Clause) (hints : List ℕ) (denied : Literal) →
+    AreWarranted (standing old) base (assumed old) places → All (IsTrueOn (logged_literals (take base places))) (assumed old) →
     All (HasVariables vars) (standing old) →
     base ≤ start → length places ≤ vars →
-    IsLearnt (live old.problem old.history) lits hints → (p : IsPoint places start lits at) → denied ≡ negation p.place.literal →
+    IsLoggedLearnt (live old.problem old.history) lits hints → (p : IsLoggedPoint places start lits at) → denied ≡ negation p.place.literal →
     IsCut places base start denied lits cut → HasLemma old new id lits →
     HasLearnt base old new (record { vars = vars; places = places })
     (record { vars = vars; places = take cut places ++ record { literal = denied; forced = true } ∷ [] })
@@ -78,7 +78,7 @@ has_learnt old new vars base start cut at id places lits hints denied s given ra
     let cut_u : IsCut places base start u lits cut = subst (λ l. IsCut places base start l lits cut) is_denied k in
     let learning : Learns (standing old) base (assumed old) places lits u cut = learns_at old base start cut places lits at s p cut_u in
     let within = get_within places cut k.decided.place k.decided.there in
-    let after : List Place = after_learning places u cut in
+    let after : List LoggedPlace = after_learning places u cut in
     let same_after : take cut places ++ record { literal = denied; forced = true } ∷ [] ≡ after =
     ap (λ l. take cut places ++ record { literal = l; forced = true } ∷ []) is_denied in
     let length_front : length (take cut places) ≡ cut = length-take-le cut places (omega (arith, within)) in
@@ -101,13 +101,13 @@ has_learnt old new vars base start cut at id places lits hints denied s given ra
     })
 
 -- no standing clause is contained in what is learnt above the first level
-pub learnt_is_new : (b : Book) (base start cut at : ℕ) (places : List Place) (lits : Clause) (denied : Literal) →
+pub learnt_is_new : (b : Book) (base start cut at : ℕ) (places : List LoggedPlace) (lits : Clause) (denied : Literal) →
     AreWarranted (standing b) base (assumed b) places →
-    (p : IsPoint places start lits at) → denied ≡ negation p.place.literal → IsCut places base start denied lits cut → IsNew b.problem b.history lits
+    (p : IsLoggedPoint places start lits at) → denied ≡ negation p.place.literal → IsCut places base start denied lits cut → IsNew b.problem b.history lits
 learnt_is_new b base start cut at places lits denied s p is_denied k =
     new_lemma b lits (learns_at b base start cut places lits at s p (subst (λ l. IsCut places base start l lits cut) is_denied k)).new
 
 -- the last conflict
-pub ending_lemma : (b : Book) (base : ℕ) (places : List Place) (lits : Clause) → AreWarranted (standing b) base (assumed b) places → AreForced places base →
-    All (λ l. IsUnforced places (negation l)) lits → denies (assumed b) lits ≡ true
+pub ending_lemma : (b : Book) (base : ℕ) (places : List LoggedPlace) (lits : Clause) → AreWarranted (standing b) base (assumed b) places → AreForced places base →
+    All (λ l. IsLoggedUnforced places (negation l)) lits → denies (assumed b) lits ≡ true
 ending_lemma b base places lits s forced free = denies_from_unforced (standing b) base (assumed b) places lits s forced free

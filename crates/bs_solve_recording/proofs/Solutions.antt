@@ -3,7 +3,7 @@ use Rattle.std.proofs.Common.{◌≡◌, ℕ, zero, suc, ◌+◌, ◌<◌, Bool,
 use Rattle.std.specs.Prelude.{slice_get, replicate}
 use Rattle.std.proofs.lemmas.List.{length-map, length-append, length-replicate}
 use Rattle.bs_solve_recording.specs.Values.{values_of}
-use Rattle.bs_solve_recording.proofs.Lists.{get_left, get_map}
+use Rattle.bs_watch.proofs.Gets.{get_left, get_map}
 
 get_past : {X : Type 0} (xs ys : List X) (k j : ℕ) (x : X) → k ≡ length xs + j → slice_get ys j ≡ Some x → slice_get (xs ++ ys) k ≡ Some x
 get_past [] ys k j x at e = let same : k ≡ j = omega (arith, at) in ap (slice_get ys) same ∙ e

@@ -28,8 +28,8 @@ use Rattle.bs_solve_recording.specs.Ending.{SomeLemmas, Ends}
 use Rattle.bs_solve_recording.specs.Stages.{is_begun, is_solved, stage_of, IsIdle, IsBegun, IsInside, IsSearched, IsBlocked, IsEnded, Fits, EndsStep}
 use Rattle.bs_solve_recording.specs.Stages.{begun_book, MayBegin}
 use Rattle.bs_solve_recording.specs.Solver.{SolverState, IsReady, MaySolve, HasSolved, HasBlocked, Follows, finished}
-use Rattle.bs_solve_recording.proofs.Lists.{get_last}
-use Rattle.bs_solve_recording.proofs.Clauses.{distinct_cons}
+use Rattle.bs_watch.proofs.Gets.{get_last}
+use Rattle.bs_solve_analysis.proofs.Clauses.{distinct_cons}
 use Rattle.bs_log.proofs.Histories.{solve_is_inside, block_is_inside}
 use Rattle.bs_solve_recording.proofs.Lines.{standing_with_member}
 use Rattle.bs_solve_recording.proofs.Leavings.{leaves_begun, leaves_after}

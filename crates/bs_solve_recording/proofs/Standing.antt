@@ -13,7 +13,7 @@ use Rattle.bs_log.specs.Refusal.{NoneRefused, entry_of, passes, is_lemma_or_bloc
 use Rattle.bs_log.proofs.Tests.{right_from_none}
 use Rattle.bs_log.proofs.Histories.{deleted_ids, next_given}
 use Rattle.bs_solve_reduction.proofs.Deletions.{same_entry}
-use Rattle.bs_solve_recording.proofs.Clauses.{nothing_in, contains_first, cons_contains, contains_cases, filter_cases, filter_from, map_contains}
+use Rattle.bs_solve_analysis.proofs.Clauses.{nothing_in, contains_first, cons_contains, contains_cases, filter_cases, filter_from, map_contains}
 use Rattle.bs_solve_recording.proofs.Entries.{found_stands, found_id, order_of, added_given, passing_entry}
 
 -- the clause of an entry that is no lemma and no block has not been taken away by these ids

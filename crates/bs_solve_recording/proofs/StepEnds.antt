@@ -20,7 +20,7 @@ use Rattle.bs_solve_recording.specs.Ids.{is_among}
 use Rattle.bs_solve_recording.specs.Book.{Book, standing, next_id, with_line, without}
 use Rattle.bs_solve_recording.specs.Stages.{IsInside, IsIdle}
 use Rattle.bs_solve_recording.specs.Solver.{SolverState, IsReady, HasEnded, finished, retired, leaving, ended}
-use Rattle.bs_solve_recording.proofs.Clauses.{all_from, map_cases, filter_cases, map_contains}
+use Rattle.bs_solve_analysis.proofs.Clauses.{all_from, map_cases, filter_cases, map_contains}
 use Rattle.bs_solve_recording.proofs.Books.{without_stands}
 use Rattle.bs_solve_recording.proofs.Solving.{finished_inside, finished_stands}
 

@@ -3,6 +3,6 @@ use Rattle.std.specs.Prelude.{Bool}
 use Rattle.bs_clause.specs.Literal.{Literal}
 
 -- a literal that is true, and whether a clause forced it; a decision and an assumption were not
-pub record Place : Type 0 where
+pub record LoggedPlace : Type 0 where
   pub literal : Literal
   pub forced : Bool

@@ -5,9 +5,9 @@ use Rattle.bs_clause.specs.Range.{HasVariables}
 use Rattle.bs_log.specs.declared.origin.Origin.TheVariants.{Learnt}
 use Rattle.bs_log.specs.History.{step_of, live}
 use Rattle.bs_log.specs.Refusal.{entry_of, assumptions_of, has_distinct_variables, denies}
-use Rattle.bs_solve_recording.specs.Place.{Place}
+use Rattle.bs_solve_recording.specs.Place.{LoggedPlace}
 use Rattle.bs_solve_recording.specs.Bound.{number}
-use Rattle.bs_solve_recording.specs.Places.{TrailState, AreWarranted}
+use Rattle.bs_solve_recording.specs.Places.{LoggedTrail, AreWarranted}
 use Rattle.bs_solve_recording.specs.Learning.{digits}
 use Rattle.bs_solve_recording.specs.Book.{Book, standing, next_id, with_lemma}
 
@@ -16,7 +16,7 @@ abbrev pub assumed : Book → Clause
 assumed b = assumptions_of b.problem (step_of b.history)
 
 -- the assumptions on the trail
-abbrev pub assumption_places : Clause → List Place
+abbrev pub assumption_places : Clause → List LoggedPlace
 assumption_places assumptions = map (λ l. record { literal = l; forced = false }) assumptions
 
 -- the book has one more lemma under the next id
@@ -29,7 +29,7 @@ pub record HasLemma (old new : Book) (id : ℕ) (lemma : Clause) : Type 0 where
   pub entry : entry_of (live new.problem new.history) id ≡ Some (record { id = id; origin = Learnt; literals = lemma })
 
 -- the book has one more lemma that does not end the step, the trail is sound for it, and its number has risen
-pub record HasLearnt (base : ℕ) (old new : Book) (before after : TrailState) : Type 0 where
+pub record HasLearnt (base : ℕ) (old new : Book) (before after : LoggedTrail) : Type 0 where
   pub id : ℕ
   pub lemma : Clause
   pub logged : HasLemma old new id lemma

@@ -2,10 +2,10 @@
 use Rattle.std.specs.Prelude.{◌≡◌, ℕ, ◌-◌, ◌<◌, ◌≤◌, Bool, true, List, take, drop, length, All}
 use Rattle.bs_log.specs.History.{phase_of}
 use Rattle.bs_log.specs.Refusal.{has_distinct_variables, in_solve}
-use Rattle.bs_solve_recording.specs.Place.{Place}
+use Rattle.bs_solve_recording.specs.Place.{LoggedPlace}
 use Rattle.bs_watch.specs.Trail.{IsTrueOn, IsQuiet}
 use Rattle.bs_solve_recording.specs.Bound.{number}
-use Rattle.bs_solve_recording.specs.Places.{literals_of, AreWarranted}
+use Rattle.bs_solve_recording.specs.Places.{logged_literals, AreWarranted}
 use Rattle.bs_clause.specs.Range.{HasVariables}
 use Rattle.bs_solve_recording.specs.Learning.{digits}
 use Rattle.bs_solve_recording.specs.Book.{Book, standing}
@@ -15,16 +15,16 @@ use Rattle.bs_solve_recording.specs.Ending.{HasLemmas}
 -- The first level has `base` places, on which the assumptions stand and on which no clause that stood at first was false
 -- or unit. The conflicts are at most the number that the further places spell, a forced one as the digit 1. After a quiet
 -- propagation none that stands is.
-pub record InSearch (old : Book) (vars base conflicts limit : ℕ) (book : Book) (places : List Place) (quiet : Bool) : Type 0 where
+pub record InSearch (old : Book) (vars base conflicts limit : ℕ) (book : Book) (places : List LoggedPlace) (quiet : Bool) : Type 0 where
   pub logged : HasLemmas old book conflicts
   pub under : conflicts < limit
   pub sound : AreWarranted (standing book) base (assumed book) places
-  pub given : All (IsTrueOn (literals_of (take base places))) (assumed book)
-  pub start : IsQuiet (literals_of (take base places)) (standing old)
+  pub given : All (IsTrueOn (logged_literals (take base places))) (assumed book)
+  pub start : IsQuiet (logged_literals (take base places)) (standing old)
   pub counted : conflicts ≤ number (vars - base) (drop base (digits places))
   pub low : base ≤ length places
   pub range : All (HasVariables vars) (standing book)
   pub assumed_range : HasVariables vars (assumed book)
   pub distinct : All (λ c. has_distinct_variables c ≡ true) (standing book)
   pub phase : in_solve (phase_of book.history) ≡ true
-  pub ended : quiet ≡ true → IsQuiet (literals_of places) (standing book)
+  pub ended : quiet ≡ true → IsQuiet (logged_literals places) (standing book)

@@ -10,7 +10,7 @@ ghost use Rattle.bs_log.specs.Refusal.{history_of, refusal, NoneRefused};
 ghost use Rattle.bs_log.specs.Lean.{IsNew, LemmasAreLean};
 ghost use Rattle.bs_log.specs.LineForms.{HasVariable, HasText};
 ghost use Rattle.bs_solve_reduction.specs.Rows.{AreInOrder};
-ghost use Rattle.bs_solve_recording.specs.Walk.{IsLearnt};
+ghost use Rattle.bs_solve_recording.specs.Walk.{IsLoggedLearnt};
 ghost use Rattle.bs_solve_recording.specs.Book.{standing, lemma_ids, next_id, with_line, with_lemma, with_member, without};
 ghost use Rattle.bs_solve_recording.specs.Search.{assumed};
 ghost use Rattle.bs_solve_recording.specs.Solver.{retired, leaving, ended};
@@ -244,7 +244,7 @@ impl Recording {
     /// Logs a lemma with its hints under the next id, which it answers.
     pub fn log_lemma(&mut self, lits: Lits, hints: List<u64>) -> Result<u64, NoMemory>
         requires phase { in_solve (phase_of self.old.history) ≡ true }
-        requires learnt { IsLearnt (live self.old.problem self.old.history) lits hints }
+        requires learnt { IsLoggedLearnt (live self.old.problem self.old.history) lits hints }
         requires range { All HasVariable lits }
         requires new { IsNew self.old.problem self.old.history lits }
         ensures id { IfOk result (λ id. id ≡ next_id self.old) }

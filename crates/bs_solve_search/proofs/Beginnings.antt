@@ -25,14 +25,14 @@ use Rattle.bs_watch.specs.Watch.{WatchState, Serves, KeepsService, HasGoneBack, 
 use Rattle.bs_watch.proofs.Advancing.{shuffled_refl, take_front}
 use Rattle.bs_solve_analysis.specs.Reasons.{IsReasoned, IsConflictAt}
 use Rattle.bs_solve_analysis.proofs.CallerLemmas.{reasoned_grows, reasoned_free}
-use Rattle.bs_solve_recording.specs.Place.{Place as LoggedPlace}
-use Rattle.bs_solve_recording.specs.Places.{AreWarranted, literals_of as logged_literals}
-use Rattle.bs_solve_recording.specs.Walk.{IsLearnt as IsLoggedLearnt}
+use Rattle.bs_solve_recording.specs.Place.{LoggedPlace}
+use Rattle.bs_solve_recording.specs.Places.{AreWarranted, logged_literals}
+use Rattle.bs_solve_recording.specs.Walk.{IsLoggedLearnt}
 use Rattle.bs_solve_recording.specs.Book.{Book, standing, next_id, with_lemma}
 use Rattle.bs_solve_recording.specs.Search.{assumed}
-use Rattle.bs_solve_recording.proofs.Lists.{none_is_not_some, same_some, get_map_cases, get_map, get_within}
-use Rattle.bs_solve_recording.proofs.Lists.{get_take, get_from_Contains, Contains_from_get}
-use Rattle.bs_solve_recording.proofs.Clauses.{contains_first, map_contains, any_first, any_cases}
+use Rattle.bs_watch.proofs.Gets.{none_is_not_some, same_some, get_map_cases, get_map, get_within}
+use Rattle.bs_watch.proofs.Gets.{get_take, get_from_Contains, Contains_from_get}
+use Rattle.bs_solve_analysis.proofs.Clauses.{contains_first, map_contains, any_first, any_cases}
 use Rattle.bs_solve_recording.proofs.Entries.{found_stands}
 use Rattle.bs_solve_recording.proofs.Places.{sound_grows}
 use Rattle.bs_solve_search.specs.declared.stock.Stock.{Stock}

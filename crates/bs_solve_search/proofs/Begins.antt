@@ -12,7 +12,7 @@ use Rattle.bs_watch.specs.Places.{Place, literals_of}
 use Rattle.bs_watch.specs.Look.{HasTrue}
 use Rattle.bs_watch.specs.Scene.{AreShuffled, Grows}
 use Rattle.bs_watch.proofs.Advancing.{true_in_front, stays_true, true_carries, take_front}
-use Rattle.bs_solve_recording.proofs.Lists.{same_some, get_left, get_last, get_push_cases, get_take, take_get, get_within}
+use Rattle.bs_watch.proofs.Gets.{same_some, get_left, get_last, get_push_cases, get_take, take_get, get_within}
 use Rattle.bs_solve_analysis.specs.Reasons.{last_start}
 use Rattle.bs_solve_analysis.specs.Point.{IsDecisionAt, IsLastDecision}
 use Rattle.bs_solve_search.specs.Begun.{AreBegun, AreLaid}

@@ -21,19 +21,19 @@ use Rattle.bs_watch.proofs.TableLemmas.{one_level}
 use Rattle.bs_watch.proofs.CallerLemmas.{cancelled_open, cancelled_keeps, highest_unit, may_attach_open}
 use Rattle.bs_solve_analysis.specs.Reasons.{IsReasoned}
 use Rattle.bs_solve_analysis.proofs.CallerLemmas.{reasoned_take, reasoned_kept}
-use Rattle.bs_solve_recording.specs.Place.{Place as LoggedPlace}
-use Rattle.bs_solve_recording.specs.Places.{AreWarranted, literals_of as logged_literals}
+use Rattle.bs_solve_recording.specs.Place.{LoggedPlace}
+use Rattle.bs_solve_recording.specs.Places.{AreWarranted, logged_literals}
 use Rattle.bs_solve_recording.specs.Point.{IsCut}
 use Rattle.bs_solve_recording.specs.Book.{Book, standing}
 use Rattle.bs_solve_recording.specs.Search.{assumed}
-use Rattle.bs_solve_recording.proofs.Lists.{same_some, get_within, get_take, take_get, get_map}
+use Rattle.bs_watch.proofs.Gets.{same_some, get_within, get_take, take_get, get_map}
 use Rattle.bs_solve_recording.proofs.Places.{sound_take, sound_clause}
 use Rattle.bs_solve_recording.proofs.Quiet.{learnt_clauses_keep_quiet}
 use Rattle.bs_solve_recording.proofs.Walks.{negation-negation, place_of, open_earlier}
 use Rattle.bs_solve_recording.proofs.Lessons.{learns}
 use Rattle.bs_solve_recording.proofs.Endings.{given_after}
-use Rattle.bs_solve_search.specs.declared.blocking.Spot.{Spot}
-use Rattle.bs_solve_search.specs.declared.blocking.Spot.TheVariants.{Bottom, Forced, Open}
+use Rattle.bs_solve_search.specs.declared.blocking.Retreat.{Retreat}
+use Rattle.bs_solve_search.specs.declared.blocking.Retreat.TheVariants.{Bottom, Forced, Open}
 use Rattle.bs_log.specs.declared.origin.Origin.TheVariants.{Blocked}
 use Rattle.bs_log.specs.Refusal.{entry_of}
 use Rattle.bs_solve_search.specs.declared.stock.Stock.{Stock}
@@ -44,7 +44,7 @@ use Rattle.bs_solve_search.specs.Lesson.{HasTaken}
 use Rattle.bs_solve_search.specs.Pausing.{IsPaused, IsKept, IsGrounded}
 use Rattle.bs_solve_search.specs.Ground.{IsGround, IsOff}
 use Rattle.bs_solve_search.proofs.Grounds.{ground_added}
-use Rattle.bs_solve_search.specs.Blocking.{AreLast, IsBetween, IsSpot, HasForced, HasOpened, HasEmptied, HasGoneFor, HasHeld}
+use Rattle.bs_solve_search.specs.Blocking.{AreLast, IsBetween, IsRetreat, HasForced, HasOpened, HasEmptied, HasGoneFor, HasHeld}
 use Rattle.bs_solve_search.proofs.Entries.{stands_grown}
 use Rattle.bs_solve_search.proofs.Stocks.{others_added, others_trans, stocked_joined}
 use Rattle.bs_solve_search.proofs.Seens.{literals_seen, literals_seen_take, take_seen, length_seen}
@@ -53,12 +53,12 @@ use Rattle.bs_solve_search.proofs.Backs.{Back, false_below}
 use Rattle.bs_solve_search.proofs.Takings.{gone_back}
 use Rattle.bs_solve_search.proofs.Teachings.{place_apart, cut_of, seen_after, running_after}
 
--- ---- the spot
+-- ---- the retreat
 
-pub spot_from : (places : List Place) (c : Clause) (first second : Literal) (high low : ℕ) (spot : Spot) → 2 ≤ length c →
+pub retreat_from : (places : List Place) (c : Clause) (first second : Literal) (high low : ℕ) (retreat : Retreat) → 2 ≤ length c →
     slice_get c 0 ≡ Some first → slice_get c 1 ≡ Some second → AreHighest places c → IsFalseOn (literals_of places) first →
-    IsLevelOf places first high → IsLevelOf places second low → IsBetween high low spot → IsSpot places c spot
-spot_from places c first second high low spot two at_first at_second highest lost on_first on_second between = by spot between
+    IsLevelOf places first high → IsLevelOf places second low → IsBetween high low retreat → IsRetreat places c retreat
+retreat_from places c first second high low retreat two at_first at_second highest lost on_first on_second between = by retreat between
   where
     last : AreLast places c
     last = record {
@@ -75,7 +75,7 @@ spot_from places c first second high low spot two at_first at_second highest los
       on_second = on_second.on;
     }
 
-    by : (s : Spot) → IsBetween high low s → IsSpot places c s
+    by : (s : Retreat) → IsBetween high low s → IsRetreat places c s
     by Bottom b = tt
     by (Forced n) b = (last, b)
     by (Open n) b = (last, b)
@@ -95,7 +95,7 @@ level_within : (places : List Place) (levels : List Level) (l : Literal) (n : �
 level_within places levels l n a on = let few = a.few on.1.at on.0 on.1.there in let is = on.2 in omega (arith, few, is)
 
 pub back_forced : (w : WatchState) (c : Clause) (n : ℕ) → AreLevelled w.trail.places w.levels → AreApart w.trail.places → IsWatchable w.trail.vars c →
-    (s : IsSpot w.trail.places c (Forced n)) → (v : Level) × Back w c c s.0.first n v
+    (s : IsRetreat w.trail.places c (Forced n)) → (v : Level) × Back w c c s.0.first n v
 back_forced w c n a apart can s =
     let l = s.0 in
     let is_low = s.1.0 in
@@ -201,7 +201,7 @@ pub record BackOpen (w : WatchState) (c : Clause) (n : ℕ) (v : Level) : Type 0
   pub open_second : IsOpenOn (literals_of (take v.start w.trail.places)) second
 
 pub back_open : (w : WatchState) (c : Clause) (n : ℕ) → AreLevelled w.trail.places w.levels → AreApart w.trail.places →
-    IsSpot w.trail.places c (Open n) → (v : Level) × BackOpen w c n v
+    IsRetreat w.trail.places c (Open n) → (v : Level) × BackOpen w c n v
 back_open w c n a apart s =
     let l = s.0 in
     let one = s.1.0 in
@@ -571,8 +571,8 @@ held_opened old new before after stock more id r lits o h rows = record {
   ];
 }
 
-pub held_back : (spot : Spot) (old new : WatchState) (before after : List Held) (stock more : Stock) (id r : ℕ) (lits : Clause) →
-    HasGoneFor spot old new after stock.shorts.items more.shorts.items r → HasCome before after r id lits →
+pub held_back : (retreat : Retreat) (old new : WatchState) (before after : List Held) (stock more : Stock) (id r : ℕ) (lits : Clause) →
+    HasGoneFor retreat old new after stock.shorts.items more.shorts.items r → HasCome before after r id lits →
     more.rows.items ≡ stock.rows.items ++ rows_for id r Blocked → HasHeld old new before after stock more id lits
 held_back Bottom old new before after stock more id r lits g h rows = held_emptied old new before after stock more id r lits g h rows
 held_back (Forced n) old new before after stock more id r lits g h rows = held_forced old new before after stock more id r lits g h rows

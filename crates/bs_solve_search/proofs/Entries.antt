@@ -13,8 +13,8 @@ use Rattle.bs_log.specs.Refusal.{entry_of, is_lemma_or_block}
 use Rattle.bs_arena.specs.Arena.{Held, held_at, literals_at}
 use Rattle.bs_solve_reduction.specs.declared.row.Row.{Row}
 use Rattle.bs_solve_reduction.specs.Rows.{IsRowOf, AreRowsOf, AreRowsAmong}
-use Rattle.bs_solve_recording.proofs.Lists.{none_is_not_some}
-use Rattle.bs_solve_recording.proofs.Clauses.{nothing_in, contains_first, cons_contains, contains_cases}
+use Rattle.bs_watch.proofs.Gets.{none_is_not_some}
+use Rattle.bs_solve_analysis.proofs.Clauses.{nothing_in, contains_first, cons_contains, contains_cases}
 use Rattle.bs_solve_recording.specs.Book.{Book, standing}
 use Rattle.bs_solve_search.specs.Stock.{entries, rows_for}
 

@@ -16,8 +16,8 @@ use Rattle.bs_watch.specs.Tables.{HasValues, value_of}
 use Rattle.bs_watch.specs.Scene.{Grows, IsForced}
 use Rattle.bs_watch.specs.Watch.{WatchState, KeepsService, assigned}
 use Rattle.bs_watch.proofs.Advancing.{grows_refl, grows_trans, shuffled_refl, stays_true, true_in_front}
-use Rattle.bs_solve_recording.proofs.Lists.{none_is_not_some, same_some, get_push_cases, get_within, get_take, take_get, get_from_Contains, Contains_from_get}
-use Rattle.bs_solve_recording.proofs.Clauses.{all_from, contains_first, contains_cases, nothing_in}
+use Rattle.bs_watch.proofs.Gets.{none_is_not_some, same_some, get_push_cases, get_within, get_take, take_get, get_from_Contains, Contains_from_get}
+use Rattle.bs_solve_analysis.proofs.Clauses.{all_from, contains_first, contains_cases, nothing_in}
 use Rattle.bs_solve_search.specs.Laying.{HasAssumed, IsAssumed, HasGrown, IsLaid, AllLaid}
 use Rattle.bs_solve_search.proofs.Entries.{append_cases}
 

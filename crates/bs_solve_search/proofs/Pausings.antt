@@ -17,12 +17,12 @@ use Rattle.bs_watch.specs.Trail.{IsTrueOn, IsQuiet}
 use Rattle.bs_watch.specs.Places.{Place, TrailState, AreApart}
 use Rattle.bs_watch.specs.Scene.{Advances, Propagated}
 use Rattle.bs_watch.specs.Watch.{WatchState, Serves, KeepsService, HasGoneBack, scene}
-use Rattle.bs_solve_recording.specs.Place.{Place as LoggedPlace}
-use Rattle.bs_solve_recording.specs.Places.{AreWarranted, literals_of as logged_literals}
+use Rattle.bs_solve_recording.specs.Place.{LoggedPlace}
+use Rattle.bs_solve_recording.specs.Places.{AreWarranted, logged_literals}
 use Rattle.bs_solve_recording.specs.Book.{Book, standing}
 use Rattle.bs_solve_recording.specs.Search.{assumed}
-use Rattle.bs_solve_recording.proofs.Lists.{same_some, get_map_cases, get_map, get_within}
-use Rattle.bs_solve_recording.proofs.Clauses.{all_from}
+use Rattle.bs_watch.proofs.Gets.{same_some, get_map_cases, get_map, get_within}
+use Rattle.bs_solve_analysis.proofs.Clauses.{all_from}
 use Rattle.bs_solve_recording.proofs.Places.{sound_grows}
 use Rattle.bs_solve_recording.proofs.Walks.{true_later}
 use Rattle.bs_solve_recording.proofs.Endings.{given_after, front_after, no_lemmas}

@@ -15,7 +15,7 @@ use Rattle.bs_log.specs.History.{Problem, History, Entry, axioms_from, added, li
 use Rattle.bs_log.specs.Refusal.{NoneRefused, clauses_of, entry_of, is_block_of}
 use Rattle.bs_log.specs.Lean.{LemmasAreLean, IsResolventOf}
 use Rattle.bs_log.proofs.Tests.{right_from_none}
-use Rattle.bs_solve_recording.proofs.Clauses.{nothing_in, contains_cases, cons_contains, contains_first, all_from, filter_cases}
+use Rattle.bs_solve_analysis.proofs.Clauses.{nothing_in, contains_cases, cons_contains, contains_first, all_from, filter_cases}
 use Rattle.bs_solve_recording.proofs.Entries.{found_stands}
 use Rattle.bs_solve_search.specs.Ground.{IsOwn}
 use Rattle.bs_solve_search.proofs.Entries.{push_cases}

@@ -25,14 +25,14 @@ use Rattle.bs_watch.specs.Watch.{WatchState, Serves, HasGoneBack}
 use Rattle.bs_watch.proofs.TableLemmas.{at_most, open_apart}
 use Rattle.bs_solve_analysis.specs.Point.{IsUnforced}
 use Rattle.bs_solve_analysis.specs.Walk.{IsLearnt}
-use Rattle.bs_solve_recording.specs.Point.{IsUnforced as IsLoggedUnforced}
+use Rattle.bs_solve_recording.specs.Point.{IsLoggedUnforced}
 use Rattle.bs_solve_recording.specs.Book.{Book, standing, next_id, with_lemma}
 use Rattle.bs_solve_recording.specs.Values.{positive, AreAssigned, HasValues}
 use Rattle.bs_solve_recording.specs.Ending.{SomeLemmas}
 use Rattle.bs_solve_recording.specs.declared.answer.Answer.TheVariants.{Found, Refuted, Spent}
-use Rattle.bs_solve_recording.proofs.Lists.{none_is_not_some, same_some, get_map_cases, get_map}
-use Rattle.bs_solve_recording.proofs.Lists.{get_take, get_push_cases, get_from_Contains}
-use Rattle.bs_solve_recording.proofs.Clauses.{all_from, map_contains}
+use Rattle.bs_watch.proofs.Gets.{none_is_not_some, same_some, get_map_cases, get_map}
+use Rattle.bs_watch.proofs.Gets.{get_take, get_push_cases, get_from_Contains}
+use Rattle.bs_solve_analysis.proofs.Clauses.{all_from, map_contains}
 use Rattle.bs_solve_recording.proofs.Searching.{learnt_range, ending_lemma}
 use Rattle.bs_solve_recording.proofs.Endings.{search_finds, refuted_ranges, refuted_distinct, search_is_spent, learnt_ranges, learnt_distinct, some_lemmas}
 use Rattle.bs_solve_recording.proofs.Endings.{one_more, no_lemmas}

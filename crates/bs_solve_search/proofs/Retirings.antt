@@ -13,7 +13,7 @@ use Rattle.bs_watch.specs.Lists.{IsAttached}
 use Rattle.bs_watch.specs.Places.{Place}
 use Rattle.bs_watch.specs.Watch.{WatchState, Serves, KeepsService, assigned, with_head}
 use Rattle.bs_watch.proofs.CallerLemmas.{serves_more}
-use Rattle.bs_solve_recording.proofs.Lists.{same_some, get_left, get_last, get_push_cases, get_from_Contains, Contains_from_get, get_within}
+use Rattle.bs_watch.proofs.Gets.{same_some, get_left, get_last, get_push_cases, get_from_Contains, Contains_from_get, get_within}
 use Rattle.std.proofs.lemmas.List.{append-nil}
 use Rattle.bs_solve_search.specs.declared.stock.Stock.{Stock}
 use Rattle.bs_solve_search.specs.Stock.{IsStocked}

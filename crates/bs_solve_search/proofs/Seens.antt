@@ -19,11 +19,11 @@ use Rattle.bs_watch.specs.Look.{HasTrue}
 use Rattle.bs_watch.specs.Scene.{name_of, AreShuffled, Grows}
 use Rattle.bs_watch.proofs.Guards.{consistent}
 use Rattle.bs_solve_reduction.specs.declared.row.Row.{Row}
-use Rattle.bs_solve_recording.specs.Place.{Place as LoggedPlace}
-use Rattle.bs_solve_recording.specs.Places.{literals_of as logged_literals}
-use Rattle.bs_solve_recording.specs.Grown.{Grows as LoggedGrows}
-use Rattle.bs_solve_recording.proofs.Lists.{get_map_cases}
-use Rattle.bs_solve_recording.proofs.Clauses.{all_from, map_cases, map_contains}
+use Rattle.bs_solve_recording.specs.Place.{LoggedPlace}
+use Rattle.bs_solve_recording.specs.Places.{logged_literals}
+use Rattle.bs_solve_recording.specs.Grown.{LoggedGrows}
+use Rattle.bs_watch.proofs.Gets.{get_map_cases}
+use Rattle.bs_solve_analysis.proofs.Clauses.{all_from, map_cases, map_contains}
 use Rattle.bs_solve_recording.proofs.Entries.{found_stands}
 use Rattle.bs_solve_search.specs.declared.stock.Stock.{Stock}
 use Rattle.bs_solve_search.specs.Stock.{is_live, id_in, IsStocked}

@@ -23,8 +23,8 @@ use Rattle.bs_watch.specs.Places.{literals_of}
 use Rattle.bs_watch.specs.Watch.{WatchState, Serves, MayAttach, HasAttached}
 use Rattle.bs_watch.proofs.CallerLemmas.{may_attach_open}
 use Rattle.bs_solve_search.specs.Ground.{IsOff}
-use Rattle.bs_solve_recording.proofs.Lists.{none_is_not_some, same_some, get_left, get_last, get_push_cases, get_from_Contains, Contains_from_get}
-use Rattle.bs_solve_recording.proofs.Clauses.{nothing_in, contains_cases, all_from, distinct_parts}
+use Rattle.bs_watch.proofs.Gets.{none_is_not_some, same_some, get_left, get_last, get_push_cases, get_from_Contains, Contains_from_get}
+use Rattle.bs_solve_analysis.proofs.Clauses.{nothing_in, contains_cases, all_from, distinct_parts}
 use Rattle.bs_solve_reduction.specs.declared.row.Row.{Row}
 use Rattle.bs_solve_reduction.specs.Keeping.{AreHeld}
 use Rattle.bs_solve_reduction.specs.Rows.{AreRowsAmong}

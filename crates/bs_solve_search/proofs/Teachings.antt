@@ -27,14 +27,15 @@ use Rattle.bs_watch.specs.Watch.{WatchState}
 use Rattle.bs_solve_analysis.specs.Reasons.{live_clauses, IsReasoned, last_start, Spells, IsSpared, AreSpared}
 use Rattle.bs_solve_analysis.specs.Point.{IsDecisionAt, IsLastDecision, IsPoint}
 use Rattle.bs_solve_analysis.specs.Walk.{IsLearnt}
+use Rattle.bs_solve_analysis.proofs.Walkable.{live_contains}
 use Rattle.bs_solve_analysis.proofs.CallerLemmas.{reasoned_take, reasoned_push, reasoned_kept}
-use Rattle.bs_solve_recording.specs.Place.{Place as LoggedPlace}
-use Rattle.bs_solve_recording.specs.Point.{is_alone_at, IsCut, IsPoint as IsLoggedPoint, IsDecisionAt as IsLoggedDecision}
-use Rattle.bs_solve_recording.specs.Walk.{IsLearnt as IsLoggedLearnt}
+use Rattle.bs_solve_recording.specs.Place.{LoggedPlace}
+use Rattle.bs_solve_recording.specs.Point.{is_alone_at, IsCut, IsLoggedPoint, IsLoggedDecision}
+use Rattle.bs_solve_recording.specs.Walk.{IsLoggedLearnt}
 use Rattle.bs_solve_recording.specs.Book.{Book, standing, next_id, with_lemma}
 use Rattle.bs_solve_recording.specs.Search.{HasLearnt}
-use Rattle.bs_solve_recording.proofs.Lists.{none_is_not_some, same_some, get_map_cases, get_map, get_within, get_from_Contains, Contains_from_get, get_take}
-use Rattle.bs_solve_recording.proofs.Clauses.{all_from, map_cases, map_contains, contains_first, cons_contains, distinct_cons}
+use Rattle.bs_watch.proofs.Gets.{none_is_not_some, same_some, get_map_cases, get_map, get_within, get_from_Contains, Contains_from_get, get_take}
+use Rattle.bs_solve_analysis.proofs.Clauses.{all_from, map_cases, map_contains, contains_first, cons_contains, distinct_cons}
 use Rattle.bs_solve_recording.proofs.Lessons.{others_from_alone, alone_from_others}
 use Rattle.bs_solve_recording.proofs.Searching.{learnt_range, have_variables, learnt_is_new, has_learnt}
 use Rattle.bs_solve_recording.proofs.Entries.{found_stands}
@@ -92,6 +93,14 @@ pub live_range : (a : Content) (lists : List (List Watcher)) (stock : Stock) (es
 live_range a lists stock es vars content s range = all_from (HasVariables vars) (live_clauses a.clauses) (λ c there.
     let (d, in_st, same) = live_spelled a lists stock es content s c there in
     All-permutation (IsWithin vars) d c same (All-contains (HasVariables vars) (clauses_in es) d range in_st))
+
+-- so are those of the clauses that were resolved
+pub hints_range : (clauses : List Held) (hints : List ℕ) (vars : ℕ) → All (λ r. is_some (held_at clauses r) ≡ true) hints →
+    All (HasVariables vars) (live_clauses clauses) → All (λ r. HasVariables vars (literals_at clauses r)) hints
+hints_range clauses hints vars live range = all_from (λ r. HasVariables vars (literals_at clauses r)) hints (λ r there.
+    All-contains (HasVariables vars) (live_clauses clauses) (literals_at clauses r) range
+    (live_contains clauses r (literals_at clauses r)
+    (record { live = All-contains (λ q. is_some (held_at clauses q) ≡ true) hints r live there; is = refl })))
 
 -- below the first level no literal of a live clause is false
 pub live_spared : (a : Content) (book : Book) (w : WatchState) (stock : Stock) → IsContent a → IsStocked w.lists a.clauses stock (entries book) →

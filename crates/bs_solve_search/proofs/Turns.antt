@@ -16,13 +16,13 @@ use Rattle.bs_watch.specs.Scene.{Advances, Propagated}
 use Rattle.bs_watch.specs.Watch.{WatchState, Serves, scene}
 use Rattle.bs_solve_analysis.specs.Reasons.{IsReasoned}
 use Rattle.bs_solve_analysis.proofs.CallerLemmas.{reasoned_grows, reasoned_free}
-use Rattle.bs_solve_recording.specs.Place.{Place as LoggedPlace}
-use Rattle.bs_solve_recording.specs.Places.{literals_of as logged_literals}
-use Rattle.bs_solve_recording.specs.Grown.{Grows as LoggedGrows}
+use Rattle.bs_solve_recording.specs.Place.{LoggedPlace}
+use Rattle.bs_solve_recording.specs.Places.{logged_literals}
+use Rattle.bs_solve_recording.specs.Grown.{LoggedGrows}
 use Rattle.bs_solve_recording.specs.Book.{Book, standing}
 use Rattle.bs_solve_recording.specs.Search.{HasLearnt}
 use Rattle.bs_watch.proofs.Advancing.{take_front}
-use Rattle.bs_solve_recording.proofs.Lists.{get_push_cases, get_map_cases, get_within}
+use Rattle.bs_watch.proofs.Gets.{get_push_cases, get_map_cases, get_within}
 use Rattle.bs_solve_recording.proofs.Endings.{search_decides, search_learns}
 use Rattle.bs_solve_search.specs.declared.stock.Stock.{Stock}
 use Rattle.bs_solve_search.specs.Stock.{entries, IsStocked}

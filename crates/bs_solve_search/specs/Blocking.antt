@@ -9,8 +9,8 @@ use Rattle.bs_watch.specs.Choice.{AreHighest}
 use Rattle.bs_watch.specs.Watch.{WatchState}
 use Rattle.bs_solve_recording.specs.Book.{Book}
 use Rattle.bs_solve_recording.specs.Search.{assumed}
-use Rattle.bs_solve_search.specs.declared.blocking.Spot.{Spot}
-use Rattle.bs_solve_search.specs.declared.blocking.Spot.TheVariants.{Bottom, Forced, Open}
+use Rattle.bs_solve_search.specs.declared.blocking.Retreat.{Retreat}
+use Rattle.bs_solve_search.specs.declared.blocking.Retreat.TheVariants.{Bottom, Forced, Open}
 use Rattle.bs_log.specs.declared.origin.Origin.TheVariants.{Blocked}
 use Rattle.bs_log.specs.Refusal.{entry_of}
 use Rattle.bs_solve_search.specs.declared.stock.Stock.{Stock}
@@ -32,17 +32,17 @@ pub record AreLast (places : List Place) (c : Clause) : Type 0 where
   pub on_first : IsOnLevel places first high
   pub on_second : IsOnLevel places second low
 
--- a spot for two levels: the lower one, where it is lower; the one before the higher one, where it is not
-abbrev pub IsBetween : ℕ → ℕ → Spot → Type 0
+-- a retreat for two levels: the lower one, where it is lower; the one before the higher one, where it is not
+abbrev pub IsBetween : ℕ → ℕ → Retreat → Type 0
 IsBetween high low Bottom = Unit {0}
 IsBetween high low (Forced n) = (n ≡ low) × (1 ≤ n) × (n < high)
 IsBetween high low (Open n) = (1 ≤ n) × (n < high) × (n < low)
 
 -- one of the levels of the first two literals at which the clause has one open literal, or two
-abbrev pub IsSpot : List Place → Clause → Spot → Type 0
-IsSpot places c Bottom = Unit {0}
-IsSpot places c (Forced n) = (l : AreLast places c) × IsBetween l.high l.low (Forced n)
-IsSpot places c (Open n) = (l : AreLast places c) × IsBetween l.high l.low (Open n)
+abbrev pub IsRetreat : List Place → Clause → Retreat → Type 0
+IsRetreat places c Bottom = Unit {0}
+IsRetreat places c (Forced n) = (l : AreLast places c) × IsBetween l.high l.low (Forced n)
+IsRetreat places c (Open n) = (l : AreLast places c) × IsBetween l.high l.low (Open n)
 
 -- the clause forces its first literal at the end of the level, which has come, and the literal was assigned
 pub record HasForced (old new : WatchState) (clauses : List Held) (shorts more : List ℕ) (r : ℕ) : Type 0 where
@@ -97,8 +97,8 @@ pub record HasEmptied (old new : WatchState) (clauses : List Held) (shorts more 
   pub lists : middle.lists ≡ old.lists
   pub joined : HasJoined middle new shorts more clauses r
 
--- the trail went back to the spot, and the clause has joined
-abbrev pub HasGoneFor : Spot → WatchState → WatchState → List Held → List ℕ → List ℕ → ℕ → Type 0
+-- the trail went back to the retreat, and the clause has joined
+abbrev pub HasGoneFor : Retreat → WatchState → WatchState → List Held → List ℕ → List ℕ → ℕ → Type 0
 HasGoneFor Bottom old new clauses shorts more r = HasEmptied old new clauses shorts more r
 HasGoneFor (Forced n) old new clauses shorts more r = HasForced old new clauses shorts more r
 HasGoneFor (Open n) old new clauses shorts more r = HasOpened old new clauses shorts more r

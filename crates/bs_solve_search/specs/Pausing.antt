@@ -5,7 +5,7 @@ use Rattle.bs_arena.specs.Arena.{Held}
 use Rattle.bs_watch.specs.declared.watch.Level.{Level}
 use Rattle.bs_watch.specs.Trail.{IsTrueOn}
 use Rattle.bs_watch.specs.Watch.{WatchState}
-use Rattle.bs_solve_recording.specs.Places.{AreWarranted, literals_of as logged_literals}
+use Rattle.bs_solve_recording.specs.Places.{AreWarranted, logged_literals}
 use Rattle.bs_solve_recording.specs.Book.{Book, standing}
 use Rattle.bs_solve_recording.specs.Search.{assumed}
 use Rattle.bs_solve_recording.specs.declared.answer.Answer.{Answer}

@@ -7,7 +7,7 @@ use Rattle.bs_watch.specs.declared.watch.Level.{Level}
 use Rattle.bs_watch.specs.Places.{literals_of}
 use Rattle.bs_watch.specs.Watch.{WatchState, Serves}
 use Rattle.bs_solve_analysis.specs.Reasons.{IsReasoned, IsConflictAt}
-use Rattle.bs_solve_recording.specs.Places.{TrailState}
+use Rattle.bs_solve_recording.specs.Places.{LoggedTrail}
 use Rattle.bs_solve_recording.specs.Book.{Book}
 use Rattle.bs_solve_recording.specs.Turn.{InSearch}
 use Rattle.bs_solve_search.specs.Stock.{IsStocked, entries}
@@ -17,7 +17,7 @@ use Rattle.bs_solve_search.specs.Seen.{seen, is_quiet}
 use Rattle.bs_solve_search.specs.Begun.{AreBegun, AreLaid}
 
 -- the trail as the log sees it
-abbrev pub seen_trail : WatchState → TrailState
+abbrev pub seen_trail : WatchState → LoggedTrail
 seen_trail w = record { vars = w.trail.vars; places = seen w.trail.places }
 
 -- the clauses that stand are in the arena and are watched, and the trail is made of levels, of reasons and of short clauses' literals

@@ -7,7 +7,7 @@ use Rattle.bs_watch.specs.Trail.{IsTrueOn}
 use Rattle.bs_watch.specs.Places.{literals_of}
 use Rattle.bs_watch.specs.Watch.{WatchState, Serves}
 use Rattle.bs_solve_analysis.specs.Reasons.{IsConflictAt}
-use Rattle.bs_solve_recording.specs.Places.{AreWarranted, literals_of as logged_literals}
+use Rattle.bs_solve_recording.specs.Places.{AreWarranted, logged_literals}
 use Rattle.bs_solve_recording.specs.Book.{Book, standing}
 use Rattle.bs_solve_recording.specs.Search.{assumed, HasLearnt}
 use Rattle.bs_solve_search.specs.Stock.{IsStocked, entries}

@@ -7,8 +7,8 @@ ghost use Rattle.bs_watch.specs.Scene.{IsWatchable};
 ghost use Rattle.bs_watch.specs.Lists.{IsAttached};
 ghost use Rattle.bs_watch.specs.Watch.{Serves};
 ghost use Rattle.bs_solve_search.specs.Pausing.{IsGrounded};
-ghost use Rattle.bs_solve_search.specs.Blocking.{IsBetween, IsSpot, HasForced, HasOpened, HasEmptied, HasGoneFor, HasHeld, IsSomeKept};
-ghost use Rattle.bs_solve_search.specs.declared.blocking.Spot.TheVariants.{Forced as ForcedSpot, Open as OpenSpot};
+ghost use Rattle.bs_solve_search.specs.Blocking.{IsBetween, IsRetreat, HasForced, HasOpened, HasEmptied, HasGoneFor, HasHeld, IsSomeKept};
+ghost use Rattle.bs_solve_search.specs.declared.blocking.Retreat.TheVariants.{Forced as ForcedRetreat, Open as OpenRetreat};
 
 use crate::reading::{clause_len, literal_in};
 use crate::stock::{Stock, join, note};
@@ -20,31 +20,31 @@ use bs_watch::Watch;
 
 /// Where the trail goes back for a clause: to what stands for good, to the end of a level at which the clause has one open literal and
 /// else false ones, or of one at which it has two open literals.
-pub enum Spot {
+pub enum Retreat {
     Bottom,
     Forced(u32),
     Open(u32),
 }
 
-// The spot for the levels of the two literals that became false last.
-fn spot_between(high: u32, low: u32) -> Spot
+// The retreat for the levels of the two literals that became false last.
+fn retreat_between(high: u32, low: u32) -> Retreat
     ensures { IsBetween high low result }
 {
     if low == 0 {
-        return Spot::Bottom;
+        return Retreat::Bottom;
     }
     if low < high {
-        return Spot::Forced(low);
+        return Retreat::Forced(low);
     }
     if high < 2 {
-        return Spot::Bottom;
+        return Retreat::Bottom;
     }
-    Spot::Open(high - 1)
+    Retreat::Open(high - 1)
 }
 
 // Moves the two literals to the front of a clause that became false last, and finds where the trail goes back for it. A
 // clause that is not false, or has fewer than two literals, asks for the trail that stands for good.
-fn spot_of(watch: &Watch, arena: &mut Arena, r: Ref) -> Spot
+fn retreat_of(watch: &Watch, arena: &mut Arena, r: Ref) -> Retreat
     requires live { IsSome (held_at arena.old.clauses r) }
     requires watchable { 2 ≤ length (literals_at arena.old.clauses r) → IsWatchable watch.now.trail.vars (literals_at arena.old.clauses r) }
     ensures live { IsSome (held_at arena.new.clauses r) }
@@ -52,18 +52,18 @@ fn spot_of(watch: &Watch, arena: &mut Arena, r: Ref) -> Spot
     ensures same { IsPermutation (literals_at arena.old.clauses r) (literals_at arena.new.clauses r) }
     ensures others { KeepsOthers arena.old.clauses arena.new.clauses r }
     ensures id { option_map (λ h. h.id) (held_at arena.new.clauses r) ≡ option_map (λ h. h.id) (held_at arena.old.clauses r) }
-    ensures spot { IsSpot watch.now.trail.places (literals_at arena.new.clauses r) result }
+    ensures retreat { IsRetreat watch.now.trail.places (literals_at arena.new.clauses r) result }
 {
     if clause_len(arena, r) < 2 {
-        return Spot::Bottom;
+        return Retreat::Bottom;
     }
     watch.choose_watches(arena, r);
     let first = literal_in(arena, r, 0);
     if !is_true(watch, first.negate()) {
-        return Spot::Bottom;
+        return Retreat::Bottom;
     }
     let second = literal_in(arena, r, 1);
-    spot_between(watch.level_of(first), watch.level_of(second))
+    retreat_between(watch.level_of(first), watch.level_of(second))
 }
 
 // Goes back to the end of the level, assigns the clause's first literal, and attaches the clause.
@@ -78,7 +78,7 @@ fn force_at(
     requires live { IsSome (held_at arena.now.clauses r) }
     requires watchable { 2 ≤ length (literals_at arena.now.clauses r) → IsWatchable watch.old.trail.vars (literals_at arena.now.clauses r) }
     requires fresh { ¬ IsAttached watch.old.lists r }
-    requires spot { IsSpot watch.old.trail.places (literals_at arena.now.clauses r) (ForcedSpot level) }
+    requires retreat { IsRetreat watch.old.trail.places (literals_at arena.now.clauses r) (ForcedRetreat level) }
     ensures { OnOk result (HasForced watch.old watch.new arena.now.clauses shorts.old.items shorts.new.items r) }
 {
     watch.holds_levels();
@@ -101,7 +101,7 @@ fn open_at(
     requires live { IsSome (held_at arena.now.clauses r) }
     requires watchable { 2 ≤ length (literals_at arena.now.clauses r) → IsWatchable watch.old.trail.vars (literals_at arena.now.clauses r) }
     requires fresh { ¬ IsAttached watch.old.lists r }
-    requires spot { IsSpot watch.old.trail.places (literals_at arena.now.clauses r) (OpenSpot level) }
+    requires retreat { IsRetreat watch.old.trail.places (literals_at arena.now.clauses r) (OpenRetreat level) }
     ensures { OnOk result (HasOpened watch.old watch.new arena.now.clauses shorts.old.items shorts.new.items r) }
 {
     watch.holds_levels();
@@ -129,32 +129,32 @@ fn join_at_bottom(
     Ok(())
 }
 
-// Goes back to the spot, and the clause joins.
+// Goes back to the retreat, and the clause joins.
 fn join_back(
     watch: &mut Watch,
     arena: &Arena,
     shorts: &mut Vec<Ref>,
     r: Ref,
-    spot: Spot,
+    retreat: Retreat,
 ) -> Result<(), NoMemory>
     requires serves { Serves watch.old arena.now.clauses }
     requires live { IsSome (held_at arena.now.clauses r) }
     requires watchable { 2 ≤ length (literals_at arena.now.clauses r) → IsWatchable watch.old.trail.vars (literals_at arena.now.clauses r) }
     requires fresh { ¬ IsAttached watch.old.lists r }
     requires ground { IsGrounded watch.old (literals_at arena.now.clauses r) }
-    requires spot { IsSpot watch.old.trail.places (literals_at arena.now.clauses r) spot }
-    ensures { OnOk result (HasGoneFor spot watch.old watch.new arena.now.clauses shorts.old.items shorts.new.items r) }
+    requires retreat { IsRetreat watch.old.trail.places (literals_at arena.now.clauses r) retreat }
+    ensures { OnOk result (HasGoneFor retreat watch.old watch.new arena.now.clauses shorts.old.items shorts.new.items r) }
 {
-    match spot {
-        Spot::Bottom => {
+    match retreat {
+        Retreat::Bottom => {
             join_at_bottom(watch, arena, shorts, r)?;
             Ok(())
         }
-        Spot::Forced(level) => {
+        Retreat::Forced(level) => {
             force_at(watch, arena, shorts, r, level)?;
             Ok(())
         }
-        Spot::Open(level) => {
+        Retreat::Open(level) => {
             open_at(watch, arena, shorts, r, level)?;
             Ok(())
         }
@@ -177,8 +177,8 @@ pub fn add_between(
     ensures { OnOk result (HasHeld watch.old watch.new arena.old.clauses arena.new.clauses stock.old stock.new id lits.now) }
 {
     let r = arena.add(id, lits)?;
-    let spot = spot_of(watch, arena, r);
-    join_back(watch, arena, &mut stock.shorts, r, spot)?;
+    let retreat = retreat_of(watch, arena, r);
+    join_back(watch, arena, &mut stock.shorts, r, retreat)?;
     note(&mut stock.rows, id, r, Origin::Blocked)?;
     Ok(())
 }

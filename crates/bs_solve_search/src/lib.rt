@@ -9,6 +9,7 @@
 //! stands for good: `specs/Ground`.
 #![tactic(auto)]
 
+mod activity;
 mod blocking;
 mod laying;
 mod lesson;
@@ -20,7 +21,7 @@ mod teaching;
 mod turning;
 mod value;
 
-pub use blocking::{Spot, add_between};
+pub use blocking::{Retreat, add_between};
 pub use laying::begin_level;
 pub use lesson::take_lesson;
 pub use pausing::rest;

@@ -8,6 +8,7 @@ ghost use Rattle.bs_solve_search.specs.Stock.{id_in};
 ghost use Rattle.bs_solve_search.specs.Ground.{IsOwn};
 ghost use Rattle.bs_solve_search.specs.Teaching.{IsSomeConflict, Teaches};
 
+use crate::activity::reward;
 use crate::lesson::take_lesson;
 use crate::stock::Stock;
 use bs_arena::{Arena, Ref};
@@ -43,7 +44,7 @@ fn id_of(arena: &Arena, r: Ref) -> u64
 }
 
 /// Learns from a conflict above the first level: goes back to the first decision before which the learnt clause would have
-/// forced its literal, and assigns that literal.
+/// forced its literal, and assigns that literal. The variables of the clauses that were resolved are decided earlier from then on.
 pub fn learn(
     alloc: Global,
     book: &mut Recording,
@@ -67,6 +68,7 @@ pub fn learn(
     arena.holds_clauses();
     let _ = book.log();
     let learnt = first_point(alloc, watch, arena, marks, conflict)?;
+    reward(watch, arena, learnt.hints.as_slice());
     let hints = ids_of(alloc, arena, learnt.hints.as_slice())?;
     let id = book.next_id()?;
     take_lesson(watch, arena, stock, id, learnt.lits.slice())?;

@@ -35,7 +35,7 @@ fn is_full(watch: &Watch) -> bool
     watch.trail().len() == watch.vars() as usize
 }
 
-// Assumes the negation of the lowest open variable on a new level. Whether there was one. A full trail is not searched.
+// Assumes the negation of the open variable that comes first, on a new level. Whether there was one. A full trail is not searched.
 fn decide(watch: &mut Watch) -> bool
     requires few { length watch.old.levels ≤ length watch.old.trail.places + 1 }
     requires bound { watch.old.trail.vars < 2 ^ 30 }

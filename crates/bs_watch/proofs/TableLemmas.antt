@@ -12,9 +12,11 @@ use Rattle.std.proofs.lemmas.Map.Steps.{length-le_from_distinct_below}
 use Rattle.bs_clause.specs.Literal.{Literal, negation, code_of}
 use Rattle.bs_clause.specs.Range.{HasVariables, IsWithin}
 use Rattle.bs_watch.specs.declared.cause.Cause.{Cause}
-use Rattle.bs_watch.specs.Trail.{IsOpenOn, IsAssignedOn, IsValueOn}
+use Rattle.bs_solve_order.specs.Open.{HoldsOpen, AreAllAssigned, is_assigned}
+use Rattle.bs_solve_order.proofs.CallerLemmas.{holds_assigned, holds_undone, neither}
+use Rattle.bs_watch.specs.Trail.{IsOpenOn, IsAssignedOn, IsValueOn, AreAssignedBelow}
 use Rattle.bs_watch.specs.Places.{Place, AreApart, IsPlaceOf, IsOnLevel, IsForcedBy, HasNoReason, literals_of, variable_of, renamed_place}
-use Rattle.bs_watch.specs.Tables.{IsTrail, AreDistinct, IsNextOpen, no_cause, cause_of, place_with, places_in, value_of, renamed_cause}
+use Rattle.bs_watch.specs.Tables.{IsTrail, AreDistinct, HasValues, no_cause, cause_of, place_with, places_in, value_of, renamed_cause}
 use Rattle.bs_watch.proofs.Gets.{none_is_not_some, same_some, get_left, get_last, get_push_cases, get_from_Contains, Contains_from_get, get_map_cases}
 use Rattle.bs_watch.proofs.Gets.{get_within, get_map}
 use Rattle.bs_watch.proofs.Literals.{cases_literal, same_variable, code_of-injective}
@@ -124,9 +126,9 @@ no_value n l = elim (cases_lt (code_of l) n) [
 nothing_in : {X : Type 0} (x : X) → Contains [] x → ⊥
 nothing_in x c = let h : c.0 < 0 = c.1 in omega (arith, h)
 
-pub new_trail : (vars n k capacity : ℕ) → vars < 2 ^ 30 → n ≡ 2 * vars + 2 → k ≡ vars + 1 → vars ≤ capacity →
-    IsTrail vars (replicate n false) (replicate k no_cause) [] 1 capacity
-new_trail vars n k capacity small is_n is_k room = record {
+pub new_trail : (vars n k o capacity : ℕ) → vars < 2 ^ 30 → n ≡ 2 * vars + 2 → k ≡ vars + 1 → o ≡ vars + 1 → vars ≤ capacity →
+    IsTrail vars (replicate n false) (replicate k no_cause) [] (replicate o false) false capacity
+new_trail vars n k o capacity small is_n is_k is_o room = record {
   small = small;
   values_are = record {
     holds = λ l e. absurd (false≢true (sym (no_value n l) ∙ e));
@@ -136,9 +138,8 @@ new_trail vars n k capacity small is_n is_k room = record {
   in_range = λ i d within. absurd (omega (arith, within));
   by_code = length-replicate {A = Bool} n false ∙ is_n;
   by_variable = length-replicate {A = Cause} k no_cause ∙ is_k;
-  low = omega arith;
-  high = omega arith;
-  below = record { each = λ l low high. absurd (omega (arith, low, high)) };
+  in_order = length-replicate {A = Bool} o false ∙ is_o;
+  waits = λ on. absurd (false≢true on);
   room = room;
 }
 
@@ -147,14 +148,10 @@ new_trail vars n k capacity small is_n is_k room = record {
 in_left : (ls : List Literal) (l m : Literal) → Contains ls m → Contains (ls ++ l ∷ []) m
 in_left ls l m c = let (k, e) = get_from_Contains ls m c in Contains_from_get (ls ++ l ∷ []) k m (get_left ls (l ∷ []) k m e)
 
-assigned_left : (ls : List Literal) (l m : Literal) → IsAssignedOn ls m → IsAssignedOn (ls ++ l ∷ []) m
-assigned_left ls l m (inl c) = inl (in_left ls l m c)
-assigned_left ls l m (inr c) = inr (in_left ls l (negation m) c)
-
-pub assigned_trail : (vars : ℕ) (values : List Bool) (causes : List Cause) (ls : List Literal) (first capacity after : ℕ) (l : Literal) (c : Cause) →
-    IsTrail vars values causes ls first capacity → IsOpenOn ls l → 1 ≤ l.variable → l.variable ≤ vars → vars ≤ after →
-    IsTrail vars (set values (code_of l) true) (set causes l.variable c) (ls ++ l ∷ []) first after
-assigned_trail vars values causes ls first capacity after l c t o low high room =
+pub assigned_trail : (vars : ℕ) (values : List Bool) (causes : List Cause) (ls : List Literal) (order : List Bool) (is_ordered : Bool)
+    (capacity after : ℕ) (l : Literal) (c : Cause) → IsTrail vars values causes ls order is_ordered capacity → IsOpenOn ls l → 1 ≤ l.variable → l.variable ≤ vars → vars ≤ after →
+    IsTrail vars (set values (code_of l) true) (set causes l.variable c) (ls ++ l ∷ []) order is_ordered after
+assigned_trail vars values causes ls order is_ordered capacity after l c t o low high room =
     let within : code_of l < length values = code_within vars (length values) l high t.by_code in
     record {
       small = t.small;
@@ -193,19 +190,28 @@ assigned_trail vars values causes ls first capacity after l c t o low high room 
       ]);
       by_code = length-set values (code_of l) true ∙ t.by_code;
       by_variable = length-set causes l.variable c ∙ t.by_variable;
-      low = t.low;
-      high = t.high;
-      below = record { each = λ m at_least before. assigned_left ls l m (t.below.each m at_least before) };
+      in_order = t.in_order;
+      waits = λ on. holds_assigned order values (code_of l) (t.waits on);
       room = room;
     }
 
 -- ---- one literal fewer
 
-pub undone_trail : (vars : ℕ) (values : List Bool) (causes : List Cause) (ls front : List Literal) (first next capacity after : ℕ) (l : Literal) →
-    IsTrail vars values causes ls first capacity → ls ≡ front ++ l ∷ [] → 1 ≤ next → next ≤ first → next ≤ l.variable → capacity ≤ after →
-    IsTrail vars (set values (code_of l) false) causes front next after
-undone_trail vars values causes ls front first next capacity after l old parts low lower under room =
-    let t : IsTrail vars values causes (front ++ l ∷ []) first capacity = subst (λ xs. IsTrail vars values causes xs first capacity) parts old in
+-- by its sign
+code_cases : (l : Literal) → (code_of l ≡ 2 * l.variable) ⊎ (code_of l ≡ 2 * l.variable + 1)
+code_cases l = by_sign l.positive refl
+  where
+    by_sign : (b : Bool) → l.positive ≡ b → (code_of l ≡ 2 * l.variable) ⊎ (code_of l ≡ 2 * l.variable + 1)
+    by_sign true s = inl (ap (λ x. 2 * l.variable + cond x 0 1) s ∙ omega arith)
+    by_sign false s = inr (ap (λ x. 2 * l.variable + cond x 0 1) s)
+
+pub undone_trail : (vars : ℕ) (values : List Bool) (causes : List Cause) (ls front : List Literal) (order next : List Bool) (is_ordered : Bool)
+    (capacity after : ℕ) (l : Literal) → IsTrail vars values causes ls order is_ordered capacity → ls ≡ front ++ l ∷ [] → length next ≡ length order →
+    (is_ordered ≡ true → next ≡ set order l.variable true) → capacity ≤ after →
+    IsTrail vars (set values (code_of l) false) causes front next is_ordered after
+undone_trail vars values causes ls front order next is_ordered capacity after l old parts wide again room =
+    let t : IsTrail vars values causes (front ++ l ∷ []) order is_ordered capacity =
+    subst (λ xs. IsTrail vars values causes xs order is_ordered capacity) parts old in
     let last_at : slice_get (front ++ l ∷ []) (length front) ≡ Some l = get_last front l in
     let range = range_at vars (front ++ l ∷ []) (length front) l t.in_range last_at in
     let within : code_of l < length values = code_within vars (length values) l range.1 t.by_code in
@@ -239,51 +245,11 @@ undone_trail vars values causes ls front first next capacity after l old parts l
       in_range = all_from_gets _ front (λ k m e. range_at vars (front ++ l ∷ []) k m t.in_range (get_left front (l ∷ []) k m e));
       by_code = length-set values (code_of l) false ∙ t.by_code;
       by_variable = t.by_variable;
-      low = low;
-      high = omega (arith, lower, t.high);
-      below = record {
-        each = λ m at_least before. elim (t.below.each m at_least (omega (arith, before, lower))) [
-          | inl holds ↦ inl (back m (λ is. let e : m.variable ≡ l.variable = ap (λ (x : Literal). x.variable) is in omega (arith, e, before, under)) holds)
-          | inr lost ↦ inr (back (negation m)
-              (λ is. let e : m.variable ≡ l.variable = ap (λ (x : Literal). x.variable) is in omega (arith, e, before, under)) lost)
-        ];
-      };
+      in_order = wide ∙ t.in_order;
+      waits = λ on. subst (λ o. HoldsOpen o (set values (code_of l) false)) (sym (again on))
+          (holds_undone order values l.variable (code_of l) (code_cases l) (omega (arith, range.1, t.in_order)) (t.waits on));
       room = omega (arith, t.room, room);
     }
-
--- ---- the lowest variable without a value
-
-pub next_trail : (vars : ℕ) (values : List Bool) (causes : List Cause) (ls : List Literal) (first next capacity : ℕ) →
-    IsTrail vars values causes ls first capacity → IsNextOpen values first vars next → IsTrail vars values causes ls next capacity
-next_trail vars values causes ls first next capacity t n = record {
-  small = t.small;
-  values_are = t.values_are;
-  distinct = t.distinct;
-  in_range = t.in_range;
-  by_code = t.by_code;
-  by_variable = t.by_variable;
-  low = omega (arith, t.low, n.low);
-  high = n.high;
-  below = record {
-    each = λ m at_least before. elim (cases_lt m.variable first) [
-      | inl early ↦ t.below.each m at_least early
-      | inr late ↦ elim (n.before m late before) [
-        | inl holds ↦ inl (t.values_are.holds m holds)
-        | inr lost ↦ inr (t.values_are.holds (negation m) lost)
-      ]
-    ];
-  };
-  room = t.room;
-}
-
--- a literal without a value
-pub open_here : (vars : ℕ) (values : List Bool) (causes : List Cause) (ls : List Literal) (first next capacity : ℕ) →
-    IsTrail vars values causes ls first capacity → IsNextOpen values first vars next → next ≤ vars → (l : Literal) → l.variable ≡ next → IsOpenOn ls l
-open_here vars values causes ls first next capacity t n inside l same =
-    let (not_true, not_false) = n.here l same inside in (
-      λ c. false≢true (sym not_true ∙ t.values_are.noted l c),
-      λ c. false≢true (sym not_false ∙ t.values_are.noted (negation l) c),
-    )
 
 -- ---- what is read of the tables
 
@@ -383,6 +349,26 @@ neither_true values l v is even odd = by_sign l.positive refl
       ap (λ k. get_or values k false) (ap (λ x. 2 * l.variable + cond (not x) 0 1) s ∙ omega (arith, is)) ∙ even,
     )
 
+-- a variable without a value is open
+pub open_here : (values : List Bool) (ls : List Literal) (v : ℕ) → HasValues values ls → is_assigned values v ≡ false → (l : Literal) → l.variable ≡ v →
+    IsOpenOn ls l
+open_here values ls v has none l same =
+    let both = neither (get_or values (2 * v) false) (get_or values (2 * v + 1) false) none in
+    let (not_true, not_false) = neither_true values l v same both.0 both.1 in (
+      λ c. false≢true (sym not_true ∙ has.noted l c),
+      λ c. false≢true (sym not_false ∙ has.noted (negation l) c),
+    )
+
+-- where each variable has a value, none is open
+pub all_here : (values : List Bool) (ls : List Literal) (past : ℕ) → HasValues values ls → AreAllAssigned past values → AreAssignedBelow ls past
+all_here values ls past has all = record {
+  each = λ l low before. elim (either_true values l l.variable refl
+      (or_cases (get_or values (2 * l.variable) false) (get_or values (2 * l.variable + 1) false) (all.each l.variable low before))) [
+        | inl holds ↦ inl (has.holds l holds)
+        | inr lost ↦ inr (has.holds (negation l) lost)
+      ];
+}
+
 pub if_some_more : {X : Type 0} (P Q : X → Type 0) (o : Option X) → ((x : X) → P x → Q x) → IfSome o P → IfSome o Q
 if_some_more P Q None more h = tt
 if_some_more P Q (Some x) more h = more x h
@@ -390,6 +376,39 @@ if_some_more P Q (Some x) more h = more x h
 pub if_none_more : {X : Type 0} (P Q : Type 0) (o : Option X) → (P → Q) → IfNone o P → IfNone o Q
 if_none_more P Q None more h = more h
 if_none_more P Q (Some x) more h = tt
+
+-- ---- the order of decisions
+
+-- it is filled
+pub filled_trail : (vars : ℕ) (values : List Bool) (causes : List Cause) (ls : List Literal) (order next : List Bool) (is_ordered : Bool) (capacity : ℕ) →
+    IsTrail vars values causes ls order is_ordered capacity → length next ≡ length order → HoldsOpen next values →
+    IsTrail vars values causes ls next true capacity
+filled_trail vars values causes ls order next is_ordered capacity t wide holds = record {
+  small = t.small;
+  values_are = t.values_are;
+  distinct = t.distinct;
+  in_range = t.in_range;
+  by_code = t.by_code;
+  by_variable = t.by_variable;
+  in_order = wide ∙ t.in_order;
+  waits = λ on. holds;
+  room = t.room;
+}
+
+-- it is given up, or not
+pub left_trail : (vars : ℕ) (values : List Bool) (causes : List Cause) (ls : List Literal) (order : List Bool) (is_ordered stays : Bool) (capacity : ℕ) →
+    IsTrail vars values causes ls order is_ordered capacity → (stays ≡ true → is_ordered ≡ true) → IsTrail vars values causes ls order stays capacity
+left_trail vars values causes ls order is_ordered stays capacity t only = record {
+  small = t.small;
+  values_are = t.values_are;
+  distinct = t.distinct;
+  in_range = t.in_range;
+  by_code = t.by_code;
+  by_variable = t.by_variable;
+  in_order = t.in_order;
+  waits = λ on. t.waits (only on);
+  room = t.room;
+}
 
 -- ---- one more variable
 
@@ -414,10 +433,10 @@ pub length_two : {X : Type 0} (xs : List X) (x y : X) → length (xs ++ x ∷ y 
 length_two [] x y = refl
 length_two (z ∷ xs) x y = let h = length_two xs x y in omega (arith, h)
 
-pub grown_trail : (vars : ℕ) (values : List Bool) (causes : List Cause) (ls : List Literal) (first capacity after : ℕ) →
-    IsTrail vars values causes ls first capacity → vars + 1 < 2 ^ 30 → vars + 1 ≤ after →
-    IsTrail (vars + 1) (values ++ false ∷ false ∷ []) (causes ++ no_cause ∷ []) ls first after
-grown_trail vars values causes ls first capacity after t small room = record {
+pub grown_trail : (vars : ℕ) (values : List Bool) (causes : List Cause) (ls : List Literal) (order : List Bool) (is_ordered : Bool)
+    (capacity after : ℕ) → IsTrail vars values causes ls order is_ordered capacity → vars + 1 < 2 ^ 30 → vars + 1 ≤ after →
+    IsTrail (vars + 1) (values ++ false ∷ false ∷ []) (causes ++ no_cause ∷ []) ls (order ++ false ∷ []) false after
+grown_trail vars values causes ls order is_ordered capacity after t small room = record {
   small = small;
   values_are = record {
     holds = λ l e. t.values_are.holds l (sym (get_past_two values false (code_of l)) ∙ e);
@@ -427,23 +446,22 @@ grown_trail vars values causes ls first capacity after t small room = record {
   in_range = all_from_gets (IsWithin (vars + 1)) ls (λ k l e. let h = range_at vars ls k l t.in_range e in (h.0, omega (arith, h.1)));
   by_code = omega (arith, t.by_code, length_two values false false);
   by_variable = omega (arith, t.by_variable, length_push causes no_cause);
-  low = t.low;
-  high = omega (arith, t.high);
-  below = t.below;
+  in_order = omega (arith, t.in_order, length_push order false);
+  waits = λ on. absurd (false≢true on);
   room = room;
 }
 
-pub roomier_trail : (vars : ℕ) (values : List Bool) (causes : List Cause) (ls : List Literal) (first capacity after : ℕ) →
-    IsTrail vars values causes ls first capacity → capacity ≤ after → IsTrail vars values causes ls first after
-roomier_trail vars values causes ls first capacity after t more = record {
+pub roomier_trail : (vars : ℕ) (values : List Bool) (causes : List Cause) (ls : List Literal) (order : List Bool) (is_ordered : Bool)
+    (capacity after : ℕ) → IsTrail vars values causes ls order is_ordered capacity → capacity ≤ after →
+    IsTrail vars values causes ls order is_ordered after
+roomier_trail vars values causes ls order is_ordered capacity after t more = record {
   small = t.small;
   values_are = t.values_are;
   distinct = t.distinct;
   in_range = t.in_range;
   by_code = t.by_code;
   by_variable = t.by_variable;
-  low = t.low;
-  high = t.high;
-  below = t.below;
+  in_order = t.in_order;
+  waits = t.waits;
   room = omega (arith, t.room, more);
 }

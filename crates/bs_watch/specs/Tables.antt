@@ -1,13 +1,13 @@
 -- How a trail is kept: its literals, a table of values by literal code, and one of causes by
 -- variable.
-use Rattle.std.specs.Prelude.{◌≡◌, ◌⊎◌, ℕ, ◌+◌, ◌*◌, ◌^◌, ◌<◌, ◌≤◌, Bool, true, false, ◌||◌, List, map, length, Some, None, option_map}
+use Rattle.std.specs.Prelude.{◌≡◌, ℕ, ◌+◌, ◌*◌, ◌^◌, ◌<◌, ◌≤◌, Bool, true, false, List, map, length, Some, None, option_map}
 use Rattle.std.specs.Prelude.{unwrap_or, slice_get, slice_index_or, Contains}
-use Rattle.bs_clause.specs.Literal.{Literal, code_of, negation}
+use Rattle.bs_clause.specs.Literal.{Literal, code_of}
 use Rattle.bs_clause.specs.Range.{HasVariables}
 use Rattle.bs_arena.specs.Renaming.{new_name}
 use Rattle.bs_watch.specs.Places.{Place}
 use Rattle.bs_watch.specs.declared.cause.Cause.{Cause}
-use Rattle.bs_watch.specs.Trail.{AreAssignedBelow}
+use Rattle.bs_solve_order.specs.Open.{HoldsOpen}
 
 -- the cause that stands where there is none
 abbrev pub no_cause : Cause
@@ -44,30 +44,16 @@ pub record AreDistinct (literals : List Literal) : Type 0 where
   pub apart : (i j : ℕ) (l m : Literal) → slice_get literals i ≡ Some l →
       slice_get literals j ≡ Some m → l.variable ≡ m.variable → i ≡ j
 
--- the tables are right, each variable below the first that is looked at has a value, and there is
--- room for a literal a variable
+-- the tables are right, there is room for a literal a variable, and each variable without a value waits in the order of
+-- decisions, where that is kept up
 pub record IsTrail (vars : ℕ) (values : List Bool) (causes : List Cause) (literals : List Literal)
-    (first capacity : ℕ) : Type 0 where
+    (order : List Bool) (is_ordered : Bool) (capacity : ℕ) : Type 0 where
   pub small : vars < 2 ^ 30
   pub values_are : HasValues values literals
   pub distinct : AreDistinct literals
   pub in_range : HasVariables vars literals
   pub by_code : length values ≡ 2 * vars + 2
   pub by_variable : length causes ≡ vars + 1
-  pub low : 1 ≤ first
-  pub high : first ≤ vars + 1
-  pub below : AreAssignedBelow literals first
+  pub in_order : length order ≡ vars + 1
+  pub waits : is_ordered ≡ true → HoldsOpen order values
   pub room : vars ≤ capacity
-
--- whether one of a variable's two literals is true
-abbrev pub either : List Bool → ℕ → Bool
-either values v = slice_index_or values (2 * v) false || slice_index_or values (2 * v + 1) false
-
--- the lowest variable from one on whose two literals are not true, or the one past the last
-pub record IsNextOpen (values : List Bool) (from' last v : ℕ) : Type 0 where
-  pub low : from' ≤ v
-  pub high : v ≤ last + 1
-  pub before : (l : Literal) → from' ≤ l.variable → l.variable < v →
-      (value_of values l ≡ true) ⊎ (value_of values (negation l) ≡ true)
-  pub here : (l : Literal) → l.variable ≡ v → v ≤ last →
-      (value_of values l ≡ false) × (value_of values (negation l) ≡ false)

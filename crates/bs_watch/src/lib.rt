@@ -11,6 +11,7 @@
 mod attachment;
 mod cause;
 mod choice;
+mod decision;
 mod lists;
 mod look;
 mod propagation;

@@ -1,12 +1,11 @@
 //! The tables of a trail: values by literal code, causes by variable.
-ghost use Rattle.std.specs.Prelude.{◌≡◌, ◌⊎◌, ◌-◌, ◌+◌, ◌*◌, ◌^◌, ◌<◌, ◌≤◌, [], ◌∷◌, ◌++◌, false, length, replicate, slice_set, vec_len};
-ghost use Rattle.std.specs.Prelude.{vec_capacity, IfOk, IfSome, IfNone, OnOk};
+ghost use Rattle.std.specs.Prelude.{◌≡◌, ◌-◌, ◌+◌, ◌<◌, ◌≤◌, [], ◌∷◌, ◌++◌, false, length, replicate, slice_set, vec_len, vec_capacity, IfOk, OnOk};
 ghost use Rattle.bs_clause.specs.Literal.{code_of};
-ghost use Rattle.bs_watch.specs.Tables.{no_cause, either, IsNextOpen};
+ghost use Rattle.bs_watch.specs.Tables.{no_cause};
 
 use crate::cause::Cause;
 use bs_arena::Ref;
-use bs_clause::{Lit, NoMemory, Var};
+use bs_clause::{Lit, NoMemory};
 use std::alloc::Global;
 
 /// So many values, none true.
@@ -53,50 +52,6 @@ pub fn push_literal(literals: &mut Vec<Lit>, l: Lit)
     ensures capacity { vec_capacity literals.old ≤ vec_capacity literals.new }
 {
     let _ = literals.push(l);
-}
-
-/// The lower one of two variables' numbers.
-pub fn lower(first: u32, second: u32) -> u32
-    ensures first { result ≤ first }
-    ensures second { result ≤ second }
-    ensures one_of { (result ≡ first) ⊎ (result ≡ second) }
-{
-    if second < first { second } else { first }
-}
-
-// Whether one of a variable's two literals is true.
-fn has_value(values: &[bool], variable: u32) -> bool
-    requires { 2 * variable + 1 < length values.now }
-    ensures { result ≡ either values.now variable }
-{
-    let code = 2 * variable as usize;
-    values[code] || values[code + 1]
-}
-
-/// The lowest variable from one on whose two literals are not true, or the one past the last.
-pub fn next_open(values: &[bool], from: u32, last: u32) -> u32
-    requires small { last < 2 ^ 30 }
-    requires long { length values.now ≡ 2 * last + 2 }
-    requires high { from ≤ last + 1 }
-    ensures { IsNextOpen values.now from last result }
-{
-    let mut variable = from;
-    'variables: while variable <= last && has_value(values, variable) {
-        variable += 1;
-    }
-    variable
-}
-
-/// The variable, if it is not past the last.
-pub fn up_to(variable: u32, last: u32) -> Option<Var>
-    ensures some { IfSome result (λ v. (v.0 ≡ variable) × (variable ≤ last)) }
-    ensures none { IfNone result (last < variable) }
-{
-    if variable <= last {
-        Some(Var(variable))
-    } else {
-        None
-    }
 }
 
 /// Makes room in the tables for one more variable, so that there is room for a literal of each.

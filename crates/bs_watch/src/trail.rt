@@ -3,31 +3,33 @@ ghost use Rattle.std.specs.Prelude.{◌≡◌, ◌↔◌, ◌-◌, ◌+◌, ◌*
 ghost use Rattle.std.specs.Prelude.{vec_len, vec_capacity, Option, Some, None, IfOk, IfSome, IfNone, IsTrue, OnOk, OnErr};
 ghost use Rattle.bs_clause.specs.Literal.{code_of};
 ghost use Rattle.bs_clause.specs.Range.{HasVariables};
-ghost use Rattle.bs_watch.specs.Trail.{IsTrueOn, IsFalseOn, IsOpenOn, IsAssignedOn, IsValueOn, IsFirstOpen, AreAssignedBelow};
+ghost use Rattle.bs_watch.specs.Trail.{IsTrueOn, IsFalseOn, IsOpenOn, IsAssignedOn, IsValueOn, IsOpenVariable, AreAssignedBelow};
 ghost use Rattle.bs_watch.specs.Places.{IsUnassigned, IsLevelOf, IsForcedBy, HasNoReason, IsLiteralAt, AreApart, literals_of, renamed_place, with_place};
 ghost use Rattle.bs_watch.specs.Tables.{no_cause, HasValues};
 
 use crate::cause::Cause;
+use crate::decision::{first_in, grow_order, new_order, put_back, stays_ordered};
 use crate::renaming::rename_causes;
 use crate::tables::{
-    lower, make_room, next_open, no_causes, no_values, push_cause, push_literal, push_values,
-    set_cause, set_value, up_to,
+    make_room, no_causes, no_values, push_cause, push_literal, push_values, set_cause, set_value,
 };
 use bs_arena::{Ref, Renaming};
 use bs_clause::{Lit, NoMemory, Var};
+use bs_solve_order::Order;
 use std::alloc::Global;
 use std::marker::Model;
 
 /// The literals that are true, in the order in which they were assigned, over the variables 1 to
-/// `vars`. Values stand by literal code, causes by variable. Each variable below `first` has a
-/// value.
+/// `vars`. Values stand by literal code, causes by variable. From a search's first decision until its
+/// trail goes back below the first level, each variable without a value waits in the order of decisions.
 #[derive(Drop)]
 pub struct Trail {
     vars: u32,
     values: Vec<bool>,
     causes: Vec<Cause>,
     literals: Vec<Lit>,
-    first: u32,
+    order: Order,
+    is_ordered: bool,
 }
 
 impl Model for Trail {
@@ -39,7 +41,7 @@ impl Model for Trail {
 
     ghost view = { λ t. record { vars = t.vars; places = places_in t.causes.items t.literals.items } };
 
-    ghost invariant = { λ t. IsTrail t.vars t.values.items t.causes.items t.literals.items t.first (vec_capacity t.literals) };
+    ghost invariant = { λ t. IsTrail t.vars t.values.items t.causes.items t.literals.items t.order t.is_ordered (vec_capacity t.literals) };
 }
 
 impl Trail {
@@ -52,12 +54,14 @@ impl Trail {
         let causes = no_causes(alloc, vars as usize + 1)?;
         let mut literals = Vec::new(alloc);
         literals.reserve(vars as usize)?;
+        let order = new_order(alloc, vars)?;
         Ok(Trail {
             vars,
             values,
             causes,
             literals,
-            first: 1,
+            order,
+            is_ordered: false,
         })
     }
 
@@ -76,9 +80,11 @@ impl Trail {
     {
         let vars = self.vars as usize + 1;
         make_room(&mut self.values, &mut self.causes, &mut self.literals, vars)?;
+        grow_order(&mut self.order)?;
         push_values(&mut self.values);
         push_cause(&mut self.causes);
         self.vars += 1;
+        self.is_ordered = false;
         Ok(())
     }
 
@@ -158,17 +164,32 @@ impl Trail {
         }
     }
 
-    /// The lowest variable without a value. The search begins at the first that can be one.
+    /// The variable without a value that comes first in the order of decisions, which is filled where it was given up.
     pub fn first_open(&mut self) -> Option<Var>
         ensures same { self.new ≡ self.old }
         ensures some { IfSome result (λ v.
-            IsFirstOpen (literals_of self.old.places) self.old.vars v.0) }
+            IsOpenVariable (literals_of self.old.places) self.old.vars v.0) }
         ensures none { IfNone result
             (AreAssignedBelow (literals_of self.old.places) (self.old.vars + 1)) }
     {
-        let next = next_open(self.values.as_slice(), self.first, self.vars);
-        self.first = next;
-        up_to(next, self.vars)
+        let first = first_in(&mut self.order, self.is_ordered, self.values.as_slice());
+        self.is_ordered = true;
+        first
+    }
+
+    /// A variable is more active, and comes earlier in the order of decisions.
+    pub fn bump(&mut self, variable: Var)
+        requires { variable.0 ≤ self.old.vars }
+        ensures { self.new ≡ self.old }
+    {
+        self.order.bump(variable.0);
+    }
+
+    /// Earlier bumps count for less.
+    pub fn decay(&mut self)
+        ensures { self.new ≡ self.old }
+    {
+        self.order.decay();
     }
 
     /// Takes the next place. It takes no memory.
@@ -181,13 +202,22 @@ impl Trail {
         push_literal(&mut self.literals, literal);
     }
 
-    /// Goes back to so many places.
-    pub fn cut(&mut self, end: usize)
+    /// Goes back to so many places, the end of a level. The order of decisions is given up with the first level, and what opens
+    /// behind it waits there again.
+    pub fn cut(&mut self, end: usize, level: u32)
         ensures { self.new ≡ record self.old { places = take end self.old.places } }
     {
+        self.leave_order(level);
         while self.literals.len() > end {
             self.undo();
         }
+    }
+
+    // Gives up the order of decisions with the first level.
+    fn leave_order(&mut self, level: u32)
+        ensures { self.new ≡ self.old }
+    {
+        self.is_ordered = stays_ordered(self.is_ordered, level);
     }
 
     // Gives up the newest place.
@@ -201,7 +231,7 @@ impl Trail {
         let literal = self.literals[last];
         set_value(&mut self.values, literal, false);
         self.literals.truncate(last);
-        self.first = lower(self.first, literal.var().0);
+        put_back(&mut self.order, self.is_ordered, literal.var());
     }
 
     /// Each reason has its new reference.

@@ -1,6 +1,6 @@
 //! A trail with levels and reasons, and the watched literals of clauses.
 ghost use Rattle.std.specs.Prelude.{◌≡◌, ◌+◌, ◌*◌, ◌^◌, ◌<◌, ◌≤◌, [], length, take, slice_get, option_map, IfOk, IfSome, IfNone, IsSome, IsPermutation, OnOk, OnErr};
-ghost use Rattle.bs_watch.specs.Trail.{IsAssignedOn, IsValueOn, IsFirstOpen, AreAssignedBelow};
+ghost use Rattle.bs_watch.specs.Trail.{IsAssignedOn, IsValueOn, IsOpenVariable, AreAssignedBelow};
 ghost use Rattle.bs_watch.specs.Places.{IsUnassigned, IsLevelOf, IsForcedBy, HasNoReason, AreApart, literals_of};
 ghost use Rattle.bs_watch.specs.Scene.{IsWatchable, Advances, Propagated, KeepsRoom};
 ghost use Rattle.bs_clause.specs.Range.{HasVariables};
@@ -211,16 +211,30 @@ impl Watch {
         self.trail.reason(lit)
     }
 
-    /// The lowest variable without a value. The search begins where it ended before, and goes back
-    /// only as far as the trail does.
+    /// The variable without a value that comes first in the order of decisions: the most active one, and of those the lowest.
     pub fn first_open(&mut self) -> Option<Var>
         ensures same { self.new ≡ self.old }
         ensures some { IfSome result (λ v.
-            IsFirstOpen (literals_of self.old.trail.places) self.old.trail.vars v.0) }
+            IsOpenVariable (literals_of self.old.trail.places) self.old.trail.vars v.0) }
         ensures none { IfNone result
             (AreAssignedBelow (literals_of self.old.trail.places) (self.old.trail.vars + 1)) }
     {
         self.trail.first_open()
+    }
+
+    /// A variable had a part in a conflict: it comes earlier in the order of decisions. Nothing that a contract sees changes.
+    pub fn bump(&mut self, variable: Var)
+        requires { variable.0 ≤ self.old.trail.vars }
+        ensures { self.new ≡ self.old }
+    {
+        self.trail.bump(variable);
+    }
+
+    /// A conflict is over: parts in it and in those before count for less. Nothing that a contract sees changes.
+    pub fn decay(&mut self)
+        ensures { self.new ≡ self.old }
+    {
+        self.trail.decay();
     }
 
     /// What holds of every watch.
@@ -315,7 +329,7 @@ impl Watch {
         if (level as usize) < self.levels.len() {
             let begun = self.levels[level as usize];
             self.levels.truncate(level as usize);
-            self.trail.cut(begun.start);
+            self.trail.cut(begun.start, level);
             self.head = begun.looked;
             self.span = cut(self.span, begun.start);
         }

@@ -6,7 +6,7 @@ use Rattle.bs_solve_search.proofs.blocking.open_at.Goals as goal
 pub cancel_to-requires : goal.cancel_to-requires
 cancel_to-requires c =
     let (v, b) = back_open c.args.watch.now (literals_at c.args.arena.now.clauses c.args.r) c.args.level c.holds_levels.ensures.levels
-    c.holds_levels.ensures.apart c.requires.spot in
+    c.holds_levels.ensures.apart c.requires.retreat in
     let high = b.high in omega (arith, high)
 
 pub join-requires-clause-serves : goal.join-requires-clause-serves
@@ -15,13 +15,13 @@ join-requires-clause-serves c = c.cancel_to.ensures.serves.keeps c.args.arena.no
 pub join-requires-clause-guarded : goal.join-requires-clause-guarded
 join-requires-clause-guarded c = λ two.
     let (v, b) = back_open c.args.watch.now (literals_at c.args.arena.now.clauses c.args.r) c.args.level c.holds_levels.ensures.levels
-    c.holds_levels.ensures.apart c.requires.spot in
+    c.holds_levels.ensures.apart c.requires.retreat in
     may_attach_opened c.args.watch.now c.cancel_to.new.self (literals_at c.args.arena.now.clauses c.args.r) c.args.level v b c.cancel_to.ensures.back
 
 pub returns : goal.returns
 returns c =
     let (v, b) = back_open c.args.watch.now (literals_at c.args.arena.now.clauses c.args.r) c.args.level c.holds_levels.ensures.levels
-    c.holds_levels.ensures.apart c.requires.spot in
+    c.holds_levels.ensures.apart c.requires.retreat in
     has_opened c.args.watch.now c.cancel_to.new.self c.join.new.watch c.args.arena.now.clauses c.args.shorts.now.items c.join.new.shorts.items
-    c.args.level c.args.r v (c.requires.watchable c.requires.spot.0.long) b c.cancel_to.ensures.back c.cancel_to.ensures.levels
+    c.args.level c.args.r v (c.requires.watchable c.requires.retreat.0.long) b c.cancel_to.ensures.back c.cancel_to.ensures.levels
     c.cancel_to.ensures.lists c.in_ok-join.ensures

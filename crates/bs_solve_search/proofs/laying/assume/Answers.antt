@@ -4,7 +4,7 @@ use Rattle.bs_watch.specs.Trail.{IsTrueOn}
 use Rattle.bs_watch.specs.Places.{literals_of}
 use Rattle.std.specs.Prelude.{All}
 use Rattle.std.proofs.lemmas.Option.{slice_get_read}
-use Rattle.bs_solve_recording.proofs.Lists.{Contains_from_get}
+use Rattle.bs_watch.proofs.Gets.{Contains_from_get}
 use Rattle.bs_solve_search.specs.Laying.{IsAssumed}
 use Rattle.bs_solve_search.proofs.Layings.{assumed_trans, assumed_next}
 use Rattle.bs_solve_search.proofs.laying.assume.Goals as goal

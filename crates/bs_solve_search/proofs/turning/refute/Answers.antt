@@ -2,7 +2,7 @@ use Rattle.std.proofs.Common.{◌≡◌, ◌∙◌, reverse, map, ap, sym, subst
 use Rattle.bs_clause.specs.Range.{HasVariables}
 use Rattle.bs_log.specs.Refusal.{NoneRefused}
 use Rattle.bs_log.specs.Lean.{LemmasAreLean}
-use Rattle.bs_solve_recording.specs.Walk.{IsLearnt as IsLoggedLearnt}
+use Rattle.bs_solve_recording.specs.Walk.{IsLoggedLearnt}
 use Rattle.bs_solve_recording.specs.Book.{with_lemma}
 use Rattle.bs_solve_recording.proofs.Searching.{have_variables}
 use Rattle.bs_log.specs.declared.origin.Origin.TheVariants.{Learnt as FromConflict}
