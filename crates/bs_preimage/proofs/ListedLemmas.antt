@@ -56,7 +56,7 @@ use Rattle.bs_preimage.specs.Turn.{IsReadable, IsShownIn, IsOneOf, guard_in}
 use Rattle.bs_preimage.specs.Finding.{EndedBy}
 use Rattle.bs_preimage.specs.Order.{IsInOrder}
 use Rattle.bs_preimage.specs.Step.{HasSought, HasMadeStep, assumptions_at, ending_of}
-use Rattle.bs_solve_recording.proofs.Clauses.{contains_first}
+use Rattle.bs_solve_analysis.proofs.Clauses.{contains_first}
 use Rattle.bs_solve_recording.proofs.CallerLemmas.{bound_is, axioms_stand_still, guards_stay_retired}
 use Rattle.std.proofs.Math.Nat.{eq-or-lt_of_le}
 use Rattle.bs_preimage.proofs.OrderLemmas.{in_order_ascend}

@@ -10,7 +10,7 @@ use Rattle.bs_solve_recording.specs.declared.stage.Stage.TheVariants.{Begun, Blo
 use Rattle.bs_solve_recording.specs.Book.{Book, next_id, without}
 use Rattle.bs_solve_recording.specs.Solver.{SolverState, HasEnded, finished, retired, leaving}
 use Rattle.bs_solve_recording.specs.Stages.{is_begun}
-use Rattle.bs_solve_recording.proofs.Clauses.{contains_first}
+use Rattle.bs_solve_analysis.proofs.Clauses.{contains_first}
 use Rattle.bs_encode.specs.Encoded.{Encoded}
 use Rattle.bs_encode.specs.Assuming.{assumptions_for, asking}
 use Rattle.bs_preimage.specs.Preimage.{next_guard}

@@ -18,7 +18,7 @@ use Rattle.bs_log.specs.History.{History, step_of}
 use Rattle.bs_log.specs.Steps.{steps_of, onto_step, block_of_line, finish_of_line, last_solve, is_spent}
 use Rattle.bs_solve_recording.specs.Book.{Book, without}
 use Rattle.bs_solve_recording.specs.Solver.{SolverState}
-use Rattle.bs_solve_recording.proofs.Clauses.{contains_cases, contains_first, cons_contains, nothing_in}
+use Rattle.bs_solve_analysis.proofs.Clauses.{contains_cases, contains_first, cons_contains, nothing_in}
 use Rattle.bs_report.specs.declared.report.Cand.{Cand}
 use Rattle.bs_report.specs.declared.report.ListEnd.{ListEnd}
 use Rattle.bs_report.specs.declared.report.ListEnd.TheVariants.{Finished, Candidates, Conflicts}

@@ -20,7 +20,7 @@ use Rattle.bs_solve_recording.specs.Search.{assumed}
 use Rattle.bs_solve_recording.specs.Stages.{is_begun, begun_book}
 use Rattle.bs_solve_recording.specs.Solver.{SolverState, HasSolved, HasBlocked, Follows}
 use Rattle.bs_solve_recording.specs.Values.{value_of}
-use Rattle.bs_solve_recording.proofs.Clauses.{all_from}
+use Rattle.bs_solve_analysis.proofs.Clauses.{all_from}
 use Rattle.bs_encode.specs.Encoded.{Encoded}
 use Rattle.bs_encode.specs.Assuming.{signed, block_for}
 use Rattle.bs_encode.specs.Cycle.{bits_on}

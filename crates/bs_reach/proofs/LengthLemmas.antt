@@ -23,7 +23,7 @@ use Rattle.bs_solve_recording.specs.Search.{assumed}
 use Rattle.bs_solve_recording.specs.Stages.{begun_book}
 use Rattle.bs_solve_recording.specs.Solver.{SolverState, HasSolved, HasEnded, finished, retired, leaving}
 use Rattle.bs_solve_recording.specs.Values.{value_of}
-use Rattle.bs_solve_recording.proofs.Clauses.{all_from, contains_first}
+use Rattle.bs_solve_analysis.proofs.Clauses.{all_from, contains_first}
 use Rattle.bs_solve_recording.proofs.CallerLemmas.{open_are_lemmas, solved_keeps, bound_is, axioms_stand_still, guards_stay_retired}
 use Rattle.bs_encode.specs.Tables.{lit}
 use Rattle.bs_encode.specs.Encoded.{Encoded}
