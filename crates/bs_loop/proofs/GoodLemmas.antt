@@ -24,13 +24,19 @@ use Rattle.bs_report.specs.declared.report.Budgets.{Budgets}
 use Rattle.bs_report.specs.declared.report.Report.{Report}
 use Rattle.bs_report_good.proofs.LoggedLemmas.{good_is_valid}
 use Rattle.bs_report_good.specs.Chain.{present_of}
-use Rattle.bs_report_good.specs.Trace.{IsTrace}
+use Rattle.bs_report_good.specs.Trace.{IsTrace, trace_inputs, trace_states}
+use Rattle.bs_report.specs.declared.report.Stop.{Stop}
 use Rattle.bs_report_good.specs.Stop.{StopsFor}
 use Rattle.bs_report_good.specs.Good.{IsGood}
 use Rattle.bs_report_good.specs.Valid.{finishes_in, is_right_finish, IsLogged, IsValid}
 use Rattle.bs_preimage.specs.Preimage.{PreimageState}
 use Rattle.bs_loop.specs.Made.{encoding_in, guard_at, IsLoggedStep}
 use Rattle.bs_loop.specs.Bound.{HasBound}
+use Rattle.bs_solve.specs.Budget.{HasFewLemmas}
+use Rattle.bs_scan.specs.Crash.{IsCrash}
+use Rattle.bs_report_good.specs.Progress.{GoesBack}
+use Rattle.bs_report_good.proofs.EndLemmas.{goes_back}
+use Rattle.bs_loop.specs.Report.{IsOfWay, IsAlikeButLog}
 use Rattle.bs_loop.specs.Way.{HasEnded}
 
 -- the report of a way that has ended
@@ -40,6 +46,27 @@ pub record IsReportOf (crash : Crash) (budgets : Budgets) (s : PreimageState) (r
   pub asked : r.budgets ≡ budgets
   pub trace : IsTrace crash r
   pub log : history_of r.log ≡ s.history
+
+-- the report of a way, with its log
+pub report_is : (r : Recording) (dump : Dump) (budgets : Budgets) (s : PreimageState) (before after : Report) → DumpFits r.circuit r.choice dump →
+    HasEnded (crash_of r dump) budgets before.steps s before.stop → IsOfWay dump budgets before.steps before.stop before → IsAlikeButLog before after →
+    history_of after.log ≡ s.history → IsReportOf (crash_of r dump) budgets s after
+report_is r dump budgets s before after fits ended way alike log =
+    record {
+      ended = subst (λ (l : List Step). HasEnded (crash_of r dump) budgets l s after.stop) (sym alike.steps_are)
+          (subst (λ (stop : Stop). HasEnded (crash_of r dump) budgets before.steps s stop) (sym alike.stop_is) ended);
+      depth = alike.depth ∙ (way.depth ∙ fits.depth);
+      asked = alike.asked ∙ way.asked;
+      trace = record {
+        states = alike.states ∙ (way.states ∙ ap (trace_states dump.state) (sym alike.steps_are));
+        inputs = alike.inputs ∙ (way.inputs ∙ ap trace_inputs (sym alike.steps_are));
+      };
+      log = log;
+    }
+
+pub report_goes_back : (crash : Crash) (budgets : Budgets) (s : PreimageState) (r : Report) → IsCrash crash → IsReportOf crash budgets s r → IsGood crash r →
+    GoesBack r
+report_goes_back crash budgets s r is of good = goes_back crash r is good of.ended.made.back
 
 pub logged_in : (crash : Crash) (budgets : Budgets) (s : PreimageState) (r : Report) → IsReportOf crash budgets s r →
     (i : ℕ) (step : Step) → slice_get r.steps i ≡ Some step → IsLoggedStep crash r.budgets i (slice_index_or (steps_of r.log) i []) step
@@ -106,6 +133,8 @@ pub has_bound : (crash : Crash) (budgets : Budgets) (s : PreimageState) (r : Rep
     HasBound (problem_of (encoding_in crash) (map present_of r.steps)) r
 has_bound crash budgets s r of =
     record {
+      few = subst (λ (b : Budgets). HasFewLemmas b.conflicts (history_of r.log)) (sym of.asked)
+          (subst (HasFewLemmas budgets.conflicts) (sym of.log) of.ended.made.few);
       bound = λ i step is conflicts run within unit.
           (logged_in crash budgets s r of i step is).bound conflicts run within
           (subst (λ (c : Clause). IsUnitRun (encoding_in crash).clauses c run) (sym (assumed crash r.steps i step is)) unit);

@@ -1,3 +1,4 @@
+pub mod RecordedLemmas
 pub mod MadeLemmas
 pub mod StopLemmas
 pub mod MeetLemmas

@@ -1,8 +1,9 @@
 -- One more step of a backtrace.
-use Rattle.std.proofs.Common.{◌≡◌, ℕ, suc, zero, ◌+◌, ◌-◌, ◌<◌, ◌^◌, Bool, true, Option, List, [], ◌∷◌, ◌++◌, map, length, reverse, refl, ap, subst, sym}
-use Rattle.std.proofs.Common.{◌∙◌, Some, arith}
-use Rattle.std.specs.Prelude.{slice_get, slice_index_or}
+use Rattle.std.proofs.Common.{◌≡◌, ℕ, suc, zero, ◌+◌, ◌-◌, ◌<◌, ◌≤◌, ◌^◌, Bool, true, Option, List, [], ◌∷◌, ◌++◌, map, length, reverse, refl, ap, subst, sym}
+use Rattle.std.proofs.Common.{◌∙◌, Some, None, arith}
+use Rattle.std.specs.Prelude.{slice_get, slice_index_or, option_map, option_and_then}
 use Rattle.std.specs.Option.{option_to_list}
+use Rattle.std.specs.List.{last_or}
 use Rattle.std.proofs.lemmas.List.{length-append, length-map, map-append}
 use Rattle.std.proofs.lemmas.List.Elements.{All-append, All-from_recursion}
 use Rattle.bs_clause.specs.UnitRun.{IsUnitRun}
@@ -19,19 +20,24 @@ use Rattle.bs_chip.specs.declared.replay.Hit.{Hit}
 use Rattle.bs_encode.specs.Tables.{lit}
 use Rattle.bs_encode.specs.Assuming.{assumptions_for, block_for, steps_from, problem_of}
 use Rattle.bs_encode.proofs.AssumingLemmas.{length_steps_from, steps_from_more}
-use Rattle.bs_report.specs.declared.report.ListEnd.TheVariants.{Conflicts}
+use Rattle.bs_scan.specs.Moments.{Moment, moment}
+use Rattle.bs_report.specs.declared.report.HitLine.{HitLine}
+use Rattle.bs_report.specs.declared.report.ListEnd.TheVariants.{Candidates, Conflicts}
 use Rattle.bs_report.specs.declared.report.Step.{Step}
 use Rattle.bs_report.specs.declared.report.Budgets.{Budgets}
 use Rattle.bs_report.specs.Text.{IsOfDepth}
 use Rattle.bs_report_good.specs.Step.{IsRightStep}
 use Rattle.bs_report_good.specs.Chain.{present_of}
 use Rattle.bs_report_good.specs.Valid.{HaveBefores, blocks_due, are_right_blocks, blocks_in, is_right_finish, finishes_in}
-use Rattle.bs_report_good.proofs.LoopLemmas.{follow_more}
+use Rattle.bs_report_good.specs.Progress.{ListsBefore}
+use Rattle.bs_report_good.proofs.LoopLemmas.{follow_more, before_more}
 use Rattle.bs_preimage.specs.declared.listing.Listing.{Listing}
 use Rattle.bs_preimage.specs.Preimage.{PreimageState, next_guard}
 use Rattle.bs_preimage.specs.Listed.{HasListed}
 use Rattle.bs_loop.specs.Made.{encoding_in, guard_at, IsLoggedStep, state_after, HasMade, StandsAt}
+use Rattle.bs_loop.specs.Recorded.{cand_at, known_before, last_moment}
 use Rattle.bs_loop.specs.Turn.{step_of, HasLookedBack, IsStepBack}
+use Rattle.bs_loop.proofs.RecordedLemmas.{known_is}
 
 -- ---- the lines of the steps
 
@@ -66,18 +72,33 @@ problem_more crash steps step =
     ∙ sym (steps_from_more e 1 qs (present_of step))
     ∙ ap (steps_from e 1) (sym (map-append present_of steps (step ∷ [])))
 
-step_made : (r : Recording) (dump : Dump) (budgets : Budgets) (steps : List Step) (old new : PreimageState) (now : Dump) (stored : List Bool)
-    (listing : Listing) (hit : Option Hit) →
-    HasMade (crash_of r dump) budgets steps old → StandsAt (crash_of r dump) steps now → DumpFits r.circuit r.choice now →
+-- the moment before the last hit is known, and so a list that ends by its count has it
+lists_before : (r : Recording) (dump : Dump) (steps : List Step) (old new : PreimageState) (now : Dump) (at : Option Moment) (stored : List Bool)
+    (k b : ℕ) (listing : Listing) (hit : Option Hit) → at ≡ last_moment steps →
+    HasListed old new now.state stored now.older (known_before r at) k b listing → (earlier : Step) → last_or None steps ≡ Some earlier →
+    listing.end ≡ Candidates → ListsBefore (crash_of r dump) earlier (step_of now stored listing hit)
+lists_before r dump steps old new now at stored k b listing hit last l earlier there ended =
+    record {
+      before = λ h is low.
+          let here : at ≡ Some (moment h.run h.cycle) =
+          last ∙ (ap (option_and_then (λ (s : Step). option_map (λ (x : HitLine). moment x.run x.cycle) s.hit)) there
+          ∙ ap (option_map (λ (x : HitLine). moment x.run x.cycle)) is) in
+          l.with_known (cand_at r h.run (h.cycle - 1)) (ap (known_before r) here ∙ known_is r h.run h.cycle low) ended;
+    }
+
+step_made : (r : Recording) (dump : Dump) (budgets : Budgets) (steps : List Step) (old new : PreimageState) (now : Dump) (at : Option Moment)
+    (stored : List Bool) (listing : Listing) (hit : Option Hit) →
+    HasMade (crash_of r dump) budgets steps old → StandsAt (crash_of r dump) steps now → DumpFits r.circuit r.choice now → at ≡ last_moment steps →
     signatures_of now ≡ stored ∷ option_to_list now.older →
-    HasLookedBack r budgets old new now stored listing hit →
+    HasLookedBack r budgets old new now stored (known_before r at) listing hit →
     HasMade (crash_of r dump) budgets (steps ++ step_of now stored listing hit ∷ []) new
-step_made r dump budgets steps old new now stored listing hit made stands fits held back =
+step_made r dump budgets steps old new now at stored listing hit made stands fits last held back =
     let crash : Crash = crash_of r dump in
     let step : Step = step_of now stored listing hit in
     let more : List Step = steps ++ step ∷ [] in
-    let l : HasListed (state_after crash steps old.history) new now.state stored now.older budgets.candidates budgets.conflicts listing =
-    subst (λ (s : PreimageState). HasListed s new now.state stored now.older budgets.candidates budgets.conflicts listing) made.state back.listed in
+    let l : HasListed (state_after crash steps old.history) new now.state stored now.older (known_before r at) budgets.candidates budgets.conflicts listing =
+    subst (λ (s : PreimageState). HasListed s new now.state stored now.older (known_before r at) budgets.candidates budgets.conflicts listing)
+    made.state back.listed in
     let problem : new.problem ≡ problem_of (encoding_in crash) (map present_of more) =
     λ i. record { vars = l.goes_on.vars i; clauses = l.goes_on.clauses i; steps = (l.steps ∙ problem_more crash steps step) i } in
     let calls : new.calls ≡ length more =
@@ -113,6 +134,9 @@ step_made r dump budgets steps old new now stored listing hit made stands fits h
           (All-from_recursion (λ (step : Step). IsOfDepth (depth_of crash.choice) step.older) (step ∷ []) (λ one. fits.sound.alone (fits.depth ∙ one), tt));
       befores = All-append (λ (step : Step). HaveBefores crash.circuit crash.choice step.older step.cands) steps (step ∷ []) made.befores
           (All-from_recursion (λ (step : Step). HaveBefores crash.circuit crash.choice step.older step.cands) (step ∷ []) (l.befores, tt));
+      back = before_more crash steps step made.back
+          (lists_before r dump steps (state_after crash steps old.history) new now at stored budgets.candidates budgets.conflicts listing hit last l);
+      few = l.few made.few;
       follow = follow_more crash (Some (present_in crash.dump)) steps step made.follow (stands ∙ ap Some present);
       count =
           ap length l.step_lines
@@ -125,10 +149,11 @@ step_made r dump budgets steps old new now stored listing hit made stands fits h
           (at_more (λ i ls s. IsLoggedStep crash budgets i ls s) steps step (steps_of (reverse old.history)) l.lines made.count made.logged logged);
     }
 
-pub made_more : (r : Recording) (dump : Dump) (budgets : Budgets) (steps : List Step) (old new : PreimageState) (now : Dump) (step : Step) (hit : Option Hit) →
-    HasMade (crash_of r dump) budgets steps old → StandsAt (crash_of r dump) steps now → DumpFits r.circuit r.choice now →
-    IsStepBack r budgets old new now step hit →
+pub made_more : (r : Recording) (dump : Dump) (budgets : Budgets) (steps : List Step) (old new : PreimageState) (now : Dump) (at : Option Moment)
+    (step : Step) (hit : Option Hit) →
+    HasMade (crash_of r dump) budgets steps old → StandsAt (crash_of r dump) steps now → DumpFits r.circuit r.choice now → at ≡ last_moment steps →
+    IsStepBack r budgets old new now at step hit →
     HasMade (crash_of r dump) budgets (steps ++ step ∷ []) new
-made_more r dump budgets steps old new now step hit made stands fits is =
+made_more r dump budgets steps old new now at step hit made stands fits last is =
     subst (λ (s : Step). HasMade (crash_of r dump) budgets (steps ++ s ∷ []) new) (sym is.step_is)
-    (step_made r dump budgets steps old new now is.stored is.listing hit made stands fits is.held is.back)
+    (step_made r dump budgets steps old new now at is.stored is.listing hit made stands fits last is.held is.back)

@@ -18,11 +18,8 @@ use Rattle.bs_report.specs.declared.report.Budgets.{Budgets}
 use Rattle.bs_scan.specs.Crash.{Crash}
 use Rattle.bs_report_good.specs.Stop.{IsFinished, LastIs, StopsFor}
 use Rattle.bs_report_good.specs.Valid.{cause_of_end}
+use Rattle.bs_report_good.proofs.LoopLemmas.{last_more}
 use Rattle.bs_loop.specs.Made.{StandsAt}
-
-last_more : (o : Option Step) (steps : List Step) (step : Step) → last_or o (steps ++ step ∷ []) ≡ Some step
-last_more o [] step = refl
-last_more o (s ∷ steps) step = last_more (Some s) steps step
 
 last_is : (P : Step → Type 0) (steps : List Step) (step : Step) → P step → LastIs (steps ++ step ∷ []) P
 last_is P steps step p = subst (λ (o : Option Step). IsSomeAnd o P) (sym (last_more None steps step)) p

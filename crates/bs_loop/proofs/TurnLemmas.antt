@@ -12,17 +12,20 @@ use Rattle.bs_report.specs.declared.report.Budgets.{Budgets}
 use Rattle.bs_report_good.specs.Valid.{cause_of_end}
 use Rattle.bs_preimage.specs.declared.listing.Listing.{Listing}
 use Rattle.bs_preimage.specs.Preimage.{PreimageState}
+use Rattle.bs_scan.specs.Moments.{Moment, moment}
+use Rattle.bs_loop.specs.Recorded.{known_before}
 use Rattle.bs_loop.specs.Turn.{step_of, HasLookedBack, HasStepped, HasStopped}
 
 -- what a turn has done, where the step stands behind the others, and the present is the moment hit
-turned_here : (r : Recording) (budgets : Budgets) (steps more : List Step) (old new : PreimageState) (now next : Dump) (stored : List Bool)
+turned_here : (r : Recording) (budgets : Budgets) (steps more : List Step) (old new : PreimageState) (now next : Dump)
+    (at next_at : Option Moment) (stored : List Bool)
     (listing : Listing) (step : Step) (hit : Option Hit) (stop : Option Stop) →
-    signatures_of now ≡ stored ∷ option_to_list now.older → HasLookedBack r budgets old new now stored listing hit → step ≡ step_of now stored listing hit →
+    signatures_of now ≡ stored ∷ option_to_list now.older → HasLookedBack r budgets old new now stored (known_before r at) listing hit → step ≡ step_of now stored listing hit →
     more ≡ steps ++ step ∷ [] →
-    MatchOption hit (stop ≡ Some (cause_of_end step step.end)) (λ hit. (stop ≡ None) × (next ≡ hit.dump)) →
-    MatchOption stop (HasStepped r budgets steps more old new now next) (HasStopped r budgets steps more old new now)
-turned_here r budgets steps more old new now next stored listing step None stop held back is made ends =
-    subst (λ (stop : Option Stop). MatchOption stop (HasStepped r budgets steps more old new now next) (HasStopped r budgets steps more old new now)) (sym ends)
+    MatchOption hit (stop ≡ Some (cause_of_end step step.end)) (λ hit. (stop ≡ None) × (next ≡ hit.dump) × (next_at ≡ Some (moment hit.run hit.cycle))) →
+    MatchOption stop (HasStepped r budgets steps more old new now next at next_at) (HasStopped r budgets steps more old new now at)
+turned_here r budgets steps more old new now next at next_at stored listing step None stop held back is made ends =
+    subst (λ (stop : Option Stop). MatchOption stop (HasStepped r budgets steps more old new now next at next_at) (HasStopped r budgets steps more old new now at)) (sym ends)
     (inr
     (record {
       step = step;
@@ -30,8 +33,8 @@ turned_here r budgets steps more old new now next stored listing step None stop 
       made = made;
       cause = refl;
     }))
-turned_here r budgets steps more old new now next stored listing step (Some hit) stop held back is made ends =
-    subst (λ (stop : Option Stop). MatchOption stop (HasStepped r budgets steps more old new now next) (HasStopped r budgets steps more old new now))
+turned_here r budgets steps more old new now next at next_at stored listing step (Some hit) stop held back is made ends =
+    subst (λ (stop : Option Stop). MatchOption stop (HasStepped r budgets steps more old new now next at next_at) (HasStopped r budgets steps more old new now at))
     (sym ends.0)
     (record {
       step = step;
@@ -39,14 +42,16 @@ turned_here r budgets steps more old new now next stored listing step (Some hit)
       back = record { stored = stored; held = held; listing = listing; back = back; step_is = is };
       made = made;
       there = ends.1;
+      next_is = ends.2;
     })
 
-pub turned : {E : Type 0} (r : Recording) (budgets : Budgets) (steps more : List Step) (old new : PreimageState) (now next : Dump) (stored : List Bool)
+pub turned : {E : Type 0} (r : Recording) (budgets : Budgets) (steps more : List Step) (old new : PreimageState) (now next : Dump)
+    (at next_at : Option Moment) (stored : List Bool)
     (listing : Listing) (step : Step) (hit : Option Hit) (result : Result (Option Stop) E) →
-    signatures_of now ≡ stored ∷ option_to_list now.older → HasLookedBack r budgets old new now stored listing hit → step ≡ step_of now stored listing hit →
+    signatures_of now ≡ stored ∷ option_to_list now.older → HasLookedBack r budgets old new now stored (known_before r at) listing hit → step ≡ step_of now stored listing hit →
     IfOk result (λ _. more ≡ steps ++ step ∷ []) →
-    IfOk result (λ stop. MatchOption hit (stop ≡ Some (cause_of_end step step.end)) (λ hit. (stop ≡ None) × (next ≡ hit.dump))) →
-    IfOk result (λ stop. MatchOption stop (HasStepped r budgets steps more old new now next) (HasStopped r budgets steps more old new now))
-turned r budgets steps more old new now next stored listing step hit (Ok stop) held back is made ends =
-    turned_here r budgets steps more old new now next stored listing step hit stop held back is made ends
-turned r budgets steps more old new now next stored listing step hit (Err want) held back is made ends = tt
+    IfOk result (λ stop. MatchOption hit (stop ≡ Some (cause_of_end step step.end)) (λ hit. (stop ≡ None) × (next ≡ hit.dump) × (next_at ≡ Some (moment hit.run hit.cycle)))) →
+    IfOk result (λ stop. MatchOption stop (HasStepped r budgets steps more old new now next at next_at) (HasStopped r budgets steps more old new now at))
+turned r budgets steps more old new now next at next_at stored listing step hit (Ok stop) held back is made ends =
+    turned_here r budgets steps more old new now next at next_at stored listing step hit stop held back is made ends
+turned r budgets steps more old new now next at next_at stored listing step hit (Err want) held back is made ends = tt

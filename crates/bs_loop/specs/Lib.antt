@@ -2,6 +2,8 @@
 pub mod Budget
 pub mod Bound
 -- what inner functions promise each other
+pub mod Recorded
 pub mod Made
 pub mod Turn
 pub mod Way
+pub mod Report

@@ -20,6 +20,8 @@ use Rattle.bs_report.specs.Text.{IsOfDepth}
 use Rattle.bs_scan.specs.Crash.{Crash}
 use Rattle.bs_report_good.specs.Step.{asked_of, IsRightStep, IsRightEnd}
 use Rattle.bs_report_good.specs.Chain.{present_of, last_present, Follow}
+use Rattle.bs_report_good.specs.Progress.{ListBefore}
+use Rattle.bs_solve.specs.Budget.{HasFewLemmas}
 use Rattle.bs_report_good.specs.Valid.{HaveBefores, blocks_due, are_right_blocks, blocks_in, is_right_finish, finishes_in}
 use Rattle.bs_preimage.specs.Preimage.{PreimageState}
 
@@ -53,13 +55,16 @@ state_after crash steps history =
       failed = false;
     }
 
--- each step is right, and follows from the one before; the log has the lines of each
+-- each step is right, and follows from the one before; a list that ended by its count has the moment before the hit of the
+-- step before; the log has the lines of each
 pub record HasMade (crash : Crash) (budgets : Budgets) (steps : List Step) (s : PreimageState) : Type 0 where
   pub state : s ≡ state_after crash steps s.history
   pub right : All (IsRightStep crash) steps
   pub older : All (λ step. IsOfDepth (depth_of crash.choice) step.older) steps
   pub befores : All (λ step. HaveBefores crash.circuit crash.choice step.older step.cands) steps
   pub follow : Follow crash (Some (present_in crash.dump)) steps
+  pub back : ListBefore crash steps
+  pub few : HasFewLemmas budgets.conflicts s.history
   pub count : length (steps_of (reverse s.history)) ≡ length steps
   pub logged : (i : ℕ) (step : Step) → slice_get steps i ≡ Some step →
       IsLoggedStep crash budgets i (slice_index_or (steps_of (reverse s.history)) i []) step

@@ -4,8 +4,9 @@ use Rattle.std.specs.Option.{option_to_list}
 use Rattle.bs_scan.specs.declared.dump.Dump.{Dump}
 use Rattle.bs_scan.specs.Crash.{Recording, crash_of, dump_at}
 use Rattle.bs_scan.specs.Dump.{signatures_of}
-use Rattle.bs_scan.specs.Moments.{moment}
+use Rattle.bs_scan.specs.Moments.{Moment, moment}
 use Rattle.bs_chip.specs.declared.replay.Hit.{Hit}
+use Rattle.bs_report.specs.declared.report.Cand.{Cand}
 use Rattle.bs_report.specs.declared.report.HitLine.{HitLine}
 use Rattle.bs_report.specs.declared.report.Step.{Step}
 use Rattle.bs_report.specs.declared.report.Stop.{Stop}
@@ -16,6 +17,7 @@ use Rattle.bs_report_good.specs.Valid.{cause_of_end}
 use Rattle.bs_preimage.specs.declared.listing.Listing.{Listing}
 use Rattle.bs_preimage.specs.Preimage.{PreimageState}
 use Rattle.bs_preimage.specs.Listed.{HasListed}
+use Rattle.bs_loop.specs.Recorded.{known_before}
 
 -- the hit line of a hit
 abbrev pub line_of : Hit → HitLine
@@ -25,10 +27,10 @@ line_of hit = record { run = hit.run; cycle = hit.cycle; state = hit.dump.state 
 abbrev pub HasItsDump : Recording → Hit → Type 0
 HasItsDump r hit = hit.dump ≡ dump_at r (moment hit.run hit.cycle)
 
--- a list for a present and its stored signatures, and the first moment of a run in a listed state
-pub record HasLookedBack (r : Recording) (budgets : Budgets) (old new : PreimageState) (now : Dump) (stored : List Bool) (listing : Listing)
-    (hit : Option Hit) : Type 0 where
-  pub listed : HasListed old new now.state stored now.older budgets.candidates budgets.conflicts listing
+-- a list for a present and its stored signatures, where a candidate may be known, and the first moment of a run in a listed state
+pub record HasLookedBack (r : Recording) (budgets : Budgets) (old new : PreimageState) (now : Dump) (stored : List Bool) (known : Option Cand)
+    (listing : Listing) (hit : Option Hit) : Type 0 where
+  pub listed : HasListed old new now.state stored now.older known budgets.candidates budgets.conflicts listing
   pub calls : new.calls ≡ old.calls + 1
   pub line : option_map line_of hit ≡ hit_of (crash_of r now) listing.cands
   pub dump : (h : Hit) → hit ≡ Some h → HasItsDump r h
@@ -38,21 +40,24 @@ abbrev pub step_of : Dump → List Bool → Listing → Option Hit → Step
 step_of now stored listing hit =
     record { present = now.state; stored = stored; older = now.older; cands = listing.cands; end = listing.end; hit = option_map line_of hit }
 
--- a step back from a present, and the moment that it hit
-pub record IsStepBack (r : Recording) (budgets : Budgets) (old new : PreimageState) (now : Dump) (step : Step) (hit : Option Hit) : Type 0 where
+-- a step back from a present, which may be at a moment, and the moment that it hit
+pub record IsStepBack (r : Recording) (budgets : Budgets) (old new : PreimageState) (now : Dump) (at : Option Moment) (step : Step)
+    (hit : Option Hit) : Type 0 where
   pub stored : List Bool
   pub held : signatures_of now ≡ stored ∷ option_to_list now.older
   pub listing : Listing
-  pub back : HasLookedBack r budgets old new now stored listing hit
+  pub back : HasLookedBack r budgets old new now stored (known_before r at) listing hit
   pub step_is : step ≡ step_of now stored listing hit
 
 -- one more step, with a hit, whose moment is the next present
-pub record HasStepped (r : Recording) (budgets : Budgets) (steps more : List Step) (old new : PreimageState) (now next : Dump) : Type 0 where
+pub record HasStepped (r : Recording) (budgets : Budgets) (steps more : List Step) (old new : PreimageState) (now next : Dump)
+    (at next_at : Option Moment) : Type 0 where
   pub step : Step
   pub hit : Hit
-  pub back : IsStepBack r budgets old new now step (Some hit)
+  pub back : IsStepBack r budgets old new now at step (Some hit)
   pub made : more ≡ steps ++ step ∷ []
   pub there : next ≡ hit.dump
+  pub next_is : next_at ≡ Some (moment hit.run hit.cycle)
 
 -- the present has no stored signature, and no step is made
 pub record IsAtReset (steps more : List Step) (old new : PreimageState) (now : Dump) (stop : Stop) : Type 0 where
@@ -62,12 +67,13 @@ pub record IsAtReset (steps more : List Step) (old new : PreimageState) (now : D
   pub rest : new ≡ old
 
 -- one more step, without a hit
-pub record IsUnhit (r : Recording) (budgets : Budgets) (steps more : List Step) (old new : PreimageState) (now : Dump) (stop : Stop) : Type 0 where
+pub record IsUnhit (r : Recording) (budgets : Budgets) (steps more : List Step) (old new : PreimageState) (now : Dump) (at : Option Moment)
+    (stop : Stop) : Type 0 where
   pub step : Step
-  pub back : IsStepBack r budgets old new now step None
+  pub back : IsStepBack r budgets old new now at step None
   pub made : more ≡ steps ++ step ∷ []
   pub cause : stop ≡ cause_of_end step step.end
 
-abbrev pub HasStopped : Recording → Budgets → List Step → List Step → PreimageState → PreimageState → Dump → Stop → Type 0
-HasStopped r budgets steps more old new now stop =
-    IsAtReset steps more old new now stop ⊎ IsUnhit r budgets steps more old new now stop
+abbrev pub HasStopped : Recording → Budgets → List Step → List Step → PreimageState → PreimageState → Dump → Option Moment → Stop → Type 0
+HasStopped r budgets steps more old new now at stop =
+    IsAtReset steps more old new now stop ⊎ IsUnhit r budgets steps more old new now at stop

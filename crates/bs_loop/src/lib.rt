@@ -8,6 +8,7 @@
 //! `specs/Way`.
 #![tactic(auto)]
 
+mod recorded;
 mod steps;
 mod stop;
 mod trace;

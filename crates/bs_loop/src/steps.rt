@@ -1,18 +1,22 @@
 //! One step back: the list of the states before the present one, and the first moment of a run in a listed state.
-ghost use Rattle.std.specs.Prelude.{◌≡◌, ◌<◌, ◌∷◌, ◌++◌, [], IfOk, MatchOption, option_map};
+ghost use Rattle.std.specs.Prelude.{◌≡◌, ◌<◌, ◌∷◌, ◌++◌, [], IfOk, IfSome, MatchOption, option_map};
 ghost use Rattle.std.specs.Option.{option_to_list};
 ghost use Rattle.bs_scan.specs.Crash.{DumpFits};
 ghost use Rattle.bs_scan.specs.Dump.{signatures_of};
+ghost use Rattle.bs_scan.specs.Moments.{moment};
+ghost use Rattle.bs_preimage.specs.Listed.{IsRightCand};
 ghost use Rattle.bs_report_good.specs.Valid.{cause_of_end};
 ghost use Rattle.bs_loop.specs.Budget.{IsBudget};
+ghost use Rattle.bs_loop.specs.Recorded.{StandsIn, known_before};
 ghost use Rattle.bs_loop.specs.Turn.{line_of, step_of, HasLookedBack, HasStepped, HasStopped};
 
+use crate::recorded::known_before;
 use crate::stop::cause_after;
 use bs_bits::{Bits, List, NoMemory};
 use bs_chip::{Chip, Hit};
 use bs_preimage::{Listing, Preimage};
-use bs_report::{Budgets, HitLine, MAX_STEPS, Step, Stop};
-use bs_scan::Dump;
+use bs_report::{Budgets, Cand, HitLine, MAX_STEPS, Step, Stop};
+use bs_scan::{Dump, Moment};
 use std::alloc::Global;
 
 /// A list of states, and the first moment of a run in one of them.
@@ -32,22 +36,24 @@ fn lent(signature: &Option<Bits>) -> Option<&Bits>
     }
 }
 
-/// The states before a present that has a stored signature, and the first moment of a run in one of them.
+/// The states before a present that has a stored signature, a known one among them, and the first moment of a run in one of them.
 fn look_back(
     alloc: Global,
     chip: &mut Chip<'_>,
     preimage: &mut Preimage<'_>,
     now: &Dump,
     stored: &Bits,
+    known: &Option<Cand>,
     budgets: &Budgets,
 ) -> Result<Back, NoMemory>
     requires circuit { preimage.old.circuit ≡ chip.old.recording.circuit }
     requires choice { preimage.old.choice ≡ chip.old.recording.choice }
     requires dump { DumpFits chip.old.recording.circuit chip.old.recording.choice now.now }
     requires stored { signatures_of now.now ≡ stored.now ∷ option_to_list now.now.older }
+    requires known { IfSome known.now (IsRightCand chip.old.recording.circuit chip.old.recording.choice now.now.state stored.now now.now.older) }
     requires budgets { IsBudget budgets.now }
     requires calls { preimage.old.calls < MAX_STEPS }
-    ensures back { IfOk result (λ back. HasLookedBack chip.old.recording budgets.now preimage.old preimage.new now.now stored.now back.listing back.hit) }
+    ensures back { IfOk result (λ back. HasLookedBack chip.old.recording budgets.now preimage.old preimage.new now.now stored.now known.now back.listing back.hit) }
     ensures chip { chip.new.recording ≡ chip.old.recording }
 {
     let listing = preimage.list(
@@ -55,6 +61,7 @@ fn look_back(
         &now.state,
         stored,
         lent(&now.older),
+        known,
         budgets.candidates,
         budgets.conflicts,
     )?;
@@ -103,21 +110,49 @@ fn step_of(now: &Dump, stored: Bits, listing: Listing, hit: &Option<Hit>) -> Res
     })
 }
 
+/// What is before a present: the list with the moment before it, where it is a moment of a run, and the first moment hit.
+fn look_from(
+    alloc: Global,
+    chip: &mut Chip<'_>,
+    preimage: &mut Preimage<'_>,
+    now: &Dump,
+    at: Option<Moment>,
+    stored: &Bits,
+    budgets: &Budgets,
+) -> Result<Back, NoMemory>
+    requires circuit { preimage.old.circuit ≡ chip.old.recording.circuit }
+    requires choice { preimage.old.choice ≡ chip.old.recording.choice }
+    requires dump { DumpFits chip.old.recording.circuit chip.old.recording.choice now.now }
+    requires at { IfSome at (StandsIn chip.old.recording now.now) }
+    requires stored { signatures_of now.now ≡ stored.now ∷ option_to_list now.now.older }
+    requires budgets { IsBudget budgets.now }
+    requires calls { preimage.old.calls < MAX_STEPS }
+    ensures back { IfOk result (λ back. HasLookedBack chip.old.recording budgets.now preimage.old preimage.new now.now stored.now (known_before chip.old.recording at) back.listing back.hit) }
+    ensures chip { chip.new.recording ≡ chip.old.recording }
+{
+    chip.is_recording();
+    let known = known_before(alloc, chip, at, now.depth)?;
+    look_back(alloc, chip, preimage, now, stored, &known, budgets)
+}
+
 /// Puts a step to the others. Where it has a hit, the present is now the moment hit; else the cause comes for which the
 /// backtrace stops.
 fn advance(
     steps: &mut List<Step>,
     now: &mut Dump,
+    at: &mut Option<Moment>,
     step: Step,
     hit: Option<Hit>,
 ) -> Result<Option<Stop>, NoMemory>
     ensures steps { IfOk result (λ _. steps.new ≡ steps.old ++ step ∷ []) }
-    ensures stop { IfOk result (λ stop. MatchOption hit (stop ≡ Some (cause_of_end step step.end)) (λ hit. (stop ≡ None) × (now.new ≡ hit.dump))) }
+    ensures stop { IfOk result (λ stop. MatchOption hit (stop ≡ Some (cause_of_end step step.end)) (λ hit. (stop ≡ None) × (now.new ≡ hit.dump) × (at.new ≡ Some (moment hit.run hit.cycle)))) }
 {
     let stop = cause_after(&step);
     steps.push(step)?;
     match hit {
         Some(hit) => {
+            let (run, cycle) = (hit.run, hit.cycle);
+            *at = Some(Moment { run, cycle });
             *now = hit.dump;
             Ok(None)
         }
@@ -126,7 +161,7 @@ fn advance(
 }
 
 /// One turn of a backtrace: the cause for which it stops at the present or after a step; or a step with a hit, which is
-/// the next present.
+/// the next present. Where the present is a moment of a run, its place is at hand.
 pub fn turn(
     alloc: Global,
     chip: &mut Chip<'_>,
@@ -134,20 +169,22 @@ pub fn turn(
     budgets: &Budgets,
     steps: &mut List<Step>,
     now: &mut Dump,
+    at: &mut Option<Moment>,
 ) -> Result<Option<Stop>, NoMemory>
     requires circuit { preimage.old.circuit ≡ chip.old.recording.circuit }
     requires choice { preimage.old.choice ≡ chip.old.recording.choice }
     requires dump { DumpFits chip.old.recording.circuit chip.old.recording.choice now.old }
+    requires at { IfSome at.old (StandsIn chip.old.recording now.old) }
     requires budgets { IsBudget budgets.now }
     requires calls { preimage.old.calls < MAX_STEPS }
-    ensures turn { IfOk result (λ stop. MatchOption stop (HasStepped chip.old.recording budgets.now steps.old steps.new preimage.old preimage.new now.old now.new) (HasStopped chip.old.recording budgets.now steps.old steps.new preimage.old preimage.new now.old)) }
+    ensures turn { IfOk result (λ stop. MatchOption stop (HasStepped chip.old.recording budgets.now steps.old steps.new preimage.old preimage.new now.old now.new at.old at.new) (HasStopped chip.old.recording budgets.now steps.old steps.new preimage.old preimage.new now.old at.old)) }
     ensures chip { chip.new.recording ≡ chip.old.recording }
 {
     let stored = match &now.stored {
         None => return Ok(Some(Stop::Reset)),
         Some(stored) => stored.copy()?,
     };
-    let Back { listing, hit } = look_back(alloc, chip, preimage, now, &stored, budgets)?;
+    let Back { listing, hit } = look_from(alloc, chip, preimage, now, *at, &stored, budgets)?;
     let step = step_of(now, stored, listing, &hit)?;
-    advance(steps, now, step, hit)
+    advance(steps, now, at, step, hit)
 }

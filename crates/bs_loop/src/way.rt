@@ -8,17 +8,21 @@ ghost use Rattle.bs_encode.specs.Depth.{basis_of};
 ghost use Rattle.bs_report_good.specs.Chain.{present_of};
 ghost use Rattle.bs_report_good.specs.Stop.{StopsFor};
 ghost use Rattle.bs_report_good.specs.Good.{IsGood};
+ghost use Rattle.bs_report_good.specs.Progress.{GoesBack};
+ghost use Rattle.bs_report_good.specs.Trace.{trace_inputs, trace_states};
 ghost use Rattle.bs_report.specs.Text.{HasReportText};
 ghost use Rattle.bs_report_good.specs.Valid.{IsValid};
 ghost use Rattle.bs_report.specs.declared.report.Stop.TheVariants.{Reset, Length};
 ghost use Rattle.bs_preimage.specs.Preimage.{fresh};
 ghost use Rattle.bs_loop.specs.Budget.{IsBudget};
 ghost use Rattle.bs_loop.specs.Made.{HasMade};
+ghost use Rattle.bs_loop.specs.Way.{HasEnded};
+ghost use Rattle.bs_loop.specs.Report.{IsOfWay, IsAlikeButLog};
 ghost use Rattle.bs_loop.specs.Bound.{HasBound};
 
 use crate::steps::turn;
 use crate::trace::{inputs_back, states_back};
-use bs_bits::{List, NoMemory};
+use bs_bits::{Bits, List, NoMemory};
 use bs_chip::Chip;
 use bs_log::Log;
 use bs_preimage::Preimage;
@@ -61,14 +65,82 @@ fn walk(
 {
     let mut steps = List::new(alloc);
     let mut now = dump.copy()?;
+    let mut at = None;
     'turns: for _ in 0..budgets.steps {
-        match turn(alloc, chip, preimage, budgets, &mut steps, &mut now)? {
+        match turn(
+            alloc, chip, preimage, budgets, &mut steps, &mut now, &mut at,
+        )? {
             Some(stop) => return Ok(Way { steps, stop }),
             None => {}
         }
     }
     let stop = cause_at(&now);
     Ok(Way { steps, stop })
+}
+
+/// The trace of steps from a dump: its states, and its inputs.
+#[derive(Drop)]
+struct Trace {
+    states: List<Bits>,
+    inputs: List<Bits>,
+}
+
+/// The trace of the steps.
+fn traced(alloc: Global, steps: &[Step], dumped: &Bits) -> Result<Trace, NoMemory>
+    ensures states { IfOk result (λ trace. trace.states ≡ trace_states dumped.now steps.now) }
+    ensures inputs { IfOk result (λ trace. trace.inputs ≡ trace_inputs steps.now) }
+{
+    let states = states_back(alloc, steps, dumped)?;
+    let inputs = inputs_back(alloc, steps)?;
+    Ok(Trace { states, inputs })
+}
+
+/// The report of a way and its trace, with no line of a log.
+fn report_of(alloc: Global, way: Way, trace: Trace, dump: &Dump, budgets: &Budgets) -> Report
+    requires states { trace.states ≡ trace_states dump.now.state way.steps }
+    requires inputs { trace.inputs ≡ trace_inputs way.steps }
+    ensures { IsOfWay dump.now budgets.now way.steps way.stop result }
+{
+    Report {
+        depth: dump.depth,
+        budgets: *budgets,
+        steps: way.steps,
+        stop: way.stop,
+        states: trace.states,
+        inputs: trace.inputs,
+        log: Log::new(alloc),
+    }
+}
+
+/// The report of a way, with no line of a log.
+fn reported(alloc: Global, way: Way, dump: &Dump, budgets: &Budgets) -> Result<Report, NoMemory>
+    ensures { IfOk result (IsOfWay dump.now budgets.now way.steps way.stop) }
+{
+    match traced(alloc, way.steps.slice(), &dump.state) {
+        Ok(trace) => Ok(report_of(alloc, way, trace, dump, budgets)),
+        Err(want) => Err(want),
+    }
+}
+
+/// The way back from a dump, and its report with no line of a log.
+fn unlogged(
+    alloc: Global,
+    chip: &mut Chip<'_>,
+    preimage: &mut Preimage<'_>,
+    dump: &Dump,
+    budgets: &Budgets,
+) -> Result<Report, NoMemory>
+    requires fresh { preimage.old ≡ fresh chip.old.recording.circuit chip.old.recording.choice }
+    requires dump { DumpFits chip.old.recording.circuit chip.old.recording.choice dump.now }
+    requires budgets { IsBudget budgets.now }
+    ensures way { IfOk result (λ r. IsOfWay dump.now budgets.now r.steps r.stop r) }
+    ensures ended { IfOk result (λ r. HasEnded (crash_of chip.old.recording dump.now) budgets.now r.steps preimage.new r.stop) }
+    ensures chip { chip.new.recording ≡ chip.old.recording }
+{
+    match walk(alloc, chip, preimage, dump, budgets) {
+        Ok(way) => reported(alloc, way, dump, budgets),
+        Err(want) => Err(want),
+    }
 }
 
 /// The log of the search.
@@ -84,8 +156,22 @@ fn log_of(preimage: Preimage<'_>) -> Log
     log
 }
 
+/// The report with the log of the search.
+fn with_log(report: Report, preimage: Preimage<'_>) -> Report
+    ensures alike { IsAlikeButLog report result }
+    ensures lines { history_of result.log ≡ preimage.entry.history }
+    ensures lean { preimage.entry.failed ≡ false → IsLean preimage.entry.problem (history_of result.log) }
+    ensures accepted { preimage.entry.failed ≡ false → IsAccepted preimage.entry.problem result.log }
+    ensures texts { All HasText result.log }
+    ensures few { length result.log < 2 ^ 64 }
+{
+    let mut report = report;
+    report.log = log_of(preimage);
+    report
+}
+
 /// The backtrace of a dump: its report is good and valid. The dump has the widths of the chip, and `preimage` is of the same
-/// netlist and signature.
+/// netlist and signature. The moment before a hit is among the candidates that follow, unless their list ends with conflicts.
 pub fn backtrace(
     alloc: Global,
     chip: &mut Chip<'_>,
@@ -99,25 +185,17 @@ pub fn backtrace(
     ensures budgets { IfOk result (λ r. r.budgets ≡ budgets.now) }
     ensures good { IfOk result (IsGood (crash_of chip.old.recording dump.now)) }
     ensures valid { IfOk result (λ r. IsValid (crash_of chip.old.recording dump.now) (basis_of chip.old.recording.circuit chip.old.recording.choice (map present_of r.steps)) r) }
+    ensures progress { IfOk result GoesBack }
     ensures bound { IfOk result (λ r. HasBound (basis_of chip.old.recording.circuit chip.old.recording.choice (map present_of r.steps)).problem r) }
     ensures readable { IfOk result HasReportText }
     ensures trace { IfOk result (λ r. length r.states ≡ length r.inputs + 1) }
     ensures lean { IfOk result (λ r. IsLean (basis_of chip.old.recording.circuit chip.old.recording.choice (map present_of r.steps)).problem (history_of r.log)) }
     ensures chip { chip.new.recording ≡ chip.old.recording }
 {
-    let mut preimage = preimage;
-    let way = walk(alloc, chip, &mut preimage, dump, budgets)?;
-    let states = states_back(alloc, way.steps.slice(), &dump.state)?;
-    let inputs = inputs_back(alloc, way.steps.slice())?;
-    let log = log_of(preimage);
     chip.is_recording();
-    Ok(Report {
-        depth: dump.depth,
-        budgets: *budgets,
-        steps: way.steps,
-        stop: way.stop,
-        states,
-        inputs,
-        log,
-    })
+    let mut preimage = preimage;
+    match unlogged(alloc, chip, &mut preimage, dump, budgets) {
+        Ok(report) => Ok(with_log(report, preimage)),
+        Err(want) => Err(want),
+    }
 }

@@ -1,5 +1,7 @@
 use Rattle.std.proofs.Common.{◌≡◌, ◌∷◌, Bool, List, Option, length, All, subst, sym, arith}
+use Rattle.std.specs.Prelude.{IfSome}
 use Rattle.std.specs.Option.{option_to_list}
+use Rattle.bs_preimage.specs.Listed.{IsRightCand}
 use Rattle.bs_net.specs.Circuit.{Circuit}
 use Rattle.bs_scan.specs.Choice.{Chosen}
 use Rattle.bs_scan.specs.Crash.{DumpFits}
@@ -23,6 +25,11 @@ list-requires c =
       conflicts = c.requires.budgets.conflicts.0;
       calls = omega (arith, c.requires.calls);
       alone = rw c.lent.ensures wide.alone;
+      known = rw c.lent.ensures
+          (subst (λ (k : Circuit). IfSome c.args.known.now (IsRightCand k old.choice c.args.now.now.state c.args.stored.now c.args.now.now.older))
+          (sym c.requires.circuit)
+          (subst (λ (k : Chosen). IfSome c.args.known.now (IsRightCand c.args.chip.now.recording.circuit k c.args.now.now.state c.args.stored.now
+          c.args.now.now.older)) (sym c.requires.choice) c.requires.known));
     }
 
 pub first-requires : goal.first-requires
@@ -41,7 +48,7 @@ returns-clause-back c =
     record {
       listed =
           subst
-          (λ (o : Option (List Bool)). HasListed c.args.preimage.now c.list.new.self c.args.now.now.state c.args.stored.now o
+          (λ (o : Option (List Bool)). HasListed c.args.preimage.now c.list.new.self c.args.now.now.state c.args.stored.now o c.args.known.now
           c.args.budgets.now.candidates c.args.budgets.now.conflicts c.in_ok-listing.listing)
           c.lent.ensures c.in_ok-listing.ensures.ok;
       calls = c.list.ensures.calls;

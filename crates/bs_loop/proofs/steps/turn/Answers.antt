@@ -7,7 +7,7 @@ use Rattle.bs_loop.proofs.steps.turn.Goals as goal
 pub returns-clause-turn : goal.returns-clause-turn
 returns-clause-turn c =
     let held : signatures_of c.args.now.now ≡ c.in_ok-stored-in-Some.stored ∷ option_to_list c.args.now.now.older = search rules in
-    turned c.args.chip.now.recording c.args.budgets.now c.args.steps.now c.advance.new.steps c.args.preimage.now c.look_back.new.preimage
-    c.args.now.now c.advance.new.now
+    turned c.args.chip.now.recording c.args.budgets.now c.args.steps.now c.advance.new.steps c.args.preimage.now c.look_from.new.preimage
+    c.args.now.now c.advance.new.now c.args.at.now c.advance.new.at
     c.in_ok-stored-in-Some.stored c.in_ok-listing.field-0.listing c.in_ok-step.step c.in_ok-listing.field-0.hit c.advance.result
     held c.in_ok-listing.ensures.back c.in_ok-step.ensures c.advance.ensures.steps c.advance.ensures.stop

@@ -8,10 +8,10 @@ pub returns-in-Some : goal.returns-in-Some
 returns-in-Some c =
     let made =
     stopped c.args.chip.now.recording c.args.dump.now c.args.budgets.now c.turns.steps c.turn.new.steps c.turns.preimage c.turn.new.preimage c.turns.now
-    c.turns.counter c.in-Some.stop
+    c.turns.at c.turns.counter c.in-Some.stop
     c.turns.invariant.way c.turns-test.true
     (subst (λ (k : Recording). HasStopped k c.args.budgets.now c.turns.steps c.turn.new.steps c.turns.preimage c.turn.new.preimage c.turns.now
-    c.in-Some.stop) c.turns.invariant.chip
+    c.turns.at c.in-Some.stop) c.turns.invariant.chip
     (rw c.in-Some.is at c.in_ok-stop.ensures.turn)) in
     record { made = made.made; few = made.few; stop = made.cause; chip = c.in_ok-stop.ensures.chip ∙ c.turns.invariant.chip }
 
@@ -21,9 +21,9 @@ turns-preserved c =
       chip = c.in_ok-stop.ensures.chip ∙ c.turns.invariant.chip;
       way =
           stepped c.args.chip.now.recording c.args.dump.now c.args.budgets.now c.turns.steps c.turn.new.steps c.turns.preimage c.turn.new.preimage c.turns.now
-          c.turn.new.now c.turns.counter
+          c.turn.new.now c.turns.at c.turn.new.at c.turns.counter
           c.turns.invariant.way
           (subst (λ (k : Recording). HasStepped k c.args.budgets.now c.turns.steps c.turn.new.steps c.turns.preimage c.turn.new.preimage c.turns.now
-          c.turn.new.now) c.turns.invariant.chip
+          c.turn.new.now c.turns.at c.turn.new.at) c.turns.invariant.chip
           (rw c.in-None.is at c.in_ok-stop.ensures.turn));
     }

@@ -5,5 +5,5 @@ use Rattle.bs_loop.proofs.way.walk.Given as goal
 abbrev pub invariant-turns : goal.invariant-turns
 invariant-turns l = record {
   chip : l.chip.recording ≡ l.fn.chip.recording;
-  way : IsUnderWay l.fn.chip.recording l.dump l.budgets l.steps l.preimage l.now l.counter;
+  way : IsUnderWay l.fn.chip.recording l.dump l.budgets l.steps l.preimage l.now l.at l.counter;
 }

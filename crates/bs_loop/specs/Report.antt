@@ -1,0 +1,26 @@
+-- The report of a way, and its log.
+use Rattle.std.specs.Prelude.{◌≡◌, List}
+use Rattle.bs_scan.specs.declared.dump.Dump.{Dump}
+use Rattle.bs_report.specs.declared.report.Budgets.{Budgets}
+use Rattle.bs_report.specs.declared.report.Report.{Report}
+use Rattle.bs_report.specs.declared.report.Step.{Step}
+use Rattle.bs_report.specs.declared.report.Stop.{Stop}
+use Rattle.bs_report_good.specs.Trace.{trace_inputs, trace_states}
+
+-- the report of these steps from a dump, and of the cause of their stop, whatever its log
+pub record IsOfWay (dump : Dump) (budgets : Budgets) (steps : List Step) (stop : Stop) (r : Report) : Type 0 where
+  pub depth : r.depth ≡ dump.depth
+  pub asked : r.budgets ≡ budgets
+  pub steps_are : r.steps ≡ steps
+  pub stop_is : r.stop ≡ stop
+  pub states : r.states ≡ trace_states dump.state steps
+  pub inputs : r.inputs ≡ trace_inputs steps
+
+-- the same report with another log
+pub record IsAlikeButLog (old new : Report) : Type 0 where
+  pub depth : new.depth ≡ old.depth
+  pub asked : new.budgets ≡ old.budgets
+  pub steps_are : new.steps ≡ old.steps
+  pub stop_is : new.stop ≡ old.stop
+  pub states : new.states ≡ old.states
+  pub inputs : new.inputs ≡ old.inputs
