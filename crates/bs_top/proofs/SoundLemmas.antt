@@ -16,7 +16,7 @@ use Rattle.bs_report_good.proofs.EndLemmas.{unhit_is_first, finished_reach_reset
 use Rattle.bs_report_good.proofs.ProgressLemmas.{progress}
 use Rattle.bs_report_good.proofs.ExecutionLemmas.{executed}
 use Rattle.bs_loop.specs.Bound.{HasBound}
-use Rattle.bs_audit.specs.declared.finding.Finding.{Finding}
+use Rattle.bs_audit.specs.declared.parts.Finding.{Finding}
 use Rattle.bs_audit.specs.Finding.{part_of, basis_for}
 use Rattle.bs_top.specs.Sound.{IsSoundReport}
 use Rattle.bs_top.specs.Finishes.{IsBacktrace, Finds}

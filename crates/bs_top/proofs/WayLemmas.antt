@@ -1,15 +1,12 @@
 -- The trace of a good report is a way of the chip: its states and inputs have their widths.
-use Rattle.std.proofs.Common.{◌≡◌, suc, ◌+◌, Bool, true, false, cond, ◌||◌, List, [], ◌∷◌, ◌++◌, length, reverse, refl}
+use Rattle.std.proofs.Common.{◌≡◌, suc, ◌+◌, Bool, true, List, [], ◌∷◌, ◌++◌, length, reverse, refl}
 use Rattle.std.proofs.Common.{ap, sym, subst, ◌∙◌, Option, Some, None}
-use Rattle.std.specs.Prelude.{find, filter_map, option_map, option_and_then, All}
+use Rattle.std.specs.Prelude.{filter_map, option_map, option_and_then, All}
 use Rattle.std.specs.List.{AllByRecursion as Each, cons_option}
-use Rattle.std.proofs.lemmas.Bool.{true≢false, false≢true}
 use Rattle.std.proofs.lemmas.List.{length-append, length-reverse, reverse-append}
 use Rattle.std.proofs.lemmas.List.Elements.{All-append, All-from_recursion, recursion_from_All}
 use Rattle.bs_scan.specs.Crash.{Crash, DumpFits}
 use Rattle.bs_scan.specs.Moments.{is_listed}
-use Rattle.bs_scan.proofs.SignatureLemmas.{bits_same, bits_same_is}
-use Rattle.bs_bits.specs.Bits.{bits_eq}
 use Rattle.bs_net.specs.Circuit.{Circuit}
 use Rattle.bs_report.specs.declared.report.Cand.{Cand}
 use Rattle.bs_report.specs.declared.report.HitLine.{HitLine}
@@ -19,35 +16,8 @@ use Rattle.bs_report_good.specs.Step.{stored_of, listed, IsRightStep, IsCandidat
 use Rattle.bs_report_good.specs.Trace.{hit_state, input_for}
 use Rattle.bs_report_good.specs.Good.{IsGood}
 use Rattle.bs_report_good.proofs.ProgressLemmas.{hit_at}
-use Rattle.bs_report_good.proofs.ExecutionLemmas.{led_widths}
+use Rattle.bs_report_good.proofs.ExecutionLemmas.{cand_for, led_widths}
 use Rattle.bs_wave.specs.Wave.{IsWayOf}
-
--- a listed state has a candidate, and what holds of each holds of it
-record CandFor (P : Cand → Type 0) (cands : List Cand) (s : List Bool) : Type 0 where
-  cand : Cand
-  first : find (λ (c : Cand). bits_eq c.state s) cands ≡ Some cand
-  state : cand.state ≡ s
-  right : P cand
-
-cand_for : (P : Cand → Type 0) (cands : List Cand) (s : List Bool) → Each P cands → is_listed (listed cands) s ≡ true → CandFor P cands s
-cand_for P [] s h e = absurd (false≢true e)
-cand_for P (c ∷ cs) s h e = by (bits_eq c.state s) refl (bits_eq s c.state) refl e (cand_for P cs s h.1)
-  where
-    by : (a : Bool) → bits_eq c.state s ≡ a → (b : Bool) → bits_eq s c.state ≡ b → (b || is_listed (listed cs) s) ≡ true →
-        (is_listed (listed cs) s ≡ true → CandFor P cs s) → CandFor P (c ∷ cs) s
-    by true a b eb e rest = record {
-      cand = c;
-      first = ap (λ t. cond t (Some c) (find (λ (c : Cand). bits_eq c.state s) cs)) a;
-      state =
-          bits_same_is c.state s a;
-      right = h.0;
-    }
-    by false a true eb e rest =
-        let same : s ≡ c.state = bits_same_is s c.state eb in
-        absurd (true≢false (sym (bits_same s) ∙ (ap (λ (t : List Bool). bits_eq t s) same ∙ a)))
-    by false a false eb e rest =
-        let f = rest e in
-        record { cand = f.cand; first = ap (λ t. cond t (Some c) (find (λ (c : Cand). bits_eq c.state s) cs)) a ∙ f.first; state = f.state; right = f.right }
 
 -- as many states as inputs, each of its width
 record Ways (c : Circuit) (ss xs : List (List Bool)) : Type 0 where
