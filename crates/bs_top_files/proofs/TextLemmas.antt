@@ -12,7 +12,8 @@ use Rattle.bs_flat_meaning.specs.declared.fault.FlatFault.{FlatFault}
 use Rattle.bs_flat_meaning.specs.declared.fault.FlatFault.TheVariants.{Recursion}
 use Rattle.bs_flat_meaning.specs.Connecting.{ReadModule}
 use Rattle.bs_flat_meaning.specs.Pieces.{Piece, modules_of}
-use Rattle.bs_flat_meaning.specs.Reading.{Answer, ringed, plain, AnswerFor, IsAnswer, TokensAnswer, as_verilog, flattened, has_ring, name_at, read_modules}
+use Rattle.bs_flat_meaning.specs.Reading.{Answer, ringed, plain, AnswerFor, IsAnswer, TokensAnswer, as_verilog, below_of, flattened, has_ring, name_at}
+use Rattle.bs_flat_meaning.specs.Reading.{read_modules, IsRing}
 use Rattle.bs_flat_meaning.proofs.RingLemmas.{rings_are_found}
 use Rattle.bs_top_files.specs.Refusals.{TextFault, with_one, in_rings, with_fault}
 use Rattle.bs_top_files.specs.Readings.{modules_in, one_module, several_modules, text_in, tokens_in}
@@ -31,10 +32,15 @@ right_same : (r result : Result Parts FlatFault) → result ≡ r → IsRight re
 right_same r (Ok raw) e = sym (ap with_fault e)
 right_same r (Err fault) e = inl (sym (ap with_fault e))
 
+-- a ring of the modules that were read is found
+ring_found : (ms : List Piece) (ks : List ReadModule) (ring : List ℕ) → IsRing ms ks ring → has_ring ms ks ≡ true
+unfolding has_ring
+ring_found ms ks ring is = rings_are_found (below_of ms ks) ring is
+
 right_modules : (table : List (List ℕ)) (ms : List Piece) (ks : List ReadModule) (result : Result Parts FlatFault) → Answer table ms ks result →
     IsRight result (modules_in table ms ks)
 unfolding modules_in
-right_modules table ms ks _ (ringed ring is) = rw (rings_are_found ms ks ring is) (inr (refl, (map (name_at table ms) ring, refl)))
+right_modules table ms ks _ (ringed ring is) = rw (ring_found ms ks ring is) (inr (refl, (map (name_at table ms) ring, refl)))
 right_modules table ms ks _ (plain none) = rw none (right_same (flattened table ms ks) (flattened table ms ks) refl)
 
 right_several : (table : List (List ℕ)) (ts : Rest) (result : Result Parts FlatFault) → AnswerFor table ts result →
