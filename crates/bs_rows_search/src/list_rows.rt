@@ -34,7 +34,7 @@ fn list(
         return Ok(None);
     }
     let mut preimage = Preimage::new(alloc, net, choice)?;
-    match preimage.list(alloc, present, stored, None, 256, 100_000) {
+    match preimage.list(alloc, present, stored, None, &None, 256, 100_000) {
         Ok(listing) => Ok(Some(listing)),
         Err(fault) => Err(fault),
     }
