@@ -11,6 +11,7 @@ use Rattle.bs_report.specs.declared.report.Report.{Report}
 use Rattle.bs_report.specs.Text.{HasReportText}
 use Rattle.bs_report_good.specs.Chain.{present_of}
 use Rattle.bs_report_good.specs.Good.{IsGood}
+use Rattle.bs_report_good.specs.Progress.{GoesBack}
 use Rattle.bs_report_good.specs.Valid.{first_failing, IsValid}
 use Rattle.bs_report_good.proofs.EndLemmas.{unhit_is_first, finished_reach_reset}
 use Rattle.bs_report_good.proofs.ProgressLemmas.{progress}
@@ -37,6 +38,7 @@ pub record IsMade (chip : Recording) (dump : Dump) (budgets : Budgets) (r : Repo
   pub asked : r.budgets ≡ budgets
   pub good : IsGood (crash_of chip dump) r
   pub valid : IsValid (crash_of chip dump) (basis_of chip.circuit chip.choice (map present_of r.steps)) r
+  pub progress : GoesBack r
   pub lean : IsLean (basis_of chip.circuit chip.choice (map present_of r.steps)).problem (history_of r.log)
   pub bound : HasBound (basis_of chip.circuit chip.choice (map present_of r.steps)).problem r
   pub readable : HasReportText r
@@ -46,6 +48,7 @@ made_alike : (chip : Recording) (dump : Dump) (budgets : Budgets) (r : Report) �
 made_alike chip dump budgets r crashed made = record {
   asked = made.asked;
   sound = sound_is (crash_of chip dump) r crashed made.good made.valid;
+  progress = made.progress;
   lean = made.lean;
   bound = made.bound;
   readable = made.readable;
@@ -55,14 +58,15 @@ made_alike chip dump budgets r crashed made = record {
 pub backtrace_ok : {E : Type 0} (recorded chip : Recording) (dump : Dump) (budgets : Budgets) (r : Result Report E) → chip ≡ recorded →
     IsCrash (crash_of recorded dump) →
     IfOk r (λ report. report.budgets ≡ budgets) → IfOk r (IsGood (crash_of chip dump)) →
-    IfOk r (λ report. IsValid (crash_of chip dump) (basis_of chip.circuit chip.choice (map present_of report.steps)) report) →
+    IfOk r (λ report. IsValid (crash_of chip dump) (basis_of chip.circuit chip.choice (map present_of report.steps)) report) → IfOk r GoesBack →
     IfOk r (λ report. IsLean (basis_of chip.circuit chip.choice (map present_of report.steps)).problem (history_of report.log)) →
     IfOk r (λ report. HasBound (basis_of chip.circuit chip.choice (map present_of report.steps)).problem report) → IfOk r HasReportText →
     IfOk r (IsBacktrace (crash_of recorded dump) budgets)
-backtrace_ok recorded chip dump budgets (Ok report) is crashed asked good valid lean bound readable =
+backtrace_ok recorded chip dump budgets (Ok report) is crashed asked good valid back lean bound readable =
     made_alike recorded dump budgets report crashed
-    (subst (λ c. IsMade c dump budgets report) is (record { asked = asked; good = good; valid = valid; lean = lean; bound = bound; readable = readable }))
-backtrace_ok recorded chip dump budgets (Err want) is crashed asked good valid lean bound readable = tt
+    (subst (λ c. IsMade c dump budgets report) is
+    (record { asked = asked; good = good; valid = valid; progress = back; lean = lean; bound = bound; readable = readable }))
+backtrace_ok recorded chip dump budgets (Err want) is crashed asked good valid back lean bound readable = tt
 
 -- what an audit finds
 pub finds_ok : {E : Type 0} (crash : Crash) (report : Report) (r : Result Finding E) → IsCrash crash →

@@ -10,6 +10,7 @@ use Rattle.bs_report.specs.declared.report.Stop.TheVariants.{Reset, Length, Nohi
 use Rattle.bs_scan.specs.Crash.{Crash, crash_of, dump_at}
 use Rattle.bs_report.specs.Text.{report_text, HasReportText}
 use Rattle.bs_report_good.specs.declared.part.Part.{Part}
+use Rattle.bs_report_good.specs.Progress.{GoesBack}
 use Rattle.bs_report_good.specs.Valid.{first_failing}
 use Rattle.bs_top_plan.specs.declared.status.Status.{Status}
 use Rattle.bs_top_plan.specs.declared.status.Status.TheVariants as S
@@ -40,12 +41,14 @@ stop_status Empty = S.Empty
 stop_status Candidates = S.Spent
 stop_status Conflicts = S.Spent
 
--- A backtrace within the budgets: what holds of its report; each step of its log leaves the lemmas that are kept and no
--- block, and each lemma is a new resolvent; a list ends in conflicts only as the budget of lemmas allows; and the report is
--- read back from its text.
+-- A backtrace within the budgets: what holds of its report. It goes back whatever the budget of candidates is: where its first step
+-- hits at a cycle within the budget of steps, and no list with a hit ended with conflicts, it comes to reset or stops with conflicts.
+-- Each step of its log leaves the lemmas that are kept and no block, and each lemma is a new resolvent; a list ends in conflicts only
+-- as the budget of lemmas allows; and the report is read back from its text.
 pub record IsBacktrace (crash : Crash) (budgets : Budgets) (report : Report) : Type 0 where
   pub asked : report.budgets ≡ budgets
   pub sound : IsSoundReport crash report
+  pub progress : GoesBack report
   pub lean : IsLean (basis_for crash report).problem (history_of report.log)
   pub bound : HasBound (basis_for crash report).problem report
   pub readable : HasReportText report

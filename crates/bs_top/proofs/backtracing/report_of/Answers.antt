@@ -12,5 +12,5 @@ returns-clause-backtrace c =
     (recording_is setup.net.raw setup.choice setup.runs c.order-order.ensures.checked c.depth-depth.ensures.sound.kept
     c.count-count.ensures.sound setup.states setup.inputs)
     c.requires.dump)
-    c.backtrace.ensures.budgets c.backtrace.ensures.good c.backtrace.ensures.valid c.backtrace.ensures.lean c.backtrace.ensures.bound
-    c.backtrace.ensures.readable
+    c.backtrace.ensures.budgets c.backtrace.ensures.good c.backtrace.ensures.valid c.backtrace.ensures.progress c.backtrace.ensures.lean
+    c.backtrace.ensures.bound c.backtrace.ensures.readable
