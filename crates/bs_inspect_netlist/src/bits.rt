@@ -1,5 +1,5 @@
 //! The lines of a netlist's flip-flops and data inputs.
-ghost use Rattle.std.specs.Prelude.{◌≡◌, ◌<◌, ◌∷◌, [], ◌++◌, length, IfOk, OnOk};
+ghost use Rattle.std.specs.Prelude.{◌≡◌, ◌<◌, ◌∷◌, [], ◌++◌, codes, decimal, length, IfOk, OnOk};
 ghost use Rattle.bs_bits.specs.Text.{digit_of};
 ghost use Rattle.bs_net.specs.Netlist.{parts_of};
 ghost use Rattle.bs_net.specs.Parts.{key_at};
@@ -62,6 +62,21 @@ fn push_digit(text: &mut Vec<u8>, bit: bool) -> Result<(), NoMemory>
     }
 }
 
+/// Appends a number, and the key of a net behind a space.
+fn push_numbered(
+    text: &mut Vec<u8>,
+    raw: &Raw,
+    number: usize,
+    net: u32,
+) -> Result<(), NoMemory>
+    requires { net < length raw.now.names }
+    ensures { OnOk result (text.new.items ≡ text.old.items ++ (decimal number ++ (codes " " ++ key_at (parts_of raw.now) net))) }
+{
+    push_number(text, number as u64)?;
+    push_piece(text, b" ")?;
+    push_piece(text, key_at(raw, net))
+}
+
 /// Appends the line of a flip-flop.
 fn push_flop(
     text: &mut Vec<u8>,
@@ -74,9 +89,7 @@ fn push_flop(
     requires marked { length sources.now ≡ length raw.now.names }
     ensures { OnOk result (text.new.items ≡ text.old.items ++ flop_line (parts_of raw.now) sources.now number flop) }
 {
-    push_number(text, number as u64)?;
-    push_piece(text, b" ")?;
-    push_piece(text, key_at(raw, flop.q.0))?;
+    push_numbered(text, raw, number, flop.q.0)?;
     push_piece(text, b" ")?;
     push_digit(text, flop.reset)?;
     push_copies(text, raw, sources, flop.q.0)?;
@@ -95,9 +108,7 @@ fn push_input(
     requires marked { length sources.now ≡ length raw.now.names }
     ensures { OnOk result (text.new.items ≡ text.old.items ++ input_line (parts_of raw.now) sources.now number input) }
 {
-    push_number(text, number as u64)?;
-    push_piece(text, b" ")?;
-    push_piece(text, key_at(raw, input.0))?;
+    push_numbered(text, raw, number, input.0)?;
     push_copies(text, raw, sources, input.0)?;
     end_line(text)
 }
