@@ -1,18 +1,20 @@
 //! Real files, at the trusted edge: the runtime's answers are all that is known of them.
 ghost use Rattle.std.specs.Prelude.{◌≡◌, None};
 
-use crate::reading::fetch_opened;
+use crate::reading::fetch_with_reason;
 use crate::shelf::{Fetch, Shelf};
 use std::fs::File;
+use std::io::ErrorKind;
 use std::marker::Model;
 use std::rt::Files;
 
 /// The files of the file system. It doesn't tell what it holds, and one count of faults stands for every name. Contracts see
-/// that count.
+/// that count. It keeps the kind of its last fault.
 #[derive(Drop)]
 pub struct FileShelf<'a, R: Files> {
     rt: &'a R,
     faults: u64,
+    reason: Option<ErrorKind>,
 }
 
 impl<'a, R: Files> Model for FileShelf<'a, R> {
@@ -28,7 +30,11 @@ impl<'a, R: Files> FileShelf<'a, R> {
     pub fn new(rt: &'a R) -> FileShelf<'a, R>
         ensures { result ≡ 0 }
     {
-        FileShelf { rt, faults: 0 }
+        FileShelf {
+            rt,
+            faults: 0,
+            reason: None,
+        }
     }
 }
 
@@ -43,6 +49,16 @@ impl<'a, R: Files> Shelf for FileShelf<'a, R> {
     ghost leads = { λ before call now. now ≡ fetch_faults before call.answer };
 
     fn fetch(&mut self, name: &str, limit: u64, into: &mut Vec<u8>) -> Fetch {
-        fetch_opened(File::open(self.rt, name), &mut self.faults, limit, into)
+        fetch_with_reason(
+            File::open(self.rt, name),
+            &mut self.faults,
+            &mut self.reason,
+            limit,
+            into,
+        )
+    }
+
+    fn reason(&self) -> Option<ErrorKind> {
+        self.reason
     }
 }

@@ -4,6 +4,8 @@ ghost use Rattle.std.specs.declared.option.Option.{Option};
 ghost use Rattle.bs_outside.specs.Calls.{fetch_call, FetchCall};
 ghost use Rattle.bs_outside.specs.Fetching.{CountsFaults, Fetches};
 
+use std::io::ErrorKind;
+
 /// How a fetch ended.
 #[derive(Clone, Copy, Debug, PartialEq, Eq)]
 pub enum Fetch {
@@ -37,4 +39,9 @@ pub trait Shelf {
         ensures held { (other : List ℕ) → held self.new other ≡ held self.old other }
         ensures cause { CountsFaults (faults self.old) (faults self.new) name.now result }
         ensures call { leads self.old (fetch_call name.now limit result into.old.items into.new.items) self.new };
+
+    /// The kind of the last fault, where it is known: for a person, and no clause speaks of it.
+    fn reason(&self) -> Option<ErrorKind> {
+        None
+    }
 }

@@ -3,6 +3,9 @@ ghost use Rattle.std.specs.Prelude.{ℕ, List};
 ghost use Rattle.std.specs.declared.option.Option.{Option};
 ghost use Rattle.bs_outside.specs.Calls.{put_call, PutCall};
 ghost use Rattle.bs_outside.specs.Putting.{Puts};
+ghost use Rattle.bs_outside.specs.Texts.{output, PutsText};
+
+use std::io::ErrorKind;
 
 /// How a put ended.
 #[derive(Clone, Copy, Debug, PartialEq, Eq)]
@@ -29,4 +32,16 @@ pub trait Sink {
     fn put(&mut self, bytes: &[u8]) -> Put
         ensures puts { Puts (written self.old) (written self.new) (faults self.old) (faults self.new) bytes.now result }
         ensures call { leads self.old (put_call bytes.now result) self.new };
+
+    /// The kind of the last fault, where it is known: for a person, and no clause speaks of it.
+    fn reason(&self) -> Option<ErrorKind> {
+        None
+    }
+}
+
+/// Puts a text, whole, in one call.
+pub fn put_text<K: Sink>(out: &mut K, text: &[u8])
+    ensures { PutsText (output K.written K.faults K.leads) out.old out.new text.now }
+{
+    let _answer = out.put(text);
 }
