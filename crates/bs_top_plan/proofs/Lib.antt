@@ -5,3 +5,4 @@ pub mod LineLemmas
 pub mod Putting
 pub mod Preparing
 pub mod Clauses
+pub mod TellingLemmas

@@ -1,14 +1,14 @@
 -- Several puts in a row.
 use Rattle.std.proofs.Common.{◌≡◌, ◌≢◌, ℕ, ◌+◌, ◌-◌, ◌≤◌, List, [], ◌∷◌, ◌++◌, length, take, drop, Option, Some, None, refl, sym, ◌∙◌, ap, subst}
 use Rattle.std.proofs.Common.{arith, append_assoc, take-take, drop-drop}
-use Rattle.std.proofs.lemmas.List.{append-nil, length-take, length-drop, take_all, drop_all}
+use Rattle.std.proofs.lemmas.List.{append-nil, length-append, length-take, length-drop, take_all, drop_all}
 use Rattle.std.proofs.Math.Seq.{take-add}
 use Rattle.bs_outside.specs.Calls.{PutCall, put_call, InTurn}
 use Rattle.bs_outside.specs.Putting.{PutsAll, PutsSome}
 use Rattle.bs_outside.specs.declared.sink.Put.TheVariants.{Done, Failed}
 use Rattle.bs_top_plan.specs.declared.status.Status.{Status}
 use Rattle.bs_top_plan.specs.declared.status.Status.TheVariants.{WriteFault}
-use Rattle.bs_top_plan.specs.Delivery.{put_lines_of, puts_done, PutsUpTo, PutsLines}
+use Rattle.bs_top_plan.specs.Delivery.{put_lines_of, puts_done, PutsUpTo, PutsAfter, PutsLines, CountsPuts}
 use Rattle.bs_top_plan.proofs.AskingLemmas.{in_turn_then}
 use Rattle.std.specs.Io.KnownBytes.{Appends, Keeps}
 
@@ -68,44 +68,49 @@ put_all text w0 w1 f0 f1 at so_far over =
 -- ---- line by line
 
 -- so far these lines were put, and all went out
-pub record HasPutLines {K : Type 0} (leads : K → PutCall → K → Type 0) (text : List ℕ) (before now : K) (at : ℕ) : Type 0 where
+pub record HasPutLines {K : Type 0} (leads : K → PutCall → K → Type 0) (text : List ℕ) (before now : K) (at count : ℕ) : Type 0 where
   pub lines : List (List ℕ)
   pub parts : put_lines_of text ≡ lines ++ put_lines_of (drop at text)
   pub puts : InTurn leads before (puts_done lines) now
+  pub counted : length lines ≡ count
 
-pub lines_start : {K : Type 0} {leads : K → PutCall → K → Type 0} {text : List ℕ} {before : K} → HasPutLines leads text before before 0
-lines_start {K} {leads} {text} {before} = record { lines = []; parts = refl; puts = refl }
+pub lines_start : {K : Type 0} {leads : K → PutCall → K → Type 0} {text : List ℕ} {before : K} → HasPutLines leads text before before 0 0
+lines_start {K} {leads} {text} {before} = record { lines = []; parts = refl; puts = refl; counted = refl }
 
 done_more : (front : List (List ℕ)) (line : List ℕ) → puts_done (front ++ line ∷ []) ≡ puts_done front ++ put_call line Done ∷ []
 done_more [] line = refl
 done_more (first ∷ front) line = ap (λ (l : List PutCall). put_call first Done ∷ l) (done_more front line)
 
-pub lines_more : {K : Type 0} {leads : K → PutCall → K → Type 0} {text : List ℕ} {before mid now : K} {at end : ℕ} (line : List ℕ) →
-    HasPutLines leads text before mid at → put_lines_of (drop at text) ≡ line ∷ put_lines_of (drop end text) → leads mid (put_call line Done) now →
-    HasPutLines leads text before now end
-lines_more {K} {leads} {text} {before} {mid} {now} {at} {end} line so_far next led = record {
+pub lines_more : {K : Type 0} {leads : K → PutCall → K → Type 0} {text : List ℕ} {before mid now : K} {at end count : ℕ} (line : List ℕ) →
+    HasPutLines leads text before mid at count → put_lines_of (drop at text) ≡ line ∷ put_lines_of (drop end text) → leads mid (put_call line Done) now →
+    HasPutLines leads text before now end (count + 1)
+lines_more {K} {leads} {text} {before} {mid} {now} {at} {end} {count} line so_far next led = record {
   lines = so_far.lines ++ line ∷ [];
   parts = so_far.parts ∙ ap (λ (l : List (List ℕ)). so_far.lines ++ l) next ∙ sym (append_assoc so_far.lines (line ∷ []) (put_lines_of (drop end text)));
   puts =
       subst (λ (l : List PutCall). InTurn leads before l now) (sym (done_more so_far.lines line))
       (in_turn_then leads before mid now (puts_done so_far.lines) (put_call line Done ∷ []) so_far.puts (now, led, refl));
+  counted = length-append so_far.lines (line ∷ []) ∙ ap (λ (k : ℕ). k + 1) so_far.counted;
 }
 
-pub lines_cut : {K : Type 0} {leads : K → PutCall → K → Type 0} {text : List ℕ} {before mid now : K} {at count : ℕ} (line : List ℕ) (end : ℕ) →
-    HasPutLines leads text before mid at → put_lines_of (drop at text) ≡ line ∷ put_lines_of (drop end text) →
-    leads mid (put_call line (Failed count)) now → PutsUpTo leads before now (put_lines_of text)
-lines_cut {K} {leads} {text} {before} {mid} {now} {at} {count} line end so_far next led = record {
-  front = so_far.lines;
-  line = line;
-  rest = put_lines_of (drop end text);
-  count = count;
-  parts = so_far.parts ∙ ap (λ (l : List (List ℕ)). so_far.lines ++ l) next;
-  puts = in_turn_then leads before mid now (puts_done so_far.lines) (put_call line (Failed count) ∷ []) so_far.puts (now, led, refl);
+pub lines_cut : {K : Type 0} {leads : K → PutCall → K → Type 0} {text : List ℕ} {before mid now : K} {at done count : ℕ} (line : List ℕ) (end : ℕ) →
+    HasPutLines leads text before mid at done → put_lines_of (drop at text) ≡ line ∷ put_lines_of (drop end text) →
+    leads mid (put_call line (Failed count)) now → PutsAfter leads before now (put_lines_of text) done
+lines_cut {K} {leads} {text} {before} {mid} {now} {at} {done} {count} line end so_far next led = record {
+  up_to = record {
+    front = so_far.lines;
+    line = line;
+    rest = put_lines_of (drop end text);
+    count = count;
+    parts = so_far.parts ∙ ap (λ (l : List (List ℕ)). so_far.lines ++ l) next;
+    puts = in_turn_then leads before mid now (puts_done so_far.lines) (put_call line (Failed count) ∷ []) so_far.puts (now, led, refl);
+  };
+  counted = so_far.counted;
 }
 
-pub lines_end : {K : Type 0} {leads : K → PutCall → K → Type 0} {text : List ℕ} {before now : K} {at : ℕ} → HasPutLines leads text before now at →
+pub lines_end : {K : Type 0} {leads : K → PutCall → K → Type 0} {text : List ℕ} {before now : K} {at count : ℕ} → HasPutLines leads text before now at count →
     length text ≤ at → InTurn leads before (puts_done (put_lines_of text)) now
-lines_end {K} {leads} {text} {before} {now} {at} so_far over =
+lines_end {K} {leads} {text} {before} {now} {at} {count} so_far over =
     let none : put_lines_of (drop at text) ≡ [] = ap put_lines_of (drop_all at text over) in
     let all : put_lines_of text ≡ so_far.lines = so_far.parts ∙ ap (λ (l : List (List ℕ)). so_far.lines ++ l) none ∙ append-nil so_far.lines in
     subst (λ (l : List (List ℕ)). InTurn leads before (puts_done l) now) (sym all) so_far.puts
@@ -120,6 +125,16 @@ pub lines_to_fault : {K : Type 0} {leads : K → PutCall → K → Type 0} {seen
     PutsUpTo leads before now (put_lines_of seen) → PutsLines leads before now text WriteFault
 lines_to_fault {leads = leads} {before = before} {now = now} same up_to =
     record { whole = λ calm. absurd (calm refl); cut = λ _. subst (λ (l : List ℕ). PutsUpTo leads before now (put_lines_of l)) same up_to }
+
+-- how many went out before, by what is answered
+pub counts_none : {K : Type 0} {leads : K → PutCall → K → Type 0} {text : List ℕ} {before now : K} {done : ℕ} {status : Status} → status ≢ WriteFault →
+    CountsPuts leads before now text done status
+counts_none calm = record { failed = λ is. absurd (calm is) }
+
+pub counts_to_fault : {K : Type 0} {leads : K → PutCall → K → Type 0} {seen text : List ℕ} {before now : K} {done : ℕ} → seen ≡ text →
+    PutsAfter leads before now (put_lines_of seen) done → CountsPuts leads before now text done WriteFault
+counts_to_fault {leads = leads} {before = before} {now = now} {done = done} same after =
+    record { failed = λ _. subst (λ (l : List ℕ). PutsAfter leads before now (put_lines_of l) done) same after }
 
 -- a line of what is left
 pub line_from : (text : List ℕ) (at n : ℕ) → at ≤ length text →

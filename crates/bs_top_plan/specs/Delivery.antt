@@ -1,5 +1,5 @@
 -- What went out of a finished text.
-use Rattle.std.specs.Prelude.{◌≡◌, ◌≢◌, ◌==◌, ℕ, List, [], ◌∷◌, ◌++◌, map, Option, if◌then◌else◌}
+use Rattle.std.specs.Prelude.{◌≡◌, ◌≢◌, ◌==◌, ℕ, List, [], ◌∷◌, ◌++◌, length, map, Option, if◌then◌else◌}
 use Rattle.std.specs.Io.{StartsWith}
 use Rattle.std.specs.Io.KnownBytes.{Appends}
 use Rattle.bs_bits.specs.Lines.{onto_first}
@@ -42,6 +42,19 @@ pub record PutsUpTo {K : Type 0} (leads : K → PutCall → K → Type 0) (befor
 abbrev pub PutsTo : {K : Type 0} → (K → PutCall → K → Type 0) → (before now : K) → List ℕ → Put → Type 0
 PutsTo leads before now text Done = InTurn leads before (puts_done (put_lines_of text)) now
 PutsTo leads before now text (Failed n) = PutsUpTo leads before now (put_lines_of text)
+
+-- up to the line whose put failed, and this many lines went out before it
+pub record PutsAfter {K : Type 0} (leads : K → PutCall → K → Type 0) (before now : K) (lines : List (List ℕ)) (done : ℕ) : Type 0 where
+  pub up_to : PutsUpTo leads before now lines
+  pub counted : length up_to.front ≡ done
+
+abbrev pub PutsSoMany : {K : Type 0} → (K → PutCall → K → Type 0) → (before now : K) → List ℕ → ℕ → Put → Type 0
+PutsSoMany leads before now text done Done = Unit {0}
+PutsSoMany leads before now text done (Failed n) = PutsAfter leads before now (put_lines_of text) done
+
+-- where a put failed, this many lines of the text went out before
+pub record CountsPuts {K : Type 0} (leads : K → PutCall → K → Type 0) (before now : K) (text : List ℕ) (done : ℕ) (answered : Status) : Type 0 where
+  pub failed : answered ≡ WriteFault → PutsAfter leads before now (put_lines_of text) done
 
 -- The lines of the text were put one by one, in their order: all of them, or those up to and with the one that failed.
 pub record PutsLines {K : Type 0} (leads : K → PutCall → K → Type 0) (before now : K) (text : List ℕ) (answered : Status) : Type 0 where

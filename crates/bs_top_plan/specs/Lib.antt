@@ -4,6 +4,8 @@ pub mod Plan
 pub mod Answers
 pub mod Asking
 pub mod Walks
+pub mod Told
+pub mod Telling
 pub mod Prepared
 pub mod Delivery
 pub mod Clauses

@@ -1,7 +1,7 @@
 //! The finished text goes out, each line in a put of its own.
 ghost use Rattle.std.specs.Prelude.{◌≡◌, ◌≢◌, ◌<◌, ◌≤◌, ◌+◌, ◌-◌, ◌==◌, ◌∷◌, ℕ, length, take, drop, slice_index, true, false};
 ghost use Rattle.bs_outside.specs.Putting.{Puts};
-ghost use Rattle.bs_top_plan.specs.Delivery.{Delivers, put_lines_of, PutsLines, PutsTo};
+ghost use Rattle.bs_top_plan.specs.Delivery.{CountsPuts, Delivers, put_lines_of, PutsLines, PutsSoMany, PutsTo};
 
 use crate::reply::Reply;
 use crate::status::Status;
@@ -42,31 +42,60 @@ fn line_end(text: &[u8], at: usize) -> usize
     at + line_len(&text[at..])
 }
 
-/// Puts the lines of a text. After one that fails there is no other.
-fn put_lines<K: Sink>(text: &[u8], out: &mut K) -> Put
+/// Puts the lines of a text, and counts those that went out. After one that fails there is no other.
+fn put_lines<K: Sink>(text: &[u8], out: &mut K, lines: &mut usize) -> Put
+    requires { lines.old ≡ 0 }
     ensures puts { Puts (K.written out.old) (K.written out.new) (K.faults out.old) (K.faults out.new) text.now result }
     ensures lines { PutsTo K.leads out.old out.new text.now result }
+    ensures counted { PutsSoMany K.leads out.old out.new text.now lines.new result }
 {
     let mut at = 0;
     while at < text.len() {
         let end = line_end(text, at);
         match out.put(&text[at..end]) {
-            Put::Done => at = end,
+            Put::Done => {
+                at = end;
+                *lines += 1;
+            }
             Put::Failed(count) => return Put::Failed(at + count),
         }
     }
     Put::Done
 }
 
+/// How a text was delivered: the status, and how many lines went out before one that failed.
+#[derive(Clone, Copy, Debug)]
+pub struct Delivered {
+    pub status: Status,
+    pub lines: usize,
+}
+
 /// Writes the text of an answer, a put for each line, and gives the answer's status. A put that fails is the last, and
 /// the status is then `WriteFault`.
+pub fn deliver_counted<K: Sink>(answer: &Reply, out: &mut K) -> Delivered
+    requires { answer.now.status ≢ Status.WriteFault }
+    ensures sent { Delivers answer.now.status answer.now.text.items (K.written out.old) (K.written out.new) (K.faults out.old) (K.faults out.new) result.status }
+    ensures lines { PutsLines K.leads out.old out.new answer.now.text.items result.status }
+    ensures counted { CountsPuts K.leads out.old out.new answer.now.text.items result.lines result.status }
+{
+    let mut lines = 0;
+    match put_lines(&answer.text, out, &mut lines) {
+        Put::Done => Delivered {
+            status: answer.status,
+            lines,
+        },
+        Put::Failed(_) => Delivered {
+            status: Status::WriteFault,
+            lines,
+        },
+    }
+}
+
+/// The same without the count.
 pub fn deliver<K: Sink>(answer: &Reply, out: &mut K) -> Status
     requires { answer.now.status ≢ Status.WriteFault }
     ensures sent { Delivers answer.now.status answer.now.text.items (K.written out.old) (K.written out.new) (K.faults out.old) (K.faults out.new) result }
     ensures lines { PutsLines K.leads out.old out.new answer.now.text.items result }
 {
-    match put_lines(&answer.text, out) {
-        Put::Done => answer.status,
-        Put::Failed(_) => Status::WriteFault,
-    }
+    deliver_counted(answer, out).status
 }
