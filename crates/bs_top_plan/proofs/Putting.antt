@@ -74,8 +74,9 @@ pub record HasPutLines {K : Type 0} (leads : K → PutCall → K → Type 0) (te
   pub puts : InTurn leads before (puts_done lines) now
   pub counted : length lines ≡ count
 
-pub lines_start : {K : Type 0} {leads : K → PutCall → K → Type 0} {text : List ℕ} {before : K} → HasPutLines leads text before before 0 0
-lines_start {K} {leads} {text} {before} = record { lines = []; parts = refl; puts = refl; counted = refl }
+pub lines_start : {K : Type 0} {leads : K → PutCall → K → Type 0} {text : List ℕ} {before : K} {count : ℕ} → count ≡ 0 →
+    HasPutLines leads text before before 0 count
+lines_start none = record { lines = []; parts = refl; puts = refl; counted = sym none }
 
 done_more : (front : List (List ℕ)) (line : List ℕ) → puts_done (front ++ line ∷ []) ≡ puts_done front ++ put_call line Done ∷ []
 done_more [] line = refl

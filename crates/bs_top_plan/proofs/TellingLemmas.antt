@@ -58,6 +58,13 @@ pub line_walks : {S R Q T V W : Type 0} {says : R → List ℕ → Type 0} {note
     WalksTold says notes held faults leads before now plan looked view seen result → Walks says held faults leads before now plan view (lined result)
 line_walks h = record { is = h.line; fetches = h.fetches; asked = h.asked; along = h.line_along }
 
+pub line_walked : {S R Q T V W : Type 0} {says : R → List ℕ → Type 0} {notes : Q → List ℕ → Type 0}
+    {held : S → Tells} {faults : S → Counts} {leads : S → FetchCall → S → Type 0} {before now : S}
+    {plan : Plan R V} {looked : Plan Q W} {view : T → V} {seen : T → W} {result : Result T Stop} (line : Result T JobFault) → line ≡ lined result →
+    WalksTold says notes held faults leads before now plan looked view seen result → Walks says held faults leads before now plan view line
+line_walked {says = says} {held = held} {faults = faults} {leads = leads} {before = before} {now = now} {plan = plan} {view = view} line e h =
+    subst (Walks says held faults leads before now plan view) (sym e) (line_walks h)
+
 pub note_walks : {S R Q T V W : Type 0} {says : R → List ℕ → Type 0} {notes : Q → List ℕ → Type 0}
     {held : S → Tells} {faults : S → Counts} {leads : S → FetchCall → S → Type 0} {before now : S}
     {plan : Plan R V} {looked : Plan Q W} {view : T → V} {seen : T → W} {result : Result T Stop} →

@@ -25,5 +25,5 @@ pub use limits::{
 pub use output::{Delivered, deliver, deliver_counted};
 pub use reply::{Reply, refused_words, stopped};
 pub use status::{NO_MEMORY_CODE, Status};
-pub use told::{Stop, Told, Unread, both, settle_told};
+pub use told::{Stop, Told, Unread, both, lined, settle_told};
 pub use walk::{JobFault, Refusal, fetch_file, settle};

@@ -43,11 +43,11 @@ fn line_end(text: &[u8], at: usize) -> usize
 }
 
 /// Puts the lines of a text, and counts those that went out. After one that fails there is no other.
-fn put_lines<K: Sink>(text: &[u8], out: &mut K, lines: &mut usize) -> Put
-    requires { lines.old ≡ 0 }
+fn put_lines<K: Sink>(text: &[u8], out: &mut K, done: &mut usize) -> Put
+    requires { done.old ≡ 0 }
     ensures puts { Puts (K.written out.old) (K.written out.new) (K.faults out.old) (K.faults out.new) text.now result }
     ensures lines { PutsTo K.leads out.old out.new text.now result }
-    ensures counted { PutsSoMany K.leads out.old out.new text.now lines.new result }
+    ensures counted { PutsSoMany K.leads out.old out.new text.now done.new result }
 {
     let mut at = 0;
     while at < text.len() {
@@ -55,7 +55,7 @@ fn put_lines<K: Sink>(text: &[u8], out: &mut K, lines: &mut usize) -> Put
         match out.put(&text[at..end]) {
             Put::Done => {
                 at = end;
-                *lines += 1;
+                *done += 1;
             }
             Put::Failed(count) => return Put::Failed(at + count),
         }

@@ -1,6 +1,6 @@
 //! What stops a walk over files, and the two texts that are told of it.
 ghost use Rattle.std.specs.Prelude.{◌≡◌};
-ghost use Rattle.bs_top_plan.specs.Told.{both_of, made, settled_told};
+ghost use Rattle.bs_top_plan.specs.Told.{both_of, lined, made, settled_told};
 ghost use Rattle.bs_top_plan.specs.declared.told.Stop.TheVariants.{Plain as PlainStop};
 
 use crate::file::File;
@@ -71,5 +71,16 @@ pub fn settle_told<T>(file: File, read: Result<T, Unread>) -> Result<T, Stop>
         Ok(value) => Ok(value),
         Err(Unread::NoMemory) => Err(Stop::Plain(JobFault::NoMemory)),
         Err(Unread::Refused(told)) => Err(Stop::Refused(file, told)),
+    }
+}
+
+/// A walk's answer without its note.
+pub fn lined<T>(walked: Result<T, Stop>) -> Result<T, JobFault>
+    ensures { result ≡ lined walked }
+{
+    match walked {
+        Ok(value) => Ok(value),
+        Err(Stop::Plain(fault)) => Err(fault),
+        Err(Stop::Refused(file, told)) => Err(JobFault::Refused(file, told.words)),
     }
 }

@@ -5,7 +5,7 @@ use Rattle.bs_top_plan.proofs.output.put_lines.Given as goal
 abbrev pub invariant-loop-at : goal.invariant-loop-at
 invariant-loop-at g l =
     HasPut l.text (g.K.Sink.written l.initial.out) (g.K.Sink.written l.out) (g.K.Sink.faults l.initial.out)
-    (g.K.Sink.faults l.out) l.at × HasPutLines g.K.Sink.leads l.text l.initial.out l.out l.at l.lines × (l.lines ≤ l.at)
+    (g.K.Sink.faults l.out) l.at × HasPutLines g.K.Sink.leads l.text l.initial.out l.out l.at l.done × (l.done ≤ l.at)
 
 abbrev pub decreases-loop-at : goal.decreases-loop-at
 decreases-loop-at g l = length l.text - l.at
