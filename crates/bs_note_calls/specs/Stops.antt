@@ -34,8 +34,8 @@ text_of steps S.Nohit =
     (codes "record more or longer runs of what the chip did, or choose a signature that tells more states apart"))
 text_of steps S.Empty = Some (empty_text steps)
 text_of steps S.Candidates =
-    Some (step_text (codes "the budget of candidates is spent, and no run comes to a listed state, in step") steps
-    (codes "ask for more with --candidates K, up to 65536, or choose a signature that tells more states apart"))
+    Some (step_text (codes "the list was cut, and no recorded moment was seen to lead to the state in one cycle, in step") steps
+    (codes "record more or longer runs of what the chip did, or choose a signature that tells more states apart"))
 text_of steps S.Conflicts =
     Some (step_text (codes "the budget of conflicts is spent, and no run comes to a listed state, in step") steps
     (codes "ask for more with --conflicts B, up to 2^40, or choose a signature that tells more states apart"))

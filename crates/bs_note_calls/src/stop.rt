@@ -68,9 +68,9 @@ fn note_of(alloc: Global, steps: u64, stop: Stop) -> Result<Option<Vec<u8>>, NoM
         Stop::Candidates => {
             let note = step_note(
                 alloc,
-                "the budget of candidates is spent, and no run comes to a listed state, in step",
+                "the list was cut, and no recorded moment was seen to lead to the state in one cycle, in step",
                 steps,
-                "ask for more with --candidates K, up to 65536, or choose a signature that tells more states apart",
+                "record more or longer runs of what the chip did, or choose a signature that tells more states apart",
             )?;
             Ok(Some(note))
         },

@@ -179,7 +179,7 @@ const NOTES: [Noted<'static>; 12] = [
         5,
         Some(Stop::Candidates),
         "",
-        "note: the budget of candidates is spent, and no run comes to a listed state, in step 2\nnote: ask for more with --candidates K, up to 65536, or choose a signature that tells more states apart\n",
+        "note: the list was cut, and no recorded moment was seen to lead to the state in one cycle, in step 2\nnote: record more or longer runs of what the chip did, or choose a signature that tells more states apart\n",
     ),
     (
         "run n.v s.txt t.txt d.txt",
