@@ -72,8 +72,12 @@ abbrev pub step_of : Begun → List Cand → ListEnd → Option HitLine → Step
 step_of b cands ended hit =
     record { present = b.present; stored = b.stored; older = b.older; cands = cands; end = ended; hit = hit }
 
+-- the report with a step more
+abbrev pub put_step : Report → Step → Report
+put_step r step = record r { steps = r.steps ++ step ∷ [] }
+
 abbrev pub with_step : Report → Begun → List Cand → ListEnd → Option HitLine → Report
-with_step r b cands ended hit = record r { steps = r.steps ++ step_of b cands ended hit ∷ [] }
+with_step r b cands ended hit = put_step r (step_of b cands ended hit)
 
 -- behind a state of the trace, where so many inputs are left
 abbrev pub behind_state : ℕ → Place
@@ -116,6 +120,10 @@ line_or_fault number (Some reached) = Ok reached
 -- what the whole line with this number gives
 abbrev pub followed : ℕ → Place → Report → List ℕ → Result Reached ReportFault
 followed number place r text = if is_done place then Err faults.Extra else line_or_fault number (taken place r text)
+
+-- what is wrong with a text that ends at a place, with these bytes behind its last line feed
+abbrev pub end_fault : Place → List ℕ → Option ReportFault
+end_fault place rest = if is_done place then (if length rest == 0 then None else Some faults.Extra) else Some faults.Short
 
 -- what the bytes behind the last line feed give
 abbrev pub ended : Place → Report → List ℕ → Result Report ReportFault

@@ -1,9 +1,11 @@
 //! The places of a report's text, and what a line gives at each.
-ghost use Rattle.std.specs.Prelude.{◌≡◌, IfOk, codes, option_map, Some, None, if◌then◌else◌};
+ghost use Rattle.std.specs.Prelude.{◌≡◌, [], ◌∷◌, ◌++◌, IfOk, OnOk, codes, option_map, Some, None, if◌then◌else◌};
+ghost use Rattle.std.specs.Str.{bytes_eq};
 ghost use Rattle.bs_report.specs.Forms.{count_in};
 ghost use Rattle.bs_bits.specs.Reading.{Answers};
+ghost use Rattle.bs_report.specs.Reading.{begun as begun_of, put_step as with_put};
 ghost use Rattle.bs_report.specs.Reading.{behind_state as behind_state_of, behind_stored as behind_stored_of, begins as begins_number, ended};
-ghost use Rattle.bs_report.specs.Reading.{followed, is_done as is_done_place, listed_place, log_place as log_place_of, older_place};
+ghost use Rattle.bs_report.specs.Reading.{end_fault, followed, line_or_fault, is_done as is_done_place, listed_place, log_place as log_place_of, older_place};
 ghost use Rattle.bs_report.specs.Reading.{present_place, step_of, stored_place, taken};
 ghost use Rattle.bs_report.specs.declared.fault.ReportFault.TheVariants.{NoMemory as Want};
 ghost use Rattle.bs_report.specs.declared.place.Place.TheVariants as places;
@@ -59,13 +61,6 @@ pub enum Place {
     End,
     /// nothing
     Done,
-}
-
-/// The place, where it is allowed.
-fn if_allowed(allowed: bool, place: Place) -> Option<Place>
-    ensures { result ≡ (if allowed then Some place else None) }
-{
-    if allowed { Some(place) } else { None }
 }
 
 /// Whether a line begins the step with this number.
@@ -132,8 +127,11 @@ fn take_turn(report: &mut Report, line: &[u8]) -> Option<Place>
 {
     match read_stop(line) {
         None => {
-            let begins = begins_step(line, report.steps.slice().len() as u64 + 1);
-            if_allowed(begins, Place::Present)
+            if begins_step(line, report.steps.slice().len() as u64 + 1) {
+                Some(Place::Present)
+            } else {
+                None
+            }
         }
         Some(stop) => {
             report.stop = stop;
@@ -183,6 +181,28 @@ fn take_stored(
     }
 }
 
+/// The place behind an older signature, where a line says it.
+fn behind_older(
+    alloc: Global,
+    present: Bits,
+    stored: Bits,
+    older: Option<Option<Bits>>,
+) -> Option<Place>
+    ensures { result ≡ option_map (λ older. places.Listing (begun_of present stored older) []) older }
+{
+    match older {
+        None => None,
+        Some(older) => {
+            let begun = Begun {
+                present,
+                stored,
+                older,
+            };
+            Some(Place::Listing(begun, List::new(alloc)))
+        }
+    }
+}
+
 /// The older signature of a step.
 fn take_older(
     alloc: Global,
@@ -192,17 +212,27 @@ fn take_older(
 ) -> Result<Option<Place>, NoMemory>
     ensures { IfOk result (λ next. next ≡ older_place present stored line.now) }
 {
-    match read_older(alloc, line)? {
-        None => Ok(None),
-        Some(older) => {
-            let begun = Begun {
-                present,
-                stored,
-                older,
-            };
-            Ok(Some(Place::Listing(begun, List::new(alloc))))
-        }
+    let older = read_older(alloc, line)?;
+    Ok(behind_older(alloc, present, stored, older))
+}
+
+/// The place behind the end of a list, where a line says it.
+fn behind_list(begun: Begun, cands: List<Cand>, ended: Option<ListEnd>) -> Option<Place>
+    ensures { result ≡ option_map (λ ended. places.Hit begun cands ended) ended }
+{
+    match ended {
+        None => None,
+        Some(ended) => Some(Place::Hit(begun, cands, ended)),
     }
+}
+
+/// The place behind a candidate.
+fn behind_cand(begun: Begun, cands: List<Cand>, cand: Cand) -> Result<Option<Place>, NoMemory>
+    ensures { IfOk result (λ next. next ≡ Some (places.Listing begun (cands ++ cand ∷ []))) }
+{
+    let mut cands = cands;
+    cands.push(cand)?;
+    Ok(Some(Place::Listing(begun, cands)))
 }
 
 /// A candidate, or how the list ended.
@@ -215,16 +245,9 @@ fn take_listed(
 ) -> Result<Option<Place>, NoMemory>
     ensures { IfOk result (λ next. next ≡ listed_place depth begun cands line.now) }
 {
-    let mut cands = cands;
     match read_cand(alloc, depth, line)? {
-        None => match read_end(line) {
-            None => Ok(None),
-            Some(ended) => Ok(Some(Place::Hit(begun, cands, ended))),
-        },
-        Some(cand) => {
-            cands.push(cand)?;
-            Ok(Some(Place::Listing(begun, cands)))
-        }
+        None => Ok(behind_list(begun, cands, read_end(line))),
+        Some(cand) => behind_cand(begun, cands, cand),
     }
 }
 
@@ -242,6 +265,15 @@ fn whole_step(begun: Begun, cands: List<Cand>, ended: ListEnd, hit: Option<HitLi
     }
 }
 
+/// Puts a step behind those of the report.
+fn put_step(report: &mut Report, step: Step) -> Result<Option<Place>, NoMemory>
+    ensures next { IfOk result (λ next. next ≡ Some places.Turn) }
+    ensures put { OnOk result (report.new ≡ with_put report.old step) }
+{
+    report.steps.push(step)?;
+    Ok(Some(Place::Turn))
+}
+
 /// The hit, with which the step is whole.
 fn take_hit(
     alloc: Global,
@@ -255,11 +287,7 @@ fn take_hit(
 {
     match read_hit(alloc, line)? {
         None => Ok(None),
-        Some(hit) => {
-            let step = whole_step(begun, cands, ended, hit);
-            report.steps.push(step)?;
-            Ok(Some(Place::Turn))
-        }
+        Some(hit) => put_step(report, whole_step(begun, cands, ended, hit)),
     }
 }
 
@@ -333,6 +361,17 @@ fn take_log_line(
     }
 }
 
+/// The last line.
+fn take_end(line: &[u8]) -> Option<Place>
+    ensures { result ≡ (if bytes_eq line.now (codes "end") then Some places.Done else None) }
+{
+    if is_text(line, b"end") {
+        Some(Place::Done)
+    } else {
+        None
+    }
+}
+
 /// The place behind a line, which is one of a form that its own place allows.
 fn take(
     alloc: Global,
@@ -356,7 +395,7 @@ fn take(
         Place::Input(left) => take_input(alloc, left, report, line),
         Place::Log => Ok(take_log(line)),
         Place::Lines(left) => take_log_line(alloc, left, report, line),
-        Place::End => Ok(if_allowed(is_text(line, b"end"), Place::Done)),
+        Place::End => Ok(take_end(line)),
         Place::Done => Ok(None),
     }
 }
@@ -371,6 +410,22 @@ fn is_done(place: &Place) -> bool
     }
 }
 
+/// The place behind the whole line with this number, where something may follow.
+fn follow_on(
+    alloc: Global,
+    number: u64,
+    place: Place,
+    report: &mut Report,
+    line: &[u8],
+) -> Result<Place, ReportFault>
+    ensures { Answers Want (λ next. (next, report.new)) result (line_or_fault number (taken place report.old line.now)) }
+{
+    match take(alloc, place, report, line)? {
+        Some(next) => Ok(next),
+        None => Err(ReportFault::Line(number)),
+    }
+}
+
 /// The place behind the whole line with this number.
 pub fn follow(
     alloc: Global,
@@ -382,23 +437,32 @@ pub fn follow(
     ensures { Answers Want (λ next. (next, report.new)) result (followed number place report.old line.now) }
 {
     if is_done(&place) {
-        return Err(ReportFault::Extra);
+        Err(ReportFault::Extra)
+    } else {
+        follow_on(alloc, number, place, report, line)
     }
-    match take(alloc, place, report, line)? {
-        Some(next) => Ok(next),
-        None => Err(ReportFault::Line(number)),
+}
+
+/// What is wrong with a text that ends at a place with these bytes behind its last line.
+fn end_fault(place: &Place, rest: &[u8]) -> Option<ReportFault>
+    ensures { result ≡ end_fault place.now rest.now }
+{
+    if !is_done(place) {
+        Some(ReportFault::Short)
+    } else if rest.is_empty() {
+        None
+    } else {
+        Some(ReportFault::Extra)
     }
 }
 
 /// The report, where the text ends behind its last line.
-pub fn finish(place: Place, report: Report, rest: &[u8]) -> Result<Report, ReportFault>
-    ensures { result ≡ ended place report rest.now }
+#[tactic(auto, using(crate::proofs::EndLemmas::ended_right, crate::proofs::EndLemmas::ended_wrong))]
+pub fn finish(place: &Place, report: Report, rest: &[u8]) -> Result<Report, ReportFault>
+    ensures { result ≡ ended place.now report rest.now }
 {
-    if !is_done(&place) {
-        Err(ReportFault::Short)
-    } else if rest.is_empty() {
-        Ok(report)
-    } else {
-        Err(ReportFault::Extra)
+    match end_fault(place, rest) {
+        None => Ok(report),
+        Some(fault) => Err(fault),
     }
 }

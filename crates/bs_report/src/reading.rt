@@ -45,7 +45,7 @@ fn read_lines(alloc: Global, bytes: &[u8]) -> Result<Report, ReportFault>
         number += 1;
         rest = behind;
     }
-    finish(place, report, rest)
+    finish(&place, report, rest)
 }
 
 impl Report {
