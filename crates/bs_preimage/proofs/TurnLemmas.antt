@@ -32,7 +32,7 @@ use Rattle.bs_solve.specs.Opening.{HasOpened}
 use Rattle.bs_preimage.specs.declared.turn.TurnEnd.{TurnEnd}
 use Rattle.bs_preimage.specs.declared.turn.TurnEnd.TheVariants.{Listed, Refuted, Spent}
 use Rattle.bs_preimage.specs.Turn.{Extends, HasSearched, MayTurn, TurnsTo, HasShown, HasShownCand, HasListedOne, block_in, guard_in, steps_after}
-use Rattle.bs_preimage.specs.Turn.{HasListedKnown, HasTakenKnown, GoesTo}
+use Rattle.bs_preimage.specs.Turn.{HasBlockedState, HasBlockedKnown, HasListedKnown, HasTakenKnown, GoesTo}
 use Rattle.bs_solve_recording.proofs.CallerLemmas.{begun_history, begun_vars, begun_clauses, open_are_lemmas, solved_keeps}
 
 -- ---- the book as a search begins
@@ -243,16 +243,10 @@ opened_searches old new a h =
       guards = h.vars;
     }
 
-pub known_listed : (e : Encoded) (a block : Clause) (known cand : Cand) (old middle new : SolverState) (id : ℕ) → cand ≡ known → HasOpened old middle a →
-    block ≡ block_for e cand.state → HasBlocked middle new block id → HasListedKnown e a known old new cand
-known_listed e a block known cand old middle new id is opened block_is blocked =
-    record {
-      is = is;
-      middle = middle;
-      searched = opened_searches old middle a opened;
-      id = id;
-      blocked = subst (λ (c : Clause). HasBlocked middle new c id) block_is blocked;
-    }
+pub known_blocked : (e : Encoded) (a : Clause) (state : List Bool) (old middle new : SolverState) → HasOpened old middle a →
+    HasBlockedState e state middle new → HasBlockedKnown e a state old new
+known_blocked e a state old middle new opened b =
+    record { middle = middle; searched = opened_searches old middle a opened; id = b.id; blocked = b.blocked }
 
 pub opened_vars : (e : Encoded) (a : Clause) (old new : SolverState) → MayTurn e old a → HasOpened old new a → new.book.problem.vars ≡ e.variables
 opened_vars e a old new may h = ap (λ (b : Book). b.problem.vars) h.book ∙ (begun_vars (is_begun old.stage) old.book a ∙ may.vars)
@@ -326,12 +320,12 @@ pub known_comes : (e : Encoded) (a : Clause) (limit : ℕ) (found : List Cand) (
     GoesTo e a limit found (Some known) k old new turn
 known_comes e a limit found known k old new (Listed cand) some due h =
     record {
-      middle = h.middle;
+      middle = h.way.middle;
       lemmas = [];
-      searched = h.searched;
+      searched = h.way.searched;
       few = omega (arith, some);
-      id = h.id;
-      blocked = h.blocked;
+      id = h.way.id;
+      blocked = subst (λ (x : Cand). HasBlocked h.way.middle new (block_for e x.state) h.way.id) (sym h.is) h.way.blocked;
       right = inr (ap Some (sym h.is));
       apart = inr (ap (λ (x : Cand). is_listed (listed found) x.state) h.is
           ∙ not_found (length found + 1 == k) (is_listed (listed found) known.state) due);

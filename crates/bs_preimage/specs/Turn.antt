@@ -162,13 +162,22 @@ TurnsTo e assumptions limit old new Spent = HasSpent assumptions limit old new
 
 -- ---- a turn, where a candidate may be known
 
--- the known candidate was listed without a search, and its state is blocked
-pub record HasListedKnown (e : Encoded) (assumptions : Clause) (known : Cand) (old new : SolverState) (cand : Cand) : Type 0 where
-  pub is : cand ≡ known
+-- a state is blocked
+pub record HasBlockedState (e : Encoded) (state : List Bool) (old new : SolverState) : Type 0 where
+  pub id : ℕ
+  pub blocked : HasBlocked old new (block_for e state) id
+
+-- a solve was begun and nothing searched, and a state is blocked
+pub record HasBlockedKnown (e : Encoded) (assumptions : Clause) (state : List Bool) (old new : SolverState) : Type 0 where
   pub middle : SolverState
   pub searched : HasSearched old middle assumptions []
   pub id : ℕ
-  pub blocked : HasBlocked middle new (block_for e cand.state) id
+  pub blocked : HasBlocked middle new (block_for e state) id
+
+-- the known candidate was listed without a search, and its state is blocked
+pub record HasListedKnown (e : Encoded) (assumptions : Clause) (known : Cand) (old new : SolverState) (cand : Cand) : Type 0 where
+  pub is : cand ≡ known
+  pub way : HasBlockedKnown e assumptions known.state old new
 
 abbrev pub HasTakenKnown : Encoded → Clause → Cand → SolverState → SolverState → TurnEnd → Type 0
 HasTakenKnown e assumptions known old new (Listed cand) = HasListedKnown e assumptions known old new cand

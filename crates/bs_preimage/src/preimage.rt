@@ -8,6 +8,7 @@ ghost use Rattle.bs_clause.specs.declared.literal.TheConstants.{VARIABLE_LIMIT};
 ghost use Rattle.bs_clause.specs.Range.{HasVariables};
 ghost use Rattle.bs_scan.specs.Choice.{depth_of};
 ghost use Rattle.bs_encode.specs.Assuming.{AreWide};
+ghost use Rattle.bs_encode.specs.Depth.{encoding_by};
 ghost use Rattle.bs_encode.specs.declared.encoding.TheConstants.{MAX_GUARDS};
 ghost use Rattle.bs_preimage.specs.Preimage.{fresh, assumptions_in, GoesOn, MayHaveStep};
 ghost use Rattle.bs_preimage.specs.Rest.{made};
@@ -49,6 +50,9 @@ fn solver_of(alloc: Global, encoding: &Encoding) -> Result<Solver, NoMemory>
     Ok(solver)
 }
 
+/// Drops an encoding.
+fn let_go(_encoding: Encoding) {}
+
 /// What lists candidates. Contracts see its netlist's circuit, what the signature is taken of, what its log is about, the
 /// log's lines, the newest first, how many lists were asked for, and whether memory ran out.
 #[derive(Drop)]
@@ -83,8 +87,22 @@ impl<'a> Preimage<'a> {
         requires { choice.now.width ≡ length (circuit net.now).flops }
         ensures { IfOk result (λ p. p ≡ fresh (circuit net.now) choice.now) }
     {
-        encodings_are_tidy(net, choice);
         let encoding = Encoding::new(alloc, net, choice)?;
+        Preimage::over(alloc, net, choice, encoding)
+    }
+
+    /// The same over the encoding of the netlist.
+    fn over(
+        alloc: Global,
+        net: &'a Netlist,
+        choice: &'a Choice,
+        encoding: Encoding,
+    ) -> Result<Preimage<'a>, NoMemory>
+        requires width { choice.now.width ≡ length (circuit net.now).flops }
+        requires encoding { encoding ≡ encoding_by (circuit net.now) choice.now }
+        ensures { IfOk result (λ p. p ≡ fresh (circuit net.now) choice.now) }
+    {
+        encodings_are_tidy(net, choice);
         let solver = solver_of(alloc, &encoding)?;
         Ok(Preimage {
             net,
@@ -167,6 +185,7 @@ impl<'a> Preimage<'a> {
         ensures texts { All HasText result }
         ensures accepted { self.entry.failed ≡ false → IsAccepted self.entry.problem result }
     {
+        let_go(self.encoding);
         self.solver.into_log()
     }
 }

@@ -4,7 +4,7 @@ ghost use Rattle.std.specs.List.{list_any};
 ghost use Rattle.bs_bits.specs.Bits.{bits_eq};
 ghost use Rattle.bs_solve_recording.specs.Stages.{is_begun};
 ghost use Rattle.bs_solve_recording.specs.declared.stage.Stage.TheVariants.{Solved};
-ghost use Rattle.bs_preimage.specs.Turn.{IsReadable, MayTurn, TurnsTo, Extends, HasShown, HasTakenKnown, GoesTo};
+ghost use Rattle.bs_preimage.specs.Turn.{IsReadable, MayTurn, TurnsTo, Extends, HasShown, HasBlockedState, HasBlockedKnown, HasTakenKnown, GoesTo};
 
 use crate::candidate::{candidate, copied};
 use bs_bits::Bits;
@@ -47,6 +47,25 @@ fn take_turn(
     }
 }
 
+/// Blocks a state behind a solve.
+fn block_state(
+    alloc: Global,
+    encoding: &Encoding,
+    solver: &mut Solver,
+    state: &Bits,
+) -> Result<(), NoMemory>
+    requires readable { IsReadable encoding.now }
+    requires stage { solver.old.failed ≡ false → solver.old.stage ≡ Solved }
+    requires vars { solver.old.book.problem.vars ≡ encoding.now.variables }
+    requires width { length state.now ≡ length encoding.now.states }
+    ensures ok { IfOk result (λ _. HasBlockedState encoding.now state.now solver.old solver.new) }
+    ensures lines { Extends false solver.old.book solver.new.book [] }
+{
+    let clause = encoding.block(alloc, state)?;
+    let _id = solver.block(alloc, &clause)?;
+    Ok(())
+}
+
 /// Reads the candidate that values show, and blocks its state.
 fn list_one(
     alloc: Global,
@@ -62,8 +81,7 @@ fn list_one(
     ensures lines { Extends false solver.old.book solver.new.book [] }
 {
     let cand = candidate(alloc, encoding, values)?;
-    let block = encoding.block(alloc, &cand.state)?;
-    solver.block(alloc, &block)?;
+    block_state(alloc, encoding, solver, &cand.state)?;
     Ok(TurnEnd::Listed(cand))
 }
 
@@ -84,6 +102,25 @@ fn is_due(found: &[Cand], known: &Cand, k: u64) -> bool
     is_last && is_new
 }
 
+/// Blocks a state that is known. Nothing is searched.
+fn block_known(
+    alloc: Global,
+    encoding: &Encoding,
+    solver: &mut Solver,
+    assumptions: &Lits,
+    state: &Bits,
+) -> Result<(), NoMemory>
+    requires readable { IsReadable encoding.now }
+    requires may { MayTurn encoding.now solver.old assumptions.now }
+    requires width { length state.now ≡ length encoding.now.states }
+    ensures ok { IfOk result (λ _. HasBlockedKnown encoding.now assumptions.now state.now solver.old solver.new) }
+    ensures lines { Extends (is_begun solver.old.stage) solver.old.book solver.new.book assumptions.now }
+{
+    solver.solve_unsearched(alloc, assumptions)?;
+    block_state(alloc, encoding, solver, state)?;
+    Ok(())
+}
+
 /// Lists a candidate that is known, and blocks its state. Nothing is searched.
 fn list_known(
     alloc: Global,
@@ -98,10 +135,8 @@ fn list_known(
     ensures ok { IfOk result (HasTakenKnown encoding.now assumptions.now known.now solver.old solver.new) }
     ensures lines { Extends (is_begun solver.old.stage) solver.old.book solver.new.book assumptions.now }
 {
+    block_known(alloc, encoding, solver, assumptions, &known.state)?;
     let listed = copied(known)?;
-    let clause = encoding.block(alloc, &listed.state)?;
-    solver.solve_unsearched(alloc, assumptions)?;
-    solver.block(alloc, &clause)?;
     Ok(TurnEnd::Listed(listed))
 }
 

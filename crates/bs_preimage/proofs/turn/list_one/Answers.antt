@@ -1,6 +1,11 @@
-use Rattle.bs_preimage.proofs.TurnLemmas.{blocked_extends}
 use Rattle.bs_preimage.proofs.turn.list_one.Goals as goal
 
--- src/turn.rt:46:1
-pub returns-clause-lines : goal.returns-clause-lines
-returns-clause-lines c = blocked_extends _ _ _ _ c.in_ok-block-2.ensures.ok
+pub returns-clause-ok : goal.returns-clause-ok
+returns-clause-ok c =
+    record {
+      state = c.in_ok-cand.ensures.state;
+      input = c.in_ok-cand.ensures.input;
+      before = c.in_ok-cand.ensures.before;
+      id = c.in_ok-block_state.ensures.ok.id;
+      blocked = c.in_ok-block_state.ensures.ok.blocked;
+    }

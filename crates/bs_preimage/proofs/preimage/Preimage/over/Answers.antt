@@ -9,7 +9,7 @@ use Rattle.bs_encode.specs.Depth.{encoding_by}
 use Rattle.bs_solve_recording.specs.Solver.{SolverState}
 use Rattle.bs_solve_recording.proofs.CallerLemmas.{axioms_stand}
 use Rattle.bs_preimage.specs.Rest.{IsPrepared, made}
-use Rattle.bs_preimage.proofs.preimage.Preimage.new.Goals as goal
+use Rattle.bs_preimage.proofs.preimage.Preimage.over.Goals as goal
 
 -- a solver that was just made is prepared
 made_prepared : (c : Circuit) (choice : Chosen) (e : Encoded) (s : SolverState) → choice.width ≡ length c.flops → e ≡ encoding_by c choice → s ≡ made e →
@@ -31,5 +31,5 @@ made_prepared c choice e s width encoded is = subst (λ x. IsPrepared c choice e
 
 pub invariant_of-result : goal.invariant_of-result
 invariant_of-result c =
-    made_prepared (circuit c.args.net.now) c.args.choice.now c.in_ok-encoding.encoding c.in_ok-solver.solver c.requires c.in_ok-encoding.ensures
+    made_prepared (circuit c.args.net.now) c.args.choice.now c.args.encoding c.in_ok-solver.solver c.requires.width c.requires.encoding
     c.in_ok-solver.ensures
