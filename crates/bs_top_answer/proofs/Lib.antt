@@ -1,0 +1,3 @@
+pub mod NoteLemmas
+pub mod EndingLemmas
+pub mod AnswerLemmas

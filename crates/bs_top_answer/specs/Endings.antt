@@ -1,0 +1,47 @@
+-- The notes on work that is done.
+use Rattle.std.specs.Prelude.{ℕ, ◌+◌, sum_by, Bool, true, false, List, ◌++◌, codes, decimal, length, Option, Some, None, option_map, if◌then◌else◌}
+use Rattle.bs_stim.specs.Runs.{Recorded, Stimulus}
+use Rattle.bs_report.specs.declared.report.Stop.{Stop}
+use Rattle.bs_report.specs.declared.report.Stop.TheVariants as S
+use Rattle.bs_note_files.specs.Notes.{plain_text}
+use Rattle.bs_note_calls.specs.Faults.{rejected_text}
+use Rattle.bs_note_calls.specs.Stops.{text_of}
+use Rattle.bs_note_calls.specs.Searches.{miss_text}
+use Rattle.bs_note_calls.specs.declared.told.Miss.{Miss}
+
+-- the moments of recorded runs: each cycle of each run from 0 to the run's number of cycles
+abbrev pub moments : Stimulus → ℕ
+moments stimulus = sum_by (λ (run : Recorded). length run.inputs + 1) stimulus.runs
+
+abbrev pub searched_text : ℕ → List ℕ
+searched_text count = plain_text (codes "so many moments of recorded runs were searched, each cycle of each run from 0: " ++ decimal count)
+
+-- the text of a stop, and what follows it: where no run comes to a listed state, how many moments were searched
+abbrev pub followed_text : Stimulus → Stop → List ℕ → List ℕ
+followed_text runs S.Nohit text = text ++ searched_text (moments runs)
+followed_text runs S.Reset text = text
+followed_text runs S.Length text = text
+followed_text runs S.Empty text = text
+followed_text runs S.Candidates text = text
+followed_text runs S.Conflicts text = text
+
+-- the note on why a run over these recorded runs stopped, after so many steps; none where it came to reset
+abbrev pub run_text : Stimulus → ℕ → Stop → Option (List ℕ)
+run_text runs steps stop = option_map (λ (text : List ℕ). followed_text runs stop text) (text_of steps stop)
+
+abbrev pub is_reset : Stop → Bool
+is_reset S.Reset = true
+is_reset S.Length = false
+is_reset S.Nohit = false
+is_reset S.Empty = false
+is_reset S.Candidates = false
+is_reset S.Conflicts = false
+
+-- the note on a search, where it has no execution
+abbrev pub miss_text_of : Option Miss → Option (List ℕ)
+miss_text_of None = None
+miss_text_of (Some miss) = Some (miss_text miss)
+
+-- the note on an audit, where the report is not valid
+abbrev pub rejected_text_if : Bool → Option (List ℕ)
+rejected_text_if rejected = if rejected then Some rejected_text else None

@@ -1,0 +1,6 @@
+pub mod Note
+pub mod Paths
+pub mod Stops
+pub mod Endings
+pub mod Prepared
+pub mod Said

@@ -1,0 +1,31 @@
+-- The note on a walk that stopped.
+use Rattle.std.specs.Prelude.{◌≡◌, ℕ, List, codes, if◌then◌else◌}
+use Rattle.std.specs.Str.{bytes_eq}
+use Rattle.bs_note_calls.specs.Faults.{IsUnreadNote, long_text}
+use Rattle.bs_top_plan.specs.declared.file.File.{File}
+use Rattle.bs_top_plan.specs.declared.walk.JobFault.{JobFault}
+use Rattle.bs_top_plan.specs.declared.walk.JobFault.TheVariants as J
+use Rattle.bs_top_plan.specs.Plan.{Says, Outcome, ready, refused, faulted}
+use Rattle.bs_top_answer.specs.declared.note.Note.{Note}
+use Rattle.bs_top_answer.specs.declared.note.Note.TheVariants.{Silent, Text, Wanting}
+
+-- the text on a file that is refused for this reason: one of its own where it is too long
+abbrev pub refused_text : File → List ℕ → List ℕ → List ℕ
+refused_text file path why = if bytes_eq why (codes "TooLong") then long_text file path else why
+
+-- The note is on this end of a plan, which is a stop: it goes with the reason for which the file is refused, or names the file that
+-- does not read.
+abbrev pub IsStopNote : {Q W : Type 0} → (Q → List ℕ → Type 0) → (File → List ℕ) → Outcome Q W → List ℕ → Type 0
+IsStopNote notes path_of (ready work) note = ⊥
+IsStopNote notes path_of (refused file reason) note = (why : List ℕ) × Says notes reason why × (note ≡ refused_text file (path_of file) why)
+IsStopNote notes path_of (faulted file) note = IsUnreadNote (path_of file) note
+
+-- ---- what inner functions promise
+
+-- the note on what stopped the code's walk
+abbrev pub StopNoted : (File → List ℕ) → JobFault → Note → Type 0
+StopNoted path_of fault Silent = ⊥
+StopNoted path_of fault Wanting = Unit {0}
+StopNoted path_of J.NoMemory (Text note) = ⊥
+StopNoted path_of (J.Faulted file) (Text note) = IsUnreadNote (path_of file) note.items
+StopNoted path_of (J.Refused file why) (Text note) = note.items ≡ refused_text file (path_of file) why.items

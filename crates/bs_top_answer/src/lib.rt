@@ -1,0 +1,20 @@
+//! The answer of a call: the reply, the note on it for a person, and how both go out.
+//!
+//! Modules: `note` (`Note`: nothing, a text, or that memory ran out), `stopping` (the answer to a
+//! walk that stopped), `ending` (the notes on work that is done), `saying` (the reply goes out, and
+//! then at most one note). Used above: `PreparedNoted` (`specs/Prepared`), that the reply is what
+//! the words call for and the note is on the same fetches; `SaysAfter` (`specs/Said`), what the
+//! sink of the notes gains.
+#![tactic(auto)]
+
+mod ending;
+mod note;
+mod paths;
+mod saying;
+mod stopping;
+
+pub use ending::{miss_said, rejected_said, run_said};
+pub use note::{Answer, Note, note_made};
+pub use paths::Paths;
+pub use saying::{deliver_noted, put_note, say_memory};
+pub use stopping::stop_answer;
