@@ -25,6 +25,8 @@ use Rattle.bs_solve_recording.specs.Solver.{SolverState, HasSolved, HasEnded, fi
 use Rattle.bs_solve_recording.specs.Values.{value_of}
 use Rattle.bs_solve_analysis.proofs.Clauses.{all_from, contains_first}
 use Rattle.bs_solve_recording.proofs.CallerLemmas.{open_are_lemmas, solved_keeps, bound_is, axioms_stand_still, guards_stay_retired}
+use Rattle.bs_solve.specs.Budget.{HasFewLemmas}
+use Rattle.bs_solve.proofs.BudgetLemmas.{few_lemmas}
 use Rattle.bs_encode.specs.Tables.{lit}
 use Rattle.bs_encode.specs.Encoded.{Encoded}
 use Rattle.bs_encode.specs.Assuming.{signed}
@@ -61,6 +63,10 @@ without_problem : (b : Book) (ids : List ℕ) → (without b ids).problem ≡ b.
 without_problem b [] = refl
 without_problem b (id ∷ ids) = refl
 
+deleted_few : (limit : ℕ) (ids : List ℕ) (h : History) → HasFewLemmas limit h → HasFewLemmas limit (delete_lines ids ++ h)
+deleted_few limit [] h few = few
+deleted_few limit (id ∷ ids) h few = few
+
 deleted_same : (ids : List ℕ) (h : History) → Same h (delete_lines ids ++ h)
 deleted_same [] h = record { step = refl; blocks = λ none. none; finished = refl }
 deleted_same (id ∷ ids) h = record { step = refl; blocks = λ none. none; finished = refl }
@@ -83,7 +89,7 @@ range_more a n = let one : n + 1 ≡ suc n = omega arith in ap (range_with_len a
 abbrev pub begun : SolverState → SolverState
 begun s = record { book = s.book; vars = s.vars + 1; stage = Begun; failed = false }
 
-module _ (cs : List Clause) (e : Encoded) (k : ℕ) (p : List Bool) (c : ℕ) (old : SolverState) (between : IsBetween cs e k p c old) where
+module _ (cs : List Clause) (e : Encoded) (k : ℕ) (p : List Bool) (limit c : ℕ) (old : SolverState) (between : IsBetween cs e k p limit c old) where
   abbrev n : ℕ
   n = k * e.variables
 
@@ -116,10 +122,11 @@ module _ (cs : List Clause) (e : Encoded) (k : ℕ) (p : List Bool) (c : ℕ) (o
     problem : s.book.problem ≡ problem_over cs e k p (c + 1)
     history : s.book.history ≡ lines ++ Solve ∷ old.book.history
     lemmas : Each (λ line. is_lemma_line line ≡ true) lines
+    count : length lines ≤ limit
 
   searched : (s : SolverState) (a : Clause) (lines : List Line) → a ≡ due → s.book.problem ≡ (begun_book true old.book a).problem →
-      s.book.history ≡ lines ++ Solve ∷ old.book.history → Each (λ line. is_lemma_line line ≡ true) lines → Searched s lines
-  searched s a lines is problem history all =
+      s.book.history ≡ lines ++ Solve ∷ old.book.history → Each (λ line. is_lemma_line line ≡ true) lines → length lines ≤ limit → Searched s lines
+  searched s a lines is problem history all count =
       let one : 1 + c ≡ c + 1 = omega arith in
       record {
         problem =
@@ -129,7 +136,12 @@ module _ (cs : List Clause) (e : Encoded) (k : ℕ) (p : List Bool) (c : ℕ) (o
             (sym (map-range_with_len_more (length_assumes e k p) 1 c (c + 1) one))));
         history = history;
         lemmas = all;
+        count = count;
       }
+
+  few_then : (lines : List Line) → Each (λ line. is_lemma_line line ≡ true) lines → length lines ≤ limit →
+      HasFewLemmas limit (lines ++ Solve ∷ old.book.history)
+  few_then lines all count = few_lemmas limit lines old.book.history all count between.tried.few
 
   -- ---- the end of the step
 
@@ -148,7 +160,7 @@ module _ (cs : List Clause) (e : Encoded) (k : ℕ) (p : List Bool) (c : ℕ) (o
       ∙ (without_history (retired s.book) (gone s None) ∙ ap (λ (h : History). delete_lines (gone s None) ++ Retire (next_id s.book) ∷ h) found.history)
 
   -- it has no finish line
-  tried_open : (s new : SolverState) (lines : List Line) → Searched s lines → HasEnded s new None → IsTried cs e k p (c + 1) c new
+  tried_open : (s new : SolverState) (lines : List Line) → Searched s lines → HasEnded s new None → IsTried cs e k p limit (c + 1) c new
   tried_open s new lines found ended =
       let inner : History = lines ++ Solve ∷ old.book.history in
       let same = lemmas_same lines old.book.history found.lemmas in
@@ -159,15 +171,18 @@ module _ (cs : List Clause) (e : Encoded) (k : ℕ) (p : List Bool) (c : ℕ) (o
         problem = ended_problem s new None lines found refl ended;
         no_block = subst HasNoBlock (sym (open_history s new lines found ended)) (last.blocks (same.blocks between.tried.no_block));
         finished = ap finished_in (open_history s new lines found ended) ∙ (last.finished ∙ (same.finished ∙ between.tried.finished));
+        few = subst (HasFewLemmas limit) (sym (open_history s new lines found ended))
+            (deleted_few limit (gone s None) (Retire (next_id s.book) ∷ inner) (few_then lines found.lemmas found.count));
       }
 
-  shown : (s new : SolverState) (a : Clause) (guard : Literal) (limit : ℕ) (values : List (Option Bool)) → NoneRefused old.book.problem old.book.history →
+  shown : (s new : SolverState) (a : Clause) (guard : Literal) (values : List (Option Bool)) → NoneRefused old.book.problem old.book.history →
       a ≡ due → a ≡ guard ∷ signed (next_at e c) p → HasSolved (begun old) s a limit (answers.Found values) → HasEnded s new None →
-      HasShown cs e k p c values new
-  shown s new a guard limit values right is are solved ended =
+      HasShown cs e k p limit c values new
+  shown s new a guard values right is are solved ended =
       let found = solved.ends in
       let lines : List Line = found.lemmas.lines in
-      let got : Searched s lines = searched s a lines is found.lemmas.problem found.lemmas.history (open_are_lemmas _ lines found.lemmas.open_yet) in
+      let got : Searched s lines = searched s a lines is found.lemmas.problem found.lemmas.history (open_are_lemmas _ lines found.lemmas.open_yet)
+      (omega (arith, found.lemmas.length_is, found.under)) in
       let v : ℕ → Bool = value_of values in
       let holds : All (λ l. literal_value v l ≡ true) (guard ∷ signed (next_at e c) p) =
       subst (λ (d : Clause). All (λ l. literal_value v l ≡ true) d) (solved.step ∙ are) found.solution.assumptions_met in
@@ -180,12 +195,13 @@ module _ (cs : List Clause) (e : Encoded) (k : ℕ) (p : List Bool) (c : ℕ) (o
         ends = All-tail (λ l. literal_value v l ≡ true) guard (signed (next_at e c) p) holds;
       }
 
-  spent : (s new : SolverState) (a : Clause) (limit : ℕ) → NoneRefused old.book.problem old.book.history → a ≡ due →
+  spent : (s new : SolverState) (a : Clause) → NoneRefused old.book.problem old.book.history → a ≡ due →
       HasSolved (begun old) s a limit answers.Spent → HasEnded s new None → HasSpent cs e k p limit c new
-  spent s new a limit right is solved ended =
+  spent s new a right is solved ended =
       let lemmas = solved.ends.lemmas in
       let lines : List Line = lemmas.lines in
-      let got : Searched s lines = searched s a lines is lemmas.problem lemmas.history (open_are_lemmas _ lines lemmas.open_yet) in
+      let got : Searched s lines = searched s a lines is lemmas.problem lemmas.history (open_are_lemmas _ lines lemmas.open_yet)
+      (omega (arith, lemmas.length_is)) in
       let assumed_is : assumed (begun_book true old.book a) ≡ due = solved.assumed_is ∙ is in
       let guard_there : Contains due (guard_of old.book.problem (c + 1)) =
       subst (λ (v : ℕ). Contains due (lit (v + (c + 1)) true)) (sym vars_are) (contains_first (lit (n + (c + 1)) true) _) in
@@ -210,16 +226,16 @@ module _ (cs : List Clause) (e : Encoded) (k : ℕ) (p : List Bool) (c : ℕ) (o
             subst (λ (v : ℕ). limit < 2 ^ (v - length run)) vars_are (bound run (subst (λ (v : ℕ). HasVariables v run) (sym vars_are) range) unit);
       }
 
-  refuted : (s new : SolverState) (a : Clause) (limit id : ℕ) → a ≡ due → HasSolved (begun old) s a limit (answers.Refuted id) → HasEnded s new (Some id) →
-      IsBetween cs e k p (c + 1) new
-  refuted s new a limit id is solved ended =
+  refuted : (s new : SolverState) (a : Clause) (id : ℕ) → a ≡ due → HasSolved (begun old) s a limit (answers.Refuted id) → HasEnded s new (Some id) →
+      IsBetween cs e k p limit (c + 1) new
+  refuted s new a id is solved ended =
       let r = solved.ends in
       let lines : List Line = Lemma id r.last.lemma r.last.logged.hints ∷ r.before.lines in
       let got : Searched s lines = searched s a lines is
       (ap (λ (b : Book). b.problem) r.last.logged.book ∙ r.before.problem)
       (ap (λ (b : Book). b.history) r.last.logged.book
       ∙ ap (λ (h : List Line). Lemma id r.last.lemma r.last.logged.hints ∷ h) r.before.history)
-      (refl, open_are_lemmas _ r.before.lines r.before.open_yet) in
+      (refl, open_are_lemmas _ r.before.lines r.before.open_yet) (omega (arith, r.before.length_is, r.under)) in
       let inner : History = lines ++ Solve ∷ old.book.history in
       let ids : List ℕ = gone s (Some id) in
       let rid : ℕ = next_id (finished s.book (Some id)) in
@@ -241,33 +257,35 @@ module _ (cs : List Clause) (e : Encoded) (k : ℕ) (p : List Bool) (c : ℕ) (o
               ∙ (last.finished
               ∙ (ap (λ (ns : List ℕ). ns ++ step_of inner ∷ []) (same.finished ∙ between.tried.finished)
               ∙ (ap (λ (m : ℕ). range_with_len 1 c ++ m ∷ []) (step ∙ one) ∙ sym (range_more 1 c))));
+          few = subst (HasFewLemmas limit) (sym history)
+              (deleted_few limit ids (Retire rid ∷ Finish id ∷ inner) (few_then lines got.lemmas got.count));
         };
         guards = ended.vars ∙ (solved.vars ∙ omega (arith, between.guards));
         number = ap step_of history ∙ (retired_step ids rid (Finish id ∷ inner) ∙ ap (λ (m : ℕ). m + 1) step);
       }
 
-  pub shown_by : (s1 s new : SolverState) (a : Clause) (guard : Literal) (limit : ℕ) (values : List (Option Bool)) →
+  pub shown_by : (s1 s new : SolverState) (a : Clause) (guard : Literal) (values : List (Option Bool)) →
       NoneRefused old.book.problem old.book.history → s1 ≡ begun old → guard ≡ guard_of old.book.problem (step_of old.book.history) →
-      a ≡ guard ∷ signed (next_at e c) p → HasSolved s1 s a limit (answers.Found values) → HasEnded s new None → HasShown cs e k p c values new
-  shown_by s1 s new a guard limit values right start is are solved ended =
-      shown s new a guard limit values right (due_is guard a is are) are
+      a ≡ guard ∷ signed (next_at e c) p → HasSolved s1 s a limit (answers.Found values) → HasEnded s new None → HasShown cs e k p limit c values new
+  shown_by s1 s new a guard values right start is are solved ended =
+      shown s new a guard values right (due_is guard a is are) are
       (subst (λ (t : SolverState). HasSolved t s a limit (answers.Found values)) start solved) ended
 
-  pub spent_by : (s1 s new : SolverState) (a : Clause) (guard : Literal) (limit : ℕ) → NoneRefused old.book.problem old.book.history → s1 ≡ begun old →
+  pub spent_by : (s1 s new : SolverState) (a : Clause) (guard : Literal) → NoneRefused old.book.problem old.book.history → s1 ≡ begun old →
       guard ≡ guard_of old.book.problem (step_of old.book.history) →
       a ≡ guard ∷ signed (next_at e c) p → HasSolved s1 s a limit answers.Spent → HasEnded s new None → HasSpent cs e k p limit c new
-  spent_by s1 s new a guard limit right start is are solved ended =
-      spent s new a limit right (due_is guard a is are) (subst (λ (t : SolverState). HasSolved t s a limit answers.Spent) start solved) ended
+  spent_by s1 s new a guard right start is are solved ended =
+      spent s new a right (due_is guard a is are) (subst (λ (t : SolverState). HasSolved t s a limit answers.Spent) start solved) ended
 
-  pub refuted_by : (s1 s new : SolverState) (a : Clause) (guard : Literal) (limit id : ℕ) → s1 ≡ begun old →
+  pub refuted_by : (s1 s new : SolverState) (a : Clause) (guard : Literal) (id : ℕ) → s1 ≡ begun old →
       guard ≡ guard_of old.book.problem (step_of old.book.history) →
-      a ≡ guard ∷ signed (next_at e c) p → HasSolved s1 s a limit (answers.Refuted id) → HasEnded s new (Some id) → IsBetween cs e k p (c + 1) new
-  refuted_by s1 s new a guard limit id start is are solved ended =
-      refuted s new a limit id (due_is guard a is are) (subst (λ (t : SolverState). HasSolved t s a limit (answers.Refuted id)) start solved) ended
+      a ≡ guard ∷ signed (next_at e c) p → HasSolved s1 s a limit (answers.Refuted id) → HasEnded s new (Some id) → IsBetween cs e k p limit (c + 1) new
+  refuted_by s1 s new a guard id start is are solved ended =
+      refuted s new a id (due_is guard a is are) (subst (λ (t : SolverState). HasSolved t s a limit (answers.Refuted id)) start solved) ended
 
-pub begun_vars : (cs : List Clause) (e : Encoded) (k : ℕ) (p : List Bool) (c : ℕ) (old s : SolverState) → IsBetween cs e k p c old → s ≡ begun old →
+pub begun_vars : (cs : List Clause) (e : Encoded) (k : ℕ) (p : List Bool) (b c : ℕ) (old s : SolverState) → IsBetween cs e k p b c old → s ≡ begun old →
     s.vars ≡ k * e.variables + (c + 1)
-begun_vars cs e k p c old s between is = ap (λ (t : SolverState). t.vars) is ∙ omega (arith, between.guards)
+begun_vars cs e k p b c old s between is = ap (λ (t : SolverState). t.vars) is ∙ omega (arith, between.guards)
 
 -- no line of the log so far is refused
 pub right_in : (q : Problem) (h lines : History) → lines ≡ h → NoneRefused q lines → NoneRefused q h

@@ -19,6 +19,7 @@ use Rattle.bs_net.specs.Circuit.{Circuit, reset_state}
 use Rattle.bs_solve_recording.specs.declared.stage.Stage.TheVariants.{Idle}
 use Rattle.bs_solve_recording.specs.Solver.{SolverState}
 use Rattle.bs_solve_recording.specs.Values.{value_of}
+use Rattle.bs_solve.specs.Budget.{HasFewLemmas}
 use Rattle.bs_encode.specs.Encoded.{Encoded, encoding_of}
 use Rattle.bs_encode.specs.Assuming.{signed}
 use Rattle.bs_reach.specs.declared.reach.Reach.{Reach}
@@ -103,12 +104,12 @@ module _ (c : Circuit) (k : ℕ) (p : List Bool) (law : FinishedIsNotReached c (
   log_is : log ≡ reverse s.book.history
   log_is = sym (twice log) ∙ ap reverse lines
 
-  none_in : (tried refuted : ℕ) → IsTried cs e k p tried refuted s → HasNoBlock log
-  none_in tried refuted t = subst HasNoBlock (sym log_is) (no_block_reversed s.book.history t.no_block)
+  none_in : (b tried refuted : ℕ) → IsTried cs e k p b tried refuted s → HasNoBlock log
+  none_in b tried refuted t = subst HasNoBlock (sym log_is) (no_block_reversed s.book.history t.no_block)
 
-  not_reached : (tried refuted : ℕ) → IsTried cs e k p tried refuted s → tried ≤ k → IsAccepted (problem_over cs e k p tried) log → (j : ℕ) → 1 ≤ j →
+  not_reached : (b tried refuted : ℕ) → IsTried cs e k p b tried refuted s → tried ≤ k → IsAccepted (problem_over cs e k p tried) log → (j : ℕ) → 1 ≤ j →
       j ≤ refuted → ReachedIn c j p → ⊥
-  not_reached tried refuted t few ok j from to reached =
+  not_reached b tried refuted t few ok j from to reached =
       let there : Contains (finished_in s.book.history) j =
       subst (λ (ns : List ℕ). Contains ns j) (sym t.finished) (in_range 1 refuted j from (omega (arith, to))) in
       let spot : Split s.book.history j = split_at s.book.history j there in
@@ -117,32 +118,34 @@ module _ (c : Circuit) (k : ℕ) (p : List Bool) (law : FinishedIsNotReached c (
       log_is ∙ (ap reverse spot.is ∙ (reverse-append spot.newer (Finish spot.id ∷ spot.earlier)
       ∙ (ap (λ (t : List Line). t ++ reverse spot.newer) (reverse-append (Finish spot.id ∷ []) spot.earlier)
       ∙ append_assoc before (Finish spot.id ∷ []) (reverse spot.newer)))) in
-      law k tried p log before (reverse spot.newer) spot.id few ok (none_in tried refuted t) parts
+      law k tried p log before (reverse spot.newer) spot.id few ok (none_in b tried refuted t) parts
       (subst (λ (n : ℕ). ReachedIn c n p) (sym (ap step_of (twice spot.earlier) ∙ spot.step)) reached)
 
-  not_before : (tried refuted n : ℕ) → IsTried cs e k p tried refuted s → tried ≤ k → IsAccepted (problem_over cs e k p tried) log → reset_state c ≢ p →
+  not_before : (b tried refuted n : ℕ) → IsTried cs e k p b tried refuted s → tried ≤ k → IsAccepted (problem_over cs e k p tried) log → reset_state c ≢ p →
       n ≡ refuted + 1 → NotBefore c n p
-  not_before tried refuted n t few ok other is j lt reached = elim (cases_eq j 0) [
+  not_before b tried refuted n t few ok other is j lt reached = elim (cases_eq j 0) [
     | inl none ↦ other (no_inputs c p (subst (λ (m : ℕ). ReachedIn c m p) none reached))
-    | inr some ↦ not_reached tried refuted t few ok j (omega (arith, some)) (omega (arith, lt, is)) reached
+    | inr some ↦ not_reached b tried refuted t few ok j (omega (arith, some)) (omega (arith, lt, is)) reached
   ]
 
   -- the parts of an answer that its log gives
-  record Logged (tried refuted : ℕ) : Type 0 where
+  record Logged (b tried refuted : ℕ) : Type 0 where
     accepted : IsAccepted (reach_problem e (reset_state c) k p tried) log
     lean : IsLean (reach_problem e (reset_state c) k p tried) (history_of log)
     no_block : HasNoBlock log
     finished : finished_in (history_of log) ≡ range_with_len 1 refuted
+    few : HasFewLemmas b (history_of log)
 
-  logged : (tried refuted : ℕ) → IsTried cs e k p tried refuted s → (s.failed ≡ false → IsLean s.book.problem (history_of log)) →
+  logged : (b tried refuted : ℕ) → IsTried cs e k p b tried refuted s → (s.failed ≡ false → IsLean s.book.problem (history_of log)) →
       (s.failed ≡ false → s.stage ≡ Idle → IsAccepted s.book.problem log) →
-      Logged tried refuted
-  logged tried refuted t lean ok =
+      Logged b tried refuted
+  logged b tried refuted t lean ok =
       record {
         accepted = subst (λ (q : Problem). IsAccepted q log) t.problem (ok t.well t.idle);
         lean = subst (λ (q : Problem). IsLean q (history_of log)) t.problem (lean t.well);
-        no_block = none_in tried refuted t;
+        no_block = none_in b tried refuted t;
         finished = ap finished_in lines ∙ t.finished;
+        few = subst (HasFewLemmas b) (sym lines) t.few;
       }
 
   pub reach_is : (b : ℕ) (end : End) (told : Told) → SolutionsAreExecutions c e → length p ≡ length c.flops → reset_state c ≢ p → EndsAs cs e k p b s end →
@@ -150,7 +153,7 @@ module _ (c : Circuit) (k : ℕ) (p : List Bool) (law : FinishedIsNotReached c (
       (s.failed ≡ false → IsLean s.book.problem (history_of log)) → All HasText log → (s.failed ≡ false → s.stage ≡ Idle → IsAccepted s.book.problem log) →
       IsReach c p k b (record { asked = k; conflicts = b; outcome = told.outcome; states = told.states; inputs = told.inputs; log = log })
   reach_is b (Reached i values) told sound wide other (lt, h) tells lean texts ok =
-      let l : Logged (i + 1) i = logged (i + 1) i h.tried lean ok in
+      let l : Logged b (i + 1) i = logged b (i + 1) i h.tried lean ok in
       let v : ℕ → Bool = value_of values in
       let back : i ≡ (i + 1) - 1 = omega arith in
       let ends : All (λ (q : Literal). literal_value v q ≡ true) (signed (next_at e ((i + 1) - 1)) p) =
@@ -165,30 +168,32 @@ module _ (c : Circuit) (k : ℕ) (p : List Bool) (law : FinishedIsNotReached c (
       (record {
         asked_is = refl;
         conflicts_is = refl;
-        outcome_is = (omega (arith, lt), first, not_before (i + 1) i (i + 1) h.tried (omega (arith, lt)) l.accepted other refl);
+        outcome_is = (omega (arith, lt), first, not_before b (i + 1) i (i + 1) h.tried (omega (arith, lt)) l.accepted other refl);
         accepted = l.accepted;
         lean = l.lean;
         texts = texts;
         no_block = l.no_block;
         finished = l.finished ∙ ap (range_with_len 1) back;
+        few = l.few;
       })
   reach_is b Unreached told sound wide other h tells lean texts ok =
-      let l : Logged k k = logged k k h.tried lean ok in
+      let l : Logged b k k = logged b k k h.tried lean ok in
       let R : Outcome → Type 0 =
       λ o. IsReach c p k b (record { asked = k; conflicts = b; outcome = o; states = told.states; inputs = told.inputs; log = log }) in
       subst R (sym tells)
       (record {
         asked_is = refl;
         conflicts_is = refl;
-        outcome_is = not_before k k (k + 1) h.tried (omega arith) l.accepted other refl;
+        outcome_is = not_before b k k (k + 1) h.tried (omega arith) l.accepted other refl;
         accepted = l.accepted;
         lean = l.lean;
         texts = texts;
         no_block = l.no_block;
         finished = l.finished;
+        few = l.few;
       })
   reach_is b (Unknown i) told sound wide other (lt, h) tells lean texts ok =
-      let l : Logged (i + 1) i = logged (i + 1) i h.tried lean ok in
+      let l : Logged b (i + 1) i = logged b (i + 1) i h.tried lean ok in
       let back : i ≡ (i + 1) - 1 = omega arith in
       let R : Outcome → Type 0 =
       λ o. IsReach c p k b (record { asked = k; conflicts = b; outcome = o; states = told.states; inputs = told.inputs; log = log }) in
@@ -198,7 +203,7 @@ module _ (c : Circuit) (k : ℕ) (p : List Bool) (law : FinishedIsNotReached c (
         conflicts_is = refl;
         outcome_is = (
           omega (arith, lt),
-          not_before (i + 1) i (i + 1) h.tried (omega (arith, lt)) l.accepted other refl,
+          not_before b (i + 1) i (i + 1) h.tried (omega (arith, lt)) l.accepted other refl,
           record {
             earlier = h.earlier;
             lemmas = h.lemmas;
@@ -216,6 +221,7 @@ module _ (c : Circuit) (k : ℕ) (p : List Bool) (law : FinishedIsNotReached c (
         texts = texts;
         no_block = l.no_block;
         finished = l.finished ∙ ap (range_with_len 1) back;
+        few = l.few;
       })
 
 -- ---- answers without a search
@@ -247,6 +253,7 @@ at_reset_is c p k b states inputs log e s x l =
       texts = All-nil HasText;
       no_block = refl;
       finished = refl;
+      few = tt;
     })))
 
 pub never_is : (c : Circuit) (p : List Bool) (b : ℕ) (states inputs : List (List Bool)) (log : List Line) → reset_state c ≢ p → log ≡ [] →
@@ -262,16 +269,17 @@ never_is c p b states inputs log other l =
       texts = All-nil HasText;
       no_block = refl;
       finished = refl;
+      few = tt;
     })
 
 -- ---- the start of a search
 
-pub starts_between : (cs : List Clause) (e : Encoded) (k : ℕ) (p : List Bool) (s : SolverState) → s ≡ fresh_over cs e k →
-    IsBetween s.book.problem.clauses e k p 0 s
-starts_between cs e k p s is =
-    subst (λ (t : SolverState). IsBetween t.book.problem.clauses e k p 0 t) (sym is)
+pub starts_between : (cs : List Clause) (e : Encoded) (k : ℕ) (p : List Bool) (b : ℕ) (s : SolverState) → s ≡ fresh_over cs e k →
+    IsBetween s.book.problem.clauses e k p b 0 s
+starts_between cs e k p b s is =
+    subst (λ (t : SolverState). IsBetween t.book.problem.clauses e k p b 0 t) (sym is)
     (record {
-      tried = record { well = refl; idle = refl; problem = refl; no_block = refl; finished = refl };
+      tried = record { well = refl; idle = refl; problem = refl; no_block = refl; finished = refl; few = tt };
       guards = omega arith;
       number = refl;
     })

@@ -8,6 +8,6 @@ use Rattle.bs_reach.specs.declared.search.End.TheVariants.{Reached, Unreached, U
 use Rattle.bs_reach.specs.Search.{IsBetween, HasShown, HasSpent}
 
 abbrev pub EndsAs : List Clause → Encoded → ℕ → List Bool → ℕ → SolverState → End → Type 0
-EndsAs clauses e k p b s (Reached c values) = (c < k) × HasShown clauses e k p c values s
-EndsAs clauses e k p b s Unreached = IsBetween clauses e k p k s
+EndsAs clauses e k p b s (Reached c values) = (c < k) × HasShown clauses e k p b c values s
+EndsAs clauses e k p b s Unreached = IsBetween clauses e k p b k s
 EndsAs clauses e k p b s (Unknown c) = (c < k) × HasSpent clauses e k p b c s

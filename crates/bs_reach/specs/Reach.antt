@@ -12,6 +12,7 @@ use Rattle.bs_log.specs.Lean.{IsLean}
 use Rattle.bs_log.specs.LineForms.{HasText}
 use Rattle.bs_log.specs.Steps.{HasNoBlock, finished_in}
 use Rattle.bs_solve_recording.specs.Ending.{is_open_lemma}
+use Rattle.bs_solve.specs.Budget.{HasFewLemmas}
 use Rattle.bs_net.specs.Circuit.{Circuit, reset_state}
 use Rattle.bs_encode.specs.Encoded.{encoding_of}
 use Rattle.bs_encode.specs.Transition.{variables}
@@ -58,7 +59,7 @@ abbrev pub problem_in : Circuit → List Bool → ℕ → Outcome → Problem
 problem_in c p k outcome = reach_problem (encoding_of c []) (reset_state c) k p (tried_of k outcome)
 
 -- the outcome is right; the log is accepted on the unrolled clauses and lean, and has a finish line for each length that is said
--- not to be reached, from 1 on, and for no other
+-- not to be reached, from 1 on, and for no other; no solve logged more than b lemmas
 pub record IsReach (c : Circuit) (p : List Bool) (k b : ℕ) (r : Reach) : Type 0 where
   pub asked_is : r.asked ≡ k
   pub conflicts_is : r.conflicts ≡ b
@@ -68,3 +69,4 @@ pub record IsReach (c : Circuit) (p : List Bool) (k b : ℕ) (r : Reach) : Type 
   pub texts : All HasText r.log
   pub no_block : HasNoBlock r.log
   pub finished : finished_in (history_of r.log) ≡ range_with_len 1 (refuted_of k r.outcome)
+  pub few : HasFewLemmas b (history_of r.log)

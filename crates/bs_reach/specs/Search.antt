@@ -12,6 +12,7 @@ use Rattle.bs_solve_recording.specs.declared.stage.Stage.TheVariants.{Idle}
 use Rattle.bs_solve_recording.specs.Ending.{is_open_lemma}
 use Rattle.bs_solve_recording.specs.Solver.{SolverState}
 use Rattle.bs_solve_recording.specs.Values.{value_of}
+use Rattle.bs_solve.specs.Budget.{HasFewLemmas}
 use Rattle.bs_encode.specs.Encoded.{Encoded}
 use Rattle.bs_encode.specs.Assuming.{signed}
 use Rattle.bs_reach_unrolled.specs.Unrolled.{next_at, length_assumes}
@@ -27,23 +28,24 @@ problem_over clauses e k p count =
       steps = map (length_assumes e k p) (range_with_len 1 count);
     }
 
--- so many lengths were tried, and the first ones of them are refuted
-pub record IsTried (clauses : List Clause) (e : Encoded) (k : ℕ) (p : List Bool) (tried refuted : ℕ) (s : SolverState) : Type 0 where
+-- so many lengths were tried, and the first ones of them are refuted; no solve logged more than b lemmas
+pub record IsTried (clauses : List Clause) (e : Encoded) (k : ℕ) (p : List Bool) (b tried refuted : ℕ) (s : SolverState) : Type 0 where
   pub well : s.failed ≡ false
   pub idle : s.stage ≡ Idle
   pub problem : s.book.problem ≡ problem_over clauses e k p tried
   pub no_block : HasNoBlock s.book.history
   pub finished : finished_in s.book.history ≡ range_with_len 1 refuted
+  pub few : HasFewLemmas b s.book.history
 
 -- so many lengths were tried, and all of them are refuted
-pub record IsBetween (clauses : List Clause) (e : Encoded) (k : ℕ) (p : List Bool) (count : ℕ) (s : SolverState) : Type 0 where
-  pub tried : IsTried clauses e k p count count s
+pub record IsBetween (clauses : List Clause) (e : Encoded) (k : ℕ) (p : List Bool) (b count : ℕ) (s : SolverState) : Type 0 where
+  pub tried : IsTried clauses e k p b count count s
   pub guards : s.vars ≡ k * e.variables + count
   pub number : step_of s.book.history ≡ count + 1
 
 -- the values meet the clauses, and copy number c leads to the state
-pub record HasShown (clauses : List Clause) (e : Encoded) (k : ℕ) (p : List Bool) (c : ℕ) (values : List (Option Bool)) (s : SolverState) : Type 0 where
-  pub tried : IsTried clauses e k p (c + 1) c s
+pub record HasShown (clauses : List Clause) (e : Encoded) (k : ℕ) (p : List Bool) (b c : ℕ) (values : List (Option Bool)) (s : SolverState) : Type 0 where
+  pub tried : IsTried clauses e k p b (c + 1) c s
   pub wide : k * e.variables ≤ length values
   pub met : All (Satisfies (value_of values)) clauses
   pub ends : All (λ l. literal_value (value_of values) l ≡ true) (signed (next_at e c) p)
@@ -51,7 +53,7 @@ pub record HasShown (clauses : List Clause) (e : Encoded) (k : ℕ) (p : List Bo
 -- The solve of length c + 1 logged b lemmas, none of which ends its step, and then the step ended. And b is less than the number
 -- of values of the variables that a unit run leaves open.
 pub record HasSpent (clauses : List Clause) (e : Encoded) (k : ℕ) (p : List Bool) (b c : ℕ) (s : SolverState) : Type 0 where
-  pub tried : IsTried clauses e k p (c + 1) c s
+  pub tried : IsTried clauses e k p b (c + 1) c s
   pub earlier : History
   pub lemmas : List Line
   pub id : ℕ
@@ -65,8 +67,8 @@ pub record HasSpent (clauses : List Clause) (e : Encoded) (k : ℕ) (p : List Bo
 
 -- what the trial of length c + 1 comes to
 abbrev pub TriesTo : List Clause → Encoded → ℕ → List Bool → ℕ → ℕ → SolverState → Trial → Type 0
-TriesTo clauses e k p b c s (Shown values) = HasShown clauses e k p c values s
-TriesTo clauses e k p b c s Refuted = IsBetween clauses e k p (c + 1) s
+TriesTo clauses e k p b c s (Shown values) = HasShown clauses e k p b c values s
+TriesTo clauses e k p b c s Refuted = IsBetween clauses e k p b (c + 1) s
 TriesTo clauses e k p b c s Spent = HasSpent clauses e k p b c s
 
 -- a solver that was just made

@@ -93,7 +93,7 @@ fn sought(
     requires unrollable { IsUnrollable encoding.now k }
     requires width { length encoding.now.next ≡ length state.now }
     requires limit { 1 ≤ b }
-    requires start { IsBetween solver.old.book.problem.clauses encoding.now k state.now 0 solver.old }
+    requires start { IsBetween solver.old.book.problem.clauses encoding.now k state.now b 0 solver.old }
     ensures { IfOk result (TellsEnd solver.old.book.problem.clauses encoding.now k state.now b solver.new) }
 {
     let end = search(alloc, encoding, solver, state, k, b)?;
@@ -188,14 +188,4 @@ pub fn bounded(
         return Ok(never(alloc, net, state, b));
     }
     look(alloc, net, state, k as u32, b)
-}
-
-/// The number of variables that the clauses of one cycle have.
-pub fn size(alloc: Global, net: &Netlist) -> Result<u64, NoMemory>
-    ensures { IfOk result (λ n. n ≡ variables (circuit net.now) []) }
-{
-    let encoding = Encoding::plain(alloc, net)?;
-    let count = u64::from(encoding.vars());
-    let_go(encoding);
-    Ok(count)
 }

@@ -36,7 +36,7 @@ pub(crate) fn try_length(
     requires within { c < k }
     requires width { length encoding.now.next ≡ length state.now }
     requires limit { 1 ≤ b }
-    requires between { IsBetween solver.old.book.problem.clauses encoding.now k state.now c solver.old }
+    requires between { IsBetween solver.old.book.problem.clauses encoding.now k state.now b c solver.old }
     ensures { IfOk result (TriesTo solver.old.book.problem.clauses encoding.now k state.now b c solver.new) }
 {
     solver.log();

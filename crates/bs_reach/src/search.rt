@@ -35,7 +35,7 @@ pub(crate) fn search(
     requires unrollable { IsUnrollable encoding.now k }
     requires width { length encoding.now.next ≡ length state.now }
     requires limit { 1 ≤ b }
-    requires start { IsBetween solver.old.book.problem.clauses encoding.now k state.now 0 solver.old }
+    requires start { IsBetween solver.old.book.problem.clauses encoding.now k state.now b 0 solver.old }
     ensures { IfOk result (EndsAs solver.old.book.problem.clauses encoding.now k state.now b solver.new) }
 {
     'lengths: for c in 0..k {

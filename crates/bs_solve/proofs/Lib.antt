@@ -3,3 +3,4 @@ pub mod Knowns
 pub mod Endings
 pub mod Startings
 pub mod Engines
+pub mod BudgetLemmas

@@ -15,8 +15,7 @@ ghost use Rattle.bs_solve.specs.Starting.{HoldsStanding};
 
 use crate::dropping::Known;
 use crate::ending::{prepare, settle};
-use crate::room::roomy_watch;
-use crate::starting::{add_all, grow_to};
+use crate::starting::{filled, grow_to};
 use bs_arena::{Arena, Renaming};
 use bs_bits::List;
 use bs_clause::{Clauses, Lit, Lits, NoMemory, Var};
@@ -72,20 +71,30 @@ impl Solver {
           failed = false;
         }) }
     {
-        let mut watch = roomy_watch(alloc, vars, axioms.slice())?;
-        let mut arena = Arena::new(alloc);
-        let mut stock = Stock {
-            shorts: Vec::new(alloc),
-            rows: Vec::new(alloc),
-        };
+        let solver = Solver::over(alloc, vars, &axioms)?;
+        Ok(solver)
+    }
+
+    // The same, while the clauses are lent.
+    fn over(alloc: Global, vars: u32, axioms: &Clauses) -> Result<Solver, NoMemory>
+        requires range { All (HasVariables vars) axioms.now }
+        requires distinct { All (λ c. has_distinct_variables c ≡ true) axioms.now }
+        requires vars { vars < 2 ^ 30 }
+        ensures { IfOk result (λ s. s ≡ record {
+          book = record { problem = record { vars = vars; clauses = axioms.now; steps = [] }; history = [] };
+          vars = vars;
+          stage = Idle;
+          failed = false;
+        }) }
+    {
         let marks = Marks::new(alloc, vars)?;
-        add_all(&mut watch, &mut arena, &mut stock, axioms.slice())?;
-        let book = Recording::new(alloc, vars, &axioms);
+        let filled = filled(alloc, vars, axioms.slice())?;
+        let book = Recording::new(alloc, vars, axioms);
         Ok(Solver {
             book,
-            watch,
-            arena,
-            stock,
+            watch: filled.watch,
+            arena: filled.arena,
+            stock: filled.stock,
             marks,
             renaming: Renaming::new(alloc),
             own: vars,

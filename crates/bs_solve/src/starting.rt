@@ -1,5 +1,5 @@
 //! The clauses that a solver is given, and the variables that it gets.
-ghost use Rattle.std.specs.Prelude.{◌≡◌, ◌+◌, ◌^◌, ◌<◌, ◌≤◌, [], true, All, OnOk};
+ghost use Rattle.std.specs.Prelude.{◌≡◌, ◌+◌, ◌^◌, ◌<◌, ◌≤◌, [], true, All, IfOk, OnOk};
 ghost use Rattle.bs_clause.specs.Range.{HasVariables};
 ghost use Rattle.bs_log.specs.History.{axioms_from};
 ghost use Rattle.bs_log.specs.Refusal.{has_distinct_variables};
@@ -9,6 +9,7 @@ ghost use Rattle.bs_solve_analysis.specs.Marks.{IsClear};
 ghost use Rattle.bs_solve_search.specs.Stock.{IsStocked};
 ghost use Rattle.bs_solve.specs.Starting.{KeepsRest};
 
+use crate::room::roomy_watch;
 use bs_arena::Arena;
 use bs_clause::{Lits, NoMemory};
 use bs_log::Origin;
@@ -17,8 +18,8 @@ use bs_solve_search::{Stock, add_clause};
 use bs_watch::Watch;
 use std::alloc::Global;
 
-/// Adds clauses under the ids 1, 2, 3 and so on.
-pub fn add_all(
+// Adds clauses under the ids 1, 2, 3 and so on.
+fn add_all(
     watch: &mut Watch,
     arena: &mut Arena,
     stock: &mut Stock,
@@ -49,6 +50,39 @@ pub fn add_all(
         )?;
     }
     Ok(())
+}
+
+/// Clauses in an arena, watched, and noted.
+#[derive(Drop)]
+pub struct Standing {
+    pub watch: Watch,
+    pub arena: Arena,
+    pub stock: Stock,
+}
+
+/// Clauses under the ids 1, 2, 3 and so on, over the variables 1 to `vars`, of which none has a value.
+pub fn filled(alloc: Global, vars: u32, clauses: &[Lits]) -> Result<Standing, NoMemory>
+    requires vars { vars < 2 ^ 30 }
+    requires range { All (HasVariables vars) clauses.now }
+    requires distinct { All (λ c. has_distinct_variables c ≡ true) clauses.now }
+    ensures stocked { IfOk result (λ f. IsStocked f.watch.lists f.arena.clauses f.stock (axioms_from 1 clauses.now)) }
+    ensures serves { IfOk result (λ f. Serves f.watch f.arena.clauses) }
+    ensures trail { IfOk result (λ f. f.watch.trail ≡ record { vars = vars; places = [] }) }
+    ensures levels { IfOk result (λ f. f.watch.levels ≡ []) }
+    ensures words { IfOk result (λ f. f.arena.words ≡ live_words f.arena.clauses) }
+{
+    let mut watch = roomy_watch(alloc, vars, clauses)?;
+    let mut arena = Arena::new(alloc);
+    let mut stock = Stock {
+        shorts: Vec::new(alloc),
+        rows: Vec::new(alloc),
+    };
+    add_all(&mut watch, &mut arena, &mut stock, clauses)?;
+    Ok(Standing {
+        watch,
+        arena,
+        stock,
+    })
 }
 
 /// One more variable, where the last one is missing.

@@ -8,24 +8,24 @@ use Rattle.bs_reach.proofs.length.try_length.Goals as goal
 pub solve-requires-clause-range : goal.solve-requires-clause-range
 solve-requires-clause-range c =
     let many : c.begin_step.new.self.vars ≡ c.args.k * c.args.encoding.now.variables + (c.args.c + 1) =
-    begun_vars _ c.args.encoding.now c.args.k c.args.state.now c.args.c c.args.solver.now c.begin_step.new.self c.requires.between
+    begun_vars _ c.args.encoding.now c.args.k c.args.state.now c.args.b c.args.c c.args.solver.now c.begin_step.new.self c.requires.between
     c.in_ok-guard.ensures.ok in
     assumed_range c.args.encoding.now c.args.k c.args.c c.begin_step.new.self.vars c.args.state.now c.in_ok-guard.guard c.in_ok-assumptions.assumptions
     c.requires.unrollable c.requires.within
-    (guard_is _ c.args.encoding.now c.args.k c.args.state.now c.args.c c.args.solver.now c.requires.between c.in_ok-guard.guard c.in_ok-guard.ensures.guard)
+    (guard_is _ c.args.encoding.now c.args.k c.args.state.now c.args.b c.args.c c.args.solver.now c.requires.between c.in_ok-guard.guard c.in_ok-guard.ensures.guard)
     many c.in_ok-assumptions.ensures
 
 pub solve-requires-clause-distinct : goal.solve-requires-clause-distinct
 solve-requires-clause-distinct c =
     assumed_distinct c.args.encoding.now c.args.k c.args.c c.args.state.now c.in_ok-guard.guard c.in_ok-assumptions.assumptions c.requires.unrollable
     c.requires.within
-    (guard_is _ c.args.encoding.now c.args.k c.args.state.now c.args.c c.args.solver.now c.requires.between c.in_ok-guard.guard c.in_ok-guard.ensures.guard)
+    (guard_is _ c.args.encoding.now c.args.k c.args.state.now c.args.b c.args.c c.args.solver.now c.requires.between c.in_ok-guard.guard c.in_ok-guard.ensures.guard)
     c.in_ok-assumptions.ensures
 
 pub returns-in-Found : goal.returns-in-Found
 returns-in-Found c =
-    shown_by _ c.args.encoding.now c.args.k c.args.state.now c.args.c c.args.solver.now c.requires.between c.begin_step.new.self c.solve.new.self
-    c.end_step.new.self c.in_ok-assumptions.assumptions c.in_ok-guard.guard c.args.b c.in-Found.values
+    shown_by _ c.args.encoding.now c.args.k c.args.state.now c.args.b c.args.c c.args.solver.now c.requires.between c.begin_step.new.self c.solve.new.self
+    c.end_step.new.self c.in_ok-assumptions.assumptions c.in_ok-guard.guard c.in-Found.values
     (right_in c.args.solver.now.book.problem c.args.solver.now.book.history (history_of c.log.result.now) c.log.ensures.lines c.log.ensures.right)
     c.in_ok-guard.ensures.ok c.in_ok-guard.ensures.guard c.in_ok-assumptions.ensures
     (subst (HasSolved c.begin_step.new.self c.solve.new.self c.in_ok-assumptions.assumptions c.args.b) c.in-Found.is c.in_ok-values.ensures.ok)
@@ -33,16 +33,16 @@ returns-in-Found c =
 
 pub returns-in-Refuted : goal.returns-in-Refuted
 returns-in-Refuted c =
-    refuted_by _ c.args.encoding.now c.args.k c.args.state.now c.args.c c.args.solver.now c.requires.between c.begin_step.new.self c.solve.new.self
-    c.end_step-in-Refuted.new.self c.in_ok-assumptions.assumptions c.in_ok-guard.guard c.args.b c.in-Refuted.id
+    refuted_by _ c.args.encoding.now c.args.k c.args.state.now c.args.b c.args.c c.args.solver.now c.requires.between c.begin_step.new.self c.solve.new.self
+    c.end_step-in-Refuted.new.self c.in_ok-assumptions.assumptions c.in_ok-guard.guard c.in-Refuted.id
     c.in_ok-guard.ensures.ok c.in_ok-guard.ensures.guard c.in_ok-assumptions.ensures
     (subst (HasSolved c.begin_step.new.self c.solve.new.self c.in_ok-assumptions.assumptions c.args.b) c.in-Refuted.is c.in_ok-values.ensures.ok)
     c.in_ok-end_step-in-Refuted.ensures.ok
 
 pub returns : goal.returns
 returns c =
-    spent_by _ c.args.encoding.now c.args.k c.args.state.now c.args.c c.args.solver.now c.requires.between c.begin_step.new.self c.solve.new.self
-    c.end_step-in-Spent.new.self c.in_ok-assumptions.assumptions c.in_ok-guard.guard c.args.b
+    spent_by _ c.args.encoding.now c.args.k c.args.state.now c.args.b c.args.c c.args.solver.now c.requires.between c.begin_step.new.self c.solve.new.self
+    c.end_step-in-Spent.new.self c.in_ok-assumptions.assumptions c.in_ok-guard.guard
     (right_in c.args.solver.now.book.problem c.args.solver.now.book.history (history_of c.log.result.now) c.log.ensures.lines c.log.ensures.right)
     c.in_ok-guard.ensures.ok c.in_ok-guard.ensures.guard c.in_ok-assumptions.ensures
     (subst (HasSolved c.begin_step.new.self c.solve.new.self c.in_ok-assumptions.assumptions c.args.b) c.in-Spent.is c.in_ok-values.ensures.ok)
