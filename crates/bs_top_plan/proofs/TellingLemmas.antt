@@ -118,7 +118,7 @@ told_end {held = held} {faults = faults} {leads = leads} {before = before} {view
 }
 
 -- a file came, or its fetch stops the walk
-told_fetched : {S R Q : Type 0} {says : R → List ℕ → Type 0} {notes : Q → List ℕ → Type 0}
+pub told_fetched : {S R Q : Type 0} {says : R → List ℕ → Type 0} {notes : Q → List ℕ → Type 0}
     {held : S → Tells} {faults : S → Counts} {leads : S → FetchCall → S → Type 0} {before now : S} {file : File}
     {name : List ℕ} (result : Result (Vec ℕ Global) JobFault) (told : Result (Vec ℕ Global) Stop) → lined told ≡ result → note_seen told ≡ result →
     FetchedTo held faults leads before now file name result →
@@ -142,7 +142,7 @@ pub told_fetch_stop : {S R Q B B' U : Type 0} {says : R → List ℕ → Type 0}
 told_fetch_stop {stop = stop} f g h = told_stop f g (told_fetched (Err stop) (Err (K.Plain stop)) refl refl h)
 
 -- what a reader answers, once
-told_read : {S R Q T V W : Type 0} {says : R → List ℕ → Type 0} {notes : Q → List ℕ → Type 0}
+pub told_read : {S R Q T V W : Type 0} {says : R → List ℕ → Type 0} {notes : Q → List ℕ → Type 0}
     {held : S → Tells} {faults : S → Counts} {leads : S → FetchCall → S → Type 0} {before : S} {view : T → V} {seen : T → W} {result : Result T Stop}
     (file : File) (wanted : Result V (Reason R)) (looked : Result W (Reason Q)) (r : Result T Unread) → result ≡ settled_told file r →
     Reads says view wanted (worded r) → Reads notes seen looked (noted r) →
