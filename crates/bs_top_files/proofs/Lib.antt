@@ -5,3 +5,4 @@ pub mod ReadingLemmas
 pub mod DesignLemmas
 pub mod SignatureFits
 pub mod StimulusFits
+pub mod NotingLemmas

@@ -4,3 +4,7 @@ pub mod Entry
 pub mod Ready
 pub mod Props
 pub mod Law
+pub mod NoteCases
+pub mod Noting
+pub mod Looking
+pub mod Steps

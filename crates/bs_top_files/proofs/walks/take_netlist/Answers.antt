@@ -1,12 +1,5 @@
-use Rattle.std.proofs.lemmas.Result.{err_from_is_err_and}
-use Rattle.bs_top_plan.proofs.Walking.{fetch_stop, reads_then}
-use Rattle.bs_top_files.specs.Readings.{netlist_in}
+use Rattle.bs_top_plan.proofs.TellingLemmas.{line_walked}
 use Rattle.bs_top_files.proofs.walks.take_netlist.Goals as goal
 
-pub returns-in_err-bytes : goal.returns-in_err-bytes
-returns-in_err-bytes g c =
-    let p = err_from_is_err_and c.from_residual.result c.from_residual.ensures.1 in
-    rw (p.1, p.2) (fetch_stop _ c.in_err-bytes.ensures)
-
 pub returns : goal.returns
-returns g c = reads_then netlist_in _ _ c.deref.ensures.value c.settle.ensures c.in_ok-bytes.ensures c.read_netlist.ensures
+returns g c = line_walked _ c.lined.ensures c.load_netlist.ensures

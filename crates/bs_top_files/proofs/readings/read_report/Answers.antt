@@ -1,5 +1,0 @@
-use Rattle.bs_report.proofs.SpelledLemmas.{texts_are_reports}
-use Rattle.bs_top_files.proofs.readings.read_report.Goals as goal
-
-pub returns-in-Ok-clause-steps : goal.returns-in-Ok-clause-steps
-returns-in-Ok-clause-steps c = (texts_are_reports _ _ c.in-Ok.ensures).0.max_steps

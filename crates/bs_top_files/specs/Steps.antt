@@ -1,0 +1,55 @@
+-- What is left of a walk once its first files are read.
+use Rattle.std.specs.Prelude.{ℕ, List}
+use Rattle.bs_net.specs.Parts.{Parts}
+use Rattle.bs_scan.specs.Choice.{Chosen}
+use Rattle.bs_top_plan.specs.Plan.{Plan, end, ◌>>=◌}
+use Rattle.bs_top_files.specs.Entry.{FileNames, Setup, Crashed, Claimed, signature_of, stimulus_of, dump_of, report_of}
+use Rattle.bs_top_files.specs.Looking.{signature_looked, stimulus_looked, dump_looked, report_looked}
+use Rattle.bs_top_files.specs.NoteCases.{NoteCase}
+use Rattle.bs_top_files.specs.Refusals.{Case}
+
+-- behind the netlist
+abbrev pub choice_step : FileNames → Parts → Plan Case Setup
+choice_step names raw = do
+  choice ← signature_of raw names.signature
+  runs ← stimulus_of raw names.stimulus
+  end record { raw = raw; choice = choice; runs = runs }
+
+abbrev pub choice_looked : FileNames → Parts → Plan NoteCase Setup
+choice_looked names raw = do
+  choice ← signature_looked raw names.signature
+  runs ← stimulus_looked raw names.stimulus
+  end record { raw = raw; choice = choice; runs = runs }
+
+-- behind the signature
+abbrev pub runs_step : FileNames → Parts → Chosen → Plan Case Setup
+runs_step names raw choice = do
+  runs ← stimulus_of raw names.stimulus
+  end record { raw = raw; choice = choice; runs = runs }
+
+abbrev pub runs_looked : FileNames → Parts → Chosen → Plan NoteCase Setup
+runs_looked names raw choice = do
+  runs ← stimulus_looked raw names.stimulus
+  end record { raw = raw; choice = choice; runs = runs }
+
+-- behind the three files
+abbrev pub crash_step : Setup → List ℕ → Plan Case Crashed
+crash_step setup dump = do
+  dumped ← dump_of setup dump
+  end record { setup = setup; dump = dumped }
+
+abbrev pub crash_looked : Setup → List ℕ → Plan NoteCase Crashed
+crash_looked setup dump = do
+  dumped ← dump_looked setup dump
+  end record { setup = setup; dump = dumped }
+
+-- behind the dump
+abbrev pub claim_step : Crashed → List ℕ → Plan Case Claimed
+claim_step crashed report = do
+  claimed ← report_of report
+  end record { crashed = crashed; report = claimed }
+
+abbrev pub claim_looked : Crashed → List ℕ → Plan NoteCase Claimed
+claim_looked crashed report = do
+  claimed ← report_looked report
+  end record { crashed = crashed; report = claimed }

@@ -1,0 +1,73 @@
+//! Whether the runs have a moment, and whether a waveform is small enough, or what is told of it.
+ghost use Rattle.std.specs.Prelude.{◌≡◌, true, IfOk};
+ghost use Rattle.bs_scan.specs.Moments.{IsMoment};
+ghost use Rattle.bs_stim.specs.Runs.{inputs_of};
+ghost use Rattle.bs_note_calls.specs.Faults.{large_text, range_text};
+ghost use Rattle.bs_top_plan.specs.Plan.{exactly};
+ghost use Rattle.bs_top_plan.specs.Told.{note_refusal, noted, word_refusal, worded};
+ghost use Rattle.bs_top_plan.specs.Walks.{Reads};
+ghost use Rattle.bs_top_files.specs.NoteCases.{HasNote, NoteSays};
+ghost use Rattle.bs_top_files.specs.Noting.{moment_noted, size_noted};
+ghost use Rattle.bs_top_files.specs.Readings.{moment_in, size_in};
+ghost use Rattle.bs_top_files.specs.Refusals.{CheckSays, HasWords, range_words, too_large_words};
+
+use crate::readings::{has_moment, is_drawable};
+use crate::refusals::{range_refusal, too_large_refusal};
+use bs_net::Netlist;
+use bs_note_calls::{large_note, range_note};
+use bs_report::Report;
+use bs_scan::Moment;
+use bs_stim::Runs;
+use bs_top_plan::{Unread, both};
+use std::alloc::Global;
+
+/// What is told of a moment that no run has.
+#[tactic(auto, using(crate::proofs::NotingLemmas::both_words, crate::proofs::NotingLemmas::both_these))]
+fn range_told(alloc: Global, runs: &Runs, run: u64) -> Unread
+    ensures words { HasWords range_words (word_refusal result) }
+    ensures note { HasNote (exactly (range_text runs.now run)) (note_refusal result) }
+{
+    let words = range_refusal(alloc);
+    let note = range_note(alloc, runs, run);
+    both(words, note)
+}
+
+/// A moment of the runs, or what is told where no run has it.
+#[tactic(auto, using(crate::proofs::NotingLemmas::words_else, crate::proofs::NotingLemmas::note_else))]
+pub fn moment_or_told(alloc: Global, runs: &Runs, run: u64, cycle: u64) -> Result<Moment, Unread>
+    ensures words { Reads CheckSays (λ moment. moment) (moment_in runs.now run cycle) (worded result) }
+    ensures note { Reads NoteSays (λ moment. moment) (moment_noted runs.now run cycle) (noted result) }
+    ensures recorded { IfOk result (λ moment. IsMoment (inputs_of runs.now) moment) }
+{
+    if !has_moment(runs, run, cycle) {
+        return Err(range_told(alloc, runs, run));
+    }
+    Ok(Moment {
+        run: run as u32,
+        cycle: cycle as u32,
+    })
+}
+
+/// What is told of a report whose trace has too large a waveform.
+#[tactic(auto, using(crate::proofs::NotingLemmas::both_words, crate::proofs::NotingLemmas::both_these))]
+fn size_told(alloc: Global, path: &str) -> Unread
+    ensures words { HasWords too_large_words (word_refusal result) }
+    ensures note { HasNote (exactly (large_text path.now)) (note_refusal result) }
+{
+    let words = too_large_refusal(alloc);
+    let note = large_note(alloc, path);
+    both(words, note)
+}
+
+/// Whether a waveform of the report's trace is small enough, or what is told of it.
+#[tactic(auto, using(crate::proofs::NotingLemmas::words_else, crate::proofs::NotingLemmas::note_else))]
+pub fn size_or_told(alloc: Global, path: &str, net: &Netlist, report: &Report) -> Result<(), Unread>
+    ensures words { Reads CheckSays (λ _. true) (size_in net.now.raw report.now) (worded result) }
+    ensures note { Reads NoteSays (λ _. true) (size_noted path.now net.now.raw report.now) (noted result) }
+{
+    if is_drawable(net, report) {
+        Ok(())
+    } else {
+        Err(size_told(alloc, path))
+    }
+}
