@@ -78,43 +78,36 @@ fn logged_part(
     }
 }
 
-/// The same, where the assumptions are done with.
-fn part_over(
-    alloc: Global,
-    encoding: &Encoding,
-    width: usize,
-    report: &Report,
-    assumptions: List<Lits>,
-) -> Result<Option<Part>, NoMemory>
-    requires width { width ≡ length encoding.now.states }
-    requires room { encoding.now.variables + length report.now.steps < 2 ^ 30 }
-    requires sound { AreFit encoding.now report.now.steps }
-    requires assumptions { length assumptions ≡ length report.now.steps }
-    ensures { IfOk result (λ part. part ≡ first_of_all (logged_parts (basis_with encoding.now assumptions) report.now)) }
-{
-    logged_part(alloc, encoding, width, report, &assumptions)
-}
+/// Lets the assumptions of steps go.
+fn drop_assumptions(_assumptions: List<Lits>) {}
 
 /// The first part that fails against the log, over the encoding's clauses.
 fn encoded_part(
     alloc: Global,
     net: &Netlist,
     choice: &Choice,
-    encoding: Encoding,
+    encoding: &Encoding,
     report: &Report,
 ) -> Result<Option<Part>, NoMemory>
-    requires value { encoding ≡ encoding_by (circuit net.now) choice.now }
-    requires tidy { IsTidy (circuit net.now) choice.now encoding }
+    requires value { encoding.now ≡ encoding_by (circuit net.now) choice.now }
+    requires tidy { IsTidy (circuit net.now) choice.now encoding.now }
     requires few { length report.now.steps ≤ MAX_STEPS }
     requires sound { All (IsFit (length (circuit net.now).flops) (length choice.now.items) (depth_of choice.now)) report.now.steps }
     ensures { IfOk result (λ part. part ≡ first_of_all (logged_parts (basis_of (circuit net.now) choice.now (map present_of report.now.steps)) report.now)) }
 {
     let _depth = choice.depth();
-    match assumptions(alloc, &encoding, report.steps.slice()) {
-        Ok(assumptions) => part_over(alloc, &encoding, net.width(), report, assumptions),
+    match assumptions(alloc, encoding, report.steps.slice()) {
+        Ok(assumptions) => {
+            let part = logged_part(alloc, encoding, net.width(), report, &assumptions);
+            drop_assumptions(assumptions);
+            part
+        }
         Err(want) => Err(want),
     }
 }
+
+/// Lets an encoding go.
+fn drop_encoding(_encoding: Encoding) {}
 
 /// The first part that fails against the log.
 fn log_part(
@@ -129,7 +122,11 @@ fn log_part(
     ensures { IfOk result (λ part. part ≡ first_of_all (logged_parts (basis_of (circuit net.now) choice.now (map present_of report.now.steps)) report.now)) }
 {
     match encoding(alloc, net, choice) {
-        Ok(encoding) => encoded_part(alloc, net, choice, encoding, report),
+        Ok(encoding) => {
+            let part = encoded_part(alloc, net, choice, &encoding, report);
+            drop_encoding(encoding);
+            part
+        }
         Err(want) => Err(want),
     }
 }
@@ -157,13 +154,8 @@ fn part_behind(
     log_part(alloc, net, choice, report)
 }
 
-/// What is found of the steps by a replay, which is done with then.
-fn walked_by(alloc: Global, replay: Replay<'_>, report: &Report) -> Result<Walk, NoMemory>
-    ensures { IfOk result (IsWalked replay.entry report.now) }
-{
-    let mut replay = replay;
-    replay.walk(alloc, report)
-}
+/// Lets a replay go.
+fn drop_replay(_replay: Replay<'_>) {}
 
 /// What is found of the steps.
 fn walked(
@@ -179,7 +171,12 @@ fn walked(
     ensures { IfOk result (IsWalked (crash_of (recording_of net.now.raw choice.now runs.now) dump.now) report.now) }
 {
     match Replay::new(alloc, net, choice, runs, dump) {
-        Ok(replay) => walked_by(alloc, replay, report),
+        Ok(replay) => {
+            let mut replay = replay;
+            let walk = replay.walk(alloc, report);
+            drop_replay(replay);
+            walk
+        }
         Err(want) => Err(want),
     }
 }
