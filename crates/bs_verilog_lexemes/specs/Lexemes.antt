@@ -63,6 +63,11 @@ abbrev pub among : {A : Type 0} → List ℕ → List (String × A) → Option A
 among name [] = None
 among name (w ∷ ws) = if bytes_eq name (codes w.0) then Some w.1 else among name ws
 
+-- a part of the first member that passes a test
+abbrev pub first_by : {A B : Type 0} → (A → Bool) → (A → B) → List A → Option B
+first_by test part [] = None
+first_by test part (x ∷ xs) = if test x then Some (part x) else first_by test part xs
+
 -- the keyword that a name is
 unfoldable pub word_of : List ℕ → Option code.Word
 word_of name =

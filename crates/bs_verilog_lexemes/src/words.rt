@@ -1,6 +1,7 @@
 //! The words of a netlist: keywords, the names of cells, and numbers.
 ghost use Rattle.std.specs.Prelude.{◌≡◌, ◌≤◌, ◌+◌, ◌-◌, ◌*◌, min};
-ghost use Rattle.std.specs.List.{list_all};
+ghost use Rattle.std.specs.List.{list_all, list_any};
+ghost use Rattle.std.specs.Str.{bytes_eq};
 ghost use Rattle.bs_lex.specs.Bytes.{◌∈◌, is_digit};
 ghost use Rattle.bs_verilog_lexemes.specs.declared.limits.TheConstants.{GREAT};
 ghost use Rattle.bs_verilog_lexemes.specs.Lexemes as spec;
@@ -10,130 +11,121 @@ use crate::limits::GREAT;
 use bs_lex::{TokenKind, byte_at, is_base};
 use bs_net::Kind;
 
+/// The keywords of behaviour, `reg` apart.
+const BEHAVIOUR_WORDS: [&str; 11] = [
+    "always", "initial", "integer", "real", "time", "event", "task", "function", "specify",
+    "generate", "genvar",
+];
+
+/// The keywords of parameters.
+const PARAMETER_WORDS: [&str; 3] = ["parameter", "localparam", "defparam"];
+
+/// The net types that are left out.
+const NET_WORDS: [&str; 9] = [
+    "tri", "uwire", "wand", "wor", "tri0", "tri1", "triand", "trior", "trireg",
+];
+
+/// The primitives that are left out.
+const SWITCH_WORDS: [&str; 18] = [
+    "bufif0", "bufif1", "notif0", "notif1", "nmos", "pmos", "cmos", "rnmos", "rpmos", "rcmos",
+    "tran", "tranif0", "tranif1", "rtran", "rtranif0", "rtranif1", "pullup", "pulldown",
+];
+
+/// The strengths that are keywords of nothing else.
+const STRENGTH_WORDS: [&str; 8] = [
+    "strong0", "pull0", "weak0", "highz0", "strong1", "pull1", "weak1", "highz1",
+];
+
+/// The keywords that the grammar tells apart.
+const OWN_WORDS: [(&str, Word); 19] = [
+    ("module", Word::Module),
+    ("endmodule", Word::Endmodule),
+    ("input", Word::Input),
+    ("output", Word::Output),
+    ("inout", Word::Inout),
+    ("wire", Word::Wire),
+    ("supply0", Word::Supply0),
+    ("supply1", Word::Supply1),
+    ("assign", Word::Assign),
+    ("reg", Word::Reg),
+    ("primitive", Word::Primitive),
+    ("and", Word::Gate(Kind::And)),
+    ("nand", Word::Gate(Kind::Nand)),
+    ("or", Word::Gate(Kind::Or)),
+    ("nor", Word::Gate(Kind::Nor)),
+    ("xor", Word::Gate(Kind::Xor)),
+    ("xnor", Word::Gate(Kind::Xnor)),
+    ("buf", Word::Gate(Kind::Buf)),
+    ("not", Word::Gate(Kind::Not)),
+];
+
+/// The cells and their names.
+const CELLS: [(&str, Cell); 4] = [
+    ("dff", Cell::Dff),
+    ("dffs", Cell::Dffs),
+    ("dffe", Cell::Dffe),
+    ("dffr", Cell::Dffr),
+];
+
+/// Whether a name is one of these words.
+fn is_one_of(name: &[u8], words: &[&str]) -> bool
+    ensures { result ≡ list_any (λ word. bytes_eq name.now word.now) words.now }
+{
+    words.iter().any(|word| name == word.as_bytes())
+}
+
 /// Whether a name is a keyword of behaviour.
 fn is_behaviour(name: &[u8]) -> bool
     ensures { result ≡ spec.is_one_of name.now spec.behaviour_words }
 {
-    name == b"always".as_slice()
-        || name == b"initial".as_slice()
-        || name == b"integer".as_slice()
-        || name == b"real".as_slice()
-        || name == b"time".as_slice()
-        || name == b"event".as_slice()
-        || name == b"task".as_slice()
-        || name == b"function".as_slice()
-        || name == b"specify".as_slice()
-        || name == b"generate".as_slice()
-        || name == b"genvar".as_slice()
+    is_one_of(name, &BEHAVIOUR_WORDS)
 }
 
 /// Whether a name is a keyword of parameters.
 fn is_parameter(name: &[u8]) -> bool
     ensures { result ≡ spec.is_one_of name.now spec.parameter_words }
 {
-    name == b"parameter".as_slice()
-        || name == b"localparam".as_slice()
-        || name == b"defparam".as_slice()
+    is_one_of(name, &PARAMETER_WORDS)
 }
 
 /// Whether a name is the keyword of a net type that is left out.
 fn is_net_type(name: &[u8]) -> bool
     ensures { result ≡ spec.is_one_of name.now spec.net_words }
 {
-    name == b"tri".as_slice()
-        || name == b"uwire".as_slice()
-        || name == b"wand".as_slice()
-        || name == b"wor".as_slice()
-        || name == b"tri0".as_slice()
-        || name == b"tri1".as_slice()
-        || name == b"triand".as_slice()
-        || name == b"trior".as_slice()
-        || name == b"trireg".as_slice()
+    is_one_of(name, &NET_WORDS)
 }
 
 /// Whether a name is the keyword of a primitive that is left out.
 fn is_switch(name: &[u8]) -> bool
     ensures { result ≡ spec.is_one_of name.now spec.switch_words }
 {
-    name == b"bufif0".as_slice()
-        || name == b"bufif1".as_slice()
-        || name == b"notif0".as_slice()
-        || name == b"notif1".as_slice()
-        || name == b"nmos".as_slice()
-        || name == b"pmos".as_slice()
-        || name == b"cmos".as_slice()
-        || name == b"rnmos".as_slice()
-        || name == b"rpmos".as_slice()
-        || name == b"rcmos".as_slice()
-        || name == b"tran".as_slice()
-        || name == b"tranif0".as_slice()
-        || name == b"tranif1".as_slice()
-        || name == b"rtran".as_slice()
-        || name == b"rtranif0".as_slice()
-        || name == b"rtranif1".as_slice()
-        || name == b"pullup".as_slice()
-        || name == b"pulldown".as_slice()
+    is_one_of(name, &SWITCH_WORDS)
 }
 
 /// Whether a name is the keyword of a strength, and of nothing else.
 fn is_strength(name: &[u8]) -> bool
     ensures { result ≡ spec.is_one_of name.now spec.strength_words }
 {
-    name == b"strong0".as_slice()
-        || name == b"pull0".as_slice()
-        || name == b"weak0".as_slice()
-        || name == b"highz0".as_slice()
-        || name == b"strong1".as_slice()
-        || name == b"pull1".as_slice()
-        || name == b"weak1".as_slice()
-        || name == b"highz1".as_slice()
+    is_one_of(name, &STRENGTH_WORDS)
+}
+
+/// What a table has beside a name.
+fn among<T: Copy>(name: &[u8], table: &[(&str, T)]) -> Option<T>
+    ensures { result ≡ spec.first_by (λ entry. bytes_eq name.now entry.0.now) (λ entry. entry.1) table.now }
+{
+    'entries: for entry in table {
+        if name == entry.0.as_bytes() {
+            return Some(entry.1);
+        }
+    }
+    None
 }
 
 /// The keyword that a name is, of those which the grammar tells apart.
 fn own_word(name: &[u8]) -> Option<Word>
     ensures { result ≡ spec.among name.now spec.own_words }
 {
-    if name == b"module".as_slice() {
-        Some(Word::Module)
-    } else if name == b"endmodule".as_slice() {
-        Some(Word::Endmodule)
-    } else if name == b"input".as_slice() {
-        Some(Word::Input)
-    } else if name == b"output".as_slice() {
-        Some(Word::Output)
-    } else if name == b"inout".as_slice() {
-        Some(Word::Inout)
-    } else if name == b"wire".as_slice() {
-        Some(Word::Wire)
-    } else if name == b"supply0".as_slice() {
-        Some(Word::Supply0)
-    } else if name == b"supply1".as_slice() {
-        Some(Word::Supply1)
-    } else if name == b"assign".as_slice() {
-        Some(Word::Assign)
-    } else if name == b"reg".as_slice() {
-        Some(Word::Reg)
-    } else if name == b"primitive".as_slice() {
-        Some(Word::Primitive)
-    } else if name == b"and".as_slice() {
-        Some(Word::Gate(Kind::And))
-    } else if name == b"nand".as_slice() {
-        Some(Word::Gate(Kind::Nand))
-    } else if name == b"or".as_slice() {
-        Some(Word::Gate(Kind::Or))
-    } else if name == b"nor".as_slice() {
-        Some(Word::Gate(Kind::Nor))
-    } else if name == b"xor".as_slice() {
-        Some(Word::Gate(Kind::Xor))
-    } else if name == b"xnor".as_slice() {
-        Some(Word::Gate(Kind::Xnor))
-    } else if name == b"buf".as_slice() {
-        Some(Word::Gate(Kind::Buf))
-    } else if name == b"not".as_slice() {
-        Some(Word::Gate(Kind::Not))
-    } else {
-        None
-    }
+    among(name, &OWN_WORDS)
 }
 
 /// The keyword that a name is.
@@ -160,17 +152,7 @@ fn word_of(name: &[u8]) -> Option<Word>
 fn cell_of(name: &[u8]) -> Option<Cell>
     ensures { result ≡ spec.cell_of name.now }
 {
-    if name == b"dff".as_slice() {
-        Some(Cell::Dff)
-    } else if name == b"dffs".as_slice() {
-        Some(Cell::Dffs)
-    } else if name == b"dffe".as_slice() {
-        Some(Cell::Dffe)
-    } else if name == b"dffr".as_slice() {
-        Some(Cell::Dffr)
-    } else {
-        None
-    }
+    among(name, &CELLS)
 }
 
 /// What a name is to the grammar.
