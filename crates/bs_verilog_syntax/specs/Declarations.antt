@@ -116,21 +116,31 @@ carried before (p ∷ ps) =
     let says = unwrap_or p.says (passed_on before) in
     record { says = says; name = p.name } ∷ carried says ps
 
+-- ports that a header declares: their names, and what it says of them
+abbrev pub ports_of : List HeaderPort → Ports
+ports_of ports = record { header = map (λ p. p.name) ports; declared = carried nothing_said ports }
+
+-- the ports of a header that declares nothing, up to and with `)`
+abbrev pub plain_ports : Rest → Read Ports
+plain_ports ts = do
+  listing ← listed plain_port ts
+  after ← expect ")" due.Nothing listing.1
+  Ok (record { header = listing.0; declared = [] }, after)
+
+-- the ports of a header that declares them, up to and with `)`
+abbrev pub declared_ports : Rest → Read Ports
+declared_ports ts = do
+  listing ← listed header_port ts
+  after ← expect ")" due.AfterDeclared listing.1
+  Ok (ports_of listing.0, after)
+
 -- the ports after `(`, up to and with `)`
 unfoldable pub ports : Rest → Read Ports
 ports ts =
     if is_at ")" ts then Ok (record { header = []; declared = [] }, rest ts)
     else (do
       here ← attributes ts
-      if is_name (sort here)
-          then (do
-            listing ← listed plain_port ts
-            after ← expect ")" due.Nothing listing.1
-            Ok (record { header = listing.0; declared = [] }, after))
-          else (do
-            listing ← listed header_port ts
-            after ← expect ")" due.AfterDeclared listing.1
-            Ok (record { header = map (λ p. p.name) listing.0; declared = carried nothing_said listing.0 }, after)))
+      if is_name (sort here) then plain_ports ts else declared_ports ts)
 
 -- [ "(" [ ports ] ")" ] ";"
 unfoldable pub header : Rest → Read Ports

@@ -243,14 +243,48 @@ fn carried(alloc: Global, ports: &[HeaderPort]) -> Result<List<Declared>, Verilo
 }
 
 /// The names of ports.
-fn names_of(alloc: Global, ports: &List<HeaderPort>) -> Result<List<Name>, VerilogFault>
+fn names_of(alloc: Global, ports: &[HeaderPort]) -> Result<List<Name>, VerilogFault>
     ensures { Answers want (λ ns. ns) result (Ok (map (λ p. p.name) ports.now)) }
 {
     let mut names = List::new(alloc);
-    'ports: for port in ports.slice() {
+    'ports: for port in ports {
         names.push(port.name)?;
     }
     Ok(names)
+}
+
+/// Ports that a header declares: their names, and what it says of them.
+fn ports_of(alloc: Global, ports: &[HeaderPort]) -> Result<Ports, VerilogFault>
+    ensures { Answers want (λ p. p) result (Ok (declarations.ports_of ports.now)) }
+{
+    let header = names_of(alloc, ports)?;
+    let declared = carried(alloc, ports)?;
+    Ok(Ports { header, declared })
+}
+
+/// The ports of a header that declares nothing, up to and with its `)`.
+fn plain_ports(alloc: Global, ts: &[Lexeme]) -> Result<(Ports, &[Lexeme]), VerilogFault>
+    ensures reads { spec.Reads (λ p. p) result (declarations.plain_ports ts.now) }
+    ensures within { IfOk result (λ x. length x.1.now ≤ length ts.now) }
+{
+    let (header, rest) = listed(alloc, &PlainPortReader, ts)?;
+    let rest = expect(b')', Due::Nothing, rest)?;
+    let ports = Ports {
+        header,
+        declared: List::new(alloc),
+    };
+    Ok((ports, rest))
+}
+
+/// The ports of a header that declares them, up to and with its `)`.
+fn declared_ports(alloc: Global, ts: &[Lexeme]) -> Result<(Ports, &[Lexeme]), VerilogFault>
+    ensures reads { spec.Reads (λ p. p) result (declarations.declared_ports ts.now) }
+    ensures within { IfOk result (λ x. length x.1.now ≤ length ts.now) }
+{
+    let (listing, rest) = listed(alloc, &HeaderPortReader, ts)?;
+    let rest = expect(b')', Due::AfterDeclared, rest)?;
+    let ports = ports_of(alloc, listing.slice())?;
+    Ok((ports, rest))
 }
 
 /// The ports after a header's `(`, up to and with its `)`.
@@ -268,21 +302,10 @@ fn ports(alloc: Global, ts: &[Lexeme]) -> Result<(Ports, &[Lexeme]), VerilogFaul
     }
     let here = attributes(ts)?;
     if is_name(sort_of(here)) {
-        let (header, rest) = listed(alloc, &PlainPortReader, ts)?;
-        let rest = expect(b')', Due::Nothing, rest)?;
-        let ports = Ports {
-            header,
-            declared: List::new(alloc),
-        };
-        return Ok((ports, rest));
+        plain_ports(alloc, ts)
+    } else {
+        declared_ports(alloc, ts)
     }
-    let (listing, rest) = listed(alloc, &HeaderPortReader, ts)?;
-    let rest = expect(b')', Due::AfterDeclared, rest)?;
-    let ports = Ports {
-        header: names_of(alloc, &listing)?,
-        declared: carried(alloc, listing.slice())?,
-    };
-    Ok((ports, rest))
 }
 
 /// The header of a module after its name, up to and with its `;`.
