@@ -5,7 +5,7 @@ ghost use Rattle.bs_verilog.specs.Cells as spec;
 use bs_verilog_lexemes::Cell;
 
 /// A pin of a cell.
-#[derive(Clone, Copy, Debug, PartialEq, Eq)]
+#[derive(Clone, Copy)]
 pub enum Pin {
     Clock,
     Output,

@@ -1,5 +1,5 @@
 //! The parts of a netlist, from what a module says.
-ghost use Rattle.std.specs.Prelude.{◌≡◌, ◌<◌, ◌≤◌, ◌^◌, ℕ, [], length, Ok, None, MatchResult};
+ghost use Rattle.std.specs.Prelude.{◌≡◌, ◌<◌, ◌≤◌, ◌^◌, ℕ, [], length, IfErr, IfOk, Ok, None, MatchResult};
 ghost use Rattle.bs_net.specs.Netlist.{parts_of};
 ghost use Rattle.bs_verilog_scope.specs.Checking.{looked};
 ghost use Rattle.bs_verilog.specs.Placement.{AreShort, IsFinished, WillFinish};
@@ -40,16 +40,41 @@ fn short_parts(parts: &[Component]) -> Result<(), VerilogFault>
     Ok(())
 }
 
+/// So many inputs, outputs, constants, gates and flip-flops are each fewer than 2^32.
+fn are_short(
+    inputs: usize,
+    outputs: usize,
+    consts: usize,
+    gates: usize,
+    flops: usize,
+) -> Result<(), VerilogFault>
+    ensures inputs { IfOk result (λ _. inputs < 2 ^ 32) }
+    ensures outputs { IfOk result (λ _. outputs < 2 ^ 32) }
+    ensures consts { IfOk result (λ _. consts < 2 ^ 32) }
+    ensures gates { IfOk result (λ _. gates < 2 ^ 32) }
+    ensures flops { IfOk result (λ _. flops < 2 ^ 32) }
+    ensures refused { IfErr result (λ fault. fault ≡ OutOfMemory) }
+{
+    short(inputs)?;
+    short(outputs)?;
+    short(consts)?;
+    short(gates)?;
+    short(flops)?;
+    Ok(())
+}
+
 /// The parts of a netlist.
 fn raw_of(built: Built, inputs: List<NetId>, outputs: List<NetId>) -> Result<Raw, VerilogFault>
     requires { IsFinished built inputs outputs }
     ensures { Answers want parts_of result (Ok (spec.parts_with built inputs outputs)) }
 {
-    short(inputs.len())?;
-    short(outputs.len())?;
-    short(built.made.consts.len())?;
-    short(built.gates.len())?;
-    short(built.flops.len())?;
+    are_short(
+        inputs.len(),
+        outputs.len(),
+        built.made.consts.len(),
+        built.gates.len(),
+        built.flops.len(),
+    )?;
     Ok(Raw {
         names: built.made.names,
         inputs,

@@ -10,7 +10,7 @@ use bs_verilog_lexemes::{Cell, Table};
 use bs_verilog_syntax::{Connection, PackedConnection, Term};
 
 /// Where the pin of a cell stands that decides what its flip-flop loads, if there is one.
-#[derive(Clone, Copy, Debug, PartialEq, Eq)]
+#[derive(Clone, Copy)]
 pub enum Control {
     Plain,
     Enable(usize),
@@ -18,7 +18,7 @@ pub enum Control {
 }
 
 /// Where a cell's pins stand among its connections.
-#[derive(Clone, Copy, Debug, PartialEq, Eq)]
+#[derive(Clone, Copy)]
 pub struct Pins {
     pub clock: usize,
     pub output: usize,
