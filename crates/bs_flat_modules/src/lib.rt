@@ -3,7 +3,8 @@
 //! Modules: `dealing` (where the modules stand among the lexemes, and what stands outside), `names`
 //! (none twice), `items` (instance statements, and what an own text keeps), `copying` and `owns`
 //! (own texts, and what they say), `reading` (`read_modules`). Used above: `read_modules` answers
-//! exactly what `specs/Reading` of bs_flat_meaning says, and what is read is whole.
+//! exactly what `specs/Reading` of bs_flat_meaning says. That what it reads is whole is a law of
+//! bs_flat_meaning.
 #![tactic(auto)]
 
 mod copying;

@@ -111,8 +111,9 @@ pub fn read_owns(
     let mut room = MAX_OWN_NETS;
     'modules: for place in modules {
         let own = read_own(alloc, table, ts, others, marks, *place)?;
-        room = room_left(room, own.parts.names.len())?;
+        let nets = own.parts.names.len();
         owns.push(own)?;
+        room = room_left(room, nets)?;
     }
     Ok(owns)
 }

@@ -5,7 +5,7 @@
 //! gates is one of modules, a loop, turned round, a ring), `marks` (`tops`), and of modules that
 //! were read their instances by number and the refusals `Recursion` and `Tops` (`expect_one_top`).
 //! Used above: `expect_one_top`: a ring that was told is one, where none is told there is none, and
-//! the order has each module after those that it instances (`specs/Ring`, `specs/Tops`).
+//! the order has each module after those that it instances (`specs/Ring`, `specs/Marks`).
 #![tactic(auto)]
 
 mod law;
