@@ -1,8 +1,9 @@
 //! The flat parts together.
-ghost use Rattle.std.specs.Prelude.{◌≡◌, ◌<◌, ◌≤◌, ◌^◌, length, All, IfOk, IsTrue};
+ghost use Rattle.std.specs.Prelude.{◌≡◌, ◌<◌, ◌≤◌, ◌^◌, [], length, map, All, IfOk, IsTrue};
 ghost use Rattle.bs_net.specs.Netlist.{parts_of};
 ghost use Rattle.bs_net.specs.Gate.{takes};
-ghost use Rattle.bs_flat_meaning.specs.Flat.{flat_parts};
+ghost use Rattle.bs_flat_meaning.specs.Design as design;
+ghost use Rattle.bs_flat_meaning.specs.Flat.{flat_flop, flat_gate, flat_net, flat_parts};
 ghost use Rattle.bs_flat_nets.specs.Blocks.{design_of};
 ghost use Rattle.bs_flat_elaborate.specs.Laid.{IsLaid};
 ghost use Rattle.bs_flat_elaborate.specs.Naming.{keys_of};
@@ -39,31 +40,88 @@ fn short_gates(gates: &[Gate]) -> Result<(), NoMemory>
     Ok(())
 }
 
-/// The parts of a netlist, each of whose nets has a name.
-fn raw_of(
-    names: Names,
+/// So many inputs, outputs, constants and flip-flops, and these gates, are each fewer than 2^32, and so are each gate's inputs.
+fn are_short(
+    inputs: usize,
+    outputs: usize,
+    consts: usize,
+    flops: usize,
+    gates: &[Gate],
+) -> Result<(), NoMemory>
+    ensures inputs { IfOk result (λ _. inputs < 2 ^ 32) }
+    ensures outputs { IfOk result (λ _. outputs < 2 ^ 32) }
+    ensures consts { IfOk result (λ _. consts < 2 ^ 32) }
+    ensures flops { IfOk result (λ _. flops < 2 ^ 32) }
+    ensures gates { IfOk result (λ _. length gates.now < 2 ^ 32) }
+    ensures narrow { IfOk result (λ _. All (λ g. length g.ins < 2 ^ 32) gates.now) }
+{
+    short(inputs)?;
+    short(outputs)?;
+    short(consts)?;
+    short(flops)?;
+    short(gates.len())?;
+    short_gates(gates)?;
+    Ok(())
+}
+
+/// The flat lists of a design.
+#[derive(Drop)]
+struct Lists {
     inputs: List<NetId>,
     outputs: List<NetId>,
     consts: List<Const>,
     gates: List<Gate>,
     flops: List<Flop>,
-) -> Result<Raw, NoMemory>
-    requires { spec.AreNamed (record { names = names; inputs = inputs; outputs = outputs; consts = consts; gates = gates; flops = flops }) }
-    ensures { IfOk result (λ r. parts_of r ≡ record { names = names; inputs = inputs; outputs = outputs; consts = consts; gates = gates; flops = flops }) }
+}
+
+/// The flat lists of a design, the gates last, since they take the most.
+fn lists_of(
+    alloc: Global,
+    blocks: &[FlatModule],
+    nodes: &[Node],
+    top: u32,
+    numbering: &Numbering,
+) -> Result<Lists, NoMemory>
+    requires { IsLaid blocks.now nodes.now top numbering.now }
+    ensures inputs { IfOk result (λ l. l.inputs ≡ map (flat_net (design_of blocks.now top) []) (design.own (design_of blocks.now top) []).inputs) }
+    ensures outputs { IfOk result (λ l. l.outputs ≡ map (flat_net (design_of blocks.now top) []) (design.own (design_of blocks.now top) []).outputs) }
+    ensures consts { IfOk result (λ l. l.consts ≡ (flat_parts (design_of blocks.now top)).consts) }
+    ensures gates { IfOk result (λ l. l.gates ≡ map (flat_gate (design_of blocks.now top)) (design.gates (design_of blocks.now top))) }
+    ensures flops { IfOk result (λ l. l.flops ≡ map (flat_flop (design_of blocks.now top)) (design.flops (design_of blocks.now top))) }
 {
-    short(inputs.len())?;
-    short(outputs.len())?;
-    short(consts.len())?;
-    short(gates.len())?;
-    short(flops.len())?;
-    short_gates(gates.slice())?;
-    Ok(Raw {
-        names,
+    let inputs = flat_inputs(alloc, blocks, nodes, top, numbering)?;
+    let outputs = flat_outputs(alloc, blocks, nodes, top, numbering)?;
+    let consts = flat_consts(alloc, blocks, nodes, top, numbering)?;
+    let flops = flat_flops(alloc, blocks, nodes, top, numbering)?;
+    let gates = flat_gates(alloc, blocks, nodes, top, numbering)?;
+    Ok(Lists {
         inputs,
         outputs,
         consts,
         gates,
         flops,
+    })
+}
+
+/// The parts of a netlist, each of whose nets has a name.
+fn raw_of(names: Names, lists: Lists) -> Result<Raw, NoMemory>
+    requires { spec.AreNamed (record { names = names; inputs = lists.inputs; outputs = lists.outputs; consts = lists.consts; gates = lists.gates; flops = lists.flops }) }
+    ensures { IfOk result (λ r. parts_of r ≡ record { names = names; inputs = lists.inputs; outputs = lists.outputs; consts = lists.consts; gates = lists.gates; flops = lists.flops }) }
+{
+    are_short(
+        lists.inputs.len(),
+        lists.outputs.len(),
+        lists.consts.len(),
+        lists.flops.len(),
+        lists.gates.slice(),
+    )?;
+    Ok(Raw {
+        names,
+        inputs: lists.inputs,
+        outputs: lists.outputs,
+        consts: lists.consts,
+        gates: lists.gates,
+        flops: lists.flops,
     })
 }
 
@@ -82,11 +140,7 @@ pub fn flat(
     requires few { length names ≤ MAX_NETS }
     ensures { IfOk result (λ r. parts_of r ≡ flat_parts (design_of blocks.now top)) }
 {
-    let inputs = flat_inputs(alloc, blocks, nodes, top, numbering)?;
-    let outputs = flat_outputs(alloc, blocks, nodes, top, numbering)?;
-    let consts = flat_consts(alloc, blocks, nodes, top, numbering)?;
-    let gates = flat_gates(alloc, blocks, nodes, top, numbering)?;
-    let flops = flat_flops(alloc, blocks, nodes, top, numbering)?;
-    let raw = raw_of(names, inputs, outputs, consts, gates, flops)?;
+    let lists = lists_of(alloc, blocks, nodes, top, numbering)?;
+    let raw = raw_of(names, lists)?;
     Ok(raw)
 }

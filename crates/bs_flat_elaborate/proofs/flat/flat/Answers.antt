@@ -12,13 +12,13 @@ raw_of-requires c =
     let few : length (keys_of d) ≤ MAX_NETS = subst (λ (l : List (List ℕ)). length l ≤ MAX_NETS) c.requires.named c.requires.few in
     subst AreNamed
     (sym
-    (whole_is d c.args.names c.in_ok-inputs.inputs c.in_ok-outputs.outputs c.in_ok-consts.consts c.in_ok-gates.gates c.in_ok-flops.flops c.requires.named
-    c.in_ok-inputs.ensures c.in_ok-outputs.ensures c.in_ok-consts.ensures c.in_ok-gates.ensures c.in_ok-flops.ensures))
+    (whole_is d c.args.names c.in_ok-lists.lists.inputs c.in_ok-lists.lists.outputs c.in_ok-lists.lists.consts c.in_ok-lists.lists.gates c.in_ok-lists.lists.flops c.requires.named
+    c.in_ok-lists.ensures.inputs c.in_ok-lists.ensures.outputs c.in_ok-lists.ensures.consts c.in_ok-lists.ensures.gates c.in_ok-lists.ensures.flops))
     (flat_named c.args.blocks.now c.args.top c.requires.laid.design c.requires.takes few)
 
 pub returns : goal.returns
 returns c =
     let d = design_of c.args.blocks.now c.args.top in
     c.in_ok-raw.ensures
-    ∙ whole_is d c.args.names c.in_ok-inputs.inputs c.in_ok-outputs.outputs c.in_ok-consts.consts c.in_ok-gates.gates c.in_ok-flops.flops c.requires.named
-    c.in_ok-inputs.ensures c.in_ok-outputs.ensures c.in_ok-consts.ensures c.in_ok-gates.ensures c.in_ok-flops.ensures
+    ∙ whole_is d c.args.names c.in_ok-lists.lists.inputs c.in_ok-lists.lists.outputs c.in_ok-lists.lists.consts c.in_ok-lists.lists.gates c.in_ok-lists.lists.flops c.requires.named
+    c.in_ok-lists.ensures.inputs c.in_ok-lists.ensures.outputs c.in_ok-lists.ensures.consts c.in_ok-lists.ensures.gates c.in_ok-lists.ensures.flops
