@@ -4,7 +4,7 @@ ghost use Rattle.bs_net.specs.Netlist.{circuit};
 ghost use Rattle.bs_stim.specs.Packing.{bit_in};
 ghost use Rattle.bs_lanes_planes.specs.Planes.{bit_place, lane, IsWidened};
 ghost use Rattle.bs_lanes.specs.Lanes.{is_wide, state_in, IsSameTable, AreReset, AreStepped};
-ghost use Rattle.bs_lanes.specs.Layout.{HasLayout, SettlesAll};
+ghost use Rattle.bs_lanes.specs.Layout.{HasLayout, IsLayout, SettlesAll};
 ghost use Rattle.bs_lanes.specs.Settling.{LoadsAll, ResetsAll};
 
 use crate::layout::{Layout, layout_of};
@@ -122,26 +122,49 @@ impl<'a> Lanes<'a> {
         ensures reset { IfOk result AreReset }
     {
         let raw = net.raw();
-        let mut flops = zero_words(alloc, raw.flops.len() * wide)?;
+        let flops = zero_words(alloc, raw.flops.len() * wide)?;
         let zeros = zero_words(alloc, net.data_inputs().len() * wide)?;
         let layout = layout_of(alloc, net)?;
-        let mut nets = zero_words(alloc, layout.planes * wide)?;
+        let nets = zero_words(alloc, layout.planes * wide)?;
+        Ok(Lanes::started(net, wide, flops, nets, zeros, layout))
+    }
+
+    /// All runs at reset, over words for the flip-flops and the nets, and the input of zeros.
+    fn started(
+        net: &'a Netlist,
+        wide: usize,
+        flops: Vec<u64>,
+        nets: Vec<u64>,
+        zeros: Vec<u64>,
+        layout: Layout,
+    ) -> Lanes<'a>
+        requires wide { IsTrue (is_wide wide) }
+        requires layout { IsLayout (circuit net.now) layout }
+        requires flops { length flops.items ≡ length (circuit net.now).flops * wide }
+        requires nets { nets.items ≡ replicate (layout.planes * wide) 0 }
+        requires zeros { zeros.items ≡ replicate (length (circuit net.now).inputs * wide) 0 }
+        ensures net { result.net ≡ net.now }
+        ensures wide { result.wide ≡ wide }
+        ensures reset { AreReset result }
+    {
+        let mut flops = flops;
+        let mut nets = nets;
         reset_all(
             wide,
             &mut nets,
             &mut flops,
             &layout,
-            raw.flops.slice(),
+            net.raw().flops.slice(),
             zeros.as_slice(),
         );
-        Ok(Lanes {
+        Lanes {
             net,
             wide,
             flops,
             nets,
             zeros,
             layout,
-        })
+        }
     }
 
     /// Brings all runs back to reset, with the input of zeros settled.

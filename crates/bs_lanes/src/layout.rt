@@ -107,6 +107,36 @@ fn consts_at(alloc: Global, consts: &[Const], places: &[u32]) -> Result<List<Con
     Ok(placed)
 }
 
+/// A netlist's parts but its gates, with the places of planes for nets.
+#[derive(Drop)]
+struct Placed {
+    inputs: List<NetId>,
+    outputs: List<NetId>,
+    flops: List<Flop>,
+    consts: List<Const>,
+}
+
+/// A netlist's parts but its gates, by the places of its nets.
+fn parts_at(alloc: Global, net: &Netlist, places: &[u32]) -> Result<Placed, NoMemory>
+    requires { length places.now ≡ length net.now.raw.names }
+    ensures inputs { IfOk result (λ p. p.inputs ≡ map (placed_net places.now) (circuit net.now).inputs) }
+    ensures outputs { IfOk result (λ p. p.outputs ≡ map (λ f. placed_net places.now f.q) (circuit net.now).flops) }
+    ensures flops { IfOk result (λ p. p.flops ≡ map (placed_flop places.now) (circuit net.now).flops) }
+    ensures consts { IfOk result (λ p. p.consts ≡ map (placed_const places.now) (circuit net.now).constants) }
+{
+    let raw = net.raw();
+    let inputs = nets_at(alloc, net.data_inputs().slice(), places)?;
+    let outputs = outputs_at(alloc, raw.flops.slice(), places)?;
+    let flops = flops_at(alloc, raw.flops.slice(), places)?;
+    let consts = consts_at(alloc, raw.consts.slice(), places)?;
+    Ok(Placed {
+        inputs,
+        outputs,
+        flops,
+        consts,
+    })
+}
+
 /// The layout of a netlist: the gates' outputs lie in the order of their evaluation.
 pub(crate) fn layout_of(alloc: Global, net: &Netlist) -> Result<Layout, NoMemory>
     ensures { IfOk result (IsLayout (circuit net.now)) }
@@ -115,18 +145,15 @@ pub(crate) fn layout_of(alloc: Global, net: &Netlist) -> Result<Layout, NoMemory
     let gates = raw.gates.slice();
     let order = by_level(alloc, net)?;
     let (places, planes) = places_of(alloc, raw.names.len() as usize, gates, order.as_slice())?;
-    let inputs = nets_at(alloc, net.data_inputs().slice(), places.slice())?;
-    let outputs = outputs_at(alloc, raw.flops.slice(), places.slice())?;
-    let flops = flops_at(alloc, raw.flops.slice(), places.slice())?;
-    let consts = consts_at(alloc, raw.consts.slice(), places.slice())?;
     let program = stretches_of(alloc, gates, order.as_slice(), places.slice())?;
+    let parts = parts_at(alloc, net, places.slice())?;
     Ok(Layout {
         planes,
         places,
-        inputs,
-        outputs,
-        flops,
-        consts,
+        inputs: parts.inputs,
+        outputs: parts.outputs,
+        flops: parts.flops,
+        consts: parts.consts,
         program,
     })
 }

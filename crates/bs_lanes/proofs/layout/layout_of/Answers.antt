@@ -1,7 +1,5 @@
 use Rattle.std.proofs.Common.{◌≡◌, ◌∙◌, ◌<◌, ℕ, List, ap, arith, length, map, subst, sym}
 use Rattle.std.specs.List.{All}
-use Rattle.std.proofs.lemmas.List.Elements.{All-weaker}
-use Rattle.bs_net.specs.declared.net.NetId.{NetId}
 use Rattle.bs_net.specs.declared.net.Flop.{Flop}
 use Rattle.bs_net.specs.declared.net.Gate.{Gate}
 use Rattle.bs_net.specs.Netlist.{circuit}
@@ -36,26 +34,15 @@ stretches_of-requires-clause-numbered c =
     let Q : List Gate → Type 0 = λ gs. All (λ i. i < length gs) c.in_ok-order.order.items in
     subst P (sym c.as_slice-2.ensures.value) (subst Q (sym gates) (order_below _ _ c.in_ok-order.ensures))
 
-pub nets_at-requires : goal.nets_at-requires
-nets_at-requires c =
-    let it = circuit c.args.net.now in
-    let names : c.len.result ≡ it.nets = c.len.ensures ∙ ap (λ r. length r.names) c.raw-raw.ensures.parts in
-    let size : length c.slice-2.result.now ≡ it.nets = ap length c.slice-2.ensures ∙ (c.in_ok-places.ensures.size ∙ names) in
-    let inputs : c.slice.result.now ≡ it.inputs = c.slice.ensures ∙ c.data_inputs.ensures in
-    let P : List NetId → Type 0 = λ ns. All (λ (n : NetId). n.0 < length c.slice-2.result.now) ns in
-    subst P (sym inputs)
-    (All-weaker (λ (n : NetId). n.0 < it.nets) (λ (n : NetId). n.0 < length c.slice-2.result.now) (λ n lt. omega (arith, lt, size)) it.inputs
-    (without_placed _ _ _ c.raw-raw.ensures.placed.inputs.1))
+pub parts_at-requires : goal.parts_at-requires
+parts_at-requires c =
+    ap length c.slice-2.ensures ∙ (c.in_ok-places.ensures.size ∙ (c.len.ensures ∙ ap (λ r. length r.names) c.raw-raw.ensures.parts))
 
 pub returns : goal.returns
 returns c =
     let it = circuit c.args.net.now in
     let places : List ℕ = c.in_ok-places.places in
     let names : c.len.result ≡ it.nets = c.len.ensures ∙ ap (λ r. length r.names) c.raw-raw.ensures.parts in
-    let inputs : c.slice.result.now ≡ it.inputs = c.slice.ensures ∙ c.data_inputs.ensures in
-    let flops : c.slice-3.result.now ≡ it.flops = c.slice-3.ensures ∙ ap (λ r. r.flops) c.raw-raw.ensures.parts in
-    let flops' : c.slice-5.result.now ≡ it.flops = c.slice-5.ensures ∙ ap (λ r. r.flops) c.raw-raw.ensures.parts in
-    let consts : c.slice-7.result.now ≡ it.constants = c.slice-7.ensures ∙ ap (λ r. r.consts) c.raw-raw.ensures.parts in
     let gates : c.slice-gates.result.now ≡ it.gates = c.slice-gates.ensures ∙ ap (λ r. r.gates) c.raw-raw.ensures.parts in
     let P : ℕ → Type 0 = λ n. IsPlacing n c.in_ok-places.planes places in
     record {
@@ -67,21 +54,15 @@ returns c =
         gates = c.raw-raw.ensures.placed.gates.1;
       };
       placing = subst P names c.in_ok-places.ensures;
-      inputs =
-          c.in_ok-inputs.ensures ∙ (ap (λ ps. map (placed_net ps) c.slice.result.now) c.slice-2.ensures ∙ ap (map (placed_net places)) inputs);
-      outputs =
-          c.in_ok-outputs.ensures
-          ∙ (ap (λ ps. map (λ (f : Flop). placed_net ps f.q) c.slice-3.result.now) c.slice-4.ensures ∙ ap (map (λ (f : Flop). placed_net places f.q)) flops);
-      flops =
-          c.in_ok-flops.ensures
-          ∙ (ap (λ ps. map (placed_flop ps) c.slice-5.result.now) c.slice-6.ensures ∙ ap (map (placed_flop places)) flops');
-      consts =
-          c.in_ok-consts.ensures ∙ (ap (λ ps. map (placed_const ps) c.slice-7.result.now) c.slice-8.ensures ∙ ap (map (placed_const places)) consts);
+      inputs = c.in_ok-parts.ensures.inputs ∙ ap (λ ps. map (placed_net ps) it.inputs) c.slice-2.ensures;
+      outputs = c.in_ok-parts.ensures.outputs ∙ ap (λ ps. map (λ (f : Flop). placed_net ps f.q) it.flops) c.slice-2.ensures;
+      flops = c.in_ok-parts.ensures.flops ∙ ap (λ ps. map (placed_flop ps) it.flops) c.slice-2.ensures;
+      consts = c.in_ok-parts.ensures.consts ∙ ap (λ ps. map (placed_const ps) it.constants) c.slice-2.ensures;
       order = c.in_ok-order.order.items;
       ordered = c.in_ok-order.ensures;
       gates =
           c.in_ok-program.ensures
-          ∙ (ap (λ ps. placed_gates ps c.as_slice-2.result.now c.slice-gates.result.now) c.slice-9.ensures
+          ∙ (ap (λ ps. placed_gates ps c.as_slice-2.result.now c.slice-gates.result.now) c.slice.ensures
           ∙ (ap (λ is. placed_gates places is c.slice-gates.result.now) c.as_slice-2.ensures.value
           ∙ ap (placed_gates places c.in_ok-order.order.items) gates));
     }
