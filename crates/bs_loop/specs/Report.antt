@@ -1,5 +1,9 @@
 -- The report of a way, and its log.
-use Rattle.std.specs.Prelude.{◌≡◌, List}
+use Rattle.std.specs.Prelude.{◌≡◌, ◌<◌, ◌^◌, false, List, length, All}
+use Rattle.bs_log.specs.LineForms.{HasText}
+use Rattle.bs_log.specs.Refusal.{history_of, IsAccepted}
+use Rattle.bs_log.specs.Lean.{IsLean}
+use Rattle.bs_preimage.specs.Preimage.{PreimageState}
 use Rattle.bs_scan.specs.declared.dump.Dump.{Dump}
 use Rattle.bs_report.specs.declared.report.Budgets.{Budgets}
 use Rattle.bs_report.specs.declared.report.Report.{Report}
@@ -24,3 +28,12 @@ pub record IsAlikeButLog (old new : Report) : Type 0 where
   pub stop_is : new.stop ≡ old.stop
   pub states : new.states ≡ old.states
   pub inputs : new.inputs ≡ old.inputs
+
+-- the same report with the log of a search, which is accepted while memory has not run out
+pub record IsWithLog (s : PreimageState) (old new : Report) : Type 0 where
+  pub alike : IsAlikeButLog old new
+  pub lines : history_of new.log ≡ s.history
+  pub lean : s.failed ≡ false → IsLean s.problem (history_of new.log)
+  pub accepted : s.failed ≡ false → IsAccepted s.problem new.log
+  pub texts : All HasText new.log
+  pub few : length new.log < 2 ^ 64

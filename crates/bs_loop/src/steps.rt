@@ -135,6 +135,21 @@ fn look_from(
     look_back(alloc, chip, preimage, now, stored, &known, budgets)
 }
 
+/// Goes to the moment hit, which is now the present. Where there is none, the cause comes for which the backtrace stops.
+fn go_on(now: &mut Dump, at: &mut Option<Moment>, hit: Option<Hit>, cause: Stop) -> Option<Stop>
+    ensures { MatchOption hit (result ≡ Some cause) (λ hit. (result ≡ None) × (now.new ≡ hit.dump) × (at.new ≡ Some (moment hit.run hit.cycle))) }
+{
+    match hit {
+        Some(hit) => {
+            let (run, cycle) = (hit.run, hit.cycle);
+            *at = Some(Moment { run, cycle });
+            *now = hit.dump;
+            None
+        }
+        None => Some(cause),
+    }
+}
+
 /// Puts a step to the others. Where it has a hit, the present is now the moment hit; else the cause comes for which the
 /// backtrace stops.
 fn advance(
@@ -147,17 +162,9 @@ fn advance(
     ensures steps { IfOk result (λ _. steps.new ≡ steps.old ++ step ∷ []) }
     ensures stop { IfOk result (λ stop. MatchOption hit (stop ≡ Some (cause_of_end step step.end)) (λ hit. (stop ≡ None) × (now.new ≡ hit.dump) × (at.new ≡ Some (moment hit.run hit.cycle)))) }
 {
-    let stop = cause_after(&step);
+    let stop = go_on(now, at, hit, cause_after(&step));
     steps.push(step)?;
-    match hit {
-        Some(hit) => {
-            let (run, cycle) = (hit.run, hit.cycle);
-            *at = Some(Moment { run, cycle });
-            *now = hit.dump;
-            Ok(None)
-        }
-        None => Ok(Some(stop)),
-    }
+    Ok(stop)
 }
 
 /// One turn of a backtrace: the cause for which it stops at the present or after a step; or a step with a hit, which is

@@ -1,10 +1,18 @@
 //! The trace of a backtrace: the way from the last hit to the dump.
-ghost use Rattle.std.specs.Prelude.{◌≡◌, IfOk, option_and_then};
+ghost use Rattle.std.specs.Prelude.{◌≡◌, ◌∷◌, ◌++◌, [], IfOk, OnOk, option_and_then};
 ghost use Rattle.bs_report_good.specs.Trace.{hit_state, input_for, trace_inputs, trace_states};
 
 use bs_bits::{Bits, List, NoMemory};
 use bs_report::Step;
 use std::alloc::Global;
+
+/// Puts a copy of a state behind the others.
+fn push_copy(states: &mut List<Bits>, state: &Bits) -> Result<(), NoMemory>
+    ensures { OnOk result (states.new ≡ states.old ++ state.now ∷ []) }
+{
+    let copy = state.copy()?;
+    states.push(copy)
+}
 
 /// The states hit, from the last step to the first, and then the dumped one.
 pub fn states_back(alloc: Global, steps: &[Step], dumped: &Bits) -> Result<List<Bits>, NoMemory>
@@ -13,10 +21,10 @@ pub fn states_back(alloc: Global, steps: &[Step], dumped: &Bits) -> Result<List<
     let mut states = List::new(alloc);
     'steps: for i in (0..steps.len()).rev() {
         if let Some(hit) = &steps[i].hit {
-            states.push(hit.state.copy()?)?;
+            push_copy(&mut states, &hit.state)?;
         }
     }
-    states.push(dumped.copy()?)?;
+    push_copy(&mut states, dumped)?;
     Ok(states)
 }
 

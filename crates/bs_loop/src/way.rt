@@ -1,5 +1,5 @@
 //! The whole way back: turns until a stop, and the report of them.
-ghost use Rattle.std.specs.Prelude.{◌≡◌, ◌≤◌, ◌<◌, ◌^◌, ◌+◌, false, length, map, All, IfOk, MatchOption};
+ghost use Rattle.std.specs.Prelude.{◌≡◌, ◌≤◌, ◌<◌, ◌^◌, ◌+◌, false, length, map, All, Err, IfOk, MatchOption, MatchResult};
 ghost use Rattle.bs_log.specs.LineForms.{HasText};
 ghost use Rattle.bs_log.specs.Refusal.{history_of, IsAccepted};
 ghost use Rattle.bs_log.specs.Lean.{IsLean};
@@ -17,7 +17,7 @@ ghost use Rattle.bs_preimage.specs.Preimage.{fresh};
 ghost use Rattle.bs_loop.specs.Budget.{IsBudget};
 ghost use Rattle.bs_loop.specs.Made.{HasMade};
 ghost use Rattle.bs_loop.specs.Way.{HasEnded};
-ghost use Rattle.bs_loop.specs.Report.{IsOfWay, IsAlikeButLog};
+ghost use Rattle.bs_loop.specs.Report.{IsOfWay, IsWithLog};
 ghost use Rattle.bs_loop.specs.Bound.{HasBound};
 
 use crate::steps::turn;
@@ -158,16 +158,21 @@ fn log_of(preimage: Preimage<'_>) -> Log
 
 /// The report with the log of the search.
 fn with_log(report: Report, preimage: Preimage<'_>) -> Report
-    ensures alike { IsAlikeButLog report result }
-    ensures lines { history_of result.log ≡ preimage.entry.history }
-    ensures lean { preimage.entry.failed ≡ false → IsLean preimage.entry.problem (history_of result.log) }
-    ensures accepted { preimage.entry.failed ≡ false → IsAccepted preimage.entry.problem result.log }
-    ensures texts { All HasText result.log }
-    ensures few { length result.log < 2 ^ 64 }
+    ensures { IsWithLog preimage.entry report result }
 {
     let mut report = report;
     report.log = log_of(preimage);
     report
+}
+
+/// The same, where there is a report.
+fn logged(report: Result<Report, NoMemory>, preimage: Preimage<'_>) -> Result<Report, NoMemory>
+    ensures { MatchResult report (λ report. IfOk result (IsWithLog preimage.entry report)) (λ want. result ≡ Err want) }
+{
+    match report {
+        Ok(report) => Ok(with_log(report, preimage)),
+        Err(want) => Err(want),
+    }
 }
 
 /// The backtrace of a dump: its report is good and valid. The dump has the widths of the chip, and `preimage` is of the same
@@ -194,8 +199,6 @@ pub fn backtrace(
 {
     chip.is_recording();
     let mut preimage = preimage;
-    match unlogged(alloc, chip, &mut preimage, dump, budgets) {
-        Ok(report) => Ok(with_log(report, preimage)),
-        Err(want) => Err(want),
-    }
+    let report = unlogged(alloc, chip, &mut preimage, dump, budgets);
+    logged(report, preimage)
 }
