@@ -2,7 +2,7 @@ use Rattle.std.proofs.Common.{◌≡◌, ◌≤◌, ◌<◌, length, take, subst
 use Rattle.std.proofs.lemmas.List.{take_all}
 use Rattle.std.proofs.lemmas.List.Elements.{All-more}
 use Rattle.bs_clause.specs.Range.{IsWithin, HasVariables}
-use Rattle.bs_rows_search.proofs.solve_rows.is_over.Goals as goal
+use Rattle.bs_rows_solve.proofs.solve_rows.is_over.Goals as goal
 
 pub loop-l-preserved : goal.loop-l-preserved
 loop-l-preserved c =

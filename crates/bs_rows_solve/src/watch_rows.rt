@@ -74,28 +74,57 @@ fn decided(arena: &mut Arena, watch: &mut Watch, l: Lit) -> Result<Option<bool>,
     }
 }
 
+/// Whether the clause (1 2) and another one of these variables are attached, and what comes of the decision that 1 is false.
+fn decided_beside(
+    arena: &mut Arena,
+    watch: &mut Watch,
+    second: Lit,
+) -> Result<(bool, bool, Option<bool>), NoMemory>
+    requires serves { Serves watch.old arena.old.clauses }
+{
+    let (one, two) = (Lit::new(Var(1), true), Lit::new(Var(2), true));
+    let is_first = attach_two(arena, watch, one, two)?;
+    let is_second = attach_two(arena, watch, one, second)?;
+    let answer = decided(arena, watch, one.negate())?;
+    Ok((is_first, is_second, answer))
+}
+
+/// Whether the clauses (1 2) and (1 -2) conflict where 1 is decided to be false.
+fn is_conflict(alloc: Global, arena: &mut Arena) -> Result<bool, NoMemory> {
+    let mut watch = begun(alloc, arena, 2)?;
+    let seen = decided_beside(arena, &mut watch, Lit::new(Var(2), false))?;
+    Ok(seen == (true, true, Some(false)))
+}
+
 #[test]
 fn both_signs_of_two_conflict(rt: HostRuntime) -> Result<(), Fail> {
-    let alloc = rt.alloc();
-    let (one, two) = (Lit::new(Var(1), true), Lit::new(Var(2), true));
-    let mut arena = Arena::new(alloc);
-    let mut watch = begun(alloc, &arena, 2)?;
-    assert!(rt; attach_two(&mut arena, &mut watch, one, two)?);
-    assert!(rt; attach_two(&mut arena, &mut watch, one, two.negate())?);
-    assert_eq!(rt; decided(&mut arena, &mut watch, one.negate())?, Some(false));
+    let mut arena = Arena::new(rt.alloc());
+    assert!(rt; is_conflict(rt.alloc(), &mut arena)?);
     Ok(())
+}
+
+/// Whether the clause (1 2) makes 2 true where 1 is decided to be false, and no variable is open then.
+fn makes_true(arena: &mut Arena, watch: &mut Watch) -> Result<bool, NoMemory>
+    requires serves { Serves watch.old arena.old.clauses }
+{
+    let (one, two) = (Lit::new(Var(1), true), Lit::new(Var(2), true));
+    let is_attached = attach_two(arena, watch, one, two)?;
+    let answer = decided(arena, watch, one.negate())?;
+    let is_quiet = is_attached && answer == Some(true);
+    let is_full = watch.first_open().is_none();
+    Ok(is_quiet && is_full && watch.trail() == &[one.negate(), two][..])
+}
+
+/// The same of a new watch.
+fn other_is_true(alloc: Global, arena: &mut Arena) -> Result<bool, NoMemory> {
+    let mut watch = begun(alloc, arena, 2)?;
+    makes_true(arena, &mut watch)
 }
 
 #[test]
 fn the_other_literal_of_two_is_true(rt: HostRuntime) -> Result<(), Fail> {
-    let alloc = rt.alloc();
-    let (one, two) = (Lit::new(Var(1), true), Lit::new(Var(2), true));
-    let mut arena = Arena::new(alloc);
-    let mut watch = begun(alloc, &arena, 2)?;
-    assert!(rt; attach_two(&mut arena, &mut watch, one, two)?);
-    assert_eq!(rt; decided(&mut arena, &mut watch, one.negate())?, Some(true));
-    assert_eq!(rt; watch.trail(), &[one.negate(), two][..]);
-    assert!(rt; watch.first_open().is_none());
+    let mut arena = Arena::new(rt.alloc());
+    assert!(rt; other_is_true(rt.alloc(), &mut arena)?);
     Ok(())
 }
 
@@ -116,16 +145,25 @@ fn chain(arena: &mut Arena, watch: &mut Watch, vars: u32) -> Result<(), NoMemory
     Ok(())
 }
 
+/// Whether all of so many such variables are true where the first one is decided to be.
+fn goes_through(arena: &mut Arena, watch: &mut Watch, vars: u32) -> Result<bool, NoMemory>
+    requires small { vars < 2 ^ 30 }
+    requires serves { Serves watch.old arena.old.clauses }
+{
+    chain(arena, watch, vars)?;
+    let answer = decided(arena, watch, Lit::new(Var(1), true))?;
+    Ok(answer == Some(true) && watch.trail().len() == vars as usize)
+}
+
+/// The same of a new watch.
+fn is_chained(alloc: Global, arena: &mut Arena) -> Result<bool, NoMemory> {
+    let mut watch = begun(alloc, arena, 5_000)?;
+    goes_through(arena, &mut watch, 5_000)
+}
+
 #[test]
 fn a_chain_of_five_thousand_is_true(rt: HostRuntime) -> Result<(), Fail> {
-    let alloc = rt.alloc();
-    let mut arena = Arena::new(alloc);
-    let mut watch = begun(alloc, &arena, 5_000)?;
-    chain(&mut arena, &mut watch, 5_000)?;
-    assert_eq!(rt;
-        decided(&mut arena, &mut watch, Lit::new(Var(1), true))?,
-        Some(true)
-    );
-    assert_eq!(rt; watch.trail().len(), 5_000);
+    let mut arena = Arena::new(rt.alloc());
+    assert!(rt; is_chained(rt.alloc(), &mut arena)?);
     Ok(())
 }

@@ -8,47 +8,13 @@ ghost use Rattle.bs_clause.specs.Range.{HasVariables};
 ghost use Rattle.bs_solve_recording.specs.declared.stage.Stage.TheVariants.{Begun, Solved};
 ghost use Rattle.bs_solve_recording.specs.Search.{assumed};
 
-use bs_clause::{Clauses, Lit, Lits, NoMemory, VARIABLE_LIMIT, Var};
+use crate::literals::{clause, clauses, first_literals, one_clause};
+use bs_clause::{Clauses, Lit, Lits, NoMemory};
 use bs_log::Log;
 use bs_solve::Solver;
 use bs_solve_recording::Answer;
 use std::alloc::Global;
 use std::test::Fail;
-
-/// A literal as a whole number, negative for a negation.
-fn lit(number: i32) -> Lit {
-    let variable = number.unsigned_abs();
-    if 1 <= variable && variable < VARIABLE_LIMIT {
-        Lit::new(Var(variable), number > 0)
-    } else {
-        Lit::new(Var(1), true)
-    }
-}
-
-/// The literal of the variable after a number, or of the first one where there is none.
-fn literal_after(number: u32) -> Lit {
-    if number < VARIABLE_LIMIT - 1 {
-        Lit::new(Var(number + 1), true)
-    } else {
-        Lit::new(Var(1), true)
-    }
-}
-
-fn clause(alloc: Global, numbers: &[i32]) -> Result<Lits, NoMemory> {
-    let mut literals = Lits::new(alloc);
-    for number in numbers {
-        literals.push(lit(*number))?;
-    }
-    Ok(literals)
-}
-
-fn clauses(alloc: Global, rows: &[&[i32]]) -> Result<Clauses, NoMemory> {
-    let mut all = Clauses::new(alloc);
-    for row in rows {
-        all.push(clause(alloc, row)?)?;
-    }
-    Ok(all)
-}
 
 /// Whether the clause is over the variables 1 to a number.
 fn is_over(vars: u32, clause: &[Lit]) -> bool
@@ -184,17 +150,13 @@ fn ending_of(
 }
 
 /// The same of one clause of so many negative literals, where all of their variables are assumed.
-fn long_ending(alloc: Global, vars: u32) -> Result<(&'static str, usize), NoMemory> {
-    let mut long = Lits::new(alloc);
-    let mut given = Lits::new(alloc);
-    for number in 0..vars {
-        let l = literal_after(number);
-        long.push(l.negate())?;
-        given.push(l)?;
+fn long_ending(alloc: Global, vars: u16) -> Result<(&'static str, usize), NoMemory> {
+    let given = first_literals(alloc, vars, true)?;
+    let long = first_literals(alloc, vars, false)?;
+    match one_clause(alloc, long) {
+        Ok(all) => ending(alloc, all, u32::from(vars), &given, 1),
+        Err(fault) => Err(fault),
     }
-    let mut all = Clauses::new(alloc);
-    all.push(long)?;
-    ending(alloc, all, vars, &given, 1)
 }
 
 /// Whether the solve found values.
@@ -241,6 +203,32 @@ fn blocked(
 }
 
 /// The same of a solver over these clauses.
+fn again_over(
+    alloc: Global,
+    all: Clauses,
+    vars: u32,
+    given: &Lits,
+    block: &Lits,
+) -> Result<(u64, &'static str, usize, usize), NoMemory> {
+    match begun(alloc, all, vars)? {
+        Some(mut solver) => blocked(alloc, &mut solver, vars, given, block),
+        None => Ok((0, "unfit", 0, 0)),
+    }
+}
+
+/// The same of clauses as numbers.
+fn again_with(
+    alloc: Global,
+    rows: &[&[i32]],
+    vars: u32,
+    given: &Lits,
+    block: &Lits,
+) -> Result<(u64, &'static str, usize, usize), NoMemory> {
+    let all = clauses(alloc, rows)?;
+    again_over(alloc, all, vars, given, block)
+}
+
+/// The same of assumptions and a block as numbers.
 fn again(
     alloc: Global,
     rows: &[&[i32]],
@@ -248,50 +236,88 @@ fn again(
     assumptions: &[i32],
     block: &[i32],
 ) -> Result<(u64, &'static str, usize, usize), NoMemory> {
-    let all = clauses(alloc, rows)?;
     let given = clause(alloc, assumptions)?;
-    let block = clause(alloc, block)?;
-    match begun(alloc, all, vars)? {
-        Some(mut solver) => blocked(alloc, &mut solver, vars, &given, &block),
-        None => Ok((0, "unfit", 0, 0)),
+    match clause(alloc, block) {
+        Ok(block) => again_with(alloc, rows, vars, &given, &block),
+        Err(fault) => Err(fault),
     }
 }
 
-/// A solve that is refuted, and the step's end by its lemma: the log, how many lemmas stand then, and how many clauses and
-/// words the arena has.
+/// A solve that is refuted, and the step's end by its lemma.
 #[tactic(auto, using(crate::proofs::SolverLemmas::may_begin))]
+fn finish(alloc: Global, solver: &mut Solver, given: &Lits) -> Result<bool, NoMemory>
+    requires { solver.old.stage ≡ Begun }
+{
+    if !is_fit(solver.vars(), given.slice()) {
+        return Ok(false);
+    }
+    match solver.solve(alloc, given, 1)? {
+        Answer::Refuted(id) => {
+            solver.end_step(alloc, Some(id))?;
+            Ok(true)
+        }
+        _ => Ok(false),
+    }
+}
+
+/// Whether a solver has this log, and how many lemmas stand, and how many clauses and words the arena has.
+fn has_log(
+    alloc: Global,
+    solver: &Solver,
+    want: &str,
+) -> Result<(bool, usize, usize, usize), NoMemory> {
+    let mut text = Vec::new(alloc);
+    push_log(&mut text, solver.log())?;
+    let is_same = text.as_slice() == want.as_bytes();
+    let arena = solver.arena();
+    Ok((
+        is_same,
+        solver.lemma_ids().len(),
+        arena.count(),
+        arena.words(),
+    ))
+}
+
+/// The same of a solver in its first step, behind such a solve and end.
 fn finished(
     alloc: Global,
     solver: &mut Solver,
     given: &Lits,
-) -> Result<(Vec<u8>, usize, usize, usize), NoMemory>
+    want: &str,
+) -> Result<(bool, usize, usize, usize), NoMemory>
     requires { solver.old.stage ≡ Begun }
 {
-    let mut text = Vec::new(alloc);
-    if !is_fit(solver.vars(), given.slice()) {
-        return Ok((text, 0, 0, 0));
+    if !finish(alloc, solver, given)? {
+        return Ok((false, 0, 0, 0));
     }
-    if let Answer::Refuted(id) = solver.solve(alloc, given, 1)? {
-        solver.end_step(alloc, Some(id))?;
-        push_log(&mut text, solver.log())?;
-    }
-    let arena = solver.arena();
-    Ok((text, solver.lemma_ids().len(), arena.count(), arena.words()))
+    has_log(alloc, solver, want)
 }
 
 /// The same of a solver over these clauses.
+fn finish_over(
+    alloc: Global,
+    rows: &[&[i32]],
+    vars: u32,
+    given: &Lits,
+    want: &str,
+) -> Result<(bool, usize, usize, usize), NoMemory> {
+    let all = clauses(alloc, rows)?;
+    match begun(alloc, all, vars)? {
+        Some(mut solver) => finished(alloc, &mut solver, given, want),
+        None => Ok((false, 0, 0, 0)),
+    }
+}
+
+/// The same of assumptions as numbers.
 fn finish_of(
     alloc: Global,
     rows: &[&[i32]],
     vars: u32,
     assumptions: &[i32],
-) -> Result<(Vec<u8>, usize, usize, usize), NoMemory> {
-    let all = clauses(alloc, rows)?;
+    want: &str,
+) -> Result<(bool, usize, usize, usize), NoMemory> {
     let given = clause(alloc, assumptions)?;
-    match begun(alloc, all, vars)? {
-        Some(mut solver) => finished(alloc, &mut solver, &given),
-        None => Ok((Vec::new(alloc), 0, 0, 0)),
-    }
+    finish_over(alloc, rows, vars, &given, want)
 }
 
 /// Clauses of three variables that no values meet where the first one is true.
@@ -326,26 +352,41 @@ const AGAIN: [Again<'static>; 2] = [
     (&ONE, 2, &[3, 1], &[-1, -2], (2, "refuted", 6, 0)),
 ];
 
+/// The number of the first of these solves that ends otherwise.
+fn first_other(alloc: Global, rows: &[Ending<'_>]) -> Result<Option<usize>, NoMemory> {
+    for (i, (clauses, vars, assumptions, limit, want)) in rows.iter().enumerate() {
+        if ending_of(alloc, clauses, *vars, assumptions, *limit)? != *want {
+            return Ok(Some(i));
+        }
+    }
+    Ok(None)
+}
+
+/// The same of solves behind a block.
+fn first_other_again(alloc: Global, rows: &[Again<'_>]) -> Result<Option<usize>, NoMemory> {
+    for (i, (clauses, vars, assumptions, block, want)) in rows.iter().enumerate() {
+        if again(alloc, clauses, *vars, assumptions, block)? != *want {
+            return Ok(Some(i));
+        }
+    }
+    Ok(None)
+}
+
 #[test]
 fn solves_end_as_the_rows_say(rt: HostRuntime) -> Result<(), Fail> {
     let alloc = rt.alloc();
-    for (rows, vars, assumptions, limit, want) in &ENDINGS {
-        assert_eq!(rt; ending_of(alloc, rows, *vars, assumptions, *limit)?, *want);
-    }
-    for (rows, vars, assumptions, block, want) in &AGAIN {
-        assert_eq!(rt; again(alloc, rows, *vars, assumptions, block)?, *want);
-    }
-    assert_eq!(rt; long_ending(alloc, 1)?, ("refuted", 2));
-    assert_eq!(rt; long_ending(alloc, 3000)?, ("refuted", 2));
+    assert_eq!(rt; first_other(alloc, &ENDINGS)?, None);
+    assert_eq!(rt; first_other_again(alloc, &AGAIN)?, None);
+    assert!(rt; long_ending(alloc, 1)? == ("refuted", 2));
+    assert!(rt; long_ending(alloc, 3000)? == ("refuted", 2));
     Ok(())
 }
 
 #[test]
 fn a_step_ends_by_its_lemma(rt: HostRuntime) -> Result<(), Fail> {
-    let alloc = rt.alloc();
     // The clause, the lemma, which has no literal of the guard 3, and the unit of the guard's negation stand: no block.
-    let (text, lemmas, clauses, words) = finish_of(alloc, &ONE, 2, &[3, 1, -2])?;
-    assert_eq!(rt; str::from_utf8(&text), Ok("s\n2 -1 2 0 1 0\ne 2\nr 3\n"));
-    assert_eq!(rt; (lemmas, clauses, words), (1, 3, 17));
+    let log = "s\n2 -1 2 0 1 0\ne 2\nr 3\n";
+    let seen = finish_of(rt.alloc(), &ONE, 2, &[3, 1, -2], log)?;
+    assert!(rt; seen == (true, 1, 3, 17));
     Ok(())
 }

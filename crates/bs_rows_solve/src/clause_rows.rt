@@ -1,5 +1,7 @@
 //! Literals, clauses and assignments: each call that takes memory with ample memory, at small and at great sizes.
-use bs_clause::{Assignment, Clauses, Lit, Lits, VARIABLE_LIMIT, Var, has_literal, resolve};
+use bs_clause::{
+    Assignment, Clauses, Lit, Lits, NoMemory, VARIABLE_LIMIT, Var, has_literal, resolve,
+};
 use std::alloc::Global;
 use std::test::Fail;
 
@@ -13,7 +15,7 @@ fn literal(variable: u32, positive: bool) -> Lit {
 }
 
 /// The clause of variable 1, with this sign, and of the positive literals of the others up to the last.
-fn clause_up_to(alloc: Global, first: bool, last: u32) -> Result<Lits, Fail> {
+fn clause_up_to(alloc: Global, first: bool, last: u32) -> Result<Lits, NoMemory> {
     let mut clause = Lits::new(alloc);
     clause.push(literal(1, first))?;
     for variable in 1..last {
@@ -22,23 +24,26 @@ fn clause_up_to(alloc: Global, first: bool, last: u32) -> Result<Lits, Fail> {
     Ok(clause)
 }
 
-/// How many literals the resolvent of two such clauses has.
-fn resolved(alloc: Global, last: u32) -> Result<Option<usize>, Fail> {
-    let left = clause_up_to(alloc, true, last)?;
-    let right = clause_up_to(alloc, false, last)?;
-    let pivot = literal(1, true);
-    if has_literal(left.slice(), pivot) && has_literal(right.slice(), pivot.negate()) {
-        match resolve(alloc, &left, &right, pivot) {
-            Ok(resolvent) => Ok(Some(resolvent.len())),
-            Err(_) => Ok(None),
-        }
-    } else {
-        Ok(None)
+/// How many literals the resolvent of two clauses has, where the pivot stands in them.
+fn resolvent_len(alloc: Global, left: &Lits, right: &Lits, pivot: Lit) -> Option<usize> {
+    if !has_literal(left.slice(), pivot) || !has_literal(right.slice(), pivot.negate()) {
+        return None;
+    }
+    match resolve(alloc, left, right, pivot) {
+        Ok(resolvent) => Some(resolvent.len()),
+        Err(_) => None,
     }
 }
 
+/// How many literals the resolvent of two such clauses has.
+fn resolved(alloc: Global, last: u32) -> Result<Option<usize>, NoMemory> {
+    let left = clause_up_to(alloc, true, last)?;
+    let right = clause_up_to(alloc, false, last)?;
+    Ok(resolvent_len(alloc, &left, &right, literal(1, true)))
+}
+
 /// How many clauses there are behind this many pushes of a copy.
-fn pushed(alloc: Global, clause: &Lits, count: u32) -> Result<usize, Fail> {
+fn pushed(alloc: Global, clause: &Lits, count: u32) -> Result<usize, NoMemory> {
     let mut clauses = Clauses::new(alloc);
     for _ in 0..count {
         clauses.push(Lits::copy(alloc, clause.slice())?)?;
@@ -47,7 +52,7 @@ fn pushed(alloc: Global, clause: &Lits, count: u32) -> Result<usize, Fail> {
 }
 
 /// The value of the last variable before and after it is set.
-fn last_values(alloc: Global, last: u32) -> Result<Option<(Option<bool>, Option<bool>)>, Fail> {
+fn last_values(alloc: Global, last: u32) -> Result<Option<(Option<bool>, Option<bool>)>, NoMemory> {
     if last == 0 {
         return Ok(None);
     }
@@ -58,14 +63,14 @@ fn last_values(alloc: Global, last: u32) -> Result<Option<(Option<bool>, Option<
 }
 
 /// Whether the copy of a clause of so many literals has these literals.
-fn is_copied(alloc: Global, last: u32) -> Result<bool, Fail> {
+fn is_copied(alloc: Global, last: u32) -> Result<bool, NoMemory> {
     let clause = clause_up_to(alloc, true, last)?;
     let copied = Lits::copy(alloc, clause.slice())?;
     Ok(copied.slice() == clause.slice() && copied.len() == last as usize)
 }
 
 /// How many clauses there are behind this many pushes of a clause of so many literals.
-fn pushed_up_to(alloc: Global, last: u32, count: u32) -> Result<usize, Fail> {
+fn pushed_up_to(alloc: Global, last: u32, count: u32) -> Result<usize, NoMemory> {
     let clause = clause_up_to(alloc, true, last)?;
     let count = pushed(alloc, &clause, count)?;
     Ok(count)

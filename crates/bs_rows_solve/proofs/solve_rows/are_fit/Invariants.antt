@@ -3,7 +3,7 @@ use Rattle.std.specs.Prelude.{All}
 use Rattle.bs_clause.specs.Literal.{Clause}
 use Rattle.bs_clause.specs.Range.{HasVariables}
 use Rattle.bs_log.specs.Refusal.{has_distinct_variables}
-use Rattle.bs_rows_search.proofs.solve_rows.are_fit.Given as goal
+use Rattle.bs_rows_solve.proofs.solve_rows.are_fit.Given as goal
 
 abbrev pub invariant-loop-c : goal.invariant-loop-c
 invariant-loop-c l = record {

@@ -1,5 +1,5 @@
 use Rattle.bs_watch.specs.Watch.{Serves}
-use Rattle.bs_rows_search.proofs.watch_rows.chain.Given as goal
+use Rattle.bs_rows_solve.proofs.watch_rows.chain.Given as goal
 
 abbrev pub invariant-links : goal.invariant-links
 invariant-links l = Serves l.watch l.arena.clauses

@@ -1,4 +1,4 @@
-use Rattle.bs_rows_search.proofs.watch_rows.begun.Goals as goal
+use Rattle.bs_rows_solve.proofs.watch_rows.begun.Goals as goal
 
 pub returns : goal.returns
 returns c = c.in_ok-watch.ensures.serves.serves c.args.arena.now.clauses

@@ -1,7 +1,7 @@
 use Rattle.std.proofs.Common.{◌≡◌}
 use Rattle.bs_watch.proofs.CallerLemmas.{serves_more, not_attached, watchable_found, may_attach_empty, attached_serves}
 use Rattle.bs_arena.specs.Arena.{literals_at}
-use Rattle.bs_rows_search.proofs.watch_rows.attach.Goals as goal
+use Rattle.bs_rows_solve.proofs.watch_rows.attach.Goals as goal
 
 pub attach-requires-clause-serves : goal.attach-requires-clause-serves
 attach-requires-clause-serves c = serves_more c.args.watch.now c.args.arena.now.clauses c.add.new.self.clauses c.requires.serves c.in_ok-r.ensures.keeps
