@@ -8,7 +8,10 @@ use Rattle.bs_top_plan.specs.Plan.{Reason, exactly, Plan, end, ◌>>=◌, read_a
 use Rattle.bs_encode.specs.Transition.{variables}
 use Rattle.bs_reach_unrolled.specs.declared.limits.TheConstants.{MAX_COPY_VARIABLES}
 use Rattle.bs_top_files.specs.Entry.{netlist_of}
+use Rattle.bs_top_files.specs.Looking.{netlist_looked}
+use Rattle.bs_top_files.specs.NoteCases.{NoteCase}
 use Rattle.bs_top_files.specs.Refusals.{Case}
+use Rattle.bs_note_calls.specs.Searches.{room_text, state_text}
 
 -- a netlist's parts, a state of it, and the most cycles in which the state is to be reached
 pub record Target : Type 0 where
@@ -38,4 +41,26 @@ target_of netlist state cycles = do
   raw ← netlist_of netlist
   bits ← read_as files.State (state_in raw state)
   fits ← read_as files.Netlist (room_in raw cycles)
+  end record { raw = raw; state = bits; cycles = cycles }
+
+-- ---- the same as the notes see it
+
+-- a value is right, and what is refused has this text
+abbrev pub said_by : {R V : Type 0} → List ℕ → Result V (Reason R) → Result V (Reason NoteCase)
+said_by text (Ok v) = Ok v
+said_by text (Err reason) = Err (exactly text)
+
+-- the state of a word
+abbrev pub state_noted : Parts → List ℕ → Result (List Bool) (Reason NoteCase)
+state_noted raw word = said_by (state_text word (length (circuit_of raw).flops)) (state_in raw word)
+
+-- whether a search of so many cycles is small enough
+abbrev pub room_noted : Parts → ℕ → Result Bool (Reason NoteCase)
+room_noted raw cycles = said_by (room_text (variables (circuit_of raw) [])) (room_in raw cycles)
+
+abbrev pub target_looked : (netlist state : List ℕ) → (cycles : ℕ) → Plan NoteCase Target
+target_looked netlist state cycles = do
+  raw ← netlist_looked netlist
+  bits ← read_as files.State (state_noted raw state)
+  fits ← read_as files.Netlist (room_noted raw cycles)
   end record { raw = raw; state = bits; cycles = cycles }

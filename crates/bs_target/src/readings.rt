@@ -6,14 +6,18 @@ ghost use Rattle.bs_top_plan.specs.Walks.{Reads};
 ghost use Rattle.bs_encode.specs.Transition.{variables};
 ghost use Rattle.bs_reach_unrolled.specs.declared.limits.TheConstants.{MAX_COPY_VARIABLES};
 ghost use Rattle.bs_top_files.specs.Refusals.{CheckSays};
-ghost use Rattle.bs_target.specs.Target.{fitting, room_in, state_in};
+ghost use Rattle.bs_note_calls.specs.Searches.{room_text};
+ghost use Rattle.bs_top_files.specs.NoteCases.{NoteSays};
+ghost use Rattle.bs_top_plan.specs.Told.{noted, worded};
+ghost use Rattle.bs_target.specs.Target.{fitting, room_in, room_noted, state_in, state_noted};
 
-use bs_bits::Bits;
+use bs_bits::{Bits, NoMemory};
 use bs_net::Netlist;
+use bs_note_calls::{room_note, state_note};
 use bs_reach::size;
 use bs_reach_unrolled::MAX_COPY_VARIABLES;
 use bs_top_files::worded;
-use bs_top_plan::Refusal;
+use bs_top_plan::{Refusal, Unread, both};
 use std::alloc::Global;
 
 /// Bits that are a state of the netlist: one for each flip-flop.
@@ -59,5 +63,38 @@ pub fn check_room(alloc: Global, net: &Netlist, cycles: u64) -> Result<(), Refus
         Ok(())
     } else {
         Err(worded(alloc, b"TooLarge"))
+    }
+}
+
+/// The state of a word, or what is told of it.
+#[tactic(auto, using(crate::proofs::SaidLemmas::state_words, crate::proofs::SaidLemmas::state_fails, crate::proofs::SaidLemmas::state_fits))]
+pub fn state_or_told(alloc: Global, word: &str, net: &Netlist) -> Result<Bits, Unread>
+    ensures words { Reads CheckSays (λ state. state) (state_in net.now.raw word.now) (worded result) }
+    ensures note { Reads NoteSays (λ state. state) (state_noted net.now.raw word.now) (noted result) }
+    ensures width { IfOk result (λ state. length state ≡ length (circuit net.now).flops) }
+{
+    match read_state(alloc, word, net) {
+        Ok(state) => Ok(state),
+        Err(words) => Err(both(words, state_note(alloc, word, net.raw().flops.len()))),
+    }
+}
+
+/// The note on a search that is too large.
+fn large_search_note(alloc: Global, net: &Netlist) -> Result<Vec<u8>, NoMemory>
+    ensures { IfOk result (λ note. note.items ≡ room_text (variables (circuit net.now) [])) }
+{
+    room_note(alloc, size(alloc, net)?)
+}
+
+/// Whether a search of so many cycles is small enough, or what is told of it.
+#[tactic(auto, using(crate::proofs::SaidLemmas::room_words, crate::proofs::SaidLemmas::room_fails, crate::proofs::SaidLemmas::room_fits))]
+pub fn room_or_told(alloc: Global, net: &Netlist, cycles: u64) -> Result<(), Unread>
+    ensures words { Reads CheckSays (λ _. true) (room_in net.now.raw cycles) (worded result) }
+    ensures note { Reads NoteSays (λ _. true) (room_noted net.now.raw cycles) (noted result) }
+    ensures room { IfOk result (λ _. cycles * variables (circuit net.now) [] ≤ MAX_COPY_VARIABLES) }
+{
+    match check_room(alloc, net, cycles) {
+        Ok(()) => Ok(()),
+        Err(words) => Err(both(words, large_search_note(alloc, net))),
     }
 }
