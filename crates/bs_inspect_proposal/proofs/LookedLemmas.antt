@@ -10,7 +10,7 @@ use Rattle.bs_net.specs.Circuit.{Circuit, next, reset_state}
 use Rattle.bs_stim.specs.Runs.{Recorded, Stimulus, inputs_of, no_run, run_at}
 use Rattle.bs_scan.specs.Moments.{Run, state_at}
 use Rattle.bs_inspect_proposal.specs.Rows.{kept_row, kept_rows}
-use Rattle.bs_inspect_proposal.specs.Looked.{run_states, run_steps, step_at}
+use Rattle.bs_inspect_proposal.specs.Looked.{later_states, run_states, run_steps, step_at}
 
 pub joined_more : (first second before after : List Bool) (i : ℕ) → i < length second → before ≡ first ++ take i second →
     after ≡ before ++ get_or second i false ∷ [] → after ≡ first ++ take (i + 1) second
@@ -57,7 +57,7 @@ states_more c run k initial before after s e is goes =
     (goes ∙ ap (λ (t : List Bool). kept_row before t) (is ∙ ap (state_at c run) place))
 
 pub states_whole : (c : Circuit) (run : Run) (cycles : ℕ) (old initial after : List (List Bool)) (s : List Bool) → s ≡ reset_state c →
-    initial ≡ kept_row old s → after ≡ kept_rows initial (map (state_at c run) (range_with_len 1 (min cycles (length run)))) →
+    initial ≡ kept_row old s → after ≡ kept_rows initial (later_states c cycles run) →
     after ≡ kept_rows old (run_states c cycles run)
 states_whole c run cycles old initial after s is e goes =
     goes

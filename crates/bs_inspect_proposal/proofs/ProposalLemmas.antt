@@ -12,14 +12,18 @@ use Rattle.bs_inspect_proposal.specs.Items.{IsLooked, single}
 use Rattle.bs_inspect_proposal.specs.Proposal.{TellsChoices, bit_line, bits_told, parities_told, parity_items, shares_text, xor_line}
 use Rattle.bs_inspect_proposal.specs.declared.rows.TheConstants.{MAX_ROWS}
 
-pub looked : (width n : ℕ) (states steps : List (List Bool)) → n ≡ width → All (λ s. length s ≡ width) states →
-    All (λ row. length row ≡ width + width) steps → length states ≤ MAX_ROWS → length steps ≤ MAX_ROWS → IsLooked n states steps
-looked width n states steps e states_wide steps_wide few_states few_steps = rw e record {
+pub looked : (width : ℕ) (states steps : List (List Bool)) → All (λ s. length s ≡ width) states →
+    All (λ row. length row ≡ width + width) steps → length states ≤ MAX_ROWS → length steps ≤ MAX_ROWS → IsLooked width states steps
+looked width states steps states_wide steps_wide few_states few_steps = record {
   states_wide = states_wide;
   steps_wide = steps_wide;
   few_states = few_states;
   few_steps = few_steps;
 }
+
+-- the same with the width by another name
+pub looked_by : (width n : ℕ) (states steps : List (List Bool)) → n ≡ width → IsLooked width states steps → IsLooked n states steps
+looked_by width n states steps e h = rw e h
 
 pub flops_within : (width : ℕ) (rows : List (List Bool)) (bits : ℕ) (flops : List ℕ) → IsGreedy width rows bits flops →
     All (λ flop. flop < width) flops
@@ -63,9 +67,12 @@ tells keys states steps bits flops text greedy told = record {
   told = told;
 }
 
-pub moved : (ks keys : List (List ℕ)) (states steps looked_states looked_steps : List (List Bool)) (bits : ℕ) (text : List ℕ) → ks ≡ keys →
-    states ≡ looked_states → steps ≡ looked_steps → TellsChoices ks states steps bits text → TellsChoices keys looked_states looked_steps bits text
-moved ks keys states steps looked_states looked_steps bits text e f g told =
-    subst (λ (k : List (List ℕ)). TellsChoices k looked_states looked_steps bits text) e
-    (subst (λ (s : List (List Bool)). TellsChoices ks s looked_steps bits text) f
-    (subst (λ (s : List (List Bool)). TellsChoices ks states s bits text) g told))
+pub renamed : (ks keys : List (List ℕ)) (states steps : List (List Bool)) (bits : ℕ) (text : List ℕ) → ks ≡ keys →
+    TellsChoices ks states steps bits text → TellsChoices keys states steps bits text
+renamed ks keys states steps bits text e told = subst (λ (k : List (List ℕ)). TellsChoices k states steps bits text) e told
+
+pub moved : (keys : List (List ℕ)) (states steps looked_states looked_steps : List (List Bool)) (bits : ℕ) (text : List ℕ) →
+    states ≡ looked_states → steps ≡ looked_steps → TellsChoices keys states steps bits text → TellsChoices keys looked_states looked_steps bits text
+moved keys states steps looked_states looked_steps bits text f g told =
+    subst (λ (s : List (List Bool)). TellsChoices keys s looked_steps bits text) f
+    (subst (λ (s : List (List Bool)). TellsChoices keys states s bits text) g told)

@@ -9,6 +9,10 @@ use Rattle.bs_inspect_proposal.specs.Rows.{kept_rows}
 abbrev pub run_states : Circuit → ℕ → Run → List (List Bool)
 run_states c cycles run = map (state_at c run) (range_with_len 0 (min cycles (length run) + 1))
 
+-- the same without the first, which is that at reset
+abbrev pub later_states : Circuit → ℕ → Run → List (List Bool)
+later_states c cycles run = map (state_at c run) (range_with_len 1 (min cycles (length run)))
+
 -- the state at a cycle and the one after it, behind one another
 abbrev pub step_at : Circuit → Run → ℕ → List Bool
 step_at c run cycle = state_at c run cycle ++ state_at c run (cycle + 1)

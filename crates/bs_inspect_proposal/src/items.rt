@@ -1,5 +1,5 @@
 //! What a choice of items tells apart, and the items that are proposed.
-ghost use Rattle.std.specs.Prelude.{◌≡◌, ◌<◌, ◌≤◌, ◌+◌, ◌^◌, ◌%◌, ◌==◌, ◌++◌, ◌∷◌, [], length, map, filter, min, All, IfOk, OnOk};
+ghost use Rattle.std.specs.Prelude.{◌≡◌, ◌<◌, ◌≤◌, ◌+◌, ◌^◌, ◌%◌, ◌==◌, ◌++◌, ◌∷◌, [], length, map, filter, min, take, drop, All, IfOk, OnOk};
 ghost use Rattle.std.specs.List.{range_with_len};
 ghost use Rattle.bs_scan.specs.ChoiceText.{chosen};
 ghost use Rattle.bs_scan.specs.Signature.{parity_of, signature};
@@ -41,8 +41,39 @@ fn signature_of(
     Ok(bits)
 }
 
+/// The signature of the first state of a step.
+#[tactic(auto, using(crate::proofs::ApartLemmas::front_width))]
+fn older_signature(
+    alloc: Global,
+    width: usize,
+    items: &[List<u32>],
+    row: &Bits,
+) -> Result<Bits, NoMemory>
+    requires within { AreWithin width items.now }
+    requires wide { length row.now ≡ width + width }
+    ensures { IfOk result (λ bits. bits ≡ signature (chosen width 1 items.now) (take width row.now)) }
+{
+    let state = front(alloc, row, width)?;
+    signature_of(alloc, width, items, &state)
+}
+
+/// The signature of the second state of a step.
+#[tactic(auto, using(crate::proofs::ApartLemmas::behind_width))]
+fn newer_signature(
+    alloc: Global,
+    width: usize,
+    items: &[List<u32>],
+    row: &Bits,
+) -> Result<Bits, NoMemory>
+    requires within { AreWithin width items.now }
+    requires wide { length row.now ≡ width + width }
+    ensures { IfOk result (λ bits. bits ≡ signature (chosen width 1 items.now) (drop width row.now)) }
+{
+    let state = behind(alloc, row, width)?;
+    signature_of(alloc, width, items, &state)
+}
+
 /// The signatures of the two states of a step, behind one another.
-#[tactic(auto, using(crate::proofs::ApartLemmas::front_width, crate::proofs::ApartLemmas::behind_width))]
 fn step_signature_of(
     alloc: Global,
     width: usize,
@@ -53,11 +84,9 @@ fn step_signature_of(
     requires wide { length row.now ≡ width + width }
     ensures { IfOk result (λ bits. bits ≡ step_signature (chosen width 1 items.now) row.now) }
 {
-    let older = front(alloc, row, width)?;
-    let newer = behind(alloc, row, width)?;
-    let first = signature_of(alloc, width, items, &older)?;
-    let second = signature_of(alloc, width, items, &newer)?;
-    joined(&first, &second)
+    let older = older_signature(alloc, width, items, row)?;
+    let newer = newer_signature(alloc, width, items, row)?;
+    joined(&older, &newer)
 }
 
 /// The signatures of states.

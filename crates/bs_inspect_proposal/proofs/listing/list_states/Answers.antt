@@ -1,4 +1,3 @@
-use Rattle.std.proofs.Common.{take}
 use Rattle.bs_net.specs.Netlist.{circuit}
 use Rattle.bs_stim.specs.Runs.{inputs_of}
 use Rattle.bs_inspect_proposal.proofs.WidthLemmas.{states_wide}
@@ -6,4 +5,4 @@ use Rattle.bs_inspect_proposal.proofs.listing.list_states.Goals as goal
 
 pub returns-clause-wide : goal.returns-clause-wide
 returns-clause-wide c =
-    states_wide (circuit c.args.net.now) c.args.cycles (take c.runs.k (inputs_of c.args.runs.now)) c.runs.rows c.runs.invariant.rows
+    states_wide (circuit c.args.net.now) c.args.cycles (inputs_of c.args.runs.now) c.in_ok-rows.rows c.in_ok-rows.ensures.rows
