@@ -1,8 +1,6 @@
 //! The command line tool `backspace`. Its answer is all that standard output gets, and a note for a person follows on standard error.
 #![tactic(auto)]
 
-use bs_note::note;
-use bs_note_calls::{Ear, FileCauses, Outcome, Reasons, TellingSink};
 use bs_outside::{FileShelf, StdSink};
 use bs_top::run_program;
 use std::alloc::Global;
@@ -22,33 +20,14 @@ fn given_words(rt: &HostRuntime, alloc: Global) -> Result<Vec<String>, ErrorKind
     }
 }
 
-/// Says the note on an outcome, on standard error.
-fn say(rt: &HostRuntime, alloc: Global, outcome: &Outcome) {
-    let words = given_words(rt, alloc);
-    let mut shelf = FileShelf::new(rt);
-    let error = rt.stderr();
-    let mut notes = StdSink::new(&error);
-    note(
-        alloc,
-        &words,
-        &mut shelf,
-        &FileCauses { rt },
-        outcome,
-        &mut notes,
-    );
-}
-
 fn main(rt: HostRuntime) -> ExitCode {
     let alloc = rt.alloc();
-    let words = given_words(&rt, alloc);
-    let mut shelf = FileShelf::new(&rt);
-    let mut out = Ear::new(TellingSink::new(&rt));
-    let code = run_program(alloc, words, &mut shelf, &mut out);
-    let outcome = Outcome {
-        code,
-        told: out.told,
-        cause: out.sink.reason(),
-    };
-    say(&rt, alloc, &outcome);
-    ExitCode::from(code)
+    let error = rt.stderr();
+    ExitCode::from(run_program(
+        alloc,
+        given_words(&rt, alloc),
+        &mut FileShelf::new(&rt),
+        &mut StdSink::new(&rt),
+        &mut StdSink::new(&error),
+    ))
 }

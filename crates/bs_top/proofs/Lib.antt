@@ -4,6 +4,7 @@ pub mod WorkLemmas
 pub mod AskedLemmas
 pub mod WayLemmas
 pub mod SoundLemmas
+pub mod ReplyLemmas
 pub mod LawLemmas
 pub mod PlanLemmas
 pub mod DemoLemmas

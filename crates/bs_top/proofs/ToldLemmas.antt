@@ -1,6 +1,7 @@
 -- A shelf of three texts tells each under its name.
-use Rattle.std.proofs.Common.{◌≡◌, ℕ, Bool, true, false, List, [], ◌∷◌, refl, ap, subst, sym, ◌∙◌, Some, None, Result}
-use Rattle.std.specs.Prelude.{codes, Vec, String, string_bytes, slice_get, if◌then◌else◌, option_map}
+use Rattle.std.proofs.Common.{◌≡◌, ℕ, Bool, true, false, List, [], ◌∷◌, refl, ap, subst, sym, ◌∙◌, Some, None, Result, Err}
+use Rattle.bs_bits.specs.declared.memory.NoMemory.{NoMemory as NoMem}
+use Rattle.std.specs.Prelude.{codes, IfOk, Vec, String, string_bytes, slice_get, if◌then◌else◌, option_map}
 use Rattle.std.specs.Option.{option_and_then}
 use Rattle.std.specs.List.{position}
 use Rattle.std.specs.Str.{bytes_eq}
@@ -8,9 +9,11 @@ use Rattle.std.specs.declared.alloc.Global.{Global}
 use Rattle.bs_outside.specs.Files.{Files, held_in}
 use Rattle.bs_net.specs.Parts.{Parts}
 use Rattle.bs_top_plan.specs.declared.walk.JobFault.{JobFault}
+use Rattle.bs_top_plan.specs.declared.walk.JobFault.TheVariants.{NoMemory}
 use Rattle.bs_top_plan.specs.declared.file.File.TheVariants as files
-use Rattle.bs_top_plan.specs.Plan.{Tells, AllTold, with_texts, end, fetched, read_as, ◌>>=◌}
+use Rattle.bs_top_plan.specs.Plan.{Tells, Plan, Reason, AllTold, with_texts, end, fetched, read_as, ◌>>=◌}
 use Rattle.bs_top_plan.specs.Walks.{Walks, WalksAlone}
+use Rattle.bs_top_plan.proofs.AskingLemmas.{along_none}
 use Rattle.bs_top_plan.proofs.Walking.{told_then, told_fetched, told_read, walks_alone, sure_shelf}
 use Rattle.bs_outside.specs.Memory.{sure_files, sure_held, sure_faults, sure_leads}
 use Rattle.bs_outside.specs.declared.sure.SureShelf.{SureShelf}
@@ -18,13 +21,12 @@ use Rattle.bs_stim.specs.Runs.{Stimulus}
 use Rattle.bs_scan.specs.Choice.{Chosen}
 use Rattle.bs_scan.specs.Moments.{Moment}
 use Rattle.bs_gen.specs.Job.{netlist_for, signature_text, stimulus_for}
-use Rattle.bs_top_files.specs.declared.ready.Placed.{Placed as CodePlaced}
-use Rattle.bs_top_files.specs.Ready.{placed_in}
-use Rattle.bs_top_files.specs.Refusals.{Case, CheckSays}
-use Rattle.bs_top_files.specs.Entry.{Setup, placed_of, setup_of, netlist_of, signature_of, stimulus_of, input_width}
+use Rattle.bs_top_files.specs.Entry.{Setup, Placed, placed_of, input_width}
+use Rattle.bs_top_files.specs.Looking.{placed_looked}
+use Rattle.bs_top_files.specs.Noting.{netlist_noted, signature_noted, stimulus_noted, moment_noted}
 use Rattle.bs_top_files.specs.Readings.{netlist_in, signature_in, stimulus_in, moment_in}
 use Rattle.bs_top.specs.declared.budgets.TheConstants.{DEMO_RUN, DEMO_CYCLE}
-use Rattle.bs_top.specs.Demo.{demo_names, demo_of, demo_told, told_of}
+use Rattle.bs_top.specs.Demo.{demo_names, demo_told, told_of}
 use Rattle.bs_top.specs.Texts.{AreTexts}
 
 abbrev CodeFile : Type 0
@@ -50,49 +52,92 @@ held_three files netlist signature stimulus are name =
     else (if bytes_eq (codes "signature") name then Some (are.texts.1 i)
     else (if bytes_eq (codes "stimulus") name then Some (are.texts.2 i) else None)))
 
-all_told : (netlist signature stimulus : List ℕ) → AllTold (told_of netlist signature stimulus) (placed_of demo_names DEMO_RUN DEMO_CYCLE)
-all_told netlist signature stimulus =
-    told_then told (setup_of demo_names) (λ (setup : Setup). read_as files.Dump (moment_in setup.runs DEMO_RUN DEMO_CYCLE) >>=
-    (λ (m : Moment). end record { setup = setup; moment = m })) setup
-    (λ setup. told_then told (read_as files.Dump (moment_in setup.runs DEMO_RUN DEMO_CYCLE)) (λ (m : Moment). end record { setup = setup; moment = m })
-    (told_read told files.Dump (moment_in setup.runs DEMO_RUN DEMO_CYCLE)) (λ m. tt))
+-- a walk over three files and a moment, by what reads each
+abbrev placed_by : {Q : Type 0} → (List ℕ → Result Parts (Reason Q)) → (Parts → List ℕ → Result Chosen (Reason Q)) →
+    (Parts → List ℕ → Result Stimulus (Reason Q)) → (Stimulus → Result Moment (Reason Q)) → Plan Q Placed
+placed_by nets items runs moments =
+    (fetched files.Netlist (codes "netlist") >>= (λ bytes. read_as files.Netlist (nets bytes)))
+    >>= (λ raw. (fetched files.Signature (codes "signature") >>= (λ bytes. read_as files.Signature (items raw bytes)))
+    >>= (λ choice. (fetched files.Stimulus (codes "stimulus") >>= (λ bytes. read_as files.Stimulus (runs raw bytes)))
+    >>= (λ r. end (record { raw = raw; choice = choice; runs = r }))))
+    >>= (λ (setup : Setup). read_as files.Dump (moments setup.runs) >>= (λ (m : Moment). end record { setup = setup; moment = m }))
+
+all_told : {Q : Type 0} (nets : List ℕ → Result Parts (Reason Q)) (items : Parts → List ℕ → Result Chosen (Reason Q))
+    (runs : Parts → List ℕ → Result Stimulus (Reason Q)) (moments : Stimulus → Result Moment (Reason Q)) (netlist signature stimulus : List ℕ) →
+    AllTold (told_of netlist signature stimulus) (placed_by nets items runs moments)
+all_told {Q} nets items runs moments netlist signature stimulus =
+    told_then told setup_by (λ (setup : Setup). read_as files.Dump (moments setup.runs) >>= (λ (m : Moment). end record { setup = setup; moment = m })) setup
+    (λ setup. told_then told (read_as files.Dump (moments setup.runs)) (λ (m : Moment). end record { setup = setup; moment = m })
+    (told_read told files.Dump (moments setup.runs)) (λ m. tt))
   where
     told : Tells
     told = told_of netlist signature stimulus
 
-    nets : AllTold told (netlist_of (codes "netlist"))
-    nets = told_then told (fetched files.Netlist (codes "netlist")) (λ bytes. read_as files.Netlist (netlist_in bytes))
-        (told_fetched Case told files.Netlist (codes "netlist") refl) (λ bytes. told_read told files.Netlist (netlist_in bytes))
+    nets_by : Plan Q Parts
+    nets_by = fetched files.Netlist (codes "netlist") >>= (λ bytes. read_as files.Netlist (nets bytes))
 
-    items : (raw : Parts) → AllTold told (signature_of raw (codes "signature"))
-    items raw = told_then told (fetched files.Signature (codes "signature")) (λ bytes. read_as files.Signature (signature_in raw bytes))
-        (told_fetched Case told files.Signature (codes "signature") refl) (λ bytes. told_read told files.Signature (signature_in raw bytes))
+    items_by : Parts → Plan Q Chosen
+    items_by raw = fetched files.Signature (codes "signature") >>= (λ bytes. read_as files.Signature (items raw bytes))
 
-    runs : (raw : Parts) → AllTold told (stimulus_of raw (codes "stimulus"))
-    runs raw = told_then told (fetched files.Stimulus (codes "stimulus")) (λ bytes. read_as files.Stimulus (stimulus_in (input_width raw) bytes))
-        (told_fetched Case told files.Stimulus (codes "stimulus") refl) (λ bytes. told_read told files.Stimulus (stimulus_in (input_width raw) bytes))
+    runs_by : Parts → Plan Q Stimulus
+    runs_by raw = fetched files.Stimulus (codes "stimulus") >>= (λ bytes. read_as files.Stimulus (runs raw bytes))
 
-    setup : AllTold told (setup_of demo_names)
+    setup_by : Plan Q Setup
+    setup_by = nets_by >>= (λ raw. items_by raw >>= (λ choice. runs_by raw >>= (λ r. end (record { raw = raw; choice = choice; runs = r }))))
+
+    net : AllTold told nets_by
+    net = told_then told (fetched files.Netlist (codes "netlist")) (λ bytes. read_as files.Netlist (nets bytes))
+        (told_fetched Q told files.Netlist (codes "netlist") refl) (λ bytes. told_read told files.Netlist (nets bytes))
+
+    item : (raw : Parts) → AllTold told (items_by raw)
+    item raw = told_then told (fetched files.Signature (codes "signature")) (λ bytes. read_as files.Signature (items raw bytes))
+        (told_fetched Q told files.Signature (codes "signature") refl) (λ bytes. told_read told files.Signature (items raw bytes))
+
+    run : (raw : Parts) → AllTold told (runs_by raw)
+    run raw = told_then told (fetched files.Stimulus (codes "stimulus")) (λ bytes. read_as files.Stimulus (runs raw bytes))
+        (told_fetched Q told files.Stimulus (codes "stimulus") refl) (λ bytes. told_read told files.Stimulus (runs raw bytes))
+
+    setup : AllTold told setup_by
     setup =
-        told_then told (netlist_of (codes "netlist"))
-        (λ (raw : Parts). signature_of raw (codes "signature") >>=
-        (λ (choice : Chosen). stimulus_of raw (codes "stimulus") >>= (λ (r : Stimulus). end record { raw = raw; choice = choice; runs = r }))) nets
-        (λ raw. told_then told (signature_of raw (codes "signature"))
-        (λ (choice : Chosen). stimulus_of raw (codes "stimulus") >>= (λ (r : Stimulus). end record { raw = raw; choice = choice; runs = r })) (items raw)
-        (λ choice. told_then told (stimulus_of raw (codes "stimulus")) (λ (r : Stimulus). end record { raw = raw; choice = choice; runs = r })
-        (runs raw) (λ r. tt)))
+        told_then told nets_by
+        (λ (raw : Parts). items_by raw >>=
+        (λ (choice : Chosen). runs_by raw >>= (λ (r : Stimulus). end record { raw = raw; choice = choice; runs = r }))) net
+        (λ raw. told_then told (items_by raw)
+        (λ (choice : Chosen). runs_by raw >>= (λ (r : Stimulus). end record { raw = raw; choice = choice; runs = r })) (item raw)
+        (λ choice. told_then told (runs_by raw) (λ (r : Stimulus). end record { raw = raw; choice = choice; runs = r })
+        (run raw) (λ r. tt)))
+
+-- the texts of a generated job are told to each plan over them
+pub told_line : (number : ℕ) → AllTold (demo_told number) (placed_of demo_names DEMO_RUN DEMO_CYCLE)
+told_line number =
+    all_told netlist_in signature_in (λ raw bytes. stimulus_in (input_width raw) bytes) (λ runs. moment_in runs DEMO_RUN DEMO_CYCLE)
+    (netlist_for number) signature_text (stimulus_for number)
+
+pub told_note : (number : ℕ) → AllTold (demo_told number) (placed_looked demo_names DEMO_RUN DEMO_CYCLE)
+told_note number =
+    all_told (λ bytes. netlist_noted (codes "netlist") bytes) (λ raw bytes. signature_noted raw (codes "signature") bytes)
+    (λ raw bytes. stimulus_noted (input_width raw) (codes "stimulus") bytes) (λ runs. moment_noted runs DEMO_RUN DEMO_CYCLE)
+    (netlist_for number) signature_text (stimulus_for number)
 
 -- a walk over a shelf of the texts is one that asks no shelf
-pub alone_of : (number : ℕ) (before now : SureShelf) (listed : Files) (netlist signature stimulus : List ℕ) (result : Result CodePlaced JobFault) →
-    sure_files before ≡ listed → AreTexts listed netlist signature stimulus → netlist ≡ netlist_for number → signature ≡ signature_text →
-    stimulus ≡ stimulus_for number →
-    Walks CheckSays sure_held sure_faults sure_leads before now (placed_of demo_names DEMO_RUN DEMO_CYCLE) placed_in result →
-    WalksAlone CheckSays (demo_of number) placed_in result
-alone_of number before now listed netlist signature stimulus result is are en es et walks =
+pub alone_of : {R T V : Type 0} {allows : R → List ℕ → Type 0} {plan : Plan R V} {view : T → V} {result : Result T JobFault} (number : ℕ)
+    (before now : SureShelf) → AllTold (demo_told number) plan →
+    AreTexts (sure_files before) (netlist_for number) signature_text (stimulus_for number) →
+    Walks allows sure_held sure_faults sure_leads before now plan view result → WalksAlone allows (with_texts (demo_told number) plan) view result
+alone_of {R} {T} {V} {allows} {plan} {view} {result} number before now all are walks =
     let tells : sure_held before ≡ demo_told number =
-    λ i name. (ap (λ (l : Files). held_in l name) is ∙ held_three listed netlist signature stimulus are name ∙ (λ j. told_of (en j) (es j) (et j) name)) i in
-    let all : AllTold (sure_held before) (placed_of demo_names DEMO_RUN DEMO_CYCLE) =
-    subst (λ (t : Tells). AllTold t (placed_of demo_names DEMO_RUN DEMO_CYCLE)) (sym tells)
-    (all_told (netlist_for number) signature_text (stimulus_for number)) in
-    subst (λ (t : Tells). WalksAlone CheckSays (with_texts t (placed_of demo_names DEMO_RUN DEMO_CYCLE)) placed_in result) tells
-    (walks_alone all (sure_shelf before now) walks)
+    λ i name. held_three (sure_files before) (netlist_for number) signature_text (stimulus_for number) are name i in
+    subst (λ (t : Tells). WalksAlone allows (with_texts t plan) view result) tells
+    (walks_alone (subst (λ (t : Tells). AllTold t plan) (sym tells) all) (sure_shelf before now) walks)
+
+-- the same texts
+pub texts_are : {n n' s s' t t' : List ℕ} (r : Result SureShelf NoMem) → n ≡ n' → s ≡ s' → t ≡ t' → IfOk r (λ shelf. AreTexts (sure_files shelf) n s t) →
+    IfOk r (λ shelf. AreTexts (sure_files shelf) n' s' t')
+texts_are {n' = n'} {s = s} {s' = s'} {t = t} r en es et are =
+    subst (λ (l : List ℕ). IfOk r (λ shelf. AreTexts (sure_files shelf) n' s' l)) et
+    (subst (λ (l : List ℕ). IfOk r (λ shelf. AreTexts (sure_files shelf) n' l t)) es
+    (subst (λ (l : List ℕ). IfOk r (λ shelf. AreTexts (sure_files shelf) l s t)) en are))
+
+-- memory ran out before the first text
+pub alone_short : {R T V : Type 0} {allows : R → List ℕ → Type 0} (plan : Plan R V) (view : T → V) → WalksAlone allows plan view (Err NoMemory)
+alone_short plan view = record { is = λ told before. record { told = λ name. refl; counts = λ name. refl }; along = along_none plan }

@@ -9,18 +9,22 @@ use Rattle.bs_report.specs.declared.report.Stop.TheVariants.{Reset, Length, Nohi
 use Rattle.bs_report_good.specs.declared.part.Part.{Part}
 use Rattle.bs_top.specs.Rejected.{finding_status}
 use Rattle.bs_top_plan.specs.declared.status.Status.{Status}
-use Rattle.bs_top_plan.specs.declared.reply.Reply.{Reply}
+use Rattle.bs_note_calls.specs.Words.{IsWordsNote}
+use Rattle.bs_top_answer.specs.declared.note.Answer.{Answer}
+use Rattle.bs_top_answer.specs.Note.{Due}
+use Rattle.bs_top_answer.specs.Prepared.{PreparedNoted}
+use Rattle.bs_top_answer.proofs.AnswerLemmas.{noted_nothing, noted_words}
+use Rattle.bs_top_plan.specs.Answers.{RefusesWords}
 use Rattle.bs_top_plan.specs.Files.{is_work_status}
 use Rattle.bs_top_plan.specs.Plan.{Tells, Counts, Plan}
-use Rattle.bs_top_plan.specs.Walks.{Walks}
-use Rattle.bs_top_plan.specs.Prepared.{Prepared, IsWork}
-use Rattle.bs_top_plan.proofs.Preparing.{prepares_work, prepares_nothing}
+use Rattle.bs_top_plan.specs.Prepared.{IsWork}
 use Rattle.bs_top_words.specs.Job.{Job}
 use Rattle.bs_top_files.specs.Refusals.{Case, CheckSays}
 use Rattle.bs_top.specs.Work.{Work, to_run, to_audit, to_dump, to_demo, to_wave, to_reach, plan_of}
 use Rattle.bs_reach.specs.declared.reach.Outcome.{Outcome}
 use Rattle.bs_reach.specs.declared.reach.Outcome.TheVariants.{Reached, Unreached, Unknown}
 use Rattle.bs_top.specs.Finishes.{finishes, stop_status, reach_status}
+use Rattle.bs_top.specs.Said.{JobSaid, WordsSaid}
 
 stop_work : (stop : Stop) → is_work_status (stop_status stop) ≡ true
 stop_work Reset = refl
@@ -50,23 +54,26 @@ work_status (to_reach conflicts target) status text done = ap is_work_status don
 pub is_work : IsWork finishes
 is_work = record { status = work_status }
 
--- the work that a walk made ready for, if it is done
-pub prepares_done : {S T : Type 0} {held : S → Tells} {faults : S → Counts} {leads : S → FetchCall → S →
-    Type 0} {before now : S} {plan : Plan Case Work} {view : T → Work} {t : T} (r : Result Reply NoMemory) →
-    Walks CheckSays held faults leads before now plan view (Ok t) → IfOk r (λ answer. finishes (view t) answer.status answer.text.items) →
-    Prepared CheckSays finishes held faults leads before now (Some plan) r
-prepares_done r walks done = prepares_work r is_work walks done
-
 -- the answer to a job that the words ask for
-pub prepared_for : {S : Type 0} {held : S → Tells} {faults : S → Counts} {leads : S → FetchCall → S →
-    Type 0} {before now : S} {r : Result Reply NoMemory} (job : Job) (asked : Option Job) → Some job ≡ asked →
-    Prepared CheckSays finishes held faults leads before now (Some (plan_of job)) r →
-    Prepared CheckSays finishes held faults leads before now (option_map plan_of asked) r
-prepared_for {held = held} {faults = faults} {leads = leads} {before = before} {now = now} {r = r} job asked e h =
-    subst (λ (o : Option Job). Prepared CheckSays finishes held faults leads before now (option_map plan_of o) r) e h
+pub prepared_for : {S : Type 0} {held : S → Tells} {faults : S → Counts} {leads : S → FetchCall → S → Type 0} {before now : S}
+    {r : Result Answer NoMemory} (words : List (List ℕ)) (job : Job) (asked : Option Job) → Some job ≡ asked →
+    PreparedNoted CheckSays finishes (JobSaid job) held faults leads before now (Some (plan_of job)) r →
+    PreparedNoted CheckSays finishes (WordsSaid words asked) held faults leads before now (option_map plan_of asked) r
+prepared_for {held = held} {faults = faults} {leads = leads} {before = before} {now = now} {r = r} words job asked e h =
+    subst (λ (o : Option Job). PreparedNoted CheckSays finishes (WordsSaid words o) held faults leads before now (option_map plan_of o) r) e h
+
+-- the answer to words that are no job
+pub prepared_none : {S : Type 0} {held : S → Tells} {faults : S → Counts} {leads : S → FetchCall → S → Type 0} {before : S} (words : List (List ℕ))
+    (asked : Option Job) (r : Result Answer NoMemory) → None ≡ asked → IfOk r (λ a. RefusesWords a.reply.status a.reply.text.items) →
+    IfOk r (λ a. Due (IsWordsNote words) a.note) →
+    PreparedNoted CheckSays finishes (WordsSaid words asked) held faults leads before before (option_map plan_of asked) r
+prepared_none {held = held} {faults = faults} {leads = leads} {before = before} words asked r e refuses says =
+    subst (λ (o : Option Job). PreparedNoted CheckSays finishes (WordsSaid words o) held faults leads before before (option_map plan_of o) r) e
+    (noted_words r refuses says)
 
 -- words that could not be read
-pub prepared_short : {S : Type 0} {held : S → Tells} {faults : S → Counts} {leads : S → FetchCall → S → Type 0} {before : S}
-    (plan : Option (Plan Case Work)) (r : Result Reply NoMemory) → IsErr r → Prepared CheckSays finishes held faults leads before before plan r
-prepared_short plan (Err want) e = prepares_nothing plan
-prepared_short plan (Ok answer) e = absurd (false≢true e)
+pub prepared_short : {S : Type 0} {held : S → Tells} {faults : S → Counts} {leads : S → FetchCall → S → Type 0} {before : S} (words : List (List ℕ))
+    (asked : Option Job) (plan : Option (Plan Case Work)) (r : Result Answer NoMemory) → IsErr r →
+    PreparedNoted CheckSays finishes (WordsSaid words asked) held faults leads before before plan r
+prepared_short words asked plan (Err want) e = noted_nothing plan
+prepared_short words asked plan (Ok answer) e = absurd (false≢true e)

@@ -7,5 +7,6 @@ pub mod Rejected
 pub mod Drawn
 pub mod Sound
 pub mod Finishes
+pub mod Said
 pub mod Law
 pub mod Program

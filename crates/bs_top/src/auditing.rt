@@ -1,6 +1,8 @@
 //! The command `audit`: whether a report is valid, or the first part of it that fails.
 ghost use Rattle.std.specs.Prelude.{◌≡◌, ◌++◌, codes, decimal, IfOk, OnOk, Some};
-ghost use Rattle.bs_top_plan.specs.Prepared.{Prepared};
+ghost use Rattle.bs_top_answer.specs.Endings.{rejected_text_if};
+ghost use Rattle.bs_top_answer.specs.Note.{DueText};
+ghost use Rattle.bs_top_answer.specs.Prepared.{PreparedNoted};
 ghost use Rattle.bs_audit.specs.Finding.{part_of};
 ghost use Rattle.bs_top_files.specs.Ready.{claimed_in};
 ghost use Rattle.bs_top_files.specs.Refusals.{CheckSays};
@@ -11,14 +13,17 @@ ghost use Rattle.bs_top.specs.Rejected.{finding_status, finding_text, part_words
 ghost use Rattle.bs_scan.specs.Crash.{crash_of};
 ghost use Rattle.bs_top_files.specs.Entry.{recording_in};
 ghost use Rattle.bs_top.specs.Finishes.{finishes, Finds};
+ghost use Rattle.bs_top.specs.Said.{is_rejected, JobSaid, WorkSaid};
 
+use crate::names::audit_paths;
 use bs_audit::Finding;
 use bs_bits::{end_line, push_number, push_piece};
 use bs_log::Why;
 use bs_outside::{NoMemory, Shelf};
 use bs_report_good::Part;
-use bs_top_files::{Claimed, FileNames, take_claimed};
-use bs_top_plan::{Reply, Status, stopped};
+use bs_top_answer::{Answer, Note, rejected_said, stop_answer};
+use bs_top_files::{Claimed, FileNames, load_claimed};
+use bs_top_plan::{Reply, Status};
 use bs_top_words::AuditJob;
 use std::alloc::Global;
 
@@ -133,29 +138,70 @@ pub fn find(alloc: Global, claimed: &Claimed) -> Result<Finding, NoMemory>
     )
 }
 
-/// What is written for a report.
-fn found(alloc: Global, claimed: &Claimed) -> Result<Reply, NoMemory>
-    ensures { IfOk result (λ answer. finishes (to_audit (claimed_in claimed.now)) answer.status answer.text.items) }
+/// The note on what an audit finds.
+pub fn finding_said(alloc: Global, finding: Finding) -> Note
+    ensures { DueText (rejected_text_if (is_rejected (part_of finding))) result }
 {
-    let finding = find(alloc, claimed)?;
+    rejected_said(alloc, is_rejected(finding))
+}
+
+/// Whether a part fails.
+fn is_rejected(finding: Finding) -> bool
+    ensures { result ≡ is_rejected (part_of finding) }
+{
+    match finding {
+        Finding::Accepted => false,
+        Finding::Rejected(_) => true,
+    }
+}
+
+/// The answer for what an audit finds.
+fn finding_answer(alloc: Global, finding: Finding) -> Result<Answer, NoMemory>
+    ensures status { IfOk result (λ answer. answer.reply.status ≡ finding_status (part_of finding)) }
+    ensures text { IfOk result (λ answer. answer.reply.text.items ≡ finding_text (part_of finding)) }
+    ensures note { IfOk result (λ answer. DueText (rejected_text_if (is_rejected (part_of finding))) answer.note) }
+{
     let text = finding_text(alloc, finding)?;
-    Ok(Reply {
-        status: finding_status(finding),
-        text,
+    let note = finding_said(alloc, finding);
+    let status = finding_status(finding);
+    Ok(Answer {
+        reply: Reply { status, text },
+        note,
     })
 }
 
+/// The answer for a report that stays.
+fn audit_answer(alloc: Global, claimed: &Claimed) -> Result<Answer, NoMemory>
+    ensures done { IfOk result (λ answer. finishes (to_audit (claimed_in claimed.now)) answer.reply.status answer.reply.text.items) }
+    ensures said { IfOk result (λ answer. WorkSaid (to_audit (claimed_in claimed.now)) answer.reply.text.items answer.note) }
+{
+    match find(alloc, claimed) {
+        Ok(finding) => finding_answer(alloc, finding),
+        Err(want) => Err(want),
+    }
+}
+
+/// The answer for a report.
+fn found(alloc: Global, claimed: Claimed) -> Result<Answer, NoMemory>
+    ensures done { IfOk result (λ answer. finishes (to_audit (claimed_in claimed)) answer.reply.status answer.reply.text.items) }
+    ensures said { IfOk result (λ answer. WorkSaid (to_audit (claimed_in claimed)) answer.reply.text.items answer.note) }
+{
+    let answer = audit_answer(alloc, &claimed);
+    answer
+}
+
 /// The answer of the command.
-pub fn audit<S: Shelf>(alloc: Global, shelf: &mut S, job: &AuditJob<'_>) -> Result<Reply, NoMemory>
-    ensures { Prepared CheckSays finishes S.held S.faults S.leads shelf.old shelf.new (Some (plan_of (AuditWords (audit_job job.now)))) result }
+pub fn audit<S: Shelf>(alloc: Global, shelf: &mut S, job: &AuditJob<'_>) -> Result<Answer, NoMemory>
+    ensures { PreparedNoted CheckSays finishes (JobSaid (AuditWords (audit_job job.now))) S.held S.faults S.leads shelf.old shelf.new
+        (Some (plan_of (AuditWords (audit_job job.now)))) result }
 {
     let names = FileNames {
         netlist: job.netlist,
         signature: job.signature,
         stimulus: job.stimulus,
     };
-    match take_claimed(alloc, shelf, &names, job.dump, job.report) {
-        Ok(claimed) => found(alloc, &claimed),
-        Err(stop) => stopped(alloc, stop),
+    match load_claimed(alloc, shelf, &names, job.dump, job.report) {
+        Ok(claimed) => found(alloc, claimed),
+        Err(stop) => stop_answer(alloc, &audit_paths(job), shelf.reason(), stop),
     }
 }

@@ -1,6 +1,8 @@
 //! The command `run`: the backtrace of a dump, and its report.
 ghost use Rattle.std.specs.Prelude.{◌≡◌, ◌+◌, length, IfOk, Some};
-ghost use Rattle.bs_top_plan.specs.Prepared.{Prepared};
+ghost use Rattle.bs_top_answer.specs.Endings.{run_text};
+ghost use Rattle.bs_top_answer.specs.Note.{DueText};
+ghost use Rattle.bs_top_answer.specs.Prepared.{PreparedNoted};
 ghost use Rattle.bs_loop.specs.Budget.{IsBudget};
 ghost use Rattle.bs_top_files.specs.Ready.{crashed_in, setup_in};
 ghost use Rattle.bs_top_files.specs.Refusals.{CheckSays};
@@ -8,18 +10,23 @@ ghost use Rattle.bs_top_words.specs.Job.{Run as RunWords};
 ghost use Rattle.bs_top.specs.Work.{budgets_of, plan_of, to_run};
 ghost use Rattle.bs_top.specs.Words.{run_job};
 ghost use Rattle.bs_net.specs.Netlist.{circuit};
-ghost use Rattle.bs_scan.specs.Crash.{crash_of, DumpFits};
+ghost use Rattle.bs_report.specs.Text.{report_text};
+ghost use Rattle.bs_scan.specs.Crash.{crash_of, DumpFits, recording_of};
 ghost use Rattle.bs_top_files.specs.Entry.{recording_in};
 ghost use Rattle.bs_top.specs.Finishes.{finishes, IsBacktrace, stop_status};
+ghost use Rattle.bs_top.specs.Said.{JobSaid, WorkSaid};
 
+use crate::names::run_paths;
 use bs_chip::Chip;
 use bs_loop::backtrace;
 use bs_outside::{NoMemory, Shelf};
 use bs_preimage::Preimage;
 use bs_report::{Budgets, Report, Stop};
 use bs_scan::Dump;
-use bs_top_files::{Crashed, FileNames, Setup, take_crashed};
-use bs_top_plan::{Reply, Status, stopped};
+use bs_stim::Runs;
+use bs_top_answer::{Answer, run_said, stop_answer};
+use bs_top_files::{Crashed, FileNames, Setup, load_crashed};
+use bs_top_plan::{Reply, Status};
 use bs_top_words::RunJob;
 use std::alloc::Global;
 
@@ -35,6 +42,48 @@ fn stop_status(stop: Stop) -> Status
     }
 }
 
+/// The report of the backtrace of a dump on a chip of a setup.
+fn trace(
+    alloc: Global,
+    chip: &mut Chip<'_>,
+    setup: &Setup,
+    dump: &Dump,
+    budgets: &Budgets,
+) -> Result<Report, NoMemory>
+    requires chip { chip.old.recording ≡ recording_of setup.now.net.raw setup.now.choice setup.now.runs }
+    requires dump { DumpFits (circuit setup.now.net) setup.now.choice dump.now }
+    requires budgets { IsBudget budgets.now }
+    ensures backtrace { IfOk result (IsBacktrace (crash_of (recording_in (setup_in setup.now)) dump.now) budgets.now) }
+    ensures trace { IfOk result (λ report. length report.states ≡ length report.inputs + 1) }
+{
+    let _order = setup.net.order();
+    let _count = setup.runs.count();
+    let _depth = setup.choice.depth();
+    match Preimage::new(alloc, &setup.net, &setup.choice) {
+        Ok(preimage) => backtrace(alloc, chip, preimage, dump, budgets),
+        Err(want) => Err(want),
+    }
+}
+
+/// The same, on a chip that nobody needs behind it.
+fn trace_with(
+    alloc: Global,
+    chip: Chip<'_>,
+    setup: &Setup,
+    dump: &Dump,
+    budgets: &Budgets,
+) -> Result<Report, NoMemory>
+    requires chip { chip.recording ≡ recording_of setup.now.net.raw setup.now.choice setup.now.runs }
+    requires dump { DumpFits (circuit setup.now.net) setup.now.choice dump.now }
+    requires budgets { IsBudget budgets.now }
+    ensures backtrace { IfOk result (IsBacktrace (crash_of (recording_in (setup_in setup.now)) dump.now) budgets.now) }
+    ensures trace { IfOk result (λ report. length report.states ≡ length report.inputs + 1) }
+{
+    let mut chip = chip;
+    let report = trace(alloc, &mut chip, setup, dump, budgets);
+    report
+}
+
 /// The report of the backtrace of a dump within budgets.
 pub fn report_of(
     alloc: Global,
@@ -47,20 +96,18 @@ pub fn report_of(
     ensures backtrace { IfOk result (IsBacktrace (crash_of (recording_in (setup_in setup.now)) dump.now) budgets.now) }
     ensures trace { IfOk result (λ report. length report.states ≡ length report.inputs + 1) }
 {
-    let _order = setup.net.order();
-    let _count = setup.runs.count();
-    let _depth = setup.choice.depth();
-    let mut chip = Chip::new(alloc, &setup.net, &setup.choice, &setup.runs)?;
-    let preimage = Preimage::new(alloc, &setup.net, &setup.choice)?;
-    backtrace(alloc, &mut chip, preimage, dump, budgets)
+    match Chip::new(alloc, &setup.net, &setup.choice, &setup.runs) {
+        Ok(chip) => trace_with(alloc, chip, setup, dump, budgets),
+        Err(want) => Err(want),
+    }
 }
 
-/// What is written for a dump.
-fn reported(alloc: Global, crashed: &Crashed, budgets: &Budgets) -> Result<Reply, NoMemory>
-    requires { IsBudget budgets.now }
-    ensures { IfOk result (λ answer. finishes (to_run budgets.now (crashed_in crashed.now)) answer.status answer.text.items) }
+/// What is written for a report that stays.
+fn written(alloc: Global, report: &Report) -> Result<Reply, NoMemory>
+    requires { length report.now.states ≡ length report.now.inputs + 1 }
+    ensures status { IfOk result (λ answer. answer.status ≡ stop_status report.now.stop) }
+    ensures text { IfOk result (λ answer. answer.text.items ≡ report_text report.now) }
 {
-    let report = report_of(alloc, &crashed.setup, &crashed.dump, budgets)?;
     let mut text = Vec::new(alloc);
     report.text(&mut text)?;
     Ok(Reply {
@@ -69,10 +116,56 @@ fn reported(alloc: Global, crashed: &Crashed, budgets: &Budgets) -> Result<Reply
     })
 }
 
+/// What is written for a report that stays, and the note on its stop.
+fn report_answer(alloc: Global, report: &Report, runs: &Runs) -> Result<Answer, NoMemory>
+    requires { length report.now.states ≡ length report.now.inputs + 1 }
+    ensures status { IfOk result (λ answer. answer.reply.status ≡ stop_status report.now.stop) }
+    ensures text { IfOk result (λ answer. answer.reply.text.items ≡ report_text report.now) }
+    ensures note { IfOk result (λ answer. DueText (run_text runs.now (length report.now.steps) report.now.stop) answer.note) }
+{
+    let reply = written(alloc, report)?;
+    let note = run_said(alloc, runs, report.steps.len() as u64, report.stop);
+    Ok(Answer { reply, note })
+}
+
+/// The same for a report that nobody needs behind it.
+fn told(alloc: Global, report: Report, runs: &Runs) -> Result<Answer, NoMemory>
+    requires { length report.states ≡ length report.inputs + 1 }
+    ensures status { IfOk result (λ answer. answer.reply.status ≡ stop_status report.stop) }
+    ensures text { IfOk result (λ answer. answer.reply.text.items ≡ report_text report) }
+    ensures note { IfOk result (λ answer. DueText (run_text runs.now (length report.steps) report.stop) answer.note) }
+{
+    let answer = report_answer(alloc, &report, runs);
+    answer
+}
+
+/// The answer for a dump that stays.
+fn run_answer(alloc: Global, crashed: &Crashed, budgets: &Budgets) -> Result<Answer, NoMemory>
+    requires { IsBudget budgets.now }
+    ensures done { IfOk result (λ answer. finishes (to_run budgets.now (crashed_in crashed.now)) answer.reply.status answer.reply.text.items) }
+    ensures said { IfOk result (λ answer. WorkSaid (to_run budgets.now (crashed_in crashed.now)) answer.reply.text.items answer.note) }
+{
+    match report_of(alloc, &crashed.setup, &crashed.dump, budgets) {
+        Ok(report) => told(alloc, report, &crashed.setup.runs),
+        Err(want) => Err(want),
+    }
+}
+
+/// The answer for a dump.
+fn reported(alloc: Global, crashed: Crashed, budgets: &Budgets) -> Result<Answer, NoMemory>
+    requires { IsBudget budgets.now }
+    ensures done { IfOk result (λ answer. finishes (to_run budgets.now (crashed_in crashed)) answer.reply.status answer.reply.text.items) }
+    ensures said { IfOk result (λ answer. WorkSaid (to_run budgets.now (crashed_in crashed)) answer.reply.text.items answer.note) }
+{
+    let answer = run_answer(alloc, &crashed, budgets);
+    answer
+}
+
 /// The answer of the command.
-pub fn run<S: Shelf>(alloc: Global, shelf: &mut S, job: &RunJob<'_>) -> Result<Reply, NoMemory>
+pub fn run<S: Shelf>(alloc: Global, shelf: &mut S, job: &RunJob<'_>) -> Result<Answer, NoMemory>
     requires { IsBudget (budgets_of (run_job job.now)) }
-    ensures { Prepared CheckSays finishes S.held S.faults S.leads shelf.old shelf.new (Some (plan_of (RunWords (run_job job.now)))) result }
+    ensures { PreparedNoted CheckSays finishes (JobSaid (RunWords (run_job job.now))) S.held S.faults S.leads shelf.old shelf.new
+        (Some (plan_of (RunWords (run_job job.now)))) result }
 {
     let names = FileNames {
         netlist: job.netlist,
@@ -84,8 +177,8 @@ pub fn run<S: Shelf>(alloc: Global, shelf: &mut S, job: &RunJob<'_>) -> Result<R
         candidates: job.candidates,
         conflicts: job.conflicts,
     };
-    match take_crashed(alloc, shelf, &names, job.dump) {
-        Ok(crashed) => reported(alloc, &crashed, &budgets),
-        Err(stop) => stopped(alloc, stop),
+    match load_crashed(alloc, shelf, &names, job.dump) {
+        Ok(crashed) => reported(alloc, crashed, &budgets),
+        Err(stop) => stop_answer(alloc, &run_paths(job), shelf.reason(), stop),
     }
 }

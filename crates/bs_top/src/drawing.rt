@@ -1,7 +1,9 @@
 //! The command `wave`: the waveform of a valid report's trace, or the first part of the report that fails.
 ghost use Rattle.std.specs.Prelude.{◌≡◌, IfOk, None, Some};
 ghost use Rattle.bs_net.specs.Netlist.{circuit};
-ghost use Rattle.bs_top_plan.specs.Prepared.{Prepared};
+ghost use Rattle.bs_top_answer.specs.Endings.{rejected_text_if};
+ghost use Rattle.bs_top_answer.specs.Note.{DueText};
+ghost use Rattle.bs_top_answer.specs.Prepared.{PreparedNoted};
 ghost use Rattle.bs_audit.specs.Finding.{part_of};
 ghost use Rattle.bs_top_files.specs.Ready.{claimed_in};
 ghost use Rattle.bs_top_files.specs.Refusals.{CheckSays};
@@ -10,16 +12,38 @@ ghost use Rattle.bs_wave.specs.Wave.{IsWayOf};
 ghost use Rattle.bs_top.specs.Drawn.{IsDrawn, IsTraceWave};
 ghost use Rattle.bs_top.specs.Work.{plan_of, to_wave};
 ghost use Rattle.bs_top.specs.Words.{audit_job};
+ghost use Rattle.bs_wave.specs.WaveText.{wave_text};
+ghost use Rattle.bs_top.specs.Rejected.{finding_status};
 ghost use Rattle.bs_top.specs.Finishes.{finishes};
+ghost use Rattle.bs_top.specs.Said.{is_rejected, JobSaid, WorkSaid};
 
-use crate::auditing::{find, finding_status, rejected};
+use crate::auditing::{find, finding_said, finding_status, rejected};
+use crate::names::audit_paths;
 use bs_audit::Finding;
 use bs_outside::{NoMemory, Shelf};
-use bs_top_files::{Claimed, FileNames, take_drawn};
-use bs_top_plan::{Reply, stopped};
+use bs_top_answer::{Answer, stop_answer};
+use bs_top_files::{Claimed, FileNames, load_drawn};
+use bs_top_plan::Reply;
 use bs_top_words::AuditJob;
 use bs_wave::Wave;
 use std::alloc::Global;
+
+/// The text of a wave.
+fn wave_text(alloc: Global, wave: Wave) -> Result<Vec<u8>, NoMemory>
+    ensures { IfOk result (λ text. text.items ≡ wave_text wave) }
+{
+    let text = text_of(alloc, &wave);
+    text
+}
+
+/// The text of a wave that stays.
+fn text_of(alloc: Global, wave: &Wave) -> Result<Vec<u8>, NoMemory>
+    ensures { IfOk result (λ text. text.items ≡ wave_text wave.now) }
+{
+    let mut text = Vec::new(alloc);
+    wave.text(&mut text)?;
+    Ok(text)
+}
 
 /// The waveform of a report's trace.
 fn trace_wave(alloc: Global, claimed: &Claimed) -> Result<Vec<u8>, NoMemory>
@@ -27,15 +51,15 @@ fn trace_wave(alloc: Global, claimed: &Claimed) -> Result<Vec<u8>, NoMemory>
     ensures { IfOk result (λ text. IsTraceWave claimed.now.crashed.setup.net.raw claimed.now.report text.items) }
 {
     let report = &claimed.report;
-    let wave = Wave::of(
+    match Wave::of(
         alloc,
         &claimed.crashed.setup.net,
         &report.states,
         &report.inputs,
-    )?;
-    let mut text = Vec::new(alloc);
-    wave.text(&mut text)?;
-    Ok(text)
+    ) {
+        Ok(wave) => wave_text(alloc, wave),
+        Err(want) => Err(want),
+    }
 }
 
 /// What is written for what an audit finds.
@@ -49,29 +73,54 @@ fn drawing(alloc: Global, claimed: &Claimed, finding: Finding) -> Result<Vec<u8>
     }
 }
 
-/// What is written for a report.
-fn drawn(alloc: Global, claimed: &Claimed) -> Result<Reply, NoMemory>
-    ensures { IfOk result (λ answer. finishes (to_wave (claimed_in claimed.now)) answer.status answer.text.items) }
+/// The answer for what an audit finds.
+fn drawing_answer(alloc: Global, claimed: &Claimed, finding: Finding) -> Result<Answer, NoMemory>
+    requires { part_of finding ≡ None → IsWayOf (circuit claimed.now.crashed.setup.net) claimed.now.report.states claimed.now.report.inputs }
+    ensures status { IfOk result (λ answer. answer.reply.status ≡ finding_status (part_of finding)) }
+    ensures text { IfOk result (λ answer. IsDrawn claimed.now.crashed.setup.net.raw claimed.now.report (part_of finding) answer.reply.text.items) }
+    ensures note { IfOk result (λ answer. DueText (rejected_text_if (is_rejected (part_of finding))) answer.note) }
 {
-    let finding = find(alloc, claimed)?;
     let text = drawing(alloc, claimed, finding)?;
-    Ok(Reply {
-        status: finding_status(finding),
-        text,
+    let note = finding_said(alloc, finding);
+    let status = finding_status(finding);
+    Ok(Answer {
+        reply: Reply { status, text },
+        note,
     })
 }
 
+/// The answer for a report that stays.
+fn wave_answer(alloc: Global, claimed: &Claimed) -> Result<Answer, NoMemory>
+    ensures done { IfOk result (λ answer. finishes (to_wave (claimed_in claimed.now)) answer.reply.status answer.reply.text.items) }
+    ensures said { IfOk result (λ answer. WorkSaid (to_wave (claimed_in claimed.now)) answer.reply.text.items answer.note) }
+{
+    match find(alloc, claimed) {
+        Ok(finding) => drawing_answer(alloc, claimed, finding),
+        Err(want) => Err(want),
+    }
+}
+
+/// The answer for a report.
+fn drawn(alloc: Global, claimed: Claimed) -> Result<Answer, NoMemory>
+    ensures done { IfOk result (λ answer. finishes (to_wave (claimed_in claimed)) answer.reply.status answer.reply.text.items) }
+    ensures said { IfOk result (λ answer. WorkSaid (to_wave (claimed_in claimed)) answer.reply.text.items answer.note) }
+{
+    let answer = wave_answer(alloc, &claimed);
+    answer
+}
+
 /// The answer of the command.
-pub fn wave<S: Shelf>(alloc: Global, shelf: &mut S, job: &AuditJob<'_>) -> Result<Reply, NoMemory>
-    ensures { Prepared CheckSays finishes S.held S.faults S.leads shelf.old shelf.new (Some (plan_of (WaveWords (audit_job job.now)))) result }
+pub fn wave<S: Shelf>(alloc: Global, shelf: &mut S, job: &AuditJob<'_>) -> Result<Answer, NoMemory>
+    ensures { PreparedNoted CheckSays finishes (JobSaid (WaveWords (audit_job job.now))) S.held S.faults S.leads shelf.old shelf.new
+        (Some (plan_of (WaveWords (audit_job job.now)))) result }
 {
     let names = FileNames {
         netlist: job.netlist,
         signature: job.signature,
         stimulus: job.stimulus,
     };
-    match take_drawn(alloc, shelf, &names, job.dump, job.report) {
-        Ok(claimed) => drawn(alloc, &claimed),
-        Err(stop) => stopped(alloc, stop),
+    match load_drawn(alloc, shelf, &names, job.dump, job.report) {
+        Ok(claimed) => drawn(alloc, claimed),
+        Err(stop) => stop_answer(alloc, &audit_paths(job), shelf.reason(), stop),
     }
 }

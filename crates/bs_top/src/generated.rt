@@ -3,14 +3,18 @@ ghost use Rattle.std.specs.Prelude.{◌≡◌, IfOk, string_bytes};
 ghost use Rattle.bs_top_plan.specs.Walks.{WalksAlone};
 ghost use Rattle.bs_top_files.specs.Ready.{placed_in};
 ghost use Rattle.bs_top_files.specs.Refusals.{CheckSays};
-ghost use Rattle.bs_top.specs.Demo.{demo_of};
+ghost use Rattle.bs_gen.specs.Job.{netlist_for, signature_text, stimulus_for};
+ghost use Rattle.bs_outside.specs.Memory.{sure_files};
+ghost use Rattle.bs_top_files.specs.NoteCases.{NoteSays};
+ghost use Rattle.bs_top_plan.specs.Told.{lined, note_seen};
+ghost use Rattle.bs_top.specs.Demo.{demo_looked, demo_of};
 ghost use Rattle.bs_top.specs.Texts.{AreTexts};
 
 use crate::budgets::{DEMO_CYCLE, DEMO_RUN};
 use bs_gen::{GeneratedJob, make};
-use bs_outside::SureShelf;
-use bs_top_files::{FileNames, Placed, take_placed};
-use bs_top_plan::JobFault;
+use bs_outside::{NoMemory, SureShelf};
+use bs_top_files::{FileNames, Placed, load_placed};
+use bs_top_plan::{JobFault, Stop};
 use std::alloc::{AllocError, Global};
 
 /// A text under a name.
@@ -37,17 +41,52 @@ fn files(alloc: Global, job: &GeneratedJob) -> Result<Vec<(String, Vec<u8>)>, Al
     Ok(files)
 }
 
-/// What the texts of the number make ready: a setup, and the moment whose dump is traced back. No shelf is asked.
-pub fn take_demo(alloc: Global, number: u64) -> Result<Placed, JobFault>
-    ensures { WalksAlone CheckSays (demo_of number) placed_in result }
+/// A shelf of the texts of a job.
+fn shelf_with(alloc: Global, job: GeneratedJob) -> Result<SureShelf, NoMemory>
+    ensures { IfOk result (λ shelf. AreTexts (sure_files shelf) job.netlist job.signature job.stimulus) }
 {
-    let job = make(alloc, number)?;
-    let files = files(alloc, &job)?;
-    let mut shelf = SureShelf::new(files);
+    match files(alloc, &job) {
+        Ok(files) => {
+            let shelf = SureShelf::new(files);
+            Ok(shelf)
+        }
+        Err(_) => Err(NoMemory),
+    }
+}
+
+/// A shelf of the texts of the number.
+fn shelf_of(alloc: Global, number: u64) -> Result<SureShelf, NoMemory>
+    ensures { IfOk result (λ shelf. AreTexts (sure_files shelf) (netlist_for number) signature_text (stimulus_for number)) }
+{
+    match make(alloc, number) {
+        Ok(job) => shelf_with(alloc, job),
+        Err(want) => Err(want),
+    }
+}
+
+/// What these texts make ready.
+fn load_from(alloc: Global, number: u64, shelf: SureShelf) -> Result<Placed, Stop>
+    requires { AreTexts (sure_files shelf) (netlist_for number) signature_text (stimulus_for number) }
+    ensures line { WalksAlone CheckSays (demo_of number) placed_in (lined result) }
+    ensures note { WalksAlone NoteSays (demo_looked number) placed_in (note_seen result) }
+{
+    let mut shelf = shelf;
     let names = FileNames {
         netlist: "netlist",
         signature: "signature",
         stimulus: "stimulus",
     };
-    take_placed(alloc, &mut shelf, &names, DEMO_RUN, DEMO_CYCLE)
+    let placed = load_placed(alloc, &mut shelf, &names, DEMO_RUN, DEMO_CYCLE);
+    placed
+}
+
+/// What the texts of the number make ready: a setup, and the moment whose dump is traced back. No shelf is asked.
+pub fn load_demo(alloc: Global, number: u64) -> Result<Placed, Stop>
+    ensures line { WalksAlone CheckSays (demo_of number) placed_in (lined result) }
+    ensures note { WalksAlone NoteSays (demo_looked number) placed_in (note_seen result) }
+{
+    match shelf_of(alloc, number) {
+        Ok(shelf) => load_from(alloc, number, shelf),
+        Err(_) => Err(Stop::Plain(JobFault::NoMemory)),
+    }
 }

@@ -1,20 +1,27 @@
 //! The command `reach`: whether a state is reached from reset within a number of cycles, with an execution or a refutation.
 ghost use Rattle.std.specs.Prelude.{◌≡◌, ◌≤◌, IfOk, Some};
-ghost use Rattle.bs_top_plan.specs.Prepared.{Prepared};
+ghost use Rattle.bs_top_answer.specs.Endings.{miss_text_of};
+ghost use Rattle.bs_top_answer.specs.Note.{DueText};
+ghost use Rattle.bs_top_answer.specs.Prepared.{PreparedNoted};
 ghost use Rattle.bs_net.specs.Netlist.{circuit};
 ghost use Rattle.bs_top_files.specs.Refusals.{CheckSays};
 ghost use Rattle.bs_reach_unrolled.specs.declared.limits.TheConstants.{MAX_COPIES};
 ghost use Rattle.bs_reach.specs.Reach.{IsReach};
+ghost use Rattle.bs_reach.specs.Text.{HasStates, reach_text};
 ghost use Rattle.bs_target.specs.Shown.{target_in};
 ghost use Rattle.bs_top_words.specs.Job.{Reach as ReachWords};
 ghost use Rattle.bs_top.specs.Work.{plan_of, to_reach};
 ghost use Rattle.bs_top.specs.Words.{reach_job};
 ghost use Rattle.bs_top.specs.Finishes.{finishes, reach_status};
+ghost use Rattle.bs_top.specs.Said.{JobSaid, miss_of, WorkSaid};
 
+use crate::names::reach_paths;
+use bs_note_calls::Miss;
 use bs_outside::{NoMemory, Shelf};
 use bs_reach::{Outcome, Reach, bounded};
-use bs_target::{Target, take_target};
-use bs_top_plan::{Reply, Status, stopped};
+use bs_target::{Target, load_target};
+use bs_top_answer::{Answer, miss_said, stop_answer};
+use bs_top_plan::{Reply, Status};
 use bs_top_words::ReachJob;
 use std::alloc::Global;
 
@@ -38,13 +45,12 @@ fn search(alloc: Global, target: &Target, conflicts: u64) -> Result<Reach, NoMem
     bounded(alloc, &target.net, &target.state, target.cycles, conflicts)
 }
 
-/// What is written for a state.
-fn reached(alloc: Global, target: &Target, conflicts: u64) -> Result<Reply, NoMemory>
-    requires cycles { target.now.cycles ≤ MAX_COPIES }
-    requires limit { 1 ≤ conflicts }
-    ensures { IfOk result (λ answer. finishes (to_reach conflicts (target_in target.now)) answer.status answer.text.items) }
+/// What is written for what a search gives, which stays.
+fn written(alloc: Global, reach: &Reach) -> Result<Reply, NoMemory>
+    requires { HasStates reach.now.outcome reach.now }
+    ensures status { IfOk result (λ answer. answer.status ≡ reach_status reach.now.outcome) }
+    ensures text { IfOk result (λ answer. answer.text.items ≡ reach_text reach.now) }
 {
-    let reach = search(alloc, target, conflicts)?;
     let mut text = Vec::new(alloc);
     reach.text(&mut text)?;
     Ok(Reply {
@@ -53,14 +59,73 @@ fn reached(alloc: Global, target: &Target, conflicts: u64) -> Result<Reply, NoMe
     })
 }
 
+/// What a search misses by its outcome.
+fn miss_of(outcome: Outcome) -> Option<Miss>
+    ensures { result ≡ miss_of outcome }
+{
+    match outcome {
+        Outcome::Reached(_) => None,
+        Outcome::Unreached => Some(Miss::Unreached),
+        Outcome::Unknown(_) => Some(Miss::Unknown),
+    }
+}
+
+/// What is written for what a search gives, which stays, and the note on what it misses.
+fn search_answer(alloc: Global, reach: &Reach) -> Result<Answer, NoMemory>
+    requires { HasStates reach.now.outcome reach.now }
+    ensures status { IfOk result (λ answer. answer.reply.status ≡ reach_status reach.now.outcome) }
+    ensures text { IfOk result (λ answer. answer.reply.text.items ≡ reach_text reach.now) }
+    ensures note { IfOk result (λ answer. DueText (miss_text_of (miss_of reach.now.outcome)) answer.note) }
+{
+    let reply = written(alloc, reach)?;
+    let note = miss_said(alloc, miss_of(reach.outcome));
+    Ok(Answer { reply, note })
+}
+
+/// The same for what nobody needs behind it.
+fn told(alloc: Global, reach: Reach) -> Result<Answer, NoMemory>
+    requires { HasStates reach.outcome reach }
+    ensures status { IfOk result (λ answer. answer.reply.status ≡ reach_status reach.outcome) }
+    ensures text { IfOk result (λ answer. answer.reply.text.items ≡ reach_text reach) }
+    ensures note { IfOk result (λ answer. DueText (miss_text_of (miss_of reach.outcome)) answer.note) }
+{
+    let answer = search_answer(alloc, &reach);
+    answer
+}
+
+/// The answer for a state that stays.
+fn reach_answer(alloc: Global, target: &Target, conflicts: u64) -> Result<Answer, NoMemory>
+    requires cycles { target.now.cycles ≤ MAX_COPIES }
+    requires limit { 1 ≤ conflicts }
+    ensures done { IfOk result (λ answer. finishes (to_reach conflicts (target_in target.now)) answer.reply.status answer.reply.text.items) }
+    ensures said { IfOk result (λ answer. WorkSaid (to_reach conflicts (target_in target.now)) answer.reply.text.items answer.note) }
+{
+    match search(alloc, target, conflicts) {
+        Ok(reach) => told(alloc, reach),
+        Err(want) => Err(want),
+    }
+}
+
+/// The answer for a state.
+fn reached(alloc: Global, target: Target, conflicts: u64) -> Result<Answer, NoMemory>
+    requires cycles { target.cycles ≤ MAX_COPIES }
+    requires limit { 1 ≤ conflicts }
+    ensures done { IfOk result (λ answer. finishes (to_reach conflicts (target_in target)) answer.reply.status answer.reply.text.items) }
+    ensures said { IfOk result (λ answer. WorkSaid (to_reach conflicts (target_in target)) answer.reply.text.items answer.note) }
+{
+    let answer = reach_answer(alloc, &target, conflicts);
+    answer
+}
+
 /// The answer of the command.
-pub fn reach<S: Shelf>(alloc: Global, shelf: &mut S, job: &ReachJob<'_>) -> Result<Reply, NoMemory>
+pub fn reach<S: Shelf>(alloc: Global, shelf: &mut S, job: &ReachJob<'_>) -> Result<Answer, NoMemory>
     requires cycles { job.now.cycles ≤ MAX_COPIES }
     requires limit { 1 ≤ job.now.conflicts }
-    ensures { Prepared CheckSays finishes S.held S.faults S.leads shelf.old shelf.new (Some (plan_of (ReachWords (reach_job job.now)))) result }
+    ensures { PreparedNoted CheckSays finishes (JobSaid (ReachWords (reach_job job.now))) S.held S.faults S.leads shelf.old shelf.new
+        (Some (plan_of (ReachWords (reach_job job.now)))) result }
 {
-    match take_target(alloc, shelf, job.netlist, job.state, job.cycles) {
-        Ok(target) => reached(alloc, &target, job.conflicts),
-        Err(stop) => stopped(alloc, stop),
+    match load_target(alloc, shelf, job.netlist, job.state, job.cycles) {
+        Ok(target) => reached(alloc, target, job.conflicts),
+        Err(stop) => stop_answer(alloc, &reach_paths(job), shelf.reason(), stop),
     }
 }

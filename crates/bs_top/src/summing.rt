@@ -1,40 +1,70 @@
 //! The command `demo`: the backtrace of a generated job, told in one line.
-ghost use Rattle.std.specs.Prelude.{◌≡◌, IfOk};
-ghost use Rattle.bs_top_plan.specs.Prepared.{PreparesAlone};
-ghost use Rattle.bs_top_files.specs.Ready.{placed_in};
+ghost use Rattle.std.specs.Prelude.{◌≡◌, ◌≤◌, length, All, IfOk};
+ghost use Rattle.bs_net.specs.Netlist.{circuit};
+ghost use Rattle.bs_report.specs.declared.limits.TheConstants.{MAX_CANDIDATES, MAX_STEPS};
+ghost use Rattle.bs_scan.specs.Crash.{crash_of, DumpFits};
+ghost use Rattle.bs_top_files.specs.Entry.{recording_in};
+ghost use Rattle.bs_top_answer.specs.Prepared.{PreparesNoted};
+ghost use Rattle.bs_top_files.specs.Ready.{placed_in, setup_in};
 ghost use Rattle.bs_top_files.specs.Refusals.{CheckSays};
 ghost use Rattle.bs_top_words.specs.Job.{Demo as DemoWords};
 ghost use Rattle.bs_top.specs.Work.{plan_of, to_demo};
-ghost use Rattle.bs_top.specs.Finishes.{finishes};
+ghost use Rattle.bs_top.specs.Finishes.{finishes, Summarises};
+ghost use Rattle.bs_top.specs.Said.{JobSaid, WorkSaid};
+ghost use Rattle.bs_top.specs.Summary.{summary_text};
 
 use crate::backtracing::report_of;
 use crate::budgets::{DEMO_CANDIDATES, DEMO_CONFLICTS, DEMO_STEPS};
 use crate::dumping::dump_of;
-use crate::generated::take_demo;
+use crate::generated::load_demo;
+use crate::names::demo_paths;
 use crate::summary::summary_line;
 use bs_outside::NoMemory;
-use bs_report::Budgets;
-use bs_top_files::Placed;
-use bs_top_plan::{Reply, Status, stopped};
+use bs_report::{Budgets, Report};
+use bs_scan::Dump;
+use bs_top_answer::{Answer, Note, stop_answer};
+use bs_top_files::{Placed, Setup};
+use bs_top_plan::{Reply, Status};
 use std::alloc::Global;
 
-/// The line of the backtrace of a moment's dump.
-fn summary_of(alloc: Global, number: u64, placed: &Placed) -> Result<Vec<u8>, NoMemory>
-    ensures { IfOk result (λ text. finishes (to_demo number (placed_in placed.now)) Status.Done text.items) }
+/// The line of a backtrace.
+fn line_of(alloc: Global, number: u64, report: Report) -> Result<Vec<u8>, NoMemory>
+    requires count { length report.steps ≤ MAX_STEPS }
+    requires each { All (λ step. length step.cands ≤ MAX_CANDIDATES) report.steps }
+    ensures { IfOk result (λ text. text.items ≡ summary_text number report) }
 {
-    let dump = dump_of(alloc, placed)?;
+    let line = summary_line(alloc, number, &report);
+    line
+}
+
+/// The line of the backtrace of a dump.
+fn traced_line(alloc: Global, number: u64, setup: &Setup, dump: &Dump) -> Result<Vec<u8>, NoMemory>
+    requires { DumpFits (circuit setup.now.net) setup.now.choice dump.now }
+    ensures { IfOk result (λ text. Summarises number (crash_of (recording_in (setup_in setup.now)) dump.now) Status.Done text.items) }
+{
     let budgets = Budgets {
         steps: DEMO_STEPS,
         candidates: DEMO_CANDIDATES,
         conflicts: DEMO_CONFLICTS,
     };
-    let report = report_of(alloc, &placed.setup, &dump, &budgets)?;
-    let text = summary_line(alloc, number, &report)?;
-    Ok(text)
+    match report_of(alloc, setup, dump, &budgets) {
+        Ok(report) => line_of(alloc, number, report),
+        Err(want) => Err(want),
+    }
 }
 
-/// What is written for a generated job.
-fn summed(alloc: Global, number: u64, placed: &Placed) -> Result<Reply, NoMemory>
+/// The line of the backtrace of a moment's dump.
+fn summary_of(alloc: Global, number: u64, placed: &Placed) -> Result<Vec<u8>, NoMemory>
+    ensures { IfOk result (λ text. finishes (to_demo number (placed_in placed.now)) Status.Done text.items) }
+{
+    match dump_of(alloc, placed) {
+        Ok(dump) => traced_line(alloc, number, &placed.setup, &dump),
+        Err(want) => Err(want),
+    }
+}
+
+/// What is written for a generated job that stays.
+fn demo_reply(alloc: Global, number: u64, placed: &Placed) -> Result<Reply, NoMemory>
     ensures { IfOk result (λ answer. finishes (to_demo number (placed_in placed.now)) answer.status answer.text.items) }
 {
     let text = summary_of(alloc, number, placed)?;
@@ -44,12 +74,33 @@ fn summed(alloc: Global, number: u64, placed: &Placed) -> Result<Reply, NoMemory
     })
 }
 
-/// The answer of the command. It asks no shelf.
-pub fn demo(alloc: Global, number: u64) -> Result<Reply, NoMemory>
-    ensures { IfOk result (PreparesAlone CheckSays finishes (plan_of (DemoWords number))) }
+/// The answer for a generated job, on which there is no note.
+fn demo_answer(alloc: Global, number: u64, placed: &Placed) -> Result<Answer, NoMemory>
+    ensures done { IfOk result (λ answer. finishes (to_demo number (placed_in placed.now)) answer.reply.status answer.reply.text.items) }
+    ensures said { IfOk result (λ answer. WorkSaid (to_demo number (placed_in placed.now)) answer.reply.text.items answer.note) }
 {
-    match take_demo(alloc, number) {
-        Ok(placed) => summed(alloc, number, &placed),
-        Err(stop) => stopped(alloc, stop),
+    let reply = demo_reply(alloc, number, placed)?;
+    Ok(Answer {
+        reply,
+        note: Note::Silent,
+    })
+}
+
+/// The same of one that nobody needs behind it.
+fn summed(alloc: Global, number: u64, placed: Placed) -> Result<Answer, NoMemory>
+    ensures done { IfOk result (λ answer. finishes (to_demo number (placed_in placed)) answer.reply.status answer.reply.text.items) }
+    ensures said { IfOk result (λ answer. WorkSaid (to_demo number (placed_in placed)) answer.reply.text.items answer.note) }
+{
+    let answer = demo_answer(alloc, number, &placed);
+    answer
+}
+
+/// The answer of the command. It asks no shelf.
+pub fn demo(alloc: Global, number: u64) -> Result<Answer, NoMemory>
+    ensures { IfOk result (PreparesNoted CheckSays finishes (JobSaid (DemoWords number)) (plan_of (DemoWords number))) }
+{
+    match load_demo(alloc, number) {
+        Ok(placed) => summed(alloc, number, placed),
+        Err(stop) => stop_answer(alloc, &demo_paths(number), None, stop),
     }
 }

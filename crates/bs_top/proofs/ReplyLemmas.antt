@@ -1,0 +1,84 @@
+-- What is answered for a report, a finding, a search or a backtrace, where memory sufficed for its text.
+use Rattle.std.proofs.Common.{◌≡◌, ℕ, List, length, Bool, Result, Ok, Err, Vec, refl, Option}
+use Rattle.std.specs.Prelude.{IfOk}
+use Rattle.std.specs.declared.alloc.Global.{Global}
+use Rattle.bs_bits.specs.declared.memory.NoMemory.{NoMemory}
+use Rattle.bs_net.specs.Circuit.{Circuit}
+use Rattle.bs_net.specs.Parts.{Parts}
+use Rattle.bs_scan.specs.Crash.{Crash}
+use Rattle.bs_report.specs.declared.report.Budgets.{Budgets}
+use Rattle.bs_report.specs.declared.report.Report.{Report}
+use Rattle.bs_report.specs.Text.{report_text}
+use Rattle.bs_report_good.specs.declared.part.Part.{Part}
+use Rattle.bs_reach.specs.declared.reach.Reach.{Reach}
+use Rattle.bs_reach.specs.Reach.{IsReach}
+use Rattle.bs_reach.specs.Text.{reach_text}
+use Rattle.bs_wave.specs.declared.wave.Wave.{Wave}
+use Rattle.bs_wave.specs.Wave.{IsWaveOf}
+use Rattle.bs_wave.specs.WaveText.{wave_text}
+use Rattle.bs_top_answer.specs.declared.note.Answer.{Answer}
+use Rattle.bs_top_answer.specs.Endings.{miss_text_of, rejected_text_if, run_text}
+use Rattle.bs_top_answer.specs.Note.{DueText}
+use Rattle.bs_top_files.specs.Entry.{Crashed}
+use Rattle.bs_top_plan.specs.declared.status.Status.TheVariants.{Done}
+use Rattle.bs_top.specs.Drawn.{IsDrawn, IsTraceWave}
+use Rattle.bs_top.specs.Finishes.{Answers, Audits, demo_budgets, Draws, Finds, IsBacktrace, reach_status, Reports, stop_status, Summarises}
+use Rattle.bs_top.specs.Rejected.{finding_status, finding_text}
+use Rattle.bs_top.specs.Said.{AuditSaid, DrawSaid, is_rejected, miss_of, ReachSaid, RunSaid}
+use Rattle.bs_top.specs.Summary.{summary_text}
+
+pub reports_told : {crash : Crash} {budgets : Budgets} (report : Report) (r : Result Answer NoMemory) → IsBacktrace crash budgets report →
+    IfOk r (λ a. a.reply.status ≡ stop_status report.stop) → IfOk r (λ a. a.reply.text.items ≡ report_text report) →
+    IfOk r (λ a. Reports crash budgets a.reply.status a.reply.text.items)
+reports_told report (Ok a) is status text = record { report = report; backtrace = is; written = text; answered = status }
+reports_told report (Err want) is status text = tt
+
+pub audits_told : {crash : Crash} {report : Report} (part : Option Part) (r : Result Answer NoMemory) → Finds crash report part →
+    IfOk r (λ a. a.reply.status ≡ finding_status part) → IfOk r (λ a. a.reply.text.items ≡ finding_text part) →
+    IfOk r (λ a. Audits crash report a.reply.status a.reply.text.items)
+audits_told part (Ok a) finds status text = record { part = part; finds = finds; answered = status; written = text }
+audits_told part (Err want) finds status text = tt
+
+pub draws_told : {crash : Crash} (raw : Parts) {report : Report} (part : Option Part) (r : Result Answer NoMemory) → Finds crash report part →
+    IfOk r (λ a. a.reply.status ≡ finding_status part) → IfOk r (λ a. IsDrawn raw report part a.reply.text.items) →
+    IfOk r (λ a. Draws raw crash report a.reply.status a.reply.text.items)
+draws_told raw part (Ok a) finds status drawn = record { part = part; finds = finds; answered = status; written = drawn }
+draws_told raw part (Err want) finds status drawn = tt
+
+pub answers_told : {c : Circuit} {p : List Bool} {k b : ℕ} (reach : Reach) (r : Result Answer NoMemory) → IsReach c p k b reach →
+    IfOk r (λ a. a.reply.status ≡ reach_status reach.outcome) → IfOk r (λ a. a.reply.text.items ≡ reach_text reach) →
+    IfOk r (λ a. Answers c p k b a.reply.status a.reply.text.items)
+answers_told reach (Ok a) is status text = record { reach = reach; right = is; written = text; answered = status }
+answers_told reach (Err want) is status text = tt
+
+pub wave_told : {raw : Parts} {report : Report} (wave : Wave) (r : Result (Vec ℕ Global) NoMemory) → IsWaveOf raw report.states report.inputs wave →
+    IfOk r (λ text. text.items ≡ wave_text wave) → IfOk r (λ text. IsTraceWave raw report text.items)
+wave_told wave (Ok text) is written = record { wave = wave; is = is; written = written }
+wave_told wave (Err want) is written = tt
+
+pub summarises_told : {number : ℕ} {crash : Crash} (report : Report) (r : Result (Vec ℕ Global) NoMemory) → IsBacktrace crash demo_budgets report →
+    IfOk r (λ text. text.items ≡ summary_text number report) → IfOk r (λ text. Summarises number crash Done text.items)
+summarises_told report (Ok text) is written = record { report = report; backtrace = is; written = written; answered = refl }
+summarises_told report (Err want) is written = tt
+
+-- ---- what is said besides
+
+pub reports_said : {crashed : Crashed} (report : Report) (r : Result Answer NoMemory) → IfOk r (λ a. a.reply.text.items ≡ report_text report) →
+    IfOk r (λ a. DueText (run_text crashed.setup.runs (length report.steps) report.stop) a.note) → IfOk r (λ a. RunSaid crashed a.reply.text.items a.note)
+reports_said report (Ok a) text says = record { report = report; written = text; says = says }
+reports_said report (Err want) text says = tt
+
+pub audits_said : (part : Option Part) (r : Result Answer NoMemory) → IfOk r (λ a. a.reply.text.items ≡ finding_text part) →
+    IfOk r (λ a. DueText (rejected_text_if (is_rejected part)) a.note) → IfOk r (λ a. AuditSaid a.reply.text.items a.note)
+audits_said part (Ok a) text says = record { part = part; written = text; says = says }
+audits_said part (Err want) text says = tt
+
+pub draws_said : {raw : Parts} {report : Report} (part : Option Part) (r : Result Answer NoMemory) → IfOk r (λ a. IsDrawn raw report part a.reply.text.items) →
+    IfOk r (λ a. DueText (rejected_text_if (is_rejected part)) a.note) → IfOk r (λ a. DrawSaid raw report a.reply.text.items a.note)
+draws_said part (Ok a) text says = record { part = part; written = text; says = says }
+draws_said part (Err want) text says = tt
+
+pub answers_said : (reach : Reach) (r : Result Answer NoMemory) → IfOk r (λ a. a.reply.text.items ≡ reach_text reach) →
+    IfOk r (λ a. DueText (miss_text_of (miss_of reach.outcome)) a.note) → IfOk r (λ a. ReachSaid a.reply.text.items a.note)
+answers_said reach (Ok a) text says = record { reach = reach; written = text; says = says }
+answers_said reach (Err want) text says = tt

@@ -1,0 +1,12 @@
+use Rattle.bs_reach.proofs.CallerLemmas.{reach_has_states}
+use Rattle.bs_top.proofs.ReplyLemmas.{answers_said, answers_told}
+use Rattle.bs_top.proofs.reaching.reach_answer.Goals as goal
+
+pub told-requires : goal.told-requires
+told-requires c = reach_has_states _ _ _ _ _ c.in-Ok.ensures
+
+pub returns-in-Ok : goal.returns-in-Ok
+returns-in-Ok c = record {
+  done = answers_told _ _ c.in-Ok.ensures c.told.ensures.status c.told.ensures.text;
+  said = answers_said _ _ c.told.ensures.text c.told.ensures.note;
+}

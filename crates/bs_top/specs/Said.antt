@@ -1,0 +1,116 @@
+-- What is said of an answer, besides.
+use Rattle.std.specs.Prelude.{◌≡◌, ℕ, List, [], length, Bool, true, false, Option, Some, None}
+use Rattle.bs_net.specs.Parts.{Parts}
+use Rattle.bs_outside.specs.Calls.{FetchCall}
+use Rattle.bs_note_calls.specs.declared.told.Miss.{Miss}
+use Rattle.bs_note_calls.specs.declared.told.Miss.TheVariants as M
+use Rattle.bs_note_calls.specs.Words.{IsWordsNote}
+use Rattle.bs_reach.specs.declared.reach.Outcome.{Outcome}
+use Rattle.bs_reach.specs.declared.reach.Outcome.TheVariants.{Reached, Unreached, Unknown}
+use Rattle.bs_reach.specs.declared.reach.Reach.{Reach}
+use Rattle.bs_reach.specs.Text.{reach_text}
+use Rattle.bs_report.specs.declared.report.Report.{Report}
+use Rattle.bs_report.specs.Text.{report_text}
+use Rattle.bs_report_good.specs.declared.part.Part.{Part}
+use Rattle.bs_target.specs.Target.{target_looked}
+use Rattle.bs_top_answer.specs.declared.note.Note.{Note}
+use Rattle.bs_top_answer.specs.declared.note.Note.TheVariants.{Silent}
+use Rattle.bs_top_answer.specs.Endings.{miss_text_of, rejected_text_if, run_text}
+use Rattle.bs_top_answer.specs.Note.{Due, DueText}
+use Rattle.bs_top_answer.specs.Paths.{Paths, path_of}
+use Rattle.bs_top_answer.specs.Prepared.{NoteAlong}
+use Rattle.bs_top_files.specs.Entry.{Crashed}
+use Rattle.bs_top_files.specs.Looking.{claimed_looked, crashed_looked, drawn_looked, placed_looked}
+use Rattle.bs_top_files.specs.NoteCases.{NoteCase, NoteSays}
+use Rattle.bs_top_plan.specs.declared.status.Status.{Status}
+use Rattle.bs_top_plan.specs.Plan.{Plan, end, ◌>>=◌}
+use Rattle.bs_top_words.specs.Job.{Job, Run, Audit, Dump as Moment, Demo, Wave, Reach as Search}
+use Rattle.bs_top.specs.Demo.{demo_looked}
+use Rattle.bs_top.specs.Drawn.{IsDrawn}
+use Rattle.bs_top.specs.Rejected.{finding_text}
+use Rattle.bs_top.specs.Work.{Work, to_run, to_audit, to_dump, to_demo, to_wave, to_reach, run_names, budgets_of, audit_names, dump_names}
+
+-- the plan of a job as the notes see it: the same files and the same work, and the notes on what is refused
+abbrev pub looked_of : Job → Plan NoteCase Work
+looked_of (Run job) = do
+  crashed ← crashed_looked (run_names job) job.dump
+  end (to_run (budgets_of job) crashed)
+looked_of (Audit job) = do
+  claimed ← claimed_looked (audit_names job) job.dump job.report
+  end (to_audit claimed)
+looked_of (Moment job) = do
+  placed ← placed_looked (dump_names job) job.run job.cycle
+  end (to_dump placed)
+looked_of (Demo number) = do
+  placed ← demo_looked number
+  end (to_demo number placed)
+looked_of (Wave job) = do
+  claimed ← drawn_looked (audit_names job) job.dump job.report
+  end (to_wave claimed)
+looked_of (Search job) = do
+  target ← target_looked job.netlist job.state job.cycles
+  end (to_reach job.conflicts target)
+
+-- the names of the files of a job; a name that it does not give is empty
+abbrev pub paths_of : Job → Paths
+paths_of (Run j) = record { netlist = j.netlist; signature = j.signature; stimulus = j.stimulus; dump = j.dump; report = [] }
+paths_of (Audit j) = record { netlist = j.netlist; signature = j.signature; stimulus = j.stimulus; dump = j.dump; report = j.report }
+paths_of (Moment j) = record { netlist = j.netlist; signature = j.signature; stimulus = j.stimulus; dump = []; report = [] }
+paths_of (Demo number) = record { netlist = []; signature = []; stimulus = []; dump = []; report = [] }
+paths_of (Wave j) = record { netlist = j.netlist; signature = j.signature; stimulus = j.stimulus; dump = j.dump; report = j.report }
+paths_of (Search j) = record { netlist = j.netlist; signature = []; stimulus = []; dump = []; report = [] }
+
+-- ---- work that is done
+
+-- the text is a report's, and the note tells its stop, where it is not at reset
+pub record RunSaid (crashed : Crashed) (text : List ℕ) (note : Note) : Type 0 where
+  pub report : Report
+  pub written : text ≡ report_text report
+  pub says : DueText (run_text crashed.setup.runs (length report.steps) report.stop) note
+
+abbrev pub is_rejected : Option Part → Bool
+is_rejected None = false
+is_rejected (Some part) = true
+
+-- the text tells a finding, or the waveform that is drawn for it, and there is a note where a part fails
+pub record AuditSaid (text : List ℕ) (note : Note) : Type 0 where
+  pub part : Option Part
+  pub written : text ≡ finding_text part
+  pub says : DueText (rejected_text_if (is_rejected part)) note
+
+pub record DrawSaid (raw : Parts) (report : Report) (text : List ℕ) (note : Note) : Type 0 where
+  pub part : Option Part
+  pub written : IsDrawn raw report part text
+  pub says : DueText (rejected_text_if (is_rejected part)) note
+
+-- what a search misses by its outcome
+abbrev pub miss_of : Outcome → Option Miss
+miss_of (Reached j) = None
+miss_of Unreached = Some M.Unreached
+miss_of (Unknown j) = Some M.Unknown
+
+-- the text is a search's, and there is a note where it has no execution
+pub record ReachSaid (text : List ℕ) (note : Note) : Type 0 where
+  pub reach : Reach
+  pub written : text ≡ reach_text reach
+  pub says : DueText (miss_text_of (miss_of reach.outcome)) note
+
+-- what is said of work, by its text
+abbrev pub WorkSaid : Work → List ℕ → Note → Type 0
+WorkSaid (to_run budgets crashed) text note = RunSaid crashed text note
+WorkSaid (to_audit claimed) text note = AuditSaid text note
+WorkSaid (to_dump placed) text note = note ≡ Silent
+WorkSaid (to_demo number placed) text note = note ≡ Silent
+WorkSaid (to_wave claimed) text note = DrawSaid claimed.crashed.setup.raw claimed.report text note
+WorkSaid (to_reach conflicts target) text note = ReachSaid text note
+
+-- ---- answers
+
+-- what is said of the answer to a job, after these fetches
+abbrev pub JobSaid : Job → List FetchCall → Status → List ℕ → Note → Type 0
+JobSaid job = NoteAlong NoteSays WorkSaid (path_of (paths_of job)) (looked_of job)
+
+-- the same of words: those that are no job have a note on what is wrong with them
+abbrev pub WordsSaid : List (List ℕ) → Option Job → List FetchCall → Status → List ℕ → Note → Type 0
+WordsSaid words None = λ fetches status text note. Due (IsWordsNote words) note
+WordsSaid words (Some job) = JobSaid job
