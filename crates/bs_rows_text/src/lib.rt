@@ -1,9 +1,6 @@
-//! Worked rows on what is read and written: bits and lines, files, stimuli, reports, words, designs of several modules, value
-//! changes, waveforms and proposals, each with ample memory: tests alone.
+//! Worked rows on designs of several modules, value changes, waveforms and proposals, each with ample memory: tests alone.
 #![tactic(auto)]
 
-#[cfg(test)]
-mod bits_rows;
 #[cfg(test)]
 mod design_answers;
 #[cfg(test)]
@@ -11,23 +8,13 @@ mod design_limits;
 #[cfg(test)]
 mod design_rows;
 #[cfg(test)]
-mod gen_rows;
-#[cfg(test)]
-mod job_rows;
-#[cfg(test)]
 mod module_rows;
 #[cfg(test)]
 mod netlists;
 #[cfg(test)]
-mod outside_rows;
-#[cfg(test)]
 mod proposal_rows;
 #[cfg(test)]
 mod proposals;
-#[cfg(test)]
-mod report_rows;
-#[cfg(test)]
-mod stim_rows;
 #[cfg(test)]
 mod traces;
 #[cfg(test)]
@@ -38,5 +25,3 @@ mod view_rows;
 mod wave_rows;
 #[cfg(test)]
 mod waves;
-#[cfg(test)]
-mod words_rows;

@@ -18,7 +18,7 @@ mod limit_rows;
 #[cfg(test)]
 mod mode_rows;
 #[cfg(test)]
-mod note_rows;
+mod said_rows;
 #[cfg(test)]
 mod older_rows;
 #[cfg(test)]

@@ -11,14 +11,29 @@ fn long_file(alloc: Global) -> Result<Vec<u8>, NoMemory> {
     Ok(vec![in alloc; b'.'; 1_048_577]?)
 }
 
-/// A file `n` of three bytes, and such a long file `s`.
+/// Puts a file behind others.
+fn push_file(
+    alloc: Global,
+    files: &mut Vec<(String, Vec<u8>)>,
+    name: &str,
+    bytes: Vec<u8>,
+) -> Result<(), NoMemory> {
+    let name = String::from_str(alloc, name)?;
+    Ok(files.push((name, bytes))?)
+}
+
+/// Puts a file `n` of three bytes, and such a long file `s`.
+fn push_files(alloc: Global, files: &mut Vec<(String, Vec<u8>)>) -> Result<(), NoMemory> {
+    let short = Vec::from_slice(alloc, "abc".as_bytes())?;
+    push_file(alloc, files, "n", short)?;
+    let long = long_file(alloc)?;
+    push_file(alloc, files, "s", long)
+}
+
+/// These files.
 fn files(alloc: Global) -> Result<Vec<(String, Vec<u8>)>, NoMemory> {
     let mut files = Vec::new(alloc);
-    files.push((
-        String::from_str(alloc, "n")?,
-        Vec::from_slice(alloc, "abc".as_bytes())?,
-    ))?;
-    files.push((String::from_str(alloc, "s")?, long_file(alloc)?))?;
+    push_files(alloc, &mut files)?;
     Ok(files)
 }
 

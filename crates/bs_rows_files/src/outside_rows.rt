@@ -13,12 +13,23 @@ use std::{fs, io};
 /// The names of the files in memory, and their texts: of two of one name the first one counts.
 const FILES: [(&str, &str); 3] = [("a", "abc"), ("a", "x"), ("b", "")];
 
+/// Puts a file behind others.
+fn push_file(
+    alloc: Global,
+    files: &mut Vec<(String, Vec<u8>)>,
+    name: &str,
+    text: &str,
+) -> Result<(), NoMemory> {
+    let bytes = Vec::from_slice(alloc, text.as_bytes())?;
+    let name = String::from_str(alloc, name)?;
+    Ok(files.push((name, bytes))?)
+}
+
 /// These files.
 fn files(alloc: Global) -> Result<Vec<(String, Vec<u8>)>, NoMemory> {
     let mut files = Vec::new(alloc);
     for (name, text) in &FILES {
-        let bytes = Vec::from_slice(alloc, text.as_bytes())?;
-        files.push((String::from_str(alloc, name)?, bytes))?;
+        push_file(alloc, &mut files, name, text)?;
     }
     Ok(files)
 }
@@ -308,10 +319,16 @@ fn are_stored(shelf: &mut MemShelf, sure: &mut SureShelf, into: &mut Vec<u8>) ->
     true
 }
 
-/// The same from two shelves, and the text.
-fn is_stored(alloc: Global, mut shelf: MemShelf, mut sure: SureShelf, want: &str) -> bool {
+/// The same from a shelf in memory and a sure one, and the text.
+fn is_stored(
+    alloc: Global,
+    shelf: &mut MemShelf,
+    files: Vec<(String, Vec<u8>)>,
+    want: &str,
+) -> bool {
+    let mut sure = SureShelf::new(files);
     let mut into = Vec::new(alloc);
-    are_stored(&mut shelf, &mut sure, &mut into) && into.as_slice() == want.as_bytes()
+    are_stored(shelf, &mut sure, &mut into) && into.as_slice() == want.as_bytes()
 }
 
 /// A shelf in memory whose second fetch fails.
@@ -322,9 +339,9 @@ fn shelf(alloc: Global) -> Result<MemShelf, NoMemory> {
 
 /// Whether shelves in memory answer so.
 fn are_shelves(alloc: Global, want: &str) -> Result<bool, NoMemory> {
-    let shelf = shelf(alloc)?;
+    let mut shelf = shelf(alloc)?;
     match files(alloc) {
-        Ok(files) => Ok(is_stored(alloc, shelf, SureShelf::new(files), want)),
+        Ok(files) => Ok(is_stored(alloc, &mut shelf, files, want)),
         Err(fault) => Err(fault),
     }
 }

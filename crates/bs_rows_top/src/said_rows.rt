@@ -1,11 +1,8 @@
-//! Mistakes, and the notes on them.
+//! Calls over a shelf that gives each file once, and the note on each: it comes of the first reading.
 
-use bs_note::note;
-use bs_note_calls::{Miss, NoCauses, Outcome, Told};
-use bs_outside::{MemShelf, MemSink, NoMemory};
-use bs_report::Stop;
+use bs_outside::{MemSink, NoMemory, OnceShelf};
+use bs_top::{Status, backspace_noted};
 use std::alloc::Global;
-use std::io::ErrorKind;
 use std::test::Fail;
 
 /// The words of a line.
@@ -40,179 +37,181 @@ fn files_with(alloc: Global, mistake: &str) -> Result<Vec<(String, Vec<u8>)>, No
     Ok(files)
 }
 
-/// What a search misses that ended with this code.
-fn miss_of(code: u8) -> Option<Miss> {
-    if code == 15 {
-        Some(Miss::Unreached)
-    } else {
-        None
-    }
-}
+/// The words of a call, a file `x` with a mistake, the room of the output, the status, and the note.
+type Said<'a> = (&'a str, &'a str, usize, Status, &'a str);
 
-/// A call's end with this code and this stop.
-fn outcome_of(code: u8, stop: Option<Stop>) -> Outcome {
-    Outcome {
-        code,
-        told: Told {
-            lines: 4,
-            steps: 2,
-            stop,
-            miss: miss_of(code),
-        },
-        cause: None,
-    }
-}
+/// Room for each answer.
+const ROOM: usize = 65536;
 
-/// The words of a call, how it ended, a file with a mistake, and the note.
-type Noted<'a> = (&'a str, u8, Option<Stop>, &'a str, &'a str);
-
-/// The note on a call with these words over this shelf.
-fn told(
+/// The status of a call, and the sink of its note.
+fn called(
     alloc: Global,
-    words: Vec<String>,
-    shelf: &mut MemShelf,
-    outcome: &Outcome,
-) -> Result<MemSink, NoMemory> {
-    let words: Result<Vec<String>, ErrorKind> = Ok(words);
-    match MemSink::new(alloc, 1000, Vec::new(alloc)) {
-        Ok(mut notes) => {
-            note(alloc, &words, shelf, &NoCauses, outcome, &mut notes);
-            Ok(notes)
-        }
+    words: &[String],
+    shelf: &mut OnceShelf,
+    out: &mut MemSink,
+    mut notes: MemSink,
+) -> Result<(Status, MemSink), NoMemory> {
+    match backspace_noted(alloc, words, shelf, out, &mut notes) {
+        Ok(status) => Ok((status, notes)),
         Err(fault) => Err(fault),
     }
 }
 
-/// The same over a shelf with these files.
-fn told_on(
+/// The same with an output of this room.
+fn called_within(
+    alloc: Global,
+    words: &[String],
+    shelf: &mut OnceShelf,
+    room: usize,
+) -> Result<(Status, MemSink), NoMemory> {
+    let mut out = MemSink::new(alloc, room, Vec::new(alloc))?;
+    match MemSink::new(alloc, 1000, Vec::new(alloc)) {
+        Ok(notes) => called(alloc, words, shelf, &mut out, notes),
+        Err(fault) => Err(fault),
+    }
+}
+
+/// The same of the words of a line over these files, each of which is given once.
+fn called_on(
     alloc: Global,
     line: &str,
     files: Vec<(String, Vec<u8>)>,
-    outcome: &Outcome,
-) -> Result<MemSink, NoMemory> {
-    let mut shelf = MemShelf::new(alloc, files, Vec::new(alloc))?;
+    room: usize,
+) -> Result<(Status, MemSink), NoMemory> {
+    let mut shelf = OnceShelf::new(files);
     match words_of(alloc, line) {
-        Ok(words) => told(alloc, words, &mut shelf, outcome),
+        Ok(words) => called_within(alloc, &words, &mut shelf, room),
         Err(fault) => Err(fault),
     }
 }
 
-/// The note on a call with the words of a line that ended so, and one file with a mistake.
-fn noted(alloc: Global, line: &str, outcome: &Outcome, mistake: &str) -> Result<MemSink, NoMemory> {
-    match files_with(alloc, mistake) {
-        Ok(files) => told_on(alloc, line, files, outcome),
-        Err(fault) => Err(fault),
-    }
-}
-
-/// Whether a call has its note.
-fn is_noted(
+/// The same with this mistake.
+fn called_with(
     alloc: Global,
-    (line, code, stop, mistake, want): &Noted<'_>,
-) -> Result<bool, NoMemory> {
-    match noted(alloc, line, &outcome_of(*code, *stop), mistake) {
-        Ok(notes) => Ok(notes.bytes() == want.as_bytes()),
+    line: &str,
+    mistake: &str,
+    room: usize,
+) -> Result<(Status, MemSink), NoMemory> {
+    match files_with(alloc, mistake) {
+        Ok(files) => called_on(alloc, line, files, room),
         Err(fault) => Err(fault),
     }
 }
 
-/// The first of these calls that has another note.
+/// Whether a call has its status and its note.
+fn is_said(
+    alloc: Global,
+    (line, mistake, room, status, want): &Said<'_>,
+) -> Result<bool, NoMemory> {
+    match called_with(alloc, line, mistake, *room) {
+        Ok((got, notes)) => Ok(got == *status && notes.bytes() == want.as_bytes()),
+        Err(fault) => Err(fault),
+    }
+}
+
+/// The first of these calls that has another status or note.
 fn first_other<'a>(
     alloc: Global,
-    rows: &[Noted<'a>],
+    rows: &[Said<'a>],
 ) -> Result<Option<(&'a str, &'a str)>, NoMemory> {
     for row in rows {
-        if !is_noted(alloc, row)? {
+        if !is_said(alloc, row)? {
             return Ok(Some((row.0, row.4)));
         }
     }
     Ok(None)
 }
 
-/// Mistakes, and their notes.
-const NOTES: [Noted<'static>; 12] = [
-    ("run n.v s.txt t.txt d.txt", 0, Some(Stop::Reset), "", ""),
+/// Calls, and their notes.
+const SAID: [Said<'static>; 12] = [
+    (
+        "run n.v s.txt x d.txt",
+        "run a 3\n1\n1\n1\nend\n",
+        ROOM,
+        Status::Done,
+        "",
+    ),
     (
         "demo -1",
-        2,
-        None,
         "",
+        ROOM,
+        Status::Words,
         "note: word 2, `-1`, is no option of this command\nnote: usage: backspace demo NUMBER\n",
     ),
     (
         "run gone s.txt t.txt d.txt",
-        12,
-        None,
         "",
+        ROOM,
+        Status::ReadFault,
         "note: gone: this file could not be read\n",
     ),
     (
         "run x s.txt t.txt d.txt",
-        6,
-        None,
         "module m(a);\n input a;\n always @(a) ;\nendmodule\n",
+        ROOM,
+        Status::Netlist,
         "note: x:3:2: behavioural Verilog is left out\n always @(a) ;\n ^ synthesize to gates and flip-flops first\n",
     ),
     (
         "run n.v x t.txt d.txt",
-        7,
-        None,
         "bit q1\nxor q0 q2\n",
+        ROOM,
+        Status::Signature,
         "note: x:2:8: no flip-flop has the key `q2`, the name of its output net\nxor q0 q2\n       ^ the nearest keys of flip-flops: q0 q1\n",
     ),
     (
         "run n.v s.txt x d.txt",
-        8,
-        None,
         "run a 1\r\n0\r\nend\r\n",
+        ROOM,
+        Status::Stimulus,
         "note: x:1:8: a carriage return: lines end with a line feed alone\nrun a 1\\x0d\n       ^ take the carriage returns out, as by `tr -d '\\r'`\n",
     ),
     (
         "run n.v s.txt t.txt x",
-        9,
-        None,
         "state 111\nsig 1\nend\n",
+        ROOM,
+        Status::Dump,
         "note: x:1:1: 3 bits stand here, and 2 are due: one for each flip-flop of the netlist\nstate 111\n^ is the dump of this netlist, with this signature?\n",
     ),
     (
-        "run n.v s.txt t.txt d.txt",
-        5,
-        Some(Stop::Candidates),
+        "run n.v s.txt t.txt d.txt --candidates 1",
         "",
-        "note: the list was cut, and no recorded moment was seen to lead to the state in one cycle, in step 2\nnote: record more or longer runs of what the chip did, or choose a signature that tells more states apart\n",
+        ROOM,
+        Status::Spent,
+        "note: the list was cut, and no recorded moment was seen to lead to the state in one cycle, in step 1\nnote: record more or longer runs of what the chip did, or choose a signature that tells more states apart\n",
     ),
     (
         "run n.v s.txt t.txt d.txt",
-        3,
-        Some(Stop::Nohit),
         "",
-        "note: no recorded run comes to a state that is listed in step 2\nnote: record more or longer runs of what the chip did, or choose a signature that tells more states apart\nnote: so many moments of recorded runs were searched, each cycle of each run from 0: 2\n",
+        ROOM,
+        Status::Nohit,
+        "note: no recorded run comes to a state that is listed in step 1\nnote: record more or longer runs of what the chip did, or choose a signature that tells more states apart\nnote: so many moments of recorded runs were searched, each cycle of each run from 0: 2\n",
     ),
     (
         "reach n.v 111 5",
-        9,
-        None,
         "",
+        ROOM,
+        Status::Target,
         "note: the state `111`: 3 bits stand here, and 2 are due: one for each flip-flop of the netlist\nnote: the bits stand in the order of the netlist's flip-flops, the first on the left\n",
     ),
     (
         "reach n.v 11 1",
-        15,
-        None,
         "",
+        ROOM,
+        Status::Unreached,
         "note: no execution of so many cycles from reset, or of fewer, ends in this state, whatever the inputs\nnote: ask for more cycles, up to 1024; the state's bits are in the order of the netlist's flip-flops, the first on the left\n",
     ),
     (
         "run n.v s.txt t.txt d.txt",
-        13,
-        None,
         "",
+        71,
+        Status::WriteFault,
         "note: standard output failed after 4 whole lines: no reason is known\nnote: what went out is the front of the answer; send it to a file with room, or let the reader read on\n",
     ),
 ];
 
 #[test]
-fn each_mistake_has_its_note(rt: HostRuntime) -> Result<(), Fail> {
-    assert_eq!(rt; first_other(rt.alloc(), &NOTES)?, None);
+fn each_call_says_its_note_of_one_reading(rt: HostRuntime) -> Result<(), Fail> {
+    assert_eq!(rt; first_other(rt.alloc(), &SAID)?, None);
     Ok(())
 }

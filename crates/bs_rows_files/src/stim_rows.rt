@@ -36,8 +36,15 @@ fn longest_run(alloc: Global, line: &[u8]) -> Result<Vec<u8>, NoMemory> {
     Ok(text)
 }
 
-/// The input of a cycle of a run as a text, bit by bit.
-fn single_text(alloc: Global, runs: &Runs, run: u32, cycle: u32) -> Result<Vec<u8>, NoMemory>
+/// Whether bits have a text.
+fn have(alloc: Global, bits: &Bits, want: &[u8]) -> Result<bool, NoMemory> {
+    let mut text = Vec::new(alloc);
+    bits.text(&mut text)?;
+    Ok(text.as_slice() == want)
+}
+
+/// The input of a cycle of a run, bit by bit.
+fn single(alloc: Global, runs: &Runs, run: u32, cycle: u32) -> Result<Bits, NoMemory>
     requires from_one { 1 ≤ run }
     requires there { run ≤ length runs.now.runs }
     requires recorded { cycle < length (run_at runs.now run).inputs }
@@ -46,13 +53,11 @@ fn single_text(alloc: Global, runs: &Runs, run: u32, cycle: u32) -> Result<Vec<u
     for place in 0..runs.width() {
         bits.push(runs.bit(run, cycle, place))?;
     }
-    let mut text = Vec::new(alloc);
-    bits.text(&mut text)?;
-    Ok(text)
+    Ok(bits)
 }
 
 /// The same, written over zeros.
-fn whole_text(alloc: Global, runs: &Runs, run: u32, cycle: u32) -> Result<Vec<u8>, NoMemory>
+fn whole(alloc: Global, runs: &Runs, run: u32, cycle: u32) -> Result<Bits, NoMemory>
     requires from_one { 1 ≤ run }
     requires there { run ≤ length runs.now.runs }
     requires recorded { cycle < length (run_at runs.now run).inputs }
@@ -64,24 +69,26 @@ fn whole_text(alloc: Global, runs: &Runs, run: u32, cycle: u32) -> Result<Vec<u8
     if bits.len() == runs.width() {
         runs.fill(run, cycle, &mut bits);
     }
-    let mut text = Vec::new(alloc);
-    bits.text(&mut text)?;
-    Ok(text)
+    Ok(bits)
 }
 
-/// The input of a cycle of a run as a text, if it is there: bit by bit, and written over zeros.
-fn input_text(
+/// Whether the input of a cycle of a run is this text, however it is taken.
+fn has_input(
     alloc: Global,
     runs: &Runs,
     run: u32,
     cycle: u32,
-) -> Result<(Vec<u8>, Vec<u8>), NoMemory> {
+    want: &[u8],
+) -> Result<bool, NoMemory> {
     if run == 0 || run > runs.count() || cycle >= runs.cycles(run) {
-        return Ok((Vec::new(alloc), Vec::new(alloc)));
+        return Ok(false);
     }
-    let single = single_text(alloc, runs, run, cycle)?;
-    let whole = whole_text(alloc, runs, run, cycle)?;
-    Ok((single, whole))
+    let bits = single(alloc, runs, run, cycle)?;
+    if !have(alloc, &bits, want)? {
+        return Ok(false);
+    }
+    let bits = whole(alloc, runs, run, cycle)?;
+    have(alloc, &bits, want)
 }
 
 /// Texts, the number of data inputs, and the refusal.
@@ -121,17 +128,19 @@ fn first_other<'a>(alloc: Global, rows: &[(&'a str, usize, Option<StimFault>)]) 
     None
 }
 
+/// Whether as many runs as there may be, and then a line, are answered so.
+fn are_answered(alloc: Global, line: &[u8], want: Option<StimFault>) -> Result<bool, NoMemory> {
+    let text = many_runs(alloc, MAX_RUNS, line)?;
+    Ok(refusal(alloc, &text, 1) == want)
+}
+
 #[test]
 fn refusals_of_stimuli(rt: HostRuntime) -> Result<(), Fail> {
     let alloc = rt.alloc();
     assert_eq!(rt; first_other(alloc, &TEXTS), None);
-    let most = many_runs(alloc, MAX_RUNS, b"")?;
-    assert_eq!(rt; refusal(alloc, most.as_slice(), 1), None);
-    let more = many_runs(alloc, MAX_RUNS, b"run a 65537\n")?;
-    assert_eq!(rt;
-        refusal(alloc, more.as_slice(), 1),
-        Some(StimFault::TooManyRuns(513))
-    );
+    assert!(rt; are_answered(alloc, b"", None)?);
+    let fault = StimFault::TooManyRuns(513);
+    assert!(rt; are_answered(alloc, b"run a 65537\n", Some(fault))?);
     Ok(())
 }
 
@@ -159,16 +168,10 @@ fn is_written_back(alloc: Global, text: &[u8], width: usize) -> Result<bool, Sti
     }
 }
 
-/// Whether the second input of the second run is this text, however it is taken.
-fn has_input(alloc: Global, runs: &Runs, input: &[u8]) -> Result<bool, NoMemory> {
-    let (single, whole) = input_text(alloc, runs, 2, 1)?;
-    Ok(single.as_slice() == input && whole.as_slice() == input)
-}
-
-/// The same of the runs of a text.
+/// Whether the second input of the second run of a text is this text.
 fn is_input(alloc: Global, text: &[u8], input: &[u8]) -> Result<bool, StimFault> {
     match runs_of(alloc, text, input.len())? {
-        Some(runs) => Ok(has_input(alloc, &runs, input)?),
+        Some(runs) => Ok(has_input(alloc, &runs, 2, 1, input)?),
         None => Ok(false),
     }
 }
@@ -192,21 +195,27 @@ fn wide_text(alloc: Global) -> Result<Vec<u8>, NoMemory> {
     Ok(text)
 }
 
+/// Whether the wide text has its input, and is written back.
+fn is_wide(alloc: Global) -> Result<bool, StimFault> {
+    let text = wide_text(alloc)?;
+    Ok(is_input(alloc, &text, WIDE)? && is_written_back(alloc, &text, 70)?)
+}
+
+/// Whether the longest run with this input is written back.
+fn is_longest(alloc: Global, line: &[u8], width: usize) -> Result<bool, StimFault> {
+    let text = longest_run(alloc, line)?;
+    is_written_back(alloc, &text, width)
+}
+
 #[test]
 fn inputs_are_those_of_the_text(rt: HostRuntime) -> Result<(), Fail> {
-    let alloc = rt.alloc();
-    let text = wide_text(alloc)?;
-    assert!(rt; is_input(alloc, text.as_slice(), WIDE)?);
-    assert!(rt; is_written_back(alloc, text.as_slice(), 70)?);
+    assert!(rt; is_wide(rt.alloc()) == Ok(true));
     Ok(())
 }
 
 #[test]
 fn longest_runs_are_read_and_written(rt: HostRuntime) -> Result<(), Fail> {
-    let alloc = rt.alloc();
-    for (line, width) in [(b"101\n".as_slice(), 3), (b".\n", 0)] {
-        let text = longest_run(alloc, line)?;
-        assert!(rt; is_written_back(alloc, text.as_slice(), width)?);
-    }
+    assert!(rt; is_longest(rt.alloc(), b"101\n", 3) == Ok(true));
+    assert!(rt; is_longest(rt.alloc(), b".\n", 0) == Ok(true));
     Ok(())
 }

@@ -1,4 +1,0 @@
-pub mod SayingLemmas
-pub mod ReadingLemmas
-pub mod WalkLemmas
-pub mod SearchLemmas

@@ -1,0 +1,16 @@
+//! Worked rows on what is read and written: bits and lines, files, words, stimuli and reports, each with ample memory: tests
+//! alone.
+#![tactic(auto)]
+
+#[cfg(test)]
+mod bits_rows;
+#[cfg(test)]
+mod job_rows;
+#[cfg(test)]
+mod outside_rows;
+#[cfg(test)]
+mod report_rows;
+#[cfg(test)]
+mod stim_rows;
+#[cfg(test)]
+mod words_rows;
