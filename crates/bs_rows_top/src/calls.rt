@@ -15,13 +15,25 @@ pub const SOUND: Faults = (0, (0, 0), 65536);
 /// The words of a line, the files, the faults, and the answer: the status and what is written.
 pub type Row<'a> = (&'a str, Texts<'a>, Faults, Status, &'a str);
 
-/// The words of a line.
-fn words(alloc: Global, line: &str) -> Result<Vec<String>, NoMemory> {
-    let mut words = Vec::new(alloc);
+/// Puts the words of a line behind others.
+pub fn push_words(alloc: Global, words: &mut Vec<String>, line: &str) -> Result<(), NoMemory> {
     for word in line.split(' ') {
-        words.push(String::from_str(alloc, word)?)?;
+        let word = String::from_str(alloc, word)?;
+        words.push(word)?;
     }
-    Ok(words)
+    Ok(())
+}
+
+/// Puts a file behind others.
+pub fn push_file(
+    alloc: Global,
+    files: &mut Vec<(String, Vec<u8>)>,
+    name: &str,
+    text: &str,
+) -> Result<(), NoMemory> {
+    let bytes = Vec::from_slice(alloc, text.as_bytes())?;
+    let name = String::from_str(alloc, name)?;
+    Ok(files.push((name, bytes))?)
 }
 
 /// The names of the files.
@@ -31,16 +43,16 @@ const NAMES: [&str; 5] = ["n", "s", "t", "d", "r"];
 fn files(alloc: Global, texts: &Texts<'_>) -> Result<Vec<(String, Vec<u8>)>, NoMemory> {
     let mut files = Vec::new(alloc);
     for (name, text) in NAMES.iter().zip(texts) {
-        let bytes = Vec::from_slice(alloc, text.as_bytes())?;
-        files.push((String::from_str(alloc, name)?, bytes))?;
+        push_file(alloc, &mut files, name, text)?;
     }
     Ok(files)
 }
 
 /// The shelf of the five files, of which one fetch fails.
 fn shelf(alloc: Global, texts: &Texts<'_>, fetch: u64) -> Result<MemShelf, NoMemory> {
+    let fails = vec![in alloc; fetch]?;
     let files = files(alloc, texts)?;
-    MemShelf::new(alloc, files, vec![in alloc; fetch]?)
+    MemShelf::new(alloc, files, fails)
 }
 
 /// A sink with a room, of which one put fails.
@@ -75,6 +87,18 @@ fn answered_on(
     }
 }
 
+/// The same of the words of a line, which are put behind no others.
+fn called_with(
+    alloc: Global,
+    words: &mut Vec<String>,
+    line: &str,
+    texts: &Texts<'_>,
+    faults: Faults,
+) -> Result<(Status, MemSink), NoMemory> {
+    push_words(alloc, words, line)?;
+    answered_on(alloc, words, texts, faults)
+}
+
 /// The status of the words of a line on these files, and the sink that is written to.
 pub fn called(
     alloc: Global,
@@ -82,8 +106,8 @@ pub fn called(
     texts: &Texts<'_>,
     faults: Faults,
 ) -> Result<(Status, MemSink), NoMemory> {
-    let words = words(alloc, line)?;
-    answered_on(alloc, &words, texts, faults)
+    let mut words = Vec::new(alloc);
+    called_with(alloc, &mut words, line, texts, faults)
 }
 
 /// Whether a call has its answer.

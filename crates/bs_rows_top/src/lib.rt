@@ -14,11 +14,11 @@ mod files;
 #[cfg(test)]
 mod floor_rows;
 #[cfg(test)]
+mod gen_rows;
+#[cfg(test)]
 mod limit_rows;
 #[cfg(test)]
 mod mode_rows;
-#[cfg(test)]
-mod said_rows;
 #[cfg(test)]
 mod older_rows;
 #[cfg(test)]
@@ -29,6 +29,8 @@ mod refusal_rows;
 mod reports;
 #[cfg(test)]
 mod run_rows;
+#[cfg(test)]
+mod said_rows;
 #[cfg(test)]
 mod wave_rows;
 #[cfg(test)]
