@@ -1,5 +1,6 @@
 //! Calls over a shelf that gives each file once, and the note on each: it comes of the first reading.
 
+use crate::calls::{push_file, push_words};
 use bs_outside::{MemSink, NoMemory, OnceShelf};
 use bs_top::{Status, backspace_noted};
 use std::alloc::Global;
@@ -8,9 +9,7 @@ use std::test::Fail;
 /// The words of a line.
 fn words_of(alloc: Global, line: &str) -> Result<Vec<String>, NoMemory> {
     let mut words = Vec::new(alloc);
-    for word in line.split(' ') {
-        words.push(String::from_str(alloc, word)?)?;
-    }
+    push_words(alloc, &mut words, line)?;
     Ok(words)
 }
 
@@ -29,11 +28,9 @@ const FILES: [(&str, &str); 4] = [
 fn files_with(alloc: Global, mistake: &str) -> Result<Vec<(String, Vec<u8>)>, NoMemory> {
     let mut files = Vec::new(alloc);
     for (name, text) in &FILES {
-        let bytes = Vec::from_slice(alloc, text.as_bytes())?;
-        files.push((String::from_str(alloc, name)?, bytes))?;
+        push_file(alloc, &mut files, name, text)?;
     }
-    let bytes = Vec::from_slice(alloc, mistake.as_bytes())?;
-    files.push((String::from_str(alloc, "x")?, bytes))?;
+    push_file(alloc, &mut files, "x", mistake)?;
     Ok(files)
 }
 
