@@ -51,32 +51,32 @@ pub answers_told : {c : Circuit} {p : List Bool} {k b : ℕ} (reach : Reach) (r 
 answers_told reach (Ok a) is status text = record { reach = reach; right = is; written = text; answered = status }
 answers_told reach (Err want) is status text = tt
 
-pub wave_told : {raw : Parts} {report : Report} (wave : Wave) (r : Result (Vec ℕ Global) NoMemory) → IsWaveOf raw report.states report.inputs wave →
+pub wave_told : (raw : Parts) (report : Report) (wave : Wave) (r : Result (Vec ℕ Global) NoMemory) → IsWaveOf raw report.states report.inputs wave →
     IfOk r (λ text. text.items ≡ wave_text wave) → IfOk r (λ text. IsTraceWave raw report text.items)
-wave_told wave (Ok text) is written = record { wave = wave; is = is; written = written }
-wave_told wave (Err want) is written = tt
+wave_told raw report wave (Ok text) is written = record { wave = wave; is = is; written = written }
+wave_told raw report wave (Err want) is written = tt
 
-pub summarises_told : {number : ℕ} {crash : Crash} (report : Report) (r : Result (Vec ℕ Global) NoMemory) → IsBacktrace crash demo_budgets report →
+pub summarises_told : (number : ℕ) {crash : Crash} (report : Report) (r : Result (Vec ℕ Global) NoMemory) → IsBacktrace crash demo_budgets report →
     IfOk r (λ text. text.items ≡ summary_text number report) → IfOk r (λ text. Summarises number crash Done text.items)
-summarises_told report (Ok text) is written = record { report = report; backtrace = is; written = written; answered = refl }
-summarises_told report (Err want) is written = tt
+summarises_told number report (Ok text) is written = record { report = report; backtrace = is; written = written; answered = refl }
+summarises_told number report (Err want) is written = tt
 
 -- ---- what is said besides
 
-pub reports_said : {crashed : Crashed} (report : Report) (r : Result Answer NoMemory) → IfOk r (λ a. a.reply.text.items ≡ report_text report) →
+pub reports_said : (crashed : Crashed) (report : Report) (r : Result Answer NoMemory) → IfOk r (λ a. a.reply.text.items ≡ report_text report) →
     IfOk r (λ a. DueText (run_text crashed.setup.runs (length report.steps) report.stop) a.note) → IfOk r (λ a. RunSaid crashed a.reply.text.items a.note)
-reports_said report (Ok a) text says = record { report = report; written = text; says = says }
-reports_said report (Err want) text says = tt
+reports_said crashed report (Ok a) text says = record { report = report; written = text; says = says }
+reports_said crashed report (Err want) text says = tt
 
 pub audits_said : (part : Option Part) (r : Result Answer NoMemory) → IfOk r (λ a. a.reply.text.items ≡ finding_text part) →
     IfOk r (λ a. DueText (rejected_text_if (is_rejected part)) a.note) → IfOk r (λ a. AuditSaid a.reply.text.items a.note)
 audits_said part (Ok a) text says = record { part = part; written = text; says = says }
 audits_said part (Err want) text says = tt
 
-pub draws_said : {raw : Parts} {report : Report} (part : Option Part) (r : Result Answer NoMemory) → IfOk r (λ a. IsDrawn raw report part a.reply.text.items) →
+pub draws_said : (raw : Parts) (report : Report) (part : Option Part) (r : Result Answer NoMemory) → IfOk r (λ a. IsDrawn raw report part a.reply.text.items) →
     IfOk r (λ a. DueText (rejected_text_if (is_rejected part)) a.note) → IfOk r (λ a. DrawSaid raw report a.reply.text.items a.note)
-draws_said part (Ok a) text says = record { part = part; written = text; says = says }
-draws_said part (Err want) text says = tt
+draws_said raw report part (Ok a) text says = record { part = part; written = text; says = says }
+draws_said raw report part (Err want) text says = tt
 
 pub answers_said : (reach : Reach) (r : Result Answer NoMemory) → IfOk r (λ a. a.reply.text.items ≡ reach_text reach) →
     IfOk r (λ a. DueText (miss_text_of (miss_of reach.outcome)) a.note) → IfOk r (λ a. ReachSaid a.reply.text.items a.note)

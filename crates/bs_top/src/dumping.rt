@@ -26,7 +26,7 @@ use std::alloc::Global;
 /// What a chip dumps at a moment.
 fn dumped_by(alloc: Global, chip: Chip<'_>, run: u32, cycle: u32) -> Result<Dump, NoMemory>
     requires { IsMoment chip.recording.runs (moment run cycle) }
-    ensures { IfOk result (λ dump. dump ≡ dump_at chip.recording (moment run cycle)) }
+    ensures { IfOk result (λ dump. dump ≡ dump_at chip.entry.recording (moment run cycle)) }
 {
     let mut chip = chip;
     let dump = chip.dump_at(alloc, run, cycle);

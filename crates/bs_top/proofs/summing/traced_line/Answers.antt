@@ -17,4 +17,4 @@ line_of-requires c =
     }
 
 pub returns-in-Ok : goal.returns-in-Ok
-returns-in-Ok c = summarises_told _ _ c.in-Ok.ensures.backtrace c.line_of.ensures
+returns-in-Ok c = summarises_told c.args.number _ _ c.in-Ok.ensures.backtrace c.line_of.ensures
