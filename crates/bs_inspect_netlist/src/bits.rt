@@ -63,12 +63,7 @@ fn push_digit(text: &mut Vec<u8>, bit: bool) -> Result<(), NoMemory>
 }
 
 /// Appends a number, and the key of a net behind a space.
-fn push_numbered(
-    text: &mut Vec<u8>,
-    raw: &Raw,
-    number: usize,
-    net: u32,
-) -> Result<(), NoMemory>
+fn push_numbered(text: &mut Vec<u8>, raw: &Raw, number: usize, net: u32) -> Result<(), NoMemory>
     requires { net < length raw.now.names }
     ensures { OnOk result (text.new.items ≡ text.old.items ++ (decimal number ++ (codes " " ++ key_at (parts_of raw.now) net))) }
 {
