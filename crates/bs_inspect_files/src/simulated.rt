@@ -95,6 +95,20 @@ fn take_run<S: Shelf>(
     }
 }
 
+/// The same of a netlist that goes with it.
+fn take_lines<S: Shelf>(
+    alloc: Global,
+    shelf: &mut S,
+    net: Netlist,
+    names: Option<&str>,
+    sampling: Sampling<'_>,
+) -> Result<List<Bits>, JobFault>
+    ensures { Walks CheckSays S.held S.faults S.leads shelf.old shelf.new (run_of (input_keys net.raw) (option_map (λ s. s.now) names.entry) sampling.entry.vcd.now sampling.entry.clock.now (option_map (λ s. s.now) sampling.entry.scope)) (λ lines. lines) result }
+{
+    let lines = take_run(alloc, shelf, &net, names, sampling);
+    lines
+}
+
 /// The inputs of a netlist just before each rising edge of a clock in a simulation.
 pub fn take_simulated<S: Shelf>(
     alloc: Global,
@@ -105,7 +119,8 @@ pub fn take_simulated<S: Shelf>(
 ) -> Result<List<Bits>, JobFault>
     ensures { Walks CheckSays S.held S.faults S.leads shelf.old shelf.new (simulated_of netlist.now (option_map (λ s. s.now) names.entry) sampling.entry.vcd.now sampling.entry.clock.now (option_map (λ s. s.now) sampling.entry.scope)) (λ lines. lines) result }
 {
-    let net = take_netlist(alloc, shelf, netlist)?;
-    let lines = take_run(alloc, shelf, &net, names, sampling)?;
-    Ok(lines)
+    match take_netlist(alloc, shelf, netlist) {
+        Ok(net) => take_lines(alloc, shelf, net, names, sampling),
+        Err(stop) => Err(stop),
+    }
 }

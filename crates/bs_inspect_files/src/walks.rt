@@ -58,6 +58,9 @@ pub fn take_picked<S: Shelf>(
     Ok(traced)
 }
 
+/// Drops a value, which a walk that stops lets go.
+fn let_go<T: Drop>(_value: T) {}
+
 /// The same, where a waveform of the report's trace is not too large.
 pub fn take_charted<S: Shelf>(
     alloc: Global,
@@ -69,8 +72,13 @@ pub fn take_charted<S: Shelf>(
 {
     let traced = take_traced(alloc, shelf, netlist, report)?;
     let size = read_size(alloc, &traced.net, &traced.report);
-    let _small = settle(File::Report, size)?;
-    Ok(traced)
+    match settle(File::Report, size) {
+        Ok(_small) => Ok(traced),
+        Err(stop) => {
+            let_go(traced);
+            Err(stop)
+        }
+    }
 }
 
 /// The recorded runs.

@@ -7,10 +7,8 @@ returns-in_err-traced g c =
     let p = err_from_is_err_and c.from_residual.result c.from_residual.ensures.1 in
     rw (p.1, p.2) (walks_stop _ c.in_err-traced.ensures)
 
-pub returns-in_err-_small : goal.returns-in_err-_small
-returns-in_err-_small g c =
-    let p = err_from_is_err_and c.from_residual-in_err-_small.result c.from_residual-in_err-_small.ensures.1 in
-    rw (p.1, p.2) (walks_then _ c.in_ok-traced.ensures (walks_stop _ (reads_walk _ _ _ c.in_err-_small.ensures c.read_size-size.ensures)))
+pub returns-in-Ok : goal.returns-in-Ok
+returns-in-Ok g c = walks_then _ c.in_ok-traced.ensures (walks_then _ (reads_walk _ _ _ c.in-Ok.ensures c.read_size-size.ensures) walks_end)
 
-pub returns : goal.returns
-returns g c = walks_then _ c.in_ok-traced.ensures (walks_then _ (reads_walk _ _ _ c.in_ok-_small.ensures c.read_size-size.ensures) walks_end)
+pub returns-in-Err : goal.returns-in-Err
+returns-in-Err g c = walks_then _ c.in_ok-traced.ensures (walks_stop _ (reads_walk _ _ _ c.in-Err.ensures c.read_size-size.ensures))
