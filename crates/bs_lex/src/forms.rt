@@ -1,17 +1,10 @@
-//! The forms that begin with a mark: comments, texts in quotes, escaped names, system names, directives.
+//! The forms that begin with a mark: texts in quotes, escaped names, system names, directives.
 ghost use Rattle.std.specs.Prelude.{◌≡◌, ◌≤◌, ◌+◌, ◌&&◌, not, false, length, IfSome};
 ghost use Rattle.bs_lex.specs.Bytes.{◌∈◌};
 ghost use Rattle.bs_lex.specs.Tokens as spec;
 
 use crate::classes::{begins_name, byte_at, graphic_len, is_of_name, is_space, line_len, name_len};
 use crate::token::{Piece, TokenKind};
-
-/// Whether a comment closes with these two bytes.
-fn closes_comment(byte: u8, next: u8) -> bool
-    ensures { result ≡ (byte ∈ "*" && next ∈ "/") }
-{
-    byte == b'*' && next == b'/'
-}
 
 /// Whether this byte closes a text; the flag says that a `\` takes it.
 fn closes_quote(taken: bool, byte: u8) -> bool
@@ -25,36 +18,6 @@ fn takes_next(taken: bool, byte: u8) -> bool
     ensures { result ≡ (not taken && byte ∈ "\\") }
 {
     !taken && byte == b'\\'
-}
-
-/// How many bytes stand up to and with the next `*/`.
-fn comment_size(text: &[u8]) -> Option<usize>
-    ensures size { result ≡ spec.comment_size text.now }
-    ensures within { IfSome result (λ size. size ≤ length text.now) }
-{
-    'bytes: for at in 0..text.len() {
-        if closes_comment(text[at], byte_at(text, at + 1)) {
-            return Some(at + 2);
-        }
-    }
-    None
-}
-
-/// What begins with a `/`, which the rest follows.
-pub fn slash(rest: &[u8]) -> Piece
-    ensures piece { result ≡ spec.slash rest.now }
-    ensures within { spec.IsWithin (1 + length rest.now) result }
-{
-    if byte_at(rest, 0) == b'/' {
-        return Piece::Passed(1 + line_len(rest));
-    }
-    if byte_at(rest, 0) == b'*' {
-        return match comment_size(&rest[1..]) {
-            Some(size) => Piece::Passed(2 + size),
-            None => Piece::Bad(0),
-        };
-    }
-    Piece::Made(TokenKind::Sym, 1)
 }
 
 /// How many bytes stand up to and with the next `"` of the line.

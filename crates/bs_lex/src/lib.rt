@@ -1,13 +1,14 @@
 //! The tokens of a netlist text, each a slice of its source, one after another.
 //!
 //! It stands on no crate and takes no memory. `classes` (classes of bytes, and runs of them),
-//! `forms` (what begins with a mark: comments, texts, escaped names, directives), `numbers`,
+//! `comments`, `forms` (what else begins with a mark: texts, escaped names, directives), `numbers`,
 //! `pieces` (the longest form at a place), `scan` (`next_token`), `token`. Used above: `next_token`
 //! answers exactly what `tokens_of bytes` has next. To change what a token is open `piece_at` in
 //! `specs/Tokens`, then the module of its form; a class of bytes, `specs/Bytes` and `classes`.
 #![tactic(auto)]
 
 mod classes;
+mod comments;
 mod forms;
 mod limits;
 mod numbers;

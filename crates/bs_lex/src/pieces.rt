@@ -4,7 +4,8 @@ ghost use Rattle.bs_lex.specs.Bytes.{◌∈◌, is_digit};
 ghost use Rattle.bs_lex.specs.Tokens as spec;
 
 use crate::classes::{begins_name, byte_at, is_space, is_symbol, name_len};
-use crate::forms::{directive, escaped, quoted, slash, system};
+use crate::comments::slash;
+use crate::forms::{directive, escaped, quoted, system};
 use crate::numbers::number;
 use crate::token::{Piece, TokenKind};
 

@@ -1,6 +1,6 @@
 use Rattle.std.proofs.Common.{sym}
 use Rattle.bs_lex.proofs.PieceLemmas.{comment_on, comment_found, comment_end, after-zero}
-use Rattle.bs_lex.proofs.forms.comment_size.Goals as goal
+use Rattle.bs_lex.proofs.comments.comment_size.Goals as goal
 
 pub bytes-init : goal.bytes-init
 bytes-init c = after-zero _
