@@ -6,6 +6,7 @@
   `crates/NAME/specs/File.antt: definition`, `crates/NAME/src/file.rt: function` or `crates/NAME/src/file.rt: function (clause, clause)`.
 - In a table with a column «Stands on» each row's crate stands on just the crates of the repository that are named there.
 - Each link to a document leads to one.
+- A type or definition that stands in two crates, and that other crates use of both, stands in DECISIONS' table of words with two meanings.
 """
 import glob
 import os
@@ -13,6 +14,10 @@ import re
 import sys
 
 CELLS = {"bs_map", "bs_obuf"}
+TYPES = r"^\s*pub (?:struct|enum|trait|type) (\w+)"
+DEFINITIONS = r"^(?:abbrev|unfoldable) (?:pub )?(\w+)|^(?:pub )?(?:record|data) (?:pub )?(\w+)"
+CITED = r"\bRattle\.(bs_\w+)\.(?:specs|proofs)[\w.]*\.\{([^}]*)\}"
+IMPORTED = r"^\s*(?:pub )?use (bs_\w+)(?:::\w+)*::(?:\{([^}]*)\}|(\w+))"
 DOCUMENTS = ["README.md", "CHANGELOG.md", "CONTRIBUTING.md", "examples/README.md", *sorted(glob.glob("docs/*.md"))]
 DEFINED = r"^(?:pub )?(?:abbrev|unfoldable|record|data)?\s*(?:pub )?(?:record |data )?{}\b"
 
@@ -85,8 +90,46 @@ def faults_of(document, below):
     return faults + faults_of_tables(text, below)
 
 
+def items_of(text, pattern):
+    return {it for found in re.finditer(pattern, text, re.M) for it in found.groups() if it}
+
+
+def texts_of(crate, *patterns):
+    return [read(it) for pattern in patterns for it in sorted(glob.glob(f"crates/{crate}/{pattern}", recursive=True))]
+
+
+def doubled(below):
+    """The types and definitions of two crates or more that other crates use of two of them, with these crates."""
+    defined, used = {}, {}
+    for crate in below:
+        for name in set().union(
+            *(items_of(it, DEFINITIONS) for it in texts_of(crate, "specs/*.antt")), *(items_of(it, TYPES) for it in texts_of(crate, "src/**/*.rt"))
+        ):
+            defined.setdefault(name, set()).add(crate)
+        for text in texts_of(crate, "src/**/*.rt", "specs/*.antt", "proofs/**/*.antt"):
+            found = re.findall(CITED, text) + [(of, several or one) for of, several, one in re.findall(IMPORTED, text, re.M)]
+            for of, names in found:
+                for name in re.findall(r"\w+", names) if of != crate else []:
+                    used.setdefault(name, set()).add(of)
+    both = {name: sorted(defined[name] & used.get(name, set())) for name in defined}
+    return {name: of for name, of in both.items() if len(of) > 1}
+
+
+def faults_of_words(below):
+    """The names with two meanings that the table of such words does not have, and those that it has and that have one."""
+    path = "docs/DECISIONS.md"
+    table = read(path).partition("### Words with two meanings")[2].partition("\n## ")[0]
+    listed = {it for row in re.findall(r"^\|(`[^|]*)\|", table, re.M) for it in re.findall(r"`(\w+)`", row)}
+    found = doubled(below)
+    faults = [f"{name} is used of {' and '.join(found[name])}, and is no word of the table" for name in sorted({*found} - listed)]
+    return faults + [f"{name} has one meaning outside its crate" for name in sorted(listed - {*found})]
+
+
 def main():
     below, count = crates(), 0
+    for fault in faults_of_words(below):
+        print(f"docs/DECISIONS.md: {fault}")
+        count += 1
     for document in DOCUMENTS:
         for fault in faults_of(document, below) if os.path.exists(document) else [f"{document} is not there"]:
             print(f"{document}: {fault}")
