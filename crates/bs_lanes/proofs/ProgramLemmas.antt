@@ -13,10 +13,50 @@ use Rattle.bs_lanes_planes.specs.Planes.{lane}
 use Rattle.bs_lanes.specs.declared.pairs.Pair.{Pair}
 use Rattle.bs_lanes.specs.declared.program.Stretch.{Stretch}
 use Rattle.bs_lanes.specs.declared.program.Stretch.TheVariants.{Pairs, Others}
-use Rattle.bs_lanes.specs.Layout.{placed_gate, placed_gates}
-use Rattle.bs_lanes.specs.Program.{pair_gate, pair_gates, stretch_gates, program_gates, ArePairs, AreFirst, IsFirst, HasGate}
+use Rattle.bs_lanes.specs.Layout.{placed_net, placed_gate, placed_gates, IsGateOf}
+use Rattle.std.proofs.Common.{◌≢◌, false, subst}
+use Rattle.std.specs.Prelude.{IsTrue}
+use Rattle.std.proofs.lemmas.Bool.{true≢false, false≢true}
+use Rattle.bs_net.specs.Gate.{takes}
+use Rattle.bs_net.specs.declared.gate.Kind.TheVariants.{And, Nand, Or, Nor, Xor, Xnor, Buf, Not}
+use Rattle.bs_lanes.specs.Program.{pair_gate, pair_gates, same_kind, IsNoPair, stretch_gates, program_gates, ArePairs, AreFirst, IsFirst, HasGate}
 use Rattle.bs_lanes.specs.Settling.{RunsTo, RunsAll}
 use Rattle.bs_lanes.proofs.PairLemmas.{gate_stays}
+
+-- ---- gates that are no pair of a kind with an output at a place
+
+own_kind : (kind : Kind) → same_kind kind kind ≡ false → IsTrue (takes kind 2) → ⊥
+own_kind And isnt two = true≢false isnt
+own_kind Nand isnt two = true≢false isnt
+own_kind Or isnt two = true≢false isnt
+own_kind Nor isnt two = true≢false isnt
+own_kind Xor isnt two = true≢false isnt
+own_kind Xnor isnt two = true≢false isnt
+own_kind Buf isnt two = false≢true two
+own_kind Not isnt two = false≢true two
+
+two_inputs : (places : List ℕ) (gate : Gate) (kind : Kind) (out : ℕ) (p : Pair) → pair_gate kind out p ≡ placed_gate places gate → length gate.ins ≡ 2
+two_inputs places gate kind out p is = sym (length-map gate.ins (placed_net places)) ∙ sym (ap (λ (g : Gate). length g.ins) is)
+
+-- another kind
+pub no_pair_by_kind : (places : List ℕ) (gate : Gate) (kind : Kind) (out count : ℕ) → same_kind kind gate.kind ≡ false → IsGateOf count gate →
+    IsNoPair kind out (placed_gate places gate)
+no_pair_by_kind places gate kind out count isnt of = record { none = λ p is. differ p is }
+  where
+    differ : (p : Pair) → pair_gate kind out p ≡ placed_gate places gate → ⊥
+    differ p is =
+        let same : kind ≡ gate.kind = ap (λ (g : Gate). g.kind) is in
+        let two : IsTrue (takes gate.kind 2) = subst (λ (n : ℕ). IsTrue (takes gate.kind n)) (two_inputs places gate kind out p is) of.2 in
+        own_kind gate.kind (subst (λ (k : Kind). same_kind k gate.kind ≡ false) same isnt) two
+
+-- another place
+pub no_pair_by_place : (places : List ℕ) (gate : Gate) (kind : Kind) (out : ℕ) → (placed_net places gate.out).0 ≢ out →
+    IsNoPair kind out (placed_gate places gate)
+no_pair_by_place places gate kind out isnt = record { none = λ p is. isnt (sym (ap (λ (g : Gate). g.out.0) is)) }
+
+-- another number of inputs
+pub no_pair_by_inputs : (places : List ℕ) (gate : Gate) (kind : Kind) (out : ℕ) → length gate.ins ≢ 2 → IsNoPair kind out (placed_gate places gate)
+no_pair_by_inputs places gate kind out isnt = record { none = λ p is. isnt (two_inputs places gate kind out p is) }
 
 -- ---- the gates of an order, with places for nets
 

@@ -1,8 +1,9 @@
 -- Gates in stretches: those of one kind that have two inputs each and write one plane after another, and others. Their nets are places.
-use Rattle.std.specs.Prelude.{◌≡◌, ℕ, ◌<◌, ◌≤◌, ◌+◌, ◌^◌, List, [], ◌∷◌, length, take, All, IsTrue}
+use Rattle.std.specs.Prelude.{◌≡◌, ◌≢◌, ℕ, ◌<◌, ◌≤◌, ◌+◌, ◌^◌, Bool, true, false, List, [], ◌∷◌, length, take, All, IsTrue}
 use Rattle.std.specs.List.{flat_map}
 use Rattle.bs_net.specs.declared.net.Gate.{Gate}
 use Rattle.bs_net.specs.declared.gate.Kind.{Kind}
+use Rattle.bs_net.specs.declared.gate.Kind.TheVariants.{And, Nand, Or, Nor, Xor, Xnor}
 use Rattle.bs_net.specs.Gate.{takes}
 use Rattle.bs_lanes.specs.Settling.{HasPlane}
 use Rattle.bs_lanes.specs.declared.pairs.Pair.{Pair}
@@ -12,6 +13,20 @@ use Rattle.bs_lanes.specs.declared.program.Stretch.TheVariants.{Pairs, Others}
 -- a gate of two inputs
 abbrev pub pair_gate : Kind → ℕ → Pair → Gate
 pair_gate kind out p = record { kind = kind; out = record { 0 = out }; ins = record { 0 = p.a } ∷ record { 0 = p.b } ∷ [] }
+
+-- whether two kinds are the same, and one of two inputs or more
+abbrev pub same_kind : Kind → Kind → Bool
+same_kind And And = true
+same_kind Nand Nand = true
+same_kind Or Or = true
+same_kind Nor Nor = true
+same_kind Xor Xor = true
+same_kind Xnor Xnor = true
+same_kind _ _ = false
+
+-- the gate is no such gate of two inputs, of this kind and with its output at this place
+pub record IsNoPair (kind : Kind) (out : ℕ) (g : Gate) : Type 0 where
+  pub none : (p : Pair) → pair_gate kind out p ≢ g
 
 -- gates of two inputs whose outputs stand one behind another
 abbrev pub pair_gates : Kind → ℕ → List Pair → List Gate

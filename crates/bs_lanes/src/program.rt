@@ -1,7 +1,7 @@
 //! A netlist's gates in stretches, many of one kind, with the places of planes for nets.
-ghost use Rattle.std.specs.Prelude.{◌≡◌, ◌<◌, ◌≤◌, ◌+◌, ◌-◌, [], ◌∷◌, length, map, take, drop, min, max, All, IsTrue, IfOk, IfSome};
+ghost use Rattle.std.specs.Prelude.{◌≡◌, ◌≢◌, ◌<◌, ◌≤◌, ◌+◌, ◌-◌, [], ◌∷◌, length, map, take, drop, min, max, All, IsTrue, IfNone, IfOk, IfSome};
 ghost use Rattle.std.specs.Bool.{MatchBool};
-ghost use Rattle.bs_lanes.specs.Program.{pair_gate, pair_gates, stretch_gates, program_gates, ArePairs, AreFirst, IsFirst};
+ghost use Rattle.bs_lanes.specs.Program.{pair_gate, pair_gates, same_kind, stretch_gates, program_gates, ArePairs, AreFirst, IsFirst, IsNoPair};
 ghost use Rattle.bs_lanes.specs.Layout.{place_of, placed_net, placed_gate, placed_gates, IsGateOf};
 
 use crate::pairs::Pair;
@@ -21,7 +21,8 @@ pub(crate) enum Stretch {
 
 /// Whether two kinds are the same.
 fn same_kind(one: Kind, other: Kind) -> bool
-    ensures { MatchBool result (one ≡ other) (Unit {0}) }
+    ensures same { MatchBool result (one ≡ other) (Unit {0}) }
+    ensures test { result ≡ same_kind one other }
 {
     match (one, other) {
         (Kind::And, Kind::And) => true,
@@ -45,7 +46,8 @@ pub(crate) fn place(places: &[u32], net: NetId) -> NetId
 /// A gate's inputs by their places, where there are two.
 fn two_inputs(ins: &[NetId], places: &[u32]) -> Option<Pair>
     requires { All (λ n. n.0 < length places.now) ins.now }
-    ensures { IfSome result (λ p. record { 0 = p.a } ∷ record { 0 = p.b } ∷ [] ≡ map (placed_net places.now) ins.now) }
+    ensures some { IfSome result (λ p. record { 0 = p.a } ∷ record { 0 = p.b } ∷ [] ≡ map (placed_net places.now) ins.now) }
+    ensures none { IfNone result (length ins.now ≢ 2) }
 {
     match ins {
         [a, b] => Some(Pair {
@@ -57,15 +59,19 @@ fn two_inputs(ins: &[NetId], places: &[u32]) -> Option<Pair>
 }
 
 /// The gate as a pair, where it has two inputs and this kind, and its output this place.
+#[tactic(auto, using(crate::proofs::ProgramLemmas::no_pair_by_kind, crate::proofs::ProgramLemmas::no_pair_by_place, crate::proofs::ProgramLemmas::no_pair_by_inputs))]
 fn pair_of(gate: &Gate, places: &[u32], kind: Kind, out: usize) -> Option<Pair>
     requires { IsGateOf (length places.now) gate.now }
-    ensures { IfSome result (λ p. pair_gate kind out p ≡ placed_gate places.now gate.now) }
+    ensures some { IfSome result (λ p. pair_gate kind out p ≡ placed_gate places.now gate.now) }
+    ensures none { IfNone result (IsNoPair kind out (placed_gate places.now gate.now)) }
 {
-    if same_kind(kind, gate.kind) && place(places, gate.out).0 as usize == out {
-        two_inputs(gate.ins.slice(), places)
-    } else {
-        None
+    if !same_kind(kind, gate.kind) {
+        return None;
     }
+    if place(places, gate.out).0 as usize != out {
+        return None;
+    }
+    two_inputs(gate.ins.slice(), places)
 }
 
 /// The first gates of an order that have two inputs and this kind, and outputs one behind another from a place on.

@@ -1,19 +1,11 @@
 -- Notes on words that are no job.
-use Rattle.std.specs.Prelude.{◌≡◌, ◌⊎◌, ℕ, ◌<◌, ◌+◌, List, [], ◌∷◌, ◌++◌, codes, decimal, length, map, slice_index_or, Option, Some, None, if◌then◌else◌}
+use Rattle.std.specs.Prelude.{◌≡◌, ℕ, ◌+◌, List, [], ◌++◌, codes, decimal, slice_index_or, if◌then◌else◌}
 use Rattle.std.specs.Str.{bytes_eq}
 use Rattle.bs_note_places.specs.Quotes.{shown_line}
-use Rattle.bs_note_calls.specs.declared.word.WordFault.{WordFault}
-use Rattle.bs_note_calls.specs.declared.word.WordFault.TheVariants as W
+use Rattle.bs_top_words.specs.declared.fault.WordFault.{WordFault}
+use Rattle.bs_top_words.specs.declared.fault.WordFault.TheVariants as W
+use Rattle.bs_top_words.specs.Faults.{command_of, IsWordFault}
 use Rattle.bs_note_files.specs.Notes.{pair_text, plain_text}
-
--- the fault is one of a word behind the command, which is one of so many words
-abbrev pub IsOfWords : ℕ → WordFault → Type 0
-IsOfWords count (W.Option at) = at < count
-IsOfWords count (W.Value at) = at < count
-IsOfWords count W.Absent = ⊥
-IsOfWords count W.Command = ⊥
-IsOfWords count (W.Positions given) = ⊥
-IsOfWords count W.Rest = ⊥
 
 -- a word with its number from 1, what is said of it, and how the command is used
 abbrev pub named_text : ℕ → List ℕ → List ℕ → List ℕ → List ℕ
@@ -23,21 +15,6 @@ named_text at word sentence usage =
 -- the number of words by position, and how the command is used
 abbrev pub counted_text : ℕ → List ℕ → List ℕ
 counted_text given usage = plain_text (codes "the number of words by position behind the command is " ++ decimal given) ++ plain_text usage
-
--- the first word, or none
-abbrev pub command_of : List (List ℕ) → List ℕ
-command_of words = slice_index_or words 0 []
-
--- how many words by position a command takes, if it is one
-abbrev pub taken : List ℕ → Option ℕ
-taken command =
-    if bytes_eq command (codes "run") then Some 4
-    else (if bytes_eq command (codes "audit") then Some 5
-    else (if bytes_eq command (codes "wave") then Some 5
-    else (if bytes_eq command (codes "dump") then Some 5
-    else (if bytes_eq command (codes "demo") then Some 1
-    else (if bytes_eq command (codes "reach") then Some 3
-    else None)))))
 
 -- how a command is used, or all of them
 abbrev pub usage : List ℕ → List ℕ
@@ -71,19 +48,10 @@ fault_text words (W.Value at) =
 fault_text words (W.Positions given) = counted_text given (usage (command_of words))
 fault_text words W.Rest = pair_text (rest_sentence (command_of words)) (usage (command_of words))
 
--- the fault agrees with so many words: there are none, or the first is no command, where it says so, and a word that it names is there
-abbrev pub IsWordFault : ℕ → List ℕ → WordFault → Type 0
-IsWordFault count command W.Absent = count ≡ 0
-IsWordFault count command W.Command = (0 < count) × (taken command ≡ None)
-IsWordFault count command (W.Option at) = at < count
-IsWordFault count command (W.Value at) = at < count
-IsWordFault count command (W.Positions given) = 0 < count
-IsWordFault count command W.Rest = 0 < count
-
--- the note says what is wrong with the words
+-- the note says what is wrong with the words: of several wrong words it names the first
 pub record IsWordsNote (words : List (List ℕ)) (note : List ℕ) : Type 0 where
   pub fault : WordFault
-  pub is : IsWordFault (length words) (command_of words) fault
+  pub is : IsWordFault words fault
   pub written : note ≡ fault_text words fault
 
 -- words that are no text

@@ -1,5 +1,5 @@
 -- Pieces of a note that are appended one after the other, and notes under other clauses.
-use Rattle.std.proofs.Common.{◌≡◌, ◌∙◌, ◌⊎◌, inr, ℕ, ◌+◌, List, ◌++◌, Result, Ok, Err, Vec, ap, arith, refl, subst}
+use Rattle.std.proofs.Common.{◌≡◌, ◌∙◌, inr, ℕ, ◌+◌, List, ◌++◌, Result, Ok, Err, Vec, ap, arith, refl, subst}
 use Rattle.std.proofs.lemmas.List.{append_assoc}
 use Rattle.std.specs.Prelude.{IfOk}
 use Rattle.std.specs.declared.alloc.Global.{Global}
@@ -21,8 +21,3 @@ clean_flaw path text start line form (Ok n) clean on =
     let same : start ≡ start + 0 = omega arith in
     record { at = 0; says = form; is = inr (clean, refl, refl); placed = subst (λ (k : ℕ). IsNoteOn path text k form n.items) same on }
 clean_flaw path text start line form (Err want) clean on = tt
-
--- a note that says the second says the first or the second
-pub or_else : (P Q : List ℕ → Type 0) (note : Result (Vec ℕ Global) NoMemory) → IfOk note (λ n. Q n.items) → IfOk note (λ n. P n.items ⊎ Q n.items)
-or_else P Q (Ok n) is = inr is
-or_else P Q (Err want) is = tt

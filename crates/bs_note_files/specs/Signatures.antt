@@ -1,5 +1,5 @@
 -- Notes on a text that is no signature.
-use Rattle.std.specs.Prelude.{◌≡◌, ◌≢◌, ◌⊎◌, ◌≤◌, ◌<◌, ◌+◌, ◌-◌, ℕ, List, ◌++◌, codes, length, max, take, drop, nat_eq, if◌then◌else◌}
+use Rattle.std.specs.Prelude.{◌≡◌, ◌≢◌, ◌⊎◌, ◌≤◌, ◌<◌, ◌+◌, ◌-◌, ◌==◌, ℕ, List, ◌++◌, codes, length, max, take, drop, slice_index, nat_eq, true, false, if◌then◌else◌}
 use Rattle.std.specs.List.{flat_map, starts_with}
 use Rattle.bs_net.specs.Parts.{Parts}
 use Rattle.bs_scan.specs.declared.fault.ChoiceFault.{ChoiceFault}
@@ -14,6 +14,12 @@ use Rattle.bs_note_files.specs.Sayings.{item_saying, line_saying, items_saying}
 -- no flip-flop has this key
 pub record IsNoKey (r : Parts) (name : List ℕ) : Type 0 where
   pub none : (flop : ℕ) → flop < length r.flops → key_at r flop ≢ name
+
+-- a flip-flop has this key
+pub record IsKey (r : Parts) (name : List ℕ) : Type 0 where
+  pub flop : ℕ
+  pub there : flop < length r.flops
+  pub is : key_at r flop ≡ name
 
 -- the key of a flip-flop, as it is named
 abbrev pub key_piece : Parts → ℕ → List ℕ
@@ -31,11 +37,24 @@ unknown_label r flops = codes "the nearest keys of flip-flops:" ++ flat_map (key
 abbrev pub word_in : List ℕ → (ℕ × ℕ) → List ℕ
 word_in line word = take (word.1 - word.0) (drop word.0 line)
 
--- no flip-flop has these bytes of the line as its key
-pub record IsUnknownWord (r : Parts) (line : List ℕ) (word : ℕ × ℕ) : Type 0 where
+-- The bytes of a line behind one of its spaces, up to the next one or the line's end: one of its words behind the first.
+pub record IsWord (line : List ℕ) (word : ℕ × ℕ) : Type 0 where
+  pub behind : 0 < word.0
+  pub space : (slice_index line (word.0 - 1) == 32) ≡ true
   pub from : word.0 ≤ word.1
   pub to : word.1 ≤ length line
+  pub inside : (k : ℕ) → word.0 ≤ k → k < word.1 → (slice_index line k == 32) ≡ false
+  pub ends : (word.1 ≡ length line) ⊎ ((slice_index line word.1 == 32) ≡ true)
+
+-- a word of the line that no flip-flop has as its key, and each word before it but the line's first is one's key
+pub record IsUnknownWord (r : Parts) (line : List ℕ) (word : ℕ × ℕ) : Type 0 where
+  pub is : IsWord line word
   pub unknown : IsNoKey r (word_in line word)
+  pub first : (other : ℕ × ℕ) → IsWord line other → other.0 < word.0 → IsKey r (word_in line other)
+
+-- each word of the line but its first is the key of a flip-flop
+pub record AreKeys (r : Parts) (line : List ℕ) : Type 0 where
+  pub each : (word : ℕ × ℕ) → IsWord line word → IsKey r (word_in line word)
 
 -- the note names this name as no key, and the netlist's keys that are nearest to it
 pub record SaysUnknown (r : Parts) (path text : List ℕ) (at : ℕ) (name note : List ℕ) : Type 0 where
@@ -56,8 +75,16 @@ pub record IsUnknownIn (r : Parts) (path text : List ℕ) (number : ℕ) (note :
   pub numbered : IsNumbered text (max number 1) start line
   pub named : IsUnknownOn r path text start line note
 
+-- a note on the file, where each word of the line with that number but its first is a key
+pub record IsKnownIn (r : Parts) (path text : List ℕ) (number : ℕ) (note : List ℕ) : Type 0 where
+  pub start : ℕ
+  pub line : List ℕ
+  pub numbered : IsNumbered text (max number 1) start line
+  pub keys : AreKeys r line
+  pub written : note ≡ file_text path (codes "a name is no flip-flop's key")
+
 abbrev pub IsUnknownNote : Parts → List ℕ → List ℕ → ℕ → List ℕ → Type 0
-IsUnknownNote r path text number note = IsUnknownIn r path text number note ⊎ (note ≡ file_text path (codes "a name is no flip-flop's key"))
+IsUnknownNote r path text number note = IsUnknownIn r path text number note ⊎ IsKnownIn r path text number note
 
 -- the form of a line
 abbrev pub form_saying : List ℕ → Saying

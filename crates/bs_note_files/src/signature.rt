@@ -1,13 +1,13 @@
 //! Notes on a text that is no signature.
-ghost use Rattle.std.specs.Prelude.{◌≡◌, ◌≤◌, ◌<◌, ◌-◌, ◌++◌, ◌⊎◌, All, codes, length, take, drop, IfOk, IfSome, OnOk};
-ghost use Rattle.std.specs.Bool.{OnTrue};
+ghost use Rattle.std.specs.Prelude.{◌≡◌, ◌≤◌, ◌<◌, ◌-◌, ◌++◌, ◌==◌, ◌⊎◌, ℕ, All, codes, length, take, drop, slice_index, true, false, IfNone, IfOk, IfSome, OnOk};
+ghost use Rattle.std.specs.Bool.{MatchBool};
 ghost use Rattle.std.specs.List.{flat_map};
 ghost use Rattle.bs_net.specs.Netlist.{parts_of};
 ghost use Rattle.bs_note_places.specs.Nearest.{AreNearest, IsNearest};
 ghost use Rattle.bs_note_places.specs.Quotes.{shown_line};
 ghost use Rattle.bs_note_files.specs.Flaws.{IsLineNote};
 ghost use Rattle.bs_note_files.specs.Notes.{said};
-ghost use Rattle.bs_note_files.specs.Signatures.{form_saying, IsNoKey, IsSignatureNote, IsUnknownNote, IsUnknownOn, IsUnknownWord, key_piece, SaysUnknown, unknown_label, unknown_sentence};
+ghost use Rattle.bs_note_files.specs.Signatures.{AreKeys, form_saying, IsKey, IsNoKey, IsSignatureNote, IsUnknownNote, IsUnknownOn, IsUnknownWord, key_piece, SaysUnknown, unknown_label, unknown_sentence};
 
 use crate::flaw::{flaw_note, start_note};
 use crate::form::{Message, file_note, note_on, say};
@@ -20,7 +20,7 @@ use std::alloc::Global;
 
 /// Whether no flip-flop has this key.
 fn is_unknown(raw: &Raw, name: &[u8]) -> bool
-    ensures { OnTrue result (IsNoKey (parts_of raw.now) name.now) }
+    ensures { MatchBool result (IsNoKey (parts_of raw.now) name.now) (IsKey (parts_of raw.now) name.now) }
 {
     'flops: for flop in 0..raw.flops.len() {
         if flop_key(raw, flop) == name {
@@ -35,16 +35,21 @@ fn word_end(line: &[u8], from: usize) -> usize
     requires { from ≤ length line.now }
     ensures after { from ≤ result }
     ensures within { result ≤ length line.now }
+    ensures ends { (result ≡ length line.now) ⊎ ((slice_index line.now result == 32) ≡ true) }
+    ensures inside { (k : ℕ) → from ≤ k → k < result → (slice_index line.now k == 32) ≡ false }
 {
-    match line[from..].iter().position(|byte| *byte == b' ') {
-        Some(at) => from + at,
-        None => line.len(),
+    let mut end = from;
+    'bytes: while end < line.len() && line[end] != b' ' {
+        end += 1;
     }
+    end
 }
 
 /// The first word behind the first of a line that is no flip-flop's key, from its place up to its end.
+#[tactic(auto, using(crate::proofs::SignatureLemmas::keys_start, crate::proofs::SignatureLemmas::all_keys))]
 fn unknown_name(raw: &Raw, line: &[u8]) -> Option<(usize, usize)>
-    ensures { IfSome result (IsUnknownWord (parts_of raw.now) line.now) }
+    ensures some { IfSome result (IsUnknownWord (parts_of raw.now) line.now) }
+    ensures none { IfNone result (AreKeys (parts_of raw.now) line.now) }
 {
     let mut end = word_end(line, 0);
     'words: while end < line.len() {

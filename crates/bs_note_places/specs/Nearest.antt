@@ -1,5 +1,7 @@
 -- How far two names are apart, and which keys of a netlist's flip-flops are nearest to a name.
-use Rattle.std.specs.Prelude.{◌≤◌, ◌<◌, ◌==◌, ◌-◌, ℕ, suc, List, [], ◌∷◌, length, reverse, drop, max, slice_index_or, slice_get, All, if◌then◌else◌}
+use Rattle.std.specs.Prelude.{◌≡◌, ◌⊎◌, ◌≤◌, ◌<◌, ◌==◌, ◌-◌, ℕ, suc, List, [], ◌∷◌, length, reverse, drop, max, slice_index_or, slice_get, All, if◌then◌else◌}
+use Rattle.std.specs.List.{Contains}
+use Rattle.std.specs.List.Sorted.{IsStrictlyIncreasing}
 use Rattle.std.specs.Option.{option_map, unwrap_or}
 use Rattle.bs_net.specs.declared.net.NetId.{NetId}
 use Rattle.bs_net.specs.Parts.{Parts}
@@ -40,8 +42,28 @@ pub record IsNearest (r : Parts) (name : List ℕ) (flop : ℕ) : Type 0 where
   pub there : flop < length r.flops
   pub least : IsLeast r name (flop_apart r name flop)
 
--- a few of the nearest, and at least one where there is any
+-- it is one, and each flip-flop before it is farther
+pub record IsFirstNearest (r : Parts) (name : List ℕ) (flop : ℕ) : Type 0 where
+  pub is : IsNearest r name flop
+  pub first : (other : ℕ) → other < flop → flop_apart r name flop < flop_apart r name other
+
+-- a nearest one is listed, or there are as many as are named and all of them stand before it
+abbrev pub IsListed : List ℕ → ℕ → Type 0
+IsListed flops flop = Contains flops flop ⊎ ((length flops ≡ NAMED) × All (λ other. other < flop) flops)
+
+-- the first of the nearest, in order and each once: all of them, or as many as are named; at least one where there is any flip-flop
 pub record AreNearest (r : Parts) (name : List ℕ) (flops : List ℕ) : Type 0 where
   pub few : length flops ≤ NAMED
   pub nearest : All (IsNearest r name) flops
   pub some : 0 < length r.flops → 0 < length flops
+  pub in_order : IsStrictlyIncreasing flops
+  pub all : (flop : ℕ) → IsNearest r name flop → IsListed flops flop
+
+-- the same of the flip-flops before one, of which at least one is listed
+pub record AreNearestBelow (r : Parts) (name : List ℕ) (below : ℕ) (flops : List ℕ) : Type 0 where
+  pub few : length flops ≤ NAMED
+  pub nearest : All (IsNearest r name) flops
+  pub some : 0 < length flops
+  pub in_order : IsStrictlyIncreasing flops
+  pub before : All (λ flop. flop < below) flops
+  pub all : (flop : ℕ) → flop < below → IsNearest r name flop → IsListed flops flop

@@ -1,8 +1,8 @@
 //! How far two names are apart, and the flip-flops whose keys are nearest to a name.
-ghost use Rattle.std.specs.Prelude.{◌≡◌, ◌≤◌, ◌<◌, length, reverse, IfOk, IfNone, IfSome, OnOk};
-ghost use Rattle.std.specs.Bool.{OnTrue};
+ghost use Rattle.std.specs.Prelude.{◌≡◌, ◌≤◌, ◌<◌, ◌+◌, length, reverse, IfOk, IfNone, IfSome, OnOk};
+ghost use Rattle.std.specs.Bool.{MatchBool};
 ghost use Rattle.bs_net.specs.Netlist.{parts_of};
-ghost use Rattle.bs_note_places.specs.Nearest.{apart, AreNearest, common, flop_apart, IsLeast, IsNearest, key_at, net_key};
+ghost use Rattle.bs_note_places.specs.Nearest.{apart, AreNearest, AreNearestBelow, common, flop_apart, IsFirstNearest, IsLeast, IsNearest, key_at, net_key};
 
 use bs_bits::NoMemory;
 use bs_net::{NetId, Raw};
@@ -72,7 +72,7 @@ fn flop_apart(raw: &Raw, flop: usize, name: &[u8]) -> usize
 
 /// The first flip-flop whose key is nearest to a name.
 fn nearest_flop(raw: &Raw, name: &[u8]) -> Option<usize>
-    ensures nearest { IfSome result (λ flop. IsNearest (parts_of raw.now) name.now flop) }
+    ensures nearest { IfSome result (λ flop. IsFirstNearest (parts_of raw.now) name.now flop) }
     ensures none { IfNone result (length raw.now.flops ≡ 0) }
 {
     if raw.flops.len() == 0 {
@@ -94,14 +94,16 @@ fn nearest_flop(raw: &Raw, name: &[u8]) -> Option<usize>
 fn is_like(raw: &Raw, name: &[u8], first: usize, flop: usize) -> bool
     requires first { IsNearest (parts_of raw.now) name.now first }
     requires there { flop < length raw.now.flops }
-    ensures { OnTrue result (IsNearest (parts_of raw.now) name.now flop) }
+    ensures { MatchBool result
+        (IsNearest (parts_of raw.now) name.now flop)
+        (flop_apart (parts_of raw.now) name.now first < flop_apart (parts_of raw.now) name.now flop) }
 {
     let least = flop_apart(raw, first, name);
     let far = flop_apart(raw, flop, name);
     far == least
 }
 
-/// Puts a flip-flop behind the nearest, where it is one and they are few.
+/// Puts a flip-flop behind the nearest of those before it, where it is one and they are few.
 fn add_like(
     nearest: &mut Vec<usize>,
     raw: &Raw,
@@ -111,20 +113,24 @@ fn add_like(
 ) -> Result<(), NoMemory>
     requires first { IsNearest (parts_of raw.now) name.now first }
     requires there { flop < length raw.now.flops }
-    requires nearest { AreNearest (parts_of raw.now) name.now nearest.old.items }
-    ensures { OnOk result (AreNearest (parts_of raw.now) name.now nearest.new.items) }
+    requires nearest { AreNearestBelow (parts_of raw.now) name.now flop nearest.old.items }
+    ensures { OnOk result (AreNearestBelow (parts_of raw.now) name.now (flop + 1) nearest.new.items) }
 {
-    if nearest.len() >= NAMED || !is_like(raw, name, first, flop) {
+    if nearest.len() >= NAMED {
+        return Ok(());
+    }
+    if !is_like(raw, name, first, flop) {
         return Ok(());
     }
     nearest.push(flop)?;
     Ok(())
 }
 
-/// The flip-flops whose keys are as far from a name as that of a nearest one, the first `NAMED` of them in scan order.
+/// The flip-flops whose keys are as far from a name as that of the first nearest one, the first `NAMED` of them in scan order.
+#[tactic(auto, using(crate::proofs::NearestLemmas::below_start))]
 fn flops_like(alloc: Global, raw: &Raw, name: &[u8], first: usize) -> Result<Vec<usize>, NoMemory>
-    requires { IsNearest (parts_of raw.now) name.now first }
-    ensures { IfOk result (λ flops. AreNearest (parts_of raw.now) name.now flops.items) }
+    requires { IsFirstNearest (parts_of raw.now) name.now first }
+    ensures { IfOk result (λ flops. AreNearestBelow (parts_of raw.now) name.now (length raw.now.flops) flops.items) }
 {
     let mut nearest = vec![in alloc; first]?;
     'flops: for flop in first + 1..raw.flops.len() {
@@ -134,11 +140,15 @@ fn flops_like(alloc: Global, raw: &Raw, name: &[u8], first: usize) -> Result<Vec
 }
 
 /// The flip-flops whose keys are nearest to a name, at most `NAMED` of them in scan order.
+#[tactic(auto, using(crate::proofs::NearestLemmas::none_nearest))]
 pub fn nearest_flops(alloc: Global, raw: &Raw, name: &[u8]) -> Result<Vec<usize>, NoMemory>
     ensures { IfOk result (λ flops. AreNearest (parts_of raw.now) name.now flops.items) }
 {
     match nearest_flop(raw, name) {
-        Some(first) => flops_like(alloc, raw, name, first),
+        Some(first) => {
+            let flops = flops_like(alloc, raw, name, first)?;
+            Ok(flops)
+        }
         None => Ok(Vec::new(alloc)),
     }
 }

@@ -5,3 +5,4 @@ pub mod SpellingLemmas
 pub mod JobLemmas
 pub mod SettingLemmas
 pub mod ValueLemmas
+pub mod FaultLemmas

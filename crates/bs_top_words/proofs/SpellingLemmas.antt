@@ -70,7 +70,7 @@ great Steps = omega arith
 great Candidates = omega arith
 great Conflicts = omega arith
 
-value_is : (kind : Kind) (word : List ℕ) (n : ℕ) → value_in kind word ≡ Some n → (word ≡ decimal n) × IsBudget kind n
+pub value_is : (kind : Kind) (word : List ℕ) (n : ℕ) → value_in kind word ≡ Some n → (word ≡ decimal n) × IsBudget kind n
 value_is kind word n e = let is = between_is 1 (greatest kind) word n e in (sym is.0, (is.1, is.2))
 
 value_again : (kind : Kind) (n : ℕ) → IsBudget kind n → value_in kind (decimal n) ≡ Some n
@@ -160,7 +160,7 @@ record Joins (l : Line) (word : List ℕ) (new : Line) : Type 0 where
   spelled : word ≡ kind_name kind ++ (codes "=" ++ digits)
   sets : Sets l kind digits new
 
-behind_is : (kind : Kind) (word rest : List ℕ) → behind kind word ≡ Some rest → word ≡ kind_name kind ++ (codes "=" ++ rest)
+pub behind_is : (kind : Kind) (word rest : List ℕ) → behind kind word ≡ Some rest → word ≡ kind_name kind ++ (codes "=" ++ rest)
 behind_is kind word rest e = by (rest_of (kind_name kind) word) refl e
   where
     by : (o : Option (List ℕ)) → rest_of (kind_name kind) word ≡ o → option_and_then (rest_of (codes "=")) o ≡ Some rest →

@@ -7,3 +7,4 @@ pub mod Spelling
 pub mod Shown
 pub mod Request
 pub mod Asked
+pub mod Faults

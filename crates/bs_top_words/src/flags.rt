@@ -25,7 +25,7 @@ pub enum Flag {
 }
 
 /// The name of a budget.
-fn kind_name(kind: Kind) -> &'static str
+pub fn kind_name(kind: Kind) -> &'static str
     ensures { result.now ≡ kind_name kind }
 {
     match kind {

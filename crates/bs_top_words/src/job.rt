@@ -211,7 +211,7 @@ fn reach_job<'a>(line: &Line<'a>) -> Option<Job<'a>>
 }
 
 /// Whether a command takes options.
-fn has_budget(command: &str) -> bool
+pub fn has_budget(command: &str) -> bool
     ensures { result ≡ has_budget command.now }
 {
     command == "run" || command == "reach"

@@ -13,4 +13,4 @@ gates-preserved c =
     let is : gate ≡ get_or c.args.gates.now number no_gate = get_or_read c.args.gates.now number gate lt c.index-gates-order.is no_gate in
     rw c.in_ok-push-in-Some.ensures.ok
     (one_more_pair c.args.places.now c.args.order.now c.args.gates.now c.args.kind c.args.start c.gates.pairs c.in-Some.pair c.gates.i c.gates-test.true
-    (c.in-Some.ensures ∙ ap (placed_gate c.args.places.now) is) c.gates.invariant.count c.gates.invariant.so_far)
+    (c.in-Some.ensures.some ∙ ap (placed_gate c.args.places.now) is) c.gates.invariant.count c.gates.invariant.so_far)

@@ -1,8 +1,14 @@
 use Rattle.std.proofs.Common.{◌≤◌, ◌-◌, length}
+use Rattle.bs_net.specs.Netlist.{parts_of}
+use Rattle.bs_note_files.proofs.SignatureLemmas.{AreKeysTo, IsEnd}
 use Rattle.bs_note_files.proofs.signature.unknown_name.Given as goal
 
 abbrev pub decreases-words : goal.decreases-words
 decreases-words l = length l.line - l.end
 
 abbrev pub invariant-words : goal.invariant-words
-invariant-words l = l.end ≤ length l.line
+invariant-words l = record {
+  within : l.end ≤ length l.line;
+  ends : IsEnd l.line l.end;
+  keys : AreKeysTo (parts_of l.raw) l.line l.end;
+}

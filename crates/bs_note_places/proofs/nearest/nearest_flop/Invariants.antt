@@ -8,4 +8,6 @@ invariant-flops l = record {
   there : l.nearest < length l.raw.flops;
   least : l.least ≡ flop_apart (parts_of l.raw) l.name l.nearest;
   lowest : (flop : ℕ) → flop < l.flop → l.least ≤ flop_apart (parts_of l.raw) l.name flop;
+  first : (flop : ℕ) → flop < l.nearest → l.least < flop_apart (parts_of l.raw) l.name flop;
+  seen : l.nearest < l.flop;
 }
