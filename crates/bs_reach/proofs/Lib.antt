@@ -3,3 +3,5 @@ pub mod ReachLemmas
 pub mod ReadLemmas
 pub mod TextLemmas
 pub mod CallerLemmas
+pub mod WidenedLemmas
+pub mod WiderLemmas

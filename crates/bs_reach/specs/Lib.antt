@@ -6,3 +6,4 @@ pub mod Search
 pub mod Ends
 pub mod Told
 pub mod Sought
+pub mod Wider

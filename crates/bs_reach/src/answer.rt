@@ -1,4 +1,4 @@
-//! The answer whether a state is reached from reset in a bounded number of cycles.
+//! Answers: of a search over so many copies, and those that want no search.
 ghost use Rattle.std.specs.Prelude.{◌≡◌, ◌≢◌, ◌*◌, ◌≤◌, [], length, IfOk};
 ghost use Rattle.bs_net.specs.Circuit.{reset_state};
 ghost use Rattle.bs_net.specs.Netlist.{circuit};
@@ -36,7 +36,13 @@ fn solver_of(alloc: Global, encoding: &Encoding, reset: &Bits, k: u32) -> Result
 }
 
 /// The answer where the state is the one at reset.
-fn at_reset(alloc: Global, net: &Netlist, state: &Bits, k: u64, b: u64) -> Result<Reach, NoMemory>
+pub(crate) fn at_reset(
+    alloc: Global,
+    net: &Netlist,
+    state: &Bits,
+    k: u64,
+    b: u64,
+) -> Result<Reach, NoMemory>
     requires { reset_state (circuit net.now) ≡ state.now }
     ensures { IfOk result (IsReach (circuit net.now) state.now k b) }
 {
@@ -53,7 +59,7 @@ fn at_reset(alloc: Global, net: &Netlist, state: &Bits, k: u64, b: u64) -> Resul
 }
 
 /// The answer where no cycle is asked for and the state is another one than at reset.
-fn never(alloc: Global, net: &Netlist, state: &Bits, b: u64) -> Reach
+pub(crate) fn never(alloc: Global, net: &Netlist, state: &Bits, b: u64) -> Reach
     requires { reset_state (circuit net.now) ≢ state.now }
     ensures { IsReach (circuit net.now) state.now 0 b result }
 {
@@ -123,7 +129,7 @@ fn seek(
 }
 
 /// The answer by the clauses of one cycle, for a bound of one cycle or more, where the state is another one than at reset.
-fn look_over(
+pub(crate) fn look_over(
     alloc: Global,
     net: &Netlist,
     encoding: &Encoding,
@@ -144,48 +150,4 @@ fn look_over(
     netlists_unroll(net, k);
     let reach = seek(alloc, encoding, net.reset(), state, k, b)?;
     Ok(reach)
-}
-
-/// Lets the clauses of a cycle go.
-fn let_go(_encoding: Encoding) {}
-
-/// The answer for a bound of one cycle or more, where the state is another one than at reset.
-fn look(alloc: Global, net: &Netlist, state: &Bits, k: u32, b: u64) -> Result<Reach, NoMemory>
-    requires width { length state.now ≡ length (circuit net.now).flops }
-    requires some { 1 ≤ k }
-    requires cycles { k ≤ MAX_COPIES }
-    requires room { k * variables (circuit net.now) [] ≤ MAX_COPY_VARIABLES }
-    requires limit { 1 ≤ b }
-    requires other { reset_state (circuit net.now) ≢ state.now }
-    ensures { IfOk result (IsReach (circuit net.now) state.now k b) }
-{
-    let encoding = Encoding::plain(alloc, net)?;
-    let reach = look_over(alloc, net, &encoding, state, k, b);
-    let_go(encoding);
-    reach
-}
-
-/// Whether the state is reached from reset in at most `k` cycles, under any inputs: an execution of as few cycles as there
-/// are, a log that refutes each length up to `k`, or the length whose solve logged `b` lemmas without an end. The state has a
-/// bit for each flip-flop, and `k` times `size` is at most `MAX_COPY_VARIABLES`.
-pub fn bounded(
-    alloc: Global,
-    net: &Netlist,
-    state: &Bits,
-    k: u64,
-    b: u64,
-) -> Result<Reach, NoMemory>
-    requires width { length state.now ≡ length (circuit net.now).flops }
-    requires cycles { k ≤ MAX_COPIES }
-    requires room { k * variables (circuit net.now) [] ≤ MAX_COPY_VARIABLES }
-    requires limit { 1 ≤ b }
-    ensures { IfOk result (IsReach (circuit net.now) state.now k b) }
-{
-    if net.reset().equals(state) {
-        return at_reset(alloc, net, state, k, b);
-    }
-    if k == 0 {
-        return Ok(never(alloc, net, state, b));
-    }
-    look(alloc, net, state, k as u32, b)
 }

@@ -1,19 +1,22 @@
 //! Whether a state is reached from reset in a bounded number of cycles.
 //!
-//! Modules: `answer` (`bounded`), `count` (`size`), `search` (one length after another, over one solver), `length` (a
+//! Modules: `bound` (`bounded`), `wider` (few copies first), `answer` (a search over so many
+//! copies), `count` (`size`), `search` (one length after another, over one solver), `length` (a
 //! step of the log), `telling` (the states and inputs of an assignment), `reach` (`Reach`,
 //! `Outcome`), `text`. Used above: `IsReach` of `bounded`, and `reach_text` of `Reach::text`. A
 //! right answer: `specs/Reach`; how a length is tried: `length`; a line of the text: `specs/Text`.
 #![tactic(auto)]
 
 mod answer;
+mod bound;
 mod count;
 mod length;
 mod reach;
 mod search;
 mod telling;
 mod text;
+mod wider;
 
-pub use answer::bounded;
+pub use bound::bounded;
 pub use count::size;
 pub use reach::{Outcome, Reach};

@@ -1,0 +1,60 @@
+//! The answer whether a state is reached from reset in a bounded number of cycles.
+ghost use Rattle.std.specs.Prelude.{◌≡◌, ◌≢◌, ◌*◌, ◌≤◌, [], length, IfOk};
+ghost use Rattle.bs_net.specs.Circuit.{reset_state};
+ghost use Rattle.bs_net.specs.Netlist.{circuit};
+ghost use Rattle.bs_encode.specs.Transition.{variables};
+ghost use Rattle.bs_reach_unrolled.specs.declared.limits.TheConstants.{MAX_COPIES, MAX_COPY_VARIABLES};
+ghost use Rattle.bs_reach.specs.Reach.{IsReach};
+
+use crate::answer::{at_reset, never};
+use crate::reach::Reach;
+use crate::wider::look_wider;
+use bs_bits::Bits;
+use bs_clause::NoMemory;
+use bs_encode::Encoding;
+use bs_net::Netlist;
+use std::alloc::Global;
+
+/// Lets the clauses of a cycle go.
+fn let_go(_encoding: Encoding) {}
+
+/// The answer for a bound of one cycle or more, where the state is another one than at reset.
+fn look(alloc: Global, net: &Netlist, state: &Bits, k: u32, b: u64) -> Result<Reach, NoMemory>
+    requires width { length state.now ≡ length (circuit net.now).flops }
+    requires some { 1 ≤ k }
+    requires cycles { k ≤ MAX_COPIES }
+    requires room { k * variables (circuit net.now) [] ≤ MAX_COPY_VARIABLES }
+    requires limit { 1 ≤ b }
+    requires other { reset_state (circuit net.now) ≢ state.now }
+    ensures { IfOk result (IsReach (circuit net.now) state.now k b) }
+{
+    let encoding = Encoding::plain(alloc, net)?;
+    let reach = look_wider(alloc, net, &encoding, state, k, b);
+    let_go(encoding);
+    reach
+}
+
+/// Whether the state is reached from reset in at most `k` cycles, under any inputs: an execution of as few cycles as there
+/// are, a log that refutes each length up to `k`, or the length whose solve logged `b` lemmas without an end. The state has a
+/// bit for each flip-flop, and `k` times `size` is at most `MAX_COPY_VARIABLES`.
+pub fn bounded(
+    alloc: Global,
+    net: &Netlist,
+    state: &Bits,
+    k: u64,
+    b: u64,
+) -> Result<Reach, NoMemory>
+    requires width { length state.now ≡ length (circuit net.now).flops }
+    requires cycles { k ≤ MAX_COPIES }
+    requires room { k * variables (circuit net.now) [] ≤ MAX_COPY_VARIABLES }
+    requires limit { 1 ≤ b }
+    ensures { IfOk result (IsReach (circuit net.now) state.now k b) }
+{
+    if net.reset().equals(state) {
+        return at_reset(alloc, net, state, k, b);
+    }
+    if k == 0 {
+        return Ok(never(alloc, net, state, b));
+    }
+    look(alloc, net, state, k as u32, b)
+}

@@ -1,0 +1,11 @@
+pub mod ShiftLemmas
+pub mod PropagationLemmas
+pub mod ResolventLemmas
+pub mod EntryLemmas
+pub mod AxiomLemmas
+pub mod StateLemmas
+pub mod RefusalLemmas
+pub mod StepLemmas
+pub mod LeanLemmas
+pub mod RoomLemmas
+pub mod LogLemmas
