@@ -39,7 +39,7 @@ fn copied(alloc: Global, clauses: &Clauses) -> Result<Clauses, NoMemory>
 }
 
 /// A solver over the clauses of an encoding.
-fn solver_of(alloc: Global, encoding: &Encoding) -> Result<Solver, NoMemory>
+pub(crate) fn solver_of(alloc: Global, encoding: &Encoding) -> Result<Solver, NoMemory>
     requires range { All (HasVariables encoding.now.variables) encoding.now.clauses }
     requires distinct { All (λ c. has_distinct_variables c ≡ true) encoding.now.clauses }
     requires vars { encoding.now.variables < VARIABLE_LIMIT }
