@@ -87,6 +87,21 @@ impl<'a> Player<'a> {
         self.sim.load(self.net.reset());
     }
 
+    /// The netlist.
+    pub fn net(&self) -> &'a Netlist
+        ensures { circuit result.now ≡ self.now.circuit }
+    {
+        self.net
+    }
+
+    /// The runs.
+    pub fn runs(&self) -> &'a Runs
+        ensures inputs { inputs_of result.now ≡ self.now.runs }
+        ensures width { result.now.width ≡ length self.now.circuit.inputs }
+    {
+        self.runs
+    }
+
     /// The number of runs.
     pub fn count(&self) -> u32
         ensures { result ≡ length self.now.runs }
