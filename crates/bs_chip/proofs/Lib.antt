@@ -7,3 +7,4 @@ pub mod InputLemmas
 pub mod StepLemmas
 pub mod TrackLemmas
 pub mod IndexLemmas
+pub mod SignLemmas

@@ -168,11 +168,12 @@ filled_all c choice run first cycle k r e same f =
 -- ---- a chip
 
 -- a new chip stands at reset and keeps that cycle
-pub new_chip : (made : Recording) (p : Passing) (track : List (List ℕ)) (index : Index) → IsRecording made → p.circuit ≡ made.circuit →
-    p.runs ≡ made.runs → TrackShows made.circuit made.runs track → index.cycles ≡ 0 → IsChip made p track index
-new_chip made p track index recording e f shows none =
+pub new_chip : (made : Recording) (choice : Chosen) (p : Passing) (track : List (List ℕ)) (index : Index) → IsRecording made → choice ≡ made.choice →
+    p.circuit ≡ made.circuit → p.runs ≡ made.runs → TrackShows made.circuit made.runs track → index.cycles ≡ 0 → IsChip made choice p track index
+new_chip made choice p track index recording is e f shows none =
     record {
       recording = recording;
+      choice_is = is;
       circuit = e;
       runs = f;
       shows = shows;

@@ -1,13 +1,16 @@
 -- What a chip keeps.
 use Rattle.std.specs.Prelude.{◌≡◌, ℕ, List}
+use Rattle.bs_scan.specs.Choice.{Chosen}
 use Rattle.bs_scan.specs.Crash.{Recording, IsRecording}
 use Rattle.bs_chip.specs.declared.index.Index.{Index}
 use Rattle.bs_chip.specs.Index.{NotesCycles}
 use Rattle.bs_chip.specs.Lockstep.{Passing, TrackShows}
 
--- a recording, a pass over its runs, the planes of the first cycles, and an index of the states at some of them
-pub record IsChip (r : Recording) (p : Passing) (track : List (List ℕ)) (index : Index) : Type 0 where
+-- a recording, what its signature is taken of, a pass over its runs, the planes of the first cycles, and an index of the states at
+-- some of them
+pub record IsChip (r : Recording) (choice : Chosen) (p : Passing) (track : List (List ℕ)) (index : Index) : Type 0 where
   pub recording : IsRecording r
+  pub choice_is : choice ≡ r.choice
   pub circuit : p.circuit ≡ r.circuit
   pub runs : p.runs ≡ r.runs
   pub shows : TrackShows r.circuit r.runs track

@@ -1,5 +1,6 @@
 -- what public contracts rest on
 pub mod Stepped
+pub mod Signs
 -- what inner functions promise each other
 pub mod Replay
 pub mod Live

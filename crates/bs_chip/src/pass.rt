@@ -90,6 +90,13 @@ impl<'a> Pass<'a> {
         longest(self.runs)
     }
 
+    /// The cycle.
+    pub fn cycle(&self) -> u32
+        ensures { result ≡ self.now.cycle }
+    {
+        self.at
+    }
+
     /// The planes of the flip-flops.
     pub fn planes(&self) -> &[u64]
         ensures { ShowsCycle self.now.circuit self.now.runs result.now self.now.cycle }

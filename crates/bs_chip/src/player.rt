@@ -2,6 +2,7 @@
 ghost use Rattle.std.specs.Prelude.{◌≡◌, ◌≤◌, ◌+◌, ◌-◌, ◌*◌, [], length, slice_index_or, IfOk};
 ghost use Rattle.bs_net.specs.Circuit.{reset_state};
 ghost use Rattle.bs_net.specs.Netlist.{circuit};
+ghost use Rattle.bs_stim.specs.declared.limits.TheConstants.{MAX_CYCLES};
 ghost use Rattle.bs_stim.specs.Runs.{inputs_of};
 ghost use Rattle.bs_scan.specs.Crash.{IsRecording, recording_of};
 ghost use Rattle.bs_scan.specs.Moments.{IsMoment, moment, run_of, state_of};
@@ -10,6 +11,7 @@ ghost use Rattle.bs_chip.specs.Lockstep.{wide_of};
 ghost use Rattle.bs_chip.specs.Replay.{Played, in_state};
 
 use crate::lanes::{read_lane, wide_for};
+use crate::live::cycles_of;
 use bs_bits::{Bits, NoMemory};
 use bs_net::Netlist;
 use bs_scan::Moment;
@@ -83,6 +85,38 @@ impl<'a> Player<'a> {
         ensures { self.new ≡ in_state self.old (reset_state self.old.circuit) }
     {
         self.sim.load(self.net.reset());
+    }
+
+    /// The netlist.
+    pub fn net(&self) -> &'a Netlist
+        ensures { circuit result.now ≡ self.now.circuit }
+    {
+        self.net
+    }
+
+    /// The runs.
+    pub fn runs(&self) -> &'a Runs
+        ensures inputs { inputs_of result.now ≡ self.now.runs }
+        ensures width { result.now.width ≡ length self.now.circuit.inputs }
+    {
+        self.runs
+    }
+
+    /// The number of runs.
+    pub fn count(&self) -> u32
+        ensures { result ≡ length self.now.runs }
+    {
+        self.runs.count()
+    }
+
+    /// How many cycles a run has. Runs are numbered from 1.
+    pub fn cycles(&self, run: u32) -> u32
+        requires from_one { 1 ≤ run }
+        requires there { run ≤ length self.now.runs }
+        ensures count { result ≡ length (run_of self.now.runs run) }
+        ensures few { result ≤ MAX_CYCLES }
+    {
+        cycles_of(self.runs, run)
     }
 
     /// How many bits a state has.

@@ -12,6 +12,7 @@ use crate::index::{Index, grow, start};
 use crate::moments::{replay, unload};
 use crate::pass::Pass;
 use crate::player::Player;
+use crate::signs::Signs;
 use crate::track::{at_reset, first_moment, recall};
 use bs_bits::{Bits, List, NoMemory};
 use bs_break::Bank;
@@ -40,6 +41,7 @@ pub const MAX_TRACK_BYTES: usize = 536_870_912;
 #[derive(Drop)]
 pub struct Chip<'a> {
     player: Player<'a>,
+    choice: &'a Choice,
     register: SigReg<'a>,
     pass: Pass<'a>,
     track: List<List<u64>>,
@@ -56,7 +58,7 @@ impl<'a> Model for Chip<'a> {
 
     ghost view = { λ chip. record { recording = record { circuit = chip.player.circuit; choice = chip.register.choice; runs = chip.player.runs }; at = chip.pass.cycle } };
 
-    ghost invariant = { λ chip. IsChip (record { circuit = chip.player.circuit; choice = chip.register.choice; runs = chip.player.runs }) chip.pass chip.track chip.index };
+    ghost invariant = { λ chip. IsChip (record { circuit = chip.player.circuit; choice = chip.register.choice; runs = chip.player.runs }) chip.choice.now chip.pass chip.track chip.index };
 }
 
 /// Brings a player and a register to a moment: out of the track, or else by a replay of the run from reset.
@@ -146,6 +148,7 @@ impl<'a> Chip<'a> {
         let most = cycles_within(bytes, started.pass.planes().len());
         Ok(Chip {
             player,
+            choice,
             register,
             pass: started.pass,
             track: started.track,
@@ -231,6 +234,14 @@ impl<'a> Chip<'a> {
             self.most,
             from,
         )
+    }
+
+    /// The signatures of the recorded states.
+    pub fn signs(&self, alloc: Global) -> Result<Signs<'a>, NoMemory>
+        ensures { IfOk result (λ signs. signs ≡ self.now.recording) }
+    {
+        let _state = self.player.state();
+        Signs::new(alloc, self.player.net(), self.choice, self.player.runs())
     }
 
     /// The chip's lanes. Each run that lasts to the cycle at which they stand is in its state there: after a `first` that

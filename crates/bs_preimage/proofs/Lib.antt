@@ -6,3 +6,4 @@ pub mod StepLinesLemmas
 pub mod ListedLemmas
 pub mod SeenLemmas
 pub mod SeekLemmas
+pub mod ProbeLemmas

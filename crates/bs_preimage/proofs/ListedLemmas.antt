@@ -96,11 +96,11 @@ pub record Sought : Type 0 where
 
 -- ---- the problem and the lines
 
-finished_problem : (b : Book) (end : Option ℕ) → (finished b end).problem ≡ b.problem
+pub finished_problem : (b : Book) (end : Option ℕ) → (finished b end).problem ≡ b.problem
 finished_problem b None = refl
 finished_problem b (Some id) = refl
 
-finished_history : (b : Book) (end : Option ℕ) → (finished b end).history ≡ finish_lines end ++ b.history
+pub finished_history : (b : Book) (end : Option ℕ) → (finished b end).history ≡ finish_lines end ++ b.history
 finished_history b None = refl
 finished_history b (Some id) = refl
 
@@ -192,7 +192,7 @@ rests t =
 
 -- ---- the candidates
 
-one_stored : (s : List Bool) (ts : List (List Bool)) → 0 < length (s ∷ ts)
+pub one_stored : (s : List Bool) (ts : List (List Bool)) → 0 < length (s ∷ ts)
 one_stored s ts = omega arith
 
 both_wide : (t : Sought) → All (λ u. length u ≡ length t.choice.items) (t.stored ∷ option_to_list t.older)
@@ -234,7 +234,7 @@ candidate_of t cand shown =
 
 -- ---- the states before the candidates
 
-named_right : (c : Circuit) (choice : Chosen) (older s u y : List Bool) → IsBefore c choice older s u y →
+pub named_right : (c : Circuit) (choice : Chosen) (older s u y : List Bool) → IsBefore c choice older s u y →
     is_right_before c choice (Some older) s (Some (record { state = u; input = y })) ≡ true
 named_right c choice older s u y h =
     and_from _ _
@@ -242,7 +242,7 @@ named_right c choice older s u y h =
     (ap (λ (t : List Bool). bits_eq t older) h.signature ∙ bits_same older))
     (ap (λ (t : List Bool). bits_eq t s) h.next ∙ bits_same s)
 
-right_before : (c : Circuit) (choice : Chosen) (older : Option (List Bool)) (q : Present) (s x u y : List Bool) (joined : Bool) → IsDepth (depth_of choice) →
+pub right_before : (c : Circuit) (choice : Chosen) (older : Option (List Bool)) (q : Present) (s x u y : List Bool) (joined : Bool) → IsDepth (depth_of choice) →
     (depth_of choice ≡ 1 → older ≡ None) → slice_get q.stored 1 ≡ older → IsPredecessor c choice q s x u y joined →
     is_right_before c choice older s (cond joined (Some (record { state = u; input = y })) None) ≡ true
 right_before c choice None q s x u y joined (inl one) alone held p =
@@ -258,7 +258,7 @@ right_before c choice (Some older) q s x u y joined (inr two) alone held p =
     ap (λ (b : Bool). is_right_before c choice (Some older) s (cond b (Some (record { state = u; input = y })) None)) later.0
     ∙ named_right c choice older s u y later.1
 
-second_held : (stored : List Bool) (older : Option (List Bool)) → slice_get (stored ∷ option_to_list older) 1 ≡ older
+pub second_held : (stored : List Bool) (older : Option (List Bool)) → slice_get (stored ∷ option_to_list older) 1 ≡ older
 second_held stored None = refl
 second_held stored (Some older) = refl
 

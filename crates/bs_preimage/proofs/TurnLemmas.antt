@@ -146,7 +146,7 @@ both_false : (a b : Bool) → a ≡ false → b ≡ false → (a || b) ≡ false
 both_false a b e f = ap (λ (z : Bool). z || b) e ∙ f
 
 -- a state that is shown where the guard is true is not blocked
-shown_is_open : (value : ℕ → Bool) (e : Encoded) (guard : Literal) (s t : List Bool) → literal_value value guard ≡ true → s ≡ bits_on value e.states →
+pub shown_is_open : (value : ℕ → Bool) (e : Encoded) (guard : Literal) (s t : List Bool) → literal_value value guard ≡ true → s ≡ bits_on value e.states →
     Satisfies value (negation guard ∷ block_for e t) → s ≢ t
 shown_is_open value e guard s t g shows meets same =
     let is_false : list_any (literal_value value) (negation guard ∷ block_for e t) ≡ false =

@@ -7,3 +7,4 @@ pub mod Turn
 pub mod Finding
 pub mod Step
 pub mod Order
+pub mod Probe

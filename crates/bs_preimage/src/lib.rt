@@ -2,7 +2,7 @@
 //!
 //! Modules: `candidate` (the state and input that an assignment shows), `turn` (one solve, and what
 //! comes of it), `finding` (turns until the list ends), `order`, `step` (begin, search and end of a
-//! step), `preimage` (`Preimage`). Used above: `HasListed` of `Preimage::list`, what a list is and
+//! step), `preimage` (`Preimage`), `probe` (`Probe`, a private search about one state). Used above: `HasListed` of `Preimage::list`, what a list is and
 //! what it adds to the log; and `into_log`, whose log is accepted. How a list ends: `specs/Finding`
 //! and `finding`. What stays between two lists: `specs/Rest`.
 #![tactic(auto)]
@@ -12,8 +12,10 @@ mod finding;
 mod listing;
 mod order;
 mod preimage;
+mod probe;
 mod step;
 mod turn;
 
 pub use listing::Listing;
 pub use preimage::Preimage;
+pub use probe::{MAX_PROBES, Probe, Probed};

@@ -15,6 +15,7 @@ ghost use Rattle.bs_preimage.specs.Rest.{made};
 ghost use Rattle.bs_preimage.specs.Listed.{HasListed, IsRightCand};
 
 use crate::listing::Listing;
+use crate::probe::Probe;
 use crate::step::{Question, list_step};
 use bs_bits::{Bits, NoMemory};
 use bs_clause::{Clauses, Lits};
@@ -39,7 +40,7 @@ fn copied(alloc: Global, clauses: &Clauses) -> Result<Clauses, NoMemory>
 }
 
 /// A solver over the clauses of an encoding.
-fn solver_of(alloc: Global, encoding: &Encoding) -> Result<Solver, NoMemory>
+pub(crate) fn solver_of(alloc: Global, encoding: &Encoding) -> Result<Solver, NoMemory>
     requires range { All (HasVariables encoding.now.variables) encoding.now.clauses }
     requires distinct { All (λ c. has_distinct_variables c ≡ true) encoding.now.clauses }
     requires vars { encoding.now.variables < VARIABLE_LIMIT }
@@ -166,6 +167,13 @@ impl<'a> Preimage<'a> {
         )?;
         self.failed = false;
         Ok(listing)
+    }
+
+    /// What answers about single states of the same netlist, by the same signature.
+    pub fn probe(&self, alloc: Global) -> Result<Probe<'a>, NoMemory>
+        ensures { IfOk result (λ p. p ≡ record { circuit = self.now.circuit; choice = self.now.choice }) }
+    {
+        Probe::new(alloc, self.net, self.choice)
     }
 
     /// How many lists were asked for.

@@ -27,7 +27,7 @@ pub(crate) enum TurnEnd {
 }
 
 /// Solves once. The state of a candidate that is found is blocked.
-fn take_turn(
+pub(crate) fn take_turn(
     alloc: Global,
     encoding: &Encoding,
     solver: &mut Solver,

@@ -17,9 +17,10 @@ invariant_of-result c =
     let choices : here.choice ≡ made.choice = ap (λ (r : Register). r.choice) c.in_ok-register.ensures in
     let runs : p.runs ≡ made.runs = ap (λ (p : Played). p.runs) c.in_ok-player.ensures in
     let same : here ≡ made = (λ i. record { circuit = circuits i; choice = choices i; runs = runs i }) in
-    new_chip here c.in_ok-started.started.pass c.in_ok-started.started.track c.new-3.result
+    new_chip here c.args.choice.now c.in_ok-started.started.pass c.in_ok-started.started.track c.new-3.result
     (subst IsRecording (sym same)
     (recording_is net.raw c.args.choice.now c.args.runs.now c.order-order.ensures.checked c.depth-depth.ensures.sound.kept
     c.count-count.ensures.sound c.requires.states c.requires.inputs))
+    (sym choices)
     (ap (λ (p : Passing). p.circuit) c.in_ok-started.ensures.pass ∙ sym circuits) (ap (λ (p : Passing). p.runs) c.in_ok-started.ensures.pass ∙ sym runs)
     (subst (λ (r : Recording). TrackShows r.circuit r.runs c.in_ok-started.started.track) (sym same) c.in_ok-started.ensures.track) c.new-3.ensures

@@ -1,0 +1,15 @@
+use Rattle.std.proofs.Common.{ℕ, List, length, subst}
+use Rattle.std.specs.Prelude.{MatchOption}
+use Rattle.bs_chip.specs.Signs.{NoneSigned, IsNextSigned}
+use Rattle.bs_chip.proofs.SignLemmas.{alike_found}
+use Rattle.bs_chip.proofs.signs.Signs.next_alike.Goals as goal
+
+pub returns-clause-alike : goal.returns-clause-alike
+returns-clause-alike c =
+    let q = c.reach.new.player in
+    alike_found c.args.self.now c.self.inside.player q c.self.inside.register.choice c.reach.new.signs c.reach.new.pass c.get.result.now
+    c.args.stored.now c.args.cycle c.print_of.result c.args.from c.next_signed-next.result c.self.view_is c.in_ok-reach.ensures.same
+    c.in_ok-reach.ensures.signed c.in_ok-reach.ensures.there c.get.ensures.lookup c.print_of.ensures
+    (subst (λ (row : List ℕ). MatchOption c.next_signed-next.result
+    (NoneSigned q.runs row c.args.cycle c.print_of.result c.args.from (length q.runs))
+    (IsNextSigned q.runs row c.args.cycle c.print_of.result c.args.from)) c.slice-signs.ensures c.next_signed-next.ensures)

@@ -1,0 +1,95 @@
+-- A private search: whether one state is a predecessor.
+use Rattle.std.specs.Prelude.{◌≡◌, ℕ, ◌+◌, false, List, [], ◌∷◌, ◌++◌, length, Bool, Option, Some, None}
+use Rattle.std.specs.Option.{option_to_list}
+use Rattle.bs_clause.specs.Literal.{Literal, Clause}
+use Rattle.bs_log.specs.History.{step_of}
+use Rattle.bs_log.specs.Refutation.{blocks_of}
+use Rattle.bs_net.specs.Circuit.{Circuit}
+use Rattle.bs_scan.specs.Choice.{Chosen, depth_of}
+use Rattle.bs_scan.specs.Moments.{is_listed}
+use Rattle.bs_scan.specs.Present.{Present}
+use Rattle.bs_scan.specs.Signature.{predecessors}
+use Rattle.bs_encode.specs.Encoded.{Encoded}
+use Rattle.bs_encode.specs.Depth.{encoding_by}
+use Rattle.bs_encode.specs.Assuming.{signed, assumptions_for, asking}
+use Rattle.bs_report.specs.declared.report.Cand.{Cand}
+use Rattle.bs_solve_recording.specs.declared.stage.Stage.TheVariants.{Idle}
+use Rattle.bs_solve_recording.specs.Book.{Book}
+use Rattle.bs_solve_recording.specs.Solver.{SolverState, HasEnded}
+use Rattle.bs_preimage.specs.declared.probe.Probed.{Probed}
+use Rattle.bs_preimage.specs.declared.probe.Probed.TheVariants.{Predecessor, NoPredecessor, Unknown}
+use Rattle.bs_preimage.specs.declared.turn.TurnEnd.{TurnEnd}
+use Rattle.bs_preimage.specs.declared.turn.TurnEnd.TheVariants.{Listed, Refuted, Spent}
+use Rattle.bs_preimage.specs.Preimage.{next_guard}
+use Rattle.bs_preimage.specs.Listed.{IsRightCand}
+use Rattle.bs_preimage.specs.Rest.{IsAbout, AxiomsStand}
+use Rattle.bs_preimage.specs.Turn.{TurnsTo}
+use Rattle.bs_preimage.specs.Step.{begun}
+
+-- what answers whether states are predecessors, as a contract sees it
+pub record Prober : Type 0 where
+  pub circuit : Circuit
+  pub choice : Chosen
+
+-- A state that is a predecessor comes as a candidate; of one that is none the answer says so; and a search that was cut says nothing.
+abbrev pub IsProbed : Circuit → Chosen → List Bool → List Bool → Option (List Bool) → List Bool → Probed → Type 0
+IsProbed c choice present stored older state (Predecessor cand) = IsRightCand c choice present stored older cand × (cand.state ≡ state)
+IsProbed c choice present stored older state NoPredecessor = is_listed (predecessors c choice present (stored ∷ option_to_list older)) state ≡ false
+IsProbed c choice present stored older state Unknown = Unit {0}
+
+-- one signature is kept, or both are there
+abbrev pub MayProbe : Chosen → Option (List Bool) → Type 0
+MayProbe choice None = depth_of choice ≡ 1
+MayProbe choice (Some older) = depth_of choice ≡ 2
+
+-- what a step assumes that is about one state
+abbrev pub probing_for : Encoded → Literal → Present → List Bool → Clause
+probing_for e guard q state = assumptions_for e guard q ++ signed e.states state
+
+-- the same of the next step
+abbrev pub probing_at : Encoded → Book → List Bool → List Bool → Option (List Bool) → List Bool → Clause
+probing_at e b present stored older state = probing_for e (next_guard b.problem) (asking present stored older) state
+
+-- no step is under way, and the next one has no block
+pub record IsPaused (s : SolverState) : Type 0 where
+  pub well : s.failed ≡ false
+  pub idle : s.stage ≡ Idle
+  pub guards : s.vars ≡ s.book.problem.vars + length s.book.problem.steps
+  pub number : step_of s.book.history ≡ length s.book.problem.steps + 1
+  pub stand : AxiomsStand s.book
+  pub clear : blocks_of s.book.history (step_of s.book.history) ≡ []
+
+-- the lemma that ends a step, if there is one
+abbrev pub last_of : TurnEnd → Option ℕ
+last_of (Listed cand) = None
+last_of (Refuted id) = Some id
+last_of Spent = None
+
+abbrev pub probed_of : TurnEnd → Probed
+probed_of (Listed cand) = Predecessor cand
+probed_of (Refuted id) = NoPredecessor
+probed_of Spent = Unknown
+
+-- a step was begun, searched once and ended
+pub record HasProbed (e : Encoded) (old new : SolverState) (assumptions : Clause) (limit : ℕ) (end : TurnEnd) : Type 0 where
+  pub middle : SolverState
+  pub turn : TurnsTo e assumptions limit (begun old) middle end
+  pub ended : HasEnded middle new (last_of end)
+
+-- the solver pauses, and has made so many steps about the circuit's encoding
+pub record IsReadyFor (c : Circuit) (choice : Chosen) (e : Encoded) (s : SolverState) (count : ℕ) : Type 0 where
+  pub about : IsAbout c choice e s.book
+  pub rest : IsPaused s
+  pub steps : length s.book.problem.steps ≡ count
+
+-- the solver is ready, while memory has not run out
+pub record IsProbing (c : Circuit) (choice : Chosen) (e : Encoded) (s : SolverState) (count : ℕ) (failed : Bool) : Type 0 where
+  pub width : choice.width ≡ length c.flops
+  pub encoding : e ≡ encoding_by c choice
+  pub ready : failed ≡ false → IsReadyFor c choice e s count
+
+-- a question was answered in a step of its own
+pub record HasAnswered (c : Circuit) (choice : Chosen) (e : Encoded) (old new : SolverState) (present stored : List Bool)
+    (older : Option (List Bool)) (state : List Bool) (answer : Probed) : Type 0 where
+  pub ready : IsReadyFor c choice e new (length old.book.problem.steps + 1)
+  pub probed : IsProbed c choice present stored older state answer

@@ -1,0 +1,325 @@
+//! A private search, whose log is not written: whether one state is a predecessor.
+ghost use Rattle.std.specs.Prelude.{◌≡◌, ◌+◌, ◌<◌, ◌≤◌, true, length, IfOk, option_map};
+ghost use Rattle.std.specs.Bool.{OnTrue};
+ghost use Rattle.bs_net.specs.Netlist.{circuit};
+ghost use Rattle.bs_log.specs.Refusal.{has_distinct_variables};
+ghost use Rattle.bs_encode.specs.Assuming.{asking, AreWide};
+ghost use Rattle.bs_encode.specs.Depth.{encoding_by};
+ghost use Rattle.bs_encode.specs.declared.encoding.TheConstants.{MAX_GUARDS};
+ghost use Rattle.bs_preimage.specs.Rest.{IsAbout};
+ghost use Rattle.bs_preimage.specs.Turn.{IsReadable, MayTurn, TurnsTo};
+ghost use Rattle.bs_preimage.specs.Probe.{last_of, probed_of, probing_at, probing_for, HasAnswered, HasProbed, IsPaused, IsProbed, IsReadyFor, MayProbe};
+
+use crate::preimage::solver_of;
+use crate::turn::{TurnEnd, take_turn};
+use bs_bits::Bits;
+use bs_clause::{Lit, Lits, NoMemory};
+use bs_encode::{
+    Encoding, encodings_are_tidy, predecessors_are_shown, push_signed, solutions_are_predecessors,
+};
+use bs_net::Netlist;
+use bs_report::Cand;
+use bs_scan::Choice;
+use bs_solve::Solver;
+use std::alloc::Global;
+use std::marker::Model;
+
+/// How many states one solver is asked about, before another one takes its place.
+pub const MAX_PROBES: u64 = 1_000;
+
+/// What is said of a state.
+#[derive(Drop)]
+pub enum Probed {
+    /// It is a predecessor. This is the candidate that shows it.
+    Predecessor(Cand),
+    /// It is no predecessor.
+    NoPredecessor,
+    /// The search was cut.
+    Unknown,
+}
+
+/// What is asked: whether a state that agrees with the stored signature and the older one leads to the present one, with at
+/// most `b` lemmas.
+#[derive(Clone, Copy)]
+struct Asked<'a> {
+    present: &'a Bits,
+    stored: &'a Bits,
+    older: Option<&'a Bits>,
+    state: &'a Bits,
+    b: u64,
+}
+
+/// What a step assumes that is about one state: the next bits first, the state last.
+fn assumed(
+    alloc: Global,
+    encoding: &Encoding,
+    guard: Lit,
+    asked: &Asked<'_>,
+) -> Result<Lits, NoMemory>
+    requires present { length asked.now.present.now ≡ length encoding.now.next }
+    requires stored { length asked.now.stored.now ≡ length encoding.now.signatures }
+    requires older { AreWide (length encoding.now.older_signatures) (option_map (λ bits. bits.now) asked.now.older) }
+    requires state { length encoding.now.states ≡ length asked.now.state.now }
+    ensures { IfOk result (λ all. all ≡ probing_for encoding.now guard (asking asked.now.present.now asked.now.stored.now (option_map (λ bits. bits.now) asked.now.older)) asked.now.state.now) }
+{
+    let mut all = encoding.assumptions(alloc, guard, asked.present, asked.stored, asked.older)?;
+    push_signed(&mut all, encoding.states(), asked.state)?;
+    Ok(all)
+}
+
+/// Searches once in a step that has begun.
+fn probe_turn(
+    alloc: Global,
+    encoding: &Encoding,
+    solver: &mut Solver,
+    guard: Lit,
+    asked: &Asked<'_>,
+) -> Result<TurnEnd, NoMemory>
+    requires readable { IsReadable encoding.now }
+    requires may { MayTurn encoding.now solver.old (probing_for encoding.now guard (asking asked.now.present.now asked.now.stored.now (option_map (λ bits. bits.now) asked.now.older)) asked.now.state.now) }
+    requires present { length asked.now.present.now ≡ length encoding.now.next }
+    requires stored { length asked.now.stored.now ≡ length encoding.now.signatures }
+    requires older { AreWide (length encoding.now.older_signatures) (option_map (λ bits. bits.now) asked.now.older) }
+    requires state { length encoding.now.states ≡ length asked.now.state.now }
+    requires limit { 1 ≤ asked.now.b }
+    ensures ok { IfOk result (TurnsTo encoding.now (probing_for encoding.now guard (asking asked.now.present.now asked.now.stored.now (option_map (λ bits. bits.now) asked.now.older)) asked.now.state.now) asked.now.b solver.old solver.new) }
+{
+    let assumptions = assumed(alloc, encoding, guard, asked)?;
+    let end = take_turn(alloc, encoding, solver, &assumptions, asked.b)?;
+    Ok(end)
+}
+
+/// The lemma that ends a step, if there is one.
+fn ending(end: &TurnEnd) -> Option<u64>
+    ensures { result ≡ last_of end.now }
+{
+    match end {
+        TurnEnd::Listed(_) => None,
+        TurnEnd::Refuted(id) => Some(*id),
+        TurnEnd::Spent => None,
+    }
+}
+
+/// Begins a step about one state, searches once, and ends the step.
+fn probe_once(
+    alloc: Global,
+    encoding: &Encoding,
+    solver: &mut Solver,
+    asked: &Asked<'_>,
+) -> Result<TurnEnd, NoMemory>
+    requires readable { IsReadable encoding.now }
+    requires vars { solver.old.book.problem.vars ≡ encoding.now.variables }
+    requires clauses { solver.old.book.problem.clauses ≡ encoding.now.clauses }
+    requires rest { IsPaused solver.old }
+    requires few { length solver.old.book.problem.steps < MAX_GUARDS }
+    requires distinct { has_distinct_variables (probing_at encoding.now solver.old.book asked.now.present.now asked.now.stored.now (option_map (λ bits. bits.now) asked.now.older) asked.now.state.now) ≡ true }
+    requires present { length asked.now.present.now ≡ length encoding.now.next }
+    requires stored { length asked.now.stored.now ≡ length encoding.now.signatures }
+    requires older { AreWide (length encoding.now.older_signatures) (option_map (λ bits. bits.now) asked.now.older) }
+    requires state { length encoding.now.states ≡ length asked.now.state.now }
+    requires limit { 1 ≤ asked.now.b }
+    ensures ok { IfOk result (HasProbed encoding.now solver.old solver.new (probing_at encoding.now solver.old.book asked.now.present.now asked.now.stored.now (option_map (λ bits. bits.now) asked.now.older) asked.now.state.now) asked.now.b) }
+{
+    let guard = solver.begin_step()?;
+    let end = probe_turn(alloc, encoding, solver, guard, asked)?;
+    solver.end_step(alloc, ending(&end))?;
+    Ok(end)
+}
+
+/// What the end of a search says.
+fn said_by(end: TurnEnd) -> Probed
+    ensures { result ≡ probed_of end }
+{
+    match end {
+        TurnEnd::Listed(cand) => Probed::Predecessor(cand),
+        TurnEnd::Refuted(_) => Probed::NoPredecessor,
+        TurnEnd::Spent => Probed::Unknown,
+    }
+}
+
+/// Answers a question in a step of its own.
+fn probe_step(
+    alloc: Global,
+    net: &Netlist,
+    choice: &Choice,
+    encoding: &Encoding,
+    solver: &mut Solver,
+    asked: &Asked<'_>,
+) -> Result<Probed, NoMemory>
+    requires about { IsAbout (circuit net.now) choice.now encoding.now solver.old.book }
+    requires rest { IsPaused solver.old }
+    requires few { length solver.old.book.problem.steps < MAX_GUARDS }
+    requires present { length asked.now.present.now ≡ length (circuit net.now).flops }
+    requires stored { length asked.now.stored.now ≡ length choice.now.items }
+    requires older { AreWide (length choice.now.items) (option_map (λ bits. bits.now) asked.now.older) }
+    requires state { length asked.now.state.now ≡ length (circuit net.now).flops }
+    requires may { MayProbe choice.now (option_map (λ bits. bits.now) asked.now.older) }
+    requires limit { 1 ≤ asked.now.b }
+    ensures ok { IfOk result (HasAnswered (circuit net.now) choice.now encoding.now solver.old solver.new asked.now.present.now asked.now.stored.now (option_map (λ bits. bits.now) asked.now.older) asked.now.state.now) }
+{
+    encodings_are_tidy(net, choice);
+    predecessors_are_shown(net, choice);
+    solutions_are_predecessors(net, choice);
+    let _raw = net.raw();
+    let _items = choice.items();
+    let end = probe_once(alloc, encoding, solver, asked)?;
+    let _log = solver.log();
+    Ok(said_by(end))
+}
+
+/// Puts a new solver in the place of one that has answered many questions.
+fn renew(
+    alloc: Global,
+    net: &Netlist,
+    choice: &Choice,
+    encoding: &Encoding,
+    solver: &mut Solver,
+    count: &mut u64,
+) -> Result<(), NoMemory>
+    requires ready { IsReadyFor (circuit net.now) choice.now encoding.now solver.old count.old }
+    ensures ready { IfOk result (λ _. IsReadyFor (circuit net.now) choice.now encoding.now solver.new count.new) }
+    ensures few { IfOk result (λ _. count.new < MAX_PROBES) }
+{
+    if *count < MAX_PROBES {
+        return Ok(());
+    }
+    encodings_are_tidy(net, choice);
+    *solver = solver_of(alloc, encoding)?;
+    *count = 0;
+    Ok(())
+}
+
+/// Whether one signature is kept, or both are there.
+fn may_ask(choice: &Choice, older: Option<&Bits>) -> bool
+    ensures { OnTrue result (MayProbe choice.now (option_map (λ bits. bits.now) older.entry)) }
+{
+    match older {
+        None => choice.depth() == 1,
+        Some(_) => choice.depth() == 2,
+    }
+}
+
+/// What answers whether states are predecessors. Contracts see its netlist's circuit and what the signature is taken of.
+#[derive(Drop)]
+pub struct Probe<'a> {
+    net: &'a Netlist,
+    choice: &'a Choice,
+    encoding: Encoding,
+    solver: Solver,
+    count: u64,
+    failed: bool,
+}
+
+impl<'a> Model for Probe<'a> {
+    ghost use Rattle.bs_net.specs.Netlist.{circuit};
+    ghost use Rattle.bs_preimage.specs.Probe.{Prober, IsProbing};
+
+    ghost Value = { Prober };
+
+    ghost view = { λ p. record { circuit = circuit p.net.now; choice = p.choice.now } };
+
+    ghost invariant = { λ p. IsProbing (circuit p.net.now) p.choice.now p.encoding p.solver p.count p.failed };
+}
+
+impl<'a> Probe<'a> {
+    /// What answers about states of a netlist, by a signature of its width.
+    pub fn new(alloc: Global, net: &'a Netlist, choice: &'a Choice) -> Result<Probe<'a>, NoMemory>
+        requires { choice.now.width ≡ length (circuit net.now).flops }
+        ensures { IfOk result (λ p. p ≡ record { circuit = circuit net.now; choice = choice.now }) }
+    {
+        let encoding = Encoding::new(alloc, net, choice)?;
+        Probe::over(alloc, net, choice, encoding)
+    }
+
+    /// The same over the encoding of the netlist.
+    fn over(
+        alloc: Global,
+        net: &'a Netlist,
+        choice: &'a Choice,
+        encoding: Encoding,
+    ) -> Result<Probe<'a>, NoMemory>
+        requires width { choice.now.width ≡ length (circuit net.now).flops }
+        requires encoding { encoding ≡ encoding_by (circuit net.now) choice.now }
+        ensures { IfOk result (λ p. p ≡ record { circuit = circuit net.now; choice = choice.now }) }
+    {
+        encodings_are_tidy(net, choice);
+        let solver = solver_of(alloc, &encoding)?;
+        Ok(Probe {
+            net,
+            choice,
+            encoding,
+            solver,
+            count: 0,
+            failed: false,
+        })
+    }
+
+    /// Whether a state agrees with the stored signature and the older one, which is none where the register keeps one, and
+    /// leads to the present state. A solve logs at most `b` lemmas. Where the register keeps two signatures and holds one, nothing
+    /// is said: only the reset state may be before. After want of memory every later question answers it.
+    pub fn ask(
+        &mut self,
+        alloc: Global,
+        present: &Bits,
+        stored: &Bits,
+        older: Option<&Bits>,
+        state: &Bits,
+        b: u64,
+    ) -> Result<Probed, NoMemory>
+        requires present { length present.now ≡ length self.old.circuit.flops }
+        requires stored { length stored.now ≡ length self.old.choice.items }
+        requires older { AreWide (length self.old.choice.items) (option_map (λ bits. bits.now) older) }
+        requires state { length state.now ≡ length self.old.circuit.flops }
+        requires conflicts { 1 ≤ b }
+        ensures probed { IfOk result (IsProbed self.old.circuit self.old.choice present.now stored.now (option_map (λ bits. bits.now) older.entry) state.now) }
+        ensures kept { self.new ≡ self.old }
+    {
+        if !may_ask(self.choice, older) {
+            return Ok(Probed::Unknown);
+        }
+        let asked = Asked {
+            present,
+            stored,
+            older,
+            state,
+            b,
+        };
+        self.answer(alloc, &asked)
+    }
+
+    /// Answers a question, where one signature is kept or both are there.
+    fn answer(&mut self, alloc: Global, asked: &Asked<'_>) -> Result<Probed, NoMemory>
+        requires present { length asked.now.present.now ≡ length self.old.circuit.flops }
+        requires stored { length asked.now.stored.now ≡ length self.old.choice.items }
+        requires older { AreWide (length self.old.choice.items) (option_map (λ bits. bits.now) asked.now.older) }
+        requires state { length asked.now.state.now ≡ length self.old.circuit.flops }
+        requires may { MayProbe self.old.choice (option_map (λ bits. bits.now) asked.now.older) }
+        requires limit { 1 ≤ asked.now.b }
+        ensures probed { IfOk result (IsProbed self.old.circuit self.old.choice asked.now.present.now asked.now.stored.now (option_map (λ bits. bits.now) asked.now.older) asked.now.state.now) }
+        ensures kept { self.new ≡ self.old }
+    {
+        if self.failed {
+            return Err(NoMemory);
+        }
+        self.failed = true;
+        renew(
+            alloc,
+            self.net,
+            self.choice,
+            &self.encoding,
+            &mut self.solver,
+            &mut self.count,
+        )?;
+        let answer = probe_step(
+            alloc,
+            self.net,
+            self.choice,
+            &self.encoding,
+            &mut self.solver,
+            asked,
+        )?;
+        self.count += 1;
+        self.failed = false;
+        Ok(answer)
+    }
+}
