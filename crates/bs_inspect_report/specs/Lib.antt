@@ -4,4 +4,6 @@ pub mod Lemmas
 pub mod Signal
 pub mod Steps
 pub mod Trace
+pub mod Table
+pub mod Remarks
 pub mod Told
