@@ -1,6 +1,6 @@
 -- The modules with their joined nets are those of the definition.
 use Rattle.std.proofs.Common.{◌≡◌, ℕ, zero, suc, ◌<◌, ◌≤◌, ◌+◌, Bool, true, false, cond, List, [], ◌∷◌, ◌++◌, map, length, get_or, refl, sym, ap, ◌∙◌, arith}
-use Rattle.std.proofs.Common.{Option, Some, None, Result, Ok, Err, subst, inl, inr, ⊎_elim}
+use Rattle.std.proofs.Common.{Option, Some, None, Result, Ok, Err, subst, ◌⊎◌, inl, inr, ⊎_elim}
 use Rattle.std.specs.Prelude.{IsTrue, not}
 use Rattle.std.specs.List.{All, flat_map}
 use Rattle.std.proofs.lemmas.List.{get_or-map, length-map, map-append}
@@ -38,7 +38,7 @@ use Rattle.bs_flat_connect.specs.Joining.{unless, Tells}
 use Rattle.bs_flat_connect.specs.Instances.{AreAllPorts, ArePortsOfAll, instance_by, TellsChildren}
 use Rattle.bs_flat_connect.specs.Connecting.{ConnectsTo, IsMade, fault_in, module_by, TellsBlock, reads, TellsBlocks, fault_of, Connects}
 use Rattle.bs_flat_connect.specs.declared.fault.Fault.{Fault}
-use Rattle.bs_flat_connect.specs.declared.fault.Fault.TheVariants.{NoMemory}
+use Rattle.bs_flat_connect.specs.declared.fault.Fault.TheVariants.{At, NoMemory}
 use Rattle.bs_flat_connect.proofs.FirstLemmas.{first_each}
 use Rattle.bs_flat_connect.proofs.LoopLemmas.{SoFar, so_far_none, so_far_more, so_far_stop, so_far_all, goes_well, goes_ill}
 use Rattle.bs_flat_connect.proofs.ChildLemmas.{ports_of_all, one_child}
@@ -110,6 +110,22 @@ block_told table ps below own ws w cs b wired made tells =
           told.1 ∙ ap (map instance_of) (sym made.children) in
           let same : module_by table ks at m ≡ module_of b = λ i. record { own = sym parts i; instances = instances i } in
           ap (λ o. unless o (module_by table ks at m)) told.0 ∙ ap Ok same;
+    }
+
+-- the same refusal in place of another value
+refused_as : {A B : Type 0} (o : Option ℕ) (v : A) (w : B) (fault : Fault) → (fault ≡ NoMemory) ⊎ (unless o v ≡ Err fault) →
+    (fault ≡ NoMemory) ⊎ (unless o w ≡ Err fault)
+refused_as o v w fault (inl memory) = inl memory
+refused_as None v w fault (inr e) = absurd cc
+refused_as (Some place) v w fault (inr e) = let same : At place ≡ fault = cc in inr (ap (λ (f : Fault). Err f) same)
+
+pub block_refused : (table : List (List ℕ)) (ps : List Ports) (below : List ℕ) (own : Own) (ws : List Written) (w : Wiring) (fault : Fault) →
+    IsWiringOf table (read_of own ws) w → TellsChildren table w ps below ws (Err fault) → TellsBlock table ps below own ws (Err fault)
+block_refused table ps below own ws w fault wired tells =
+    record {
+      is = λ ks at ports e.
+          let m = read_of own ws in
+          refused_as (fault_in table ks at m) (map (instance_by table ks at m) ws) (module_by table ks at m) fault (tells.is ks at m wired ports e);
     }
 
 -- ---- all modules

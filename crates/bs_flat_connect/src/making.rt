@@ -4,6 +4,7 @@ ghost use Rattle.bs_net.specs.Gate.{takes};
 ghost use Rattle.bs_flat_order.specs.Numbers.{numbers_by};
 ghost use Rattle.bs_flat_nets.specs.Blocks.{AreThere, numbers_of};
 ghost use Rattle.bs_flat_nets.specs.Order.{below_blocks};
+ghost use Rattle.bs_flat_wiring.specs.Wiring.{IsWiringOf, read_of};
 ghost use Rattle.bs_flat_connect.specs.Connecting as spec;
 
 use crate::copies::{flops, gates, nets};
@@ -43,6 +44,32 @@ fn made(
     })
 }
 
+/// The module with this wiring, whose instances are of the modules with these numbers.
+fn wired(
+    alloc: Global,
+    table: &Table,
+    ports: &[Ports],
+    below: &[u32],
+    own: &Own,
+    written: &[Written],
+    wiring: Wiring,
+) -> Result<FlatModule, Fault>
+    requires each { length below.now ≡ length written.now }
+    requires there { All (λ n. n < length ports.now) below.now }
+    requires wiring { IsWiringOf table.now (read_of own.now written.now) wiring }
+    ensures tells { spec.TellsBlock table.now ports.now below.now own.now written.now result }
+    ensures takes { IfOk result (λ b. All (λ g. IsTrue (takes g.kind (length g.ins))) b.gates) }
+    ensures numbers { IfOk result (λ b. numbers_of b.children ≡ below.now) }
+{
+    match children(alloc, table, &wiring, ports, below, written) {
+        Ok(children) => {
+            let block = made(alloc, own, wiring, children)?;
+            Ok(block)
+        }
+        Err(fault) => Err(fault),
+    }
+}
+
 /// A module whose instances are of the modules with these numbers.
 fn block(
     alloc: Global,
@@ -59,9 +86,7 @@ fn block(
     ensures numbers { IfOk result (λ b. numbers_of b.children ≡ below.now) }
 {
     let wiring = wire(alloc, table, own, written)?;
-    let children = children(alloc, table, &wiring, ports, below, written)?;
-    let block = made(alloc, own, wiring, children)?;
-    Ok(block)
+    wired(alloc, table, ports, below, own, written, wiring)
 }
 
 /// All modules.

@@ -31,7 +31,7 @@ use Rattle.bs_flat_meaning.specs.Flat.{first_constant, home, flat_nets, flat_num
 use Rattle.bs_flat_meaning.specs.Pieces.{Piece, to_endmodule, first_piece, pieces_from, to_semicolon, items_from, own_text, statements_of, modules_of}
 use Rattle.bs_flat_meaning.specs.Instancing.{one_instance, instancing}
 use Rattle.bs_flat_meaning.specs.Connecting.{ReadModule, term_keys, ports_from, by_places, by_pins, goes, with_term, with_terms, whole_parts, joins_from}
-use Rattle.bs_flat_meaning.specs.Reading.{IsRing, all_of, second_module, second_instance, first_of, read_modules, tops, design_of, connect_fault, clash_in}
+use Rattle.bs_flat_meaning.specs.Reading.{IsRing, all_of, owns_within, second_module, second_instance, first_of, read_modules, tops, design_of, connect_fault, clash_in}
 use Rattle.bs_flat_meaning.specs.Reading.{connected_modules, elaborated, flattened, ◌then◌, as_verilog}
 
 -- the answer of a text without a ring
@@ -55,7 +55,7 @@ unfolding digits piece_at tokens_from comment_size quoted_size word_of decimal_f
     is_assignment pins_of cell_pins each implicit_net declared_key constant_net named_net with_connection gates_of port_bits with_keys meaning_of
     netlist_text module_at paths_from paths root first_constant home flat_nets flat_number path_text flat_key flat_parts to_endmodule first_piece
     pieces_from to_semicolon items_from own_text statements_of one_instance instancing term_keys ports_from by_places by_pins goes with_term with_terms
-    whole_parts joins_from all_of second_module second_instance first_of read_modules tops design_of connect_fault clash_in connected_modules elaborated flattened answered
+    whole_parts joins_from all_of owns_within second_module second_instance first_of read_modules tops design_of connect_fault clash_in connected_modules elaborated flattened answered
 reading_a_design = tt
 
 an_inverter : answered (

@@ -1,10 +1,14 @@
 -- What a value keeps that is given by a reading, where one is given.
-use Rattle.std.proofs.Common.{◌≡◌, Bool, true, false, cond, List, [], ◌∷◌, Result, Ok, Err, refl, subst}
+use Rattle.std.proofs.Common.{◌≡◌, ℕ, ◌-◌, length, Bool, true, false, cond, List, [], ◌∷◌, Result, Ok, Err, refl, subst}
 use Rattle.std.specs.List.{AllByRecursion}
+use Rattle.std.specs.Prelude.{nat_lt}
 use Rattle.bs_bits.specs.Reading.{◌>>=◌}
+use Rattle.bs_net.specs.Parts.{Parts}
+use Rattle.bs_verilog_syntax.specs.declared.tree.Module as code
 use Rattle.bs_verilog_syntax.specs.declared.fault.VerilogFault.{VerilogFault}
 use Rattle.bs_flat_meaning.specs.declared.fault.FlatFault.{FlatFault}
-use Rattle.bs_flat_meaning.specs.Reading.{◌then◌, as_verilog, all_of}
+use Rattle.bs_flat_meaning.specs.declared.fault.FlatFault.TheVariants.{OwnNets}
+use Rattle.bs_flat_meaning.specs.Reading.{◌then◌, as_verilog, fitting, owns_within}
 
 -- the value, if there is one, keeps this
 pub record Gives {A F : Type 0} (P : A → Type 0) (r : Result A F) : Type 0 where
@@ -38,11 +42,17 @@ pub gives_verilog : {A : Type 0} (P : A → Type 0) (r : Result A VerilogFault) 
 gives_verilog P (Ok x) g = gives_ok P x (g.is x refl)
 gives_verilog P (Err fault) g = record { is = λ x e. absurd cc }
 
-pub gives_all : {A B : Type 0} (Q : B → Type 0) (f : A → Result B FlatFault) (xs : List A) → ((x : A) → Gives Q (f x))
-    → Gives (AllByRecursion Q) (all_of f xs)
-unfolding all_of
-gives_all Q f [] g = gives_ok (AllByRecursion Q) [] tt
-gives_all Q f (x ∷ xs) g =
-    gives_then Q (AllByRecursion Q) (f x) (λ y. all_of f xs then (λ ys. Ok (y ∷ ys))) (g x)
-    (λ y q. gives_then (AllByRecursion Q) (AllByRecursion Q) (all_of f xs) (λ ys. Ok (y ∷ ys)) (gives_all Q f xs g)
-    (λ ys qs. gives_ok (AllByRecursion Q) (y ∷ ys) (q, qs)))
+pub gives_fitting : {A : Type 0} (R : A → Type 0) (b : Bool) (place : ℕ) (r : Result A FlatFault) → Gives R r → Gives R (fitting b place r)
+gives_fitting R true place r g = gives_err R (OwnNets place)
+gives_fitting R false place r g = g
+
+pub gives_owns : {A : Type 0} (Q : code.Module × Parts → Type 0) (place : A → ℕ) (f : A → Result (code.Module × Parts) FlatFault) (room : ℕ) (xs : List A)
+    → ((x : A) → Gives Q (f x)) → Gives (AllByRecursion Q) (owns_within place f room xs)
+unfolding owns_within
+gives_owns Q place f room [] g = gives_ok (AllByRecursion Q) [] tt
+gives_owns Q place f room (x ∷ xs) g =
+    gives_then Q (AllByRecursion Q) (f x) _ (g x)
+    (λ y q.
+    gives_fitting (AllByRecursion Q) (nat_lt room (length y.1.names)) (place x) _
+    (gives_then (AllByRecursion Q) (AllByRecursion Q) (owns_within place f (room - length y.1.names) xs) (λ ys. Ok (y ∷ ys))
+    (gives_owns Q place f (room - length y.1.names) xs g) (λ ys qs. gives_ok (AllByRecursion Q) (y ∷ ys) (q, qs))))

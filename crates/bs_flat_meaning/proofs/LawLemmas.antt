@@ -274,11 +274,11 @@ module _ (d : Design) (h : IsDesign d) (placed : PartsArePlaced (flat_parts d)) 
 
   -- ---- the law
 
-  flop_count : length c.flops ≡ length (flops d)
+  pub flop_count : length c.flops ≡ length (flops d)
   unfolding flat_parts
   flop_count = length-map (flops d) (flat_flop d)
 
-  input_count : length c.inputs ≡ length (data_inputs d)
+  pub input_count : length c.inputs ≡ length (data_inputs d)
   input_count = ap length ports ∙ length-map (data_inputs d) (flat_net d [])
 
   pub means : (s x : List Bool) → length s ≡ length (flops d) → length x ≡ length (data_inputs d) → FlatMeans d s x

@@ -3,6 +3,7 @@ pub mod RootLemmas
 pub mod HomeLemmas
 pub mod DriverLemmas
 pub mod LawLemmas
+pub mod ExecutionLemmas
 pub mod PathLemmas
 pub mod JoinLemmas
 pub mod CountLemmas

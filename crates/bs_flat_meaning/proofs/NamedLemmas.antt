@@ -1,5 +1,5 @@
 -- What a text is answered with has names of one or more bytes 33 to 126.
-use Rattle.std.proofs.Common.{◌≡◌, ℕ, Bool, true, false, List, [], ◌∷◌, length, map, Option, Some, None, Result, Ok, Err, refl}
+use Rattle.std.proofs.Common.{◌≡◌, ℕ, ◌-◌, Bool, true, false, List, [], ◌∷◌, length, map, Option, Some, None, Result, Ok, Err, refl}
 use Rattle.std.specs.Prelude.{IfOk, nat_lt, slice_index_or, sum, zip}
 use Rattle.std.specs.List.{All}
 use Rattle.std.proofs.lemmas.Bool.{cond_both}
@@ -16,7 +16,7 @@ use Rattle.bs_verilog_syntax.specs.declared.tree.Says.{Says}
 use Rattle.bs_verilog_syntax.specs.declared.tree.Term.{Term}
 use Rattle.bs_verilog_syntax.specs.declared.tree.Term.TheVariants.{Constant, Named}
 use Rattle.bs_verilog_syntax.specs.Modules.{syntax_of}
-use Rattle.bs_verilog_syntax.specs.Reading.{Rest}
+use Rattle.bs_verilog_syntax.specs.Reading.{Rest, at}
 use Rattle.bs_verilog_scope.specs.Keys.{constant_key, scalar_key, text}
 use Rattle.bs_verilog.specs.Building.{has_key}
 use Rattle.bs_verilog.specs.Netlist.{meaning_of, netlist_text}
@@ -24,13 +24,13 @@ use Rattle.bs_verilog.proofs.NamedLemmas.{PartsNamed, constant_named, key_more, 
 use Rattle.bs_verilog.proofs.SpellingLemmas.{IsVisible, IsVisibleToken, table_is_visible, text_is_visible}
 use Rattle.bs_flat_meaning.specs.declared.fault.FlatFault.{FlatFault}
 use Rattle.bs_flat_meaning.specs.declared.fault.FlatFault.TheVariants.{Connect, FlatDepth, FlatKeys, FlatNets, FlatParts, Tops, Twice}
-use Rattle.bs_flat_meaning.specs.declared.limits.TheConstants.{MAX_KEY_BYTES, MAX_PARTS}
+use Rattle.bs_flat_meaning.specs.declared.limits.TheConstants.{MAX_KEY_BYTES, MAX_OWN_NETS, MAX_PARTS}
 use Rattle.bs_flat_meaning.specs.declared.statements.Written.{Written}
 use Rattle.bs_flat_meaning.specs.Connecting.{ReadModule, scope_of, whole_parts, with_term, with_terms}
 use Rattle.bs_flat_meaning.specs.Design.{Design, Instance, Module}
 use Rattle.bs_flat_meaning.specs.Flat.{flat_parts}
 use Rattle.bs_flat_meaning.specs.Pieces.{Piece, modules_of, own_text}
-use Rattle.bs_flat_meaning.specs.Reading.{◌then◌, Answer, ringed, plain, AnswerFor, IsAnswer, TokensAnswer, all_of, as_verilog, clash_in, clashing, connect_fault, connected_modules}
+use Rattle.bs_flat_meaning.specs.Reading.{◌then◌, Answer, ringed, plain, AnswerFor, IsAnswer, TokensAnswer, all_of, as_verilog, fitting, owns_within, clash_in, clashing, connect_fault, connected_modules}
 use Rattle.bs_flat_meaning.specs.Reading.{elaborated, first_of, first_top, flattened, gathered, instance_of, is_deep, limited, module_from, no_fault, part_count}
 use Rattle.bs_flat_meaning.specs.Reading.{read_modules, read_own, read_written, second_instance, second_module, tops}
 use Rattle.bs_flat_meaning.specs.Names.{FlatNetsAreNamed}
@@ -44,12 +44,20 @@ goes_on : {A B : Type 0} (P : A → Type 0) (Q : B → Type 0) (r : Result A Fla
 goes_on P Q (Ok x) f h on = on x h
 goes_on P Q (Err fault) f h on = tt
 
-all_keep : {A B : Type 0} (P : B → Type 0) (f : A → Result B FlatFault) → ((x : A) → IfOk (f x) P) → (xs : List A) → IfOk (all_of f xs) (All P)
-unfolding all_of
-all_keep P f each [] = All-nil P
-all_keep P f each (x ∷ xs) =
-    goes_on P (All P) (f x) (λ y. all_of f xs then (λ ys. Ok (y ∷ ys))) (each x)
-    (λ y h. goes_on (All P) (All P) (all_of f xs) (λ ys. Ok (y ∷ ys)) (all_keep P f each xs) (λ ys later. All-cons P y ys h later))
+fits_keep : {A : Type 0} (P : A → Type 0) (b : Bool) (place : ℕ) (later : Result A FlatFault) → IfOk later P → IfOk (fitting b place later) P
+fits_keep P true place later h = tt
+fits_keep P false place later h = h
+
+owns_keep : {A : Type 0} (P : code.Module × Parts → Type 0) (place : A → ℕ) (f : A → Result (code.Module × Parts) FlatFault) → ((x : A) → IfOk (f x) P) →
+    (room : ℕ) (xs : List A) → IfOk (owns_within place f room xs) (All P)
+unfolding owns_within
+owns_keep P place f each room [] = All-nil P
+owns_keep P place f each room (x ∷ xs) =
+    goes_on P (All P) (f x) _ (each x)
+    (λ y h.
+    fits_keep (All P) (nat_lt room (length y.1.names)) (place x) _
+    (goes_on (All P) (All P) (owns_within place f (room - length y.1.names) xs) (λ ys. Ok (y ∷ ys))
+    (owns_keep P place f each (room - length y.1.names) xs) (λ ys later. All-cons P y ys h later)))
 
 verilog_keeps : {A : Type 0} (P : A → Type 0) (r : Result A VerilogFault) → IfOk r P → IfOk (as_verilog r) P
 verilog_keeps P (Ok x) h = h
@@ -96,7 +104,8 @@ module _ (table : List (List ℕ)) (v : All IsVisible table) where
       let ms = modules_of ts in
       goes_on any (All OwnNamed) (no_fault Twice (second_module [] ms)) _ (anyway (no_fault Twice (second_module [] ms)))
       (λ _ _.
-      goes_on (All SaidNamed) (All OwnNamed) (all_of (read_own table ts) ms) _ (all_keep SaidNamed (read_own table ts) (own_named ts) ms)
+      goes_on (All SaidNamed) (All OwnNamed) (owns_within (λ p. at p.body) (read_own table ts) MAX_OWN_NETS ms) _
+      (owns_keep SaidNamed (λ p. at p.body) (read_own table ts) (own_named ts) MAX_OWN_NETS ms)
       (λ owns h.
       goes_on any (All OwnNamed) (all_of (read_written ms) ms) _ (anyway (all_of (read_written ms) ms))
       (λ written _.

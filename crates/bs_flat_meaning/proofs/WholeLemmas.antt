@@ -16,7 +16,7 @@ use Rattle.bs_verilog_syntax.specs.declared.tree.Range.{Range}
 use Rattle.bs_verilog_syntax.specs.declared.tree.Says.{Says}
 use Rattle.bs_verilog_syntax.specs.declared.tree.Declared.{Declared}
 use Rattle.bs_verilog_syntax.specs.declared.tree.Module as code
-use Rattle.bs_verilog_syntax.specs.Reading.{Rest}
+use Rattle.bs_verilog_syntax.specs.Reading.{Rest, at}
 use Rattle.bs_verilog_syntax.specs.Modules.{syntax_of}
 use Rattle.bs_verilog_scope.specs.declared.numbering.Known.{Known}
 use Rattle.bs_verilog_scope.specs.Nets.{with_keys, numbered}
@@ -25,11 +25,12 @@ use Rattle.bs_verilog_scope.specs.Declaring.{redeclared_fault, naming_fault, str
 use Rattle.bs_verilog_scope.specs.Declaring.{known, known_nets, keys_of}
 use Rattle.bs_verilog.specs.Netlist.{meaning_of, built_of}
 use Rattle.bs_verilog.proofs.PlacementLemmas.{declared_has_nets}
+use Rattle.bs_flat_meaning.specs.declared.limits.TheConstants.{MAX_OWN_NETS}
 use Rattle.bs_flat_meaning.specs.declared.statements.Written.{Written}
 use Rattle.bs_flat_meaning.specs.declared.fault.FlatFault.TheVariants.{Twice}
 use Rattle.bs_flat_meaning.specs.Pieces.{Piece, modules_of, own_text}
 use Rattle.bs_flat_meaning.specs.Connecting.{ReadModule, Port, ports_of}
-use Rattle.bs_flat_meaning.specs.Reading.{as_verilog, all_of, no_fault, second_module, read_own, read_written, second_instance, first_of, gathered}
+use Rattle.bs_flat_meaning.specs.Reading.{as_verilog, all_of, owns_within, no_fault, second_module, read_own, read_written, second_instance, first_of, gathered}
 use Rattle.bs_flat_meaning.specs.Reading.{read_modules, IsRead}
 use Rattle.bs_flat_meaning.proofs.MemberLemmas.{Member, missed, mapped}
 use Rattle.bs_flat_meaning.proofs.MemberLemmas
@@ -38,7 +39,7 @@ use Rattle.bs_flat_meaning.specs.Wholeness.{ReadModulesAreWhole}
 use Rattle.bs_flat_meaning.proofs.NameLemmas.{AreSmall, ids, texts_apart, names_apart, lexemes_numbered}
 use Rattle.bs_flat_meaning.proofs.RoomLemmas.{IsBounded, AreBounded, keys_on, ports_have_room}
 use Rattle.bs_flat_meaning.proofs.BuildLemmas.{built_whole}
-use Rattle.bs_flat_meaning.proofs.GivenLemmas.{Gives, gives_ok, gives_any, gives_then, gives_verilog, gives_all}
+use Rattle.bs_flat_meaning.proofs.GivenLemmas.{Gives, gives_ok, gives_any, gives_then, gives_verilog, gives_owns}
 use Rattle.bs_flat_meaning.proofs.HeaderLemmas.{Sound, HeaderSmall, syntax_small}
 use Rattle.bs_flat_meaning.proofs.OwnLemmas.{own_text_sound}
 
@@ -208,8 +209,8 @@ modules_give table ts a s =
     let R = AllByRecursion (IsRead table) in
     gives_then (λ _. Unit {0}) R (no_fault Twice (second_module [] ms)) _ (gives_any (no_fault Twice (second_module [] ms)))
     (λ x u.
-    gives_then (AllByRecursion (IsMeant table)) R (all_of (read_own table ts) ms) _
-    (gives_all (IsMeant table) (read_own table ts) ms (λ p. own_is_meant table ts p s))
+    gives_then (AllByRecursion (IsMeant table)) R (owns_within (λ p. at p.body) (read_own table ts) MAX_OWN_NETS ms) _
+    (gives_owns (IsMeant table) (λ p. at p.body) (read_own table ts) MAX_OWN_NETS ms (λ p. own_is_meant table ts p s))
     (λ owns meant.
     gives_then (λ _. Unit {0}) R (all_of (read_written ms) ms) _ (gives_any (all_of (read_written ms) ms))
     (λ written v.

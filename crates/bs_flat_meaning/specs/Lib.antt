@@ -3,6 +3,7 @@ pub mod Design
 pub mod Meaning
 pub mod Flat
 pub mod Law
+pub mod Executions
 -- What the list of its paths is.
 pub mod Paths
 -- The design that a text of several modules is, or its first refusal.

@@ -15,9 +15,9 @@ use Rattle.bs_verilog_syntax.specs.Reading.{Rest, at}
 use Rattle.bs_verilog_syntax.specs.Modules.{syntax_of}
 use Rattle.bs_verilog.specs.Netlist.{meaning_of, netlist_text, tokenised}
 use Rattle.bs_flat_meaning.specs.declared.fault.FlatFault.{FlatFault}
-use Rattle.bs_flat_meaning.specs.declared.fault.FlatFault.TheVariants.{Verilog, Twice, Recursion, Tops, Connect, FlatDepth, FlatParts, FlatNets, FlatKeys, NameClash}
+use Rattle.bs_flat_meaning.specs.declared.fault.FlatFault.TheVariants.{Verilog, Twice, OwnNets, Recursion, Tops, Connect, FlatDepth, FlatParts, FlatNets, FlatKeys, NameClash}
 use Rattle.bs_net.specs.declared.limits.TheConstants.{MAX_NETS}
-use Rattle.bs_flat_meaning.specs.declared.limits.TheConstants.{MAX_DEPTH, MAX_PARTS, MAX_KEY_BYTES}
+use Rattle.bs_flat_meaning.specs.declared.limits.TheConstants.{MAX_DEPTH, MAX_OWN_NETS, MAX_PARTS, MAX_KEY_BYTES}
 use Rattle.bs_flat_meaning.specs.Design.{Design, Module, Instance, paths_from, paths, gates, flops}
 use Rattle.bs_verilog_scope.specs.Keys.{text}
 use Rattle.bs_verilog_syntax.specs.declared.tree.Says.{Says}
@@ -42,6 +42,19 @@ as_verilog (Err e) = Err (Verilog e)
 unfoldable pub all_of : {A B : Type 0} → (A → Result B FlatFault) → List A → Result (List B) FlatFault
 all_of f [] = Ok []
 all_of f (x ∷ xs) = f x then (λ y. all_of f xs then (λ ys. Ok (y ∷ ys)))
+
+-- with more nets than there is room for, the module at this place is refused
+abbrev pub fitting : {A : Type 0} → Bool → ℕ → Result A FlatFault → Result A FlatFault
+fitting true place later = Err (OwnNets place)
+fitting false place later = later
+
+-- own texts one after another, up to the first fault, or the first by which the nets of all pass the room
+unfoldable pub owns_within : {A : Type 0} → (A → ℕ) → (A → Result (code.Module × Parts) FlatFault) → ℕ → List A →
+    Result (List (code.Module × Parts)) FlatFault
+owns_within place f room [] = Ok []
+owns_within place f room (x ∷ xs) =
+    f x then (λ own.
+    fitting (nat_lt room (length own.1.names)) (place x) (owns_within place f (room - length own.1.names) xs then (λ owns. Ok (own ∷ owns))))
 
 -- ---- module by module
 
@@ -90,7 +103,7 @@ unfoldable pub read_modules : List (List ℕ) → Rest → Result (List ReadModu
 read_modules table ts =
     let ms = modules_of ts in
     no_fault Twice (second_module [] ms) then (λ _.
-    all_of (read_own table ts) ms then (λ owns.
+    owns_within (λ p. at p.body) (read_own table ts) MAX_OWN_NETS ms then (λ owns.
     all_of (read_written ms) ms then (λ written.
     no_fault Twice (first_of (map (second_instance []) written)) then (λ _.
     Ok (map gathered (zip owns written))))))

@@ -10,6 +10,8 @@ pub enum FlatFault {
     Verilog(VerilogFault),
     /// The `module` of the first module that has an earlier one's name, or the first second instance name within a module.
     Twice(u32),
+    /// The `module` of the first module by which the nets of all own texts pass `MAX_OWN_NETS`.
+    OwnNets(u32),
     /// Modules that instance each other in a ring, by their names, the earliest first.
     Recursion(List<List<u8>>),
     /// So many modules are instanced by none.

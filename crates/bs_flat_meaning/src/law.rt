@@ -1,5 +1,6 @@
 //! The laws of flattening, as functions with empty bodies.
 ghost use Rattle.bs_flat_meaning.specs.Law.{FlatKeepsMeaning};
+ghost use Rattle.bs_flat_meaning.specs.Executions.{FlatKeepsExecutions};
 ghost use Rattle.bs_flat_meaning.specs.Names.{FlatNetsAreNamed};
 ghost use Rattle.bs_flat_meaning.specs.Wholeness.{ReadModulesAreWhole};
 ghost use Rattle.bs_flat_meaning.specs.Counts.{DepthIsHeight, PartsAreSummed};
@@ -11,6 +12,12 @@ ghost use Rattle.bs_flat_meaning.specs.Rings.{RingsAreFound};
 /// design's next state is that of the flat netlist.
 pub fn flat_parts_keep_meaning()
     ensures { FlatKeepsMeaning }
+{}
+
+/// Where the flat parts of a design pass the check, the design has as many flip-flops and data inputs as they, the same state at reset,
+/// and the same executions from there.
+pub fn flat_parts_keep_executions()
+    ensures { FlatKeepsExecutions }
 {}
 
 /// The design of modules that were read, and whose connections go with their ports, is one of which the law speaks: each net

@@ -14,10 +14,13 @@ use Rattle.bs_flat_modules.specs.declared.dealing.ModuleSpan.{ModuleSpan}
 use Rattle.bs_flat_modules.specs.declared.dealing.Dealt.{Dealt}
 use Rattle.bs_flat_modules.specs.declared.owns.Modules.{Modules}
 use Rattle.bs_flat_modules.specs.Copying.{part}
-use Rattle.bs_flat_modules.specs.Names.{all_apart}
+use Rattle.bs_flat_meaning.specs.declared.limits.TheConstants.{MAX_OWN_NETS}
+use Rattle.bs_flat_meaning.specs.Reading.{◌then◌, as_verilog}
+use Rattle.bs_flat_modules.specs.Names.{all_apart, begin}
 use Rattle.bs_flat_modules.specs.Owns.{each_of, said, module_and_parts, own_text, owns, written, all_written}
 use Rattle.bs_flat_modules.specs.Reading.{IsDealtOut, AreAll, parts_read, all_read, apart_or, apart}
 use Rattle.bs_flat_modules.proofs.ReadLemmas.{modules_are, piece_in}
+use Rattle.bs_flat_modules.proofs.WithinLemmas.{within_count}
 
 abbrev is_ok : {A F : Type 0} → Result A F → Bool
 is_ok (Ok x) = true
@@ -43,17 +46,17 @@ each_count f (x ∷ xs) ys e =
     let all = step_count (f x) (each_of f xs) (length xs) ys e (λ zs q. each_count f xs zs q) in
     omega (arith, all)
 
-abbrev pair_of : {A B : Type 0} → Result (List A) VerilogFault → Result (List B) VerilogFault → Result (List A × List B) VerilogFault
-pair_of r s = r >>= λ o. s >>= λ w. Ok (o, w)
+abbrev pair_of : {A B : Type 0} → Result (List A) FlatFault → Result (List B) VerilogFault → Result (List A × List B) FlatFault
+pair_of r s = r then (λ o. as_verilog s then (λ w. Ok (o, w)))
 
-both_count : {A B : Type 0} (r : Result (List A) VerilogFault) (s : Result (List B) VerilogFault) (n : ℕ) (os : List A) (ws : List B)
+both_count : {A B : Type 0} (r : Result (List A) FlatFault) (s : Result (List B) VerilogFault) (n : ℕ) (os : List A) (ws : List B)
     → pair_of r s ≡ Ok (os, ws) → ((o : List A) → r ≡ Ok o → length o ≡ n) → ((w : List B) → s ≡ Ok w → length w ≡ n)
     → (length os ≡ n) × (length ws ≡ n)
 both_count (Err e) s n os ws q left right = absurd (false≢true (ap is_ok q))
 both_count (Ok o) (Err e) n os ws q left right = absurd (false≢true (ap is_ok q))
 both_count {A} {B} (Ok o) (Ok w) n os ws q left right = (
-  sym (ap (λ (r : Result (List A × List B) VerilogFault). length (value_or (os, ws) r).0) q) ∙ left o refl,
-  sym (ap (λ (r : Result (List A × List B) VerilogFault). length (value_or (os, ws) r).1) q) ∙ right w refl,
+  sym (ap (λ (r : Result (List A × List B) FlatFault). length (value_or (os, ws) r).0) q) ∙ left o refl,
+  sym (ap (λ (r : Result (List A × List B) FlatFault). length (value_or (os, ws) r).1) q) ∙ right w refl,
 )
 
 all_are : (table : List (List ℕ)) (ts : Rest) (d : Dealt) (marks : ℕ → Bool) (m : Modules) → IsDealtOut ts d → all_read table marks ts d ≡ Ok (parts_read m)
@@ -61,7 +64,7 @@ all_are : (table : List (List ℕ)) (ts : Rest) (d : Dealt) (marks : ℕ → Boo
 all_are table ts d marks m out read =
     let counts =
     both_count (owns table marks d.others ts d.modules) (all_written marks ts d.modules) (length d.modules) (map module_and_parts m.owns) m.written read
-    (λ os e. each_count (λ (p : ModuleSpan). said table (own_text marks d.others ts p)) d.modules os e)
+    (λ os e. within_count (begin ts) (λ (p : ModuleSpan). as_verilog (said table (own_text marks d.others ts p))) MAX_OWN_NETS d.modules os e)
     (λ ws e. each_count (λ (p : ModuleSpan). written marks (part ts p.body p.stop)) d.modules ws e) in
     let there : length d.modules ≡ length (modules_of ts) = sym (length-map d.modules (piece_in ts)) ∙ ap length (modules_are ts d out.dealt) in
     record {

@@ -1,5 +1,5 @@
 -- The names of the modules of a text, by their numbers.
-use Rattle.std.proofs.Common.{◌≡◌, ℕ, Bool, true, false, cond, List, [], ◌∷◌, map, Option, Some, None, refl, sym, ap, ◌∙◌}
+use Rattle.std.proofs.Common.{◌≡◌, ℕ, List, [], ◌∷◌, map, Option, Some, None, refl, ap, ◌∙◌}
 use Rattle.std.specs.Prelude.{if◌then◌else◌}
 use Rattle.bs_verilog_lexemes.specs.Lexemes.{is_name}
 use Rattle.bs_verilog_syntax.specs.Reading.{Rest, sort, rest, name}

@@ -3,6 +3,7 @@ pub mod PieceLemmas
 pub mod DealLemmas
 pub mod ItemLemmas
 pub mod EachLemmas
+pub mod WithinLemmas
 pub mod NameLemmas
 pub mod LawLemmas
 pub mod ReadLemmas

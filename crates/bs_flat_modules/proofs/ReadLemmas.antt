@@ -11,7 +11,7 @@ use Rattle.bs_bits.specs.Reading.{◌>>=◌, Answers}
 use Rattle.bs_verilog_syntax.specs.declared.tree.Module.{Module}
 use Rattle.bs_verilog_syntax.specs.declared.fault.VerilogFault.{VerilogFault}
 use Rattle.bs_verilog_syntax.specs.declared.fault.VerilogFault.TheVariants.{NoMemory as out_of_memory}
-use Rattle.bs_verilog_syntax.specs.Reading.{Rest, Read, sort}
+use Rattle.bs_verilog_syntax.specs.Reading.{Rest, Read, at, sort}
 use Rattle.bs_verilog_syntax.specs.Modules.{syntax_of, is_endmodule}
 use Rattle.bs_verilog.specs.Netlist.{meaning_of}
 use Rattle.bs_verilog_scope.specs.Declaring.{is_in, repeated_fault}
@@ -21,7 +21,8 @@ use Rattle.bs_flat_meaning.specs.declared.fault.FlatFault.TheVariants.{Verilog, 
 use Rattle.bs_flat_meaning.specs.Instancing.{instancing}
 use Rattle.bs_flat_meaning.specs.Pieces.{Piece, Item, pieces, modules_of, is_design, to_semicolon, items_from, past_attributes, own_text as flat_own_text}
 use Rattle.bs_flat_meaning.specs.Pieces.{own_piece, statements_of}
-use Rattle.bs_flat_meaning.specs.Reading.{◌then◌, as_verilog, all_of, read_own, read_written, read_modules, second_module, no_fault, gathered}
+use Rattle.bs_flat_meaning.specs.declared.limits.TheConstants.{MAX_OWN_NETS}
+use Rattle.bs_flat_meaning.specs.Reading.{◌then◌, as_verilog, all_of, owns_within, read_own, read_written, read_modules, second_module, no_fault, gathered}
 use Rattle.bs_flat_meaning.specs.Reading.{second_instance, first_of}
 use Rattle.bs_flat_meaning.specs.Connecting.{ReadModule}
 use Rattle.bs_flat_modules.specs.declared.dealing.ModuleSpan.{ModuleSpan}
@@ -32,10 +33,11 @@ use Rattle.bs_flat_modules.specs.Dealing.{IsDealt, Standing, designs_after, othe
 use Rattle.bs_flat_modules.specs.Items.{names_one, is_statement, statement, with_item, written_items}
 use Rattle.bs_flat_modules.specs.Names.{heads, head_of, rises, begin, all_apart}
 use Rattle.bs_flat_modules.specs.Owns.{each_of, said, module_and_parts, own_text, own_body, owns, written, all_written}
-use Rattle.bs_flat_modules.specs.Reading.{IsDealtOut, fault_of, twice_of, read_modules_of, parts_read, all_read, apart_or, apart}
+use Rattle.bs_flat_modules.specs.Reading.{IsDealtOut, fault_of, twice_of, read_modules_of, parts_read, with_written, all_read, apart_or, apart}
 use Rattle.bs_flat_modules.proofs.LawLemmas.{IsOwn, all_own, begins}
 use Rattle.bs_flat_modules.proofs.NameLemmas.{heads_of, marks_are, modules_once, modules_twice, Twofold, instances_twofold}
 use Rattle.bs_flat_modules.proofs.ItemLemmas.{items_is}
+use Rattle.bs_flat_modules.proofs.WithinLemmas.{within_each}
 
 -- ---- instances
 
@@ -122,6 +124,9 @@ written_same ms p =
     ∙ none_before (all_of read_one (of_items (names_one ms) (items_from (length head.1) head.1).0)))
 
 -- ---- own texts
+
+abbrev Read_own : Type 0
+Read_own = Result (List (Module × Parts)) FlatFault
 
 abbrev paired : Module → Parts → Result (Module × Parts) FlatFault
 paired m parts = let both : Module × Parts = (m, parts) in Ok both
@@ -226,13 +231,18 @@ own_each ts d out =
     (subst (All (IsOwn ms (pieces ts) 0 0)) (sym out.dealt.modules) (all_own ms (pieces ts) 0 0 (rising_is ts d out))) in
     λ k e lt. own_same ms ts (get_or d.modules k e) d.others (owned k e lt) out.dealt.others
 
+-- the own texts of modules, as they are read
+abbrev own_texts : List (List ℕ) → Rest → List Piece → Read_own
+own_texts table ts ms = owns_within (λ (p : Piece). at p.body) (read_own table ts) MAX_OWN_NETS ms
+
 pub owns_same : (table : List (List ℕ)) (ts : Rest) (d : Dealt) → IsDealtOut ts d
-    → all_of (read_own table ts) (modules_of ts) ≡ as_verilog (owns table (names_one (modules_of ts)) d.others ts d.modules)
+    → own_texts table ts (modules_of ts) ≡ owns table (names_one (modules_of ts)) d.others ts d.modules
 owns_same table ts d out =
     let ms = modules_of ts in
     let each = own_each ts d out in
-    ap (all_of (read_own table ts)) (sym (modules_are ts d out.dealt))
-    ∙ all_each (λ p. said table (own_text (names_one ms) d.others ts p)) (read_own table ts) (piece_in ts) d.modules
+    ap (own_texts table ts) (sym (modules_are ts d out.dealt))
+    ∙ within_each (λ (p : Piece). at p.body) (read_own table ts) (piece_in ts)
+    (λ (p : ModuleSpan). as_verilog (said table (own_text (names_one ms) d.others ts p))) MAX_OWN_NETS d.modules
     (λ k e lt. said_same table ts (piece_in ts (get_or d.modules k e)) ∙ ap (λ xs. as_verilog (said table xs)) (each k e lt))
 
 pub all_written_same : (ts : Rest) (d : Dealt) → IsDealtOut ts d
@@ -244,9 +254,6 @@ all_written_same ts d out =
     (λ k e lt. written_same ms (piece_in ts (get_or d.modules k e)))
 
 -- ---- the whole
-
-abbrev Read_own : Type 0
-Read_own = Result (List (Module × Parts)) FlatFault
 
 abbrev Total : Type 0
 Total = Result (List ReadModule) FlatFault
@@ -263,7 +270,7 @@ own_step ws os = os then (λ all. written_step ws all)
 read_is : (table : List (List ℕ)) (ts : Rest)
     → read_modules table ts
     ≡ (no_fault Twice (second_module [] (modules_of ts)) then (λ _. own_step (all_of (read_written (modules_of ts)) (modules_of ts))
-    (all_of (read_own table ts) (modules_of ts))))
+    (own_texts table ts (modules_of ts))))
 unfolding read_modules
 read_is table ts = refl
 
@@ -274,29 +281,28 @@ marks_same ts d marks out e =
 -- once no module stands twice
 once_is : (table : List (List ℕ)) (ts : Rest) (d : Dealt) (marks : ℕ → Bool) → IsDealtOut ts d → marks ≡ is_in (heads ts d.modules)
     → repeated_fault (heads ts d.modules) ≡ None
-    → read_modules table ts ≡ own_step (as_verilog (all_written marks ts d.modules)) (as_verilog (owns table marks d.others ts d.modules))
+    → read_modules table ts ≡ own_step (as_verilog (all_written marks ts d.modules)) (owns table marks d.others ts d.modules)
 once_is table ts d marks out e once =
     let ms = modules_of ts in
     let same = marks_same ts d marks out e in
     let few : repeated_fault (heads_of ms) ≡ None = sym (ap repeated_fault (heads_are ts d out.dealt)) ∙ once in
     read_is table ts
-    ∙ ap (λ (r : Result (List ℕ) FlatFault). r then (λ _. own_step (all_of (read_written ms) ms) (all_of (read_own table ts) ms))) (modules_once ms few)
-    ∙ ap (λ ws. own_step ws (all_of (read_own table ts) ms)) (all_written_same ts d out)
+    ∙ ap (λ (r : Result (List ℕ) FlatFault). r then (λ _. own_step (all_of (read_written ms) ms) (own_texts table ts ms))) (modules_once ms few)
+    ∙ ap (λ ws. own_step ws (own_texts table ts ms)) (all_written_same ts d out)
     ∙ ap (own_step (as_verilog (all_written (names_one ms) ts d.modules))) (owns_same table ts d out)
-    ∙ ap (λ (f : ℕ → Bool). own_step (as_verilog (all_written f ts d.modules)) (as_verilog (owns table f d.others ts d.modules))) (sym same)
+    ∙ ap (λ (f : ℕ → Bool). own_step (as_verilog (all_written f ts d.modules)) (owns table f d.others ts d.modules)) (sym same)
 
 abbrev Both : Type 0
-Both = Result (List (Module × Parts) × List (List Written)) VerilogFault
+Both = Result (List (Module × Parts) × List (List Written)) FlatFault
 
-abbrev both_of : Result (List (Module × Parts)) VerilogFault → Result (List (List Written)) VerilogFault → Both
-both_of os ws = os >>= λ o. ws >>= λ w. Ok (o, w)
+abbrev both_of : Read_own → Result (List (List Written)) VerilogFault → Both
+both_of os ws = os then (λ o. with_written o ws)
 
 abbrev finished : Both → Total
 finished (Ok both) = last_step both.0 both.1
-finished (Err fault) = Err (Verilog fault)
+finished (Err fault) = Err fault
 
-steps_are : (os : Result (List (Module × Parts)) VerilogFault) (ws : Result (List (List Written)) VerilogFault)
-    → own_step (as_verilog ws) (as_verilog os) ≡ finished (both_of os ws)
+steps_are : (os : Read_own) (ws : Result (List (List Written)) VerilogFault) → own_step (as_verilog ws) os ≡ finished (both_of os ws)
 steps_are (Err e) ws = refl
 steps_are (Ok o) (Err e) = refl
 steps_are (Ok o) (Ok w) = refl
@@ -327,17 +333,29 @@ read_found table ts d marks m r out e once read a =
     answer_as (read_modules table ts) (apart m) r
     (total_is table ts d marks out e once ∙ ap finished read ∙ apart_as m (all_apart m.written) (instances_twofold m.written)) a
 
-verilog_fault : (total : Total) (fault : VerilogFault) → total ≡ Err (Verilog fault) → (fault_of fault ≡ NoMemory) ⊎ (total ≡ Err (fault_of fault))
-verilog_fault total out_of_memory e = inl refl
-verilog_fault total fault e = inr e
-
-pub read_fault : (table : List (List ℕ)) (ts : Rest) (d : Dealt) (marks : ℕ → Bool) (fault : VerilogFault) → IsDealtOut ts d
+pub read_fault : (table : List (List ℕ)) (ts : Rest) (d : Dealt) (marks : ℕ → Bool) (fault : FlatFault) → IsDealtOut ts d
     → marks ≡ is_in (heads ts d.modules) → repeated_fault (heads ts d.modules) ≡ None
-    → (fault ≡ out_of_memory) ⊎ (all_read table marks ts d ≡ Err fault)
-    → (fault_of fault ≡ NoMemory) ⊎ (read_modules table ts ≡ Err (fault_of fault))
-read_fault table ts d marks fault out e once (inl memory) = inl (ap fault_of memory)
-read_fault table ts d marks fault out e once (inr read) =
-    verilog_fault (read_modules table ts) fault (total_is table ts d marks out e once ∙ ap finished read)
+    → (fault ≡ NoMemory) ⊎ (all_read table marks ts d ≡ Err fault) → (fault ≡ NoMemory) ⊎ (read_modules table ts ≡ Err fault)
+read_fault table ts d marks fault out e once (inl memory) = inl memory
+read_fault table ts d marks fault out e once (inr read) = inr (total_is table ts d marks out e once ∙ ap finished read)
+
+-- a refusal of a text is one of its design
+pub as_fault : {A : Type 0} (r : Result A VerilogFault) (fault : VerilogFault) → (fault ≡ out_of_memory) ⊎ (r ≡ Err fault)
+    → (fault_of fault ≡ NoMemory) ⊎ (as_verilog r ≡ Err (fault_of fault))
+as_fault r fault (inl memory) = inl (ap fault_of memory)
+as_fault r fault (inr e) = by fault (ap as_verilog e)
+  where
+    by : (fault : VerilogFault) → as_verilog r ≡ Err (Verilog fault) → (fault_of fault ≡ NoMemory) ⊎ (as_verilog r ≡ Err (fault_of fault))
+    by out_of_memory e = inl refl
+    by fault e = inr e
+
+pub written_fault : (os : List (Module × Parts)) (r : Result (List (List Written)) VerilogFault) (fault : VerilogFault)
+    → (fault ≡ out_of_memory) ⊎ (r ≡ Err fault) → (fault_of fault ≡ NoMemory) ⊎ (with_written os r ≡ Err (fault_of fault))
+written_fault os r fault h = by (as_fault r fault h)
+  where
+    by : (fault_of fault ≡ NoMemory) ⊎ (as_verilog r ≡ Err (fault_of fault)) → (fault_of fault ≡ NoMemory) ⊎ (with_written os r ≡ Err (fault_of fault))
+    by (inl memory) = inl memory
+    by (inr e) = inr (ap (λ (w : Result (List (List Written)) FlatFault). w then (λ all. Ok (os, all))) e)
 
 pub read_twice : (table : List (List ℕ)) (ts : Rest) (d : Dealt) (fault : VerilogFault) → IsDealtOut ts d
     → (fault ≡ out_of_memory) ⊎ (repeated_fault (heads ts d.modules) ≡ Some fault)
@@ -346,5 +364,5 @@ read_twice table ts d fault out (inl memory) = inl (ap twice_of memory)
 read_twice table ts d fault out (inr twice) =
     let ms = modules_of ts in
     inr (read_is table ts
-    ∙ ap (λ (r : Result (List ℕ) FlatFault). r then (λ _. own_step (all_of (read_written ms) ms) (all_of (read_own table ts) ms)))
+    ∙ ap (λ (r : Result (List ℕ) FlatFault). r then (λ _. own_step (all_of (read_written ms) ms) (own_texts table ts ms)))
     (modules_twice ms fault (sym (ap repeated_fault (heads_are ts d out.dealt)) ∙ twice)))

@@ -8,12 +8,16 @@ use Rattle.bs_verilog_syntax.specs.declared.fault.VerilogFault.{VerilogFault}
 use Rattle.bs_verilog_syntax.specs.Reading.{Rest}
 use Rattle.bs_verilog_syntax.specs.Modules.{syntax_of}
 use Rattle.bs_verilog.specs.Netlist.{meaning_of}
+use Rattle.bs_flat_meaning.specs.declared.fault.FlatFault.{FlatFault}
+use Rattle.bs_flat_meaning.specs.declared.limits.TheConstants.{MAX_OWN_NETS}
 use Rattle.bs_flat_meaning.specs.declared.statements.Written.{Written}
+use Rattle.bs_flat_meaning.specs.Reading.{as_verilog, owns_within}
 use Rattle.bs_flat_meaning.specs.Pieces.{to_semicolon}
 use Rattle.bs_flat_modules.specs.declared.dealing.ModuleSpan.{ModuleSpan}
 use Rattle.bs_flat_modules.specs.declared.owns.Own.{Own}
 use Rattle.bs_flat_modules.specs.Copying.{part}
 use Rattle.bs_flat_modules.specs.Items.{own_items, written_items}
+use Rattle.bs_flat_modules.specs.Names.{begin}
 
 -- one after another, up to the first fault
 unfoldable pub each_of : {A B : Type 0} → (A → Result B VerilogFault) → List A → Result (List B) VerilogFault
@@ -36,9 +40,9 @@ abbrev pub own_text : (ℕ → Bool) → Rest → Rest → ModuleSpan → Rest
 own_text marks others ts p =
     take p.before others ++ (part ts p.from p.body ++ (own_body marks (part ts p.body p.stop) ++ drop p.before others))
 
--- what the own texts of the modules at these places say
-abbrev pub owns : List (List ℕ) → (ℕ → Bool) → Rest → Rest → List ModuleSpan → Result (List (Module × Parts)) VerilogFault
-owns table marks others ts places = each_of (λ p. said table (own_text marks others ts p)) places
+-- what the own texts of the modules at these places say, or the first refusal
+abbrev pub owns : List (List ℕ) → (ℕ → Bool) → Rest → Rest → List ModuleSpan → Result (List (Module × Parts)) FlatFault
+owns table marks others ts places = owns_within (begin ts) (λ p. as_verilog (said table (own_text marks others ts p))) MAX_OWN_NETS places
 
 -- the instances that a module with this body writes
 abbrev pub written : (ℕ → Bool) → Rest → Result (List Written) VerilogFault

@@ -1,7 +1,6 @@
 -- The modules of a text of several, as they were read.
 use Rattle.std.specs.Prelude.{◌≡◌, ℕ, Bool, true, List, length, map, zip, ⊤, Result, Ok, Err}
 use Rattle.bs_net.specs.Parts.{Parts}
-use Rattle.bs_bits.specs.Reading.{◌>>=◌}
 use Rattle.bs_verilog_syntax.specs.declared.tree.Module.{Module}
 use Rattle.bs_flat_meaning.specs.declared.statements.Written.{Written}
 use Rattle.bs_verilog_syntax.specs.declared.fault.VerilogFault.{VerilogFault}
@@ -11,7 +10,7 @@ use Rattle.bs_flat_meaning.specs.declared.fault.FlatFault.{FlatFault}
 use Rattle.bs_flat_meaning.specs.declared.fault.FlatFault.TheVariants.{Verilog, Twice, NoMemory}
 use Rattle.bs_flat_meaning.specs.Connecting.{ReadModule}
 use Rattle.bs_flat_meaning.specs.Pieces.{modules_of}
-use Rattle.bs_flat_meaning.specs.Reading.{gathered}
+use Rattle.bs_flat_meaning.specs.Reading.{◌then◌, as_verilog, gathered}
 use Rattle.bs_flat_modules.specs.declared.dealing.Dealt.{Dealt}
 use Rattle.bs_flat_modules.specs.declared.owns.Modules.{Modules}
 use Rattle.bs_flat_modules.specs.Dealing.{IsDealt}
@@ -46,9 +45,14 @@ read_modules_of m = map gathered (zip (map module_and_parts m.owns) m.written)
 abbrev pub parts_read : Modules → List (Module × Parts) × List (List Written)
 parts_read m = (map module_and_parts m.owns, m.written)
 
+-- what was read of the own texts, and the instances
+abbrev pub with_written : List (Module × Parts) → Result (List (List Written)) VerilogFault →
+    Result (List (Module × Parts) × List (List Written)) FlatFault
+with_written os ws = as_verilog ws then (λ all. Ok (os, all))
+
 -- what the own texts say, and then the instances
-abbrev pub all_read : List (List ℕ) → (ℕ → Bool) → Rest → Dealt → Result (List (Module × Parts) × List (List Written)) VerilogFault
-all_read table marks ts d = owns table marks d.others ts d.modules >>= λ os. all_written marks ts d.modules >>= λ ws. Ok (os, ws)
+abbrev pub all_read : List (List ℕ) → (ℕ → Bool) → Rest → Dealt → Result (List (Module × Parts) × List (List Written)) FlatFault
+all_read table marks ts d = owns table marks d.others ts d.modules then (λ os. with_written os (all_written marks ts d.modules))
 
 -- the modules, where no instance name stands twice within one
 abbrev pub apart_or : Modules → Result ⊤ VerilogFault → Result Modules FlatFault

@@ -12,6 +12,7 @@ use crate::sorts::{is_cell, is_endmodule};
 use bs_bits::{List, NoMemory};
 use bs_flat_meaning::{Written, instancing};
 use bs_verilog_lexemes::{Lexeme, Sort, is_name};
+use bs_verilog_scope::Marks;
 use bs_verilog_syntax::{VerilogFault, is_at, sort_of};
 use std::alloc::Global;
 
@@ -64,25 +65,18 @@ fn past(ts: &[Lexeme]) -> Result<&[Lexeme], NoMemory>
     }
 }
 
-/// Whether a name is marked, by its number.
-fn is_marked(marks: &[bool], id: u32) -> bool
-    ensures { result ≡ marked marks.now id }
-{
-    marks.get(id as usize).copied().unwrap_or(false)
-}
-
 /// Whether a name is next that is marked and is no cell's.
-fn is_marked_next(marks: &[bool], ts: &[Lexeme]) -> bool
+fn is_marked_next(marks: &Marks, ts: &[Lexeme]) -> bool
     ensures { result ≡ spec.is_marked_next (marked marks.now) ts.now }
 {
     match ts {
         [] => false,
-        [t, ..] => is_name(t.sort()) && !is_cell(t.sort()) && is_marked(marks, t.name()),
+        [t, ..] => is_name(t.sort()) && !is_cell(t.sort()) && marks.has(t.name()),
     }
 }
 
 /// Whether an item is an instance statement.
-fn is_statement(marks: &[bool], item: &[Lexeme]) -> Result<bool, NoMemory>
+fn is_statement(marks: &Marks, item: &[Lexeme]) -> Result<bool, NoMemory>
     ensures { IfOk result (λ b. b ≡ spec.is_statement (marked marks.now) item.now) }
 {
     let here = past(item)?;
@@ -90,7 +84,7 @@ fn is_statement(marks: &[bool], item: &[Lexeme]) -> Result<bool, NoMemory>
 }
 
 /// Adds an item that is no instance statement.
-fn own_item(own: &mut List<Lexeme>, marks: &[bool], item: &[Lexeme]) -> Result<(), NoMemory>
+fn own_item(own: &mut List<Lexeme>, marks: &Marks, item: &[Lexeme]) -> Result<(), NoMemory>
     ensures { OnOk result (own.new ≡ own.old ++ spec.kept (marked marks.now) item.now) }
 {
     if is_statement(marks, item)? {
@@ -101,7 +95,7 @@ fn own_item(own: &mut List<Lexeme>, marks: &[bool], item: &[Lexeme]) -> Result<(
 }
 
 /// Adds the items of a module that are no instance statements, and its `endmodule`.
-pub fn own_items(own: &mut List<Lexeme>, marks: &[bool], ts: &[Lexeme]) -> Result<(), NoMemory>
+pub fn own_items(own: &mut List<Lexeme>, marks: &Marks, ts: &[Lexeme]) -> Result<(), NoMemory>
     ensures { OnOk result (own.new ≡ own.old ++ spec.own_items (marked marks.now) (length ts.now) ts.now) }
 {
     let mut at = 0;
@@ -133,7 +127,7 @@ fn statement(alloc: Global, ts: &[Lexeme]) -> Result<List<Written>, VerilogFault
 fn add_item(
     alloc: Global,
     all: &mut List<Written>,
-    marks: &[bool],
+    marks: &Marks,
     item: &[Lexeme],
     ts: &[Lexeme],
 ) -> Result<(), VerilogFault>
@@ -149,7 +143,7 @@ fn add_item(
 /// The instances of a module's items, or the first fault of an instance statement.
 pub fn written_items(
     alloc: Global,
-    marks: &[bool],
+    marks: &Marks,
     ts: &[Lexeme],
 ) -> Result<List<Written>, VerilogFault>
     ensures { Answers want (λ ws. ws) result (spec.written_items (marked marks.now) (length ts.now) [] ts.now) }

@@ -11,7 +11,6 @@ mod copying;
 mod dealing;
 mod ids;
 mod items;
-mod limits;
 mod names;
 mod owns;
 mod pieces;
@@ -20,6 +19,5 @@ mod sorts;
 
 pub use dealing::{Dealt, ModuleSpan, deal};
 pub use ids::module_ids;
-pub use limits::MAX_OWN_NETS;
 pub use owns::{Modules, Own};
 pub use reading::read_modules;

@@ -1,20 +1,23 @@
 //! The own text of each module, and what it says.
-ghost use Rattle.std.specs.Prelude.{◌≡◌, ◌++◌, map, IfErr, IfOk, OnOk};
+ghost use Rattle.std.specs.Prelude.{◌≡◌, ◌<◌, ◌≤◌, [], ◌∷◌, ◌++◌, length, map, IfErr, IfOk, OnOk};
 ghost use Rattle.bs_bits.specs.Reading.{Answers};
 ghost use Rattle.bs_verilog_scope.specs.Checking.{marked};
 ghost use Rattle.bs_verilog_syntax.specs.declared.fault.VerilogFault.TheVariants.{NoMemory as want};
+ghost use Rattle.bs_flat_meaning.specs.declared.fault.FlatFault.TheVariants.{OwnNets, NoMemory as no_memory};
+ghost use Rattle.bs_flat_meaning.specs.Reading.{as_verilog};
 ghost use Rattle.bs_flat_modules.specs.Owns as spec;
+ghost use Rattle.bs_flat_modules.specs.Reading.{fault_of};
 
 use crate::copying::{copy, part};
 use crate::dealing::ModuleSpan;
 use crate::items::{item_size, own_items, written_items};
-use crate::limits::MAX_OWN_NETS;
 use bs_bits::{List, NoMemory};
-use bs_flat_meaning::Written;
+use bs_flat_meaning::{FlatFault, MAX_OWN_NETS, Written};
 use bs_net::Raw;
 use bs_verilog::meaning;
 use bs_verilog_lexemes::{Lexeme, Table};
-use bs_verilog_syntax::{Module, VerilogFault, syntax};
+use bs_verilog_scope::Marks;
+use bs_verilog_syntax::{Module, VerilogFault, place_of, syntax};
 use std::alloc::Global;
 
 /// What a module's own text says, and the parts that it builds.
@@ -33,7 +36,7 @@ pub struct Modules {
 }
 
 /// Adds the own text of a module with this body.
-fn own_body(own: &mut List<Lexeme>, marks: &[bool], body: &[Lexeme]) -> Result<(), NoMemory>
+fn own_body(own: &mut List<Lexeme>, marks: &Marks, body: &[Lexeme]) -> Result<(), NoMemory>
     ensures { OnOk result (own.new ≡ own.old ++ spec.own_body (marked marks.now) body.now) }
 {
     let size = item_size(body);
@@ -47,7 +50,7 @@ fn own_text(
     alloc: Global,
     ts: &[Lexeme],
     others: &[Lexeme],
-    marks: &[bool],
+    marks: &Marks,
     place: ModuleSpan,
 ) -> Result<List<Lexeme>, NoMemory>
     ensures { IfOk result (λ own. own ≡ spec.own_text (marked marks.now) others.now ts.now place) }
@@ -70,12 +73,12 @@ fn said(alloc: Global, table: &Table, own: &[Lexeme]) -> Result<Own, VerilogFaul
 }
 
 /// What the own text of the module at a place says.
-fn read_own(
+fn own_said(
     alloc: Global,
     table: &Table,
     ts: &[Lexeme],
     others: &[Lexeme],
-    marks: &[bool],
+    marks: &Marks,
     place: ModuleSpan,
 ) -> Result<Own, VerilogFault>
     ensures { Answers want spec.module_and_parts result (spec.said table.now (spec.own_text (marked marks.now) others.now ts.now place)) }
@@ -85,41 +88,81 @@ fn read_own(
     Ok(said)
 }
 
-/// The room for nets that is left after some more. With no room left it is want of memory.
-fn room_left(room: u32, nets: u32) -> Result<u32, VerilogFault>
-    ensures { IfErr result (λ fault. fault ≡ want) }
+/// A refusal of a module's own text, or of an instance statement.
+pub fn fault_of(fault: VerilogFault) -> FlatFault
+    ensures { result ≡ fault_of fault }
 {
-    if nets > room {
-        return Err(VerilogFault::NoMemory);
+    match fault {
+        VerilogFault::NoMemory => FlatFault::NoMemory,
+        _ => FlatFault::Verilog(fault),
     }
-    Ok(room - nets)
 }
 
-/// What the own text of each module says, or the first fault. More than `MAX_OWN_NETS` nets of all own texts together are want
-/// of memory.
+/// What the own text of the module at a place says, or why the text is refused.
+fn read_own(
+    alloc: Global,
+    table: &Table,
+    ts: &[Lexeme],
+    others: &[Lexeme],
+    marks: &Marks,
+    place: ModuleSpan,
+) -> Result<Own, FlatFault>
+    ensures { Answers no_memory spec.module_and_parts result (as_verilog (spec.said table.now (spec.own_text (marked marks.now) others.now ts.now place))) }
+{
+    match own_said(alloc, table, ts, others, marks, place) {
+        Ok(own) => Ok(own),
+        Err(fault) => Err(fault_of(fault)),
+    }
+}
+
+/// A module whose nets are no more than there is room for; else the module at this place is refused.
+fn fitted(own: Own, room: u32, at: u32) -> Result<Own, FlatFault>
+    ensures fits { IfOk result (λ o. (o ≡ own) × (length own.parts.names ≤ room)) }
+    ensures refused { IfErr result (λ fault. (fault ≡ OwnNets at) × (room < length own.parts.names)) }
+{
+    if own.parts.names.len() > room {
+        Err(FlatFault::OwnNets(at))
+    } else {
+        Ok(own)
+    }
+}
+
+/// Puts a module at the end.
+fn push_own(owns: &mut List<Own>, own: Own) -> Result<(), FlatFault>
+    ensures ok { OnOk result (owns.new ≡ owns.old ++ own ∷ []) }
+    ensures err { IfErr result (λ fault. fault ≡ no_memory) }
+{
+    match owns.push(own) {
+        Ok(()) => Ok(()),
+        Err(_) => Err(FlatFault::NoMemory),
+    }
+}
+
+/// What the own text of each module says, or the first fault, or the first module by which their nets pass `MAX_OWN_NETS`.
 pub fn read_owns(
     alloc: Global,
     table: &Table,
     ts: &[Lexeme],
     others: &[Lexeme],
-    marks: &[bool],
+    marks: &Marks,
     modules: &[ModuleSpan],
-) -> Result<List<Own>, VerilogFault>
-    ensures { Answers want (λ os. map spec.module_and_parts os) result (spec.owns table.now (marked marks.now) others.now ts.now modules.now) }
+) -> Result<List<Own>, FlatFault>
+    ensures { Answers no_memory (λ os. map spec.module_and_parts os) result (spec.owns table.now (marked marks.now) others.now ts.now modules.now) }
 {
     let mut owns = List::new(alloc);
     let mut room = MAX_OWN_NETS;
     'modules: for place in modules {
-        let own = read_own(alloc, table, ts, others, marks, *place)?;
-        let nets = own.parts.names.len();
-        owns.push(own)?;
-        room = room_left(room, nets)?;
+        let at = place_of(part(ts, place.body, place.stop));
+        let read = read_own(alloc, table, ts, others, marks, *place)?;
+        let own = fitted(read, room, at)?;
+        room -= own.parts.names.len();
+        push_own(&mut owns, own)?;
     }
     Ok(owns)
 }
 
 /// The instances that a module with this body writes.
-fn written(alloc: Global, marks: &[bool], body: &[Lexeme]) -> Result<List<Written>, VerilogFault>
+fn written(alloc: Global, marks: &Marks, body: &[Lexeme]) -> Result<List<Written>, VerilogFault>
     ensures { Answers want (λ ws. ws) result (spec.written (marked marks.now) body.now) }
 {
     let size = item_size(body);
@@ -131,7 +174,7 @@ fn written(alloc: Global, marks: &[bool], body: &[Lexeme]) -> Result<List<Writte
 pub fn read_written(
     alloc: Global,
     ts: &[Lexeme],
-    marks: &[bool],
+    marks: &Marks,
     modules: &[ModuleSpan],
 ) -> Result<List<List<Written>>, VerilogFault>
     ensures { Answers want (λ ws. ws) result (spec.all_written (marked marks.now) ts.now modules.now) }

@@ -1,5 +1,5 @@
 //! The modules of a text of several, read one by one.
-ghost use Rattle.std.specs.Prelude.{◌≡◌, IfOk, MatchResult, None};
+ghost use Rattle.std.specs.Prelude.{◌≡◌, map, IfOk, MatchResult, None};
 ghost use Rattle.bs_bits.specs.Reading.{Answers};
 ghost use Rattle.bs_verilog_syntax.specs.declared.fault.VerilogFault.TheVariants.{NoMemory as out_of_memory};
 ghost use Rattle.bs_verilog_scope.specs.Checking.{Checks, marked};
@@ -7,26 +7,18 @@ ghost use Rattle.bs_verilog_scope.specs.Declaring.{is_in, repeated_fault};
 ghost use Rattle.bs_flat_meaning.specs.declared.fault.FlatFault.TheVariants.{NoMemory as want};
 ghost use Rattle.bs_flat_meaning.specs.Reading as flat;
 ghost use Rattle.bs_flat_modules.specs.Names as naming;
+ghost use Rattle.bs_flat_modules.specs.Owns.{all_written, module_and_parts};
 ghost use Rattle.bs_flat_modules.specs.Reading as spec;
 
-use crate::dealing::{Dealt, deal};
+use crate::dealing::{Dealt, ModuleSpan, deal};
 use crate::names::{all_apart, are_rising, heads};
-use crate::owns::{Modules, read_owns, read_written};
+use crate::owns::{Modules, Own, fault_of, read_owns, read_written};
+use bs_bits::List;
 use bs_flat_meaning::FlatFault;
 use bs_verilog_lexemes::{Lexeme, Table};
-use bs_verilog_scope::header_marks;
+use bs_verilog_scope::{Marks, header_marks};
 use bs_verilog_syntax::VerilogFault;
 use std::alloc::Global;
-
-/// A refusal of a module's own text, or of an instance statement.
-fn fault_of(fault: VerilogFault) -> FlatFault
-    ensures { result ≡ spec.fault_of fault }
-{
-    match fault {
-        VerilogFault::NoMemory => FlatFault::NoMemory,
-        _ => FlatFault::Verilog(fault),
-    }
-}
 
 /// A refusal of a name that stands twice.
 fn twice_of(fault: VerilogFault) -> FlatFault
@@ -50,13 +42,29 @@ fn dealt_out(alloc: Global, ts: &[Lexeme]) -> Result<Dealt, VerilogFault>
     }
 }
 
-/// A mark for each name of a module, by number; a name that stands twice is refused.
-fn marks_of(alloc: Global, ts: &[Lexeme], dealt: &Dealt) -> Result<Vec<bool>, VerilogFault>
-    ensures { Checks result (repeated_fault (naming.heads ts.now dealt.now.modules)) (λ v. marked v.items ≡ is_in (naming.heads ts.now dealt.now.modules)) }
+/// The names of the modules, marked; a name that stands twice is refused.
+fn marks_of(alloc: Global, ts: &[Lexeme], dealt: &Dealt) -> Result<Marks, VerilogFault>
+    ensures { Checks result (repeated_fault (naming.heads ts.now dealt.now.modules)) (λ m. marked m ≡ is_in (naming.heads ts.now dealt.now.modules)) }
 {
     let names = heads(alloc, ts, dealt.modules.slice())?;
     let marks = header_marks(alloc, names.slice())?;
     Ok(marks)
+}
+
+/// What was read of the own texts, and the instances.
+fn with_written(
+    alloc: Global,
+    ts: &[Lexeme],
+    marks: &Marks,
+    modules: &[ModuleSpan],
+    owns: List<Own>,
+) -> Result<Modules, FlatFault>
+    ensures { Answers want spec.parts_read result (spec.with_written (map module_and_parts owns) (all_written (marked marks.now) ts.now modules.now)) }
+{
+    match read_written(alloc, ts, marks, modules) {
+        Ok(written) => Ok(Modules { owns, written }),
+        Err(fault) => Err(fault_of(fault)),
+    }
 }
 
 /// What the own texts say, and then the instances.
@@ -65,15 +73,15 @@ fn read_all(
     table: &Table,
     ts: &[Lexeme],
     dealt: &Dealt,
-    marks: &[bool],
-) -> Result<Modules, VerilogFault>
-    ensures { Answers out_of_memory spec.parts_read result (spec.all_read table.now (marked marks.now) ts.now dealt.now) }
+    marks: &Marks,
+) -> Result<Modules, FlatFault>
+    ensures { Answers want spec.parts_read result (spec.all_read table.now (marked marks.now) ts.now dealt.now) }
 {
-    let others = dealt.others.slice();
     let modules = dealt.modules.slice();
-    let owns = read_owns(alloc, table, ts, others, marks, modules)?;
-    let written = read_written(alloc, ts, marks, modules)?;
-    Ok(Modules { owns, written })
+    match read_owns(alloc, table, ts, dealt.others.slice(), marks, modules) {
+        Ok(owns) => with_written(alloc, ts, marks, modules, owns),
+        Err(fault) => Err(fault),
+    }
 }
 
 /// The modules, where no instance name stands twice within one.
@@ -92,7 +100,7 @@ fn read_marked(
     table: &Table,
     ts: &[Lexeme],
     dealt: &Dealt,
-    marks: &[bool],
+    marks: &Marks,
 ) -> Result<Modules, FlatFault>
     requires dealt { spec.IsDealtOut ts.now dealt.now }
     requires marks { marked marks.now ≡ is_in (naming.heads ts.now dealt.now.modules) }
@@ -102,7 +110,7 @@ fn read_marked(
 {
     match read_all(alloc, table, ts, dealt, marks) {
         Ok(read) => with_names_apart(alloc, read),
-        Err(fault) => Err(fault_of(fault)),
+        Err(fault) => Err(fault),
     }
 }
 

@@ -1,5 +1,5 @@
 -- The flat nets of a design in order, by the nodes of their paths.
-use Rattle.std.specs.Prelude.{◌≡◌, ℕ, ◌<◌, Bool, false, true, List, [], length, map, slice_index_or, All, IfSome, Option, Some, None}
+use Rattle.std.specs.Prelude.{◌≡◌, ℕ, ◌+◌, ◌<◌, ◌≤◌, Bool, false, true, List, [], length, map, slice_index_or, All, IfSome, Option, Some, None}
 use Rattle.bs_flat_meaning.specs.Design.{Design, PathNet, on}
 use Rattle.bs_flat_meaning.specs.Flat.{flat_nets, first_constant}
 use Rattle.bs_flat_meaning.specs.declared.paths.Node.{Node}
@@ -36,6 +36,13 @@ pub record IsNumbering (blocks : List FlatModule) (nodes : List Node) (top : ℕ
 -- a place of nothing, which stands past the end of a list
 abbrev pub no_place : NetOnPath
 no_place = record { node = 0; net = 0 }
+
+-- Of the places from one on up to another, whatever stands there: the net of the last before this one is lower, and that of this one,
+-- if it is before the end, is not. Where their nets rise, this is the first whose net is no lower.
+pub record IsFirstFrom (places : List NetOnPath) (from stop net at : ℕ) : Type 0 where
+  pub within : at ≤ stop
+  pub below : (i : ℕ) → at ≡ i + 1 → from ≤ i → (slice_index_or places i no_place).net < net
+  pub above : at < stop → net ≤ (slice_index_or places at no_place).net
 
 -- the number of a place's net among the flat nets, which are told by its bit, where that is known
 abbrev pub IsNumberIn : Numbering → Option Bool → NetOnPath → ℕ → Type 0

@@ -1,5 +1,5 @@
 //! The number of the flat net that stands for a net on a path.
-ghost use Rattle.std.specs.Prelude.{◌≡◌, ◌<◌, ◌==◌, ◌&&◌, length, IfSome, slice_index_or};
+ghost use Rattle.std.specs.Prelude.{◌≡◌, ◌<◌, ◌≤◌, ◌==◌, ◌&&◌, length, IfSome, slice_index_or};
 ghost use Rattle.bs_flat_meaning.specs.Design.{on, paths};
 ghost use Rattle.bs_flat_meaning.specs.Flat.{IsDesign, flat_number};
 ghost use Rattle.bs_flat_meaning.specs.Paths.{ArePaths};
@@ -7,7 +7,7 @@ ghost use Rattle.bs_flat_nets.specs.Blocks.{design_of};
 ghost use Rattle.bs_flat_nets.specs.Climbing.{AreClimbable, path_in, node_at};
 ghost use Rattle.bs_flat_nets.specs.Sums.{all_bits_of};
 ghost use Rattle.bs_flat_nets.specs.Free.{count_in, known_in};
-ghost use Rattle.bs_flat_nets.specs.Numbering.{IsNumberIn, IsNumbering, no_place};
+ghost use Rattle.bs_flat_nets.specs.Numbering.{IsFirstFrom, IsNumberIn, IsNumbering, no_place};
 ghost use Rattle.bs_flat_nets.specs.Tally as tally;
 
 use crate::blocks::FlatModule;
@@ -25,9 +25,12 @@ fn is_same(a: NetOnPath, b: NetOnPath) -> bool
 }
 
 /// Where the first place stands whose net is no lower than one, of those from one place to another, if their nets rise.
-fn first_from(places: &[NetOnPath], from: usize, to: usize, net: usize) -> usize {
-    let mut low = from;
-    let mut high = to.min(places.len());
+fn first_from(places: &[NetOnPath], from: usize, stop: usize, net: usize) -> usize
+    requires { stop ≤ length places.now }
+    ensures { IsFirstFrom places.now from stop net result }
+{
+    let mut low = from.min(stop);
+    let mut high = stop;
     'search: while low < high {
         let middle = low + (high - low) / 2;
         if places[middle].net < net {
@@ -48,7 +51,8 @@ fn number_of_place(places: &[NetOnPath], starts: &[usize], place: NetOnPath) -> 
     if node + 1 >= starts.len() {
         return None;
     }
-    let at = first_from(places, starts[node], starts[node + 1], place.net);
+    let stop = starts[node + 1].min(places.len());
+    let at = first_from(places, starts[node], stop, place.net);
     if at >= places.len() {
         return None;
     }

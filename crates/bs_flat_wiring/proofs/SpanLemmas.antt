@@ -1,6 +1,7 @@
 -- Names whose nets stand side by side.
-use Rattle.std.proofs.Common.{◌≡◌, ℕ, zero, suc, ◌+◌, ◌<◌, List, [], ◌∷◌, ◌++◌, length, map, get_or, Option, Some, None}
-use Rattle.std.proofs.Common.{refl, sym, ap, ◌∙◌, arith, ◌⊎◌, inl, inr, ⊎_elim}
+use Rattle.std.proofs.Common.{◌≡◌, ℕ, zero, suc, ◌+◌, ◌<◌, Bool, cond, List, [], ◌∷◌, ◌++◌, length, map, Option, Some, None}
+use Rattle.std.proofs.Common.{refl, sym, ap, ◌∙◌, subst, arith, inl, inr}
+use Rattle.std.proofs.lemmas.Bool.Decides.{eqb_tells}
 use Rattle.std.specs.Prelude.{unwrap_or}
 use Rattle.std.specs.List.{range_with_len}
 use Rattle.std.specs.Option.{option_map}
@@ -9,12 +10,10 @@ use Rattle.bs_net.specs.declared.net.NetId.{NetId}
 use Rattle.bs_net.specs.Names.{number_of, net}
 use Rattle.bs_verilog_syntax.specs.declared.tree.Range.{Range}
 use Rattle.bs_verilog_syntax.specs.declared.tree.Says.{Says}
-use Rattle.bs_verilog_scope.specs.Checking.{looked}
 use Rattle.bs_verilog_scope.specs.Keys.{keys, scalar_key, bit_key, index_at, width}
 use Rattle.bs_verilog_scope.specs.Nets.{net_of, nets_of}
 use Rattle.bs_verilog_scope.proofs.NumberLemmas.{keys_to, placed_bit, placed_all, keys-length}
-use Rattle.bs_verilog_scope.proofs.TableLemmas.{entry_read}
-use Rattle.bs_flat_wiring.specs.Wiring.{side_by_side, net_at, StandFrom, IsSpan, AreSpans, spanned, keys_by}
+use Rattle.bs_flat_wiring.specs.Wiring.{side_by_side, net_at, StandFrom, IsSpan, AreSpans, spanned, with_span, keys_by}
 use Rattle.bs_bits.proofs.RangeLemmas.{range_push}
 
 -- ---- a net that is found
@@ -58,36 +57,27 @@ one_bit names first net name key is at found =
 
 -- ---- as a loop goes on
 
-spanned_push : (xs : List (Option ℕ)) (x : Option ℕ) (k first : ℕ) → spanned (xs ++ x ∷ []) k ≡ Some first
-    → (spanned xs k ≡ Some first) ⊎ ((k ≡ length xs) × (x ≡ Some first))
-spanned_push [] x zero first e = inr (refl, e)
-spanned_push [] x (suc k) first e = absurd (none e)
-  where
-    none : {n : ℕ} → ◌≡◌ {A = Option ℕ} None (Some n) → ⊥
-    none e = cc
-spanned_push (y ∷ ys) x zero first e = inl e
-spanned_push (y ∷ ys) x (suc k) first e =
-    ⊎_elim (λ (h : spanned ys k ≡ Some first). inl h) (λ (h : (k ≡ length ys) × (x ≡ Some first)). inr (ap suc h.0, h.1)) (spanned_push ys x k first e)
-
-pub no_spans : (table names : List (List ℕ)) (scope : ℕ → Option Says) (spans : List (Option ℕ)) → spans ≡ [] → AreSpans table names scope spans
-no_spans table names scope spans e = record { is = λ id first s said there. absurd (none (sym (ap (λ xs. spanned xs id) e) ∙ there)) }
+pub no_spans : (table names : List (List ℕ)) (scope : ℕ → Option Says) (spans : List (ℕ × ℕ)) → spans ≡ [] → AreSpans table names scope spans
+no_spans table names scope spans e = record { is = λ id first s said there. absurd (none (sym (ap (λ (xs : List (ℕ × ℕ)). spanned xs id) e) ∙ there)) }
   where
     none : {n : ℕ} → ◌≡◌ {A = Option ℕ} None (Some n) → ⊥
     none e = cc
 
-pub span_more : (table names : List (List ℕ)) (scope : List (Option Says)) (spans after : List (Option ℕ)) (id : ℕ) (says : Option Says) (span : Option ℕ)
-    → id < length scope → says ≡ get_or scope id says → length spans ≡ id
-    → ((first : ℕ) → span ≡ Some first → IsSpan table names says id first) → after ≡ spans ++ span ∷ []
-    → AreSpans table names (looked scope) spans → AreSpans table names (looked scope) after
-span_more table names scope spans after id says span h is long here made so_far =
-    record {
-      is = λ k first s said there.
-          ⊎_elim (λ (old : spanned spans k ≡ Some first). so_far.is k first s said old)
-          (λ (new : (k ≡ length spans) × (span ≡ Some first)). at k first s said (new.0 ∙ long) new.1)
-          (spanned_push spans span k first (ap (λ xs. spanned xs k) (sym made) ∙ there));
-    }
+some_same : (a b : ℕ) → ◌≡◌ {A = Option ℕ} (Some a) (Some b) → a ≡ b
+some_same a b e = cc
+
+pub span_more : (table names : List (List ℕ)) (scope : ℕ → Option Says) (spans after : List (ℕ × ℕ)) (id first : ℕ) (says : Option Says)
+    → says ≡ scope id → IsSpan table names says id first → ((k : ℕ) → spanned after k ≡ with_span (spanned spans) id first k)
+    → AreSpans table names scope spans → AreSpans table names scope after
+span_more table names scope spans after id first says is here put so_far = record { is = at }
   where
-    at : (k first : ℕ) (s : Says) → looked scope k ≡ Some s → k ≡ id → span ≡ Some first → StandFrom names (keys_by table k s) first
-    at k first s said same new =
-        let there : says ≡ Some s = sym (entry_read scope id says h is) ∙ ap (looked scope) (sym same) ∙ said in
-        rw same (here first new s there)
+    at : (k other : ℕ) (s : Says) → scope k ≡ Some s → spanned after k ≡ Some other → StandFrom names (keys_by table k s) other
+    at k other s said there =
+        elim (eqb_tells id k) [
+          | inl same ↦
+              let first_is : first ≡ other = some_same first other (sym (put k ∙ ap (λ (b : Bool). cond b (Some first) (spanned spans k)) same.0) ∙ there) in
+              let says_is : says ≡ Some s = is ∙ ap scope same.1 ∙ said in
+              subst (λ (f : ℕ). StandFrom names (keys_by table k s) f) first_is
+              (subst (λ (n : ℕ). StandFrom names (keys_by table n s) first) same.1 (here s says_is))
+          | inr apart ↦ so_far.is k other s said (sym (put k ∙ ap (λ (b : Bool). cond b (Some first) (spanned spans k)) apart.0) ∙ there)
+        ]

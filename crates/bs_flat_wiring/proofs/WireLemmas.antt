@@ -58,9 +58,9 @@ whole_bared : (table : List (List ℕ)) (own : Own) (ws : List Written)
 unfolding whole_parts
 whole_bared table own ws = bared_terms table (said own.says.declared) (read_of own ws).own (terms_in ws)
 
-pub is_wiring : (table : List (List ℕ)) (own : Own) (ws : List Written) (w : Wiring) → looked w.scope.items ≡ said own.says.declared
-    → bare_of w.keys w.consts ≡ with_terms table (looked w.scope.items) (bare_of own.parts.names own.parts.consts) (terms_in ws)
-    → AreSpans table w.keys (looked w.scope.items) w.spans.items → IsWiringOf table (read_of own ws) w
+pub is_wiring : (table : List (List ℕ)) (own : Own) (ws : List Written) (w : Wiring) → looked w.scope ≡ said own.says.declared
+    → bare_of w.keys w.consts ≡ with_terms table (looked w.scope) (bare_of own.parts.names own.parts.consts) (terms_in ws)
+    → AreSpans table w.keys (looked w.scope) w.spans → IsWiringOf table (read_of own ws) w
 is_wiring table own ws w scope made spans =
     let all : bare_of w.keys w.consts ≡ bared (whole_parts table (read_of own ws)) =
     made ∙ ap (λ s. with_terms table s (bare_of own.parts.names own.parts.consts) (terms_in ws)) scope ∙ sym (whole_bared table own ws) in
@@ -127,7 +127,7 @@ named_keys table scope n index o e =
     (λ _. Option (List (List ℕ))) [ None ↦ undeclared_keys (text table n) index | Some s ↦ declared_keys (text table n) s.range index ]) e
 
 pub tells_declared : (table : List (List ℕ)) (w : Wiring) (n : Name) (index : Option ℕ) (says : Says) (span : Option ℕ) (name : List ℕ) (s : Option Stretch)
-    → Some says ≡ looked w.scope.items n.id → span ≡ spanned w.spans.items n.id → name ≡ text table n
+    → Some says ≡ looked w.scope n.id → span ≡ spanned w.spans n.id → name ≡ text table n
     → TellsDeclared w.keys name says.range index span s → TellsTerm table w (Named n index) s
 tells_declared table w n index says span name s found there is tells = record { is = stands }
   where
@@ -139,7 +139,7 @@ tells_declared table w n index says span name s found there is tells = record { 
         (tells.is (λ first e. subst (λ (t : List ℕ). StandFrom w.keys (keys t says.range) first) (sym is) (wired.spans.is n.id first says said (sym there ∙ e)))))
 
 pub tells_undeclared : (table : List (List ℕ)) (w : Wiring) (n : Name) (index : Option ℕ) (name : List ℕ) (s : Option Stretch)
-    → None ≡ looked w.scope.items n.id → name ≡ text table n → AreNets w.keys (undeclared_keys name index) s → TellsTerm table w (Named n index) s
+    → None ≡ looked w.scope n.id → name ≡ text table n → AreNets w.keys (undeclared_keys name index) s → TellsTerm table w (Named n index) s
 tells_undeclared table w n index name s found is nets = record { is = stands }
   where
     stands : (m : ReadModule) → IsWiringOf table m w → StandsFor table m (Named n index) s

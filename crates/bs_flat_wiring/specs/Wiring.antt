@@ -1,5 +1,6 @@
 -- The nets of a module with those of its connections, and those of a term.
-use Rattle.std.specs.Prelude.{◌≡◌, ℕ, ◌+◌, List, [], map, length, Option, Some, None, slice_index_or}
+use Rattle.std.specs.Prelude.{◌≡◌, ℕ, ◌+◌, List, [], map, length, Option, Some, None, slice_index_or, nat_eq, if◌then◌else◌}
+use Rattle.std.specs.Map.{lookup}
 use Rattle.std.specs.List.{range_with_len}
 use Rattle.bs_net.specs.declared.net.NetId.{NetId}
 use Rattle.bs_verilog_syntax.specs.declared.tree.Range.{Range}
@@ -37,9 +38,13 @@ net_at first k = record { 0 = first + k }
 abbrev pub keys_by : List (List ℕ) → ℕ → Says → List (List ℕ)
 keys_by table id s = keys (slice_index_or table id []) s.range
 
--- the first net of each name whose nets stand side by side, by number
-abbrev pub spanned : List (Option ℕ) → ℕ → Option ℕ
-spanned spans id = slice_index_or spans id None
+-- the first net of the name with a number, among those of names whose nets stand side by side
+abbrev pub spanned : List (ℕ × ℕ) → ℕ → Option ℕ
+spanned firsts id = lookup (nat_eq id) firsts
+
+-- the same with one name more
+abbrev pub with_span : (ℕ → Option ℕ) → ℕ → ℕ → ℕ → Option ℕ
+with_span spans id first k = if nat_eq id k then Some first else spans k
 
 -- the nets of keys stand side by side from one on
 abbrev pub StandFrom : List (List ℕ) → List (List ℕ) → ℕ → Type 0
@@ -50,15 +55,15 @@ abbrev pub IsSpan : List (List ℕ) → List (List ℕ) → Option Says → ℕ 
 IsSpan table names says id first = (s : Says) → says ≡ Some s → StandFrom names (keys_by table id s) first
 
 -- the nets of each name with a span stand side by side from there
-pub record AreSpans (table names : List (List ℕ)) (scope : ℕ → Option Says) (spans : List (Option ℕ)) : Type 0 where
+pub record AreSpans (table names : List (List ℕ)) (scope : ℕ → Option Says) (spans : List (ℕ × ℕ)) : Type 0 where
   pub is : (id first : ℕ) (s : Says) → scope id ≡ Some s → spanned spans id ≡ Some first → StandFrom names (keys_by table id s) first
 
 -- the wiring is that of a module
 pub record IsWiringOf (table : List (List ℕ)) (m : ReadModule) (w : Wiring) : Type 0 where
   pub names : w.keys ≡ (whole_parts table m).names
   pub consts : w.consts ≡ (whole_parts table m).consts
-  pub scope : looked w.scope.items ≡ scope_of m
-  pub spans : AreSpans table w.keys (scope_of m) w.spans.items
+  pub scope : looked w.scope ≡ scope_of m
+  pub spans : AreSpans table w.keys (scope_of m) w.spans
 
 -- the nets of keys side by side; none where there are no keys
 abbrev pub AreNets : List (List ℕ) → Option (List (List ℕ)) → Option Stretch → Type 0

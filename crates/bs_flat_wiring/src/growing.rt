@@ -13,8 +13,8 @@ use bs_bits::{List, NoMemory};
 use bs_flat_meaning::Written;
 use bs_net::{Const, Names, NetId};
 use bs_verilog_lexemes::Table;
-use bs_verilog_scope::{constant_key, entry};
-use bs_verilog_syntax::{Connection, PackedConnection, Says, Term};
+use bs_verilog_scope::{Scope, constant_key, entry};
+use bs_verilog_syntax::{Connection, PackedConnection, Term};
 use std::alloc::Global;
 
 /// The keys of a module and its constants.
@@ -83,7 +83,7 @@ fn add_term(
     alloc: Global,
     made: &mut Made,
     table: &Table,
-    scope: &[Option<Says>],
+    scope: &Scope,
     term: Term,
 ) -> Result<(), NoMemory>
     ensures { OnOk result (growing.bare made.new ≡ spec.with_term table.now (looked scope.now) (growing.bare made.old) term) }
@@ -113,7 +113,7 @@ fn add_connection(
     alloc: Global,
     made: &mut Made,
     table: &Table,
-    scope: &[Option<Says>],
+    scope: &Scope,
     c: &PackedConnection,
 ) -> Result<(), NoMemory>
     ensures { OnOk result (growing.bare made.new ≡ growing.with_connection table.now (looked scope.now) (growing.bare made.old) c.now) }
@@ -129,7 +129,7 @@ fn add_connections(
     alloc: Global,
     made: &mut Made,
     table: &Table,
-    scope: &[Option<Says>],
+    scope: &Scope,
     cs: &[PackedConnection],
 ) -> Result<(), NoMemory>
     ensures { OnOk result (growing.bare made.new ≡ spec.with_terms table.now (looked scope.now) (growing.bare made.old) (spec.terms_of cs.now)) }
@@ -145,7 +145,7 @@ pub fn add_instances(
     alloc: Global,
     made: &mut Made,
     table: &Table,
-    scope: &[Option<Says>],
+    scope: &Scope,
     written: &[Written],
 ) -> Result<(), NoMemory>
     ensures { OnOk result (growing.bare made.new ≡ spec.with_terms table.now (looked scope.now) (growing.bare made.old) (growing.terms_in written.now)) }

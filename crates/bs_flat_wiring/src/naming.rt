@@ -6,13 +6,13 @@ ghost use Rattle.bs_verilog_scope.specs.Keys as keys;
 ghost use Rattle.bs_flat_wiring.specs.Wiring as wiring;
 
 use bs_bits::NoMemory;
-use bs_verilog_scope::{bit_key, scalar_key, scope_of, width};
-use bs_verilog_syntax::{Declared, Range, Says};
+use bs_verilog_scope::{Scope, bit_key, scalar_key, scope_of, width};
+use bs_verilog_syntax::{Declared, Range};
 use std::alloc::Global;
 
-/// What is said of each declared name, by its number.
-pub fn said(alloc: Global, declared: &[Declared]) -> Result<Vec<Option<Says>>, NoMemory>
-    ensures { IfOk result (λ v. looked v.items ≡ declaring.said declared.now) }
+/// What is said of each declared name.
+pub fn said(alloc: Global, declared: &[Declared]) -> Result<Scope, NoMemory>
+    ensures { IfOk result (λ s. looked s ≡ declaring.said declared.now) }
 {
     match scope_of(alloc, declared) {
         Ok(scope) => Ok(scope),

@@ -10,7 +10,7 @@ use crate::naming::{bit_count, said};
 use bs_bits::{List, NoMemory};
 use bs_flat_modules::Own;
 use bs_verilog_lexemes::Name;
-use bs_verilog_scope::{direction_of, entry, known_net};
+use bs_verilog_scope::{Scope, direction_of, entry, known_net};
 use bs_verilog_syntax::{Direction, Says};
 use indexmap::IndexSet;
 use std::alloc::Global;
@@ -71,7 +71,7 @@ fn is_output(says: Option<Says>) -> bool
 }
 
 /// The port of a name, whose bits begin here. A net more than 2^32 - 1, as in no text, is want of memory.
-fn port_from(scope: &[Option<Says>], name: Name, first: u32) -> Result<Port, NoMemory>
+fn port_from(scope: &Scope, name: Name, first: u32) -> Result<Port, NoMemory>
     ensures port { IfOk result (λ p. p ≡ spec.port_from (looked scope.now) first name) }
     ensures few { IfOk result (λ p. p.first + p.width ≤ 4294967295) }
 {
@@ -87,7 +87,7 @@ fn port_from(scope: &[Option<Says>], name: Name, first: u32) -> Result<Port, NoM
 }
 
 /// The ports of a header.
-fn header_ports(alloc: Global, scope: &[Option<Says>], header: &[Name]) -> Result<Ports, NoMemory>
+fn header_ports(alloc: Global, scope: &Scope, header: &[Name]) -> Result<Ports, NoMemory>
     ensures ids { IfOk result (λ p. p.ids.keys ≡ map (λ n. n.id) header.now) }
     ensures ports { IfOk result (λ p. p.ports ≡ spec.ports_in (looked scope.now) 0 header.now) }
 {

@@ -1,5 +1,5 @@
 //! The names whose nets stand side by side.
-ghost use Rattle.std.specs.Prelude.{◌≡◌, ◌+◌, ◌<◌, ◌≤◌, length, Some, true, IfOk, IfSome};
+ghost use Rattle.std.specs.Prelude.{◌≡◌, ◌+◌, ◌<◌, ◌≤◌, ℕ, [], length, Some, true, IfOk, IfSome, OnOk};
 ghost use Rattle.bs_verilog_scope.specs.Checking.{looked};
 ghost use Rattle.bs_verilog_scope.specs.Keys as keys_spec;
 ghost use Rattle.bs_verilog_scope.specs.Nets as nets_spec;
@@ -10,9 +10,11 @@ use crate::naming::{scalar, vector_bit};
 use bs_bits::NoMemory;
 use bs_net::NetId;
 use bs_verilog_lexemes::{Name, Table};
-use bs_verilog_scope::{index_at, width};
-use bs_verilog_syntax::{Range, Says};
+use bs_verilog_scope::{Scope, entry, index_at, width};
+use bs_verilog_syntax::{Declared, Range, Says};
+use indexmap::IndexMap;
 use std::alloc::Global;
+use std::marker::Model;
 
 /// Whether a key has the net so far behind the first.
 fn is_net(keys: &Keys, key: &str, first: u32, bit: usize) -> bool
@@ -88,45 +90,96 @@ fn span(
     }
 }
 
-/// The first net of the name with this number, where it is declared and its nets stand side by side. A number from 2^32 on, as in no
-/// text, is want of memory.
-fn span_by(
+/// The first net of a name of which this is said, where its nets stand side by side.
+fn span_of(
     alloc: Global,
     table: &Table,
     keys: &Keys,
     says: Option<Says>,
-    id: usize,
+    name: Name,
 ) -> Result<Option<u32>, NoMemory>
-    ensures { IfOk result (λ o. IfSome o (λ first. spec.IsSpan table.now keys.now says id first)) }
+    ensures { IfOk result (λ o. IfSome o (λ first. spec.IsSpan table.now keys.now says name.id first)) }
 {
-    if id > 4294967295 {
-        return Err(NoMemory);
-    }
     match says {
         None => Ok(None),
-        Some(said) => {
-            let name = Name {
-                at: 0,
-                id: id as u32,
-            };
-            span(alloc, keys, table.text(name), said.range)
-        }
+        Some(said) => span(alloc, keys, table.text(name), said.range),
     }
 }
 
-/// The first net of each declared name whose nets stand side by side, by the name's number.
-pub fn spans(
+/// The first net of each name whose nets stand side by side, by the name's number.
+#[derive(Drop)]
+pub struct Spans {
+    firsts: IndexMap<u32, u32>,
+}
+
+impl Model for Spans {
+    ghost use Rattle.std.specs.Prelude.{List, ℕ};
+
+    ghost Value = { List (ℕ × ℕ) };
+
+    ghost view = { λ spans. spans.firsts.entries };
+}
+
+impl Spans {
+    /// No names.
+    fn new(alloc: Global) -> Spans
+        ensures { result ≡ [] }
+    {
+        Spans {
+            firsts: IndexMap::new(alloc),
+        }
+    }
+
+    /// The first net of the name with a number.
+    pub fn first(&self, id: u32) -> Option<u32>
+        ensures { result ≡ spec.spanned self.now id }
+    {
+        self.firsts.get(&id).copied()
+    }
+
+    /// Puts the first net of the name with a number.
+    fn put(&mut self, id: u32, first: u32) -> Result<(), NoMemory>
+        ensures { OnOk result ((k : ℕ) → spec.spanned self.new k ≡ spec.with_span (spec.spanned self.old) id first k) }
+    {
+        self.firsts.insert(id, first)?;
+        Ok(())
+    }
+}
+
+/// Adds the first net of a declared name, where its nets stand side by side.
+fn add_span(
+    alloc: Global,
+    spans: &mut Spans,
+    table: &Table,
+    keys: &Keys,
+    scope: &Scope,
+    name: Name,
+) -> Result<(), NoMemory>
+    ensures { OnOk result (spec.AreSpans table.now keys.now (looked scope.now) spans.old → spec.AreSpans table.now keys.now (looked scope.now) spans.new) }
+{
+    let span = span_of(alloc, table, keys, entry(scope, name.id), name)?;
+    match span {
+        Some(first) => {
+            spans.put(name.id, first)?;
+            Ok(())
+        }
+        None => Ok(()),
+    }
+}
+
+/// The first net of each declared name whose nets stand side by side.
+pub fn spans_of(
     alloc: Global,
     table: &Table,
     keys: &Keys,
-    scope: &[Option<Says>],
-) -> Result<Vec<Option<u32>>, NoMemory>
-    ensures { IfOk result (λ v. spec.AreSpans table.now keys.now (looked scope.now) v.items) }
+    scope: &Scope,
+    declared: &[Declared],
+) -> Result<Spans, NoMemory>
+    ensures { IfOk result (λ s. spec.AreSpans table.now keys.now (looked scope.now) s) }
 {
-    let mut spans = Vec::new(alloc);
-    'names: for id in 0..scope.len() {
-        let span = span_by(alloc, table, keys, scope[id], id)?;
-        spans.push(span)?;
+    let mut spans = Spans::new(alloc);
+    'names: for d in declared {
+        add_span(alloc, &mut spans, table, keys, scope, d.name)?;
     }
     Ok(spans)
 }

@@ -93,13 +93,6 @@ fn whole_nets(range: Option<Range>, span: Option<u32>) -> Result<Option<Stretch>
     }
 }
 
-/// The span of the name with a number.
-fn span_of(spans: &[Option<u32>], id: u32) -> Option<u32>
-    ensures { result ≡ spec.spanned spans.now id }
-{
-    spans.get(id as usize).copied().unwrap_or(None)
-}
-
 /// The nets of a declared name, whole or of one bit.
 fn declared_nets(
     alloc: Global,
@@ -151,7 +144,7 @@ fn named_nets(
     let text = table.text(name);
     match entry(&wiring.scope, name.id) {
         Some(says) => {
-            let span = span_of(&wiring.spans, name.id);
+            let span = wiring.spans.first(name.id);
             let nets = declared_nets(alloc, &wiring.keys, text, says.range, index, span)?;
             Ok(nets)
         }

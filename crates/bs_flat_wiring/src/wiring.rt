@@ -8,23 +8,23 @@ ghost use Rattle.bs_flat_wiring.specs.Wiring as spec;
 use crate::growing::{Made, add_instances, own_made};
 use crate::keys::Keys;
 use crate::naming::said;
-use crate::spans::spans;
+use crate::spans::{Spans, spans_of};
 use bs_bits::{List, NoMemory};
 use bs_flat_meaning::Written;
 use bs_flat_modules::Own;
 use bs_net::Const;
 use bs_verilog_lexemes::Table;
-use bs_verilog_syntax::Says;
+use bs_verilog_scope::Scope;
 use std::alloc::Global;
 
-/// The nets of a module with those of its connections, its constants, and, by the number of each name, what is said of it and the first
+/// The nets of a module with those of its connections, its constants, and of each declared name what is said of it, and the first
 /// of its nets where these stand side by side.
 #[derive(Drop)]
 pub struct Wiring {
     pub keys: Keys,
     pub consts: List<Const>,
-    pub scope: Vec<Option<Says>>,
-    pub spans: Vec<Option<u32>>,
+    pub scope: Scope,
+    pub spans: Spans,
 }
 
 /// The keys and the constants of a module with these instances.
@@ -32,7 +32,7 @@ fn made(
     alloc: Global,
     table: &Table,
     own: &Own,
-    scope: &[Option<Says>],
+    scope: &Scope,
     written: &[Written],
 ) -> Result<Made, NoMemory>
     ensures { IfOk result (λ m. bare m ≡ with_terms table.now (looked scope.now) (bare_of own.now.parts.names own.now.parts.consts) (terms_in written.now)) }
@@ -53,7 +53,7 @@ pub fn wire(
 {
     let scope = said(alloc, own.says.declared.slice())?;
     let Made { keys, consts } = made(alloc, table, own, &scope, written)?;
-    let spans = spans(alloc, table, &keys, &scope)?;
+    let spans = spans_of(alloc, table, &keys, &scope, own.says.declared.slice())?;
     Ok(Wiring {
         keys,
         consts,

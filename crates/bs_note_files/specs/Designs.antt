@@ -24,6 +24,10 @@ connect_saying =
     saying (codes "this does not go with a port of the instanced module")
     (codes "each connection is of a port of its own, with as many bits, and a constant is of no output")
 
+unfoldable pub own_nets_saying : Saying
+own_nets_saying =
+    saying (codes "up to this module the modules declare more than 4194304 nets") (codes "make ports and wires narrower, or give a part of the design")
+
 abbrev pub clash_text : List ℕ → List ℕ
 clash_text key = codes "two nets of the flat design have the key `" ++ (shown_line key ++ codes "`: give an instance or a net another name")
 
@@ -31,6 +35,7 @@ clash_text key = codes "two nets of the flat design have the key `" ++ (shown_li
 abbrev pub IsDesignNote : List ℕ → List ℕ → FlatFault → List ℕ → Type 0
 IsDesignNote path text (flat.Verilog fault) note = IsNetlistNote path text fault note
 IsDesignNote path text (flat.Twice at) note = IsNoteOn path text at twice_saying note
+IsDesignNote path text (flat.OwnNets at) note = IsNoteOn path text at own_nets_saying note
 IsDesignNote path text (flat.Recursion names) note =
     IsKeyNote path text (slice_index_or names 0 []) (modules_text names) (codes "no module may stand in itself") note
 IsDesignNote path text (flat.Tops count) note =

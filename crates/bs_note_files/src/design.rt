@@ -1,7 +1,7 @@
 //! Notes on a text of several modules that is no netlist.
 ghost use Rattle.std.specs.Prelude.{◌≡◌, [], codes, take, slice_index_or, IfOk};
 ghost use Rattle.bs_note_files.specs.Checks.{IsKeyNote};
-ghost use Rattle.bs_note_files.specs.Designs.{clash_text, connect_saying, IsDesignNote, modules_text, twice_saying};
+ghost use Rattle.bs_note_files.specs.Designs.{clash_text, connect_saying, IsDesignNote, modules_text, own_nets_saying, twice_saying};
 ghost use Rattle.bs_note_files.specs.Notes.{file_text, IsNoteOn, said};
 
 use crate::check::{RING, counted_note, key_note};
@@ -87,6 +87,17 @@ fn connect_message() -> Message<'static>
     )
 }
 
+/// What is said of the module by which the nets of all own texts are too many.
+#[tactic(auto, unfolding(crate::specs::Designs::own_nets_saying))]
+fn own_nets_message() -> Message<'static>
+    ensures { said result ≡ own_nets_saying }
+{
+    say(
+        "up to this module the modules declare more than 4194304 nets",
+        "make ports and wires narrower, or give a part of the design",
+    )
+}
+
 /// A note on a name that is there twice.
 fn twice_note(alloc: Global, path: &str, text: &[u8], at: u32) -> Result<Vec<u8>, NoMemory>
     ensures { IfOk result (λ note. IsNoteOn path.now text.now at twice_saying note.items) }
@@ -101,6 +112,15 @@ fn connect_note(alloc: Global, path: &str, text: &[u8], at: u32) -> Result<Vec<u
     ensures { IfOk result (λ note. IsNoteOn path.now text.now at connect_saying note.items) }
 {
     let message = connect_message();
+    let note = note_on(alloc, path, text, at as usize, message)?;
+    Ok(note)
+}
+
+/// A note on the module by which the nets of all own texts are too many.
+fn own_nets_note(alloc: Global, path: &str, text: &[u8], at: u32) -> Result<Vec<u8>, NoMemory>
+    ensures { IfOk result (λ note. IsNoteOn path.now text.now at own_nets_saying note.items) }
+{
+    let message = own_nets_message();
     let note = note_on(alloc, path, text, at as usize, message)?;
     Ok(note)
 }
@@ -135,6 +155,7 @@ pub fn design_note(
     match fault {
         FlatFault::Verilog(fault) => netlist_note(alloc, path, text, *fault),
         FlatFault::Twice(at) => twice_note(alloc, path, text, *at),
+        FlatFault::OwnNets(at) => own_nets_note(alloc, path, text, *at),
         FlatFault::Recursion(names) => ring_note(alloc, path, text, names.slice()),
         FlatFault::Tops(count) => counted_note(
             alloc,

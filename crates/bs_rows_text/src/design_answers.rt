@@ -70,6 +70,7 @@ fn refusal(alloc: Global, fault: &FlatFault) -> Result<String, NoMemory> {
         }
         FlatFault::Verilog(_) => Ok(String::from_str(alloc, "own")?),
         FlatFault::Twice(at) => Ok(format!(in alloc; "Twice {at}")?),
+        FlatFault::OwnNets(at) => Ok(format!(in alloc; "OwnNets {at}")?),
         FlatFault::Recursion(names) => {
             let mut line = String::from_str(alloc, "Recursion")?;
             for name in names.slice() {

@@ -23,7 +23,7 @@ use Rattle.bs_top_files.specs.Refusals.{Case, CheckSays}
 use Rattle.bs_top.specs.Work.{Work, to_run, to_audit, to_dump, to_demo, to_wave, to_reach, plan_of}
 use Rattle.bs_reach.specs.declared.reach.Outcome.{Outcome}
 use Rattle.bs_reach.specs.declared.reach.Outcome.TheVariants.{Reached, Unreached, Unknown}
-use Rattle.bs_top.specs.Finishes.{finishes, stop_status, reach_status}
+use Rattle.bs_top.specs.Finishes.{finishes, MeansItsDesign, netlist_of, replies, stop_status, reach_status}
 use Rattle.bs_top.specs.Said.{JobSaid, WordsSaid}
 
 stop_work : (stop : Stop) → is_work_status (stop_status stop) ≡ true
@@ -43,7 +43,7 @@ reach_work (Reached j) = refl
 reach_work Unreached = refl
 reach_work (Unknown j) = refl
 
-work_status : (work : Work) (status : Status) (text : List ℕ) → finishes work status text → is_work_status status ≡ true
+work_status : (work : Work) (status : Status) (text : List ℕ) → replies work status text → is_work_status status ≡ true
 work_status (to_run budgets crashed) status text done = ap is_work_status done.answered ∙ stop_work done.report.stop
 work_status (to_audit claimed) status text done = ap is_work_status done.answered ∙ finding_work done.part
 work_status (to_dump placed) status text done = ap is_work_status done.0 ∙ refl
@@ -52,7 +52,13 @@ work_status (to_wave claimed) status text done = ap is_work_status done.answered
 work_status (to_reach conflicts target) status text done = ap is_work_status done.answered ∙ reach_work done.reach.outcome
 
 pub is_work : IsWork finishes
-is_work = record { status = work_status }
+is_work = record { status = λ work status text done. work_status work status text done.reply }
+
+-- an answer whose reply is right, by a netlist that means its design
+pub finished : (work : Work) (r : Result Answer NoMemory) → MeansItsDesign (netlist_of work) →
+    IfOk r (λ a. replies work a.reply.status a.reply.text.items) → IfOk r (λ a. finishes work a.reply.status a.reply.text.items)
+finished work (Ok answer) means right = record { reply = right; design = means }
+finished work (Err want) means right = tt
 
 -- the answer to a job that the words ask for
 pub prepared_for : {S : Type 0} {held : S → Tells} {faults : S → Counts} {leads : S → FetchCall → S → Type 0} {before now : S}

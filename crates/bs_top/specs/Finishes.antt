@@ -1,5 +1,5 @@
 -- The status and the text of work that is done.
-use Rattle.std.specs.Prelude.{◌≡◌, ℕ, Bool, List, Option, None}
+use Rattle.std.specs.Prelude.{◌≡◌, ℕ, Bool, List, Option, None, Ok}
 use Rattle.bs_scan.specs.DumpText.{dump_text}
 use Rattle.bs_log.specs.Lean.{IsLean}
 use Rattle.bs_log.specs.Refusal.{history_of}
@@ -16,6 +16,8 @@ use Rattle.bs_top_plan.specs.declared.status.Status.{Status}
 use Rattle.bs_top_plan.specs.declared.status.Status.TheVariants as S
 use Rattle.bs_loop.specs.Bound.{HasBound}
 use Rattle.bs_top_files.specs.Entry.{recording_in}
+use Rattle.bs_top_files.specs.Law.{HasModules, MeansDesign}
+use Rattle.bs_top_files.specs.Readings.{netlist_in}
 use Rattle.bs_top.specs.declared.budgets.TheConstants.{DEMO_STEPS, DEMO_CANDIDATES, DEMO_CONFLICTS}
 use Rattle.bs_top.specs.Summary.{summary_text}
 use Rattle.bs_top.specs.Rejected.{finding_status, finding_text}
@@ -103,12 +105,36 @@ pub record Answers (c : Circuit) (p : List Bool) (k b : ℕ) (status : Status) (
   pub written : text ≡ reach_text reach
   pub answered : status ≡ reach_status reach.outcome
 
-abbrev pub finishes : Work → Status → List ℕ → Type 0
-finishes (to_run budgets crashed) status text = Reports (crash_of (recording_in crashed.setup) crashed.dump) budgets status text
-finishes (to_audit claimed) status text = Audits (crash_of (recording_in claimed.crashed.setup) claimed.crashed.dump) claimed.report status text
-finishes (to_dump placed) status text = (status ≡ S.Done) × (text ≡ dump_text (dump_at (recording_in placed.setup) placed.moment))
-finishes (to_demo number placed) status text =
+-- the reply to work that is done is right
+abbrev pub replies : Work → Status → List ℕ → Type 0
+replies (to_run budgets crashed) status text = Reports (crash_of (recording_in crashed.setup) crashed.dump) budgets status text
+replies (to_audit claimed) status text = Audits (crash_of (recording_in claimed.crashed.setup) claimed.crashed.dump) claimed.report status text
+replies (to_dump placed) status text = (status ≡ S.Done) × (text ≡ dump_text (dump_at (recording_in placed.setup) placed.moment))
+replies (to_demo number placed) status text =
     Summarises number (crash_of (recording_in placed.setup) (dump_at (recording_in placed.setup) placed.moment)) status text
-finishes (to_wave claimed) status text =
+replies (to_wave claimed) status text =
     Draws claimed.crashed.setup.raw (crash_of (recording_in claimed.crashed.setup) claimed.crashed.dump) claimed.report status text
-finishes (to_reach conflicts target) status text = Answers (circuit_of target.raw) target.state target.cycles conflicts status text
+replies (to_reach conflicts target) status text = Answers (circuit_of target.raw) target.state target.cycles conflicts status text
+
+-- ---- the netlist by which a reply speaks of a circuit
+
+-- the netlist of the work
+abbrev pub netlist_of : Work → Parts
+netlist_of (to_run budgets crashed) = crashed.setup.raw
+netlist_of (to_audit claimed) = claimed.crashed.setup.raw
+netlist_of (to_dump placed) = placed.setup.raw
+netlist_of (to_demo number placed) = placed.setup.raw
+netlist_of (to_wave claimed) = claimed.crashed.setup.raw
+netlist_of (to_reach conflicts target) = target.raw
+
+-- Where a text has several modules, and is read as this netlist, the netlist is the flat netlist of their design, and means it.
+pub record MeansItsDesign (raw : Parts) : Type 0 where
+  pub means : (bytes : List ℕ) → HasModules bytes → netlist_in bytes ≡ Ok raw → MeansDesign bytes raw
+
+-- the reply to work that is done is right, and so is what its netlist means
+pub record Finished (work : Work) (status : Status) (text : List ℕ) : Type 0 where
+  pub reply : replies work status text
+  pub design : MeansItsDesign (netlist_of work)
+
+abbrev pub finishes : Work → Status → List ℕ → Type 0
+finishes work status text = Finished work status text

@@ -15,18 +15,18 @@ use Rattle.bs_wave.specs.declared.wave.Wave.{Wave}
 use Rattle.bs_wave.specs.Wave.{IsWaveOf}
 use Rattle.bs_wave.specs.WaveReading.{wave_in}
 use Rattle.bs_top.specs.Work.{to_run, to_audit, to_wave, plan_of}
-use Rattle.bs_top.specs.Finishes.{finishes}
+use Rattle.bs_top.specs.Finishes.{replies}
 
 -- the text is read as a report, for which nothing but `accepted` is written
 pub record IsAcceptedText (crashed : Crashed) (text : List ℕ) : Type 0 where
   pub report : Report
   pub read : report_read text ≡ Ok report
-  pub accepted : (status : Status) (answer : List ℕ) → finishes (to_audit (record { crashed = crashed; report = report })) status answer →
+  pub accepted : (status : Status) (answer : List ℕ) → replies (to_audit (record { crashed = crashed; report = report })) status answer →
       (status ≡ Done) × (answer ≡ codes "accepted\n")
 
 abbrev pub AuditAcceptsWhatRunWrites : Type 0
 AuditAcceptsWhatRunWrites =
-    (budgets : Budgets) (crashed : Crashed) (status : Status) (text : List ℕ) → finishes (to_run budgets crashed) status text → IsAcceptedText crashed text
+    (budgets : Budgets) (crashed : Crashed) (status : Status) (text : List ℕ) → replies (to_run budgets crashed) status text → IsAcceptedText crashed text
 
 -- ---- the same of commands
 
@@ -38,7 +38,7 @@ audit_of run report = record { netlist = run.netlist; signature = run.signature;
 pub record ComesToAccepted (told : Tells) (job : AuditJob) (crashed : Crashed) : Type 0 where
   pub report : Report
   pub comes : told_end told (plan_of (Audit job)) ≡ Some (ready (to_audit (record { crashed = crashed; report = report })))
-  pub accepted : (status : Status) (answer : List ℕ) → finishes (to_audit (record { crashed = crashed; report = report })) status answer →
+  pub accepted : (status : Status) (answer : List ℕ) → replies (to_audit (record { crashed = crashed; report = report })) status answer →
       (status ≡ Done) × (answer ≡ codes "accepted\n")
 
 -- The audit accepts a text within the limit of a report, and refuses a longer one as too long.
@@ -51,7 +51,7 @@ pub record AuditEnds (told : Tells) (job : AuditJob) (crashed : Crashed) (text :
 abbrev pub AuditFollowsRun : Type 0
 AuditFollowsRun =
     (told : Tells) (run : RunJob) (report : List ℕ) (budgets : Budgets) (crashed : Crashed) (status : Status) (text : List ℕ) →
-    told_end told (plan_of (Run run)) ≡ Some (ready (to_run budgets crashed)) → finishes (to_run budgets crashed) status text →
+    told_end told (plan_of (Run run)) ≡ Some (ready (to_run budgets crashed)) → replies (to_run budgets crashed) status text →
     told report ≡ Some text → AuditEnds told (audit_of run report) crashed text
 
 -- ---- waveforms
@@ -67,4 +67,4 @@ pub record IsReadBack (raw : Parts) (report : Report) (text : List ℕ) : Type 0
 abbrev pub WaveformsReadBack : Type 0
 WaveformsReadBack =
     (told : Tells) (job : AuditJob) (claimed : Claimed) (text : List ℕ) → told_end told (plan_of (WaveWords job)) ≡ Some (ready (to_wave claimed)) →
-    finishes (to_wave claimed) Done text → IsReadBack claimed.crashed.setup.raw claimed.report text
+    replies (to_wave claimed) Done text → IsReadBack claimed.crashed.setup.raw claimed.report text

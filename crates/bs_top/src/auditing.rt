@@ -15,6 +15,7 @@ ghost use Rattle.bs_top_files.specs.Entry.{recording_in};
 ghost use Rattle.bs_top.specs.Finishes.{finishes, Finds};
 ghost use Rattle.bs_top.specs.Said.{is_rejected, JobSaid, WorkSaid};
 
+use crate::design::means_design;
 use crate::names::audit_paths;
 use bs_audit::Finding;
 use bs_bits::{end_line, push_number, push_piece};
@@ -175,6 +176,7 @@ fn audit_answer(alloc: Global, claimed: &Claimed) -> Result<Answer, NoMemory>
     ensures done { IfOk result (λ answer. finishes (to_audit (claimed_in claimed.now)) answer.reply.status answer.reply.text.items) }
     ensures said { IfOk result (λ answer. WorkSaid (to_audit (claimed_in claimed.now)) answer.reply.text.items answer.note) }
 {
+    means_design(&claimed.crashed.setup.net);
     match find(alloc, claimed) {
         Ok(finding) => finding_answer(alloc, finding),
         Err(want) => Err(want),

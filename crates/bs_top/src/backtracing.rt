@@ -16,6 +16,7 @@ ghost use Rattle.bs_top_files.specs.Entry.{recording_in};
 ghost use Rattle.bs_top.specs.Finishes.{finishes, IsBacktrace, stop_status};
 ghost use Rattle.bs_top.specs.Said.{JobSaid, WorkSaid};
 
+use crate::design::means_design;
 use crate::names::run_paths;
 use bs_chip::Chip;
 use bs_loop::backtrace;
@@ -145,6 +146,7 @@ fn run_answer(alloc: Global, crashed: &Crashed, budgets: &Budgets) -> Result<Ans
     ensures done { IfOk result (λ answer. finishes (to_run budgets.now (crashed_in crashed.now)) answer.reply.status answer.reply.text.items) }
     ensures said { IfOk result (λ answer. WorkSaid (to_run budgets.now (crashed_in crashed.now)) answer.reply.text.items answer.note) }
 {
+    means_design(&crashed.setup.net);
     match report_of(alloc, &crashed.setup, &crashed.dump, budgets) {
         Ok(report) => told(alloc, report, &crashed.setup.runs),
         Err(want) => Err(want),

@@ -18,6 +18,7 @@ ghost use Rattle.bs_top.specs.Finishes.{finishes};
 ghost use Rattle.bs_top.specs.Said.{is_rejected, JobSaid, WorkSaid};
 
 use crate::auditing::{find, finding_said, finding_status, rejected};
+use crate::design::means_design;
 use crate::names::audit_paths;
 use bs_audit::Finding;
 use bs_outside::{NoMemory, Shelf};
@@ -94,6 +95,7 @@ fn wave_answer(alloc: Global, claimed: &Claimed) -> Result<Answer, NoMemory>
     ensures done { IfOk result (λ answer. finishes (to_wave (claimed_in claimed.now)) answer.reply.status answer.reply.text.items) }
     ensures said { IfOk result (λ answer. WorkSaid (to_wave (claimed_in claimed.now)) answer.reply.text.items answer.note) }
 {
+    means_design(&claimed.crashed.setup.net);
     match find(alloc, claimed) {
         Ok(finding) => drawing_answer(alloc, claimed, finding),
         Err(want) => Err(want),

@@ -10,9 +10,10 @@ ghost use Rattle.bs_net.specs.Netlist.{circuit};
 ghost use Rattle.bs_scan.specs.Crash.{dump_at, DumpFits};
 ghost use Rattle.bs_scan.specs.Moments.{IsMoment, moment};
 ghost use Rattle.bs_top_files.specs.Entry.{recording_in};
-ghost use Rattle.bs_top.specs.Finishes.{finishes};
+ghost use Rattle.bs_top.specs.Finishes.{finishes, replies};
 ghost use Rattle.bs_top.specs.Said.{JobSaid, WorkSaid};
 
+use crate::design::means_design;
 use crate::names::dump_paths;
 use bs_chip::Chip;
 use bs_outside::{NoMemory, Shelf};
@@ -56,7 +57,7 @@ pub fn dump_of(alloc: Global, placed: &Placed) -> Result<Dump, NoMemory>
 
 /// The text of that dump.
 fn dump_text(alloc: Global, placed: &Placed) -> Result<Vec<u8>, NoMemory>
-    ensures { IfOk result (λ text. finishes (to_dump (placed_in placed.now)) Status.Done text.items) }
+    ensures { IfOk result (λ text. replies (to_dump (placed_in placed.now)) Status.Done text.items) }
 {
     let dump = dump_of(alloc, placed)?;
     let mut text = Vec::new(alloc);
@@ -66,7 +67,7 @@ fn dump_text(alloc: Global, placed: &Placed) -> Result<Vec<u8>, NoMemory>
 
 /// What is written for a moment that stays.
 fn dump_reply(alloc: Global, placed: &Placed) -> Result<Reply, NoMemory>
-    ensures { IfOk result (λ answer. finishes (to_dump (placed_in placed.now)) answer.status answer.text.items) }
+    ensures { IfOk result (λ answer. replies (to_dump (placed_in placed.now)) answer.status answer.text.items) }
 {
     let text = dump_text(alloc, placed)?;
     Ok(Reply {
@@ -80,6 +81,7 @@ fn dump_answer(alloc: Global, placed: &Placed) -> Result<Answer, NoMemory>
     ensures done { IfOk result (λ answer. finishes (to_dump (placed_in placed.now)) answer.reply.status answer.reply.text.items) }
     ensures said { IfOk result (λ answer. WorkSaid (to_dump (placed_in placed.now)) answer.reply.text.items answer.note) }
 {
+    means_design(&placed.setup.net);
     let reply = dump_reply(alloc, placed)?;
     Ok(Answer {
         reply,

@@ -3,7 +3,8 @@
 //! Modules: `top` (`backspace`, and `backspace_noted` with the note on its answer), `program` (up
 //! to the exit code), `names` (of a job's files), and a module a command:
 //! `backtracing`, `auditing`, `dumping`, `drawing`, `reaching`, `summing` with `generated` and
-//! `summary`; `budgets`, `law` (`audit` accepts what `run` writes). Used above: the clauses of
+//! `summary`; `budgets`, `design` (what a netlist of several modules means), `law` (`audit` accepts
+//! what `run` writes). Used above: the clauses of
 //! `backspace`, over `plan_of` (`specs/Work`) and `finishes` (`specs/Finishes`), and
 //! `noted` over `WordsSaid` (`specs/Said`). A command: an arm
 //! in each of these and in `prepare`, and a module with its walk and its answer; no clause of
@@ -13,6 +14,7 @@
 mod auditing;
 mod backtracing;
 mod budgets;
+mod design;
 mod drawing;
 mod dumping;
 mod generated;

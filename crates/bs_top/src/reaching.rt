@@ -15,6 +15,7 @@ ghost use Rattle.bs_top.specs.Words.{reach_job};
 ghost use Rattle.bs_top.specs.Finishes.{finishes, reach_status};
 ghost use Rattle.bs_top.specs.Said.{JobSaid, miss_of, WorkSaid};
 
+use crate::design::means_design;
 use crate::names::reach_paths;
 use bs_note_calls::Miss;
 use bs_outside::{NoMemory, Shelf};
@@ -100,6 +101,7 @@ fn reach_answer(alloc: Global, target: &Target, conflicts: u64) -> Result<Answer
     ensures done { IfOk result (λ answer. finishes (to_reach conflicts (target_in target.now)) answer.reply.status answer.reply.text.items) }
     ensures said { IfOk result (λ answer. WorkSaid (to_reach conflicts (target_in target.now)) answer.reply.text.items answer.note) }
 {
+    means_design(&target.net);
     match search(alloc, target, conflicts) {
         Ok(reach) => told(alloc, reach),
         Err(want) => Err(want),

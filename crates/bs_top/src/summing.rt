@@ -9,12 +9,13 @@ ghost use Rattle.bs_top_files.specs.Ready.{placed_in, setup_in};
 ghost use Rattle.bs_top_files.specs.Refusals.{CheckSays};
 ghost use Rattle.bs_top_words.specs.Job.{Demo as DemoWords};
 ghost use Rattle.bs_top.specs.Work.{plan_of, to_demo};
-ghost use Rattle.bs_top.specs.Finishes.{finishes, Summarises};
+ghost use Rattle.bs_top.specs.Finishes.{finishes, replies, Summarises};
 ghost use Rattle.bs_top.specs.Said.{JobSaid, WorkSaid};
 ghost use Rattle.bs_top.specs.Summary.{summary_text};
 
 use crate::backtracing::report_of;
 use crate::budgets::{DEMO_CANDIDATES, DEMO_CONFLICTS, DEMO_STEPS};
+use crate::design::means_design;
 use crate::dumping::dump_of;
 use crate::generated::load_demo;
 use crate::names::demo_paths;
@@ -55,7 +56,7 @@ fn traced_line(alloc: Global, number: u64, setup: &Setup, dump: &Dump) -> Result
 
 /// The line of the backtrace of a moment's dump.
 fn summary_of(alloc: Global, number: u64, placed: &Placed) -> Result<Vec<u8>, NoMemory>
-    ensures { IfOk result (λ text. finishes (to_demo number (placed_in placed.now)) Status.Done text.items) }
+    ensures { IfOk result (λ text. replies (to_demo number (placed_in placed.now)) Status.Done text.items) }
 {
     match dump_of(alloc, placed) {
         Ok(dump) => traced_line(alloc, number, &placed.setup, &dump),
@@ -65,7 +66,7 @@ fn summary_of(alloc: Global, number: u64, placed: &Placed) -> Result<Vec<u8>, No
 
 /// What is written for a generated job that stays.
 fn demo_reply(alloc: Global, number: u64, placed: &Placed) -> Result<Reply, NoMemory>
-    ensures { IfOk result (λ answer. finishes (to_demo number (placed_in placed.now)) answer.status answer.text.items) }
+    ensures { IfOk result (λ answer. replies (to_demo number (placed_in placed.now)) answer.status answer.text.items) }
 {
     let text = summary_of(alloc, number, placed)?;
     Ok(Reply {
@@ -79,6 +80,7 @@ fn demo_answer(alloc: Global, number: u64, placed: &Placed) -> Result<Answer, No
     ensures done { IfOk result (λ answer. finishes (to_demo number (placed_in placed.now)) answer.reply.status answer.reply.text.items) }
     ensures said { IfOk result (λ answer. WorkSaid (to_demo number (placed_in placed.now)) answer.reply.text.items answer.note) }
 {
+    means_design(&placed.setup.net);
     let reply = demo_reply(alloc, number, placed)?;
     Ok(Answer {
         reply,

@@ -1,6 +1,6 @@
 -- A netlist of several modules means their design.
-use Rattle.std.proofs.Common.{◌≡◌, ℕ, ◌≤◌, Bool, true, false, List, length, Option, Some, None, Result, Ok, Err, refl, sym, subst, ap, ◌∙◌, arith}
-use Rattle.std.specs.Prelude.{nat_lt, map, sum, All, if◌then◌else◌}
+use Rattle.std.proofs.Common.{◌≡◌, ℕ, suc, ◌+◌, ◌≤◌, Bool, true, false, List, length, Option, Some, None, Result, Ok, Err, refl, sym, subst, ap, ◌∙◌, arith}
+use Rattle.std.specs.Prelude.{nat_lt, map, sum, All, if◌then◌else◌, ◌↔◌}
 use Rattle.std.proofs.lemmas.Bool.{ltb-true}
 use Rattle.bs_lex.specs.declared.token.Token.{Token}
 use Rattle.bs_verilog_lexemes.specs.Lexemes.{lexemes_of, names_of}
@@ -9,24 +9,30 @@ use Rattle.bs_verilog_syntax.specs.declared.fault.VerilogFault.{VerilogFault}
 use Rattle.bs_verilog.specs.Netlist.{tokenised}
 use Rattle.bs_net.specs.Decided.{passes}
 use Rattle.bs_net.specs.Parts.{Parts, PartsArePlaced}
+use Rattle.bs_net.specs.Check.{Passes}
+use Rattle.bs_net.specs.Circuit.{Circuit}
+use Rattle.bs_net.specs.Netlist.{circuit_of}
 use Rattle.bs_net.proofs.CallerLemmas.{passes_is}
+use Rattle.bs_scan.specs.Moments.{Run, state_at}
 use Rattle.bs_flat_meaning.specs.declared.fault.FlatFault.{FlatFault}
 use Rattle.bs_flat_meaning.specs.declared.fault.FlatFault.TheVariants.{Connect, Tops, FlatDepth, FlatKeys, FlatNets, FlatParts}
 use Rattle.bs_flat_meaning.specs.Connecting.{ReadModule}
 use Rattle.bs_flat_meaning.specs.Design.{Design, Module}
+use Rattle.bs_flat_meaning.specs.Executions.{AreStatesAt, AreStatesUnder, IsDesignExecution, RunsAs}
 use Rattle.bs_flat_meaning.specs.Flat.{IsDesign, flat_parts}
 use Rattle.bs_flat_meaning.specs.Pieces.{Piece, modules_of}
 use Rattle.bs_flat_meaning.specs.Reading.{IsRead, clash_in, clashing, connect_fault, connected_modules, design_of, elaborated, first_top, flattened, has_ring, limited}
 use Rattle.bs_flat_meaning.specs.Reading.{is_deep, module_from, part_count, read_modules, tops, ◌then◌}
 use Rattle.bs_flat_meaning.specs.declared.limits.TheConstants.{MAX_PARTS, MAX_KEY_BYTES}
 use Rattle.bs_net.specs.declared.limits.TheConstants.{MAX_NETS}
+use Rattle.bs_flat_meaning.proofs.ExecutionLemmas.{flat_keeps_executions}
 use Rattle.bs_flat_meaning.proofs.LawLemmas.{flat_keeps_meaning}
 use Rattle.bs_flat_meaning.proofs.JoinLemmas.{designs_are_whole}
 use Rattle.bs_top_plan.specs.Plan.{Reason}
 use Rattle.bs_top_files.specs.Refusals.{Case, TextFault, with_one, in_rings, check_reason, text_reason, with_fault, with_reason}
 use Rattle.bs_top_files.specs.Readings.{checked_of, modules_in, one_module, several_modules, text_in, tokens_in}
 use Rattle.bs_top_files.proofs.TextLemmas.{fault_ok, flat_as, read_as}
-use Rattle.bs_top_files.specs.Law.{NetlistsMeanDesigns}
+use Rattle.bs_top_files.specs.Law.{GoesThrough, NetlistsMeanDesigns}
 
 -- ---- what a value tells of the passes that gave it
 
@@ -130,6 +136,31 @@ text_several bytes tokens e many =
 
 -- ---- the law
 
+plus_one : (i : ℕ) → i + 1 ≡ suc i
+plus_one i = omega arith
+
+-- the states of a run, from reset on
+run_states : (c : Circuit) (inputs : Run) → AreStatesAt c inputs (state_at c inputs)
+unfolding state_at
+run_states c inputs = record {
+  reset = refl;
+  next_is = λ i. ap (state_at c inputs) (plus_one i);
+}
+
+goes_through : (c : Circuit) (states : List (List Bool)) (inputs : Run) → AreStatesUnder c states inputs (state_at c inputs) → GoesThrough c states inputs
+goes_through c states inputs h = record { widths = h.widths; states_are = h.states_are }
+
+states_under : (c : Circuit) (states : List (List Bool)) (inputs : Run) → GoesThrough c states inputs → AreStatesUnder c states inputs (state_at c inputs)
+states_under c states inputs h = record { widths = h.widths; states_are = h.states_are }
+
+same_executions : (d : Design) (c : Circuit) (states : List (List Bool)) (inputs : Run) → RunsAs d c →
+    IsDesignExecution d states inputs ↔ GoesThrough c states inputs
+same_executions d c states inputs runs =
+    let both = runs.executions states inputs (state_at c inputs) (run_states c inputs) in (
+      λ e. goes_through c states inputs (both.0 e),
+      λ g. both.1 (states_under c states inputs g),
+    )
+
 -- that modules which are read are whole
 abbrev pub AreRead : Type 0
 AreRead =
@@ -144,10 +175,17 @@ netlists_mean whole bytes raw (tokens, lexed, many) e placed =
     let from = several_ok table ts raw (sym (text_several bytes tokens lexed many) ∙ checked.0) in
     let d = design_of table (modules_of ts) from.modules in
     let design : IsDesign d = designs_are_whole table (modules_of ts) from.modules (whole bytes tokens from.modules lexed from.read) from.is.connected in
+    let passed : Passes (flat_parts d) = (passes_is (flat_parts d)).0 (subst (λ r. passes r ≡ true) from.is.flat checked.1) in
+    let runs : RunsAs d (circuit_of raw) =
+    subst (λ (r : Parts). RunsAs d (circuit_of r)) (sym from.is.flat) (flat_keeps_executions d design (subst PartsArePlaced from.is.flat placed) passed) in
     record {
       design = d;
       of_text = record { tokens = tokens; lexed = lexed; modules = from.modules; read = from.read; is = refl };
       whole = design;
       flat = from.is.flat;
-      means = λ s x. flat_keeps_meaning d s x design (subst PartsArePlaced from.is.flat placed) ((passes_is (flat_parts d)).0 (subst (λ r. passes r ≡ true) from.is.flat checked.1));
+      means = λ s x. flat_keeps_meaning d s x design (subst PartsArePlaced from.is.flat placed) passed;
+      states = runs.flops;
+      inputs = runs.inputs;
+      reset = runs.reset;
+      executions = λ states inputs. same_executions d (circuit_of raw) states inputs runs;
     }

@@ -53,6 +53,7 @@ name_piece name = codes " " ++ name
 abbrev pub flat_words : FlatFault → List ℕ
 flat_words (flat.Verilog fault) = netlist_text_words fault
 flat_words (flat.Twice at) = codes "Twice " ++ decimal at
+flat_words (flat.OwnNets at) = codes "OwnNets " ++ decimal at
 flat_words (flat.Recursion names) = codes "Recursion" ++ flat_map name_piece names
 flat_words (flat.Tops count) = codes "Tops " ++ decimal count
 flat_words (flat.Connect at) = codes "Connect " ++ decimal at

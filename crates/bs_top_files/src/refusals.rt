@@ -146,6 +146,7 @@ pub fn flat_refusal(alloc: Global, fault: &FlatFault) -> Refusal
     match fault {
         FlatFault::Verilog(fault) => netlist_text_refusal(alloc, *fault),
         FlatFault::Twice(at) => numbered(alloc, b"Twice ", *at),
+        FlatFault::OwnNets(at) => numbered(alloc, b"OwnNets ", *at),
         FlatFault::Recursion(names) => named(alloc, b"Recursion", names.slice()),
         FlatFault::Tops(count) => numbered(alloc, b"Tops ", *count),
         FlatFault::Connect(at) => numbered(alloc, b"Connect ", *at),

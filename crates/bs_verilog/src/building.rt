@@ -11,7 +11,8 @@ use crate::terminals::{Control, Pins, cell_pins, is_assignment, is_gate, is_sing
 use bs_bits::List;
 use bs_net::{Flop, Gate, Kind, Mode, NetId, Terms};
 use bs_verilog_lexemes::{Cell, Table};
-use bs_verilog_syntax::{Component, PackedConnection, Says, Shape, VerilogFault};
+use bs_verilog_scope::Scope;
+use bs_verilog_syntax::{Component, PackedConnection, Shape, VerilogFault};
 use std::alloc::Global;
 
 /// What the parts so far have built.
@@ -131,7 +132,7 @@ fn with_gates(
     alloc: Global,
     built: &mut Built,
     table: &Table,
-    scope: &[Option<Says>],
+    scope: &Scope,
     kind: Kind,
     cs: &[PackedConnection],
 ) -> Result<(), VerilogFault>
@@ -146,7 +147,7 @@ fn with_flop(
     alloc: Global,
     built: &mut Built,
     table: &Table,
-    scope: &[Option<Says>],
+    scope: &Scope,
     cell: Cell,
     pins: Pins,
     cs: &[PackedConnection],
@@ -164,7 +165,7 @@ fn with_part(
     alloc: Global,
     built: &mut Built,
     table: &Table,
-    scope: &[Option<Says>],
+    scope: &Scope,
     part: &Component,
 ) -> Result<(), VerilogFault>
     ensures { Answers want (λ _. built.new) result (spec.with_part table.now (looked scope.now) built.old part.now) }
@@ -197,7 +198,7 @@ pub fn with_parts(
     alloc: Global,
     built: &mut Built,
     table: &Table,
-    scope: &[Option<Says>],
+    scope: &Scope,
     parts: &[Component],
 ) -> Result<(), VerilogFault>
     ensures { Answers want (λ _. built.new) result (spec.with_parts table.now (looked scope.now) built.old parts.now) }

@@ -15,8 +15,8 @@ use crate::ports::{port_nets, supplies};
 use bs_bits::List;
 use bs_net::{NetId, Raw};
 use bs_verilog_lexemes::{Name, Table};
-use bs_verilog_scope::{Known, declare, numbered};
-use bs_verilog_syntax::{Component, Direction, Module, Says, VerilogFault};
+use bs_verilog_scope::{Known, Scope, declare, numbered};
+use bs_verilog_syntax::{Component, Direction, Module, VerilogFault};
 use std::alloc::Global;
 
 /// A list of 2^32 members and more is past the memory that a text of 16 MiB can ask for.
@@ -104,7 +104,7 @@ fn start(alloc: Global, table: &Table, top: &Module, nets: &[Known]) -> Result<B
 fn finished(
     alloc: Global,
     table: &Table,
-    scope: &[Option<Says>],
+    scope: &Scope,
     header: &[Name],
     parts: &[Component],
     start: Built,
@@ -138,7 +138,7 @@ fn built(
     alloc: Global,
     table: &Table,
     top: &Module,
-    scope: &[Option<Says>],
+    scope: &Scope,
     nets: &[Known],
 ) -> Result<Raw, VerilogFault>
     requires scope { looked scope.now ≡ declaring_spec.said top.now.declared }

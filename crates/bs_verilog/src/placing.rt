@@ -10,7 +10,7 @@ use crate::terminals::term_of;
 use bs_bits::List;
 use bs_net::{Const, MAX_NETS, Names, NetId};
 use bs_verilog_lexemes::{Name, Table};
-use bs_verilog_scope::{bit_key, constant_key, entry, has_index, net_of, scalar_key};
+use bs_verilog_scope::{Scope, bit_key, constant_key, entry, has_index, net_of, scalar_key};
 use bs_verilog_syntax::{PackedConnection, Range, Says, Term, VerilogFault, What};
 use std::alloc::Global;
 
@@ -132,7 +132,7 @@ fn term_net(
     alloc: Global,
     made: &mut Made,
     table: &Table,
-    scope: &[Option<Says>],
+    scope: &Scope,
     term: Term,
 ) -> Result<NetId, VerilogFault>
     ensures { Answers want (λ net. (net, made.new)) result (spec.term_net table.now (looked scope.now) term made.old) }
@@ -153,7 +153,7 @@ fn place(
     made: &mut Made,
     nets: &mut Vec<NetId>,
     table: &Table,
-    scope: &[Option<Says>],
+    scope: &Scope,
     c: &PackedConnection,
 ) -> Result<(), VerilogFault>
     ensures { Answers want (λ _. (nets.new.items, made.new)) result (spec.with_connection table.now (looked scope.now) (nets.old.items, made.old) c.now) }
@@ -173,7 +173,7 @@ pub fn connection_nets(
     alloc: Global,
     made: &mut Made,
     table: &Table,
-    scope: &[Option<Says>],
+    scope: &Scope,
     cs: &[PackedConnection],
 ) -> Result<Vec<NetId>, VerilogFault>
     ensures { Answers want (λ nets. (nets.items, made.new)) result (spec.connection_nets table.now (looked scope.now) cs.now made.old) }

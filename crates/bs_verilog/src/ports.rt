@@ -9,8 +9,8 @@ ghost use Rattle.bs_verilog_syntax.specs.declared.fault.VerilogFault.TheVariants
 use bs_bits::List;
 use bs_net::{Const, Names, NetId};
 use bs_verilog_lexemes::{Name, Table};
-use bs_verilog_scope::{direction_of, entry, known_net, nets_of};
-use bs_verilog_syntax::{Declared, Direction, Net, Says, VerilogFault};
+use bs_verilog_scope::{Scope, direction_of, entry, known_net, nets_of};
+use bs_verilog_syntax::{Declared, Direction, Net, VerilogFault};
 use std::alloc::Global;
 
 fn is_towards(direction: Direction, of: Option<Direction>) -> bool
@@ -46,7 +46,7 @@ fn add_port(
     ports: &mut List<NetId>,
     direction: Direction,
     table: &Table,
-    scope: &[Option<Says>],
+    scope: &Scope,
     names: &Names,
     name: Name,
 ) -> Result<(), VerilogFault>
@@ -66,7 +66,7 @@ pub fn port_nets(
     alloc: Global,
     direction: Direction,
     table: &Table,
-    scope: &[Option<Says>],
+    scope: &Scope,
     names: &Names,
     header: &[Name],
 ) -> Result<List<NetId>, VerilogFault>

@@ -5,15 +5,16 @@ ghost use Rattle.bs_verilog_scope.specs.Declaring as spec;
 
 use crate::numbering::{Known, first_over, known_nets};
 use crate::scope::{bare_fault, header_marks, scope_of, stray_fault, wide_fault};
+use crate::tables::{Marks, Scope};
 use bs_bits::List;
 use bs_verilog_lexemes::{Name, Table};
-use bs_verilog_syntax::{Declared, Module, Says, VerilogFault};
+use bs_verilog_syntax::{Declared, Module, VerilogFault};
 use std::alloc::Global;
 
-/// What a module declares: what is said of each name, by number, and the nets in the order of their numbers.
+/// What a module declares: what is said of each name, and the nets in the order of their numbers.
 #[derive(Drop)]
 pub struct Declarations {
-    pub scope: Vec<Option<Says>>,
+    pub scope: Scope,
     pub nets: List<Known>,
 }
 
@@ -37,8 +38,8 @@ fn none_of(fault: Option<VerilogFault>) -> Result<(), VerilogFault>
 fn named(
     alloc: Global,
     table: &Table,
-    marks: &[bool],
-    scope: &[Option<Says>],
+    marks: &Marks,
+    scope: &Scope,
     header: &[Name],
     declared: &[Declared],
 ) -> Result<List<Known>, VerilogFault>
@@ -55,7 +56,7 @@ fn named(
 /// What a module declares, or the first fault of its declarations.
 #[tactic(auto, unfolding(crate::specs::Declaring::declaring_fault))]
 pub fn declare(alloc: Global, table: &Table, top: &Module) -> Result<Declarations, VerilogFault>
-    ensures { Checks result (spec.declaring_fault table.now top.now) (λ d. (looked d.scope.items ≡ spec.said top.now.declared) × (d.nets ≡ spec.known_nets top.now) × (spec.many_fault table.now d.nets ≡ None)) }
+    ensures { Checks result (spec.declaring_fault table.now top.now) (λ d. (looked d.scope ≡ spec.said top.now.declared) × (d.nets ≡ spec.known_nets top.now) × (spec.many_fault table.now d.nets ≡ None)) }
 {
     let header = top.header.slice();
     let declared = top.declared.slice();

@@ -1,8 +1,9 @@
 //! What each name of a module is, the keys and the numbers of its nets, and the first fault of its declarations.
 //!
-//! Modules: `keys` (the text by which a net is named), `scope` (what is said of each name, a table
-//! by name number, and the faults of ports and bounds), `declaring` (declarations one after
-//! another), `numbering` and `nets` (the declared nets and their numbers). Used above: `scope_of`
+//! Modules: `keys` (the text by which a net is named), `tables` (what is said of names, and marks:
+//! maps that hold a module's own names), `scope` (their making, and the faults of ports and
+//! bounds), `declaring` (declarations one after another), `numbering` and `nets` (the declared nets
+//! and their numbers). Used above: `scope_of`
 //! and `nets_of` give exactly what the declarations say, or their first fault. A key's text:
 //! `specs/Keys`. What clashes: `is_clash` and `scope`.
 #![tactic(auto)]
@@ -12,9 +13,11 @@ mod keys;
 mod nets;
 mod numbering;
 mod scope;
+mod tables;
 
 pub use declaring::{Declarations, declare};
 pub use keys::{bit_key, constant_key, has_index, index_at, scalar_key, width};
 pub use nets::{net_of, nets_of};
 pub use numbering::{Known, known_net, numbered};
 pub use scope::{direction_of, entry, header_marks, scope_of};
+pub use tables::{Marks, Scope};

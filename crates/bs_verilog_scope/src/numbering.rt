@@ -11,6 +11,7 @@ ghost use Rattle.bs_verilog_syntax.specs.declared.fault.VerilogFault.TheVariants
 
 use crate::keys::{bit_key, index_at, scalar_key, width};
 use crate::scope::{entry, is_marked};
+use crate::tables::{Marks, Scope};
 use bs_bits::List;
 use bs_net::{MAX_NETS, Names};
 use bs_verilog_lexemes::{Name, Table};
@@ -34,7 +35,7 @@ fn range_of(says: Option<Says>) -> Option<Range>
 }
 
 /// A declared net by its name.
-pub fn known_net(scope: &[Option<Says>], name: Name) -> Known
+pub fn known_net(scope: &Scope, name: Name) -> Known
     ensures { result ≡ spec.known (looked scope.now) name }
 {
     Known {
@@ -44,11 +45,7 @@ pub fn known_net(scope: &[Option<Says>], name: Name) -> Known
 }
 
 /// Adds the header's ports.
-fn add_ports(
-    nets: &mut List<Known>,
-    scope: &[Option<Says>],
-    header: &[Name],
-) -> Result<(), VerilogFault>
+fn add_ports(nets: &mut List<Known>, scope: &Scope, header: &[Name]) -> Result<(), VerilogFault>
     ensures { Answers want (λ _. nets.new) result (Ok (nets.old ++ map (spec.known (looked scope.now)) header.now)) }
 {
     'ports: for name in header {
@@ -60,8 +57,8 @@ fn add_ports(
 /// Adds the declared names that are no ports.
 fn add_others(
     nets: &mut List<Known>,
-    scope: &[Option<Says>],
-    marks: &[bool],
+    scope: &Scope,
+    marks: &Marks,
     declared: &[Declared],
 ) -> Result<(), VerilogFault>
     ensures { Answers want (λ _. nets.new) result (Ok (nets.old ++ map (λ d. spec.known (looked scope.now) d.name) (filter (λ d. not (marked marks.now d.name.id)) declared.now))) }
@@ -77,8 +74,8 @@ fn add_others(
 /// The header's ports in header order, and then the other declared names in file order.
 pub fn known_nets(
     alloc: Global,
-    scope: &[Option<Says>],
-    marks: &[bool],
+    scope: &Scope,
+    marks: &Marks,
     header: &[Name],
     declared: &[Declared],
 ) -> Result<List<Known>, VerilogFault>

@@ -1,26 +1,26 @@
 //! What a module says of its names, and the faults of its declarations.
-ghost use Rattle.std.specs.Prelude.{◌≡◌, ◌<◌, ◌≤◌, ℕ, List, Bool, Option, None, false, length, Ok, All, replicate, slice_index_or, nat_lt, ◌||◌};
+ghost use Rattle.std.specs.Prelude.{◌≡◌, Some, nat_lt, ◌||◌};
 ghost use Rattle.bs_verilog_scope.specs.Checking.{Checks, looked, marked};
 ghost use Rattle.bs_verilog_lexemes.specs.declared.limits.TheConstants.{MAX_INDEX};
 ghost use Rattle.bs_verilog_scope.specs.Declaring as spec;
-ghost use Rattle.bs_bits.specs.Reading.{Answers};
-ghost use Rattle.bs_verilog_syntax.specs.declared.fault.VerilogFault.TheVariants.{NoMemory as want};
 
+use crate::tables::{Marks, Scope};
 use bs_verilog_lexemes::{MAX_INDEX, Name};
 use bs_verilog_syntax::{Declared, Direction, Net, Range, Says, VerilogFault};
 use std::alloc::Global;
 
 /// What is said of the name with a number.
-pub fn entry(scope: &[Option<Says>], id: u32) -> Option<Says>
+pub fn entry(scope: &Scope, id: u32) -> Option<Says>
     ensures { result ≡ looked scope.now id }
 {
-    scope.get(id as usize).copied().unwrap_or(None)
+    scope.get(id)
 }
 
-pub fn is_marked(marks: &[bool], id: u32) -> bool
+/// Whether the name with a number is marked.
+pub fn is_marked(marks: &Marks, id: u32) -> bool
     ensures { result ≡ marked marks.now id }
 {
-    marks.get(id as usize).copied().unwrap_or(false)
+    marks.has(id)
 }
 
 fn is_supply(net: Option<Net>) -> bool
@@ -104,18 +104,6 @@ fn together(before: Option<Says>, says: Says) -> Says
     }
 }
 
-/// A bound of a number and of all numbers below an earlier bound.
-fn bound_with(bound: usize, id: u32) -> usize
-    ensures kept { bound ≤ result }
-    ensures within { id < result }
-{
-    if bound <= id as usize {
-        id as usize + 1
-    } else {
-        bound
-    }
-}
-
 /// The direction that is said of a name.
 pub fn direction_of(says: Option<Says>) -> Option<Direction>
     ensures { result ≡ spec.direction_of says }
@@ -126,77 +114,43 @@ pub fn direction_of(says: Option<Says>) -> Option<Direction>
     }
 }
 
-/// One more than the greatest number of these names, or 0.
-fn bound_of_names(names: &[Name]) -> usize
-    ensures { All (λ n. n.id < result) names.now }
+/// The names of the header, marked. A name that stands twice is refused.
+pub fn header_marks(alloc: Global, header: &[Name]) -> Result<Marks, VerilogFault>
+    ensures { Checks result (spec.repeated_fault header.now) (λ m. marked m ≡ spec.is_in header.now) }
 {
-    let mut bound = 0;
-    'ids: for name in names {
-        bound = bound_with(bound, name.id);
-    }
-    bound
-}
-
-/// One more than the greatest number of the names that are declared, or 0.
-fn bound_of_declared(declared: &[Declared]) -> usize
-    ensures { All (λ d. d.name.id < result) declared.now }
-{
-    let mut bound = 0;
-    'declared: for d in declared {
-        bound = bound_with(bound, d.name.id);
-    }
-    bound
-}
-
-fn no_marks(alloc: Global, count: usize) -> Result<Vec<bool>, VerilogFault>
-    ensures { Answers want (λ v. v.items) result (Ok (replicate count false)) }
-{
-    Ok(vec![in alloc; false; count]?)
-}
-
-fn nothing_said(alloc: Global, count: usize) -> Result<Vec<Option<Says>>, VerilogFault>
-    ensures { Answers want (λ v. v.items) result (Ok (replicate count None)) }
-{
-    Ok(vec![in alloc; None; count]?)
-}
-
-/// A mark for each name of the header, by number. A name that stands twice is refused.
-pub fn header_marks(alloc: Global, header: &[Name]) -> Result<Vec<bool>, VerilogFault>
-    ensures { Checks result (spec.repeated_fault header.now) (λ v. marked v.items ≡ spec.is_in header.now) }
-{
-    let mut seen = no_marks(alloc, bound_of_names(header))?;
+    let mut seen = Marks::new(alloc);
     'names: for name in header {
-        if seen[name.id as usize] {
+        if is_marked(&seen, name.id) {
             return Err(VerilogFault::Redeclared(name.at));
         }
-        seen[name.id as usize] = true;
+        seen.put(name.id)?;
     }
     Ok(seen)
 }
 
-/// What is said of each name, by number. A declaration that does not go with those before it is refused.
-pub fn scope_of(alloc: Global, declared: &[Declared]) -> Result<Vec<Option<Says>>, VerilogFault>
-    ensures { Checks result (spec.redeclared_fault declared.now) (λ v. looked v.items ≡ spec.said declared.now) }
+/// What is said of each name that is declared. A declaration that does not go with those before it is refused.
+pub fn scope_of(alloc: Global, declared: &[Declared]) -> Result<Scope, VerilogFault>
+    ensures { Checks result (spec.redeclared_fault declared.now) (λ s. looked s ≡ spec.said declared.now) }
 {
-    let mut scope = nothing_said(alloc, bound_of_declared(declared))?;
+    let mut scope = Scope::new(alloc);
     'declared: for d in declared {
-        let before = scope[d.name.id as usize];
+        let before = entry(&scope, d.name.id);
         if clashes(before, d.says) {
             return Err(VerilogFault::Redeclared(d.name.at));
         }
-        scope[d.name.id as usize] = Some(together(before, d.says));
+        scope.put(d.name.id, together(before, d.says))?;
     }
     Ok(scope)
 }
 
-fn is_stray(marks: &[bool], d: Declared) -> bool
+fn is_stray(marks: &Marks, d: Declared) -> bool
     ensures { result ≡ spec.is_stray (marked marks.now) d }
 {
     let marked = is_marked(marks, d.name.id);
     d.says.direction.is_some() && !marked
 }
 
-fn is_bare(scope: &[Option<Says>], name: Name) -> bool
+fn is_bare(scope: &Scope, name: Name) -> bool
     ensures { result ≡ spec.is_bare (looked scope.now) name }
 {
     match entry(scope, name.id) {
@@ -230,7 +184,7 @@ fn range_place(d: Declared) -> u32
 }
 
 /// The fault of the first direction for a name that is not in the header.
-pub fn stray_fault(marks: &[bool], declared: &[Declared]) -> Option<VerilogFault>
+pub fn stray_fault(marks: &Marks, declared: &[Declared]) -> Option<VerilogFault>
     ensures { result ≡ spec.stray_fault (marked marks.now) declared.now }
 {
     declared
@@ -240,7 +194,7 @@ pub fn stray_fault(marks: &[bool], declared: &[Declared]) -> Option<VerilogFault
 }
 
 /// The fault of the first name of the header without a direction.
-pub fn bare_fault(scope: &[Option<Says>], header: &[Name]) -> Option<VerilogFault>
+pub fn bare_fault(scope: &Scope, header: &[Name]) -> Option<VerilogFault>
     ensures { result ≡ spec.bare_fault (looked scope.now) header.now }
 {
     header

@@ -15,5 +15,5 @@ returns-in-Ok-clause-all c =
 
 pub returns-in-Err-clause-read : goal.returns-in-Err-clause-read
 returns-in-Err-clause-read c =
-    rw c.fault_of.ensures (read_fault c.args.table.now c.args.ts.now c.args.dealt.now (marked c.args.marks.now) c.in-Err.fault c.requires.dealt
-    c.requires.marks c.requires.apart c.in-Err.ensures)
+    read_fault c.args.table.now c.args.ts.now c.args.dealt.now (marked c.args.marks.now) c.in-Err.fault c.requires.dealt c.requires.marks
+    c.requires.apart c.in-Err.ensures

@@ -7,7 +7,6 @@ use Rattle.bs_flat_wiring.proofs.ports.ports_of.Goals as goal
 
 pub returns : goal.returns
 returns c =
-    are_ports_of c.args.own.now (looked c.in_ok-scope.scope.items) c.in_ok-ports.ports (c.in_ok-scope.ensures ∙ ap said c.slice.ensures)
+    are_ports_of c.args.own.now (looked c.in_ok-scope.scope) c.in_ok-ports.ports (c.in_ok-scope.ensures ∙ ap said c.slice.ensures)
     (c.in_ok-ports.ensures.ids ∙ ap (map (λ n. n.id)) c.slice-2.ensures)
-    (c.in_ok-ports.ensures.ports ∙ ap (λ items. ports_in (looked items) 0 c.slice-2.result.now) c.deref.ensures.value
-    ∙ ap (ports_in (looked c.in_ok-scope.scope.items) 0) c.slice-2.ensures)
+    (c.in_ok-ports.ensures.ports ∙ ap (ports_in (looked c.in_ok-scope.scope) 0) c.slice-2.ensures)

@@ -1,8 +1,12 @@
+use Rattle.bs_top_files.specs.Ready.{claimed_in}
 use Rattle.bs_top.proofs.ReplyLemmas.{audits_said, audits_told}
+use Rattle.bs_top.proofs.WorkLemmas.{finished}
+use Rattle.bs_top.specs.Work.{to_audit}
 use Rattle.bs_top.proofs.auditing.audit_answer.Goals as goal
 
 pub returns-in-Ok : goal.returns-in-Ok
 returns-in-Ok c = record {
-  done = audits_told _ _ c.in-Ok.ensures c.finding_answer.ensures.status c.finding_answer.ensures.text;
+  done = finished (to_audit (claimed_in c.args.claimed.now)) _ c.means_design.ensures
+      (audits_told _ _ c.in-Ok.ensures c.finding_answer.ensures.status c.finding_answer.ensures.text);
   said = audits_said _ _ c.finding_answer.ensures.text c.finding_answer.ensures.note;
 }

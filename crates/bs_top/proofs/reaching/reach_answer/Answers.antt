@@ -1,5 +1,8 @@
 use Rattle.bs_reach.proofs.CallerLemmas.{reach_has_states}
+use Rattle.bs_target.specs.Shown.{target_in}
 use Rattle.bs_top.proofs.ReplyLemmas.{answers_said, answers_told}
+use Rattle.bs_top.proofs.WorkLemmas.{finished}
+use Rattle.bs_top.specs.Work.{to_reach}
 use Rattle.bs_top.proofs.reaching.reach_answer.Goals as goal
 
 pub told-requires : goal.told-requires
@@ -7,6 +10,7 @@ told-requires c = reach_has_states _ _ _ _ _ c.in-Ok.ensures
 
 pub returns-in-Ok : goal.returns-in-Ok
 returns-in-Ok c = record {
-  done = answers_told _ _ c.in-Ok.ensures c.told.ensures.status c.told.ensures.text;
+  done = finished (to_reach c.args.conflicts (target_in c.args.target.now)) _ c.means_design.ensures
+      (answers_told _ _ c.in-Ok.ensures c.told.ensures.status c.told.ensures.text);
   said = answers_said _ _ c.told.ensures.text c.told.ensures.note;
 }

@@ -1,7 +1,0 @@
-use Rattle.std.proofs.Common.{◌≡◌, length}
-use Rattle.bs_verilog_scope.specs.Checking.{looked}
-use Rattle.bs_flat_wiring.specs.Wiring.{AreSpans}
-use Rattle.bs_flat_wiring.proofs.spans.spans.Given as goal
-
-abbrev pub invariant-names : goal.invariant-names
-invariant-names l = AreSpans l.table l.keys (looked l.scope) l.spans.items × (length l.spans.items ≡ l.id)
