@@ -1,4 +1,5 @@
 pub mod RecordedLemmas
+pub mod KnownLemmas
 pub mod MadeLemmas
 pub mod StopLemmas
 pub mod MeetLemmas

@@ -20,13 +20,14 @@ use Rattle.bs_chip.specs.declared.replay.Hit.{Hit}
 use Rattle.bs_encode.specs.Tables.{lit}
 use Rattle.bs_encode.specs.Assuming.{assumptions_for, block_for, steps_from, problem_of}
 use Rattle.bs_encode.proofs.AssumingLemmas.{length_steps_from, steps_from_more}
-use Rattle.bs_scan.specs.Moments.{Moment, moment}
+use Rattle.bs_scan.specs.Moments.{Moment, moment, is_listed}
+use Rattle.bs_report.specs.declared.report.Cand.{Cand}
 use Rattle.bs_report.specs.declared.report.HitLine.{HitLine}
 use Rattle.bs_report.specs.declared.report.ListEnd.TheVariants.{Candidates, Conflicts}
 use Rattle.bs_report.specs.declared.report.Step.{Step}
 use Rattle.bs_report.specs.declared.report.Budgets.{Budgets}
 use Rattle.bs_report.specs.Text.{IsOfDepth}
-use Rattle.bs_report_good.specs.Step.{IsRightStep}
+use Rattle.bs_report_good.specs.Step.{listed, IsRightStep}
 use Rattle.bs_report_good.specs.Chain.{present_of}
 use Rattle.bs_report_good.specs.Valid.{HaveBefores, blocks_due, are_right_blocks, blocks_in, is_right_finish, finishes_in}
 use Rattle.bs_report_good.specs.Progress.{ListsBefore}
@@ -35,9 +36,9 @@ use Rattle.bs_preimage.specs.declared.listing.Listing.{Listing}
 use Rattle.bs_preimage.specs.Preimage.{PreimageState, next_guard}
 use Rattle.bs_preimage.specs.Listed.{HasListed}
 use Rattle.bs_loop.specs.Made.{encoding_in, guard_at, IsLoggedStep, state_after, HasMade, StandsAt}
-use Rattle.bs_loop.specs.Recorded.{cand_at, known_before, last_moment}
-use Rattle.bs_loop.specs.Turn.{step_of, HasLookedBack, IsStepBack}
-use Rattle.bs_loop.proofs.RecordedLemmas.{known_is}
+use Rattle.bs_loop.specs.Recorded.{last_moment}
+use Rattle.bs_loop.specs.Known.{HasSooner, IsKnown}
+use Rattle.bs_loop.specs.Turn.{step_of, HasLookedBack, HasLookedFrom, IsStepBack}
 
 -- ---- the lines of the steps
 
@@ -72,32 +73,39 @@ problem_more crash steps step =
     ∙ sym (steps_from_more e 1 qs (present_of step))
     ∙ ap (steps_from e 1) (sym (map-append present_of steps (step ∷ [])))
 
--- the moment before the last hit is known, and so a list that ends by its count has it
+-- where the last hit is above cycle 0, a candidate of an earlier moment is known, and so a list that ends by its count has it
 lists_before : (r : Recording) (dump : Dump) (steps : List Step) (old new : PreimageState) (now : Dump) (at : Option Moment) (stored : List Bool)
-    (k b : ℕ) (listing : Listing) (hit : Option Hit) → at ≡ last_moment steps →
-    HasListed old new now.state stored now.older (known_before r at) k b listing → (earlier : Step) → last_or None steps ≡ Some earlier →
+    (known : Option Cand) (whole : Bool) (k b : ℕ) (listing : Listing) (hit : Option Hit) → at ≡ last_moment steps → IsKnown r now stored at known whole →
+    HasListed old new now.state stored now.older known k b listing → (earlier : Step) → last_or None steps ≡ Some earlier →
     listing.end ≡ Candidates → ListsBefore (crash_of r dump) earlier (step_of now stored listing hit)
-lists_before r dump steps old new now at stored k b listing hit last l earlier there ended =
+lists_before r dump steps old new now at stored known whole k b listing hit last is_known l earlier there ended =
     record {
       before = λ h is low.
           let here : at ≡ Some (moment h.run h.cycle) =
           last ∙ (ap (option_and_then (λ (s : Step). option_map (λ (x : HitLine). moment x.run x.cycle) s.hit)) there
           ∙ ap (option_map (λ (x : HitLine). moment x.run x.cycle)) is) in
-          l.with_known (cand_at r h.run (h.cycle - 1)) (ap (known_before r) here ∙ known_is r h.run h.cycle low) ended;
+          let s : HasSooner r known (moment h.run h.cycle) = is_known.sooner (moment h.run h.cycle) here low in
+          record {
+            there = s.there;
+            recorded = s.recorded;
+            sooner = s.sooner;
+            is = subst (λ (x : List Bool). is_listed (listed listing.cands) x ≡ true) s.state (l.with_known s.cand s.is ended);
+          };
     }
 
 step_made : (r : Recording) (dump : Dump) (budgets : Budgets) (steps : List Step) (old new : PreimageState) (now : Dump) (at : Option Moment)
     (stored : List Bool) (listing : Listing) (hit : Option Hit) →
     HasMade (crash_of r dump) budgets steps old → StandsAt (crash_of r dump) steps now → DumpFits r.circuit r.choice now → at ≡ last_moment steps →
     signatures_of now ≡ stored ∷ option_to_list now.older →
-    HasLookedBack r budgets old new now stored (known_before r at) listing hit →
+    HasLookedFrom r budgets old new now stored at listing hit →
     HasMade (crash_of r dump) budgets (steps ++ step_of now stored listing hit ∷ []) new
-step_made r dump budgets steps old new now at stored listing hit made stands fits last held back =
+step_made r dump budgets steps old new now at stored listing hit made stands fits last held from =
+    let back : HasLookedBack r budgets old new now stored from.known listing hit = from.back in
     let crash : Crash = crash_of r dump in
     let step : Step = step_of now stored listing hit in
     let more : List Step = steps ++ step ∷ [] in
-    let l : HasListed (state_after crash steps old.history) new now.state stored now.older (known_before r at) budgets.candidates budgets.conflicts listing =
-    subst (λ (s : PreimageState). HasListed s new now.state stored now.older (known_before r at) budgets.candidates budgets.conflicts listing)
+    let l : HasListed (state_after crash steps old.history) new now.state stored now.older from.known budgets.candidates budgets.conflicts listing =
+    subst (λ (s : PreimageState). HasListed s new now.state stored now.older from.known budgets.candidates budgets.conflicts listing)
     made.state back.listed in
     let problem : new.problem ≡ problem_of (encoding_in crash) (map present_of more) =
     λ i. record { vars = l.goes_on.vars i; clauses = l.goes_on.clauses i; steps = (l.steps ∙ problem_more crash steps step) i } in
@@ -135,7 +143,8 @@ step_made r dump budgets steps old new now at stored listing hit made stands fit
       befores = All-append (λ (step : Step). HaveBefores crash.circuit crash.choice step.older step.cands) steps (step ∷ []) made.befores
           (All-from_recursion (λ (step : Step). HaveBefores crash.circuit crash.choice step.older step.cands) (step ∷ []) (l.befores, tt));
       back = before_more crash steps step made.back
-          (lists_before r dump steps (state_after crash steps old.history) new now at stored budgets.candidates budgets.conflicts listing hit last l);
+          (lists_before r dump steps (state_after crash steps old.history) new now at stored from.known from.whole budgets.candidates budgets.conflicts listing
+          hit last from.is_known l);
       few = l.few made.few;
       follow = follow_more crash (Some (present_in crash.dump)) steps step made.follow (stands ∙ ap Some present);
       count =
@@ -156,4 +165,4 @@ pub made_more : (r : Recording) (dump : Dump) (budgets : Budgets) (steps : List 
     HasMade (crash_of r dump) budgets (steps ++ step ∷ []) new
 made_more r dump budgets steps old new now at step hit made stands fits last is =
     subst (λ (s : Step). HasMade (crash_of r dump) budgets (steps ++ s ∷ []) new) (sym is.step_is)
-    (step_made r dump budgets steps old new now at is.stored is.listing hit made stands fits last is.held is.back)
+    (step_made r dump budgets steps old new now at is.stored is.listing hit made stands fits last is.held is.from)

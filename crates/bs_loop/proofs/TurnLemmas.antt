@@ -13,14 +13,13 @@ use Rattle.bs_report_good.specs.Valid.{cause_of_end}
 use Rattle.bs_preimage.specs.declared.listing.Listing.{Listing}
 use Rattle.bs_preimage.specs.Preimage.{PreimageState}
 use Rattle.bs_scan.specs.Moments.{Moment, moment}
-use Rattle.bs_loop.specs.Recorded.{known_before}
-use Rattle.bs_loop.specs.Turn.{step_of, HasLookedBack, HasStepped, HasStopped}
+use Rattle.bs_loop.specs.Turn.{step_of, HasLookedFrom, HasStepped, HasStopped}
 
 -- what a turn has done, where the step stands behind the others, and the present is the moment hit
 turned_here : (r : Recording) (budgets : Budgets) (steps more : List Step) (old new : PreimageState) (now next : Dump)
     (at next_at : Option Moment) (stored : List Bool)
     (listing : Listing) (step : Step) (hit : Option Hit) (stop : Option Stop) →
-    signatures_of now ≡ stored ∷ option_to_list now.older → HasLookedBack r budgets old new now stored (known_before r at) listing hit → step ≡ step_of now stored listing hit →
+    signatures_of now ≡ stored ∷ option_to_list now.older → HasLookedFrom r budgets old new now stored at listing hit → step ≡ step_of now stored listing hit →
     more ≡ steps ++ step ∷ [] →
     MatchOption hit (stop ≡ Some (cause_of_end step step.end)) (λ hit. (stop ≡ None) × (next ≡ hit.dump) × (next_at ≡ Some (moment hit.run hit.cycle))) →
     MatchOption stop (HasStepped r budgets steps more old new now next at next_at) (HasStopped r budgets steps more old new now at)
@@ -29,7 +28,7 @@ turned_here r budgets steps more old new now next at next_at stored listing step
     (inr
     (record {
       step = step;
-      back = record { stored = stored; held = held; listing = listing; back = back; step_is = is };
+      back = record { stored = stored; held = held; listing = listing; from = back; step_is = is };
       made = made;
       cause = refl;
     }))
@@ -39,7 +38,7 @@ turned_here r budgets steps more old new now next at next_at stored listing step
     (record {
       step = step;
       hit = hit;
-      back = record { stored = stored; held = held; listing = listing; back = back; step_is = is };
+      back = record { stored = stored; held = held; listing = listing; from = back; step_is = is };
       made = made;
       there = ends.1;
       next_is = ends.2;
@@ -48,7 +47,7 @@ turned_here r budgets steps more old new now next at next_at stored listing step
 pub turned : {E : Type 0} (r : Recording) (budgets : Budgets) (steps more : List Step) (old new : PreimageState) (now next : Dump)
     (at next_at : Option Moment) (stored : List Bool)
     (listing : Listing) (step : Step) (hit : Option Hit) (result : Result (Option Stop) E) →
-    signatures_of now ≡ stored ∷ option_to_list now.older → HasLookedBack r budgets old new now stored (known_before r at) listing hit → step ≡ step_of now stored listing hit →
+    signatures_of now ≡ stored ∷ option_to_list now.older → HasLookedFrom r budgets old new now stored at listing hit → step ≡ step_of now stored listing hit →
     IfOk result (λ _. more ≡ steps ++ step ∷ []) →
     IfOk result (λ stop. MatchOption hit (stop ≡ Some (cause_of_end step step.end)) (λ hit. (stop ≡ None) × (next ≡ hit.dump) × (next_at ≡ Some (moment hit.run hit.cycle)))) →
     IfOk result (λ stop. MatchOption stop (HasStepped r budgets steps more old new now next at next_at) (HasStopped r budgets steps more old new now at))

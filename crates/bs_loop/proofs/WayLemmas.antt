@@ -79,11 +79,11 @@ pub stepped : (r : Recording) (dump : Dump) (budgets : Budgets) (steps more : Li
     IsUnderWay r dump budgets steps old now at n → HasStepped r budgets steps more old new now next at next_at →
     IsUnderWay r dump budgets more new next next_at (n + 1)
 stepped r dump budgets steps more old new now next at next_at n way s =
-    let is : HasItsDump r s.hit = s.back.back.dump s.hit refl in
+    let is : HasItsDump r s.hit = s.back.from.back.dump s.hit refl in
     let kept : IsDepth (depth_of r.choice) = depth_is r.circuit r.choice now way.fits in
     let line : s.step.hit ≡ Some (line_of s.hit) = ap (λ (step : Step). step.hit) s.back.step_is in
     let listed : s.back.listing.cands ≡ s.step.cands = ap (λ (step : Step). step.cands) (sym s.back.step_is) in
-    let right : s.step.hit ≡ hit_of (crash_of r now) s.step.cands = line ∙ (s.back.back.line ∙ ap (hit_of (crash_of r now)) listed) in
+    let right : s.step.hit ≡ hit_of (crash_of r now) s.step.cands = line ∙ (s.back.from.back.line ∙ ap (hit_of (crash_of r now)) listed) in
     subst (λ (l : List Step). IsUnderWay r dump budgets l new next next_at (n + 1)) (sym s.made)
     (record {
       made = made_more r dump budgets steps old new now at s.step (Some s.hit) way.made way.stands way.fits way.last s.back;

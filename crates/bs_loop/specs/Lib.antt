@@ -3,6 +3,7 @@ pub mod Budget
 pub mod Bound
 -- what inner functions promise each other
 pub mod Recorded
+pub mod Known
 pub mod Made
 pub mod Turn
 pub mod Way

@@ -17,7 +17,7 @@ use Rattle.bs_report_good.specs.Valid.{cause_of_end}
 use Rattle.bs_preimage.specs.declared.listing.Listing.{Listing}
 use Rattle.bs_preimage.specs.Preimage.{PreimageState}
 use Rattle.bs_preimage.specs.Listed.{HasListed}
-use Rattle.bs_loop.specs.Recorded.{known_before}
+use Rattle.bs_loop.specs.Known.{IsKnown}
 
 -- the hit line of a hit
 abbrev pub line_of : Hit → HitLine
@@ -40,13 +40,21 @@ abbrev pub step_of : Dump → List Bool → Listing → Option Hit → Step
 step_of now stored listing hit =
     record { present = now.state; stored = stored; older = now.older; cands = listing.cands; end = listing.end; hit = option_map line_of hit }
 
+-- the same behind a search, which may have been whole and made a candidate known
+pub record HasLookedFrom (r : Recording) (budgets : Budgets) (old new : PreimageState) (now : Dump) (stored : List Bool) (at : Option Moment)
+    (listing : Listing) (hit : Option Hit) : Type 0 where
+  pub known : Option Cand
+  pub whole : Bool
+  pub is_known : IsKnown r now stored at known whole
+  pub back : HasLookedBack r budgets old new now stored known listing hit
+
 -- a step back from a present, which may be at a moment, and the moment that it hit
 pub record IsStepBack (r : Recording) (budgets : Budgets) (old new : PreimageState) (now : Dump) (at : Option Moment) (step : Step)
     (hit : Option Hit) : Type 0 where
   pub stored : List Bool
   pub held : signatures_of now ≡ stored ∷ option_to_list now.older
   pub listing : Listing
-  pub back : HasLookedBack r budgets old new now stored (known_before r at) listing hit
+  pub from : HasLookedFrom r budgets old new now stored at listing hit
   pub step_is : step ≡ step_of now stored listing hit
 
 -- one more step, with a hit, whose moment is the next present

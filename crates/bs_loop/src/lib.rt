@@ -1,13 +1,14 @@
 //! The backtrace: step after step from a dump back towards reset, until a named stop.
 //!
 //! It knows no solver and no simulator: candidates come from `Preimage::list`, moments from
-//! `Chip::first`. `steps` (one step back; one turn), `stop` (the cause after a step without a hit),
+//! `Chip::first`. `known` (the candidate that a search makes known), `steps` (one step back; one turn), `stop` (the cause after a step without a hit),
 //! `trace` (states and inputs from the last hit to the dump), `way` (turns until a stop:
 //! `backtrace`). Used above: `backtrace`, clauses `good` and `valid`. When a backtrace stops:
 //! `stop` and bs_report_good's `specs/Stop`; what holds between two turns: `specs/Made`,
 //! `specs/Way`.
 #![tactic(auto)]
 
+mod known;
 mod recorded;
 mod steps;
 mod stop;

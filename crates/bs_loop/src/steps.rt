@@ -7,14 +7,14 @@ ghost use Rattle.bs_scan.specs.Moments.{moment};
 ghost use Rattle.bs_preimage.specs.Listed.{IsRightCand};
 ghost use Rattle.bs_report_good.specs.Valid.{cause_of_end};
 ghost use Rattle.bs_loop.specs.Budget.{IsBudget};
-ghost use Rattle.bs_loop.specs.Recorded.{StandsIn, known_before};
-ghost use Rattle.bs_loop.specs.Turn.{line_of, step_of, HasLookedBack, HasStepped, HasStopped};
+ghost use Rattle.bs_loop.specs.Recorded.{StandsIn};
+ghost use Rattle.bs_loop.specs.Turn.{line_of, step_of, HasLookedBack, HasLookedFrom, HasStepped, HasStopped};
 
-use crate::recorded::known_before;
+use crate::known::{is_due, known_for, tries_after};
 use crate::stop::cause_after;
 use bs_bits::{Bits, List, NoMemory};
-use bs_chip::{Chip, Hit};
-use bs_preimage::{Listing, Preimage};
+use bs_chip::{Chip, Hit, Signs};
+use bs_preimage::{Listing, Preimage, Probe};
 use bs_report::{Budgets, Cand, HitLine, MAX_STEPS, Step, Stop};
 use bs_scan::{Dump, Moment};
 use std::alloc::Global;
@@ -27,7 +27,7 @@ struct Back {
 }
 
 /// The signature, lent, if there is one.
-fn lent(signature: &Option<Bits>) -> Option<&Bits>
+pub fn lent(signature: &Option<Bits>) -> Option<&Bits>
     ensures { option_map (λ bits. bits.now) result ≡ signature.now }
 {
     match signature {
@@ -110,16 +110,22 @@ fn step_of(now: &Dump, stored: Bits, listing: Listing, hit: &Option<Hit>) -> Res
     })
 }
 
-/// What is before a present: the list with the moment before it, where it is a moment of a run, and the first moment hit.
+/// What is before a present: the list with a candidate that a search makes known, and the first moment hit.
 fn look_from(
     alloc: Global,
     chip: &mut Chip<'_>,
+    signs: &mut Signs<'_>,
+    probe: &mut Probe<'_>,
     preimage: &mut Preimage<'_>,
     now: &Dump,
     at: Option<Moment>,
     stored: &Bits,
     budgets: &Budgets,
+    due: bool,
+    tries: &mut u64,
 ) -> Result<Back, NoMemory>
+    requires signs { signs.old ≡ chip.old.recording }
+    requires probe { probe.old ≡ record { circuit = chip.old.recording.circuit; choice = chip.old.recording.choice } }
     requires circuit { preimage.old.circuit ≡ chip.old.recording.circuit }
     requires choice { preimage.old.choice ≡ chip.old.recording.choice }
     requires dump { DumpFits chip.old.recording.circuit chip.old.recording.choice now.now }
@@ -127,12 +133,16 @@ fn look_from(
     requires stored { signatures_of now.now ≡ stored.now ∷ option_to_list now.now.older }
     requires budgets { IsBudget budgets.now }
     requires calls { preimage.old.calls < MAX_STEPS }
-    ensures back { IfOk result (λ back. HasLookedBack chip.old.recording budgets.now preimage.old preimage.new now.now stored.now (known_before chip.old.recording at) back.listing back.hit) }
+    ensures back { IfOk result (λ back. HasLookedFrom chip.old.recording budgets.now preimage.old preimage.new now.now stored.now at back.listing back.hit) }
     ensures chip { chip.new.recording ≡ chip.old.recording }
+    ensures signs { signs.new ≡ signs.old }
+    ensures probe { probe.new ≡ probe.old }
 {
-    chip.is_recording();
-    let known = known_before(alloc, chip, at, now.depth)?;
-    look_back(alloc, chip, preimage, now, stored, &known, budgets)
+    let known = known_for(
+        alloc, chip, signs, probe, now, at, stored, budgets, due, tries,
+    )?;
+    let back = look_back(alloc, chip, preimage, now, stored, &known.cand, budgets)?;
+    Ok(back)
 }
 
 /// Goes to the moment hit, which is now the present. Where there is none, the cause comes for which the backtrace stops.
@@ -172,12 +182,17 @@ fn advance(
 pub fn turn(
     alloc: Global,
     chip: &mut Chip<'_>,
+    signs: &mut Signs<'_>,
+    probe: &mut Probe<'_>,
     preimage: &mut Preimage<'_>,
     budgets: &Budgets,
     steps: &mut List<Step>,
     now: &mut Dump,
     at: &mut Option<Moment>,
+    tries: &mut u64,
 ) -> Result<Option<Stop>, NoMemory>
+    requires signs { signs.old ≡ chip.old.recording }
+    requires probe { probe.old ≡ record { circuit = chip.old.recording.circuit; choice = chip.old.recording.choice } }
     requires circuit { preimage.old.circuit ≡ chip.old.recording.circuit }
     requires choice { preimage.old.choice ≡ chip.old.recording.choice }
     requires dump { DumpFits chip.old.recording.circuit chip.old.recording.choice now.old }
@@ -186,12 +201,18 @@ pub fn turn(
     requires calls { preimage.old.calls < MAX_STEPS }
     ensures turn { IfOk result (λ stop. MatchOption stop (HasStepped chip.old.recording budgets.now steps.old steps.new preimage.old preimage.new now.old now.new at.old at.new) (HasStopped chip.old.recording budgets.now steps.old steps.new preimage.old preimage.new now.old at.old)) }
     ensures chip { chip.new.recording ≡ chip.old.recording }
+    ensures signs { signs.new ≡ signs.old }
+    ensures probe { probe.new ≡ probe.old }
 {
     let stored = match &now.stored {
         None => return Ok(Some(Stop::Reset)),
         Some(stored) => stored.copy()?,
     };
-    let Back { listing, hit } = look_from(alloc, chip, preimage, now, *at, &stored, budgets)?;
+    *tries = tries_after(*tries);
+    let due = is_due(steps, budgets);
+    let Back { listing, hit } = look_from(
+        alloc, chip, signs, probe, preimage, now, *at, &stored, budgets, due, tries,
+    )?;
     let step = step_of(now, stored, listing, &hit)?;
     advance(steps, now, at, step, hit)
 }

@@ -20,12 +20,13 @@ ghost use Rattle.bs_loop.specs.Way.{HasEnded};
 ghost use Rattle.bs_loop.specs.Report.{IsOfWay, IsWithLog};
 ghost use Rattle.bs_loop.specs.Bound.{HasBound};
 
+use crate::known::MAX_TRIES;
 use crate::steps::turn;
 use crate::trace::{inputs_back, states_back};
 use bs_bits::{Bits, List, NoMemory};
-use bs_chip::Chip;
+use bs_chip::{Chip, Signs};
 use bs_log::Log;
-use bs_preimage::Preimage;
+use bs_preimage::{Preimage, Probe};
 use bs_report::{Budgets, Report, Step, Stop};
 use bs_scan::Dump;
 use std::alloc::Global;
@@ -47,6 +48,65 @@ fn cause_at(now: &Dump) -> Stop
     }
 }
 
+/// Turn after turn from the dump until a stop, with what searches the recorded moments.
+fn walk_turns(
+    alloc: Global,
+    chip: &mut Chip<'_>,
+    signs: &mut Signs<'_>,
+    probe: &mut Probe<'_>,
+    preimage: &mut Preimage<'_>,
+    dump: &Dump,
+    budgets: &Budgets,
+) -> Result<Way, NoMemory>
+    requires signs { signs.old ≡ chip.old.recording }
+    requires probe { probe.old ≡ record { circuit = chip.old.recording.circuit; choice = chip.old.recording.choice } }
+    requires fresh { preimage.old ≡ fresh chip.old.recording.circuit chip.old.recording.choice }
+    requires dump { DumpFits chip.old.recording.circuit chip.old.recording.choice dump.now }
+    requires budgets { IsBudget budgets.now }
+    ensures made { IfOk result (λ way. HasMade (crash_of chip.old.recording dump.now) budgets.now way.steps preimage.new) }
+    ensures few { IfOk result (λ way. length way.steps ≤ budgets.now.steps) }
+    ensures stop { IfOk result (λ way. StopsFor (crash_of chip.old.recording dump.now) budgets.now way.steps way.stop) }
+    ensures chip { chip.new.recording ≡ chip.old.recording }
+{
+    let mut steps = List::new(alloc);
+    let mut now = dump.copy()?;
+    let mut at = None;
+    let mut tries = MAX_TRIES;
+    'turns: for _ in 0..budgets.steps {
+        match turn(
+            alloc, chip, signs, probe, preimage, budgets, &mut steps, &mut now, &mut at, &mut tries,
+        )? {
+            Some(stop) => return Ok(Way { steps, stop }),
+            None => {}
+        }
+    }
+    let stop = cause_at(&now);
+    Ok(Way { steps, stop })
+}
+
+/// The same with what answers about single states.
+fn walk_with(
+    alloc: Global,
+    chip: &mut Chip<'_>,
+    signs: &mut Signs<'_>,
+    preimage: &mut Preimage<'_>,
+    dump: &Dump,
+    budgets: &Budgets,
+) -> Result<Way, NoMemory>
+    requires signs { signs.old ≡ chip.old.recording }
+    requires fresh { preimage.old ≡ fresh chip.old.recording.circuit chip.old.recording.choice }
+    requires dump { DumpFits chip.old.recording.circuit chip.old.recording.choice dump.now }
+    requires budgets { IsBudget budgets.now }
+    ensures made { IfOk result (λ way. HasMade (crash_of chip.old.recording dump.now) budgets.now way.steps preimage.new) }
+    ensures few { IfOk result (λ way. length way.steps ≤ budgets.now.steps) }
+    ensures stop { IfOk result (λ way. StopsFor (crash_of chip.old.recording dump.now) budgets.now way.steps way.stop) }
+    ensures chip { chip.new.recording ≡ chip.old.recording }
+{
+    let mut probe = preimage.probe(alloc)?;
+    let way = walk_turns(alloc, chip, signs, &mut probe, preimage, dump, budgets)?;
+    Ok(way)
+}
+
 /// Turn after turn from the dump until a stop.
 fn walk(
     alloc: Global,
@@ -63,19 +123,9 @@ fn walk(
     ensures stop { IfOk result (λ way. StopsFor (crash_of chip.old.recording dump.now) budgets.now way.steps way.stop) }
     ensures chip { chip.new.recording ≡ chip.old.recording }
 {
-    let mut steps = List::new(alloc);
-    let mut now = dump.copy()?;
-    let mut at = None;
-    'turns: for _ in 0..budgets.steps {
-        match turn(
-            alloc, chip, preimage, budgets, &mut steps, &mut now, &mut at,
-        )? {
-            Some(stop) => return Ok(Way { steps, stop }),
-            None => {}
-        }
-    }
-    let stop = cause_at(&now);
-    Ok(Way { steps, stop })
+    let mut signs = chip.signs(alloc)?;
+    let way = walk_with(alloc, chip, &mut signs, preimage, dump, budgets)?;
+    Ok(way)
 }
 
 /// The trace of steps from a dump: its states, and its inputs.

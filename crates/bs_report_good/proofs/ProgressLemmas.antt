@@ -28,7 +28,7 @@ use Rattle.bs_report_good.specs.Chain.{present_of, present_of_hit, present_after
 use Rattle.bs_report_good.specs.Stop.{IsFinished}
 use Rattle.bs_report_good.specs.Good.{IsGood}
 use Rattle.bs_report_good.specs.Law.{HitsEarlier, LaterHitsAreEarlier}
-use Rattle.bs_report_good.specs.Progress.{ListsBefore}
+use Rattle.bs_report_good.specs.Progress.{ListsSooner, ListsBefore}
 
 each_at : {X : Type 0} (P : X → Type 0) (xs : List X) (i : ℕ) (x : X) → Each P xs → slice_get xs i ≡ Some x → P x
 each_at P [] i x h e = cc
@@ -114,17 +114,19 @@ earlier_hit crash is run (suc k) later im st sg all =
     (subst (λ (t : List (List Bool)). is_listed (predecessors c crash.choice (state_at c line (suc k)) t) (state_at c line k) ≡ true) sg come) in
     hit_where_listed crash run k later here (subst (λ (states : List (List Bool)). is_listed states (state_at c line k) ≡ true) (sym all) asked)
 
--- the list of the step is said to have it
+-- the list of the step is said to have a state of an earlier moment
 listed_hit : (crash : Crash) (run cycle : ℕ) (later : Step) → IsMoment crash.runs (record { run = run; cycle = cycle }) →
-    stored_at crash.circuit crash.choice (run_of crash.runs run) cycle ≡ stored_of later →
-    (1 ≤ cycle → is_listed (listed later.cands) (state_at crash.circuit (run_of crash.runs run) (cycle - 1)) ≡ true) → HitBelow crash later cycle
+    stored_at crash.circuit crash.choice (run_of crash.runs run) cycle ≡ stored_of later → (1 ≤ cycle → ListsSooner crash later cycle) →
+    HitBelow crash later cycle
 listed_hit crash run zero later im sg there =
     let none : [] ≡ stored_of later = sym (none_at_reset crash.circuit crash.choice (run_of crash.runs run) (depth_of crash.choice)) ∙ sg in
     cc
 listed_hit crash run (suc k) later im sg there =
-    let back : suc k - 1 ≡ k = omega arith in
-    hit_where_listed crash run k later (record { from_one = im.from_one; recorded = im.recorded; lasts = omega (arith, im.lasts) })
-    (subst (λ (n : ℕ). is_listed (listed later.cands) (state_at crash.circuit (run_of crash.runs run) n) ≡ true) back (there (omega arith)))
+    let s : ListsSooner crash later (suc k) = there (omega arith) in
+    let b : HitBelow crash later (suc s.there.cycle) =
+    hit_where_listed crash s.there.run s.there.cycle later
+    (record { from_one = s.recorded.from_one; recorded = s.recorded.recorded; lasts = s.recorded.lasts }) s.is in
+    record { moment = b.moment; first = b.first; below = omega (arith, b.below, s.sooner) }
 
 -- the moment of a hit
 pub record HitAt (crash : Crash) (step : Step) (hit : HitLine) : Type 0 where

@@ -1,7 +1,7 @@
 -- How a backtrace goes back, whatever its budget of candidates is.
-use Rattle.std.specs.Prelude.{◌≡◌, ◌≢◌, ◌⊎◌, ℕ, ◌+◌, ◌-◌, ◌≤◌, true, List, length, Some, None, slice_get, All}
+use Rattle.std.specs.Prelude.{◌≡◌, ◌≢◌, ◌⊎◌, ℕ, ◌+◌, ◌<◌, ◌≤◌, true, List, length, Some, None, slice_get, All}
 use Rattle.bs_scan.specs.Crash.{Crash}
-use Rattle.bs_scan.specs.Moments.{run_of, state_at, is_listed}
+use Rattle.bs_scan.specs.Moments.{Moment, IsMoment, state_of, is_listed}
 use Rattle.bs_report.specs.declared.report.HitLine.{HitLine}
 use Rattle.bs_report.specs.declared.report.ListEnd.TheVariants.{Candidates, Conflicts}
 use Rattle.bs_report.specs.declared.report.Report.{Report}
@@ -10,10 +10,16 @@ use Rattle.bs_report.specs.declared.report.Stop.TheVariants as stops
 use Rattle.bs_report_good.specs.Law.{HitsEarlier}
 use Rattle.bs_report_good.specs.Step.{listed}
 
--- the later step lists the state in which the run of the earlier one's hit was one cycle before
+-- a step lists the state of some moment before a cycle
+pub record ListsSooner (crash : Crash) (step : Step) (cycle : ℕ) : Type 0 where
+  pub there : Moment
+  pub recorded : IsMoment crash.runs there
+  pub sooner : there.cycle < cycle
+  pub is : is_listed (listed step.cands) (state_of crash.circuit crash.runs there) ≡ true
+
+-- the later step lists the state of some moment before the cycle of the earlier one's hit
 pub record ListsBefore (crash : Crash) (earlier later : Step) : Type 0 where
-  pub before : (hit : HitLine) → earlier.hit ≡ Some hit → 1 ≤ hit.cycle →
-      is_listed (listed later.cands) (state_at crash.circuit (run_of crash.runs hit.run) (hit.cycle - 1)) ≡ true
+  pub before : (hit : HitLine) → earlier.hit ≡ Some hit → 1 ≤ hit.cycle → ListsSooner crash later hit.cycle
 
 -- each step behind the first does, whose list ended by its count
 abbrev pub ListBefore : Crash → List Step → Type 0

@@ -1,9 +1,11 @@
 use Rattle.std.proofs.Common.{◌≡◌}
 use Rattle.bs_loop.specs.Way.{IsUnderWay}
-use Rattle.bs_loop.proofs.way.walk.Given as goal
+use Rattle.bs_loop.proofs.way.walk_turns.Given as goal
 
 abbrev pub invariant-turns : goal.invariant-turns
 invariant-turns l = record {
   chip : l.chip.recording ≡ l.fn.chip.recording;
+  signs : l.signs ≡ l.fn.signs;
+  probe : l.probe ≡ l.fn.probe;
   way : IsUnderWay l.fn.chip.recording l.dump l.budgets l.steps l.preimage l.now l.at l.counter;
 }

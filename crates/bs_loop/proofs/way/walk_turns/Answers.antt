@@ -2,7 +2,7 @@ use Rattle.std.proofs.Common.{subst, ◌∙◌}
 use Rattle.bs_scan.specs.Crash.{Recording}
 use Rattle.bs_loop.specs.Turn.{HasStepped, HasStopped}
 use Rattle.bs_loop.proofs.WayLemmas.{stepped, stopped}
-use Rattle.bs_loop.proofs.way.walk.Goals as goal
+use Rattle.bs_loop.proofs.way.walk_turns.Goals as goal
 
 pub returns-in-Some : goal.returns-in-Some
 returns-in-Some c =
@@ -19,6 +19,8 @@ pub turns-preserved : goal.turns-preserved
 turns-preserved c =
     record {
       chip = c.in_ok-stop.ensures.chip ∙ c.turns.invariant.chip;
+      signs = c.in_ok-stop.ensures.signs ∙ c.turns.invariant.signs;
+      probe = c.in_ok-stop.ensures.probe ∙ c.turns.invariant.probe;
       way =
           stepped c.args.chip.now.recording c.args.dump.now c.args.budgets.now c.turns.steps c.turn.new.steps c.turns.preimage c.turn.new.preimage c.turns.now
           c.turn.new.now c.turns.at c.turn.new.at c.turns.counter
