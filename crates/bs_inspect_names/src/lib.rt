@@ -2,8 +2,9 @@
 //!
 //! Modules: `splits` (a text cut at a byte), `key` (`key_parts`), `signal` (`signals`: which bits
 //! make a vector), `rtl` (names as RTL writes them), `hex` (`push_value`). Used above:
-//! `AreSignals`: each wanted bit stands in exactly one signal, and a signal is a net by itself or
-//! consecutive bits of a vector; `same_name` and `rtl_text` (`specs/Rtl`); and `value_text`.
+//! `AreSignals`: each wanted bit stands in exactly one signal, a signal is a net by itself or
+//! consecutive bits of a vector, none could go on in the next, and they stand in the order of
+//! `member_cmp`; `same_name` and `rtl_text` (`specs/Rtl`); and `value_text`.
 #![tactic(auto)]
 
 mod hex;

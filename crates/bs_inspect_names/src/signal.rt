@@ -2,11 +2,12 @@
 ghost use Rattle.std.specs.Prelude.{◌≡◌, ◌<◌, ◌^◌, ◌∷◌, [], ◌++◌, length, map, true, Some, IfOk, OnOk};
 ghost use Rattle.std.specs.List.{list_any};
 ghost use Rattle.bs_inspect_names.specs.Keys.{parts_in};
-ghost use Rattle.bs_inspect_names.specs.Signals.{all_bits, AreSignals, bits_of, GoesOn, is_named, is_wanted, member_in, members_of, name_text, plain, range_text, same_bit, signal_in, wanted};
+ghost use Rattle.bs_inspect_names.specs.Signals.{all_bits, AreSignals, AreWholeIn, bits_of, EndsBefore, GoesOn, goes_on, is_named, is_wanted, member_in, MayFollow, members_of, name_text, plain, range_text, same_bit, signal_in, wanted};
 
 use crate::key::{KeyParts, key_parts};
 use bs_bits::{List, NoMemory, push_number, push_piece};
 use std::alloc::Global;
+use std::cmp::Reverse;
 
 /// A place of a list of keys, with what its key says.
 #[derive(Clone, Copy)]
@@ -111,7 +112,8 @@ pub fn members<'a>(
 
 /// Whether a bit is the next lower one of a signal.
 fn goes_on(signal: &Signal<'_>, member: &Member<'_>) -> bool
-    ensures { result ≡ true → GoesOn (signal_in signal.now) (member_in member.now) }
+    ensures next { result ≡ true → GoesOn (signal_in signal.now) (member_in member.now) }
+    ensures test { result ≡ goes_on (signal_in signal.now) (member_in member.now) }
 {
     match (signal.high, member.bit) {
         (Some(high), Some(bit)) => {
@@ -153,32 +155,44 @@ fn extended<'a>(last: Signal<'a>, member: &Member<'a>) -> Result<Signal<'a>, NoM
 /// Puts a signal at the end.
 #[tactic(auto, using(crate::proofs::SignalLemmas::bits_put))]
 fn put<'a>(signals: &mut Vec<Signal<'a>>, signal: Signal<'a>) -> Result<(), NoMemory>
-    ensures { OnOk result (all_bits signals.new.items ≡ all_bits signals.old.items ++ bits_of (signal_in signal.entry)) }
+    requires whole { AreWholeIn signals.old.items }
+    requires follows { MayFollow signals.old.items (signal_in signal) }
+    ensures bits { OnOk result (all_bits signals.new.items ≡ all_bits signals.old.items ++ bits_of (signal_in signal.entry)) }
+    ensures whole { OnOk result (AreWholeIn signals.new.items) }
+    ensures put { OnOk result (signals.new.items ≡ signals.old.items ++ signal.entry ∷ []) }
 {
     signals.push(signal)?;
     Ok(())
 }
 
 /// Puts a bit at the end as a signal of its own.
+#[tactic(auto, using(crate::proofs::SignalLemmas::single_follows))]
 fn put_single<'a>(
     alloc: Global,
     signals: &mut Vec<Signal<'a>>,
     member: &Member<'a>,
 ) -> Result<(), NoMemory>
-    ensures { OnOk result (all_bits signals.new.items ≡ all_bits signals.old.items ++ member_in member.now ∷ []) }
+    requires whole { AreWholeIn signals.old.items }
+    requires apart { EndsBefore signals.old.items (member_in member.now) }
+    ensures whole { OnOk result (AreWholeIn signals.new.items) }
+    ensures bits { OnOk result (all_bits signals.new.items ≡ all_bits signals.old.items ++ member_in member.now ∷ []) }
 {
     let signal = single(alloc, member)?;
     put(signals, signal)
 }
 
 /// Puts a signal and a bit at the end: the bit to the signal where it goes on, and else as a signal of its own.
+#[tactic(auto, using(crate::proofs::SignalLemmas::extended_follows, crate::proofs::SignalLemmas::ends_before))]
 fn put_both<'a>(
     alloc: Global,
     signals: &mut Vec<Signal<'a>>,
     last: Signal<'a>,
     member: &Member<'a>,
 ) -> Result<(), NoMemory>
-    ensures { OnOk result (all_bits signals.new.items ≡ (all_bits signals.old.items ++ bits_of (signal_in last.entry)) ++ member_in member.now ∷ []) }
+    requires whole { AreWholeIn signals.old.items }
+    requires follows { MayFollow signals.old.items (signal_in last) }
+    ensures whole { OnOk result (AreWholeIn signals.new.items) }
+    ensures bits { OnOk result (all_bits signals.new.items ≡ (all_bits signals.old.items ++ bits_of (signal_in last.entry)) ++ member_in member.now ∷ []) }
 {
     if goes_on(&last, member) {
         let signal = extended(last, member)?;
@@ -190,13 +204,15 @@ fn put_both<'a>(
 }
 
 /// Puts a bit to the last signal where it goes on, and else into a new one.
-#[tactic(auto, using(crate::proofs::SignalLemmas::bits_last))]
+#[tactic(auto, using(crate::proofs::SignalLemmas::bits_last, crate::proofs::SignalLemmas::none_before))]
 fn add_member<'a>(
     alloc: Global,
     signals: &mut Vec<Signal<'a>>,
     member: &Member<'a>,
 ) -> Result<(), NoMemory>
-    ensures { OnOk result (all_bits signals.new.items ≡ all_bits signals.old.items ++ member_in member.now ∷ []) }
+    requires { AreWholeIn signals.old.items }
+    ensures whole { OnOk result (AreWholeIn signals.new.items) }
+    ensures bits { OnOk result (all_bits signals.new.items ≡ all_bits signals.old.items ++ member_in member.now ∷ []) }
 {
     match signals.pop() {
         Some(last) => put_both(alloc, signals, last, member),
@@ -205,8 +221,10 @@ fn add_member<'a>(
 }
 
 /// The signals that sorted bits make.
+#[tactic(auto, using(crate::proofs::SignalLemmas::none_whole))]
 fn join<'a>(alloc: Global, members: &[Member<'a>]) -> Result<Vec<Signal<'a>>, NoMemory>
-    ensures { IfOk result (λ signals. all_bits signals.items ≡ map member_in members.now) }
+    ensures whole { IfOk result (λ signals. AreWholeIn signals.items) }
+    ensures bits { IfOk result (λ signals. all_bits signals.items ≡ map member_in members.now) }
 {
     let mut signals = Vec::new(alloc);
     'members: for member in members {
@@ -226,7 +244,7 @@ pub fn signals<'a>(
     ensures { IfOk result (λ signals. AreSignals (map (λ s. s.now) only.now) (map (λ s. s.now) keys.now) (map signal_in signals.items)) }
 {
     let mut members = members(alloc, keys, only)?;
-    members.sort_by_key(|s| (s.base, u64::MAX - s.bit.unwrap_or(0), s.place))?;
+    members.sort_by_key(|s| (s.base, Reverse(s.bit.unwrap_or(0)), s.place))?;
     join(alloc, &members)
 }
 

@@ -1,15 +1,15 @@
 -- Classes of rows, row by row.
-use Rattle.std.proofs.Common.{◌≡◌, ◌≢◌, ℕ, zero, suc, ◌<◌, ◌≤◌, ◌+◌, ◌*◌, ◌/◌, ◌^◌, Bool, true, false, List, [], ◌∷◌, ◌++◌, take, length, get_or, map, refl, ap, sym, ◌∙◌, cond}
-use Rattle.std.proofs.Common.{Option, Some, None, arith, subst}
-use Rattle.std.specs.Prelude.{All, slice_set, ◌==◌, nat_le}
-use Rattle.std.specs.List.{sum_by, count_by, range_with_len}
+use Rattle.std.proofs.Common.{◌≡◌, ℕ, zero, suc, ◌<◌, ◌≤◌, ◌+◌, ◌*◌, ◌/◌, Bool, true, false, List, [], ◌∷◌, ◌++◌, take, length, get_or, map, refl, ap, sym, ◌∙◌, cond}
+use Rattle.std.proofs.Common.{arith}
+use Rattle.std.specs.Prelude.{slice_set, ◌==◌, nat_le}
+use Rattle.std.specs.List.{sum_by, range_with_len}
 use Rattle.std.proofs.lemmas.Bool.{eqb-true, eqb-false, eq-eqb, ne_eqb, leb-true, leb-false}
-use Rattle.std.proofs.lemmas.List.{take_more, map-append, length-map, get_or-set_same, get_or-set_other, get_or-replicate}
+use Rattle.std.proofs.lemmas.List.{take_more, map-append, get_or-set_same, get_or-set_other}
 use Rattle.std.proofs.lemmas.List.Sums.{count_by-le-length, sum_by_push, sum_by-cons}
 use Rattle.std.proofs.Math.Nat.{div-mul-le_self}
 use Rattle.bs_net.specs.Circuit.{bit_at}
 use Rattle.bs_bits.proofs.RangeLemmas.{range_push}
-use Rattle.bs_inspect_proposal.specs.Classes.{column_of, key_shares, like, split_key, split_keys}
+use Rattle.bs_inspect_proposal.specs.Classes.{column_of, key_shares, like}
 
 -- what a further place gives
 pub mapped_place : {X : Type 0} (f : ℕ → X) (n : ℕ) (before after : List X) (x : X) → before ≡ map f (range_with_len 0 n) → x ≡ f n →

@@ -1,7 +1,6 @@
 -- The rows that are compared.
-use Rattle.std.proofs.Common.{◌≡◌, ℕ, ◌<◌, ◌≤◌, ◌+◌, ◌*◌, ◌/◌, Bool, List, [], length, get_or, map, ap, sym, ◌∙◌, arith, refl}
+use Rattle.std.proofs.Common.{◌≡◌, ℕ, ◌<◌, ◌≤◌, ◌*◌, ◌/◌, Bool, List, [], length, get_or, ap, ◌∙◌, arith, refl}
 use Rattle.std.specs.Prelude.{All}
-use Rattle.std.specs.List.{range_with_len}
 use Rattle.std.proofs.lemmas.List.FromFn.{get_or-map-range_with_len, length-map-range_with_len}
 use Rattle.bs_inspect_proposal.specs.Greedy.{compared, stride}
 use Rattle.bs_inspect_proposal.specs.declared.greedy.TheConstants.{MAX_COMPARED}

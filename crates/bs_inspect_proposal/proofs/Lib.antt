@@ -1,8 +1,11 @@
 pub mod RowLemmas
 pub mod TallyLemmas
 pub mod LookedLemmas
+pub mod PackedLemmas
+pub mod KeptLemmas
+pub mod FilmLemmas
+pub mod ListingLemmas
 pub mod ApartLemmas
-pub mod WidthLemmas
 pub mod ClassLemmas
 pub mod PlaceLemmas
 pub mod SplitLemmas

@@ -1,6 +1,6 @@
 -- Lines, one after another; and how great a sum of shares is.
 use Rattle.std.proofs.Common.{◌≡◌, ℕ, ◌<◌, ◌≤◌, ◌+◌, ◌*◌, ◌^◌, arith, Bool, List, [], ◌∷◌, ◌++◌, length, map, take, get_or, ap, sym, ◌∙◌, append_assoc}
-use Rattle.std.specs.List.{flat_map, sum_by, count_by}
+use Rattle.std.specs.List.{flat_map, sum_by}
 use Rattle.std.proofs.lemmas.Grind.{flat_map-append}
 use Rattle.std.proofs.lemmas.List.{take_more, append-nil, length-map}
 use Rattle.std.proofs.lemmas.List.Sums.{count_by-le-length, sum_by-le}
@@ -8,7 +8,7 @@ use Rattle.bs_bits.specs.Bits.{bits_eq}
 use Rattle.bs_scan.specs.Choice.{Chosen}
 use Rattle.bs_scan.specs.Signature.{signature}
 use Rattle.bs_inspect_proposal.specs.Apart.{states_apart, step_signature, steps_apart}
-use Rattle.bs_inspect_proposal.specs.Proposal.{xor_line}
+use Rattle.bs_inspect_proposal.specs.Proposal.{shares_line, xor_line}
 use Rattle.bs_inspect_proposal.specs.Sharing.{sharing, tally_of}
 use Rattle.bs_inspect_proposal.specs.declared.rows.TheConstants.{MAX_ROWS}
 use Rattle.bs_inspect_proposal.specs.declared.sharing.Tally.{Tally}
@@ -50,3 +50,11 @@ pub steps_small : (choice : Chosen) (steps : List (List Bool)) (tally : Tally) �
     tally.sum < 2 ^ 56
 steps_small choice steps tally e few =
     tally_small (map (step_signature choice) steps) tally e (omega (arith, length-map steps (step_signature choice), few))
+
+-- two lines of shares
+pub tallies_whole : (old middle new one two : List ℕ) (n k m j : ℕ) (t u v w : Tally) → middle ≡ old ++ shares_line one n t →
+    new ≡ middle ++ shares_line two k u → n ≡ m → t ≡ v → k ≡ j → u ≡ w → new ≡ old ++ (shares_line one m v ++ shares_line two j w)
+tallies_whole old middle new one two n k m j t u v w e f en et ek eu =
+    f
+    ∙ ((λ i. e i ++ shares_line two (ek i) (eu i))
+    ∙ ((λ i. (old ++ shares_line one (en i) (et i)) ++ shares_line two j w) ∙ append_assoc old (shares_line one m v) (shares_line two j w)))

@@ -77,7 +77,7 @@ steps_more c run k initial before after older s row e is_older is joins goes =
 
 -- ---- runs
 
-run_more : (f : Run → List (List Bool)) (runs : List Run) (i : ℕ) (d : Run) (before after : List (List Bool)) → i < length runs →
+pub run_more : (f : Run → List (List Bool)) (runs : List Run) (i : ℕ) (d : Run) (before after : List (List Bool)) → i < length runs →
     before ≡ kept_rows [] (flat_map f (take i runs)) → after ≡ kept_rows before (f (get_or runs i d)) → after ≡ kept_rows [] (flat_map f (take (i + 1) runs))
 run_more f runs i d before after lt e goes =
     let more : flat_map f (take (i + 1) runs) ≡ flat_map f (take i runs) ++ f (get_or runs i d) =
@@ -89,7 +89,7 @@ run_more f runs i d before after lt e goes =
     ∙ (sym (fold-append kept_row [] (flat_map f (take i runs)) (f (get_or runs i d))) ∙ ap (kept_rows []) (sym more)))
 
 -- the run with a number has the inputs at its place
-run_is : (stimulus : Stimulus) (k : ℕ) (d : Run) → k < length stimulus.runs → (run_at stimulus (k + 1)).inputs ≡ get_or (inputs_of stimulus) k d
+pub run_is : (stimulus : Stimulus) (k : ℕ) (d : Run) → k < length stimulus.runs → (run_at stimulus (k + 1)).inputs ≡ get_or (inputs_of stimulus) k d
 run_is stimulus k d lt =
     let place : k + 1 - 1 ≡ k = omega arith in
     ap (λ (n : ℕ). (get_or stimulus.runs n no_run).inputs) place ∙ sym (get_or-map (λ (run : Recorded). run.inputs) stimulus.runs k no_run d lt)

@@ -1,9 +1,9 @@
 -- Numbers and the places where they came first, one number after another.
-use Rattle.std.proofs.Common.{◌≡◌, ◌≢◌, ℕ, zero, suc, ◌<◌, ◌≤◌, ◌+◌, Bool, true, false, List, [], ◌∷◌, ◌++◌, take, length, get_or, refl, ap, sym, ◌∙◌}
-use Rattle.std.proofs.Common.{Option, Some, None, arith, subst, replicate}
-use Rattle.std.specs.Prelude.{All, slice_set, ◌==◌, unwrap_or}
+use Rattle.std.proofs.Common.{◌≡◌, ℕ, zero, suc, ◌<◌, ◌≤◌, ◌+◌, Bool, true, false, List, [], ◌∷◌, ◌++◌, take, length, get_or, refl, ap, sym, ◌∙◌}
+use Rattle.std.proofs.Common.{Option, Some, None, arith, replicate}
+use Rattle.std.specs.Prelude.{slice_set, ◌==◌, unwrap_or}
 use Rattle.std.proofs.lemmas.Bool.{eqb-true, eqb-false, eq-eqb, ne_eqb}
-use Rattle.std.proofs.lemmas.List.{take_more, length-append, length-set, length-take-le, get_or-set_same, get_or-set_other, get_or-replicate, get_or_append_left}
+use Rattle.std.proofs.lemmas.List.{take_more, length-append, length-take-le, get_or-set_same, get_or-set_other, get_or_append_left}
 use Rattle.std.proofs.Math.Seq.{get_or-append_seam}
 use Rattle.bs_inspect_proposal.specs.Classes.{Renumbers}
 use Rattle.bs_inspect_proposal.specs.Places.{ArePlaced, placed}

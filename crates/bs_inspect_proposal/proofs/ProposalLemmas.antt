@@ -1,29 +1,45 @@
 -- What a proposal stands on.
-use Rattle.std.proofs.Common.{◌≡◌, ℕ, ◌<◌, ◌≤◌, ◌+◌, arith, Bool, List, ◌++◌, length, get_or, map, ap, sym, ◌∙◌, subst, append_assoc}
+use Rattle.std.proofs.Common.{◌≡◌, ℕ, ◌<◌, ◌≤◌, arith, Bool, List, ◌++◌, length, map, take, min, ap, sym, ◌∙◌, subst, append_assoc}
 use Rattle.std.specs.Prelude.{All, codes}
 use Rattle.std.specs.Borrow.{Bor}
 use Rattle.std.specs.List.{flat_map}
 use Rattle.std.proofs.lemmas.Grind.{get_or_default_zero}
-use Rattle.std.proofs.lemmas.List.{length-map}
+use Rattle.std.proofs.lemmas.List.{get_or-take, length-map, length-take, take_min}
 use Rattle.bs_bits.specs.Lines.{line}
 use Rattle.bs_scan.specs.ChoiceText.{chosen}
 use Rattle.bs_inspect_proposal.specs.Greedy.{IsGreedy, compared}
-use Rattle.bs_inspect_proposal.specs.Items.{IsLooked, single}
+use Rattle.bs_inspect_proposal.specs.Items.{single}
+use Rattle.bs_inspect_proposal.specs.Kept.{IsLooked, Step, first_rows, step_row}
 use Rattle.bs_inspect_proposal.specs.Proposal.{TellsChoices, bit_line, bits_told, parities_told, parity_items, shares_text, xor_line}
 use Rattle.bs_inspect_proposal.specs.declared.rows.TheConstants.{MAX_ROWS}
 
-pub looked : (width : ℕ) (states steps : List (List Bool)) → All (λ s. length s ≡ width) states →
-    All (λ row. length row ≡ width + width) steps → length states ≤ MAX_ROWS → length steps ≤ MAX_ROWS → IsLooked width states steps
-looked width states steps states_wide steps_wide few_states few_steps = record {
-  states_wide = states_wide;
-  steps_wide = steps_wide;
-  few_states = few_states;
-  few_steps = few_steps;
-}
+pub states_count : (rows : List (List Bool)) (n : ℕ) → n ≡ min (length rows) MAX_ROWS → n ≡ length (first_rows rows)
+states_count rows n e = omega (arith, e, length-take MAX_ROWS rows)
+
+pub steps_count : (rows : List (List Bool)) (steps : List Step) (n : ℕ) → n ≡ length steps → n ≡ length (map (step_row rows) steps)
+steps_count rows steps n e = e ∙ sym (length-map steps (step_row rows))
+
+pub states_taken : (rows got all : List (List Bool)) (n : ℕ) → n ≡ min (length rows) MAX_ROWS → all ≡ rows → got ≡ take n all → got ≡ first_rows rows
+states_taken rows got all n e same is =
+    let turned : n ≡ min MAX_ROWS (length rows) = omega (arith, e) in
+    is ∙ ((λ i. take (turned i) (same i)) ∙ take_min MAX_ROWS rows)
+
+pub first_wide : (width : ℕ) (rows got : List (List Bool)) → All (λ s. length s ≡ width) rows → got ≡ first_rows rows → All (λ s. length s ≡ width) got
+first_wide width rows got wide e = subst (All (λ (s : List Bool). length s ≡ width)) (sym e)
+    (λ k d lt.
+    let at_most : k < MAX_ROWS = omega (arith, lt, length-take MAX_ROWS rows) in
+    let there : k < length rows = omega (arith, lt, length-take MAX_ROWS rows) in
+    ap length (get_or-take MAX_ROWS rows k d at_most) ∙ wide k d there)
+
+pub few_states : (rows : List (List Bool)) → length (first_rows rows) ≤ MAX_ROWS
+few_states rows = omega (arith, length-take MAX_ROWS rows)
+
+pub few_steps : (width : ℕ) (rows : List (List Bool)) (steps : List Step) → IsLooked width rows steps → length (map (step_row rows) steps) ≤ MAX_ROWS
+few_steps width rows steps h = omega (arith, h.few, length-map steps (step_row rows))
 
 -- the same with the width by another name
-pub looked_by : (width n : ℕ) (states steps : List (List Bool)) → n ≡ width → IsLooked width states steps → IsLooked n states steps
-looked_by width n states steps e h = rw e h
+pub looked_by : (width n : ℕ) (rows : List (List Bool)) (steps : List Step) → n ≡ width → IsLooked width rows steps → IsLooked n rows steps
+looked_by width n rows steps e h = rw e h
 
 pub flops_within : (width : ℕ) (rows : List (List Bool)) (bits : ℕ) (flops : List ℕ) → IsGreedy width rows bits flops →
     All (λ flop. flop < width) flops

@@ -3,7 +3,7 @@ use Rattle.std.proofs.Common.{◌≡◌, ◌≢◌, ℕ, zero, suc, ◌<◌, ◌
 use Rattle.std.proofs.Common.{arith, subst, replicate}
 use Rattle.std.specs.Prelude.{All, ◌==◌, ◌&&◌}
 use Rattle.std.specs.Bool.{beq}
-use Rattle.std.specs.List.{sum_by, count_by, range_with_len}
+use Rattle.std.specs.List.{sum_by, range_with_len}
 use Rattle.std.proofs.lemmas.Bool.{eqb-true, eqb-false, eq-eqb, ne_eqb}
 use Rattle.std.proofs.lemmas.List.{map-append, length-map, get_or-map, get_or-replicate}
 use Rattle.std.proofs.lemmas.List.FromFn.{get_or-map-range_with_len, length-range_with_len}
@@ -14,7 +14,7 @@ use Rattle.bs_net.specs.Gate.{is_odd}
 use Rattle.bs_scan.specs.Signature.{parity_of, signature}
 use Rattle.bs_inspect_proposal.specs.Sharing.{sharing}
 use Rattle.bs_inspect_proposal.specs.Items.{single, singles}
-use Rattle.bs_inspect_proposal.specs.Classes.{AreClasses, Renumbers, column_of, columns_of, key_shares, like, row_bits, shares_of, split_key, split_keys}
+use Rattle.bs_inspect_proposal.specs.Classes.{AreClasses, Renumbers, column_of, columns_of, like, row_bits, shares_of, split_key, split_keys}
 use Rattle.bs_inspect_proposal.specs.Greedy.{shares_with}
 use Rattle.bs_inspect_proposal.proofs.ClassLemmas.{turned}
 

@@ -7,6 +7,9 @@ pub mod Items
 pub mod Greedy
 pub mod Proposal
 -- what inner functions promise each other
+pub mod Row
+pub mod Film
+pub mod Kept
 pub mod Keys
 pub mod Places
 pub mod Classes

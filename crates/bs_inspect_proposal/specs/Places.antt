@@ -1,5 +1,5 @@
 -- Numbers and the places where they came first.
-use Rattle.std.specs.Prelude.{◌≡◌, ℕ, ◌<◌, List, [], length, slice_index_or, take, All, Option, Some, None}
+use Rattle.std.specs.Prelude.{◌≡◌, ℕ, ◌<◌, List, length, slice_index_or, Option, Some, None}
 
 -- where a number came first, if it came, or else this place
 abbrev pub placed : Option ℕ → ℕ → ℕ

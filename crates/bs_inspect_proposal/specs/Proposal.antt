@@ -1,5 +1,5 @@
 -- The proposal of a signature (docs/FORMATS.md, "Texts of `backspace_inspect`").
-use Rattle.std.specs.Prelude.{◌≡◌, ℕ, ◌+◌, ◌*◌, ◌/◌, ◌%◌, ◌==◌, ◌<◌, min, Bool, List, [], ◌∷◌, ◌++◌, length, map, filter, codes, decimal, slice_index_or, All}
+use Rattle.std.specs.Prelude.{◌≡◌, ℕ, ◌+◌, ◌*◌, ◌/◌, ◌%◌, ◌==◌, min, Bool, List, [], ◌∷◌, ◌++◌, length, map, filter, codes, decimal, slice_index_or}
 use Rattle.std.specs.Prelude.{if◌then◌else◌}
 use Rattle.std.specs.List.{flat_map, range_with_len}
 use Rattle.bs_bits.specs.Lines.{line}

@@ -8,6 +8,7 @@ ghost use Rattle.bs_inspect_proposal.specs.declared.greedy.TheConstants.{MAX_COM
 
 use crate::best::{Found, best};
 use crate::classes::{renumber, split_keys, zeros};
+use crate::row::Row;
 use bs_bits::{Bits, List, NoMemory};
 use std::alloc::Global;
 
@@ -158,13 +159,13 @@ fn greedy(alloc: Global, width: usize, rows: &[Bits], bits: usize) -> Result<Vec
 
 /// The rows that are compared.
 #[tactic(auto, using(crate::proofs::ClassLemmas::mapped_place, crate::proofs::ClassLemmas::place_within))]
-fn compared(alloc: Global, rows: &[Bits]) -> Result<List<Bits>, NoMemory>
+fn compared(alloc: Global, rows: &[Row]) -> Result<List<Bits>, NoMemory>
     ensures { IfOk result (λ own. own ≡ compared rows.now) }
 {
     let stride = rows.len() / (MAX_COMPARED + 1) + 1;
     let mut own = List::new(alloc);
     'rows: for k in 0..rows.len() / stride {
-        own.push(rows[k * stride].copy()?)?;
+        own.push(rows[k * stride].bits(alloc)?)?;
     }
     Ok(own)
 }
@@ -174,7 +175,7 @@ fn compared(alloc: Global, rows: &[Bits]) -> Result<List<Bits>, NoMemory>
 pub(crate) fn best_flops(
     alloc: Global,
     width: usize,
-    states: &[Bits],
+    states: &[Row],
     bits: usize,
 ) -> Result<Vec<u32>, NoMemory>
     requires wide { All (λ s. length s ≡ width) states.now }

@@ -1,20 +1,22 @@
 //! What a choice of items tells apart, and the items that are proposed.
-ghost use Rattle.std.specs.Prelude.{◌≡◌, ◌<◌, ◌≤◌, ◌+◌, ◌^◌, ◌%◌, ◌==◌, ◌++◌, ◌∷◌, [], length, map, filter, min, take, drop, All, IfOk, OnOk};
+ghost use Rattle.std.specs.Prelude.{◌≡◌, ◌<◌, ◌≤◌, ◌+◌, ◌^◌, ◌%◌, ◌==◌, ◌++◌, ◌∷◌, [], length, map, filter, min, All, IfOk, OnOk};
 ghost use Rattle.std.specs.List.{range_with_len};
 ghost use Rattle.bs_scan.specs.ChoiceText.{chosen};
 ghost use Rattle.bs_scan.specs.Signature.{parity_of, signature};
-ghost use Rattle.bs_inspect_proposal.specs.Apart.{states_apart, step_signature, steps_apart};
 ghost use Rattle.bs_inspect_proposal.specs.Items.{AreWithin, single};
+ghost use Rattle.bs_inspect_proposal.specs.Kept.{AreSteps, first_rows, step_row};
 ghost use Rattle.bs_inspect_proposal.specs.Proposal.{every, parity_items};
+ghost use Rattle.bs_inspect_proposal.specs.Sharing.{tally_of};
+ghost use Rattle.bs_inspect_proposal.specs.declared.rows.TheConstants.{MAX_ROWS};
 
-use crate::halves::{behind, front};
-use crate::listing::joined;
+use crate::row::Row;
+use crate::rows::MAX_ROWS;
 use crate::sharing::{Tally, tally_rows};
 use bs_bits::{Bits, List, NoMemory};
 use std::alloc::Global;
 
 /// The parity of an item's flip-flops in a state.
-fn parity(item: &[u32], state: &Bits) -> bool
+fn parity(item: &[u32], state: &Row) -> bool
     requires { All (λ flop. flop < length state.now) item.now }
     ensures { result ≡ parity_of state.now item.now }
 {
@@ -28,7 +30,7 @@ fn signature_of(
     alloc: Global,
     width: usize,
     items: &[List<u32>],
-    state: &Bits,
+    state: &Row,
 ) -> Result<Bits, NoMemory>
     requires within { AreWithin width items.now }
     requires wide { length state.now ≡ width }
@@ -41,61 +43,13 @@ fn signature_of(
     Ok(bits)
 }
 
-/// The signature of the first state of a step.
-#[tactic(auto, using(crate::proofs::ApartLemmas::front_width))]
-fn older_signature(
-    alloc: Global,
-    width: usize,
-    items: &[List<u32>],
-    row: &Bits,
-) -> Result<Bits, NoMemory>
-    requires within { AreWithin width items.now }
-    requires wide { length row.now ≡ width + width }
-    ensures { IfOk result (λ bits. bits ≡ signature (chosen width 1 items.now) (take width row.now)) }
-{
-    let state = front(alloc, row, width)?;
-    signature_of(alloc, width, items, &state)
-}
-
-/// The signature of the second state of a step.
-#[tactic(auto, using(crate::proofs::ApartLemmas::behind_width))]
-fn newer_signature(
-    alloc: Global,
-    width: usize,
-    items: &[List<u32>],
-    row: &Bits,
-) -> Result<Bits, NoMemory>
-    requires within { AreWithin width items.now }
-    requires wide { length row.now ≡ width + width }
-    ensures { IfOk result (λ bits. bits ≡ signature (chosen width 1 items.now) (drop width row.now)) }
-{
-    let state = behind(alloc, row, width)?;
-    signature_of(alloc, width, items, &state)
-}
-
-/// The signatures of the two states of a step, behind one another.
-fn step_signature_of(
-    alloc: Global,
-    width: usize,
-    items: &[List<u32>],
-    row: &Bits,
-) -> Result<Bits, NoMemory>
-    requires within { AreWithin width items.now }
-    requires wide { length row.now ≡ width + width }
-    ensures { IfOk result (λ bits. bits ≡ step_signature (chosen width 1 items.now) row.now) }
-{
-    let older = older_signature(alloc, width, items, row)?;
-    let newer = newer_signature(alloc, width, items, row)?;
-    joined(&older, &newer)
-}
-
 /// The signatures of states.
 #[tactic(auto, using(crate::proofs::ApartLemmas::signature_more))]
-fn signatures_of(
+pub(crate) fn signatures_of(
     alloc: Global,
     width: usize,
     items: &[List<u32>],
-    states: &[Bits],
+    states: &[Row],
 ) -> Result<Vec<Bits>, NoMemory>
     requires within { AreWithin width items.now }
     requires wide { All (λ s. length s ≡ width) states.now }
@@ -108,58 +62,63 @@ fn signatures_of(
     Ok(own)
 }
 
-/// The signatures of the states of steps.
-#[tactic(auto, using(crate::proofs::ApartLemmas::step_more))]
-fn step_signatures_of(
-    alloc: Global,
-    width: usize,
-    items: &[List<u32>],
-    steps: &[Bits],
-) -> Result<Vec<Bits>, NoMemory>
-    requires within { AreWithin width items.now }
-    requires wide { All (λ row. length row ≡ width + width) steps.now }
-    ensures { IfOk result (λ own. own.items ≡ map (step_signature (chosen width 1 items.now)) steps.now) }
+/// Two lists of bits behind one another.
+#[tactic(auto, using(crate::proofs::LookedLemmas::joined_more))]
+fn joined(first: &Bits, second: &Bits) -> Result<Bits, NoMemory>
+    ensures { IfOk result (λ bits. bits ≡ first.now ++ second.now) }
 {
-    let mut own = Vec::new(alloc);
-    'steps: for i in 0..steps.len() {
-        own.push(step_signature_of(alloc, width, items, &steps[i])?)?;
+    let mut bits = first.copy()?;
+    'places: for i in 0..second.len() {
+        bits.push(second.get(i))?;
     }
-    Ok(own)
+    Ok(bits)
 }
 
-/// How many states share the signature that items make.
-#[tactic(auto, using(crate::proofs::ApartLemmas::few_mapped))]
-pub(crate) fn share_states(
-    alloc: Global,
-    width: usize,
-    items: &[List<u32>],
-    states: &[Bits],
-) -> Result<Tally, NoMemory>
-    requires within { AreWithin width items.now }
-    requires wide { All (λ s. length s ≡ width) states.now }
-    requires few { length states.now < 2 ^ 32 }
-    ensures { IfOk result (λ tally. tally ≡ states_apart (chosen width 1 items.now) states.now) }
+/// The signatures of the two states of a step, behind one another.
+#[tactic(auto, using(crate::proofs::ApartLemmas::pair_is))]
+fn pair_of(own: &[Bits], step: (usize, usize)) -> Result<Bits, NoMemory>
+    requires from { step.0 < length own.now }
+    requires to { step.1 < length own.now }
+    ensures { IfOk result (λ bits. bits ≡ step_row own.now step) }
 {
-    let own = signatures_of(alloc, width, items, states)?;
-    let tally = tally_rows(alloc, own.as_slice())?;
+    joined(&own[step.0], &own[step.1])
+}
+
+/// The signatures of the two states of each step, behind one another.
+#[tactic(auto, using(crate::proofs::ApartLemmas::pair_more, crate::proofs::ApartLemmas::pair_from, crate::proofs::ApartLemmas::pair_to))]
+fn pairs_of(alloc: Global, own: &[Bits], steps: &[(usize, usize)]) -> Result<Vec<Bits>, NoMemory>
+    requires { AreSteps own.now steps.now }
+    ensures { IfOk result (λ pairs. pairs.items ≡ map (step_row own.now) steps.now) }
+{
+    let mut pairs = Vec::new(alloc);
+    'steps: for i in 0..steps.len() {
+        pairs.push(pair_of(own, steps[i])?)?;
+    }
+    Ok(pairs)
+}
+
+/// How many of the first states share their signature.
+#[tactic(auto, using(crate::proofs::ApartLemmas::few_first))]
+pub(crate) fn share_states(alloc: Global, own: &[Bits]) -> Result<Tally, NoMemory>
+    ensures { IfOk result (λ tally. tally ≡ tally_of (first_rows own.now)) }
+{
+    let tally = tally_rows(alloc, &own[..own.len().min(MAX_ROWS)])?;
     Ok(tally)
 }
 
-/// How many steps share the signatures that items make.
-#[tactic(auto, using(crate::proofs::ApartLemmas::few_mapped))]
+/// How many steps share their signatures.
+#[tactic(auto, using(crate::proofs::ApartLemmas::few_pairs))]
 pub(crate) fn share_steps(
     alloc: Global,
-    width: usize,
-    items: &[List<u32>],
-    steps: &[Bits],
+    own: &[Bits],
+    steps: &[(usize, usize)],
 ) -> Result<Tally, NoMemory>
-    requires within { AreWithin width items.now }
-    requires wide { All (λ row. length row ≡ width + width) steps.now }
-    requires few { length steps.now < 2 ^ 32 }
-    ensures { IfOk result (λ tally. tally ≡ steps_apart (chosen width 1 items.now) steps.now) }
+    requires within { AreSteps own.now steps.now }
+    requires few { length steps.now ≤ MAX_ROWS }
+    ensures { IfOk result (λ tally. tally ≡ tally_of (map (step_row own.now) steps.now)) }
 {
-    let own = step_signatures_of(alloc, width, items, steps)?;
-    let tally = tally_rows(alloc, own.as_slice())?;
+    let pairs = pairs_of(alloc, own, steps)?;
+    let tally = tally_rows(alloc, pairs.as_slice())?;
     Ok(tally)
 }
 

@@ -1,287 +1,305 @@
 //! The states of recorded runs and their steps, each once, in the order in which they come first.
-ghost use Rattle.std.specs.Prelude.{◌≡◌, ◌≤◌, ◌+◌, [], ◌++◌, length, All, IfOk, OnOk};
-ghost use Rattle.bs_net.specs.Circuit.{next, reset_state};
+ghost use Rattle.std.specs.Prelude.{◌≡◌, ◌<◌, ◌≤◌, ◌+◌, ◌-◌, [], length, map, min, slice_index_or, IfOk, OnOk};
+ghost use Rattle.std.specs.List.{range_with_len};
 ghost use Rattle.bs_net.specs.Netlist.{circuit};
-ghost use Rattle.bs_stim.specs.Runs.{inputs_of, run_at};
-ghost use Rattle.bs_inspect_proposal.specs.Keys.{Shows};
-ghost use Rattle.bs_inspect_proposal.specs.Looked.{later_states, run_states, run_steps, states_looked, steps_looked};
-ghost use Rattle.bs_inspect_proposal.specs.Rows.{kept_row, kept_rows};
-ghost use Rattle.bs_inspect_proposal.specs.declared.rows.TheConstants.{MAX_ROWS};
+ghost use Rattle.bs_stim.specs.Runs.{inputs_of};
+ghost use Rattle.bs_scan.specs.Moments.{state_at};
+ghost use Rattle.bs_inspect_proposal.specs.Film.{IsFilm, IsLongest, run_in};
+ghost use Rattle.bs_inspect_proposal.specs.Kept.{IsKept, IsLooked, KeepsRuns, states_in, states_of, steps_in, steps_of};
+ghost use Rattle.bs_inspect_proposal.specs.Looked.{run_states, run_steps, states_looked, step_at, steps_looked};
+ghost use Rattle.bs_inspect_proposal.specs.Rows.{kept_rows};
 
-use crate::rows::keep;
-use bs_bits::{Bits, List, NoMemory};
+use crate::film::film_of;
+use crate::kept::{Kept, is_full, keep_first, keep_next, nothing};
+use crate::row::Row;
+use bs_bits::{List, NoMemory};
 use bs_net::Netlist;
-use bs_sim::Sim;
 use bs_stim::Runs;
 use std::alloc::Global;
-use std::collections::HashSet;
 
-/// As many zeros.
-fn zeros(alloc: Global, count: usize) -> Result<Bits, NoMemory>
-    ensures { IfOk result (λ bits. length bits ≡ count) }
-{
-    let mut bits = Bits::new(alloc);
-    'zeros: for _ in 0..count {
-        bits.push(false)?;
-    }
-    Ok(bits)
+/// The rows that are looked at, each once, and the steps between them by their places.
+#[derive(Drop)]
+pub(crate) struct Looked {
+    pub rows: List<Row>,
+    pub steps: Vec<(usize, usize)>,
 }
 
-/// Two lists of bits behind one another.
-#[tactic(auto, using(crate::proofs::LookedLemmas::joined_more))]
-pub(crate) fn joined(first: &Bits, second: &Bits) -> Result<Bits, NoMemory>
-    ensures { IfOk result (λ bits. bits ≡ first.now ++ second.now) }
-{
-    let mut bits = first.copy()?;
-    'places: for i in 0..second.len() {
-        bits.push(second.get(i))?;
-    }
-    Ok(bits)
-}
-
-/// Lists the state in which a simulator stands.
-fn keep_state(
-    alloc: Global,
-    sim: &Sim<'_>,
-    seen: &mut HashSet<Vec<bool>>,
-    rows: &mut List<Bits>,
-) -> Result<(), NoMemory>
-    requires shows { Shows seen.old rows.old }
-    requires few { length rows.old ≤ MAX_ROWS }
-    ensures shows { OnOk result (Shows seen.new rows.new) }
-    ensures few { OnOk result (length rows.new ≤ MAX_ROWS) }
-    ensures kept { OnOk result (rows.new ≡ kept_row rows.old sim.now.state) }
-{
-    let state = sim.state().copy()?;
-    keep(alloc, seen, rows, state)
-}
-
-/// Lists the states of a run behind the one at reset, up to a cycle.
-#[tactic(auto, using(crate::proofs::LookedLemmas::state_begin, crate::proofs::LookedLemmas::states_more, crate::proofs::LookedLemmas::state_next))]
-fn list_later_states(
-    alloc: Global,
-    sim: &mut Sim<'_>,
-    runs: &Runs,
-    run: u32,
-    cycles: u32,
-    seen: &mut HashSet<Vec<bool>>,
-    rows: &mut List<Bits>,
-) -> Result<(), NoMemory>
-    requires begins { sim.old.state ≡ reset_state (circuit sim.old.net) }
-    requires from_one { 1 ≤ run }
-    requires there { run ≤ length runs.now.runs }
-    requires width { runs.now.width ≡ length (circuit sim.old.net).inputs }
-    requires shows { Shows seen.old rows.old }
-    requires few { length rows.old ≤ MAX_ROWS }
-    ensures shows { OnOk result (Shows seen.new rows.new) }
-    ensures few { OnOk result (length rows.new ≤ MAX_ROWS) }
-    ensures rows { OnOk result (rows.new ≡ kept_rows rows.old (later_states (circuit sim.old.net) cycles (run_at runs.now run).inputs)) }
-{
-    let mut input = zeros(alloc, runs.width())?;
-    'cycles: for cycle in 0..cycles.min(runs.cycles(run)) {
-        runs.fill(run, cycle, &mut input);
-        sim.step(&input);
-        keep_state(alloc, sim, seen, rows)?;
-    }
-    Ok(())
-}
-
-/// Lists the states of a run that come up to a cycle, with a simulator at reset.
-#[tactic(auto, using(crate::proofs::LookedLemmas::states_whole))]
-fn list_states_on(
-    alloc: Global,
-    sim: &mut Sim<'_>,
-    runs: &Runs,
-    run: u32,
-    cycles: u32,
-    seen: &mut HashSet<Vec<bool>>,
-    rows: &mut List<Bits>,
-) -> Result<(), NoMemory>
-    requires begins { sim.old.state ≡ reset_state (circuit sim.old.net) }
-    requires from_one { 1 ≤ run }
-    requires there { run ≤ length runs.now.runs }
-    requires width { runs.now.width ≡ length (circuit sim.old.net).inputs }
-    requires shows { Shows seen.old rows.old }
-    requires few { length rows.old ≤ MAX_ROWS }
-    ensures shows { OnOk result (Shows seen.new rows.new) }
-    ensures few { OnOk result (length rows.new ≤ MAX_ROWS) }
-    ensures rows { OnOk result (rows.new ≡ kept_rows rows.old (run_states (circuit sim.old.net) cycles (run_at runs.now run).inputs)) }
-{
-    keep_state(alloc, sim, seen, rows)?;
-    list_later_states(alloc, sim, runs, run, cycles, seen, rows)
-}
-
-/// Lists the states of a run that come up to a cycle.
-fn list_run_states(
+/// The state of a run at a cycle, out of a film.
+#[tactic(auto, using(crate::proofs::ListingLemmas::row_size, crate::proofs::ListingLemmas::row_shown))]
+fn row_at(
     alloc: Global,
     net: &Netlist,
     runs: &Runs,
-    run: u32,
-    cycles: u32,
-    seen: &mut HashSet<Vec<bool>>,
-    rows: &mut List<Bits>,
-) -> Result<(), NoMemory>
-    requires from_one { 1 ≤ run }
-    requires there { run ≤ length runs.now.runs }
-    requires width { runs.now.width ≡ length (circuit net.now).inputs }
-    requires shows { Shows seen.old rows.old }
-    requires few { length rows.old ≤ MAX_ROWS }
-    ensures shows { OnOk result (Shows seen.new rows.new) }
-    ensures few { OnOk result (length rows.new ≤ MAX_ROWS) }
-    ensures rows { OnOk result (rows.new ≡ kept_rows rows.old (run_states (circuit net.now) cycles (run_at runs.now run).inputs)) }
+    first: u32,
+    film: &List<List<u64>>,
+    width: usize,
+    lane: u32,
+    cycle: u32,
+) -> Result<Row, NoMemory>
+    requires width { width ≡ length (circuit net.now).flops }
+    requires film { IsFilm (circuit net.now) (inputs_of runs.now) first film.now }
+    requires lane { lane < 64 }
+    requires there { first + lane < length (inputs_of runs.now) }
+    requires lasts { cycle ≤ length (run_in (inputs_of runs.now) first lane) }
+    requires shot { cycle < length film.now }
+    ensures { IfOk result (λ row. row ≡ state_at (circuit net.now) (run_in (inputs_of runs.now) first lane) cycle) }
 {
-    let mut sim = Sim::new(alloc, net)?;
-    list_states_on(alloc, &mut sim, runs, run, cycles, seen, rows)
+    let _net = net;
+    let _runs = runs;
+    let _first = first;
+    let row = Row::of_lane(
+        alloc,
+        film.get(cycle as usize).slice(),
+        width,
+        lane as usize,
+    )?;
+    Ok(row)
 }
 
-/// Moves a simulator by an input, and lists the state before and the one after behind one another.
-fn keep_step(
+/// Keeps the states of a run behind the one at reset, and the steps that lead to them.
+#[tactic(auto, using(crate::proofs::LookedLemmas::state_begin, crate::proofs::LookedLemmas::states_more, crate::proofs::LookedLemmas::steps_more, crate::proofs::ListingLemmas::state_width))]
+fn list_later(
     alloc: Global,
-    sim: &mut Sim<'_>,
-    input: &Bits,
-    seen: &mut HashSet<Vec<bool>>,
-    rows: &mut List<Bits>,
-) -> Result<(), NoMemory>
-    requires width { length input.now ≡ length (circuit sim.old.net).inputs }
-    requires shows { Shows seen.old rows.old }
-    requires few { length rows.old ≤ MAX_ROWS }
-    ensures net { sim.new.net ≡ sim.old.net }
-    ensures state { OnOk result (sim.new.state ≡ next (circuit sim.old.net) sim.old.state input.now) }
-    ensures shows { OnOk result (Shows seen.new rows.new) }
-    ensures few { OnOk result (length rows.new ≤ MAX_ROWS) }
-    ensures kept { OnOk result (rows.new ≡ kept_row rows.old (sim.old.state ++ sim.new.state)) }
-{
-    let older = sim.state().copy()?;
-    sim.step(input);
-    let row = joined(&older, sim.state())?;
-    keep(alloc, seen, rows, row)
-}
-
-/// Lists the steps of a run that begin before a cycle, with a simulator at reset.
-#[tactic(auto, using(crate::proofs::LookedLemmas::state_begin, crate::proofs::LookedLemmas::steps_more, crate::proofs::LookedLemmas::state_next))]
-fn list_steps_on(
-    alloc: Global,
-    sim: &mut Sim<'_>,
+    net: &Netlist,
     runs: &Runs,
-    run: u32,
+    first: u32,
+    film: &List<List<u64>>,
+    width: usize,
+    lane: u32,
     cycles: u32,
-    seen: &mut HashSet<Vec<bool>>,
-    rows: &mut List<Bits>,
+    begin: usize,
+    kept: &mut Kept,
 ) -> Result<(), NoMemory>
-    requires begins { sim.old.state ≡ reset_state (circuit sim.old.net) }
-    requires from_one { 1 ≤ run }
-    requires there { run ≤ length runs.now.runs }
-    requires width { runs.now.width ≡ length (circuit sim.old.net).inputs }
-    requires shows { Shows seen.old rows.old }
-    requires few { length rows.old ≤ MAX_ROWS }
-    ensures shows { OnOk result (Shows seen.new rows.new) }
-    ensures few { OnOk result (length rows.new ≤ MAX_ROWS) }
-    ensures rows { OnOk result (rows.new ≡ kept_rows rows.old (run_steps (circuit sim.old.net) cycles (run_at runs.now run).inputs)) }
+    requires width { width ≡ length (circuit net.now).flops }
+    requires film { IsFilm (circuit net.now) (inputs_of runs.now) first film.now }
+    requires lane { lane < 64 }
+    requires there { first + lane < length (inputs_of runs.now) }
+    requires lasts { cycles ≤ length (run_in (inputs_of runs.now) first lane) }
+    requires shot { cycles < length film.now }
+    requires kept { IsKept width kept.old }
+    requires begin { begin < length kept.old.rows }
+    requires begins { slice_index_or kept.old.rows begin [] ≡ state_at (circuit net.now) (run_in (inputs_of runs.now) first lane) 0 }
+    ensures kept { OnOk result (IsKept width kept.new) }
+    ensures states { OnOk result (states_in kept.new ≡ kept_rows (states_in kept.old) (map (state_at (circuit net.now) (run_in (inputs_of runs.now) first lane)) (range_with_len 1 cycles))) }
+    ensures steps { OnOk result (steps_in kept.new ≡ kept_rows (steps_in kept.old) (map (step_at (circuit net.now) (run_in (inputs_of runs.now) first lane)) (range_with_len 0 cycles))) }
 {
-    let mut input = zeros(alloc, runs.width())?;
-    'cycles: for cycle in 0..cycles.min(runs.cycles(run)) {
-        runs.fill(run, cycle, &mut input);
-        keep_step(alloc, sim, &input, seen, rows)?;
+    let mut place = begin;
+    'cycles: for cycle in 0..cycles {
+        let row = row_at(alloc, net, runs, first, film, width, lane, cycle + 1)?;
+        place = keep_next(alloc, width, kept, row, place)?;
     }
     Ok(())
 }
 
-/// Lists the steps of a run that begin before a cycle.
-fn list_run_steps(
+/// Keeps the states and the steps of a run, up to so many cycles.
+#[tactic(auto, using(crate::proofs::ListingLemmas::whole_states, crate::proofs::ListingLemmas::whole_steps, crate::proofs::ListingLemmas::state_width, crate::proofs::ListingLemmas::last_short, crate::proofs::ListingLemmas::last_shot, crate::proofs::ListingLemmas::lane_there))]
+fn list_run(
     alloc: Global,
     net: &Netlist,
     runs: &Runs,
-    run: u32,
+    first: u32,
+    film: &List<List<u64>>,
+    width: usize,
+    lane: u32,
     cycles: u32,
-    seen: &mut HashSet<Vec<bool>>,
-    rows: &mut List<Bits>,
+    kept: &mut Kept,
 ) -> Result<(), NoMemory>
-    requires from_one { 1 ≤ run }
-    requires there { run ≤ length runs.now.runs }
-    requires width { runs.now.width ≡ length (circuit net.now).inputs }
-    requires shows { Shows seen.old rows.old }
-    requires few { length rows.old ≤ MAX_ROWS }
-    ensures shows { OnOk result (Shows seen.new rows.new) }
-    ensures few { OnOk result (length rows.new ≤ MAX_ROWS) }
-    ensures rows { OnOk result (rows.new ≡ kept_rows rows.old (run_steps (circuit net.now) cycles (run_at runs.now run).inputs)) }
+    requires width { width ≡ length (circuit net.now).flops }
+    requires film { IsFilm (circuit net.now) (inputs_of runs.now) first film.now }
+    requires lane { lane < 64 }
+    requires there { first + lane < length runs.now.runs }
+    requires shot { length (run_in (inputs_of runs.now) first lane) < length film.now }
+    requires kept { IsKept width kept.old }
+    ensures kept { OnOk result (IsKept width kept.new) }
+    ensures states { OnOk result (states_in kept.new ≡ kept_rows (states_in kept.old) (run_states (circuit net.now) cycles (run_in (inputs_of runs.now) first lane))) }
+    ensures steps { OnOk result (steps_in kept.new ≡ kept_rows (steps_in kept.old) (run_steps (circuit net.now) cycles (run_in (inputs_of runs.now) first lane))) }
 {
-    let mut sim = Sim::new(alloc, net)?;
-    list_steps_on(alloc, &mut sim, runs, run, cycles, seen, rows)
+    let _count = runs.count();
+    let row = row_at(alloc, net, runs, first, film, width, lane, 0)?;
+    let begin = keep_first(alloc, width, kept, row)?;
+    let last = cycles.min(runs.cycles(first + lane + 1));
+    list_later(
+        alloc, net, runs, first, film, width, lane, last, begin, kept,
+    )
 }
 
-/// The states of all runs up to a cycle, where none were seen before.
-#[tactic(auto, using(crate::proofs::LookedLemmas::states_run_more))]
-fn list_new_states(
+/// The same, unless enough is kept.
+#[tactic(auto, using(crate::proofs::KeptLemmas::states_full, crate::proofs::KeptLemmas::steps_full))]
+fn list_unless_full(
     alloc: Global,
     net: &Netlist,
     runs: &Runs,
+    first: u32,
+    film: &List<List<u64>>,
+    width: usize,
+    lane: u32,
     cycles: u32,
-    seen: &mut HashSet<Vec<bool>>,
-) -> Result<List<Bits>, NoMemory>
-    requires width { runs.now.width ≡ length (circuit net.now).inputs }
-    requires new { Shows seen.old [] }
-    ensures rows { IfOk result (λ rows. rows ≡ states_looked (circuit net.now) cycles (inputs_of runs.now)) }
-    ensures few { IfOk result (λ rows. length rows ≤ MAX_ROWS) }
+    kept: &mut Kept,
+) -> Result<(), NoMemory>
+    requires width { width ≡ length (circuit net.now).flops }
+    requires film { IsFilm (circuit net.now) (inputs_of runs.now) first film.now }
+    requires lane { lane < 64 }
+    requires there { first + lane < length runs.now.runs }
+    requires shot { length (run_in (inputs_of runs.now) first lane) < length film.now }
+    requires kept { IsKept width kept.old }
+    ensures kept { OnOk result (IsKept width kept.new) }
+    ensures states { OnOk result (states_in kept.new ≡ kept_rows (states_in kept.old) (run_states (circuit net.now) cycles (run_in (inputs_of runs.now) first lane))) }
+    ensures steps { OnOk result (steps_in kept.new ≡ kept_rows (steps_in kept.old) (run_steps (circuit net.now) cycles (run_in (inputs_of runs.now) first lane))) }
 {
-    let mut rows = List::new(alloc);
-    'runs: for k in 0..runs.count() {
-        list_run_states(alloc, net, runs, k + 1, cycles, seen, &mut rows)?;
+    if is_full(kept) {
+        return Ok(());
     }
-    Ok(rows)
+    list_run(alloc, net, runs, first, film, width, lane, cycles, kept)
 }
 
-/// The states of all runs up to a cycle, run by run, each once; `MAX_ROWS` of them at most.
-pub fn list_states(
-    alloc: Global,
-    net: &Netlist,
-    runs: &Runs,
-    cycles: u32,
-) -> Result<List<Bits>, NoMemory>
-    requires { runs.now.width ≡ length (circuit net.now).inputs }
-    ensures rows { IfOk result (λ rows. rows ≡ states_looked (circuit net.now) cycles (inputs_of runs.now)) }
-    ensures wide { IfOk result (λ rows. All (λ s. length s ≡ length (circuit net.now).flops) rows) }
-    ensures few { IfOk result (λ rows. length rows ≤ MAX_ROWS) }
+/// The number of cycles of the longest of so many runs.
+#[tactic(auto, using(crate::proofs::ListingLemmas::none_longer, crate::proofs::ListingLemmas::longer_more))]
+fn longest(runs: &Runs, first: u32, count: u32) -> u32
+    requires { first + count ≤ length runs.now.runs }
+    ensures { IsLongest (inputs_of runs.now) first count result }
 {
-    let mut seen = HashSet::new(alloc);
-    let rows = list_new_states(alloc, net, runs, cycles, &mut seen)?;
-    Ok(rows)
-}
-
-/// The steps of all runs up to a cycle, where none were seen before.
-#[tactic(auto, using(crate::proofs::LookedLemmas::steps_run_more))]
-fn list_new_steps(
-    alloc: Global,
-    net: &Netlist,
-    runs: &Runs,
-    cycles: u32,
-    seen: &mut HashSet<Vec<bool>>,
-) -> Result<List<Bits>, NoMemory>
-    requires width { runs.now.width ≡ length (circuit net.now).inputs }
-    requires new { Shows seen.old [] }
-    ensures rows { IfOk result (λ rows. rows ≡ steps_looked (circuit net.now) cycles (inputs_of runs.now)) }
-    ensures few { IfOk result (λ rows. length rows ≤ MAX_ROWS) }
-{
-    let mut rows = List::new(alloc);
-    'runs: for k in 0..runs.count() {
-        list_run_steps(alloc, net, runs, k + 1, cycles, seen, &mut rows)?;
+    let _count = runs.count();
+    let mut most = 0;
+    'lanes: for k in 0..count {
+        most = most.max(runs.cycles(first + k + 1));
     }
-    Ok(rows)
+    most
 }
 
-/// The steps of all runs up to a cycle, run by run, each once, a state and the one after it behind one another; `MAX_ROWS` of
-/// them at most.
-pub fn list_steps(
+/// Keeps the states and the steps of so many runs, where those of the runs before them are kept.
+#[tactic(auto, using(crate::proofs::ListingLemmas::keeps_more, crate::proofs::ListingLemmas::keeps_begin, crate::proofs::ListingLemmas::keeps_end, crate::proofs::ListingLemmas::shot_all, crate::proofs::ListingLemmas::lane_there))]
+fn list_group(
+    alloc: Global,
+    net: &Netlist,
+    runs: &Runs,
+    first: u32,
+    count: u32,
+    film: &List<List<u64>>,
+    width: usize,
+    cycles: u32,
+    kept: &mut Kept,
+) -> Result<(), NoMemory>
+    requires width { width ≡ length (circuit net.now).flops }
+    requires film { IsFilm (circuit net.now) (inputs_of runs.now) first film.now }
+    requires few { count ≤ 64 }
+    requires there { first + count ≤ length runs.now.runs }
+    requires shot { IsLongest (inputs_of runs.now) first count (length film.now - 1) }
+    requires some { 0 < length film.now }
+    requires kept { IsKept width kept.old }
+    requires keeps { KeepsRuns (circuit net.now) cycles (inputs_of runs.now) first kept.old }
+    ensures kept { OnOk result (IsKept width kept.new) }
+    ensures keeps { OnOk result (KeepsRuns (circuit net.now) cycles (inputs_of runs.now) (first + count) kept.new) }
+{
+    'lanes: for lane in 0..count {
+        list_unless_full(alloc, net, runs, first, film, width, lane, cycles, kept)?;
+    }
+    Ok(())
+}
+
+/// Keeps the states and the steps of so many runs, which are moved in lock step.
+#[tactic(auto, using(crate::proofs::ListingLemmas::longest_film))]
+fn list_together(
+    alloc: Global,
+    net: &Netlist,
+    runs: &Runs,
+    first: u32,
+    count: u32,
+    width: usize,
+    cycles: u32,
+    kept: &mut Kept,
+) -> Result<(), NoMemory>
+    requires width { width ≡ length (circuit net.now).flops }
+    requires inputs { runs.now.width ≡ length (circuit net.now).inputs }
+    requires some { first < length runs.now.runs }
+    requires count { count ≡ min (length runs.now.runs - first) 64 }
+    requires kept { IsKept width kept.old }
+    requires keeps { KeepsRuns (circuit net.now) cycles (inputs_of runs.now) first kept.old }
+    ensures kept { OnOk result (IsKept width kept.new) }
+    ensures keeps { OnOk result (KeepsRuns (circuit net.now) cycles (inputs_of runs.now) (first + count) kept.new) }
+{
+    let most = longest(runs, first, count);
+    let film = film_of(alloc, net, runs, first, count, most)?;
+    list_group(alloc, net, runs, first, count, &film, width, cycles, kept)
+}
+
+/// Keeps the states and the steps of the next 64 runs, or of as many as there are, unless enough is kept.
+#[tactic(auto, using(crate::proofs::ListingLemmas::keeps_all, crate::proofs::ListingLemmas::keeps_full, crate::proofs::ListingLemmas::keeps_to))]
+fn list_next(
+    alloc: Global,
+    net: &Netlist,
+    runs: &Runs,
+    first: u32,
+    width: usize,
+    cycles: u32,
+    kept: &mut Kept,
+) -> Result<(), NoMemory>
+    requires width { width ≡ length (circuit net.now).flops }
+    requires inputs { runs.now.width ≡ length (circuit net.now).inputs }
+    requires kept { IsKept width kept.old }
+    requires keeps { KeepsRuns (circuit net.now) cycles (inputs_of runs.now) first kept.old }
+    ensures kept { OnOk result (IsKept width kept.new) }
+    ensures keeps { OnOk result (KeepsRuns (circuit net.now) cycles (inputs_of runs.now) (first + 64) kept.new) }
+{
+    if first >= runs.count() {
+        return Ok(());
+    }
+    if is_full(kept) {
+        return Ok(());
+    }
+    let count = (runs.count() - first).min(64);
+    list_together(alloc, net, runs, first, count, width, cycles, kept)
+}
+
+/// Keeps the states and the steps of all runs.
+#[tactic(auto, using(crate::proofs::ListingLemmas::keeps_none, crate::proofs::ListingLemmas::group_next, crate::proofs::ListingLemmas::states_all, crate::proofs::ListingLemmas::steps_all))]
+fn list_all(
+    alloc: Global,
+    net: &Netlist,
+    runs: &Runs,
+    width: usize,
+    cycles: u32,
+) -> Result<Kept, NoMemory>
+    requires width { width ≡ length (circuit net.now).flops }
+    requires inputs { runs.now.width ≡ length (circuit net.now).inputs }
+    ensures kept { IfOk result (λ kept. IsKept width kept) }
+    ensures states { IfOk result (λ kept. states_in kept ≡ states_looked (circuit net.now) cycles (inputs_of runs.now)) }
+    ensures steps { IfOk result (λ kept. steps_in kept ≡ steps_looked (circuit net.now) cycles (inputs_of runs.now)) }
+{
+    let mut kept = nothing(alloc, width);
+    'groups: for group in 0..runs.count() / 64 + 1 {
+        list_next(alloc, net, runs, group * 64, width, cycles, &mut kept)?;
+    }
+    Ok(kept)
+}
+
+/// What was kept, without the keys.
+#[tactic(auto, using(crate::proofs::ListingLemmas::looked_is))]
+fn without_keys(width: usize, kept: Kept) -> Looked
+    requires { IsKept width kept }
+    ensures looked { IsLooked width result.rows result.steps.items }
+    ensures states { states_of result ≡ states_in kept }
+    ensures steps { steps_of result ≡ steps_in kept }
+{
+    let _width = width;
+    Looked {
+        rows: kept.rows,
+        steps: kept.steps,
+    }
+}
+
+/// The states of all runs up to a cycle, run by run, each once, and their steps; `MAX_ROWS` of them at most. The runs are moved in
+/// lock step, 64 at once. Beside what is kept it takes a word for each flip-flop and each cycle of the longest of 64 runs.
+pub(crate) fn look(
     alloc: Global,
     net: &Netlist,
     runs: &Runs,
     cycles: u32,
-) -> Result<List<Bits>, NoMemory>
+) -> Result<Looked, NoMemory>
     requires { runs.now.width ≡ length (circuit net.now).inputs }
-    ensures rows { IfOk result (λ rows. rows ≡ steps_looked (circuit net.now) cycles (inputs_of runs.now)) }
-    ensures wide { IfOk result (λ rows. All (λ row. length row ≡ length (circuit net.now).flops + length (circuit net.now).flops) rows) }
-    ensures few { IfOk result (λ rows. length rows ≤ MAX_ROWS) }
+    ensures looked { IfOk result (λ looked. IsLooked (length (circuit net.now).flops) looked.rows looked.steps.items) }
+    ensures states { IfOk result (λ looked. states_of looked ≡ states_looked (circuit net.now) cycles (inputs_of runs.now)) }
+    ensures steps { IfOk result (λ looked. steps_of looked ≡ steps_looked (circuit net.now) cycles (inputs_of runs.now)) }
 {
-    let mut seen = HashSet::new(alloc);
-    let rows = list_new_steps(alloc, net, runs, cycles, &mut seen)?;
-    Ok(rows)
+    let kept = list_all(alloc, net, runs, net.width(), cycles)?;
+    Ok(without_keys(net.width(), kept))
 }

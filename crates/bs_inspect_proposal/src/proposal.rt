@@ -2,60 +2,99 @@
 ghost use Rattle.std.specs.Prelude.{◌≡◌, ◌<◌, ◌≤◌, ◌+◌, ◌^◌, ◌++◌, length, map, All, IfOk, OnOk};
 ghost use Rattle.bs_net.specs.Netlist.{circuit};
 ghost use Rattle.bs_scan.specs.ChoiceText.{chosen};
-ghost use Rattle.bs_stim.specs.Runs.{inputs_of};
-ghost use Rattle.bs_stim.specs.declared.limits.TheConstants.{MAX_CYCLES};
+ghost use Rattle.bs_scan.specs.Signature.{signature};
 ghost use Rattle.bs_inspect_proposal.specs.Greedy.{IsGreedy, compared};
-ghost use Rattle.bs_inspect_proposal.specs.Items.{AreWithin, IsLooked, single};
-ghost use Rattle.bs_inspect_proposal.specs.Looked.{states_looked};
+ghost use Rattle.bs_inspect_proposal.specs.Items.{AreWithin, single};
+ghost use Rattle.bs_inspect_proposal.specs.Kept.{IsLooked, states_of, steps_of};
 ghost use Rattle.bs_inspect_proposal.specs.Proposal.{bits_told, flop_keys, parities_told, parity_items, shares_text, TellsChoices, TellsProposal};
-ghost use Rattle.bs_inspect_proposal.specs.declared.rows.TheConstants.{MAX_ROWS};
 
 use crate::greedy::best_flops;
-use crate::items::{parity_items, share_states, share_steps, singles};
+use crate::items::{parity_items, share_states, share_steps, signatures_of, singles};
 use crate::keys::flop_keys;
 use crate::lines::{push_bits, push_shares, push_xors};
-use crate::listing::{list_states, list_steps};
+use crate::listing::{Looked, look};
+use crate::row::Row;
+use crate::rows::MAX_ROWS;
 use bs_bits::{Bits, List, NoMemory, push_line};
 use bs_net::Netlist;
 use bs_stim::{MAX_CYCLES, Runs};
 use std::alloc::Global;
 
+/// How many states there are.
+fn count_states(looked: &Looked) -> usize
+    ensures { result ≡ length (states_of looked.now) }
+{
+    looked.rows.len().min(MAX_ROWS)
+}
+
+/// How many steps there are.
+#[tactic(auto, using(crate::proofs::ProposalLemmas::steps_count))]
+fn count_steps(looked: &Looked) -> usize
+    ensures { result ≡ length (steps_of looked.now) }
+{
+    looked.steps.len()
+}
+
+/// The states.
+fn states(looked: &Looked) -> &[Row]
+    ensures { result.now ≡ states_of looked.now }
+{
+    &looked.rows.slice()[..looked.rows.len().min(MAX_ROWS)]
+}
+
+/// Appends what a choice tells apart, where each row has this signature.
+fn push_tallies(
+    text: &mut Vec<u8>,
+    width: usize,
+    items: &[List<u32>],
+    looked: &Looked,
+    own: &[Bits],
+) -> Result<(), NoMemory>
+    requires looked { IsLooked width looked.now.rows looked.now.steps.items }
+    requires own { own.now ≡ map (signature (chosen width 1 items.now)) looked.now.rows }
+    ensures { OnOk result (text.new.items ≡ text.old.items ++ shares_text (chosen width 1 items.now) (states_of looked.now) (steps_of looked.now)) }
+{
+    let _width = width;
+    let _items = items;
+    let of_states = share_states(*text.allocator(), own)?;
+    let of_steps = share_steps(*text.allocator(), own, looked.steps.as_slice())?;
+    push_shares(text, b"states ", count_states(looked), of_states)?;
+    push_shares(text, b"steps ", count_steps(looked), of_steps)?;
+    Ok(())
+}
+
 /// Appends what a choice tells apart.
-#[tactic(auto, using(crate::proofs::LineLemmas::states_small, crate::proofs::LineLemmas::steps_small))]
 fn push_apart(
     text: &mut Vec<u8>,
     width: usize,
     items: &[List<u32>],
-    states: &[Bits],
-    steps: &[Bits],
+    looked: &Looked,
 ) -> Result<(), NoMemory>
     requires within { AreWithin width items.now }
-    requires looked { IsLooked width states.now steps.now }
-    ensures { OnOk result (text.new.items ≡ text.old.items ++ shares_text (chosen width 1 items.now) states.now steps.now) }
+    requires looked { IsLooked width looked.now.rows looked.now.steps.items }
+    ensures { OnOk result (text.new.items ≡ text.old.items ++ shares_text (chosen width 1 items.now) (states_of looked.now) (steps_of looked.now)) }
 {
-    let of_states = share_states(*text.allocator(), width, items, states)?;
-    let of_steps = share_steps(*text.allocator(), width, items, steps)?;
-    push_shares(text, b"states ", states.len(), of_states)?;
-    push_shares(text, b"steps ", steps.len(), of_steps)
+    let own = signatures_of(*text.allocator(), width, items, looked.rows.slice())?;
+    push_tallies(text, width, items, looked, own.as_slice())?;
+    Ok(())
 }
 
 /// Appends the choice of the single flip-flops of these items, which tell states apart best.
 fn push_chosen_bits(
     text: &mut Vec<u8>,
     keys: &[&str],
-    states: &[Bits],
-    steps: &[Bits],
+    looked: &Looked,
     flops: &[u32],
     items: &[List<u32>],
 ) -> Result<(), NoMemory>
     requires flops { All (λ flop. flop < length keys.now) flops.now }
     requires items { items.now ≡ map single flops.now }
     requires within { AreWithin (length keys.now) items.now }
-    requires looked { IsLooked (length keys.now) states.now steps.now }
-    ensures { OnOk result (text.new.items ≡ text.old.items ++ bits_told (map (λ s. s.now) keys.now) states.now steps.now flops.now) }
+    requires looked { IsLooked (length keys.now) looked.now.rows looked.now.steps.items }
+    ensures { OnOk result (text.new.items ≡ text.old.items ++ bits_told (map (λ s. s.now) keys.now) (states_of looked.now) (steps_of looked.now) flops.now) }
 {
     push_line(text, b"choice bits")?;
-    push_apart(text, keys.len(), items, states, steps)?;
+    push_apart(text, keys.len(), items, looked)?;
     push_bits(text, keys, flops)?;
     Ok(())
 }
@@ -64,35 +103,33 @@ fn push_chosen_bits(
 fn push_choice_of_bits(
     text: &mut Vec<u8>,
     keys: &[&str],
-    states: &[Bits],
-    steps: &[Bits],
+    looked: &Looked,
     flops: &[u32],
 ) -> Result<(), NoMemory>
     requires within { All (λ flop. flop < length keys.now) flops.now }
-    requires looked { IsLooked (length keys.now) states.now steps.now }
-    ensures { OnOk result (text.new.items ≡ text.old.items ++ bits_told (map (λ s. s.now) keys.now) states.now steps.now flops.now) }
+    requires looked { IsLooked (length keys.now) looked.now.rows looked.now.steps.items }
+    ensures { OnOk result (text.new.items ≡ text.old.items ++ bits_told (map (λ s. s.now) keys.now) (states_of looked.now) (steps_of looked.now) flops.now) }
 {
     let items = singles(*text.allocator(), flops)?;
-    push_chosen_bits(text, keys, states, steps, flops, items.slice())
+    push_chosen_bits(text, keys, looked, flops, items.slice())
 }
 
 /// Appends the choice of the parities of these items, which are of all flip-flops.
 fn push_chosen_parities(
     text: &mut Vec<u8>,
     keys: &[&str],
-    states: &[Bits],
-    steps: &[Bits],
+    looked: &Looked,
     bits: usize,
     items: &[List<u32>],
 ) -> Result<(), NoMemory>
     requires items { items.now ≡ parity_items (length keys.now) bits }
     requires within { AreWithin (length keys.now) items.now }
-    requires looked { IsLooked (length keys.now) states.now steps.now }
-    ensures { OnOk result (text.new.items ≡ text.old.items ++ parities_told (map (λ s. s.now) keys.now) states.now steps.now bits) }
+    requires looked { IsLooked (length keys.now) looked.now.rows looked.now.steps.items }
+    ensures { OnOk result (text.new.items ≡ text.old.items ++ parities_told (map (λ s. s.now) keys.now) (states_of looked.now) (steps_of looked.now) bits) }
 {
     let _bits = bits;
     push_line(text, b"choice parities")?;
-    push_apart(text, keys.len(), items, states, steps)?;
+    push_apart(text, keys.len(), items, looked)?;
     push_xors(text, keys, items)?;
     Ok(())
 }
@@ -102,37 +139,35 @@ fn push_chosen_parities(
 fn push_choice_of_parities(
     text: &mut Vec<u8>,
     keys: &[&str],
-    states: &[Bits],
-    steps: &[Bits],
+    looked: &Looked,
     bits: usize,
 ) -> Result<(), NoMemory>
     requires some { 0 < bits }
     requires narrow { length keys.now < 2 ^ 20 }
-    requires looked { IsLooked (length keys.now) states.now steps.now }
-    ensures { OnOk result (text.new.items ≡ text.old.items ++ parities_told (map (λ s. s.now) keys.now) states.now steps.now bits) }
+    requires looked { IsLooked (length keys.now) looked.now.rows looked.now.steps.items }
+    ensures { OnOk result (text.new.items ≡ text.old.items ++ parities_told (map (λ s. s.now) keys.now) (states_of looked.now) (steps_of looked.now) bits) }
 {
     let items = parity_items(*text.allocator(), keys.len(), bits)?;
-    push_chosen_parities(text, keys, states, steps, bits, items.slice())
+    push_chosen_parities(text, keys, looked, bits, items.slice())
 }
 
 /// The text of both choices.
 fn text_of(
     alloc: Global,
     keys: &[&str],
-    states: &[Bits],
-    steps: &[Bits],
+    looked: &Looked,
     flops: &[u32],
     bits: usize,
 ) -> Result<Vec<u8>, NoMemory>
     requires some { 0 < bits }
     requires narrow { length keys.now < 2 ^ 20 }
     requires within { All (λ flop. flop < length keys.now) flops.now }
-    requires looked { IsLooked (length keys.now) states.now steps.now }
-    ensures { IfOk result (λ text. text.items ≡ bits_told (map (λ s. s.now) keys.now) states.now steps.now flops.now ++ parities_told (map (λ s. s.now) keys.now) states.now steps.now bits) }
+    requires looked { IsLooked (length keys.now) looked.now.rows looked.now.steps.items }
+    ensures { IfOk result (λ text. text.items ≡ bits_told (map (λ s. s.now) keys.now) (states_of looked.now) (steps_of looked.now) flops.now ++ parities_told (map (λ s. s.now) keys.now) (states_of looked.now) (steps_of looked.now) bits) }
 {
     let mut text = Vec::new(alloc);
-    push_choice_of_bits(&mut text, keys, states, steps, flops)?;
-    push_choice_of_parities(&mut text, keys, states, steps, bits)?;
+    push_choice_of_bits(&mut text, keys, looked, flops)?;
+    push_choice_of_parities(&mut text, keys, looked, bits)?;
     Ok(text)
 }
 
@@ -141,18 +176,17 @@ fn text_of(
 fn text_with(
     alloc: Global,
     keys: &[&str],
-    states: &[Bits],
-    steps: &[Bits],
+    looked: &Looked,
     flops: &[u32],
     bits: usize,
 ) -> Result<Vec<u8>, NoMemory>
     requires some { 0 < bits }
     requires narrow { length keys.now < 2 ^ 20 }
-    requires looked { IsLooked (length keys.now) states.now steps.now }
-    requires best { IsGreedy (length keys.now) (compared states.now) bits flops.now }
-    ensures { IfOk result (λ text. TellsChoices (map (λ s. s.now) keys.now) states.now steps.now bits text.items) }
+    requires looked { IsLooked (length keys.now) looked.now.rows looked.now.steps.items }
+    requires best { IsGreedy (length keys.now) (compared (states_of looked.now)) bits flops.now }
+    ensures { IfOk result (λ text. TellsChoices (map (λ s. s.now) keys.now) (states_of looked.now) (steps_of looked.now) bits text.items) }
 {
-    let text = text_of(alloc, keys, states, steps, flops, bits)?;
+    let text = text_of(alloc, keys, looked, flops, bits)?;
     Ok(text)
 }
 
@@ -160,17 +194,16 @@ fn text_with(
 fn choices_text(
     alloc: Global,
     keys: &[&str],
-    states: &[Bits],
-    steps: &[Bits],
+    looked: &Looked,
     bits: usize,
 ) -> Result<Vec<u8>, NoMemory>
     requires some { 0 < bits }
     requires narrow { length keys.now < 2 ^ 20 }
-    requires looked { IsLooked (length keys.now) states.now steps.now }
-    ensures { IfOk result (λ text. TellsChoices (map (λ s. s.now) keys.now) states.now steps.now bits text.items) }
+    requires looked { IsLooked (length keys.now) looked.now.rows looked.now.steps.items }
+    ensures { IfOk result (λ text. TellsChoices (map (λ s. s.now) keys.now) (states_of looked.now) (steps_of looked.now) bits text.items) }
 {
-    let flops = best_flops(alloc, keys.len(), states, bits)?;
-    let text = text_with(alloc, keys, states, steps, flops.as_slice(), bits)?;
+    let flops = best_flops(alloc, keys.len(), states(looked), bits)?;
+    let text = text_with(alloc, keys, looked, flops.as_slice(), bits)?;
     Ok(text)
 }
 
@@ -179,42 +212,21 @@ fn choices_text(
 fn named_text(
     alloc: Global,
     net: &Netlist,
-    states: &[Bits],
-    steps: &[Bits],
+    looked: &Looked,
     bits: usize,
 ) -> Result<Vec<u8>, NoMemory>
     requires some { 0 < bits }
-    requires looked { IsLooked (length (circuit net.now).flops) states.now steps.now }
-    ensures { IfOk result (λ text. TellsChoices (flop_keys net.now.raw) states.now steps.now bits text.items) }
+    requires looked { IsLooked (length (circuit net.now).flops) looked.now.rows looked.now.steps.items }
+    ensures { IfOk result (λ text. TellsChoices (flop_keys net.now.raw) (states_of looked.now) (steps_of looked.now) bits text.items) }
 {
     let keys = flop_keys(alloc, net)?;
-    let text = choices_text(alloc, keys.as_slice(), states, steps, bits)?;
-    Ok(text)
-}
-
-/// The proposal, where these are the states.
-#[tactic(auto, using(crate::proofs::ProposalLemmas::looked, crate::proofs::ProposalLemmas::moved))]
-fn proposal_over(
-    alloc: Global,
-    net: &Netlist,
-    runs: &Runs,
-    states: &[Bits],
-    bits: usize,
-) -> Result<Vec<u8>, NoMemory>
-    requires width { runs.now.width ≡ length (circuit net.now).inputs }
-    requires some { 0 < bits }
-    requires states { states.now ≡ states_looked (circuit net.now) MAX_CYCLES (inputs_of runs.now) }
-    requires wide { All (λ s. length s ≡ length (circuit net.now).flops) states.now }
-    requires few { length states.now ≤ MAX_ROWS }
-    ensures { IfOk result (λ text. TellsProposal net.now.raw runs.now bits text.items) }
-{
-    let steps = list_steps(alloc, net, runs, MAX_CYCLES)?;
-    let text = named_text(alloc, net, states, steps.slice(), bits)?;
+    let text = choices_text(alloc, keys.as_slice(), looked, bits)?;
     Ok(text)
 }
 
 /// A proposal of a signature with so many items: the single flip-flops that tell the states of the runs apart best, chosen one
 /// after another, and the parities of all flip-flops; each with what it tells apart of the runs' states and steps.
+#[tactic(auto, using(crate::proofs::ProposalLemmas::moved))]
 pub fn proposal_text(
     alloc: Global,
     net: &Netlist,
@@ -225,7 +237,7 @@ pub fn proposal_text(
     requires some { 0 < bits }
     ensures { IfOk result (λ text. TellsProposal net.now.raw runs.now bits text.items) }
 {
-    let states = list_states(alloc, net, runs, MAX_CYCLES)?;
-    let text = proposal_over(alloc, net, runs, states.slice(), bits)?;
+    let looked = look(alloc, net, runs, MAX_CYCLES)?;
+    let text = named_text(alloc, net, &looked, bits)?;
     Ok(text)
 }

@@ -1,5 +1,4 @@
-use Rattle.std.proofs.Common.{◌≡◌, ◌<◌, ◌≤◌, ◌+◌, ◌*◌, ◌^◌, ◌∙◌, ap, sym, arith, length, take, ℕ, List, refl, slice_index_or}
-use Rattle.std.specs.Prelude.{slice_set}
+use Rattle.std.proofs.Common.{◌≡◌, ◌<◌, ◌+◌, ◌∙◌, ap, arith, length, take, ℕ, refl, slice_index_or}
 use Rattle.std.proofs.lemmas.List.{length-set}
 use Rattle.bs_inspect_proposal.specs.Classes.{like}
 use Rattle.bs_inspect_proposal.proofs.ClassLemmas.{counts_more, like_few, shares_more}

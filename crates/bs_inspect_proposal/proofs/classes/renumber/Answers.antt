@@ -1,4 +1,4 @@
-use Rattle.std.proofs.Common.{◌≡◌, ◌<◌, ◌∙◌, ap, arith, length, List, ℕ, refl, subst, slice_index_or, Option, Some}
+use Rattle.std.proofs.Common.{◌∙◌, ap, arith, length, List, ℕ, refl, subst, slice_index_or, Some}
 use Rattle.std.proofs.lemmas.List.{length-set, take_all}
 use Rattle.bs_inspect_proposal.specs.Places.{ArePlaced}
 use Rattle.bs_inspect_proposal.proofs.PlaceLemmas.{placed_more, renumbered}

@@ -1,4 +1,4 @@
-use Rattle.std.proofs.Common.{ℕ, List, Bool, length, subst}
+use Rattle.std.proofs.Common.{ℕ, List, length, subst}
 use Rattle.bs_inspect_proposal.specs.Classes.{IsLeast, shares_of}
 use Rattle.bs_inspect_proposal.proofs.greedy.grow.Goals as goal
 
