@@ -1,4 +1,4 @@
-//! Worked rows on what is read and written: bits and lines, files, words, stimuli and reports, each with ample memory: tests
+//! Worked rows on what is read and written: bits and lines, files and outputs, words, stimuli and reports, each with ample memory: tests
 //! alone.
 #![tactic(auto)]
 
@@ -12,5 +12,7 @@ mod outside_rows;
 mod report_rows;
 #[cfg(test)]
 mod stim_rows;
+#[cfg(test)]
+mod stream_rows;
 #[cfg(test)]
 mod words_rows;

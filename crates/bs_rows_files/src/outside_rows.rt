@@ -35,7 +35,7 @@ fn files(alloc: Global) -> Result<Vec<(String, Vec<u8>)>, NoMemory> {
 }
 
 /// So many bytes, of which no two runs of 251 are alike in place.
-fn mixed(alloc: Global, count: usize) -> Result<Vec<u8>, NoMemory> {
+pub fn mixed(alloc: Global, count: usize) -> Result<Vec<u8>, NoMemory> {
     let mut bytes = Vec::new(alloc);
     for place in 0..count {
         bytes.push((place % 251) as u8)?;
@@ -44,7 +44,7 @@ fn mixed(alloc: Global, count: usize) -> Result<Vec<u8>, NoMemory> {
 }
 
 /// Whether bytes are the first of these, this many of them.
-fn are_mixed(bytes: &[u8], count: usize) -> bool {
+pub fn are_mixed(bytes: &[u8], count: usize) -> bool {
     for (place, byte) in bytes.iter().enumerate() {
         if *byte != (place % 251) as u8 {
             return false;
