@@ -4,6 +4,7 @@ pub mod MadeLemmas
 pub mod StopLemmas
 pub mod MeetLemmas
 pub mod TurnLemmas
+pub mod SearchedLemmas
 pub mod WayLemmas
 pub mod GoodLemmas
 pub mod TraceLemmas

@@ -94,12 +94,12 @@ lists_before r dump steps old new now at stored known whole k b listing hit last
     }
 
 step_made : (r : Recording) (dump : Dump) (budgets : Budgets) (steps : List Step) (old new : PreimageState) (now : Dump) (at : Option Moment)
-    (stored : List Bool) (listing : Listing) (hit : Option Hit) →
+    (stored : List Bool) (listing : Listing) (hit : Option Hit) (whole : Bool) →
     HasMade (crash_of r dump) budgets steps old → StandsAt (crash_of r dump) steps now → DumpFits r.circuit r.choice now → at ≡ last_moment steps →
     signatures_of now ≡ stored ∷ option_to_list now.older →
-    HasLookedFrom r budgets old new now stored at listing hit →
+    HasLookedFrom r budgets old new now stored at listing hit whole →
     HasMade (crash_of r dump) budgets (steps ++ step_of now stored listing hit ∷ []) new
-step_made r dump budgets steps old new now at stored listing hit made stands fits last held from =
+step_made r dump budgets steps old new now at stored listing hit whole made stands fits last held from =
     let back : HasLookedBack r budgets old new now stored from.known listing hit = from.back in
     let crash : Crash = crash_of r dump in
     let step : Step = step_of now stored listing hit in
@@ -143,7 +143,7 @@ step_made r dump budgets steps old new now at stored listing hit made stands fit
       befores = All-append (λ (step : Step). HaveBefores crash.circuit crash.choice step.older step.cands) steps (step ∷ []) made.befores
           (All-from_recursion (λ (step : Step). HaveBefores crash.circuit crash.choice step.older step.cands) (step ∷ []) (l.befores, tt));
       back = before_more crash steps step made.back
-          (lists_before r dump steps (state_after crash steps old.history) new now at stored from.known from.whole budgets.candidates budgets.conflicts listing
+          (lists_before r dump steps (state_after crash steps old.history) new now at stored from.known whole budgets.candidates budgets.conflicts listing
           hit last from.is_known l);
       few = l.few made.few;
       follow = follow_more crash (Some (present_in crash.dump)) steps step made.follow (stands ∙ ap Some present);
@@ -165,4 +165,4 @@ pub made_more : (r : Recording) (dump : Dump) (budgets : Budgets) (steps : List 
     HasMade (crash_of r dump) budgets (steps ++ step ∷ []) new
 made_more r dump budgets steps old new now at step hit made stands fits last is =
     subst (λ (s : Step). HasMade (crash_of r dump) budgets (steps ++ s ∷ []) new) (sym is.step_is)
-    (step_made r dump budgets steps old new now at is.stored is.listing hit made stands fits last is.held is.from)
+    (step_made r dump budgets steps old new now at is.stored is.listing hit is.whole made stands fits last is.held is.from)

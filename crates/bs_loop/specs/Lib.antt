@@ -1,6 +1,7 @@
 -- what public contracts rest on
 pub mod Budget
 pub mod Bound
+pub mod Searched
 -- what inner functions promise each other
 pub mod Recorded
 pub mod Known

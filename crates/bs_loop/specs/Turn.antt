@@ -42,9 +42,8 @@ step_of now stored listing hit =
 
 -- the same behind a search, which may have been whole and made a candidate known
 pub record HasLookedFrom (r : Recording) (budgets : Budgets) (old new : PreimageState) (now : Dump) (stored : List Bool) (at : Option Moment)
-    (listing : Listing) (hit : Option Hit) : Type 0 where
+    (listing : Listing) (hit : Option Hit) (whole : Bool) : Type 0 where
   pub known : Option Cand
-  pub whole : Bool
   pub is_known : IsKnown r now stored at known whole
   pub back : HasLookedBack r budgets old new now stored known listing hit
 
@@ -54,7 +53,8 @@ pub record IsStepBack (r : Recording) (budgets : Budgets) (old new : PreimageSta
   pub stored : List Bool
   pub held : signatures_of now ≡ stored ∷ option_to_list now.older
   pub listing : Listing
-  pub from : HasLookedFrom r budgets old new now stored at listing hit
+  pub whole : Bool
+  pub from : HasLookedFrom r budgets old new now stored at listing hit whole
   pub step_is : step ≡ step_of now stored listing hit
 
 -- one more step, with a hit, whose moment is the next present

@@ -24,7 +24,7 @@ use std::alloc::Global;
 pub const MAX_TRIES: u64 = 1_000;
 
 /// How many more states each step may ask about, up to the most.
-const MORE_TRIES: u64 = 8;
+const MORE_TRIES: u64 = 1;
 
 /// A candidate that is known, and whether all moments before its own were looked at.
 #[derive(Drop)]

@@ -15,4 +15,4 @@ mod stop;
 mod trace;
 mod way;
 
-pub use way::backtrace;
+pub use way::{backtrace, backtrace_searched};

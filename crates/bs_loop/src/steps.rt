@@ -8,6 +8,7 @@ ghost use Rattle.bs_preimage.specs.Listed.{IsRightCand};
 ghost use Rattle.bs_report_good.specs.Valid.{cause_of_end};
 ghost use Rattle.bs_loop.specs.Budget.{IsBudget};
 ghost use Rattle.bs_loop.specs.Recorded.{StandsIn};
+ghost use Rattle.bs_loop.specs.Searched.{IsTurnSearched};
 ghost use Rattle.bs_loop.specs.Turn.{line_of, step_of, HasLookedBack, HasLookedFrom, HasStepped, HasStopped};
 
 use crate::known::{is_due, known_for, tries_after};
@@ -24,6 +25,14 @@ use std::alloc::Global;
 struct Back {
     listing: Listing,
     hit: Option<Hit>,
+}
+
+/// The same, and whether the search before it was whole.
+#[derive(Drop)]
+struct Looked {
+    listing: Listing,
+    hit: Option<Hit>,
+    whole: bool,
 }
 
 /// The signature, lent, if there is one.
@@ -123,7 +132,7 @@ fn look_from(
     budgets: &Budgets,
     due: bool,
     tries: &mut u64,
-) -> Result<Back, NoMemory>
+) -> Result<Looked, NoMemory>
     requires signs { signs.old ≡ chip.old.recording }
     requires probe { probe.old ≡ record { circuit = chip.old.recording.circuit; choice = chip.old.recording.choice } }
     requires circuit { preimage.old.circuit ≡ chip.old.recording.circuit }
@@ -133,7 +142,7 @@ fn look_from(
     requires stored { signatures_of now.now ≡ stored.now ∷ option_to_list now.now.older }
     requires budgets { IsBudget budgets.now }
     requires calls { preimage.old.calls < MAX_STEPS }
-    ensures back { IfOk result (λ back. HasLookedFrom chip.old.recording budgets.now preimage.old preimage.new now.now stored.now at back.listing back.hit) }
+    ensures back { IfOk result (λ back. HasLookedFrom chip.old.recording budgets.now preimage.old preimage.new now.now stored.now at back.listing back.hit back.whole) }
     ensures chip { chip.new.recording ≡ chip.old.recording }
     ensures signs { signs.new ≡ signs.old }
     ensures probe { probe.new ≡ probe.old }
@@ -142,7 +151,11 @@ fn look_from(
         alloc, chip, signs, probe, now, at, stored, budgets, due, tries,
     )?;
     let back = look_back(alloc, chip, preimage, now, stored, &known.cand, budgets)?;
-    Ok(back)
+    Ok(Looked {
+        listing: back.listing,
+        hit: back.hit,
+        whole: known.whole,
+    })
 }
 
 /// Goes to the moment hit, which is now the present. Where there is none, the cause comes for which the backtrace stops.
@@ -160,20 +173,24 @@ fn go_on(now: &mut Dump, at: &mut Option<Moment>, hit: Option<Hit>, cause: Stop)
     }
 }
 
-/// Puts a step to the others. Where it has a hit, the present is now the moment hit; else the cause comes for which the
+/// Puts a step to the others, and its bit. Where it has a hit, the present is now the moment hit; else the cause comes for which the
 /// backtrace stops.
 fn advance(
     steps: &mut List<Step>,
+    searched: &mut List<bool>,
     now: &mut Dump,
     at: &mut Option<Moment>,
     step: Step,
     hit: Option<Hit>,
+    whole: bool,
 ) -> Result<Option<Stop>, NoMemory>
+    ensures searched { IfOk result (λ _. searched.new ≡ searched.old ++ whole ∷ []) }
     ensures steps { IfOk result (λ _. steps.new ≡ steps.old ++ step ∷ []) }
     ensures stop { IfOk result (λ stop. MatchOption hit (stop ≡ Some (cause_of_end step step.end)) (λ hit. (stop ≡ None) × (now.new ≡ hit.dump) × (at.new ≡ Some (moment hit.run hit.cycle)))) }
 {
     let stop = go_on(now, at, hit, cause_after(&step));
     steps.push(step)?;
+    searched.push(whole)?;
     Ok(stop)
 }
 
@@ -187,6 +204,7 @@ pub fn turn(
     preimage: &mut Preimage<'_>,
     budgets: &Budgets,
     steps: &mut List<Step>,
+    searched: &mut List<bool>,
     now: &mut Dump,
     at: &mut Option<Moment>,
     tries: &mut u64,
@@ -200,6 +218,7 @@ pub fn turn(
     requires budgets { IsBudget budgets.now }
     requires calls { preimage.old.calls < MAX_STEPS }
     ensures turn { IfOk result (λ stop. MatchOption stop (HasStepped chip.old.recording budgets.now steps.old steps.new preimage.old preimage.new now.old now.new at.old at.new) (HasStopped chip.old.recording budgets.now steps.old steps.new preimage.old preimage.new now.old at.old)) }
+    ensures searched { IfOk result (λ _. IsTurnSearched chip.old.recording steps.old steps.new searched.old searched.new) }
     ensures chip { chip.new.recording ≡ chip.old.recording }
     ensures signs { signs.new ≡ signs.old }
     ensures probe { probe.new ≡ probe.old }
@@ -210,9 +229,13 @@ pub fn turn(
     };
     *tries = tries_after(*tries);
     let due = is_due(steps, budgets);
-    let Back { listing, hit } = look_from(
+    let Looked {
+        listing,
+        hit,
+        whole,
+    } = look_from(
         alloc, chip, signs, probe, preimage, now, *at, &stored, budgets, due, tries,
     )?;
     let step = step_of(now, stored, listing, &hit)?;
-    advance(steps, now, at, step, hit)
+    advance(steps, searched, now, at, step, hit, whole)
 }

@@ -1,5 +1,5 @@
 //! The whole way back: turns until a stop, and the report of them.
-ghost use Rattle.std.specs.Prelude.{◌≡◌, ◌≤◌, ◌<◌, ◌^◌, ◌+◌, false, length, map, All, Err, IfOk, MatchOption, MatchResult};
+ghost use Rattle.std.specs.Prelude.{◌≡◌, ◌≤◌, ◌<◌, ◌^◌, ◌+◌, [], false, length, map, All, Err, IfOk, MatchOption, MatchResult};
 ghost use Rattle.bs_log.specs.LineForms.{HasText};
 ghost use Rattle.bs_log.specs.Refusal.{history_of, IsAccepted};
 ghost use Rattle.bs_log.specs.Lean.{IsLean};
@@ -19,6 +19,7 @@ ghost use Rattle.bs_loop.specs.Made.{HasMade};
 ghost use Rattle.bs_loop.specs.Way.{HasEnded};
 ghost use Rattle.bs_loop.specs.Report.{IsOfWay, IsWithLog};
 ghost use Rattle.bs_loop.specs.Bound.{HasBound};
+ghost use Rattle.bs_loop.specs.Searched.{AreSearched};
 
 use crate::known::MAX_TRIES;
 use crate::steps::turn;
@@ -57,12 +58,15 @@ fn walk_turns(
     preimage: &mut Preimage<'_>,
     dump: &Dump,
     budgets: &Budgets,
+    searched: &mut List<bool>,
 ) -> Result<Way, NoMemory>
+    requires searched { searched.old ≡ [] }
     requires signs { signs.old ≡ chip.old.recording }
     requires probe { probe.old ≡ record { circuit = chip.old.recording.circuit; choice = chip.old.recording.choice } }
     requires fresh { preimage.old ≡ fresh chip.old.recording.circuit chip.old.recording.choice }
     requires dump { DumpFits chip.old.recording.circuit chip.old.recording.choice dump.now }
     requires budgets { IsBudget budgets.now }
+    ensures searched { IfOk result (λ way. AreSearched chip.old.recording way.steps searched.new) }
     ensures made { IfOk result (λ way. HasMade (crash_of chip.old.recording dump.now) budgets.now way.steps preimage.new) }
     ensures few { IfOk result (λ way. length way.steps ≤ budgets.now.steps) }
     ensures stop { IfOk result (λ way. StopsFor (crash_of chip.old.recording dump.now) budgets.now way.steps way.stop) }
@@ -74,7 +78,8 @@ fn walk_turns(
     let mut tries = MAX_TRIES;
     'turns: for _ in 0..budgets.steps {
         match turn(
-            alloc, chip, signs, probe, preimage, budgets, &mut steps, &mut now, &mut at, &mut tries,
+            alloc, chip, signs, probe, preimage, budgets, &mut steps, searched, &mut now, &mut at,
+            &mut tries,
         )? {
             Some(stop) => return Ok(Way { steps, stop }),
             None => {}
@@ -92,18 +97,23 @@ fn walk_with(
     preimage: &mut Preimage<'_>,
     dump: &Dump,
     budgets: &Budgets,
+    searched: &mut List<bool>,
 ) -> Result<Way, NoMemory>
+    requires searched { searched.old ≡ [] }
     requires signs { signs.old ≡ chip.old.recording }
     requires fresh { preimage.old ≡ fresh chip.old.recording.circuit chip.old.recording.choice }
     requires dump { DumpFits chip.old.recording.circuit chip.old.recording.choice dump.now }
     requires budgets { IsBudget budgets.now }
+    ensures searched { IfOk result (λ way. AreSearched chip.old.recording way.steps searched.new) }
     ensures made { IfOk result (λ way. HasMade (crash_of chip.old.recording dump.now) budgets.now way.steps preimage.new) }
     ensures few { IfOk result (λ way. length way.steps ≤ budgets.now.steps) }
     ensures stop { IfOk result (λ way. StopsFor (crash_of chip.old.recording dump.now) budgets.now way.steps way.stop) }
     ensures chip { chip.new.recording ≡ chip.old.recording }
 {
     let mut probe = preimage.probe(alloc)?;
-    let way = walk_turns(alloc, chip, signs, &mut probe, preimage, dump, budgets)?;
+    let way = walk_turns(
+        alloc, chip, signs, &mut probe, preimage, dump, budgets, searched,
+    )?;
     Ok(way)
 }
 
@@ -114,17 +124,20 @@ fn walk(
     preimage: &mut Preimage<'_>,
     dump: &Dump,
     budgets: &Budgets,
+    searched: &mut List<bool>,
 ) -> Result<Way, NoMemory>
+    requires searched { searched.old ≡ [] }
     requires fresh { preimage.old ≡ fresh chip.old.recording.circuit chip.old.recording.choice }
     requires dump { DumpFits chip.old.recording.circuit chip.old.recording.choice dump.now }
     requires budgets { IsBudget budgets.now }
+    ensures searched { IfOk result (λ way. AreSearched chip.old.recording way.steps searched.new) }
     ensures made { IfOk result (λ way. HasMade (crash_of chip.old.recording dump.now) budgets.now way.steps preimage.new) }
     ensures few { IfOk result (λ way. length way.steps ≤ budgets.now.steps) }
     ensures stop { IfOk result (λ way. StopsFor (crash_of chip.old.recording dump.now) budgets.now way.steps way.stop) }
     ensures chip { chip.new.recording ≡ chip.old.recording }
 {
     let mut signs = chip.signs(alloc)?;
-    let way = walk_with(alloc, chip, &mut signs, preimage, dump, budgets)?;
+    let way = walk_with(alloc, chip, &mut signs, preimage, dump, budgets, searched)?;
     Ok(way)
 }
 
@@ -179,15 +192,18 @@ fn unlogged(
     preimage: &mut Preimage<'_>,
     dump: &Dump,
     budgets: &Budgets,
+    searched: &mut List<bool>,
 ) -> Result<Report, NoMemory>
+    requires searched { searched.old ≡ [] }
     requires fresh { preimage.old ≡ fresh chip.old.recording.circuit chip.old.recording.choice }
     requires dump { DumpFits chip.old.recording.circuit chip.old.recording.choice dump.now }
     requires budgets { IsBudget budgets.now }
+    ensures searched { IfOk result (λ r. AreSearched chip.old.recording r.steps searched.new) }
     ensures way { IfOk result (λ r. IsOfWay dump.now budgets.now r.steps r.stop r) }
     ensures ended { IfOk result (λ r. HasEnded (crash_of chip.old.recording dump.now) budgets.now r.steps preimage.new r.stop) }
     ensures chip { chip.new.recording ≡ chip.old.recording }
 {
-    match walk(alloc, chip, preimage, dump, budgets) {
+    match walk(alloc, chip, preimage, dump, budgets, searched) {
         Ok(way) => reported(alloc, way, dump, budgets),
         Err(want) => Err(want),
     }
@@ -225,6 +241,38 @@ fn logged(report: Result<Report, NoMemory>, preimage: Preimage<'_>) -> Result<Re
     }
 }
 
+/// The backtrace of a dump, as `backtrace`, with a bit for each step: whether all recorded moments before the one that it hit, or
+/// all where it has no hit, were looked at. Such a step hits the first moment of any run whose state is a predecessor that agrees
+/// with the stored signatures, unless its list ends with conflicts.
+pub fn backtrace_searched(
+    alloc: Global,
+    chip: &mut Chip<'_>,
+    preimage: Preimage<'_>,
+    dump: &Dump,
+    budgets: &Budgets,
+    searched: &mut List<bool>,
+) -> Result<Report, NoMemory>
+    requires searched { searched.old ≡ [] }
+    requires fresh { preimage ≡ fresh chip.old.recording.circuit chip.old.recording.choice }
+    requires dump { DumpFits chip.old.recording.circuit chip.old.recording.choice dump.now }
+    requires budgets { IsBudget budgets.now }
+    ensures budgets { IfOk result (λ r. r.budgets ≡ budgets.now) }
+    ensures good { IfOk result (IsGood (crash_of chip.old.recording dump.now)) }
+    ensures valid { IfOk result (λ r. IsValid (crash_of chip.old.recording dump.now) (basis_of chip.old.recording.circuit chip.old.recording.choice (map present_of r.steps)) r) }
+    ensures progress { IfOk result GoesBack }
+    ensures bound { IfOk result (λ r. HasBound (basis_of chip.old.recording.circuit chip.old.recording.choice (map present_of r.steps)).problem r) }
+    ensures readable { IfOk result HasReportText }
+    ensures trace { IfOk result (λ r. length r.states ≡ length r.inputs + 1) }
+    ensures lean { IfOk result (λ r. IsLean (basis_of chip.old.recording.circuit chip.old.recording.choice (map present_of r.steps)).problem (history_of r.log)) }
+    ensures searched { IfOk result (λ r. AreSearched chip.old.recording r.steps searched.new) }
+    ensures chip { chip.new.recording ≡ chip.old.recording }
+{
+    chip.is_recording();
+    let mut preimage = preimage;
+    let report = unlogged(alloc, chip, &mut preimage, dump, budgets, searched);
+    logged(report, preimage)
+}
+
 /// The backtrace of a dump: its report is good and valid. The dump has the widths of the chip, and `preimage` is of the same
 /// netlist and signature. The moment before a hit is among the candidates that follow, unless their list ends with conflicts.
 pub fn backtrace(
@@ -247,8 +295,6 @@ pub fn backtrace(
     ensures lean { IfOk result (λ r. IsLean (basis_of chip.old.recording.circuit chip.old.recording.choice (map present_of r.steps)).problem (history_of r.log)) }
     ensures chip { chip.new.recording ≡ chip.old.recording }
 {
-    chip.is_recording();
-    let mut preimage = preimage;
-    let report = unlogged(alloc, chip, &mut preimage, dump, budgets);
-    logged(report, preimage)
+    let mut searched = List::new(alloc);
+    backtrace_searched(alloc, chip, preimage, dump, budgets, &mut searched)
 }

@@ -1,4 +1,5 @@
 use Rattle.std.proofs.Common.{◌≡◌}
+use Rattle.bs_loop.specs.Searched.{AreSearched}
 use Rattle.bs_loop.specs.Way.{IsUnderWay}
 use Rattle.bs_loop.proofs.way.walk_turns.Given as goal
 
@@ -7,5 +8,6 @@ invariant-turns l = record {
   chip : l.chip.recording ≡ l.fn.chip.recording;
   signs : l.signs ≡ l.fn.signs;
   probe : l.probe ≡ l.fn.probe;
+  searched : AreSearched l.fn.chip.recording l.steps l.searched;
   way : IsUnderWay l.fn.chip.recording l.dump l.budgets l.steps l.preimage l.now l.at l.counter;
 }

@@ -1,4 +1,4 @@
-use Rattle.std.proofs.Common.{◌≡◌, ◌+◌, length, map, subst, sym}
+use Rattle.std.proofs.Common.{◌≡◌, ◌+◌, List, length, map, subst, sym}
 use Rattle.std.specs.Prelude.{Result, Ok, Err, IfOk, MatchResult}
 use Rattle.bs_encode.specs.Depth.{basis_of}
 use Rattle.bs_log.specs.Lean.{IsLean}
@@ -8,6 +8,8 @@ use Rattle.bs_scan.specs.Crash.{Recording, IsRecording, DumpFits, crash_of}
 use Rattle.bs_scan.proofs.CrashLemmas.{crash_is}
 use Rattle.bs_report.specs.declared.report.Budgets.{Budgets}
 use Rattle.bs_report.specs.declared.report.Report.{Report}
+use Rattle.bs_report.specs.declared.report.Step.{Step}
+use Rattle.bs_loop.specs.Searched.{AreSearched}
 use Rattle.bs_report.specs.Text.{HasReportText}
 use Rattle.bs_report_good.specs.Chain.{present_of}
 use Rattle.bs_report_good.specs.Good.{IsGood}
@@ -21,7 +23,7 @@ use Rattle.bs_loop.specs.Way.{HasEnded}
 use Rattle.bs_loop.proofs.GoodLemmas.{IsReportOf, report_is, report_goes_back, is_good, is_valid, is_lean, has_bound}
 use Rattle.bs_loop.proofs.ReadableLemmas.{readable}
 use Rattle.bs_loop.proofs.TraceLemmas.{one_state_more}
-use Rattle.bs_loop.proofs.way.backtrace.Goals as goal
+use Rattle.bs_loop.proofs.way.backtrace_searched.Goals as goal
 
 -- what is said of the report of a backtrace
 record IsTold (chip : Recording) (dump : Dump) (budgets : Budgets) (r : Report) : Type 0 where
@@ -81,5 +83,11 @@ returns c =
       readable = parts c.logged.result (IsTold chip dump budgets) _ all (λ r t. t.readable_is);
       trace = parts c.logged.result (IsTold chip dump budgets) _ all (λ r t. t.trace);
       lean = parts c.logged.result (IsTold chip dump budgets) _ all (λ r t. t.lean);
+      searched =
+          with_its_log c.unlogged-report.result c.logged.result _ _ (IsWithLog c.unlogged-report.new.preimage)
+          (λ r. AreSearched chip r.steps c.unlogged-report.new.searched) c.logged.ensures c.unlogged-report.ensures.searched
+          c.unlogged-report.ensures.searched
+          (λ report r bits _ with_log.
+          subst (λ (steps : List Step). AreSearched chip steps c.unlogged-report.new.searched) (sym with_log.alike.steps_are) bits);
       chip = c.unlogged-report.ensures.chip;
     }
