@@ -1,0 +1,3 @@
+pub mod SpreadLemmas
+pub mod ToldLemmas
+pub mod LineLemmas
