@@ -1,3 +1,4 @@
 pub mod SplitLemmas
 pub mod SignalLemmas
 pub mod HexLemmas
+pub mod RtlLemmas

@@ -1,4 +1,5 @@
 pub mod Splits
 pub mod Keys
 pub mod Signals
+pub mod Rtl
 pub mod Values

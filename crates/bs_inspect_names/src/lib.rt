@@ -1,17 +1,19 @@
 //! Names of bits and of vectors: what a key says, which bits make a vector, and the number that a vector's bits are.
 //!
 //! Modules: `splits` (a text cut at a byte), `key` (`key_parts`), `signal` (`signals`: which bits
-//! make a vector), `hex` (`push_value`). Used above: `AreSignals`: each wanted bit stands in
-//! exactly one signal, and a signal is a net by itself or consecutive bits of a vector; and
-//! `value_text`.
+//! make a vector), `rtl` (names as RTL writes them), `hex` (`push_value`). Used above:
+//! `AreSignals`: each wanted bit stands in exactly one signal, and a signal is a net by itself or
+//! consecutive bits of a vector; `same_name` and `rtl_text` (`specs/Rtl`); and `value_text`.
 #![tactic(auto)]
 
 mod hex;
 mod key;
+mod rtl;
 mod signal;
 mod splits;
 
 pub use hex::push_value;
 pub use key::{KeyParts, key_parts};
-pub use signal::{Member, Signal, members, push_name, push_range, signals};
+pub use rtl::{push_rtl_name, same_name};
+pub use signal::{Member, Signal, is_named, members, push_name, push_range, signals};
 pub use splits::{first_split, last_split};

@@ -25,7 +25,7 @@ pub struct Signal<'a> {
 }
 
 /// A name without the `\` that it may begin with.
-fn plain(name: &[u8]) -> &[u8]
+pub(crate) fn plain(name: &[u8]) -> &[u8]
     ensures { result.now ≡ plain name.now }
 {
     match name {
@@ -46,7 +46,7 @@ fn same_bit(wanted: Option<u64>, bit: Option<u64>) -> bool
 }
 
 /// Whether a name is that of a bit, or of its vector.
-fn is_named(parts: KeyParts<'_>, name: &[u8]) -> bool
+pub fn is_named(parts: KeyParts<'_>, name: &[u8]) -> bool
     ensures { result ≡ is_named (parts_in parts.entry) name.now }
 {
     let of_name = key_parts(name);

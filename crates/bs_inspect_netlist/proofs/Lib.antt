@@ -1,3 +1,5 @@
 pub mod TextLemmas
 pub mod TallyLemmas
 pub mod MarkLemmas
+pub mod CalledLemmas
+pub mod OrderLemmas

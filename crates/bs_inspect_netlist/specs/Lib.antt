@@ -2,3 +2,5 @@ pub mod Marks
 pub mod Told
 pub mod Sizes
 pub mod Tallies
+pub mod Called
+pub mod Order

@@ -1,16 +1,26 @@
-//! What is told of a netlist: its flip-flops and its data inputs one by one, with the keys that show the same value, and its sizes.
+//! What is told of a netlist: its flip-flops and its data inputs one by one, with the keys that show the same value, the flip-flops
+//! that names stand for, its sizes, and the state that a pattern of its scan chain is.
 //!
 //! Modules: `mark` and `marking` (a number for each net, from those of its gate's inputs), `bits`
-//! (lines of flip-flops and inputs), `tally`, `sizes`. Used above: `TellsFlops`, `TellsInputs`,
-//! `TellsSizes`. What a net shows through `buf` and `assign` alone, and its level, is said by each
+//! (lines of flip-flops and inputs), `called` (names), `tally`, `sizes`, `order` and `pattern` (a
+//! scan chain, `specs/Order`). Used above: `TellsFlops`, `TellsInputs`, `TellsKeys`, `TellsSizes`,
+//! `order_in`, `pattern_in` and `state_line`. What a net shows through `buf` and `assign` alone, and its level, is said by each
 //! gate's equation (`specs/Marks`); something else of this kind is a variant of `Measure`.
 #![tactic(auto)]
 
 mod bits;
+mod called;
+mod fault;
 mod mark;
 mod marking;
+mod order;
+mod pattern;
 mod sizes;
 mod tally;
 
 pub use bits::{flops_text, inputs_text};
+pub use called::{first_uncalled, keys_text};
+pub use fault::{OrderFault, PatternFault};
+pub use order::read_order;
+pub use pattern::{read_pattern, state_text, unscan};
 pub use sizes::stats_text;

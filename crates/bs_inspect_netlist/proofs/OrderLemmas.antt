@@ -1,0 +1,73 @@
+-- The flip-flops of an order, line by line, and the bits of a state, one by one.
+use Rattle.std.proofs.Common.{◌≡◌, ℕ, suc, ◌<◌, ◌≤◌, ◌+◌, ◌==◌, Bool, true, false, List, [], ◌∷◌, ◌++◌, length, map, take, drop, get_or}
+use Rattle.std.proofs.Common.{cond, Option, Some, None, Result, Ok, Err, refl, ap, sym, ◌∙◌, ◌⊎◌, inl, inr}
+use Rattle.std.specs.Prelude.{nat_lt, not}
+use Rattle.std.specs.List.{position, position_or_len, range_with_len}
+use Rattle.std.proofs.lemmas.List.{length-map, take_more, map-append}
+use Rattle.bs_bits.specs.Lines.{lines_of}
+use Rattle.bs_bits.specs.Reading.{◌>>=◌}
+use Rattle.bs_bits.proofs.RangeLemmas.{range_push}
+use Rattle.bs_net.specs.declared.net.Flop.{Flop}
+use Rattle.bs_net.specs.Parts.{Parts, key_at}
+use Rattle.bs_inspect_names.specs.Keys.{KeyParts, key_parts, parts_in}
+use Rattle.bs_inspect_names.specs.Rtl.{same_name}
+use Rattle.bs_inspect_names.specs.declared.key.KeyParts.{KeyParts as CodeKeyParts}
+use Rattle.bs_inspect_netlist.specs.declared.fault.OrderFault.{OrderFault}
+use Rattle.bs_inspect_netlist.specs.declared.fault.OrderFault.TheVariants.{NoMemory}
+use Rattle.bs_inspect_netlist.specs.Order.{flop_named, flop_parts, listed_at, listed_from, pattern_bit, unscanned}
+
+-- a key more
+pub parts_more : (r : Parts) (keys : List CodeKeyParts) (key : CodeKeyParts) (fs : List Flop) (i : ℕ) (d : Flop) → i < length fs →
+    map parts_in keys ≡ map (λ f. key_parts (key_at r f.q.0)) (take i fs) → parts_in key ≡ key_parts (key_at r (get_or fs i d).q.0) →
+    map parts_in (keys ++ key ∷ []) ≡ map (λ f. key_parts (key_at r f.q.0)) (take (i + 1) fs)
+parts_more r keys key fs i d lt e k =
+    map-append parts_in keys (key ∷ [])
+    ∙ ((λ j. e j ++ k j ∷ [])
+    ∙ (sym (map-append (λ (f : Flop). key_parts (key_at r f.q.0)) (take i fs) (get_or fs i d ∷ []))
+    ∙ ap (map (λ (f : Flop). key_parts (key_at r f.q.0))) (sym (take_more fs i d lt))))
+
+position_of : {X Y : Type 0} (p : Y → Bool) (f : X → Y) (xs : List X) → position_or_len p (map f xs) ≡ position_or_len (λ x. p (f x)) xs
+position_of p f [] = refl
+position_of p f (x ∷ xs) = ap (λ n. cond (not (p (f x))) (1 + n) 0) (position_of p f xs)
+
+-- the place of a key of the code
+pub named_at : (flops : List CodeKeyParts) (name : KeyParts) →
+    position (λ key. same_name (parts_in key) name) flops ≡ position (λ key. same_name key name) (map parts_in flops)
+named_at flops name =
+    let e = sym (position_of (λ (key : KeyParts). same_name key name) parts_in flops) in
+    let l = sym (length-map flops parts_in) in
+    (λ i. cond (nat_lt (e i) (l i)) (Some (e i)) None)
+
+-- ---- lines
+
+abbrev Read : Type 0
+Read = Result (List ℕ) OrderFault
+
+abbrev behind : List KeyParts → List ℕ → List (List ℕ) → Result ℕ OrderFault → Read
+behind flops earlier texts r = r >>= λ flop. listed_from flops (earlier ++ flop ∷ []) texts
+
+pub line_more : (all : Read) (flops : List KeyParts) (earlier : List ℕ) (rest text more : List ℕ) (flop : ℕ) →
+    all ≡ listed_from flops earlier (lines_of rest) → lines_of rest ≡ text ∷ lines_of more → listed_at flops earlier text ≡ Ok flop →
+    all ≡ listed_from flops (earlier ++ flop ∷ []) (lines_of more)
+line_more all flops earlier rest text more flop is cut ok =
+    is ∙ (ap (listed_from flops earlier) cut ∙ ap (behind flops earlier (lines_of more)) ok)
+
+pub line_faulty : (all : Read) (flops : List KeyParts) (earlier : List ℕ) (rest text more : List ℕ) (fault : OrderFault) →
+    all ≡ listed_from flops earlier (lines_of rest) → lines_of rest ≡ text ∷ lines_of more →
+    (fault ≡ NoMemory) ⊎ (listed_at flops earlier text ≡ Err fault) → (fault ≡ NoMemory) ⊎ (all ≡ Err fault)
+line_faulty all flops earlier rest text more fault is cut (inl want) = inl want
+line_faulty all flops earlier rest text more fault is cut (inr err) =
+    inr (is ∙ (ap (listed_from flops earlier) cut ∙ ap (behind flops earlier (lines_of more)) err))
+
+pub lines_end : (all : Read) (flops : List KeyParts) (earlier : List ℕ) (rest : List ℕ) →
+    all ≡ listed_from flops earlier (lines_of rest) → lines_of rest ≡ [] → all ≡ Ok earlier
+lines_end all flops earlier rest is none = is ∙ ap (listed_from flops earlier) none
+
+-- ---- a state
+
+-- a bit more
+pub bits_more : (order : List ℕ) (pattern state : List Bool) (n : ℕ) → state ≡ map (pattern_bit order pattern) (range_with_len 0 n) →
+    state ++ pattern_bit order pattern n ∷ [] ≡ map (pattern_bit order pattern) (range_with_len 0 (n + 1))
+bits_more order pattern state n e =
+    ap (λ (bs : List Bool). bs ++ pattern_bit order pattern n ∷ []) e
+    ∙ (sym (map-append (pattern_bit order pattern) (range_with_len 0 n) (n ∷ [])) ∙ ap (map (pattern_bit order pattern)) (sym (range_push n)))

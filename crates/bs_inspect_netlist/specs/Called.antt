@@ -1,0 +1,61 @@
+-- The flip-flops that names stand for, through every net that shows their values (docs/FORMATS.md, "Texts of `backspace_inspect`").
+use Rattle.std.specs.Prelude.{◌≡◌, ℕ, ◌==◌, Bool, not, List, [], ◌∷◌, ◌++◌, length, codes, slice_index_or, Option, if◌then◌else◌}
+use Rattle.std.specs.List.{find, flat_map, list_any, range_with_len}
+use Rattle.bs_bits.specs.Lines.{line}
+use Rattle.bs_net.specs.declared.net.Flop.{Flop}
+use Rattle.bs_net.specs.Parts.{Parts, key_at}
+use Rattle.bs_inspect_names.specs.Keys.{key_parts}
+use Rattle.bs_inspect_names.specs.Signals.{is_named}
+use Rattle.bs_inspect_netlist.specs.declared.mark.Measure.TheVariants.{Source}
+use Rattle.bs_inspect_netlist.specs.Marks.{AreMarks, mark_at}
+use Rattle.bs_inspect_netlist.specs.Told.{no_flop}
+
+-- a net where a name is its own, or its vector's
+abbrev pub net_named : Parts → List ℕ → ℕ → List ℕ
+net_named r name m = if is_named (key_parts (key_at r m)) name then m ∷ [] else []
+
+-- the nets with a name
+abbrev pub nets_named : Parts → List ℕ → List ℕ
+nets_named r name = flat_map (net_named r name) (range_with_len 0 (length r.names))
+
+-- whether one of these nets shows the value of that one through `buf` and `assign` alone
+abbrev pub is_shown : List ℕ → List ℕ → ℕ → Bool
+is_shown sources nets n = list_any (λ m. mark_at sources m == n) nets
+
+-- the key of a flip-flop behind a space, where one of these nets shows its value
+abbrev pub called_key : Parts → List ℕ → List ℕ → Flop → List ℕ
+called_key r sources nets f = if is_shown sources nets f.q.0 then codes " " ++ key_at r f.q.0 else []
+
+abbrev pub called_at : Parts → List ℕ → List ℕ → ℕ → List ℕ
+called_at r sources nets i = called_key r sources nets (slice_index_or r.flops i no_flop)
+
+-- the keys of the flip-flops whose values nets with a name show, in the order of a state's bits, as an item of a signature
+abbrev pub called_line : Parts → List ℕ → List ℕ → List ℕ
+called_line r sources name = line (codes "xor" ++ flat_map (called_at r sources (nets_named r name)) (range_with_len 0 (length r.flops)))
+
+-- a line for each name
+abbrev pub called_told : Parts → List ℕ → List (List ℕ) → List ℕ
+called_told r sources names = flat_map (called_line r sources) names
+
+-- whether there is such a flip-flop
+abbrev pub has_shown : Parts → List ℕ → List ℕ → Bool
+has_shown r sources nets = list_any (λ f. is_shown sources nets f.q.0) r.flops
+
+abbrev pub is_called : Parts → List ℕ → List ℕ → Bool
+is_called r sources name = has_shown r sources (nets_named r name)
+
+-- the first of these names for which there is none
+abbrev pub first_uncalled : Parts → List ℕ → List (List ℕ) → Option (List ℕ)
+first_uncalled r sources names = find (λ name. not (is_called r sources name)) names
+
+-- the text tells for each name the flip-flops whose values nets with it show
+pub record TellsKeys (r : Parts) (names : List (List ℕ)) (text : List ℕ) : Type 0 where
+  pub sources : List ℕ
+  pub are : AreMarks Source r sources
+  pub told : text ≡ called_told r sources names
+
+-- it is the first of these names for which there is no flip-flop whose value a net with it shows, if there is one
+pub record IsFirstUncalled (r : Parts) (names : List (List ℕ)) (name : Option (List ℕ)) : Type 0 where
+  pub sources : List ℕ
+  pub are : AreMarks Source r sources
+  pub first : name ≡ first_uncalled r sources names

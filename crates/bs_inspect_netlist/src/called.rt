@@ -1,0 +1,193 @@
+//! The keys of the flip-flops that names stand for.
+ghost use Rattle.std.specs.Prelude.{◌≡◌, ◌<◌, ◌∷◌, [], ◌++◌, ◌==◌, codes, length, map, not, option_map, IfOk, OnOk};
+ghost use Rattle.std.specs.List.{find, flat_map, list_any, range_with_len};
+ghost use Rattle.bs_inspect_names.specs.Keys.{key_parts, parts_in};
+ghost use Rattle.bs_net.specs.Netlist.{parts_of};
+ghost use Rattle.bs_net.specs.Parts.{key_at};
+ghost use Rattle.bs_inspect_netlist.specs.Called.{IsFirstUncalled, TellsKeys, called_at, called_key, called_line, called_told, first_uncalled, has_shown, is_called, is_shown, net_named, nets_named};
+ghost use Rattle.bs_inspect_netlist.specs.Marks.{mark_at};
+
+use crate::bits::key_at;
+use crate::mark::Measure;
+use crate::marking::marks;
+use bs_bits::{NoMemory, end_line, push_piece};
+use bs_inspect_names::{KeyParts, is_named, key_parts};
+use bs_net::{Flop, Netlist, Raw};
+use std::alloc::Global;
+
+/// What the key of a net says.
+fn parts_at(raw: &Raw, net: u32) -> KeyParts<'_>
+    requires { net < length raw.now.names }
+    ensures { parts_in result ≡ key_parts (key_at (parts_of raw.now) net) }
+{
+    key_parts(key_at(raw, net))
+}
+
+/// Puts a net at the end, where a name is its own, or its vector's.
+fn put_named(nets: &mut Vec<u32>, raw: &Raw, name: &[u8], net: u32) -> Result<(), NoMemory>
+    requires { net < length raw.now.names }
+    ensures { OnOk result (nets.new.items ≡ nets.old.items ++ net_named (parts_of raw.now) name.now net) }
+{
+    if is_named(parts_at(raw, net), name) {
+        nets.push(net)?;
+    }
+    Ok(())
+}
+
+/// The nets with a name.
+#[tactic(auto, using(bs_bits::proofs::RangeLemmas::places_more))]
+fn nets_named(alloc: Global, raw: &Raw, name: &[u8]) -> Result<Vec<u32>, NoMemory>
+    ensures { IfOk result (λ nets. nets.items ≡ nets_named (parts_of raw.now) name.now) }
+{
+    let mut nets = Vec::new(alloc);
+    'nets: for net in 0..raw.names.len() {
+        put_named(&mut nets, raw, name, net)?;
+    }
+    Ok(nets)
+}
+
+/// The number of a net in a table; 0 past its end.
+fn mark_at(table: &[usize], net: u32) -> usize
+    ensures { result ≡ mark_at table.now net }
+{
+    let place = net as usize;
+    if place < table.len() { table[place] } else { 0 }
+}
+
+/// Whether one of these nets shows the value of that one.
+fn is_shown(sources: &[usize], nets: &[u32], net: u32) -> bool
+    ensures { result ≡ is_shown sources.now nets.now net }
+{
+    nets.iter()
+        .any(|other| mark_at(sources, *other) == net as usize)
+}
+
+/// Appends the key of a flip-flop behind a space, where one of these nets shows its value.
+fn push_called(
+    text: &mut Vec<u8>,
+    raw: &Raw,
+    sources: &[usize],
+    nets: &[u32],
+    flop: Flop,
+) -> Result<(), NoMemory>
+    requires { flop.q.0 < length raw.now.names }
+    ensures { OnOk result (text.new.items ≡ text.old.items ++ called_key (parts_of raw.now) sources.now nets.now flop) }
+{
+    if !is_shown(sources, nets, flop.q.0) {
+        return Ok(());
+    }
+    push_piece(text, b" ")?;
+    push_piece(text, key_at(raw, flop.q.0))
+}
+
+/// Appends the keys of the flip-flops whose values these nets show.
+#[tactic(auto, using(bs_bits::proofs::RangeLemmas::places_step))]
+fn push_keys(text: &mut Vec<u8>, raw: &Raw, sources: &[usize], nets: &[u32]) -> Result<(), NoMemory>
+    ensures { OnOk result (text.new.items ≡ text.old.items ++ flat_map (called_at (parts_of raw.now) sources.now nets.now) (range_with_len 0 (length raw.now.flops))) }
+{
+    'flops: for i in 0..raw.flops.len() {
+        push_called(text, raw, sources, nets, *raw.flops.get(i))?;
+    }
+    Ok(())
+}
+
+/// Appends the line of a name.
+fn push_name_line(
+    text: &mut Vec<u8>,
+    raw: &Raw,
+    sources: &[usize],
+    name: &[u8],
+) -> Result<(), NoMemory>
+    ensures { OnOk result (text.new.items ≡ text.old.items ++ called_line (parts_of raw.now) sources.now name.now) }
+{
+    let nets = nets_named(*text.allocator(), raw, name)?;
+    push_piece(text, b"xor")?;
+    push_keys(text, raw, sources, nets.as_slice())?;
+    end_line(text)
+}
+
+/// Appends the line of a name that is a text.
+fn push_text_line(
+    text: &mut Vec<u8>,
+    raw: &Raw,
+    sources: &[usize],
+    name: &str,
+) -> Result<(), NoMemory>
+    ensures { OnOk result (text.new.items ≡ text.old.items ++ called_line (parts_of raw.now) sources.now name.now) }
+{
+    push_name_line(text, raw, sources, name.as_bytes())
+}
+
+/// Appends a line for each name.
+#[tactic(auto, using(crate::proofs::CalledLemmas::lines_more))]
+fn push_name_lines(
+    text: &mut Vec<u8>,
+    raw: &Raw,
+    sources: &[usize],
+    names: &[&str],
+) -> Result<(), NoMemory>
+    ensures { OnOk result (text.new.items ≡ text.old.items ++ called_told (parts_of raw.now) sources.now (map (λ s. s.now) names.now)) }
+{
+    'names: for &name in names {
+        push_text_line(text, raw, sources, name)?;
+    }
+    Ok(())
+}
+
+/// A line for each name, as an item of a signature: `xor`, and the keys of the flip-flops whose values nets with that name show
+/// through `buf` and `assign` alone. A name is a key, that of a vector, or either as RTL writes it.
+pub fn keys_text(alloc: Global, net: &Netlist, names: &[&str]) -> Result<Vec<u8>, NoMemory>
+    ensures { IfOk result (λ text. TellsKeys net.now.raw (map (λ s. s.now) names.now) text.items) }
+{
+    let sources = marks(alloc, Measure::Source, net)?;
+    let mut text = Vec::new(alloc);
+    push_name_lines(&mut text, net.raw(), sources.as_slice(), names)?;
+    Ok(text)
+}
+
+/// Whether one of these nets shows the value of a flip-flop.
+fn has_shown(raw: &Raw, sources: &[usize], nets: &[u32]) -> bool
+    ensures { result ≡ has_shown (parts_of raw.now) sources.now nets.now }
+{
+    let flops = raw.flops.slice();
+    flops.iter().any(|flop| is_shown(sources, nets, flop.q.0))
+}
+
+/// Whether a net with a name shows the value of a flip-flop.
+fn is_called(alloc: Global, raw: &Raw, sources: &[usize], name: &str) -> Result<bool, NoMemory>
+    ensures { IfOk result (λ called. called ≡ is_called (parts_of raw.now) sources.now name.now) }
+{
+    let nets = nets_named(alloc, raw, name.as_bytes())?;
+    Ok(has_shown(raw, sources, nets.as_slice()))
+}
+
+/// The first of these names for which there is no flip-flop.
+#[tactic(auto, using(crate::proofs::CalledLemmas::uncalled_more, crate::proofs::CalledLemmas::uncalled_found, crate::proofs::CalledLemmas::uncalled_none))]
+fn uncalled_among<'a>(
+    alloc: Global,
+    raw: &Raw,
+    sources: &[usize],
+    names: &[&'a str],
+) -> Result<Option<&'a str>, NoMemory>
+    ensures { IfOk result (λ name. option_map (λ s. s.now) name ≡ first_uncalled (parts_of raw.now) sources.now (map (λ s. s.now) names.now)) }
+{
+    'names: for &name in names {
+        if !is_called(alloc, raw, sources, name)? {
+            return Ok(Some(name));
+        }
+    }
+    Ok(None)
+}
+
+/// The first of these names for which `keys_text` finds no flip-flop, if there is one.
+pub fn first_uncalled<'a>(
+    alloc: Global,
+    net: &Netlist,
+    names: &[&'a str],
+) -> Result<Option<&'a str>, NoMemory>
+    ensures { IfOk result (λ name. IsFirstUncalled net.now.raw (map (λ s. s.now) names.now) (option_map (λ s. s.now) name)) }
+{
+    let sources = marks(alloc, Measure::Source, net)?;
+    let name = uncalled_among(alloc, net.raw(), sources.as_slice(), names)?;
+    Ok(name)
+}
