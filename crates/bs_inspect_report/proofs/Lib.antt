@@ -3,3 +3,4 @@ pub mod SignalLemmas
 pub mod PieceLemmas
 pub mod LemmaLemmas
 pub mod KnownLemmas
+pub mod TableLemmas

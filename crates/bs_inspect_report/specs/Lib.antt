@@ -4,4 +4,5 @@ pub mod Lemmas
 pub mod Signal
 pub mod Steps
 pub mod Trace
+pub mod Table
 pub mod Told

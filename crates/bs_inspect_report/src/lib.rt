@@ -1,21 +1,27 @@
 //! What a report tells: its trace with the names of a netlist, and its steps.
 //!
 //! Modules: `keys`, `known` (names that no net has), `signal`, `named` and `moment` (the lines of a
-//! cycle), `trace`, `lemmas` (of each step of a log), `steps`. Used above: `TellsTrace`
-//! (`specs/Trace`), `steps_text` (`specs/Steps`), `first_unknown` (`specs/Known`). A line: its
+//! cycle), `trace`, `lemmas` (of each step of a log), `steps`; `field`, `table` and `step_table` (the
+//! same for scripts). Used above: `TellsTrace` (`specs/Trace`), `TellsTable` and `steps_table`
+//! (`specs/Table`), `steps_text` (`specs/Steps`), `first_unknown` (`specs/Known`). A line: its
 //! definition and the function of the same name.
 #![tactic(auto)]
 
+mod field;
 mod keys;
 mod known;
 mod lemmas;
 mod moment;
 mod named;
 mod signal;
+mod step_table;
 mod steps;
+mod table;
 mod trace;
 
 pub use keys::input_keys;
 pub use known::first_unknown;
+pub use step_table::steps_table;
 pub use steps::steps_text;
+pub use table::trace_table;
 pub use trace::trace_text;

@@ -51,7 +51,11 @@ fn has_changed(before: Option<&Bits>, now: &Bits, places: &[u32]) -> bool
 }
 
 /// Appends the value of a signal.
-fn push_signal_value(text: &mut Vec<u8>, bits: &Bits, places: &[u32]) -> Result<(), NoMemory>
+pub(crate) fn push_signal_value(
+    text: &mut Vec<u8>,
+    bits: &Bits,
+    places: &[u32],
+) -> Result<(), NoMemory>
     requires { length places.now < 2 ^ 32 }
     ensures { OnOk result (text.new.items ≡ text.old.items ++ value_text (signal_bits bits.now places.now)) }
 {

@@ -91,7 +91,7 @@ fn with_inputs<'a>(
 }
 
 /// The signals of a trace.
-fn trace_signals<'a>(
+pub(crate) fn trace_signals<'a>(
     alloc: Global,
     net: &'a Netlist,
     only: &[&str],

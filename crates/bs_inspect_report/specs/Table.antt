@@ -1,0 +1,108 @@
+-- The trace and the steps of a report as tables for scripts (docs/FORMATS.md, "Tables"): comma-separated values (RFC 4180).
+use Rattle.std.specs.Prelude.{◌≡◌, ℕ, ◌+◌, ◌-◌, ◌==◌, ◌||◌, Bool, List, [], ◌∷◌, ◌++◌, length, codes, decimal, slice_get, slice_index_or, Option, Some, None}
+use Rattle.std.specs.Prelude.{if◌then◌else◌}
+use Rattle.std.specs.List.{flat_map, list_any, range_with_len}
+use Rattle.bs_bits.specs.Lines.{line}
+use Rattle.bs_inspect_names.specs.Rtl.{rtl_text}
+use Rattle.bs_inspect_names.specs.Signals.{Signal}
+use Rattle.bs_inspect_names.specs.Values.{value_text}
+use Rattle.bs_net.specs.Parts.{Parts}
+use Rattle.bs_report.specs.declared.report.HitLine.{HitLine}
+use Rattle.bs_report.specs.declared.report.Report.{Report}
+use Rattle.bs_report.specs.declared.report.Step.{Step}
+use Rattle.bs_inspect_report.specs.Lemmas.{lemmas_logged}
+use Rattle.bs_inspect_report.specs.Signal.{signal_bits}
+use Rattle.bs_inspect_report.specs.Steps.{differing, list_word}
+use Rattle.bs_inspect_report.specs.Trace.{AreTraced, Signals}
+
+-- ---- a field
+
+-- a quote or a comma
+abbrev pub is_special : ℕ → Bool
+is_special b = (b == 34) || (b == 44)
+
+-- a quote twice, and any other byte once
+abbrev pub doubled : ℕ → List ℕ
+doubled b = if b == 34 then 34 ∷ 34 ∷ [] else b ∷ []
+
+-- a text as it is, or between quotes where it has a quote or a comma
+abbrev pub field : List ℕ → List ℕ
+field text = if list_any is_special text then 34 ∷ (flat_map doubled text ++ 34 ∷ []) else text
+
+-- ---- the trace
+
+-- the name of a signal, as RTL writes it
+abbrev pub name_cell : Signal → List ℕ
+name_cell s = codes "," ++ field (rtl_text s)
+
+abbrev pub name_cells : List Signal → List ℕ
+name_cells signals = flat_map name_cell signals
+
+abbrev pub head_row : Signals → List ℕ
+head_row signals = line (codes "state,from,run,cycle" ++ (name_cells signals.flops ++ name_cells signals.inputs))
+
+-- the value of a signal, and nothing where there are no bits
+abbrev pub value_cell : Option (List Bool) → Signal → List ℕ
+value_cell None s = codes ","
+value_cell (Some bits) s = codes "," ++ value_text (signal_bits bits s.places)
+
+abbrev pub value_cells : Option (List Bool) → List Signal → List ℕ
+value_cells bits signals = flat_map (value_cell bits) signals
+
+abbrev pub hit_cells : Option HitLine → List ℕ
+hit_cells None = codes ",none,,"
+hit_cells (Some hit) = codes ",hit," ++ (decimal hit.run ++ (codes "," ++ decimal hit.cycle))
+
+abbrev pub step_cells : Option Step → List ℕ
+step_cells None = codes ",none,,"
+step_cells (Some step) = hit_cells step.hit
+
+-- where a state of the trace comes from, as in its text
+abbrev pub origin_cells : Report → ℕ → List ℕ
+origin_cells r i = if i + 1 == length r.states then codes ",dump,," else step_cells (slice_get r.steps (length r.states - 2 - i))
+
+-- a state of the trace: where it comes from, all flip-flops, and the input that leads on from it
+abbrev pub state_row : Report → Signals → ℕ → List ℕ
+state_row r signals i =
+    line (decimal i ++ (origin_cells r i ++ (value_cells (slice_get r.states i) signals.flops ++ value_cells (slice_get r.inputs i) signals.inputs)))
+
+abbrev pub trace_rows : Report → Signals → List ℕ
+trace_rows r signals = head_row signals ++ flat_map (state_row r signals) (range_with_len 0 (length r.states))
+
+-- the text tells each state of the report's trace, with the names of the netlist; where names are given, these alone
+pub record TellsTable (raw : Parts) (r : Report) (only : List (List ℕ)) (text : List ℕ) : Type 0 where
+  pub signals : Signals
+  pub are : AreTraced raw only signals
+  pub told : text ≡ trace_rows r signals
+
+-- ---- the steps
+
+abbrev pub moment_cells : Option HitLine → List ℕ
+moment_cells None = codes ",,"
+moment_cells (Some hit) = codes "," ++ (decimal hit.run ++ (codes "," ++ decimal hit.cycle))
+
+-- how many candidates the step with a number lists, and how many flip-flops differ among them
+unfoldable pub list_cells : (number cands differ : ℕ) → List ℕ
+list_cells number cands differ = decimal number ++ (codes "," ++ (decimal cands ++ (codes "," ++ decimal differ)))
+
+-- how its list ended, how many lemmas it logged, and its hit
+unfoldable pub end_cells : ℕ → Step → List ℕ
+end_cells lemmas step = codes "," ++ (list_word step.end ++ (codes "," ++ (decimal lemmas ++ moment_cells step.hit)))
+
+abbrev pub step_row : ℕ → ℕ → Step → List ℕ
+step_row number lemmas step = line (list_cells number (length step.cands) (differing step.cands) ++ end_cells lemmas step)
+
+abbrev pub row_of : ℕ → List ℕ → Option Step → List ℕ
+row_of i lemmas None = []
+row_of i lemmas (Some step) = step_row (i + 1) (slice_index_or lemmas i 0) step
+
+abbrev pub step_row_at : Report → List ℕ → ℕ → List ℕ
+step_row_at r lemmas i = row_of i lemmas (slice_get r.steps i)
+
+-- a row for each step, numbered from 1
+abbrev pub step_rows : Report → List ℕ → List ℕ
+step_rows r lemmas =
+    line (codes "step,candidates,differ,list,lemmas,run,cycle") ++ flat_map (step_row_at r lemmas) (range_with_len 0 (length r.steps))
+
+abbrev pub steps_table : Report → List ℕ
+steps_table r = step_rows r (lemmas_logged r.log)

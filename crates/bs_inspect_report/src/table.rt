@@ -1,0 +1,187 @@
+//! The trace of a report as a table for scripts.
+ghost use Rattle.std.specs.Prelude.{◌≡◌, ◌<◌, ◌+◌, ◌^◌, ◌++◌, codes, decimal, length, map, slice_get, All, IfOk, OnOk, option_map};
+ghost use Rattle.std.specs.List.{flat_map, range_with_len};
+ghost use Rattle.bs_inspect_names.specs.Rtl.{rtl_text};
+ghost use Rattle.bs_inspect_names.specs.Signals.{signal_in};
+ghost use Rattle.bs_inspect_report.specs.Table.{TellsTable, head_row, hit_cells, name_cell, name_cells, origin_cells, state_row, step_cells, trace_rows, value_cell, value_cells};
+ghost use Rattle.bs_inspect_report.specs.Told.{signals_in};
+
+use crate::field::push_field;
+use crate::moment::member;
+use crate::named::Signals;
+use crate::signal::push_signal_value;
+use crate::trace::trace_signals;
+use bs_bits::{Bits, NoMemory, end_line, push_number, push_piece};
+use bs_inspect_names::{Signal, push_rtl_name};
+use bs_net::Netlist;
+use bs_report::{HitLine, Report, Step};
+use std::alloc::Global;
+
+/// The name of a signal, as RTL writes it.
+fn name_of(alloc: Global, signal: &Signal<'_>) -> Result<Vec<u8>, NoMemory>
+    ensures { IfOk result (λ name. name.items ≡ rtl_text (signal_in signal.now)) }
+{
+    let mut name = Vec::new(alloc);
+    push_rtl_name(&mut name, signal)?;
+    Ok(name)
+}
+
+/// Appends the name of a signal behind a comma.
+fn push_name_cell(text: &mut Vec<u8>, signal: &Signal<'_>) -> Result<(), NoMemory>
+    ensures { OnOk result (text.new.items ≡ text.old.items ++ name_cell (signal_in signal.now)) }
+{
+    let name = name_of(*text.allocator(), signal)?;
+    push_piece(text, b",")?;
+    push_field(text, name.as_slice())
+}
+
+/// Appends the names of signals.
+#[tactic(auto, using(crate::proofs::TableLemmas::cells_more))]
+fn push_name_cells(text: &mut Vec<u8>, signals: &[Signal<'_>]) -> Result<(), NoMemory>
+    ensures { OnOk result (text.new.items ≡ text.old.items ++ name_cells (map signal_in signals.now)) }
+{
+    'signals: for signal in signals {
+        push_name_cell(text, signal)?;
+    }
+    Ok(())
+}
+
+/// Appends the first row.
+fn push_head_row(text: &mut Vec<u8>, signals: &Signals<'_>) -> Result<(), NoMemory>
+    ensures { OnOk result (text.new.items ≡ text.old.items ++ head_row (signals_in signals.now)) }
+{
+    push_piece(text, b"state,from,run,cycle")?;
+    push_name_cells(text, signals.flops.as_slice())?;
+    push_name_cells(text, signals.inputs.as_slice())?;
+    end_line(text)
+}
+
+/// Appends the value of a signal behind a comma.
+fn push_value_cell(
+    text: &mut Vec<u8>,
+    bits: Option<&Bits>,
+    signal: &Signal<'_>,
+) -> Result<(), NoMemory>
+    requires { length signal.now.places < 2 ^ 32 }
+    ensures { OnOk result (text.new.items ≡ text.old.items ++ value_cell (option_map (λ b. b.now) bits.entry) (signal_in signal.now)) }
+{
+    match bits {
+        Some(bits) => {
+            push_piece(text, b",")?;
+            push_signal_value(text, bits, signal.places.slice())
+        }
+        None => push_piece(text, b","),
+    }
+}
+
+/// Appends the values of signals.
+#[tactic(auto, using(crate::proofs::TableLemmas::values_more))]
+fn push_value_cells(
+    text: &mut Vec<u8>,
+    bits: Option<&Bits>,
+    signals: &[Signal<'_>],
+) -> Result<(), NoMemory>
+    requires { All (λ s. length s.places < 2 ^ 32) signals.now }
+    ensures { OnOk result (text.new.items ≡ text.old.items ++ value_cells (option_map (λ b. b.now) bits.entry) (map signal_in signals.now)) }
+{
+    'signals: for signal in signals {
+        push_value_cell(text, bits, signal)?;
+    }
+    Ok(())
+}
+
+/// Appends the run and the cycle of a hit.
+fn push_hit_cells(text: &mut Vec<u8>, hit: &Option<HitLine>) -> Result<(), NoMemory>
+    ensures { OnOk result (text.new.items ≡ text.old.items ++ hit_cells hit.now) }
+{
+    match hit {
+        Some(hit) => {
+            push_piece(text, b",hit,")?;
+            push_number(text, u64::from(hit.run))?;
+            push_piece(text, b",")?;
+            push_number(text, u64::from(hit.cycle))
+        }
+        None => push_piece(text, b",none,,"),
+    }
+}
+
+/// Appends the hit of a step.
+fn push_step_cells(text: &mut Vec<u8>, step: Option<&Step>) -> Result<(), NoMemory>
+    ensures { OnOk result (text.new.items ≡ text.old.items ++ step_cells (option_map (λ s. s.now) step.entry)) }
+{
+    match step {
+        Some(step) => push_hit_cells(text, &step.hit),
+        None => push_piece(text, b",none,,"),
+    }
+}
+
+/// Appends where a state of the trace comes from.
+fn push_origin_cells(text: &mut Vec<u8>, report: &Report, i: usize) -> Result<(), NoMemory>
+    requires there { i < length report.now.states }
+    requires small { i + 1 < 2 ^ 64 }
+    ensures { OnOk result (text.new.items ≡ text.old.items ++ origin_cells report.now i) }
+{
+    if i + 1 == report.states.len() {
+        return push_piece(text, b",dump,,");
+    }
+    push_step_cells(text, member(&report.steps, report.states.len() - 2 - i))
+}
+
+/// Appends the row of a state.
+fn push_state_row(
+    text: &mut Vec<u8>,
+    report: &Report,
+    signals: &Signals<'_>,
+    i: usize,
+) -> Result<(), NoMemory>
+    requires there { i < length report.now.states }
+    requires small { i + 1 < 2 ^ 64 }
+    ensures { OnOk result (text.new.items ≡ text.old.items ++ state_row report.now (signals_in signals.now) i) }
+{
+    push_number(text, i as u64)?;
+    push_origin_cells(text, report, i)?;
+    push_value_cells(text, member(&report.states, i), signals.flops.as_slice())?;
+    push_value_cells(text, member(&report.inputs, i), signals.inputs.as_slice())?;
+    end_line(text)
+}
+
+/// Appends the rows of the states.
+#[tactic(auto, using(bs_bits::proofs::RangeLemmas::places_step))]
+fn push_state_rows(
+    text: &mut Vec<u8>,
+    report: &Report,
+    signals: &Signals<'_>,
+) -> Result<(), NoMemory>
+    ensures { OnOk result (text.new.items ≡ text.old.items ++ flat_map (state_row report.now (signals_in signals.now)) (range_with_len 0 (length report.now.states))) }
+{
+    'states: for i in 0..report.states.len() {
+        push_state_row(text, report, signals, i)?;
+    }
+    Ok(())
+}
+
+/// The table of a trace with these signals.
+fn table_of(alloc: Global, report: &Report, signals: &Signals<'_>) -> Result<Vec<u8>, NoMemory>
+    ensures { IfOk result (λ text. text.items ≡ trace_rows report.now (signals_in signals.now)) }
+{
+    let mut text = Vec::new(alloc);
+    push_head_row(&mut text, signals)?;
+    push_state_rows(&mut text, report, signals)?;
+    Ok(text)
+}
+
+/// The trace of a report as a table of comma-separated values: a column for each signal, under its name as RTL writes it, and a row
+/// for each state, with the values that the text of the trace has. Where names are given, these alone.
+pub fn trace_table(
+    alloc: Global,
+    net: &Netlist,
+    report: &Report,
+    only: &[&str],
+) -> Result<Vec<u8>, NoMemory>
+    ensures { IfOk result (λ text. TellsTable net.now.raw report.now (map (λ s. s.now) only.now) text.items) }
+{
+    match trace_signals(alloc, net, only) {
+        Ok(signals) => table_of(alloc, report, &signals),
+        Err(refused) => Err(refused),
+    }
+}
