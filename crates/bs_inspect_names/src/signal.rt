@@ -25,7 +25,7 @@ pub struct Signal<'a> {
 }
 
 /// A name without the `\` that it may begin with.
-pub(crate) fn plain(name: &[u8]) -> &[u8]
+pub fn plain(name: &[u8]) -> &[u8]
     ensures { result.now ≡ plain name.now }
 {
     match name {

@@ -1,12 +1,12 @@
 -- Names that stand for flip-flops, one by one.
-use Rattle.std.proofs.Common.{◌≡◌, ℕ, ◌<◌, ◌≤◌, ◌+◌, Bool, true, false, not, List, [], ◌∷◌, ◌++◌, length, map, take, drop, get_or}
+use Rattle.std.proofs.Common.{◌≡◌, ℕ, ◌<◌, ◌≤◌, ◌+◌, ◌==◌, Bool, true, false, not, List, [], ◌∷◌, ◌++◌, length, map, take, drop, get_or}
 use Rattle.std.proofs.Common.{Option, Some, None, refl, ap, sym, ◌∙◌, append_assoc}
 use Rattle.std.specs.Borrow.{Bor}
 use Rattle.std.specs.List.{find, flat_map}
 use Rattle.std.proofs.lemmas.Grind.{flat_map-append}
 use Rattle.std.proofs.lemmas.List.{drop_more, drop_all, take_more, map-append, append-nil}
 use Rattle.bs_net.specs.Parts.{Parts}
-use Rattle.bs_inspect_netlist.specs.Called.{called_line, called_told, first_uncalled, is_called}
+use Rattle.bs_inspect_netlist.specs.Called.{called_line, called_told, first_uncalled, first_unnamed, is_called, nets_named}
 
 abbrev bytes : List (Bor (List ℕ)) → List (List ℕ)
 bytes names = map (λ s. s.now) names
@@ -47,3 +47,23 @@ pub uncalled_none : (r : Parts) (sources : List ℕ) (names : List (Bor (List �
     first_uncalled r sources (map (λ s. s.now) names) ≡ first_uncalled r sources (map (λ s. s.now) (drop i names)) →
     None ≡ first_uncalled r sources (map (λ s. s.now) names)
 uncalled_none r sources names i le e = sym (e ∙ ap (uncalled r sources) (drop_all i names le))
+
+-- ---- the first name that no net has
+
+abbrev unnamed : Parts → List (Bor (List ℕ)) → Option (List ℕ)
+unnamed r names = first_unnamed r (map (λ s. s.now) names)
+
+pub unnamed_more : (r : Parts) (names : List (Bor (List ℕ))) (i : ℕ) (d : Bor (List ℕ)) → i < length names →
+    first_unnamed r (map (λ s. s.now) names) ≡ first_unnamed r (map (λ s. s.now) (drop i names)) →
+    false ≡ (length (nets_named r (get_or names i d).now) == 0) →
+    first_unnamed r (map (λ s. s.now) names) ≡ first_unnamed r (map (λ s. s.now) (drop (i + 1) names))
+unnamed_more r names i d lt e is = e ∙ (ap (unnamed r) (drop_more names i d lt) ∙ rw (sym is) refl)
+
+pub unnamed_found : (r : Parts) (names : List (Bor (List ℕ))) (i : ℕ) (d : Bor (List ℕ)) → i < length names →
+    first_unnamed r (map (λ s. s.now) names) ≡ first_unnamed r (map (λ s. s.now) (drop i names)) →
+    true ≡ (length (nets_named r (get_or names i d).now) == 0) → Some (get_or names i d).now ≡ first_unnamed r (map (λ s. s.now) names)
+unnamed_found r names i d lt e is = sym (e ∙ (ap (unnamed r) (drop_more names i d lt) ∙ rw (sym is) refl))
+
+pub unnamed_none : (r : Parts) (names : List (Bor (List ℕ))) (i : ℕ) → length names ≤ i →
+    first_unnamed r (map (λ s. s.now) names) ≡ first_unnamed r (map (λ s. s.now) (drop i names)) → None ≡ first_unnamed r (map (λ s. s.now) names)
+unnamed_none r names i le e = sym (e ∙ ap (unnamed r) (drop_all i names le))

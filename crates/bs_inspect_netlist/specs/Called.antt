@@ -48,6 +48,10 @@ is_called r sources name = has_shown r sources (nets_named r name)
 abbrev pub first_uncalled : Parts → List ℕ → List (List ℕ) → Option (List ℕ)
 first_uncalled r sources names = find (λ name. not (is_called r sources name)) names
 
+-- the first of these names that no net has
+abbrev pub first_unnamed : Parts → List (List ℕ) → Option (List ℕ)
+first_unnamed r names = find (λ name. length (nets_named r name) == 0) names
+
 -- the text tells for each name the flip-flops whose values nets with it show
 pub record TellsKeys (r : Parts) (names : List (List ℕ)) (text : List ℕ) : Type 0 where
   pub sources : List ℕ

@@ -4,7 +4,7 @@ ghost use Rattle.std.specs.List.{find, flat_map, list_any, range_with_len};
 ghost use Rattle.bs_inspect_names.specs.Keys.{key_parts, parts_in};
 ghost use Rattle.bs_net.specs.Netlist.{parts_of};
 ghost use Rattle.bs_net.specs.Parts.{key_at};
-ghost use Rattle.bs_inspect_netlist.specs.Called.{IsFirstUncalled, TellsKeys, called_at, called_key, called_line, called_told, first_uncalled, has_shown, is_called, is_shown, net_named, nets_named};
+ghost use Rattle.bs_inspect_netlist.specs.Called.{IsFirstUncalled, TellsKeys, called_at, called_key, called_line, called_told, first_uncalled, first_unnamed, has_shown, is_called, is_shown, net_named, nets_named};
 ghost use Rattle.bs_inspect_netlist.specs.Marks.{mark_at};
 
 use crate::bits::key_at;
@@ -189,5 +189,43 @@ pub fn first_uncalled<'a>(
 {
     let sources = marks(alloc, Measure::Source, net)?;
     let name = uncalled_among(alloc, net.raw(), sources.as_slice(), names)?;
+    Ok(name)
+}
+
+/// Whether no net has a name.
+fn is_unnamed(alloc: Global, raw: &Raw, name: &str) -> Result<bool, NoMemory>
+    ensures { IfOk result (λ unnamed. unnamed ≡ (length (nets_named (parts_of raw.now) name.now) == 0)) }
+{
+    let nets = nets_named(alloc, raw, name.as_bytes())?;
+    Ok(nets.is_empty())
+}
+
+/// The first of these names that no net has.
+#[tactic(auto, using(crate::proofs::CalledLemmas::unnamed_more, crate::proofs::CalledLemmas::unnamed_found, crate::proofs::CalledLemmas::unnamed_none))]
+fn unnamed_among<'a>(
+    alloc: Global,
+    raw: &Raw,
+    names: &[&'a str],
+) -> Result<Option<&'a str>, NoMemory>
+    ensures { IfOk result (λ name. option_map (λ s. s.now) name ≡ first_unnamed (parts_of raw.now) (map (λ s. s.now) names.now)) }
+{
+    'names: for &name in names {
+        if is_unnamed(alloc, raw, name)? {
+            return Ok(Some(name));
+        }
+    }
+    Ok(None)
+}
+
+/// The first of these names that is neither the key of a net nor the name of a vector of nets, nor either as RTL writes it, if
+/// there is one.
+pub fn first_unnamed<'a>(
+    alloc: Global,
+    net: &Netlist,
+    names: &[&'a str],
+) -> Result<Option<&'a str>, NoMemory>
+    ensures { IfOk result (λ name. option_map (λ s. s.now) name ≡ first_unnamed net.now.raw (map (λ s. s.now) names.now)) }
+{
+    let name = unnamed_among(alloc, net.raw(), names)?;
     Ok(name)
 }

@@ -19,7 +19,7 @@ mod sizes;
 mod tally;
 
 pub use bits::{flops_text, inputs_text};
-pub use called::{first_uncalled, keys_text};
+pub use called::{first_uncalled, first_unnamed, keys_text};
 pub use fault::{OrderFault, PatternFault};
 pub use order::read_order;
 pub use pattern::{read_pattern, state_text, unscan};

@@ -1,6 +1,6 @@
 -- Pieces that are appended one after another.
 use Rattle.std.proofs.Common.{◌≡◌, ℕ, suc, zero, ◌<◌, ◌+◌, List, [], ◌∷◌, ◌++◌, length, ap, sym, ◌∙◌, arith, slice_get, Some}
-use Rattle.std.proofs.Common.{Bool, true, false, cond, refl}
+use Rattle.std.proofs.Common.{Bool, true, false, cond, refl, append_assoc}
 use Rattle.std.specs.Prelude.{slice_index_or}
 use Rattle.std.specs.List.{count_by, range_with_len}
 use Rattle.std.proofs.lemmas.List.Sums.{sum_by-append, sum_by-cons}
@@ -8,6 +8,15 @@ use Rattle.bs_bits.proofs.RangeLemmas.{range_push}
 use Rattle.bs_report.specs.declared.report.Report.{Report}
 use Rattle.bs_report.specs.declared.report.Step.{Step}
 use Rattle.bs_inspect_report.specs.Steps.{one_if, step_piece, step_line, step_at}
+
+-- three pieces behind one another, the last with its line feed
+pub three_ended : (old s w e n a b c : List ℕ) → a ≡ old ++ s → b ≡ a ++ w → c ≡ b ++ (e ++ n) → c ≡ old ++ ((s ++ (w ++ e)) ++ n)
+three_ended old s w e n a b c f g h =
+    h ∙ (ap (λ (t : List ℕ). t ++ (e ++ n)) g
+    ∙ (append_assoc a w (e ++ n)
+    ∙ (ap (λ (t : List ℕ). t ++ (w ++ (e ++ n))) f
+    ∙ (append_assoc old s (w ++ (e ++ n))
+    ∙ ap (λ (t : List ℕ). old ++ t) (sym (append_assoc s (w ++ e) n ∙ ap (λ (t : List ℕ). s ++ t) (append_assoc w e n)))))))
 
 -- one number more of those that pass a test
 pub count_more : (p : ℕ → Bool) (n count : ℕ) → count ≡ count_by p (range_with_len 0 n) →

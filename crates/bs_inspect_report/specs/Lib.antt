@@ -5,4 +5,5 @@ pub mod Signal
 pub mod Steps
 pub mod Trace
 pub mod Table
+pub mod Remarks
 pub mod Told

@@ -2,7 +2,7 @@
 //!
 //! Modules: `keys`, `known` (names that no net has), `signal`, `named` and `moment` (the lines of a
 //! cycle), `trace`, `lemmas` (of each step of a log), `steps`; `field`, `table` and `step_table` (the
-//! same for scripts). Used above: `TellsTrace` (`specs/Trace`), `TellsTable` and `steps_table`
+//! same for scripts), `remarks` (for a waveform). Used above: `TellsTrace` (`specs/Trace`), `TellsTable` and `steps_table`
 //! (`specs/Table`), `steps_text` (`specs/Steps`), `first_unknown` (`specs/Known`). A line: its
 //! definition and the function of the same name.
 #![tactic(auto)]
@@ -13,6 +13,7 @@ mod known;
 mod lemmas;
 mod moment;
 mod named;
+mod remarks;
 mod signal;
 mod step_table;
 mod steps;
@@ -21,6 +22,7 @@ mod trace;
 
 pub use keys::input_keys;
 pub use known::first_unknown;
+pub use remarks::remarks_text;
 pub use step_table::steps_table;
 pub use steps::steps_text;
 pub use table::trace_table;

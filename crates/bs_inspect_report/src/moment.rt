@@ -44,7 +44,7 @@ fn push_step_hit(text: &mut Vec<u8>, step: Option<&Step>) -> Result<(), NoMemory
 }
 
 /// Appends where a state of the trace comes from.
-fn push_origin(text: &mut Vec<u8>, report: &Report, i: usize) -> Result<(), NoMemory>
+pub(crate) fn push_origin(text: &mut Vec<u8>, report: &Report, i: usize) -> Result<(), NoMemory>
     requires there { i < length report.now.states }
     requires small { i + 1 < 2 ^ 64 }
     ensures { OnOk result (text.new.items ≡ text.old.items ++ origin_words report.now i) }

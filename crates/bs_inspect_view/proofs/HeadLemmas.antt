@@ -5,21 +5,24 @@ use Rattle.bs_bits.specs.Lines.{line}
 use Rattle.bs_inspect_names.specs.Signals.{Signal}
 use Rattle.bs_inspect_view.specs.View.{declarations, variables}
 
--- five pieces behind one another
-five : (old a b c d e one two three four last : List ℕ) → a ≡ old ++ one → b ≡ a ++ two → c ≡ b ++ three → d ≡ c ++ four → e ≡ d ++ last →
-    e ≡ old ++ (one ++ (two ++ (three ++ (four ++ last))))
-five old a b c d e one two three four last f g h i j =
-    j ∙ (ap (λ (t : List ℕ). t ++ last) i
-    ∙ (append_assoc c four last
-    ∙ (ap (λ (t : List ℕ). t ++ (four ++ last)) h
-    ∙ (append_assoc b three (four ++ last)
-    ∙ (ap (λ (t : List ℕ). t ++ (three ++ (four ++ last))) g
-    ∙ (append_assoc a two (three ++ (four ++ last))
-    ∙ (ap (λ (t : List ℕ). t ++ (two ++ (three ++ (four ++ last)))) f ∙ append_assoc old one (two ++ (three ++ (four ++ last))))))))))
+-- six pieces behind one another
+six : (old a b c d e f one two three four five last : List ℕ) → a ≡ old ++ one → b ≡ a ++ two → c ≡ b ++ three → d ≡ c ++ four → e ≡ d ++ five →
+    f ≡ e ++ last → f ≡ old ++ (one ++ (two ++ (three ++ (four ++ (five ++ last)))))
+six old a b c d e f one two three four five last g h i j k l =
+    l ∙ (ap (λ (t : List ℕ). t ++ last) k
+    ∙ (append_assoc d five last
+    ∙ (ap (λ (t : List ℕ). t ++ (five ++ last)) j
+    ∙ (append_assoc c four (five ++ last)
+    ∙ (ap (λ (t : List ℕ). t ++ (four ++ (five ++ last))) i
+    ∙ (append_assoc b three (four ++ (five ++ last))
+    ∙ (ap (λ (t : List ℕ). t ++ (three ++ (four ++ (five ++ last)))) h
+    ∙ (append_assoc a two (three ++ (four ++ (five ++ last)))
+    ∙ (ap (λ (t : List ℕ). t ++ (two ++ (three ++ (four ++ (five ++ last))))) g
+    ∙ append_assoc old one (two ++ (three ++ (four ++ (five ++ last)))))))))))))
 
-pub head_whole : (signals : List Signal) (old a b c d e : List ℕ) → a ≡ old ++ line (codes "$timescale 1ns $end") →
-    b ≡ a ++ line (codes "$scope module trace $end") → c ≡ b ++ variables signals → d ≡ c ++ line (codes "$upscope $end") →
-    e ≡ d ++ line (codes "$enddefinitions $end") → e ≡ old ++ declarations signals
-head_whole signals old a b c d e f g h i j =
-    five old a b c d e (line (codes "$timescale 1ns $end")) (line (codes "$scope module trace $end")) (variables signals)
-    (line (codes "$upscope $end")) (line (codes "$enddefinitions $end")) f g h i j
+pub head_whole : (remarks : List ℕ) (signals : List Signal) (old a b c d e f : List ℕ) → a ≡ old ++ line (codes "$timescale 1ns $end") →
+    b ≡ a ++ remarks → c ≡ b ++ line (codes "$scope module trace $end") → d ≡ c ++ variables signals → e ≡ d ++ line (codes "$upscope $end") →
+    f ≡ e ++ line (codes "$enddefinitions $end") → f ≡ old ++ declarations remarks signals
+head_whole remarks signals old a b c d e f g h i j k l =
+    six old a b c d e f (line (codes "$timescale 1ns $end")) remarks (line (codes "$scope module trace $end")) (variables signals)
+    (line (codes "$upscope $end")) (line (codes "$enddefinitions $end")) g h i j k l

@@ -3,3 +3,5 @@ pub mod NetLemmas
 pub mod PlaceLemmas
 pub mod ValueLemmas
 pub mod HeadLemmas
+pub mod ScopeLemmas
+pub mod DrawnLemmas

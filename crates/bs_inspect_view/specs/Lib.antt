@@ -1,1 +1,3 @@
+pub mod Scopes
+pub mod Drawn
 pub mod View

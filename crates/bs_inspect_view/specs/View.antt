@@ -1,11 +1,13 @@
 -- The waveform of a trace in the form that viewers take (docs/FORMATS.md, "Texts of `backspace_inspect`"): a four-state value change
 -- dump (IEEE 1364-2005, 18.2) whose variables are signals.
-use Rattle.std.specs.Prelude.{◌≡◌, ℕ, ◌-◌, ◌==◌, not, Bool, true, false, List, [], ◌∷◌, ◌++◌, length, map, codes, decimal, slice_get, Option, Some, None}
+use Rattle.std.specs.Prelude.{◌≡◌, ℕ, ◌+◌, ◌-◌, ◌==◌, not, Bool, true, false, List, [], ◌∷◌, ◌++◌, length, map, codes, decimal, slice_get, Option, Some, None}
 use Rattle.std.specs.Prelude.{if◌then◌else◌}
 use Rattle.std.specs.List.{flat_map, list_any, range_with_len}
 use Rattle.bs_bits.specs.Lines.{line}
 use Rattle.bs_net.specs.Parts.{Parts}
-use Rattle.bs_inspect_names.specs.Signals.{AreSignals, Signal, range_text}
+use Rattle.bs_inspect_names.specs.Signals.{Signal, range_text}
+use Rattle.bs_inspect_view.specs.Drawn.{AreDrawn, Asked, plain_asked}
+use Rattle.bs_inspect_view.specs.Scopes.{leaf_of, moves, path_of, scopes, word_of}
 use Rattle.bs_wave.specs.declared.value.Value.{Value}
 use Rattle.bs_wave.specs.declared.wave.Wave.{Wave}
 use Rattle.bs_wave.specs.Wave.{IsWaveOf, value_at}
@@ -18,26 +20,40 @@ abbrev pub range_words : Option ℕ → ℕ → List ℕ
 range_words None count = []
 range_words (Some high) count = codes " " ++ range_text (Some high) count
 
--- the name of a signal as a value change dump has it
+-- the name of a signal in its scope
 abbrev pub reference : Signal → List ℕ
-reference s = s.base ++ range_words s.high (length s.places)
+reference s = word_of (leaf_of s.base) ++ range_words s.high (length s.places)
 
 -- the variable of the signal with this number
 abbrev pub variable_line : ℕ → Signal → List ℕ
 variable_line i s =
     line (codes "$var wire " ++ (decimal (length s.places) ++ (codes " " ++ (id_of i ++ (codes " " ++ (reference s ++ codes " $end"))))))
 
+-- the same in its scopes, where those of this path are open
+abbrev pub scoped : List ℕ → ℕ → Signal → List ℕ
+scoped path i s = moves path (path_of s.base) ++ variable_line i s
+
+abbrev pub path_at : Option Signal → List ℕ
+path_at None = []
+path_at (Some s) = path_of s.base
+
+-- the path of the signal before this one, which the first has none of
+abbrev pub path_before : List Signal → ℕ → List ℕ
+path_before signals i = if i == 0 then [] else path_at (slice_get signals (i - 1))
+
 abbrev pub variable_at : List Signal → ℕ → Option Signal → List ℕ
 variable_at signals i None = []
-variable_at signals i (Some s) = variable_line i s
+variable_at signals i (Some s) = scoped (path_before signals i) i s
 
+-- the variables of all signals, each in its scopes
 abbrev pub variables : List Signal → List ℕ
-variables signals = flat_map (λ i. variable_at signals i (slice_get signals i)) (range_with_len 0 (length signals))
+variables signals =
+    flat_map (λ i. variable_at signals i (slice_get signals i)) (range_with_len 0 (length signals)) ++ scopes false (path_before signals (length signals))
 
-abbrev pub declarations : List Signal → List ℕ
-declarations signals =
-    line (codes "$timescale 1ns $end") ++ (line (codes "$scope module trace $end")
-    ++ (variables signals ++ (line (codes "$upscope $end") ++ line (codes "$enddefinitions $end"))))
+abbrev pub declarations : List ℕ → List Signal → List ℕ
+declarations remarks signals =
+    line (codes "$timescale 1ns $end") ++ (remarks ++ (line (codes "$scope module trace $end")
+    ++ (variables signals ++ (line (codes "$upscope $end") ++ line (codes "$enddefinitions $end")))))
 
 -- ---- values
 
@@ -76,24 +92,30 @@ abbrev pub moment_before : List (List Value) → ℕ → Option (List Value)
 moment_before moments t = if t == 0 then None else slice_get moments (t - 1)
 
 abbrev pub moment_text : List Signal → ℕ → Option (List Value) → Option (List Value) → List ℕ
-moment_text signals t before None = []
-moment_text signals t before (Some now) = line (time_line t) ++ changes signals before now
+moment_text signals time before None = []
+moment_text signals time before (Some now) = line (time_line time) ++ changes signals before now
 
-abbrev pub moment_at : List Signal → List (List Value) → ℕ → List ℕ
-moment_at signals moments t = moment_text signals t (moment_before moments t) (slice_get moments t)
+-- the moment at a place, where the first stands at this time
+abbrev pub moment_at : List Signal → ℕ → List (List Value) → ℕ → List ℕ
+moment_at signals from moments t = moment_text signals (from + t) (moment_before moments t) (slice_get moments t)
 
 -- the head, and at each moment the signals whose values are others than at the moment before
-abbrev pub view_told : List Signal → List (List Value) → List ℕ
-view_told signals moments = declarations signals ++ flat_map (moment_at signals moments) (range_with_len 0 (length moments))
+abbrev pub view_told : Asked → List Signal → List (List Value) → List ℕ
+view_told asked signals moments =
+    declarations asked.remarks signals ++ flat_map (moment_at signals asked.from moments) (range_with_len 0 (length moments))
 
--- the text of a wave, whose variables are the netlist's nets: each once, and the bits of a vector as one
-pub record Views (raw : Parts) (wave : Wave) (text : List ℕ) : Type 0 where
+-- the text of a wave, whose variables are the signals that are drawn: each once, and the bits of a vector as one
+pub record Views (raw : Parts) (asked : Asked) (wave : Wave) (text : List ℕ) : Type 0 where
   pub signals : List Signal
-  pub are : AreSignals [] raw.names signals
-  pub told : text ≡ view_told signals wave.moments
+  pub are : AreDrawn raw asked signals
+  pub told : text ≡ view_told asked signals wave.moments
 
--- the text of the wave of a trace, whose variables are the netlist's nets: each once, and the bits of a vector as one
-pub record IsViewOf (raw : Parts) (states inputs : List (List Bool)) (text : List ℕ) : Type 0 where
+-- the text of the wave of a trace, with what is asked
+pub record IsDrawing (raw : Parts) (asked : Asked) (states inputs : List (List Bool)) (text : List ℕ) : Type 0 where
   pub wave : Wave
   pub of : IsWaveOf raw states inputs wave
-  pub views : Views raw wave text
+  pub views : Views raw asked wave text
+
+-- the same where nothing is asked
+abbrev pub IsViewOf : Parts → (states inputs : List (List Bool)) → List ℕ → Type 0
+IsViewOf raw states inputs text = IsDrawing raw plain_asked states inputs text

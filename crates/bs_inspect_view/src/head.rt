@@ -2,9 +2,10 @@
 ghost use Rattle.std.specs.Prelude.{◌≡◌, ◌++◌, length, map, slice_get, OnOk};
 ghost use Rattle.std.specs.List.{flat_map, range_with_len};
 ghost use Rattle.bs_inspect_names.specs.Signals.{signal_in};
-ghost use Rattle.bs_inspect_view.specs.View.{declarations, range_words, reference, variable_line, variables};
+ghost use Rattle.bs_inspect_view.specs.View.{declarations, path_before, range_words, reference, scoped, variable_at, variable_line, variables};
 ghost use Rattle.bs_wave.specs.WaveText.{id_of};
 
+use crate::scopes::{leaf_of, path_of, push_moves, push_scopes, word_of};
 use bs_bits::{NoMemory, push_line, push_number, push_piece};
 use bs_inspect_names::{Signal, push_range};
 
@@ -35,11 +36,11 @@ fn push_range_words(text: &mut Vec<u8>, signal: &Signal<'_>) -> Result<(), NoMem
     }
 }
 
-/// Appends the name of a signal.
+/// Appends the name of a signal in its scope.
 fn push_reference(text: &mut Vec<u8>, signal: &Signal<'_>) -> Result<(), NoMemory>
     ensures { OnOk result (text.new.items ≡ text.old.items ++ reference (signal_in signal.now)) }
 {
-    push_piece(text, signal.base)?;
+    push_piece(text, word_of(leaf_of(signal.base)))?;
     push_range_words(text, signal)
 }
 
@@ -56,22 +57,62 @@ fn push_variable(text: &mut Vec<u8>, number: usize, signal: &Signal<'_>) -> Resu
     push_line(text, b" $end")
 }
 
-/// Appends the variables of signals.
-#[tactic(auto, using(crate::proofs::PlaceLemmas::variable_step, crate::proofs::PlaceLemmas::all_variables))]
-fn push_variables(text: &mut Vec<u8>, signals: &[Signal<'_>]) -> Result<(), NoMemory>
-    ensures { OnOk result (text.new.items ≡ text.old.items ++ variables (map signal_in signals.now)) }
+/// Appends the variable of a signal in its scopes, where those of a path are open.
+fn push_scoped(
+    text: &mut Vec<u8>,
+    path: &[u8],
+    number: usize,
+    signal: &Signal<'_>,
+) -> Result<(), NoMemory>
+    ensures { OnOk result (text.new.items ≡ text.old.items ++ scoped path.now number (signal_in signal.now)) }
+{
+    push_moves(text, path, path_of(signal.base))?;
+    push_variable(text, number, signal)
+}
+
+/// The path of the signal before a place.
+#[tactic(auto, using(crate::proofs::PlaceLemmas::path_there, crate::proofs::PlaceLemmas::path_past))]
+fn path_before<'a>(signals: &[Signal<'a>], place: usize) -> &'a [u8]
+    ensures { result.now ≡ path_before (map signal_in signals.now) place }
+{
+    if place == 0 {
+        return b"";
+    }
+    match signals.get(place - 1) {
+        Some(signal) => path_of(signal.base),
+        None => b"",
+    }
+}
+
+/// Appends the variables of signals, and leaves the scopes of the last one open.
+fn push_open(text: &mut Vec<u8>, signals: &[Signal<'_>]) -> Result<(), NoMemory>
+    ensures { OnOk result (text.new.items ≡ text.old.items ++ flat_map (λ i. variable_at (map signal_in signals.now) i (slice_get (map signal_in signals.now) i)) (range_with_len 0 (length signals.now))) }
 {
     'signals: for i in 0..signals.len() {
-        push_variable(text, i, &signals[i])?;
+        push_scoped(text, path_before(signals, i), i, &signals[i])?;
     }
     Ok(())
 }
 
+/// Appends the variables of signals.
+#[tactic(auto, using(crate::proofs::PlaceLemmas::all_variables))]
+fn push_variables(text: &mut Vec<u8>, signals: &[Signal<'_>]) -> Result<(), NoMemory>
+    ensures { OnOk result (text.new.items ≡ text.old.items ++ variables (map signal_in signals.now)) }
+{
+    push_open(text, signals)?;
+    push_scopes(text, false, path_before(signals, signals.len()))
+}
+
 /// Appends the lines before the first moment.
-pub(crate) fn push_head(text: &mut Vec<u8>, signals: &[Signal<'_>]) -> Result<(), NoMemory>
-    ensures { OnOk result (text.new.items ≡ text.old.items ++ declarations (map signal_in signals.now)) }
+pub(crate) fn push_head(
+    text: &mut Vec<u8>,
+    remarks: &[u8],
+    signals: &[Signal<'_>],
+) -> Result<(), NoMemory>
+    ensures { OnOk result (text.new.items ≡ text.old.items ++ declarations remarks.now (map signal_in signals.now)) }
 {
     push_line(text, b"$timescale 1ns $end")?;
+    push_piece(text, remarks)?;
     push_line(text, b"$scope module trace $end")?;
     push_variables(text, signals)?;
     push_line(text, b"$upscope $end")?;

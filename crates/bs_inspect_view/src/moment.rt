@@ -32,12 +32,12 @@ fn moment_before(moments: &List<List<Value>>, t: usize) -> Option<&[Value]>
     values_at(moments, t - 1)
 }
 
-/// Appends the time of a moment.
-fn push_time(text: &mut Vec<u8>, t: usize) -> Result<(), NoMemory>
-    ensures { OnOk result (text.new.items ≡ text.old.items ++ line (time_line t)) }
+/// Appends a time.
+fn push_time(text: &mut Vec<u8>, time: u64) -> Result<(), NoMemory>
+    ensures { OnOk result (text.new.items ≡ text.old.items ++ line (time_line time)) }
 {
     push_piece(text, b"#")?;
-    push_number(text, t as u64)?;
+    push_number(text, time)?;
     end_line(text)
 }
 
@@ -45,42 +45,45 @@ fn push_time(text: &mut Vec<u8>, t: usize) -> Result<(), NoMemory>
 fn push_moment(
     text: &mut Vec<u8>,
     signals: &[Signal<'_>],
-    t: usize,
+    time: u64,
     before: Option<&[Value]>,
     now: &[Value],
 ) -> Result<(), NoMemory>
-    ensures { OnOk result (text.new.items ≡ text.old.items ++ moment_text (map signal_in signals.now) t (option_map (λ b. b.now) before.entry) (Some now.now)) }
+    ensures { OnOk result (text.new.items ≡ text.old.items ++ moment_text (map signal_in signals.now) time (option_map (λ b. b.now) before.entry) (Some now.now)) }
 {
-    push_time(text, t)?;
+    push_time(text, time)?;
     push_changes(text, signals, before, now)
 }
 
-/// Appends the moment at a place.
+/// Appends the moment at a place, where the first stands at a time.
 fn push_at(
     text: &mut Vec<u8>,
     signals: &[Signal<'_>],
+    from: u32,
     moments: &List<List<Value>>,
     t: usize,
 ) -> Result<(), NoMemory>
-    ensures { OnOk result (text.new.items ≡ text.old.items ++ moment_at (map signal_in signals.now) moments.now t) }
+    ensures { OnOk result (text.new.items ≡ text.old.items ++ moment_at (map signal_in signals.now) from moments.now t) }
 {
-    match values_at(moments, t) {
-        Some(now) => push_moment(text, signals, t, moment_before(moments, t), now),
-        None => Ok(()),
+    match (values_at(moments, t), u64::from(from).checked_add(t as u64)) {
+        (Some(now), Some(time)) => push_moment(text, signals, time, moment_before(moments, t), now),
+        (Some(_), None) => Err(NoMemory),
+        (None, _) => Ok(()),
     }
 }
 
-/// Appends the moments.
+/// Appends the moments, where the first stands at a time.
 #[tactic(auto, using(bs_bits::proofs::RangeLemmas::places_step))]
 pub(crate) fn push_moments(
     text: &mut Vec<u8>,
     signals: &[Signal<'_>],
+    from: u32,
     moments: &List<List<Value>>,
 ) -> Result<(), NoMemory>
-    ensures { OnOk result (text.new.items ≡ text.old.items ++ flat_map (moment_at (map signal_in signals.now) moments.now) (range_with_len 0 (length moments.now))) }
+    ensures { OnOk result (text.new.items ≡ text.old.items ++ flat_map (moment_at (map signal_in signals.now) from moments.now) (range_with_len 0 (length moments.now))) }
 {
     'moments: for t in 0..moments.len() {
-        push_at(text, signals, moments, t)?;
+        push_at(text, signals, from, moments, t)?;
     }
     Ok(())
 }

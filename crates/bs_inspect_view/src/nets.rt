@@ -1,5 +1,5 @@
 //! The signals of a netlist's nets.
-ghost use Rattle.std.specs.Prelude.{◌≡◌, ◌<◌, ◌^◌, [], length, map, IfOk};
+ghost use Rattle.std.specs.Prelude.{◌≡◌, ◌<◌, ◌^◌, length, map, IfOk};
 ghost use Rattle.bs_inspect_names.specs.Signals.{AreSignals, signal_in};
 ghost use Rattle.bs_net.specs.Netlist.{parts_of};
 
@@ -29,11 +29,15 @@ fn net_keys<'a>(alloc: Global, net: &'a Netlist) -> Result<Vec<&'a str>, NoMemor
     Ok(keys)
 }
 
-/// The signals of the nets.
-pub(crate) fn net_signals<'a>(alloc: Global, net: &'a Netlist) -> Result<Vec<Signal<'a>>, NoMemory>
-    ensures { IfOk result (λ signals. AreSignals [] net.now.raw.names (map signal_in signals.items)) }
+/// The signals of the nets with these names, or of all nets where there are none.
+pub(crate) fn net_signals<'a>(
+    alloc: Global,
+    net: &'a Netlist,
+    only: &[&str],
+) -> Result<Vec<Signal<'a>>, NoMemory>
+    ensures { IfOk result (λ signals. AreSignals (map (λ s. s.now) only.now) net.now.raw.names (map signal_in signals.items)) }
 {
     let keys = net_keys(alloc, net)?;
-    let signals = signals(alloc, keys.as_slice(), &[])?;
+    let signals = signals(alloc, keys.as_slice(), only)?;
     Ok(signals)
 }

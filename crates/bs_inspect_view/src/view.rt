@@ -2,44 +2,70 @@
 ghost use Rattle.std.specs.Prelude.{◌≡◌, ◌++◌, map, OnOk, IfOk};
 ghost use Rattle.bs_inspect_names.specs.Signals.{signal_in};
 ghost use Rattle.bs_net.specs.Netlist.{circuit};
-ghost use Rattle.bs_inspect_view.specs.View.{IsViewOf, Views, view_told};
+ghost use Rattle.bs_inspect_view.specs.Drawn.{asked_in};
+ghost use Rattle.bs_inspect_view.specs.View.{IsDrawing, IsViewOf, Views, view_told};
 ghost use Rattle.bs_wave.specs.Wave.{IsWayOf};
 
+use crate::asked::Asked;
+use crate::drawn::drawn_signals;
 use crate::head::push_head;
 use crate::moment::push_moments;
-use crate::nets::net_signals;
 use bs_bits::{Bits, List, NoMemory};
 use bs_inspect_names::Signal;
 use bs_net::Netlist;
 use bs_wave::{Value, Wave};
 use std::alloc::Global;
 
-/// The text of signals over moments.
+/// The text of signals over moments, with what is asked.
 fn text_of(
     alloc: Global,
+    asked: &Asked<'_>,
     signals: &[Signal<'_>],
     moments: &List<List<Value>>,
 ) -> Result<Vec<u8>, NoMemory>
-    ensures { IfOk result (λ text. text.items ≡ view_told (map signal_in signals.now) moments.now) }
+    ensures { IfOk result (λ text. text.items ≡ view_told (asked_in asked.now) (map signal_in signals.now) moments.now) }
 {
     let mut text = Vec::new(alloc);
-    push_head(&mut text, signals)?;
-    push_moments(&mut text, signals, moments)?;
+    push_head(&mut text, asked.remarks, signals)?;
+    push_moments(&mut text, signals, asked.from, moments)?;
     Ok(text)
 }
 
 /// The text of a wave over the nets of a netlist.
-fn text_over(alloc: Global, net: &Netlist, wave: &Wave) -> Result<Vec<u8>, NoMemory>
-    ensures { IfOk result (λ text. Views net.now.raw wave.now text.items) }
+fn text_over(
+    alloc: Global,
+    net: &Netlist,
+    asked: &Asked<'_>,
+    wave: &Wave,
+) -> Result<Vec<u8>, NoMemory>
+    ensures { IfOk result (λ text. Views net.now.raw (asked_in asked.now) wave.now text.items) }
 {
-    match net_signals(alloc, net) {
-        Ok(signals) => text_of(alloc, signals.as_slice(), &wave.moments),
+    match drawn_signals(alloc, net, asked) {
+        Ok(signals) => text_of(alloc, asked, signals.as_slice(), &wave.moments),
         Err(refused) => Err(refused),
     }
 }
 
-/// The waveform of a trace as a value change dump for viewers: each net at each moment of the trace, the bits of a vector as
-/// one variable, and after the first moment the values that change. It takes one pass over the gates for each moment.
+/// The waveform of a trace as a value change dump for viewers, with what is asked: each net that is drawn at each moment of the trace, in
+/// the scopes of its path, the bits of a vector as one variable, and after the first moment the values that change. It takes one pass
+/// over the gates for each moment.
+pub fn drawing(
+    alloc: Global,
+    net: &Netlist,
+    states: &List<Bits>,
+    inputs: &List<Bits>,
+    asked: &Asked<'_>,
+) -> Result<Vec<u8>, NoMemory>
+    requires { IsWayOf (circuit net.now) states.now inputs.now }
+    ensures { IfOk result (λ text. IsDrawing net.now.raw (asked_in asked.now) states.now inputs.now text.items) }
+{
+    match Wave::of(alloc, net, states, inputs) {
+        Ok(wave) => text_over(alloc, net, asked, &wave),
+        Err(refused) => Err(refused),
+    }
+}
+
+/// The same where nothing is asked: the first moment stands at time 0, and nets whose names nobody gave are not drawn.
 pub fn view_text(
     alloc: Global,
     net: &Netlist,
@@ -49,8 +75,11 @@ pub fn view_text(
     requires { IsWayOf (circuit net.now) states.now inputs.now }
     ensures { IfOk result (λ text. IsViewOf net.now.raw states.now inputs.now text.items) }
 {
-    match Wave::of(alloc, net, states, inputs) {
-        Ok(wave) => text_over(alloc, net, &wave),
-        Err(refused) => Err(refused),
-    }
+    let asked = Asked {
+        from: 0,
+        all: false,
+        only: &[],
+        remarks: b"",
+    };
+    drawing(alloc, net, states, inputs, &asked)
 }

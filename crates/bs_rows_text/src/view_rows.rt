@@ -12,10 +12,10 @@ const NAMED: &str =
     "module w(ck,d); input ck; input [1:0] d; and g(\\x[3]y ,d[0],d[1]); dff f(ck,\\a+b ,\\x[3]y ); endmodule";
 
 const BELOW_TEXT: &str =
-    "$timescale 1ns $end\n$scope module trace $end\n$var wire 2 ! \\u1.q [1:0] $end\n$var wire 1 \" a $end\n$var wire 1 # ck $end\n$upscope $end\n$enddefinitions $end\n#0\nb00 !\n1\"\n0#\n#1\nb01 !\nx\"\n";
+    "$timescale 1ns $end\n$scope module trace $end\n$scope module u1 $end\n$var wire 2 ! q [1:0] $end\n$upscope $end\n$var wire 1 \" a $end\n$var wire 1 # ck $end\n$upscope $end\n$enddefinitions $end\n#0\nb00 !\n1\"\n0#\n#1\nb01 !\nx\"\n";
 
 const NAMED_TEXT: &str =
-    "$timescale 1ns $end\n$scope module trace $end\n$var wire 1 ! \\a+b $end\n$var wire 1 \" \\x[3]y $end\n$var wire 1 # ck $end\n$var wire 2 $ d [1:0] $end\n$upscope $end\n$enddefinitions $end\n#0\n0!\n0\"\n0#\nb10 $\n#1\n1\"\nb11 $\n#2\n1!\nx\"\nbxx $\n";
+    "$timescale 1ns $end\n$scope module trace $end\n$var wire 1 ! a+b $end\n$var wire 1 \" x[3]y $end\n$var wire 1 # ck $end\n$var wire 2 $ d [1:0] $end\n$upscope $end\n$enddefinitions $end\n#0\n0!\n0\"\n0#\nb10 $\n#1\n1\"\nb11 $\n#2\n1!\nx\"\nbxx $\n";
 
 /// Netlists, states and inputs, and the waveform.
 const VIEWS: [(&str, &str, &str, &str); 2] = [

@@ -5,4 +5,4 @@ use Rattle.bs_inspect_view.specs.View.{moment_at}
 use Rattle.bs_inspect_view.proofs.moment.push_moments.Given as goal
 
 abbrev pub invariant-moments : goal.invariant-moments
-invariant-moments l = l.text.items ≡ l.initial.text.items ++ flat_map (moment_at (map signal_in l.signals) l.moments) (range_with_len 0 l.t)
+invariant-moments l = l.text.items ≡ l.initial.text.items ++ flat_map (moment_at (map signal_in l.signals) l.from l.moments) (range_with_len 0 l.t)
