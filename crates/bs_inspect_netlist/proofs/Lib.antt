@@ -3,3 +3,4 @@ pub mod TallyLemmas
 pub mod MarkLemmas
 pub mod CalledLemmas
 pub mod OrderLemmas
+pub mod DumpedLemmas

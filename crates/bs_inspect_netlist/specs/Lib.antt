@@ -4,3 +4,4 @@ pub mod Sizes
 pub mod Tallies
 pub mod Called
 pub mod Order
+pub mod Dumped

@@ -3,13 +3,14 @@
 //!
 //! Modules: `mark` and `marking` (a number for each net, from those of its gate's inputs), `bits`
 //! (lines of flip-flops and inputs), `called` (names), `tally`, `sizes`, `order` and `pattern` (a
-//! scan chain, `specs/Order`). Used above: `TellsFlops`, `TellsInputs`, `TellsKeys`, `TellsSizes`,
+//! scan chain, `specs/Order`), `dumped` (`specs/Dumped`). Used above: `TellsFlops`, `TellsInputs`, `TellsKeys`, `TellsSizes`,
 //! `order_in`, `pattern_in` and `state_line`. What a net shows through `buf` and `assign` alone, and its level, is said by each
 //! gate's equation (`specs/Marks`); something else of this kind is a variant of `Measure`.
 #![tactic(auto)]
 
 mod bits;
 mod called;
+mod dumped;
 mod fault;
 mod mark;
 mod marking;
@@ -20,6 +21,7 @@ mod tally;
 
 pub use bits::{flops_text, inputs_text};
 pub use called::{first_uncalled, first_unnamed, keys_text};
+pub use dumped::dump_text;
 pub use fault::{OrderFault, PatternFault};
 pub use order::read_order;
 pub use pattern::{read_pattern, state_text, unscan};

@@ -4,7 +4,7 @@
 /// are drawn alone, where there are any, and whole lines that stand in the head, as comments.
 #[derive(Clone, Copy)]
 pub struct Asked<'a> {
-    pub from: u32,
+    pub from: u64,
     pub all: bool,
     pub only: &'a [&'a str],
     pub remarks: &'a [u8],

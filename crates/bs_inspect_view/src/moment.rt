@@ -59,13 +59,13 @@ fn push_moment(
 fn push_at(
     text: &mut Vec<u8>,
     signals: &[Signal<'_>],
-    from: u32,
+    from: u64,
     moments: &List<List<Value>>,
     t: usize,
 ) -> Result<(), NoMemory>
     ensures { OnOk result (text.new.items ≡ text.old.items ++ moment_at (map signal_in signals.now) from moments.now t) }
 {
-    match (values_at(moments, t), u64::from(from).checked_add(t as u64)) {
+    match (values_at(moments, t), from.checked_add(t as u64)) {
         (Some(now), Some(time)) => push_moment(text, signals, time, moment_before(moments, t), now),
         (Some(_), None) => Err(NoMemory),
         (None, _) => Ok(()),
@@ -77,7 +77,7 @@ fn push_at(
 pub(crate) fn push_moments(
     text: &mut Vec<u8>,
     signals: &[Signal<'_>],
-    from: u32,
+    from: u64,
     moments: &List<List<Value>>,
 ) -> Result<(), NoMemory>
     ensures { OnOk result (text.new.items ≡ text.old.items ++ flat_map (moment_at (map signal_in signals.now) from moments.now) (range_with_len 0 (length moments.now))) }

@@ -1,0 +1,111 @@
+//! The dump at a cycle of a simulation.
+ghost use Rattle.std.specs.Prelude.{◌≡◌, ◌<◌, ◌≤◌, ◌-◌, [], length, slice_index_or, All, IfOk};
+ghost use Rattle.bs_scan.specs.Choice.{depth_of};
+ghost use Rattle.bs_scan.specs.Dump.{IsDump};
+ghost use Rattle.bs_scan.specs.DumpText.{dump_text as text_of};
+ghost use Rattle.bs_scan.specs.Signature.{signature};
+ghost use Rattle.bs_inspect_netlist.specs.Dumped.{dumped, kept_before, older_before};
+
+use bs_bits::{Bits, List, NoMemory};
+use bs_scan::{Choice, Dump};
+use std::alloc::Global;
+
+/// The state at a cycle.
+#[tactic(auto, using(crate::proofs::DumpedLemmas::at_place, crate::proofs::DumpedLemmas::wide_at))]
+fn state_at(states: &List<Bits>, cycle: usize, _width: usize) -> &Bits
+    requires there { cycle < length states.now }
+    requires wide { All (λ s. length s ≡ _width) states.now }
+    ensures is { result.now ≡ slice_index_or states.now cycle [] }
+    ensures wide { length result.now ≡ _width }
+{
+    states.get(cycle)
+}
+
+/// The signature of the state so many cycles before, if there is one.
+fn kept_before(
+    alloc: Global,
+    choice: &Choice,
+    states: &List<Bits>,
+    cycle: usize,
+    back: usize,
+) -> Result<Option<Bits>, NoMemory>
+    requires there { cycle < length states.now }
+    requires wide { All (λ s. length s ≡ choice.now.width) states.now }
+    ensures { IfOk result (λ kept. kept ≡ kept_before choice.now states.now cycle back) }
+{
+    if cycle < back {
+        return Ok(None);
+    }
+    let signature = choice.of(alloc, state_at(states, cycle - back, choice.width()))?;
+    Ok(Some(signature))
+}
+
+/// The signature of the state two cycles before, where two are kept.
+fn older_before(
+    alloc: Global,
+    choice: &Choice,
+    states: &List<Bits>,
+    cycle: usize,
+) -> Result<Option<Bits>, NoMemory>
+    requires there { cycle < length states.now }
+    requires wide { All (λ s. length s ≡ choice.now.width) states.now }
+    ensures { IfOk result (λ kept. kept ≡ older_before choice.now states.now cycle) }
+{
+    if choice.depth() == 2 {
+        kept_before(alloc, choice, states, cycle, 2)
+    } else {
+        Ok(None)
+    }
+}
+
+/// The dump at a cycle.
+fn dump_at(
+    alloc: Global,
+    choice: &Choice,
+    states: &List<Bits>,
+    cycle: usize,
+) -> Result<Dump, NoMemory>
+    requires there { cycle < length states.now }
+    requires wide { All (λ s. length s ≡ choice.now.width) states.now }
+    ensures is { IfOk result (λ dump. dump ≡ dumped choice.now states.now cycle) }
+{
+    let state = state_at(states, cycle, choice.width()).copy()?;
+    let stored = kept_before(alloc, choice, states, cycle, 1)?;
+    let older = older_before(alloc, choice, states, cycle)?;
+    Ok(Dump {
+        state,
+        stored,
+        older,
+        depth: choice.depth(),
+    })
+}
+
+/// The text of a dump.
+fn text_of(alloc: Global, dump: &Dump) -> Result<Vec<u8>, NoMemory>
+    requires { IsDump dump.now }
+    ensures { IfOk result (λ text. text.items ≡ text_of dump.now) }
+{
+    let mut text = Vec::new(alloc);
+    dump.text(&mut text)?;
+    Ok(text)
+}
+
+/// The dump of a chip at a cycle of a simulation, by the states of its cycles from reset on, each as it was just before the edge
+/// that ends the cycle: the state, and the signatures that a register of this choice holds there (docs/FORMATS.md, "Dump").
+#[tactic(auto, using(crate::proofs::DumpedLemmas::dump_is))]
+pub fn dump_text(
+    alloc: Global,
+    choice: &Choice,
+    states: &List<Bits>,
+    cycle: usize,
+) -> Result<Vec<u8>, NoMemory>
+    requires there { cycle < length states.now }
+    requires wide { All (λ s. length s ≡ choice.now.width) states.now }
+    ensures { IfOk result (λ text. text.items ≡ text_of (dumped choice.now states.now cycle)) }
+{
+    let _depth = choice.depth();
+    match dump_at(alloc, choice, states, cycle) {
+        Ok(dump) => text_of(alloc, &dump),
+        Err(refused) => Err(refused),
+    }
+}
