@@ -15,7 +15,7 @@ mod signal;
 mod steps;
 mod trace;
 
-pub use keys::input_keys;
+pub use keys::{flop_keys, input_keys};
 pub use known::first_unknown;
 pub use steps::steps_text;
 pub use trace::trace_text;
