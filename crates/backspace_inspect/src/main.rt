@@ -1,4 +1,5 @@
-//! The command line tool `backspace_inspect`, which tells about the files of `backspace`.
+//! The command line tool `backspace_inspect`, which tells about the files of `backspace`. Its answer is all that standard output gets, and
+//! a note for a person follows on standard error.
 #![tactic(auto)]
 
 use bs_inspect::run_program;
@@ -22,8 +23,12 @@ fn given_words(rt: &HostRuntime, alloc: Global) -> Result<Vec<String>, ErrorKind
 
 fn main(rt: HostRuntime) -> ExitCode {
     let alloc = rt.alloc();
-    let words = given_words(&rt, alloc);
-    let mut shelf = FileShelf::new(&rt);
-    let mut out = StdSink::new(&rt);
-    ExitCode::from(run_program(alloc, words, &mut shelf, &mut out))
+    let error = rt.stderr();
+    ExitCode::from(run_program(
+        alloc,
+        given_words(&rt, alloc),
+        &mut FileShelf::new(&rt),
+        &mut StdSink::new(&rt),
+        &mut StdSink::new(&error),
+    ))
 }

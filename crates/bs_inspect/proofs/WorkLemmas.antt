@@ -1,18 +1,27 @@
--- Work that is done has a status of its own kind, and what stands where memory ran out before anything.
-use Rattle.std.proofs.Common.{◌≡◌, ℕ, true, List, Some, Result, Ok, refl, ap, sym, subst, ◌∙◌}
-use Rattle.std.specs.Prelude.{IfOk}
+-- Work that is done has a status of its own kind; and the answers to requests, with what is said of them.
+use Rattle.std.proofs.Common.{◌≡◌, ℕ, true, List, Option, Some, Result, Ok, Err, refl, ap, sym, subst, ◌∙◌}
+use Rattle.std.specs.Prelude.{IfOk, option_map}
 use Rattle.bs_bits.specs.declared.memory.NoMemory.{NoMemory}
 use Rattle.bs_outside.specs.Calls.{FetchCall}
-use Rattle.bs_top_plan.specs.declared.status.Status.{Status}
+use Rattle.bs_top_plan.specs.declared.file.File.{File}
 use Rattle.bs_top_plan.specs.declared.reply.Reply.{Reply}
+use Rattle.bs_top_plan.specs.declared.status.Status.{Status}
+use Rattle.bs_top_plan.specs.declared.told.Stop.{Stop}
 use Rattle.bs_top_plan.specs.Files.{is_work_status}
 use Rattle.bs_top_plan.specs.Plan.{Tells, Counts, Plan, end}
-use Rattle.bs_top_plan.proofs.Walking.{walks_end}
-use Rattle.bs_top_plan.specs.Walks.{Walks}
-use Rattle.bs_top_plan.specs.Prepared.{Prepared, IsWork}
-use Rattle.bs_top_plan.proofs.Preparing.{prepares_work}
+use Rattle.bs_top_plan.specs.Prepared.{AnswersStop, IsWork}
+use Rattle.bs_top_plan.specs.Telling.{WalksTold}
+use Rattle.bs_top_plan.specs.Told.{line_stop, note_stop}
+use Rattle.bs_top_plan.proofs.TellingLemmas.{told_end}
+use Rattle.bs_top_answer.specs.declared.note.Answer.{Answer}
+use Rattle.bs_top_answer.specs.Prepared.{NoteAlong, PreparedNoted}
+use Rattle.bs_top_answer.specs.Stops.{StopNoted}
+use Rattle.bs_top_answer.proofs.AnswerLemmas.{told_stopped, told_work}
+use Rattle.bs_top_files.specs.NoteCases.{NoteCase, NoteSays}
 use Rattle.bs_top_files.specs.Refusals.{Case, CheckSays}
 use Rattle.bs_top_words.specs.Request.{Request}
+use Rattle.bs_inspect.specs.Said.{RequestSaid, silent, WordsSaid, WorkSaid}
+use Rattle.bs_inspect.specs.Sources.{Sources, source_of}
 use Rattle.bs_inspect.specs.Work.{Work, plan_of, to_help, to_version, to_flops, to_inputs, to_stats, to_steps, to_trace, to_run, to_wave, to_signature}
 use Rattle.bs_inspect.specs.Finishes.{finishes}
 
@@ -31,29 +40,64 @@ work_status (to_signature items exercised) status text done = ap is_work_status 
 pub is_work : IsWork finishes
 is_work = record { status = work_status }
 
--- the work that a walk made ready for, if it is done
-pub prepares_done : {S T : Type 0} {held : S → Tells} {faults : S → Counts} {leads : S → FetchCall → S →
-    Type 0} {before now : S} {plan : Plan Case Work} {view : T → Work} {t : T} (r : Result Reply NoMemory) →
-    Walks CheckSays held faults leads before now plan view (Ok t) → IfOk r (λ answer. finishes (view t) answer.status answer.text.items) →
-    Prepared CheckSays finishes held faults leads before now (Some plan) r
-prepares_done r walks done = prepares_work r is_work walks done
+-- a reply with no note on it
+silent_done : (finish : Status → List ℕ → Type 0) (r : Result Reply NoMemory) → IfOk r (λ a. finish a.status a.text.items) →
+    IfOk (silent r) (λ a. finish a.reply.status a.reply.text.items)
+silent_done finish (Ok reply) done = done
+silent_done finish (Err want) done = tt
+
+silent_said : (work : Work) (r : Result Reply NoMemory) → IfOk (silent r) (λ a. WorkSaid work a.reply.text.items a.note)
+silent_said work (Ok reply) = refl
+silent_said work (Err want) = tt
+
+-- work that a walk made ready for, on which there is no note
+pub told_done : {S T : Type 0} {held : S → Tells} {faults : S → Counts} {leads : S → FetchCall → S → Type 0} {before now : S} {plan : Plan Case Work}
+    {looked : Plan NoteCase Work} {view : T → Work} {t : T} (path_of : File → List ℕ) (r : Result Reply NoMemory) (answer : Result Answer NoMemory) →
+    answer ≡ silent r → WalksTold CheckSays NoteSays held faults leads before now plan looked view view (Ok t) →
+    IfOk r (λ a. finishes (view t) a.status a.text.items) →
+    PreparedNoted CheckSays finishes (NoteAlong NoteSays WorkSaid path_of looked) held faults leads before now (Some plan) answer
+told_done {held = held} {faults = faults} {leads = leads} {before = before} {now = now} {plan = plan} {looked = looked} {view = view} {t = t} path_of r answer
+    same walks done =
+    subst (PreparedNoted CheckSays finishes (NoteAlong NoteSays WorkSaid path_of looked) held faults leads before now (Some plan)) (sym same)
+    (told_work WorkSaid path_of (silent r) is_work walks (silent_done (finishes (view t)) r done) (silent_said (view t) r))
+
+-- a walk that stopped, with the names of these files
+pub told_stop_at : {S T : Type 0} {held : S → Tells} {faults : S → Counts} {leads : S → FetchCall → S → Type 0} {before now : S} {plan : Plan Case Work}
+    {looked : Plan NoteCase Work} {view : T → Work} {stop : Stop} (given sources : Sources) (r : Result Answer NoMemory) → given ≡ sources →
+    WalksTold CheckSays NoteSays held faults leads before now plan looked view view (Err stop) →
+    IfOk r (λ a. AnswersStop (line_stop stop) a.reply.status a.reply.text.items) → IfOk r (λ a. StopNoted (source_of given) (note_stop stop) a.note) →
+    PreparedNoted CheckSays finishes (NoteAlong NoteSays WorkSaid (source_of sources) looked) held faults leads before now (Some plan) r
+told_stop_at {stop = stop} given sources r same walks line says =
+    told_stopped finishes WorkSaid (source_of sources) r walks line
+    (subst (λ (n : Sources). IfOk r (λ a. StopNoted (source_of n) (note_stop stop) a.note)) same says)
 
 -- the answer to a request of no file
-pub prepares_end : {S : Type 0} {held : S → Tells} {faults : S → Counts} {leads : S → FetchCall → S → Type 0} {before : S} (work : Work)
-    (r : Result Reply NoMemory) → IfOk r (λ answer. finishes work answer.status answer.text.items) →
-    Prepared CheckSays finishes held faults leads before before (Some (end work)) r
-prepares_end work r done = prepares_done {T = Work} {view = λ w. w} {t = work} r walks_end done
+pub told_alone : {S : Type 0} {held : S → Tells} {faults : S → Counts} {leads : S → FetchCall → S → Type 0} {before : S} (work : Work)
+    (path_of : File → List ℕ) (r : Result Reply NoMemory) (answer : Result Answer NoMemory) → answer ≡ silent r →
+    IfOk r (λ a. finishes work a.status a.text.items) →
+    PreparedNoted CheckSays finishes (NoteAlong NoteSays WorkSaid path_of (end work)) held faults leads before before (Some (end work)) answer
+told_alone {held = held} {faults = faults} {leads = leads} {before = before} work path_of r answer same done =
+    told_done {T = Work} {view = λ w. w} {t = work} path_of r answer same told_end done
 
 -- the answer to a request, where it is this one
-pub prepared_asked : {S : Type 0} {held : S → Tells} {faults : S → Counts} {leads : S → FetchCall → S → Type 0} {before now : S} (r : Result Reply NoMemory)
-    (asked request : Request) → asked ≡ request → Prepared CheckSays finishes held faults leads before now (Some (plan_of request)) r →
-    Prepared CheckSays finishes held faults leads before now (Some (plan_of asked)) r
-prepared_asked {held = held} {faults = faults} {leads = leads} {before = before} {now = now} r asked request e h =
-    subst (λ (q : Request). Prepared CheckSays finishes held faults leads before now (Some (plan_of q)) r) (sym e) h
+pub noted_asked : {S : Type 0} {held : S → Tells} {faults : S → Counts} {leads : S → FetchCall → S → Type 0} {before now : S} (r : Result Answer NoMemory)
+    (asked request : Request) → asked ≡ request →
+    PreparedNoted CheckSays finishes (RequestSaid request) held faults leads before now (Some (plan_of request)) r →
+    PreparedNoted CheckSays finishes (RequestSaid asked) held faults leads before now (Some (plan_of asked)) r
+noted_asked {held = held} {faults = faults} {leads = leads} {before = before} {now = now} r asked request e h =
+    subst (λ (q : Request). PreparedNoted CheckSays finishes (RequestSaid q) held faults leads before now (Some (plan_of q)) r) (sym e) h
 
--- the answer to the plan of something, where that is this
-pub prepared_with : {A S : Type 0} {held : S → Tells} {faults : S → Counts} {leads : S → FetchCall → S → Type 0} {before now : S} (plan : A →
-    Plan Case Work) (a b : A) (r : Result Reply NoMemory) → a ≡ b → Prepared CheckSays finishes held faults leads before now (Some (plan b)) r →
-    Prepared CheckSays finishes held faults leads before now (Some (plan a)) r
-prepared_with {A = A} {held = held} {faults = faults} {leads = leads} {before = before} {now = now} plan a b r is h =
-    subst (λ (x : A). Prepared CheckSays finishes held faults leads before now (Some (plan x)) r) (sym is) h
+-- the answer to a request of these names, where it is of those
+pub noted_with : {A S : Type 0} {held : S → Tells} {faults : S → Counts} {leads : S → FetchCall → S → Type 0} {before now : S} (request : A → Request)
+    (a b : A) (r : Result Answer NoMemory) → a ≡ b →
+    PreparedNoted CheckSays finishes (RequestSaid (request b)) held faults leads before now (Some (plan_of (request b))) r →
+    PreparedNoted CheckSays finishes (RequestSaid (request a)) held faults leads before now (Some (plan_of (request a))) r
+noted_with request a b r is h = noted_asked r (request a) (request b) (ap request is) h
+
+-- the answer to words that are this
+pub noted_words_as : {S : Type 0} {held : S → Tells} {faults : S → Counts} {leads : S → FetchCall → S → Type 0} {before now : S} (words : List (List ℕ))
+    (read asked : Option Request) (r : Result Answer NoMemory) → read ≡ asked →
+    PreparedNoted CheckSays finishes (WordsSaid words read) held faults leads before now (option_map plan_of read) r →
+    PreparedNoted CheckSays finishes (WordsSaid words asked) held faults leads before now (option_map plan_of asked) r
+noted_words_as {held = held} {faults = faults} {leads = leads} {before = before} {now = now} words read asked r e h =
+    subst (λ (o : Option Request). PreparedNoted CheckSays finishes (WordsSaid words o) held faults leads before now (option_map plan_of o) r) e h

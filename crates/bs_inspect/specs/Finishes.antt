@@ -2,7 +2,7 @@
 use Rattle.std.specs.Prelude.{◌≡◌, ℕ, List}
 use Rattle.bs_top_plan.specs.declared.status.Status.{Status}
 use Rattle.bs_top_plan.specs.declared.status.Status.TheVariants.{Done}
-use Rattle.bs_alias.specs.Run.{simulated}
+use Rattle.bs_inspect_files.specs.Run.{simulated}
 use Rattle.bs_stim.specs.StimulusText.{run_text}
 use Rattle.bs_inspect_view.specs.View.{IsViewOf}
 use Rattle.bs_inspect_proposal.specs.Proposal.{TellsProposal}

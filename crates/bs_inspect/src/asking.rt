@@ -1,62 +1,78 @@
 //! The answer to each request: its files are taken, and what they tell is told.
 ghost use Rattle.std.specs.Prelude.{◌≡◌, Some};
-ghost use Rattle.bs_top_plan.specs.Prepared.{Prepared};
+ghost use Rattle.bs_top_answer.specs.Prepared.{PreparedNoted};
 ghost use Rattle.bs_top_files.specs.Refusals.{CheckSays};
-ghost use Rattle.bs_top_words.specs.Request.{Flops as FlopsOf, Help as HelpOf, Inputs as InputsOf, Signature as SignatureOf, Stats as StatsOf, Steps as StepsOf, Stimulus as StimulusOf, Trace as TraceOf, Version as VersionOf, Wave as WaveOf};
+ghost use Rattle.bs_top_words.specs.Request.{Flops as FlopsOf, Inputs as InputsOf, Signature as SignatureOf, Stats as StatsOf, Steps as StepsOf, Stimulus as StimulusOf, Trace as TraceOf, Wave as WaveOf};
 ghost use Rattle.bs_top_words.specs.Asked.{request_in, signature_in, stimulus_in, trace_in, wave_in};
 ghost use Rattle.bs_inspect.specs.Finishes.{finishes};
+ghost use Rattle.bs_inspect.specs.Said.{RequestSaid, silent};
 ghost use Rattle.bs_inspect.specs.Work.{plan_of};
 
+use crate::sources::{
+    netlist_source, report_source, runs_sources, stop_at, traced_sources, values_sources,
+};
 use crate::telling::{
     tell_flops, tell_inputs, tell_run, tell_signature, tell_stats, tell_steps, tell_trace,
     tell_usage, tell_version, tell_wave,
 };
-use bs_inspect_files::{
-    Sampling, take_charted, take_exercised, take_picked, take_report, take_simulated,
-};
+use bs_inspect_files::{Sampling, load_charted, load_exercised, load_picked, load_simulated};
 use bs_outside::{NoMemory, Shelf};
-use bs_top_files::take_netlist;
-use bs_top_plan::{Reply, stopped};
+use bs_top_answer::{Answer, Note};
+use bs_top_files::{load_netlist, load_report};
+use bs_top_plan::Reply;
 use bs_top_words::{Request, SignatureRequest, StimulusRequest, TraceRequest, WaveRequest};
 use std::alloc::Global;
 
-/// The answer to `flops`.
-fn flops<S: Shelf>(alloc: Global, shelf: &mut S, netlist: &str) -> Result<Reply, NoMemory>
-    ensures { Prepared CheckSays finishes S.held S.faults S.leads shelf.old shelf.new (Some (plan_of (FlopsOf netlist.now))) result }
+/// A reply on which there is no note.
+fn silent(reply: Result<Reply, NoMemory>) -> Result<Answer, NoMemory>
+    ensures { result ≡ silent reply }
 {
-    match take_netlist(alloc, shelf, netlist) {
-        Ok(net) => tell_flops(alloc, &net),
-        Err(stop) => stopped(alloc, stop),
+    match reply {
+        Ok(reply) => Ok(Answer {
+            reply,
+            note: Note::Silent,
+        }),
+        Err(want) => Err(want),
+    }
+}
+
+/// The answer to `flops`.
+fn flops<S: Shelf>(alloc: Global, shelf: &mut S, netlist: &str) -> Result<Answer, NoMemory>
+    ensures { PreparedNoted CheckSays finishes (RequestSaid (FlopsOf netlist.now)) S.held S.faults S.leads shelf.old shelf.new (Some (plan_of (FlopsOf netlist.now))) result }
+{
+    match load_netlist(alloc, shelf, netlist) {
+        Ok(net) => silent(tell_flops(alloc, &net)),
+        Err(stop) => stop_at(alloc, netlist_source(netlist), shelf.reason(), stop),
     }
 }
 
 /// The answer to `inputs`.
-fn inputs<S: Shelf>(alloc: Global, shelf: &mut S, netlist: &str) -> Result<Reply, NoMemory>
-    ensures { Prepared CheckSays finishes S.held S.faults S.leads shelf.old shelf.new (Some (plan_of (InputsOf netlist.now))) result }
+fn inputs<S: Shelf>(alloc: Global, shelf: &mut S, netlist: &str) -> Result<Answer, NoMemory>
+    ensures { PreparedNoted CheckSays finishes (RequestSaid (InputsOf netlist.now)) S.held S.faults S.leads shelf.old shelf.new (Some (plan_of (InputsOf netlist.now))) result }
 {
-    match take_netlist(alloc, shelf, netlist) {
-        Ok(net) => tell_inputs(alloc, &net),
-        Err(stop) => stopped(alloc, stop),
+    match load_netlist(alloc, shelf, netlist) {
+        Ok(net) => silent(tell_inputs(alloc, &net)),
+        Err(stop) => stop_at(alloc, netlist_source(netlist), shelf.reason(), stop),
     }
 }
 
 /// The answer to `stats`.
-fn stats<S: Shelf>(alloc: Global, shelf: &mut S, netlist: &str) -> Result<Reply, NoMemory>
-    ensures { Prepared CheckSays finishes S.held S.faults S.leads shelf.old shelf.new (Some (plan_of (StatsOf netlist.now))) result }
+fn stats<S: Shelf>(alloc: Global, shelf: &mut S, netlist: &str) -> Result<Answer, NoMemory>
+    ensures { PreparedNoted CheckSays finishes (RequestSaid (StatsOf netlist.now)) S.held S.faults S.leads shelf.old shelf.new (Some (plan_of (StatsOf netlist.now))) result }
 {
-    match take_netlist(alloc, shelf, netlist) {
-        Ok(net) => tell_stats(alloc, &net),
-        Err(stop) => stopped(alloc, stop),
+    match load_netlist(alloc, shelf, netlist) {
+        Ok(net) => silent(tell_stats(alloc, &net)),
+        Err(stop) => stop_at(alloc, netlist_source(netlist), shelf.reason(), stop),
     }
 }
 
 /// The answer to `steps`.
-fn steps<S: Shelf>(alloc: Global, shelf: &mut S, report: &str) -> Result<Reply, NoMemory>
-    ensures { Prepared CheckSays finishes S.held S.faults S.leads shelf.old shelf.new (Some (plan_of (StepsOf report.now))) result }
+fn steps<S: Shelf>(alloc: Global, shelf: &mut S, report: &str) -> Result<Answer, NoMemory>
+    ensures { PreparedNoted CheckSays finishes (RequestSaid (StepsOf report.now)) S.held S.faults S.leads shelf.old shelf.new (Some (plan_of (StepsOf report.now))) result }
 {
-    match take_report(alloc, shelf, report) {
-        Ok(told) => tell_steps(alloc, &told),
-        Err(stop) => stopped(alloc, stop),
+    match load_report(alloc, shelf, report) {
+        Ok(told) => silent(tell_steps(alloc, &told)),
+        Err(stop) => stop_at(alloc, report_source(report), shelf.reason(), stop),
     }
 }
 
@@ -65,13 +81,18 @@ fn trace<S: Shelf>(
     alloc: Global,
     shelf: &mut S,
     asked: &TraceRequest<'_>,
-) -> Result<Reply, NoMemory>
-    ensures { Prepared CheckSays finishes S.held S.faults S.leads shelf.old shelf.new (Some (plan_of (TraceOf (trace_in asked.now)))) result }
+) -> Result<Answer, NoMemory>
+    ensures { PreparedNoted CheckSays finishes (RequestSaid (TraceOf (trace_in asked.now))) S.held S.faults S.leads shelf.old shelf.new (Some (plan_of (TraceOf (trace_in asked.now)))) result }
 {
     let only = asked.only.as_slice();
-    match take_picked(alloc, shelf, asked.netlist, asked.report, only) {
-        Ok(traced) => tell_trace(alloc, &traced, asked.all, only),
-        Err(stop) => stopped(alloc, stop),
+    match load_picked(alloc, shelf, asked.netlist, asked.report, only) {
+        Ok(traced) => silent(tell_trace(alloc, &traced, asked.all, only)),
+        Err(stop) => stop_at(
+            alloc,
+            traced_sources(asked.netlist, asked.report),
+            shelf.reason(),
+            stop,
+        ),
     }
 }
 
@@ -80,27 +101,32 @@ fn stimulus<S: Shelf>(
     alloc: Global,
     shelf: &mut S,
     asked: &StimulusRequest<'_>,
-) -> Result<Reply, NoMemory>
-    ensures { Prepared CheckSays finishes S.held S.faults S.leads shelf.old shelf.new (Some (plan_of (StimulusOf (stimulus_in asked.now)))) result }
+) -> Result<Answer, NoMemory>
+    ensures { PreparedNoted CheckSays finishes (RequestSaid (StimulusOf (stimulus_in asked.now))) S.held S.faults S.leads shelf.old shelf.new (Some (plan_of (StimulusOf (stimulus_in asked.now)))) result }
 {
     let sampling = Sampling {
         vcd: asked.vcd,
         clock: asked.clock,
         scope: asked.scope,
     };
-    match take_simulated(alloc, shelf, asked.netlist, asked.names, sampling) {
-        Ok(lines) => tell_run(alloc, &lines),
-        Err(stop) => stopped(alloc, stop),
+    match load_simulated(alloc, shelf, asked.netlist, asked.names, sampling) {
+        Ok(lines) => silent(tell_run(alloc, &lines)),
+        Err(stop) => stop_at(alloc, values_sources(asked), shelf.reason(), stop),
     }
 }
 
 /// The answer to `wave`.
-fn wave<S: Shelf>(alloc: Global, shelf: &mut S, asked: &WaveRequest<'_>) -> Result<Reply, NoMemory>
-    ensures { Prepared CheckSays finishes S.held S.faults S.leads shelf.old shelf.new (Some (plan_of (WaveOf (wave_in asked.now)))) result }
+fn wave<S: Shelf>(alloc: Global, shelf: &mut S, asked: &WaveRequest<'_>) -> Result<Answer, NoMemory>
+    ensures { PreparedNoted CheckSays finishes (RequestSaid (WaveOf (wave_in asked.now))) S.held S.faults S.leads shelf.old shelf.new (Some (plan_of (WaveOf (wave_in asked.now)))) result }
 {
-    match take_charted(alloc, shelf, asked.netlist, asked.report) {
-        Ok(traced) => tell_wave(alloc, &traced),
-        Err(stop) => stopped(alloc, stop),
+    match load_charted(alloc, shelf, asked.netlist, asked.report) {
+        Ok(traced) => silent(tell_wave(alloc, &traced)),
+        Err(stop) => stop_at(
+            alloc,
+            traced_sources(asked.netlist, asked.report),
+            shelf.reason(),
+            stop,
+        ),
     }
 }
 
@@ -109,26 +135,27 @@ fn signature<S: Shelf>(
     alloc: Global,
     shelf: &mut S,
     asked: &SignatureRequest<'_>,
-) -> Result<Reply, NoMemory>
-    ensures { Prepared CheckSays finishes S.held S.faults S.leads shelf.old shelf.new (Some (plan_of (SignatureOf (signature_in asked.now)))) result }
+) -> Result<Answer, NoMemory>
+    ensures { PreparedNoted CheckSays finishes (RequestSaid (SignatureOf (signature_in asked.now))) S.held S.faults S.leads shelf.old shelf.new (Some (plan_of (SignatureOf (signature_in asked.now)))) result }
 {
-    match take_exercised(alloc, shelf, asked.netlist, asked.runs) {
-        Ok(exercised) => tell_signature(alloc, &exercised, asked.items),
-        Err(stop) => stopped(alloc, stop),
+    match load_exercised(alloc, shelf, asked.netlist, asked.runs) {
+        Ok(exercised) => silent(tell_signature(alloc, &exercised, asked.items)),
+        Err(stop) => stop_at(alloc, runs_sources(asked), shelf.reason(), stop),
     }
 }
 
-/// What is to be answered and written for a request.
-pub(crate) fn prepare<S: Shelf>(
+/// What is to be answered and written for a request, and what is to be said.
+pub(crate) fn request_answer<S: Shelf>(
     alloc: Global,
     request: &Request<'_>,
     shelf: &mut S,
-) -> Result<Reply, NoMemory>
-    ensures { Prepared CheckSays finishes S.held S.faults S.leads shelf.old shelf.new (Some (plan_of (request_in request.now))) result }
+) -> Result<Answer, NoMemory>
+    ensures { PreparedNoted CheckSays finishes (RequestSaid (request_in request.now)) S.held S.faults S.leads shelf.old shelf.new
+        (Some (plan_of (request_in request.now))) result }
 {
     match request {
-        Request::Help => tell_usage(alloc),
-        Request::Version => tell_version(alloc),
+        Request::Help => silent(tell_usage(alloc)),
+        Request::Version => silent(tell_version(alloc)),
         Request::Flops(netlist) => flops(alloc, shelf, netlist),
         Request::Inputs(netlist) => inputs(alloc, shelf, netlist),
         Request::Stats(netlist) => stats(alloc, shelf, netlist),

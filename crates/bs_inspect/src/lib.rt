@@ -1,17 +1,22 @@
-//! The call of the program that tells about a job's files: the plan of each request, and what is answered and written when it is done.
+//! The call of the program that tells about a job's files: the plan of each request, what is answered and written when it is done, and
+//! the note on that for a person.
 //!
-//! Modules: `usage`, `telling` (what is told, as an answer), `asking` (the answer to each request),
-//! `top` (`inspect`), `program` (up to the exit code). Used above: `AnswersRequest` of `inspect`
-//! (`specs/Answers`): a request has the clauses that `backspace` has, over `plan_of` (`specs/Work`)
-//! and `finishes` (`specs/Finishes`); other words show the usage. A command: a request, an arm in
-//! each of these and in `prepare`, its answer in `telling`, and a line of `usage`.
+//! Modules: `usage`, `telling` (what is told, as a reply), `sources` (the names of the files, for
+//! notes), `asked` (the words), `asking` (the answer to each request), `top` (`inspect_noted`, and
+//! `inspect`, where nobody hears the note), `program` (up to the exit code). Used above:
+//! `AnswersWords` (`specs/Answers`): the clauses that `backspace` has, over `plan_of` (`specs/Work`)
+//! and `finishes` (`specs/Finishes`); and `CallNoted` over `WordsSaid` (`specs/Said`). A command: a
+//! request, an arm in each of these and in `request_answer`, its reply in `telling`, and a line of
+//! `usages` (bs_inspect_notes).
 #![tactic(auto)]
 
+mod asked;
 mod asking;
 mod program;
+mod sources;
 mod telling;
 mod top;
 mod usage;
 
 pub use program::run_program;
-pub use top::inspect;
+pub use top::{inspect, inspect_noted};

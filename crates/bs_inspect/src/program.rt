@@ -1,10 +1,13 @@
 //! The program: all that stands behind the words of its command line, up to the exit code.
 ghost use Rattle.std.specs.Prelude.{◌≡◌, map, string_bytes, IfOk, IfErr};
 ghost use Rattle.bs_top_plan.specs.Statuses.{exit_code};
-ghost use Rattle.bs_inspect.specs.Program.{EndsBy, EndsUnread};
+ghost use Rattle.bs_outside.specs.Texts.{output};
+ghost use Rattle.bs_inspect.specs.Program.{EndsBy, EndsUnread, SaysUnread, UnreadSaid};
 
-use crate::top::inspect;
+use crate::top::{inspect_noted, say_memory};
+use bs_inspect_notes::unread_note;
 use bs_outside::{NoMemory, Shelf, Sink};
+use bs_top_answer::{note_made, put_note};
 use bs_top_plan::{NO_MEMORY_CODE, Status};
 use std::alloc::Global;
 use std::io::ErrorKind;
@@ -19,42 +22,58 @@ fn exit_code(answer: Result<Status, NoMemory>) -> u8
     }
 }
 
-/// The exit code where the words can't be told.
-fn unread_code(kind: ErrorKind) -> u8
-    ensures { EndsUnread kind result }
+/// Says that the words of the command line are no text.
+fn say_unread<N: Sink>(alloc: Global, notes: &mut N)
+    ensures { SaysUnread (output N.written N.faults N.leads) notes.old notes.new }
+{
+    let note = note_made(unread_note(alloc));
+    put_note(notes, &note);
+}
+
+/// The exit code where the words can't be told, and the note on that.
+fn unread_code<N: Sink>(alloc: Global, kind: ErrorKind, notes: &mut N) -> u8
+    ensures code { EndsUnread kind result }
+    ensures said { UnreadSaid kind (output N.written N.faults N.leads) notes.old notes.new }
 {
     if let ErrorKind::OutOfMemory = kind {
+        say_memory(notes);
         NO_MEMORY_CODE
     } else {
+        say_unread(alloc, notes);
         Status::Words.code()
     }
 }
 
 /// The exit code for words.
-fn answer_words<S: Shelf, K: Sink>(
+fn answer_words<S: Shelf, K: Sink, N: Sink>(
     alloc: Global,
     words: &[String],
     shelf: &mut S,
     out: &mut K,
+    notes: &mut N,
 ) -> u8
-    ensures { EndsBy S.held S.faults S.leads shelf.old shelf.new K.written K.faults K.leads out.old out.new (map string_bytes words.now) result }
+    ensures { EndsBy S.held S.faults S.leads shelf.old shelf.new K.written K.faults K.leads out.old out.new
+        (output N.written N.faults N.leads) notes.old notes.new (map string_bytes words.now) result }
 {
-    exit_code(inspect(alloc, words, shelf, out))
+    exit_code(inspect_noted(alloc, words, shelf, out, notes))
 }
 
 /// Does what the words of the command line ask, without the program's name, or tells by the exit code why there are none, by the
-/// kind of their fault.
-pub fn run_program<S: Shelf, K: Sink>(
+/// kind of their fault. The exit code is that of the answer, and the note on that very answer goes to a sink of its own.
+pub fn run_program<S: Shelf, K: Sink, N: Sink>(
     alloc: Global,
     words: Result<Vec<String>, ErrorKind>,
     shelf: &mut S,
     out: &mut K,
+    notes: &mut N,
 ) -> u8
-    ensures words { IfOk words (λ words. EndsBy S.held S.faults S.leads shelf.old shelf.new K.written K.faults K.leads out.old out.new (map string_bytes words.items) result) }
+    ensures words { IfOk words (λ words. EndsBy S.held S.faults S.leads shelf.old shelf.new K.written K.faults K.leads out.old out.new
+        (output N.written N.faults N.leads) notes.old notes.new (map string_bytes words.items) result) }
     ensures unread { IfErr words (λ kind. EndsUnread kind result × (shelf.new ≡ shelf.old) × (out.new ≡ out.old)) }
+    ensures unread_said { IfErr words (λ kind. UnreadSaid kind (output N.written N.faults N.leads) notes.old notes.new) }
 {
     match words {
-        Ok(words) => answer_words(alloc, &words, shelf, out),
-        Err(kind) => unread_code(kind),
+        Ok(words) => answer_words(alloc, &words, shelf, out, notes),
+        Err(kind) => unread_code(alloc, kind, notes),
     }
 }

@@ -5,9 +5,8 @@ ghost use Rattle.bs_inspect.specs.Finishes.{finishes};
 ghost use Rattle.bs_inspect.specs.Work.{to_flops, to_help, to_inputs, to_run, to_signature, to_stats, to_steps, to_trace, to_version, to_wave};
 
 use crate::usage::{usage_text, version_text};
-use bs_alias::run_text;
 use bs_bits::{Bits, List};
-use bs_inspect_files::{Exercised, Traced};
+use bs_inspect_files::{Exercised, Traced, run_text};
 use bs_inspect_netlist::{flops_text, inputs_text, stats_text};
 use bs_inspect_proposal::proposal_text;
 use bs_inspect_report::{steps_text, trace_text};

@@ -1,3 +1,5 @@
+pub mod NameLemmas
+pub mod RunLemmas
 pub mod KeyLemmas
 pub mod FitLemmas
 pub mod ValueLemmas

@@ -1,13 +1,16 @@
 -- A run of a stimulus out of the values of a simulator.
 use Rattle.std.specs.Prelude.{ℕ, nat_lt, Bool, List, length, Option, Some, None, Result, Ok, Err, if◌then◌else◌}
-use Rattle.bs_alias.specs.Names.{map_in}
+use Rattle.bs_inspect_files.specs.Names.{map_in}
 use Rattle.bs_inspect_vcd.specs.Sources.{stimulus_in}
 use Rattle.bs_stim.specs.declared.limits.TheConstants.{MAX_CYCLES}
 use Rattle.bs_inspect_report.specs.Keys.{input_keys}
 use Rattle.bs_top_plan.specs.declared.file.File.TheVariants as files
 use Rattle.bs_top_plan.specs.Plan.{Reason, Plan, ◌>>=◌, fetched, read_as}
 use Rattle.bs_top_files.specs.Entry.{netlist_of}
+use Rattle.bs_top_files.specs.Looking.{netlist_looked}
+use Rattle.bs_top_files.specs.NoteCases.{NoteCase}
 use Rattle.bs_top_files.specs.Refusals.{Case, with_reason}
+use Rattle.bs_inspect_files.specs.Saying.{lines_noted, names_noted}
 use Rattle.bs_inspect_files.specs.Words.{map_reason, vcd_reason, cycles_reason}
 
 -- the names that inputs with these keys have in a simulation
@@ -47,3 +50,39 @@ abbrev pub simulated_of : (netlist : List ℕ) (names : Option (List ℕ)) (vcd 
 simulated_of netlist names vcd clock scope = do
   raw ← netlist_of netlist
   run_of (input_keys raw) names vcd clock scope
+
+-- ---- the same as the notes see them
+
+abbrev pub values_looked : (keys names : List (List ℕ)) (vcd clock : List ℕ) (scope : Option (List ℕ)) → Plan NoteCase (List (List Bool))
+values_looked keys names vcd clock scope = do
+  text ← fetched files.Vcd vcd
+  read_as files.Vcd (lines_noted vcd keys names scope clock text)
+
+abbrev pub names_looked : List (List ℕ) → List ℕ → Plan NoteCase (List (List ℕ))
+names_looked keys name = do
+  text ← fetched files.Map name
+  read_as files.Map (names_noted name keys text)
+
+abbrev pub run_looked : List (List ℕ) → Option (List ℕ) → (vcd clock : List ℕ) (scope : Option (List ℕ)) → Plan NoteCase (List (List Bool))
+run_looked keys None vcd clock scope = values_looked keys keys vcd clock scope
+run_looked keys (Some file) vcd clock scope = do
+  names ← names_looked keys file
+  values_looked keys names vcd clock scope
+
+abbrev pub simulated_looked : (netlist : List ℕ) (names : Option (List ℕ)) (vcd clock : List ℕ) (scope : Option (List ℕ)) →
+    Plan NoteCase (List (List Bool))
+simulated_looked netlist names vcd clock scope = do
+  raw ← netlist_looked netlist
+  run_looked (input_keys raw) names vcd clock scope
+
+-- ---- what is left of a walk once the names are fetched
+
+abbrev pub named_step : List (List ℕ) → List ℕ → (vcd clock : List ℕ) (scope : Option (List ℕ)) → Plan Case (List (List Bool))
+named_step keys text vcd clock scope = do
+  names ← read_as files.Map (names_read keys text)
+  values_of keys names vcd clock scope
+
+abbrev pub named_looked : List ℕ → List (List ℕ) → List ℕ → (vcd clock : List ℕ) (scope : Option (List ℕ)) → Plan NoteCase (List (List Bool))
+named_looked path keys text vcd clock scope = do
+  names ← read_as files.Map (names_noted path keys text)
+  values_looked keys names vcd clock scope

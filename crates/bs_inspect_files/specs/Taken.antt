@@ -6,9 +6,13 @@ use Rattle.bs_stim.specs.Runs.{Stimulus as Runs}
 use Rattle.bs_top_plan.specs.declared.file.File.TheVariants as files
 use Rattle.bs_top_plan.specs.Plan.{Plan, end, ◌>>=◌, read_as}
 use Rattle.bs_top_files.specs.Entry.{netlist_of, report_of, stimulus_of}
+use Rattle.bs_top_files.specs.Looking.{netlist_looked, report_looked, stimulus_looked}
+use Rattle.bs_top_files.specs.NoteCases.{NoteCase}
+use Rattle.bs_top_files.specs.Noting.{size_noted}
 use Rattle.bs_top_files.specs.Readings.{size_in}
 use Rattle.bs_top_files.specs.Refusals.{Case}
 use Rattle.bs_inspect_files.specs.Fits.{fit_in, known_in}
+use Rattle.bs_inspect_files.specs.Saying.{fit_noted, known_noted}
 use Rattle.bs_inspect_files.specs.declared.ready.Traced.{Traced as CodeTraced}
 use Rattle.bs_inspect_files.specs.declared.ready.Exercised.{Exercised as CodeExercised}
 
@@ -56,3 +60,66 @@ exercised_of netlist stimulus = do
 
 abbrev pub exercised_in : CodeExercised → Exercised
 exercised_in t = record { raw = t.net.raw; runs = t.runs }
+
+-- ---- the same as the notes see them
+
+abbrev pub traced_looked : (netlist report : List ℕ) → Plan NoteCase Traced
+traced_looked netlist report = do
+  raw ← netlist_looked netlist
+  told ← report_looked report
+  fits ← read_as files.Report (fit_noted report raw told)
+  end record { raw = raw; report = told }
+
+abbrev pub picked_looked : (netlist report : List ℕ) → List (List ℕ) → Plan NoteCase Traced
+picked_looked netlist report only = do
+  traced ← traced_looked netlist report
+  known ← read_as files.Name (known_noted traced.raw only)
+  end traced
+
+abbrev pub charted_looked : (netlist report : List ℕ) → Plan NoteCase Traced
+charted_looked netlist report = do
+  traced ← traced_looked netlist report
+  small ← read_as files.Report (size_noted report traced.raw traced.report)
+  end traced
+
+abbrev pub exercised_looked : (netlist stimulus : List ℕ) → Plan NoteCase Exercised
+exercised_looked netlist stimulus = do
+  raw ← netlist_looked netlist
+  runs ← stimulus_looked raw stimulus
+  end record { raw = raw; runs = runs }
+
+-- ---- what is left of a walk once its first files are read
+
+-- behind the netlist
+abbrev pub report_step : Parts → List ℕ → Plan Case Traced
+report_step raw report = do
+  told ← report_of report
+  fits ← read_as files.Report (fit_in raw told)
+  end record { raw = raw; report = told }
+
+abbrev pub report_step_looked : Parts → List ℕ → Plan NoteCase Traced
+report_step_looked raw report = do
+  told ← report_looked report
+  fits ← read_as files.Report (fit_noted report raw told)
+  end record { raw = raw; report = told }
+
+abbrev pub runs_step : Parts → List ℕ → Plan Case Exercised
+runs_step raw stimulus = do
+  runs ← stimulus_of raw stimulus
+  end record { raw = raw; runs = runs }
+
+abbrev pub runs_step_looked : Parts → List ℕ → Plan NoteCase Exercised
+runs_step_looked raw stimulus = do
+  runs ← stimulus_looked raw stimulus
+  end record { raw = raw; runs = runs }
+
+-- behind the report
+abbrev pub fit_step : Parts → Report → Plan Case Traced
+fit_step raw told = do
+  fits ← read_as files.Report (fit_in raw told)
+  end record { raw = raw; report = told }
+
+abbrev pub fit_step_looked : List ℕ → Parts → Report → Plan NoteCase Traced
+fit_step_looked path raw told = do
+  fits ← read_as files.Report (fit_noted path raw told)
+  end record { raw = raw; report = told }

@@ -1,8 +1,8 @@
 -- The words behind a file's name in a refusal line, for the faults that are told of by no other program (docs/FORMATS.md, "Words of
 -- `backspace_inspect`").
 use Rattle.std.specs.Prelude.{ℕ, List, [], ◌++◌, codes, decimal, slice_index_or}
-use Rattle.bs_alias.specs.declared.fault.MapFault.{MapFault}
-use Rattle.bs_alias.specs.declared.fault.MapFault.TheVariants as names
+use Rattle.bs_inspect_files.specs.declared.fault.MapFault.{MapFault}
+use Rattle.bs_inspect_files.specs.declared.fault.MapFault.TheVariants as names
 use Rattle.bs_inspect_vcd.specs.declared.fault.VcdFault.{VcdFault}
 use Rattle.bs_inspect_vcd.specs.declared.fault.VcdFault.TheVariants as vcd
 use Rattle.bs_top_plan.specs.Plan.{Reason, exactly}

@@ -1,25 +1,22 @@
-//! The keys of a netlist's data inputs, as bytes.
-ghost use Rattle.std.specs.Prelude.{◌≡◌, map, option_map, IfOk, Ok as TheOk};
-ghost use Rattle.bs_top_plan.specs.Walks.{Reads};
-ghost use Rattle.bs_top_files.specs.Refusals.{CheckSays};
+//! The keys of a netlist's flip-flops and data inputs, as bytes.
+ghost use Rattle.std.specs.Prelude.{◌≡◌, ◌++◌, map, option_map, IfOk, OnOk};
+ghost use Rattle.bs_inspect_files.specs.Saying.{all_keys};
 ghost use Rattle.bs_inspect_report.specs.Keys.{input_keys};
 
 use bs_bits::NoMemory;
-use bs_inspect_report::input_keys;
+use bs_inspect_report::{flop_keys, input_keys};
 use bs_net::Netlist;
-use bs_top_plan::Refusal;
 use std::alloc::Global;
 
-/// The bytes of texts.
-#[tactic(auto, using(crate::proofs::KeyLemmas::bytes_more))]
-fn bytes_of<'a>(alloc: Global, texts: &[&'a str]) -> Result<Vec<&'a [u8]>, NoMemory>
-    ensures { IfOk result (λ bytes. map (λ s. s.now) bytes.items ≡ map (λ s. s.now) texts.now) }
+/// Puts the bytes of texts at the end.
+#[tactic(auto, using(crate::proofs::KeyLemmas::bytes_none, crate::proofs::KeyLemmas::bytes_more, crate::proofs::KeyLemmas::bytes_end))]
+fn push_bytes<'a>(into: &mut Vec<&'a [u8]>, texts: &[&'a str]) -> Result<(), NoMemory>
+    ensures { OnOk result (map (λ s. s.now) into.new.items ≡ map (λ s. s.now) into.old.items ++ map (λ s. s.now) texts.now) }
 {
-    let mut bytes = Vec::new(alloc);
     'texts: for &text in texts {
-        bytes.push(text.as_bytes())?;
+        into.push(text.as_bytes())?;
     }
-    Ok(bytes)
+    Ok(())
 }
 
 /// The keys of the data inputs.
@@ -27,18 +24,36 @@ pub fn input_bytes<'a>(alloc: Global, net: &'a Netlist) -> Result<Vec<&'a [u8]>,
     ensures { IfOk result (λ keys. map (λ s. s.now) keys.items ≡ input_keys net.now.raw) }
 {
     let keys = input_keys(alloc, net)?;
-    let bytes = bytes_of(alloc, keys.as_slice())?;
+    let all = keys.as_slice();
+    let mut bytes = Vec::new(alloc);
+    push_bytes(&mut bytes, all)?;
     Ok(bytes)
 }
 
-/// The keys of the data inputs, which no netlist wants.
-pub fn read_keys<'a>(alloc: Global, net: &'a Netlist) -> Result<Vec<&'a [u8]>, Refusal>
-    ensures { Reads CheckSays (λ keys. map (λ s. s.now) keys.items) (TheOk (input_keys net.now.raw)) result }
+/// The keys of the flip-flops, and then those of the data inputs.
+pub fn all_bytes<'a>(alloc: Global, net: &'a Netlist) -> Result<Vec<&'a [u8]>, NoMemory>
+    ensures { IfOk result (λ keys. map (λ s. s.now) keys.items ≡ all_keys net.now.raw) }
 {
-    match input_bytes(alloc, net) {
-        Ok(keys) => Ok(keys),
-        Err(_) => Err(Refusal::NoMemory),
-    }
+    let flops = flop_keys(alloc, net)?;
+    let first = flops.as_slice();
+    let mut bytes = Vec::new(alloc);
+    push_bytes(&mut bytes, first)?;
+    push_inputs(alloc, &mut bytes, net)?;
+    Ok(bytes)
+}
+
+/// Puts the keys of the data inputs at the end.
+fn push_inputs<'a>(
+    alloc: Global,
+    into: &mut Vec<&'a [u8]>,
+    net: &'a Netlist,
+) -> Result<(), NoMemory>
+    ensures { OnOk result (map (λ s. s.now) into.new.items ≡ map (λ s. s.now) into.old.items ++ input_keys net.now.raw) }
+{
+    let keys = input_keys(alloc, net)?;
+    let all = keys.as_slice();
+    push_bytes(into, all)?;
+    Ok(())
 }
 
 /// The bytes of a text, where there is one.

@@ -1,19 +1,15 @@
 //! The words of a refusal line, for each fault of the readers (docs/FORMATS.md, "Refusal lines").
 ghost use Rattle.std.specs.Prelude.{◌≡◌, ◌++◌, codes, decimal, map, IfOk, IfErr};
-ghost use Rattle.bs_alias.specs.declared.fault.MapFault.TheVariants.{NoMemory as MapWant};
-ghost use Rattle.bs_report.specs.declared.fault.ReportFault.TheVariants.{NoMemory as ReportWant};
-ghost use Rattle.bs_stim.specs.declared.fault.StimFault.TheVariants.{NoMemory as StimWant};
+ghost use Rattle.bs_inspect_files.specs.declared.fault.MapFault.TheVariants.{NoMemory as MapWant};
 ghost use Rattle.bs_inspect_vcd.specs.declared.fault.VcdFault.TheVariants.{NoMemory as VcdWant};
 ghost use Rattle.bs_top_plan.specs.declared.walk.Refusal.TheVariants.{NoMemory as Want};
-ghost use Rattle.bs_top_files.specs.Refusals.{HasWords, report_words, stimulus_words, too_large_words};
+ghost use Rattle.bs_top_files.specs.Refusals.{HasWords};
 ghost use Rattle.bs_inspect_files.specs.Words.{cycles_words, key_at, map_words, name_words, vcd_words};
 
-use bs_alias::MapFault;
+use crate::fault::MapFault;
 use bs_bits::{NoMemory, push_number, push_piece};
 use bs_inspect_vcd::VcdFault;
 use bs_note_places::push_quoted;
-use bs_report::ReportFault;
-use bs_stim::StimFault;
 use bs_top_files::worded;
 use bs_top_plan::Refusal;
 use std::alloc::Global;
@@ -48,44 +44,6 @@ pub fn numbered(alloc: Global, word: &[u8], number: u64) -> Refusal
     refusal(number_words(alloc, word, number))
 }
 
-// ---- the files of `backspace`
-
-/// Why a text is no report.
-pub fn report_refusal(alloc: Global, fault: ReportFault) -> Refusal
-    ensures why { HasWords (report_words fault) result }
-    ensures want { fault ≡ ReportWant → result ≡ Want }
-{
-    match fault {
-        ReportFault::Line(line) => numbered(alloc, b"Line ", line),
-        ReportFault::Short => worded(alloc, b"Short"),
-        ReportFault::Extra => worded(alloc, b"Extra"),
-        ReportFault::NoMemory => Refusal::NoMemory,
-    }
-}
-
-/// Why a waveform is too large.
-pub fn too_large_refusal(alloc: Global) -> Refusal
-    ensures { HasWords too_large_words result }
-{
-    worded(alloc, b"TooLarge")
-}
-
-/// Why a text is no stimulus.
-pub fn stimulus_refusal(alloc: Global, fault: StimFault) -> Refusal
-    ensures why { HasWords (stimulus_words fault) result }
-    ensures want { fault ≡ StimWant → result ≡ Want }
-{
-    match fault {
-        StimFault::NoRun => worded(alloc, b"NoRun"),
-        StimFault::Line(line) => numbered(alloc, b"Line ", u64::from(line)),
-        StimFault::Width(line) => numbered(alloc, b"Width ", u64::from(line)),
-        StimFault::Count(line) => numbered(alloc, b"Count ", u64::from(line)),
-        StimFault::TooManyRuns(line) => numbered(alloc, b"TooManyRuns ", u64::from(line)),
-        StimFault::TooManyCycles(line) => numbered(alloc, b"TooManyCycles ", u64::from(line)),
-        StimFault::NoMemory => Refusal::NoMemory,
-    }
-}
-
 // ---- a simulation
 
 /// Why a text gives no names.
@@ -103,7 +61,7 @@ pub fn map_refusal(alloc: Global, fault: MapFault) -> Refusal
 
 /// The key of the input with this number.
 #[tactic(auto, using(crate::proofs::KeyLemmas::key_there, crate::proofs::KeyLemmas::key_past))]
-fn key_at<'a>(keys: &[&'a [u8]], input: u64) -> &'a [u8]
+pub fn key_at<'a>(keys: &[&'a [u8]], input: u64) -> &'a [u8]
     ensures { result.now ≡ key_at (map (λ k. k.now) keys.now) input }
 {
     let place = input as usize;

@@ -31,7 +31,7 @@ fn keys_of_flops<'a>(alloc: Global, raw: &'a Raw) -> Result<Vec<&'a str>, NoMemo
 
 /// The keys of the flip-flops, in the order of a state's bits.
 #[tactic(auto, using(crate::proofs::KeyLemmas::flops_few))]
-pub(crate) fn flop_keys<'a>(alloc: Global, net: &'a Netlist) -> Result<Vec<&'a str>, NoMemory>
+pub fn flop_keys<'a>(alloc: Global, net: &'a Netlist) -> Result<Vec<&'a str>, NoMemory>
     ensures are { IfOk result (λ keys. map (λ s. s.now) keys.items ≡ flop_keys net.now.raw) }
     ensures few { IfOk result (λ keys. length keys.items < 2 ^ 32) }
 {

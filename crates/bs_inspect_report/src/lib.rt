@@ -20,7 +20,7 @@ mod steps;
 mod table;
 mod trace;
 
-pub use keys::input_keys;
+pub use keys::{flop_keys, input_keys};
 pub use known::first_unknown;
 pub use remarks::remarks_text;
 pub use step_table::steps_table;

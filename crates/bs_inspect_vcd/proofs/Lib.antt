@@ -5,3 +5,4 @@ pub mod WatchLemmas
 pub mod TakingLemmas
 pub mod HeaderLemmas
 pub mod SourceLemmas
+pub mod ScopeLemmas

@@ -6,3 +6,4 @@ pub mod Sampled
 pub mod Watching
 pub mod Header
 pub mod Sources
+pub mod Scopes

@@ -2,7 +2,7 @@
 //!
 //! Modules: `token`, `command` and `header` (the declarations), `range` and `sources` (which bit of
 //! which variable a name is), `words` and `changes`, `levels`, `watch` (from word to word), `edges`
-//! (`stimulus`), `fault`. Used above: `stimulus` answers `stimulus_in` (`specs/Sources`): the lines
+//! (`stimulus`), `scopes` (what is declared, for notes), `fault`. Used above: `stimulus` answers `stimulus_in` (`specs/Sources`): the lines
 //! of all edges, a filter over the moments of the text (`specs/Sampled`), or the first fault. A
 //! change's form: `specs/Words`; when a clock rises: `specs/Sampled`.
 #![tactic(auto)]
@@ -14,6 +14,7 @@ mod fault;
 mod header;
 mod levels;
 mod range;
+mod scopes;
 mod sources;
 mod token;
 mod watch;
@@ -21,3 +22,6 @@ mod words;
 
 pub use edges::stimulus;
 pub use fault::VcdFault;
+pub use header::{Declared, Variable};
+pub use scopes::{declared, names_of, scopes_of};
+pub use sources::scope_of;

@@ -35,7 +35,7 @@ fn source_of(key: KeyParts<'_>, variable: Variable<'_>) -> Option<Source>
 }
 
 /// The path of a scope.
-fn path_of(paths: &List<List<u8>>, scope: usize) -> &[u8]
+pub fn path_of(paths: &List<List<u8>>, scope: usize) -> &[u8]
     ensures { result.now ≡ slice_index_or paths.now scope [] }
 {
     if scope < paths.len() {

@@ -47,10 +47,6 @@ rejected_text =
     pair_text (codes "the line names the first part of the report that fails (docs/FORMATS.md, Validity)")
     (codes "is the report of these very files, in this order, and unchanged?")
 
--- files in which no fault is found
-abbrev pub order_text : List ℕ
-order_text = plain_text (codes "looked at once more, the files are in order: did one of them change meanwhile?")
-
 -- a report whose trace has too large a waveform
 abbrev pub large_text : List ℕ → List ℕ
 large_text path = file_text path (codes "the waveform of this trace has too many values, one for each net at each state: draw a shorter trace")

@@ -1,5 +1,3 @@
-pub mod Told
-pub mod Topics
 pub mod Words
 pub mod Stops
 pub mod Faults

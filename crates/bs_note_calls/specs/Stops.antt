@@ -1,6 +1,5 @@
 -- Notes on the stops of a run.
 use Rattle.std.specs.Prelude.{◌==◌, ℕ, List, ◌++◌, codes, decimal, Option, Some, None, Vec, if◌then◌else◌}
-use Rattle.std.specs.Option.{option_and_then}
 use Rattle.std.specs.declared.alloc.Global.{Global}
 use Rattle.bs_report.specs.declared.report.Stop.{Stop}
 use Rattle.bs_report.specs.declared.report.Stop.TheVariants as S
@@ -39,7 +38,3 @@ text_of steps S.Candidates =
 text_of steps S.Conflicts =
     Some (step_text (codes "the budget of conflicts is spent, and no run comes to a listed state, in step") steps
     (codes "ask for more with --conflicts B, up to 2^40, or choose a signature that tells more states apart"))
-
--- the same of what was told
-abbrev pub stop_text : ℕ → Option Stop → Option (List ℕ)
-stop_text steps stop = option_and_then (λ (s : Stop). text_of steps s) stop

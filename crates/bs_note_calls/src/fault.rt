@@ -1,25 +1,47 @@
 //! Notes on files that do not read, on an output that does not take the answer, on a report that is not valid, and on a moment that no
 //! run has.
 ghost use Rattle.std.specs.Prelude.{◌≡◌, ◌++◌, codes, decimal, IfNone, IfOk, OnOk};
-ghost use Rattle.bs_note_calls.specs.Faults.{cycles_of, cycles_text, IsOutputNote, IsUnreadNote, large_text, long_sentence, long_text, memory_text, order_text};
+ghost use Rattle.bs_note_calls.specs.Faults.{cycles_of, cycles_text, IsOutputNote, IsUnreadNote, large_text, long_sentence, long_text};
 ghost use Rattle.bs_note_calls.specs.Faults.{output_sentence, output_text, range_text, rejected_text};
 
-use crate::cause::Causes;
 use bs_bits::{NoMemory, push_number, push_piece};
-use bs_note_files::{file_note, pair_note, plain_note};
+use bs_note_files::{file_note, pair_note};
 use bs_stim::Runs;
 use bs_top_plan::File;
 use std::alloc::Global;
 use std::io::ErrorKind;
 
+/// The words for a kind of fault.
+fn words_of(alloc: Global, kind: ErrorKind) -> Result<Vec<u8>, NoMemory> {
+    let words = format!(in alloc; "{kind}")?;
+    Ok(words.as_bytes().to_vec(alloc)?)
+}
+
+/// The words for a kind of fault of a file, as the system has them.
+fn system_words(alloc: Global, kind: ErrorKind) -> Result<Vec<u8>, NoMemory> {
+    match kind {
+        ErrorKind::NotFound => Ok(b"No such file or directory (os error 2)".to_vec(alloc)?),
+        ErrorKind::IsADirectory => Ok(b"Is a directory (os error 21)".to_vec(alloc)?),
+        ErrorKind::PermissionDenied => Ok(b"Permission denied (os error 13)".to_vec(alloc)?),
+        _ => words_of(alloc, kind),
+    }
+}
+
+/// The same, or what is said where no kind is known.
+fn cause_words(alloc: Global, kind: Option<ErrorKind>) -> Result<Vec<u8>, NoMemory> {
+    match kind {
+        Some(kind) => system_words(alloc, kind),
+        None => Ok(b"this file could not be read".to_vec(alloc)?),
+    }
+}
+
 /// A note on a file that does not read: its name, and the system's reason where one is known.
-pub fn unread_note<C: Causes>(alloc: Global, causes: &C, path: &str) -> Result<Vec<u8>, NoMemory>
+pub fn unread_note(alloc: Global, kind: Option<ErrorKind>, path: &str) -> Result<Vec<u8>, NoMemory>
     ensures { IfOk result (λ note. IsUnreadNote path.now note.items) }
 {
-    match causes.cause(alloc, path) {
-        Some(cause) => caused_note(alloc, path, cause.as_bytes()),
-        None => caused_note(alloc, path, b"this file could not be read"),
-    }
+    let reason = cause_words(alloc, kind)?;
+    let note = caused_note(alloc, path, &reason)?;
+    Ok(note)
 }
 
 /// A note on a file that does not read for a reason.
@@ -47,12 +69,6 @@ pub fn long_note(alloc: Global, file: File, path: &str) -> Result<Vec<u8>, NoMem
 {
     let said = long_sentence(alloc, file)?;
     file_note(alloc, path, &said)
-}
-
-/// The words for a kind of fault.
-fn words_of(alloc: Global, kind: ErrorKind) -> Result<Vec<u8>, NoMemory> {
-    let words = format!(in alloc; "{kind}")?;
-    Ok(words.as_bytes().to_vec(alloc)?)
 }
 
 /// The words for a kind of fault, where it is known.
@@ -97,16 +113,6 @@ pub fn output_note(alloc: Global, lines: u64, kind: Option<ErrorKind>) -> Result
     Ok(note)
 }
 
-/// A note on want of memory.
-pub fn memory_note(alloc: Global) -> Result<Vec<u8>, NoMemory>
-    ensures { IfOk result (λ note. note.items ≡ memory_text) }
-{
-    plain_note(
-        alloc,
-        b"memory ran out, and nothing was written: give the program more, or lower --candidates and --conflicts",
-    )
-}
-
 /// A note on a report that is not valid.
 pub fn rejected_note(alloc: Global) -> Result<Vec<u8>, NoMemory>
     ensures { IfOk result (λ note. note.items ≡ rejected_text) }
@@ -115,16 +121,6 @@ pub fn rejected_note(alloc: Global) -> Result<Vec<u8>, NoMemory>
         alloc,
         b"the line names the first part of the report that fails (docs/FORMATS.md, Validity)",
         b"is the report of these very files, in this order, and unchanged?",
-    )
-}
-
-/// A note on files in which no fault is found.
-pub fn order_note(alloc: Global) -> Result<Vec<u8>, NoMemory>
-    ensures { IfOk result (λ note. note.items ≡ order_text) }
-{
-    plain_note(
-        alloc,
-        b"looked at once more, the files are in order: did one of them change meanwhile?",
     )
 }
 

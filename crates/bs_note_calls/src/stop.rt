@@ -1,8 +1,7 @@
 //! Notes on the stops of a run.
 ghost use Rattle.std.specs.Prelude.{◌≡◌, IfOk};
-ghost use Rattle.bs_note_calls.specs.Stops.{empty_text, items_of, step_text, stop_text, text_of};
+ghost use Rattle.bs_note_calls.specs.Stops.{empty_text, items_of, step_text, text_of};
 
-use crate::told::Told;
 use bs_bits::{NoMemory, push_number, push_piece};
 use bs_note_files::pair_note;
 use bs_report::Stop;
@@ -38,7 +37,7 @@ fn empty_note(alloc: Global, steps: u64) -> Result<Vec<u8>, NoMemory>
 }
 
 /// A note on why a run stopped after so many steps; none where it came to reset.
-fn note_of(alloc: Global, steps: u64, stop: Stop) -> Result<Option<Vec<u8>>, NoMemory>
+pub fn stop_note(alloc: Global, steps: u64, stop: Stop) -> Result<Option<Vec<u8>>, NoMemory>
     ensures { IfOk result (λ note. items_of note ≡ text_of steps stop) }
 {
     match stop {
@@ -83,15 +82,5 @@ fn note_of(alloc: Global, steps: u64, stop: Stop) -> Result<Option<Vec<u8>>, NoM
             )?;
             Ok(Some(note))
         },
-    }
-}
-
-/// A note on why a run stopped; none where it came to reset, or told no stop.
-pub fn stop_note(alloc: Global, told: Told) -> Result<Option<Vec<u8>>, NoMemory>
-    ensures { IfOk result (λ note. items_of note ≡ stop_text told.steps told.stop) }
-{
-    match told.stop {
-        Some(stop) => note_of(alloc, told.steps, stop),
-        None => Ok(None),
     }
 }

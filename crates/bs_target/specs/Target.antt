@@ -64,3 +64,29 @@ target_looked netlist state cycles = do
   bits ← read_as files.State (state_noted raw state)
   fits ← read_as files.Netlist (room_noted raw cycles)
   end record { raw = raw; state = bits; cycles = cycles }
+
+-- ---- what is left of the walk once its first parts are read
+
+-- behind the netlist
+abbrev pub stated_step : Parts → List ℕ → (cycles : ℕ) → Plan Case Target
+stated_step raw state cycles = do
+  bits ← read_as files.State (state_in raw state)
+  fits ← read_as files.Netlist (room_in raw cycles)
+  end record { raw = raw; state = bits; cycles = cycles }
+
+abbrev pub stated_looked : Parts → List ℕ → (cycles : ℕ) → Plan NoteCase Target
+stated_looked raw state cycles = do
+  bits ← read_as files.State (state_noted raw state)
+  fits ← read_as files.Netlist (room_noted raw cycles)
+  end record { raw = raw; state = bits; cycles = cycles }
+
+-- behind the state
+abbrev pub sized_step : Parts → List Bool → (cycles : ℕ) → Plan Case Target
+sized_step raw state cycles = do
+  fits ← read_as files.Netlist (room_in raw cycles)
+  end record { raw = raw; state = state; cycles = cycles }
+
+abbrev pub sized_looked : Parts → List Bool → (cycles : ℕ) → Plan NoteCase Target
+sized_looked raw state cycles = do
+  fits ← read_as files.Netlist (room_noted raw cycles)
+  end record { raw = raw; state = state; cycles = cycles }

@@ -5,6 +5,5 @@ mod readings;
 mod target;
 mod walk;
 
-pub use readings::{check_room, read_state, room_or_told, state_or_told};
 pub use target::Target;
-pub use walk::{load_target, take_target};
+pub use walk::load_target;

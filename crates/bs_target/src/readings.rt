@@ -33,7 +33,7 @@ fn fitting(alloc: Global, bits: Bits, net: &Netlist) -> Result<Bits, Refusal>
 }
 
 /// The state of a word: a character 0 or 1 for each flip-flop.
-pub fn read_state(alloc: Global, word: &str, net: &Netlist) -> Result<Bits, Refusal>
+fn read_state(alloc: Global, word: &str, net: &Netlist) -> Result<Bits, Refusal>
     ensures reads { Reads CheckSays (λ state. state) (state_in net.now.raw word.now) result }
     ensures width { IfOk result (λ state. length state ≡ length (circuit net.now).flops) }
 {
@@ -55,7 +55,7 @@ fn has_room(variables: u64, cycles: u64) -> bool
 }
 
 /// The size of a search of so many cycles.
-pub fn check_room(alloc: Global, net: &Netlist, cycles: u64) -> Result<(), Refusal>
+fn check_room(alloc: Global, net: &Netlist, cycles: u64) -> Result<(), Refusal>
     ensures reads { Reads CheckSays (λ _. true) (room_in net.now.raw cycles) result }
     ensures room { IfOk result (λ _. cycles * variables (circuit net.now) [] ≤ MAX_COPY_VARIABLES) }
 {

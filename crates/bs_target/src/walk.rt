@@ -1,32 +1,67 @@
-//! The walk of a search: the netlist, then its state, then its size.
-ghost use Rattle.bs_top_plan.specs.Walks.{Walks};
+//! The walk of a search: the netlist, then its state, then its size. A refusal has its line and its note.
+ghost use Rattle.std.specs.Prelude.{◌≡◌, length};
+ghost use Rattle.bs_net.specs.Netlist.{circuit};
 ghost use Rattle.bs_top_files.specs.Refusals.{CheckSays};
 ghost use Rattle.bs_top_files.specs.NoteCases.{NoteSays};
 ghost use Rattle.bs_top_plan.specs.Telling.{WalksTold};
-ghost use Rattle.bs_target.specs.Target.{target_looked, target_of};
+ghost use Rattle.bs_target.specs.Target.{sized_looked, sized_step, stated_looked, stated_step, target_looked, target_of};
 ghost use Rattle.bs_target.specs.Shown.{target_in};
 
 use crate::readings::{room_or_told, state_or_told};
 use crate::target::Target;
+use bs_bits::Bits;
+use bs_net::Netlist;
 use bs_outside::Shelf;
 use bs_top_files::load_netlist;
-use bs_top_plan::{File, JobFault, Stop, lined, settle_told};
+use bs_top_plan::{File, Stop, settle_told};
 use std::alloc::Global;
 
-/// The netlist of a file, with a state of it and a number of cycles for which the search is not too large.
-pub fn take_target<S: Shelf>(
+/// Drops a value, which a walk that stops lets go.
+fn let_go<T: Drop>(_value: T) {}
+
+/// A netlist and a state of it, with a number of cycles for which the search is not too large.
+fn load_sized<S: Shelf>(
     alloc: Global,
-    shelf: &mut S,
-    netlist: &str,
-    state: &str,
+    _shelf: &mut S,
+    net: Netlist,
+    state: Bits,
     cycles: u64,
-) -> Result<Target, JobFault>
-    ensures { Walks CheckSays S.held S.faults S.leads shelf.old shelf.new (target_of netlist.now state.now cycles) target_in result }
+) -> Result<Target, Stop>
+    requires { length state ≡ length (circuit net).flops }
+    ensures { WalksTold CheckSays NoteSays S.held S.faults S.leads _shelf.old _shelf.new
+        (sized_step net.raw state cycles) (sized_looked net.raw state cycles) target_in target_in result }
 {
-    lined(load_target(alloc, shelf, netlist, state, cycles))
+    match settle_told(File::Netlist, room_or_told(alloc, &net, cycles)) {
+        Ok(()) => Ok(Target { net, state, cycles }),
+        Err(stop) => {
+            let_go(net);
+            let_go(state);
+            Err(stop)
+        }
+    }
 }
 
-/// The same, where a refusal has its line and its note.
+/// A netlist, with a state of it and such a number of cycles.
+fn load_stated<S: Shelf>(
+    alloc: Global,
+    shelf: &mut S,
+    net: Netlist,
+    state: &str,
+    cycles: u64,
+) -> Result<Target, Stop>
+    ensures { WalksTold CheckSays NoteSays S.held S.faults S.leads shelf.old shelf.new
+        (stated_step net.raw state.now cycles) (stated_looked net.raw state.now cycles) target_in target_in result }
+{
+    match settle_told(File::State, state_or_told(alloc, state, &net)) {
+        Ok(state) => load_sized(alloc, shelf, net, state, cycles),
+        Err(stop) => {
+            let_go(net);
+            Err(stop)
+        }
+    }
+}
+
+/// The netlist of a file, with a state of it and a number of cycles for which the search is not too large.
 pub fn load_target<S: Shelf>(
     alloc: Global,
     shelf: &mut S,
@@ -37,10 +72,8 @@ pub fn load_target<S: Shelf>(
     ensures { WalksTold CheckSays NoteSays S.held S.faults S.leads shelf.old shelf.new
         (target_of netlist.now state.now cycles) (target_looked netlist.now state.now cycles) target_in target_in result }
 {
-    let net = load_netlist(alloc, shelf, netlist)?;
-    let state = settle_told(File::State, state_or_told(alloc, state, &net))?;
-    match settle_told(File::Netlist, room_or_told(alloc, &net, cycles)) {
-        Ok(()) => Ok(Target { net, state, cycles }),
+    match load_netlist(alloc, shelf, netlist) {
+        Ok(net) => load_stated(alloc, shelf, net, state, cycles),
         Err(stop) => Err(stop),
     }
 }

@@ -11,7 +11,7 @@ use Rattle.bs_report.specs.declared.report.Stop.TheVariants as S
 use Rattle.bs_stim.specs.Runs.{Recorded, Stimulus, no_run}
 use Rattle.bs_note_calls.specs.Faults.{rejected_text}
 use Rattle.bs_note_calls.specs.Searches.{miss_text}
-use Rattle.bs_note_calls.specs.Stops.{stop_text, text_of}
+use Rattle.bs_note_calls.specs.Stops.{text_of}
 use Rattle.bs_note_calls.specs.declared.told.Miss.{Miss}
 use Rattle.bs_top_answer.specs.declared.note.Note.{Note}
 use Rattle.bs_top_answer.specs.declared.note.Note.TheVariants.{Silent, Text, Wanting}
@@ -33,12 +33,11 @@ one_more runs at there =
 
 -- the note on a stop, from the text of its own
 pub run_followed : (runs : Stimulus) (steps : ℕ) (stop : Stop) (text : Vec ℕ Global) (r : Result (Vec ℕ Global) NoMemory) →
-    Some text.items ≡ stop_text steps (Some stop) → IfOk r (λ n. n.items ≡ followed_text runs stop text.items) →
+    Some text.items ≡ text_of steps stop → IfOk r (λ n. n.items ≡ followed_text runs stop text.items) →
     IfOk r (λ n. Some n.items ≡ run_text runs steps stop)
 run_followed runs steps stop text (Ok n) said is =
-    let here : Some text.items ≡ text_of steps stop = said in
     let whole : Some n.items ≡ Some (followed_text runs stop text.items) = ap (λ (l : List ℕ). Some l) is in
-    whole ∙ ap (option_map (λ (t : List ℕ). followed_text runs stop t)) here
+    whole ∙ ap (option_map (λ (t : List ℕ). followed_text runs stop t)) said
 run_followed runs steps stop text (Err want) said is = tt
 
 -- a note that is due, of which this is the text

@@ -1,10 +1,12 @@
 -- The note on a walk that stopped.
-use Rattle.std.specs.Prelude.{◌≡◌, ℕ, List, codes, if◌then◌else◌}
+use Rattle.std.specs.Prelude.{◌≡◌, ℕ, List, codes, Option, Some, None, if◌then◌else◌}
 use Rattle.std.specs.Str.{bytes_eq}
 use Rattle.bs_note_calls.specs.Faults.{IsUnreadNote, long_text}
 use Rattle.bs_top_plan.specs.declared.file.File.{File}
 use Rattle.bs_top_plan.specs.declared.walk.JobFault.{JobFault}
 use Rattle.bs_top_plan.specs.declared.walk.JobFault.TheVariants as J
+use Rattle.bs_top_plan.specs.declared.told.Stop.{Stop}
+use Rattle.bs_top_plan.specs.declared.told.Stop.TheVariants as S
 use Rattle.bs_top_plan.specs.Plan.{Says, Outcome, ready, refused, faulted}
 use Rattle.bs_top_answer.specs.declared.note.Note.{Note}
 use Rattle.bs_top_answer.specs.declared.note.Note.TheVariants.{Silent, Text, Wanting}
@@ -19,6 +21,16 @@ abbrev pub IsStopNote : {Q W : Type 0} → (Q → List ℕ → Type 0) → (File
 IsStopNote notes path_of (ready work) note = ⊥
 IsStopNote notes path_of (refused file reason) note = (why : List ℕ) × Says notes reason why × (note ≡ refused_text file (path_of file) why)
 IsStopNote notes path_of (faulted file) note = IsUnreadNote (path_of file) note
+
+-- the file at which a walk stopped, where it is at one
+abbrev pub fault_file : JobFault → Option File
+fault_file J.NoMemory = None
+fault_file (J.Faulted file) = Some file
+fault_file (J.Refused file why) = Some file
+
+abbrev pub stop_file : Stop → Option File
+stop_file (S.Plain fault) = fault_file fault
+stop_file (S.Refused file told) = Some file
 
 -- ---- what inner functions promise
 

@@ -5,7 +5,7 @@ ghost use Rattle.bs_top_answer.specs.Note.{DueText};
 
 use crate::note::{Note, note_made};
 use bs_bits::{NoMemory, push_number, push_piece};
-use bs_note_calls::{Miss, Told, miss_note, rejected_note, stop_note};
+use bs_note_calls::{Miss, miss_note, rejected_note, stop_note};
 use bs_note_files::plain_note;
 use bs_report::Stop;
 use bs_stim::Runs;
@@ -71,13 +71,7 @@ fn followed(alloc: Global, text: Vec<u8>, runs: &Runs, stop: Stop) -> Result<Vec
 fn run_note(alloc: Global, runs: &Runs, steps: u64, stop: Stop) -> Result<Vec<u8>, NoMemory>
     ensures { IfOk result (λ note. Some note.items ≡ run_text runs.now steps stop) }
 {
-    let told = Told {
-        lines: 0,
-        steps,
-        stop: Some(stop),
-        miss: None,
-    };
-    match stop_note(alloc, told)? {
+    match stop_note(alloc, steps, stop)? {
         Some(text) => followed(alloc, text, runs, stop),
         None => Err(NoMemory),
     }

@@ -3,8 +3,7 @@
 //! Modules: `refusals` (the words behind a file's name), `netlist`, `texts`, `extent` (a reader each,
 //! `*_or_told`: a value, or the line and the note of one refusal, made of one reading), `ready`
 //! (`Setup`, `Placed`, `Crashed`, `Claimed`: what is ready, with what is right of it), `loading`
-//! (`load_crashed` and its kin: each file is fetched and read once), `walks` (the same for who wants
-//! no note). Used above: `WalksTold CheckSays NoteSays ..`, that the code followed the
+//! (`load_crashed` and its kin: each file is fetched and read once, for both programs). Used above: `WalksTold CheckSays NoteSays ..`, that the code followed the
 //! plan of `specs/Entry` and, in the same fetches, the one of `specs/Looking`, whose refusals are the
 //! notes; `text_in` (`specs/Readings`), what a netlist's text is. A fault: a line in
 //! `specs/Refusals` and an arm in `refusals`. A file: its reading, its two plans and a walk.
@@ -18,7 +17,6 @@ mod readings;
 mod ready;
 mod refusals;
 mod texts;
-mod walks;
 
 pub use extent::{moment_or_told, size_or_told};
 pub use limits::MAX_WAVE_VALUES;
@@ -31,4 +29,3 @@ pub use readings::read_choice;
 pub use ready::{Claimed, Crashed, FileNames, Placed, Setup};
 pub use refusals::worded;
 pub use texts::{dump_or_told, report_or_told, signature_or_told, stimulus_or_told};
-pub use walks::{take_claimed, take_crashed, take_drawn, take_netlist, take_placed};

@@ -16,7 +16,7 @@ ghost use Rattle.bs_top_files.specs.Noting.{checked_noted, netlist_noted, netlis
 use crate::refusals::{check_refusal, flat_refusal};
 use bs_bits::NoMemory;
 use bs_flat_meaning::FlatFault;
-use bs_net::{NetFault, Netlist, Raw};
+use bs_net::{NetFault, Netlist, Raw, Refused};
 use bs_note_files::{check_note, design_note, mistaken, mistaken_note};
 use bs_top_plan::{File, Unread, both};
 use std::alloc::Global;
@@ -60,6 +60,16 @@ fn fault_told(alloc: Global, path: &str, text: &[u8], raw: &Raw, fault: &NetFaul
     both(words, note)
 }
 
+/// The same of what the check gives back, which nobody needs behind it.
+fn refused_told(alloc: Global, path: &str, text: &[u8], refused: Refused) -> Unread
+    requires is { IsFault (parts_of refused.raw) refused.fault }
+    ensures words { HasCheckWords (parts_of refused.raw) (word_refusal result) }
+    ensures note { HasNote (any_of (in_check path.now text.now (parts_of refused.raw))) (note_refusal result) }
+{
+    let told = fault_told(alloc, path, text, &refused.raw, &refused.fault);
+    told
+}
+
 /// The netlist of parts that pass the check, or what is told of them.
 fn check_or_told(alloc: Global, path: &str, text: &[u8], raw: Raw) -> Result<Netlist, Unread>
     ensures words { Reads CheckSays (λ net. net.raw) (checked_in (parts_of raw)) (worded result) }
@@ -67,7 +77,7 @@ fn check_or_told(alloc: Global, path: &str, text: &[u8], raw: Raw) -> Result<Net
 {
     match Netlist::check(alloc, raw) {
         Ok(net) => Ok(net),
-        Err(refused) => Err(fault_told(alloc, path, text, &refused.raw, &refused.fault)),
+        Err(refused) => Err(refused_told(alloc, path, text, refused)),
     }
 }
 

@@ -1,12 +1,14 @@
-use Rattle.bs_top_plan.proofs.Walking.{walks_as}
-use Rattle.bs_top_plan.proofs.Preparing.{prepares_stop}
+use Rattle.bs_top_answer.proofs.AnswerLemmas.{told_as}
+use Rattle.bs_inspect.specs.Sources.{source_of, sources_of}
 use Rattle.bs_inspect.specs.Work.{to_inputs}
-use Rattle.bs_inspect.specs.Finishes.{finishes}
-use Rattle.bs_inspect.proofs.WorkLemmas.{prepares_done}
+use Rattle.bs_inspect.proofs.WorkLemmas.{told_done, told_stop_at}
+use Rattle.bs_top_words.specs.Request.{Inputs as Asked}
 use Rattle.bs_inspect.proofs.asking.inputs.Goals as goal
 
 pub returns-in-Ok : goal.returns-in-Ok
-returns-in-Ok g c = prepares_done _ (walks_as to_inputs c.in-Ok.ensures) c.tell_inputs.ensures
+returns-in-Ok g c =
+    told_done (source_of (sources_of (Asked c.args.netlist.now))) _ _ c.silent.ensures (told_as to_inputs c.in-Ok.ensures) c.tell_inputs.ensures
 
 pub returns-in-Err : goal.returns-in-Err
-returns-in-Err g c = prepares_stop finishes _ (walks_as to_inputs c.in-Err.ensures) c.stopped.ensures
+returns-in-Err g c =
+    told_stop_at _ (sources_of (Asked c.args.netlist.now)) _ c.netlist_source.ensures (told_as to_inputs c.in-Err.ensures) c.stop_at.ensures.reply c.stop_at.ensures.note

@@ -1,27 +1,8 @@
-use Rattle.std.proofs.lemmas.Result.{err_from_is_err_and}
-use Rattle.bs_top_plan.proofs.TellingLemmas.{told_end, told_read, told_stop, told_then}
+use Rattle.bs_top_plan.proofs.TellingLemmas.{told_stop, told_then}
 use Rattle.bs_target.proofs.walk.load_target.Goals as goal
 
-pub returns-in_err-net : goal.returns-in_err-net
-returns-in_err-net g c =
-    let p = err_from_is_err_and c.from_residual.result c.from_residual.ensures.1 in
-    rw (p.1, p.2) (told_stop _ _ c.in_err-net.ensures)
-
-pub returns-in_err-state : goal.returns-in_err-state
-returns-in_err-state g c =
-    let p = err_from_is_err_and c.from_residual-in_err-state.result c.from_residual-in_err-state.ensures.1 in
-    rw (p.1, p.2)
-    (told_then _ _ c.in_ok-net.ensures
-    (told_stop _ _ (told_read _ _ _ _ c.in_err-state.ensures c.state_or_told.ensures.words c.state_or_told.ensures.note)))
-
 pub returns-in-Ok : goal.returns-in-Ok
-returns-in-Ok g c =
-    told_then _ _ c.in_ok-net.ensures
-    (told_then _ _ (told_read _ _ _ _ c.in_ok-state.ensures c.state_or_told.ensures.words c.state_or_told.ensures.note)
-    (told_then _ _ (told_read _ _ _ _ c.in-Ok.ensures c.room_or_told.ensures.words c.room_or_told.ensures.note) told_end))
+returns-in-Ok g c = told_then _ _ c.in-Ok.ensures c.load_stated.ensures
 
 pub returns-in-Err : goal.returns-in-Err
-returns-in-Err g c =
-    told_then _ _ c.in_ok-net.ensures
-    (told_then _ _ (told_read _ _ _ _ c.in_ok-state.ensures c.state_or_told.ensures.words c.state_or_told.ensures.note)
-    (told_stop _ _ (told_read _ _ _ _ c.in-Err.ensures c.room_or_told.ensures.words c.room_or_told.ensures.note)))
+returns-in-Err g c = told_stop _ _ c.in-Err.ensures

@@ -16,9 +16,9 @@ returns-in-Ok-clause-note c =
 
 pub returns-in-Err-clause-words : goal.returns-in-Err-clause-words
 returns-in-Err-clause-words c =
-    line.reads_refused {T = Netlist} (λ net. net.raw) (parts_of c.args.raw) _ _ (ap parts_of c.in-Err.ensures.err.0) c.fault_told.ensures.words
+    line.reads_refused {T = Netlist} (λ net. net.raw) (parts_of c.args.raw) _ _ (ap parts_of c.in-Err.ensures.err.0) c.refused_told.ensures.words
 
 pub returns-in-Err-clause-note : goal.returns-in-Err-clause-note
 returns-in-Err-clause-note c =
     said.reads_refused {T = Netlist} (λ net. net.raw) c.args.path.now c.args.text.now (parts_of c.args.raw) _ _ (ap parts_of c.in-Err.ensures.err.0)
-    c.fault_told.ensures.note
+    c.refused_told.ensures.note

@@ -1,0 +1,39 @@
+use Rattle.std.proofs.Common.{ap}
+use Rattle.bs_top_words.specs.Asked.{request_in}
+use Rattle.bs_top_words.specs.Request.{Help, Version}
+use Rattle.bs_inspect.specs.Sources.{source_of, sources_of}
+use Rattle.bs_inspect.specs.Work.{to_help, to_version}
+use Rattle.bs_inspect.proofs.WorkLemmas.{noted_asked, told_alone}
+use Rattle.bs_inspect.proofs.asking.request_answer.Goals as goal
+
+pub returns-in-Help : goal.returns-in-Help
+returns-in-Help g c =
+    noted_asked _ _ Help (ap request_in c.in-Help.is) (told_alone to_help (source_of (sources_of Help)) _ _ c.silent.ensures c.tell_usage.ensures)
+
+pub returns-in-Version : goal.returns-in-Version
+returns-in-Version g c =
+    noted_asked _ _ Version (ap request_in c.in-Version.is) (told_alone to_version (source_of (sources_of Version)) _ _ c.silent-in-Version.ensures c.tell_version.ensures)
+
+pub returns-in-Trace : goal.returns-in-Trace
+returns-in-Trace g c = noted_asked _ _ _ (ap request_in c.in-Trace.is) c.trace.ensures
+
+pub returns-in-Stimulus : goal.returns-in-Stimulus
+returns-in-Stimulus g c = noted_asked _ _ _ (ap request_in c.in-Stimulus.is) c.stimulus.ensures
+
+pub returns-in-Wave : goal.returns-in-Wave
+returns-in-Wave g c = noted_asked _ _ _ (ap request_in c.in-Wave.is) c.wave.ensures
+
+pub returns-in-Signature : goal.returns-in-Signature
+returns-in-Signature g c = noted_asked _ _ _ (ap request_in c.in-Signature.is) c.signature.ensures
+
+pub returns-in-Flops : goal.returns-in-Flops
+returns-in-Flops g c = noted_asked _ _ _ (ap request_in c.in-Flops.is) c.flops.ensures
+
+pub returns-in-Inputs : goal.returns-in-Inputs
+returns-in-Inputs g c = noted_asked _ _ _ (ap request_in c.in-Inputs.is) c.inputs.ensures
+
+pub returns-in-Stats : goal.returns-in-Stats
+returns-in-Stats g c = noted_asked _ _ _ (ap request_in c.in-Stats.is) c.stats.ensures
+
+pub returns-in-Steps : goal.returns-in-Steps
+returns-in-Steps g c = noted_asked _ _ _ (ap request_in c.in-Steps.is) c.steps.ensures

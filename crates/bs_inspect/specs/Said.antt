@@ -1,0 +1,67 @@
+-- What is said of an answer, besides.
+use Rattle.std.specs.Prelude.{◌≡◌, ℕ, List, Option, Some, None, Result, Ok, Err}
+use Rattle.bs_bits.specs.declared.memory.NoMemory.{NoMemory}
+use Rattle.bs_outside.specs.Calls.{FetchCall}
+use Rattle.bs_top_plan.specs.declared.reply.Reply.{Reply}
+use Rattle.bs_top_plan.specs.declared.status.Status.{Status}
+use Rattle.bs_top_plan.specs.Plan.{Plan, end, ◌>>=◌}
+use Rattle.bs_top_answer.specs.declared.note.Answer.{Answer}
+use Rattle.bs_top_answer.specs.declared.note.Note.{Note}
+use Rattle.bs_top_answer.specs.declared.note.Note.TheVariants.{Silent}
+use Rattle.bs_top_answer.specs.Note.{Due}
+use Rattle.bs_top_answer.specs.Prepared.{NoteAlong}
+use Rattle.bs_top_files.specs.Looking.{netlist_looked, report_looked}
+use Rattle.bs_top_files.specs.NoteCases.{NoteCase, NoteSays}
+use Rattle.bs_top_words.specs.Request.{Request, Help, Version, Flops, Inputs, Stats, Steps, Trace, Stimulus, Wave, Signature}
+use Rattle.bs_inspect_files.specs.Simulated.{simulated_looked}
+use Rattle.bs_inspect_files.specs.Taken.{charted_looked, exercised_looked, picked_looked}
+use Rattle.bs_inspect_notes.specs.Usages.{words_text}
+use Rattle.bs_inspect.specs.Sources.{source_of, sources_of}
+use Rattle.bs_inspect.specs.Work.{Work, to_help, to_version, to_flops, to_inputs, to_stats, to_steps, to_trace, to_run, to_wave, to_signature}
+
+-- the plan of a request as the notes see it: the same files and the same work, and the notes on what is refused
+abbrev pub looked_of : Request → Plan NoteCase Work
+looked_of Help = end to_help
+looked_of Version = end to_version
+looked_of (Flops netlist) = do
+  raw ← netlist_looked netlist
+  end (to_flops raw)
+looked_of (Inputs netlist) = do
+  raw ← netlist_looked netlist
+  end (to_inputs raw)
+looked_of (Stats netlist) = do
+  raw ← netlist_looked netlist
+  end (to_stats raw)
+looked_of (Steps report) = do
+  told ← report_looked report
+  end (to_steps told)
+looked_of (Trace t) = do
+  traced ← picked_looked t.netlist t.report t.only
+  end (to_trace t.all t.only traced)
+looked_of (Stimulus t) = do
+  lines ← simulated_looked t.netlist t.names t.vcd t.clock t.scope
+  end (to_run lines)
+looked_of (Wave t) = do
+  traced ← charted_looked t.netlist t.report
+  end (to_wave traced)
+looked_of (Signature t) = do
+  exercised ← exercised_looked t.netlist t.runs
+  end (to_signature t.items exercised)
+
+-- nothing is said of work that is done
+abbrev pub WorkSaid : Work → List ℕ → Note → Type 0
+WorkSaid work text note = note ≡ Silent
+
+-- what is said of the answer to a request, after these fetches
+abbrev pub RequestSaid : Request → List FetchCall → Status → List ℕ → Note → Type 0
+RequestSaid request = NoteAlong NoteSays WorkSaid (source_of (sources_of request)) (looked_of request)
+
+-- the same of words: those that are no request have a note on what is wrong with them
+abbrev pub WordsSaid : List (List ℕ) → Option Request → List FetchCall → Status → List ℕ → Note → Type 0
+WordsSaid words None = λ fetches status text note. Due (λ said. said ≡ words_text words) note
+WordsSaid words (Some request) = RequestSaid request
+
+-- a reply on which there is no note
+abbrev pub silent : Result Reply NoMemory → Result Answer NoMemory
+silent (Ok reply) = Ok record { reply = reply; note = Silent }
+silent (Err want) = Err want

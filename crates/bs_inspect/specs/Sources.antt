@@ -1,0 +1,60 @@
+-- The names of the files of a request, for the notes on them.
+use Rattle.std.specs.Prelude.{ℕ, List, []}
+use Rattle.std.specs.Option.{unwrap_or}
+use Rattle.bs_top_plan.specs.declared.file.File.{File}
+use Rattle.bs_top_plan.specs.declared.file.File.TheVariants as files
+use Rattle.bs_top_words.specs.Request.{Request, SignatureRequest, StimulusRequest, Help, Version, Flops, Inputs, Stats, Steps, Trace, Stimulus, Wave, Signature}
+use Rattle.bs_inspect.specs.declared.sources.Sources.{Sources as CodeSources}
+
+pub record Sources : Type 0 where
+  pub netlist : List ℕ
+  pub stimulus : List ℕ
+  pub report : List ℕ
+  pub vcd : List ℕ
+  pub map : List ℕ
+
+-- the name of a file of a request; what no request has has none
+abbrev pub source_of : Sources → File → List ℕ
+source_of n files.Netlist = n.netlist
+source_of n files.Signature = []
+source_of n files.Stimulus = n.stimulus
+source_of n files.Dump = []
+source_of n files.Report = n.report
+source_of n files.State = []
+source_of n files.Vcd = n.vcd
+source_of n files.Map = n.map
+source_of n files.Name = []
+
+abbrev pub no_source : Sources
+no_source = record { netlist = []; stimulus = []; report = []; vcd = []; map = [] }
+
+abbrev pub netlist_source : List ℕ → Sources
+netlist_source netlist = record { netlist = netlist; stimulus = []; report = []; vcd = []; map = [] }
+
+abbrev pub report_source : List ℕ → Sources
+report_source report = record { netlist = []; stimulus = []; report = report; vcd = []; map = [] }
+
+abbrev pub traced_sources : List ℕ → List ℕ → Sources
+traced_sources netlist report = record { netlist = netlist; stimulus = []; report = report; vcd = []; map = [] }
+
+abbrev pub runs_sources : SignatureRequest → Sources
+runs_sources t = record { netlist = t.netlist; stimulus = t.runs; report = []; vcd = []; map = [] }
+
+abbrev pub values_sources : StimulusRequest → Sources
+values_sources t = record { netlist = t.netlist; stimulus = []; report = []; vcd = t.vcd; map = unwrap_or t.names [] }
+
+-- those of a request
+abbrev pub sources_of : Request → Sources
+sources_of Help = no_source
+sources_of Version = no_source
+sources_of (Flops netlist) = netlist_source netlist
+sources_of (Inputs netlist) = netlist_source netlist
+sources_of (Stats netlist) = netlist_source netlist
+sources_of (Steps report) = report_source report
+sources_of (Trace t) = traced_sources t.netlist t.report
+sources_of (Stimulus t) = values_sources t
+sources_of (Wave t) = traced_sources t.netlist t.report
+sources_of (Signature t) = runs_sources t
+
+abbrev pub sources_in : CodeSources → Sources
+sources_in n = record { netlist = n.netlist.now; stimulus = n.stimulus.now; report = n.report.now; vcd = n.vcd.now; map = n.map.now }

@@ -1,0 +1,155 @@
+//! The walks over the files of a report and of recorded runs: each file is fetched and read once, up to the first that stops the walk.
+ghost use Rattle.std.specs.Prelude.{◌≡◌, ◌+◌, length, map};
+ghost use Rattle.bs_top_plan.specs.Telling.{WalksTold};
+ghost use Rattle.bs_top_files.specs.NoteCases.{NoteSays};
+ghost use Rattle.bs_top_files.specs.Refusals.{CheckSays};
+ghost use Rattle.bs_inspect_files.specs.Taken.{charted_looked, charted_of, exercised_in, exercised_looked, exercised_of, picked_looked, picked_of};
+ghost use Rattle.bs_inspect_files.specs.Taken.{fit_step, fit_step_looked, report_step, report_step_looked, runs_step, runs_step_looked, traced_in, traced_looked, traced_of};
+
+use crate::fits::{fit_or_told, known_or_told};
+use crate::ready::{Exercised, Traced};
+use bs_net::Netlist;
+use bs_outside::Shelf;
+use bs_report::Report;
+use bs_top_files::{load_netlist, load_report, load_stimulus, size_or_told};
+use bs_top_plan::{File, Stop, settle_told};
+use std::alloc::Global;
+
+/// Drops a value, which a walk that stops lets go.
+fn let_go<T: Drop>(_value: T) {}
+
+/// A netlist and a report, where its trace fits.
+fn load_fitting<S: Shelf>(
+    alloc: Global,
+    _shelf: &mut S,
+    net: Netlist,
+    report: Report,
+    path: &str,
+) -> Result<Traced, Stop>
+    requires { length report.states ≡ length report.inputs + 1 }
+    ensures { WalksTold CheckSays NoteSays S.held S.faults S.leads _shelf.old _shelf.new
+        (fit_step net.raw report) (fit_step_looked path.now net.raw report) traced_in traced_in result }
+{
+    match settle_told(File::Report, fit_or_told(alloc, path, &net, &report)) {
+        Ok(()) => Ok(Traced { net, report }),
+        Err(stop) => {
+            let_go(net);
+            let_go(report);
+            Err(stop)
+        }
+    }
+}
+
+/// A netlist, and the report of a file whose trace fits it.
+fn load_reported<S: Shelf>(
+    alloc: Global,
+    shelf: &mut S,
+    net: Netlist,
+    path: &str,
+) -> Result<Traced, Stop>
+    ensures { WalksTold CheckSays NoteSays S.held S.faults S.leads shelf.old shelf.new
+        (report_step net.raw path.now) (report_step_looked net.raw path.now) traced_in traced_in result }
+{
+    match load_report(alloc, shelf, path) {
+        Ok(report) => load_fitting(alloc, shelf, net, report, path),
+        Err(stop) => {
+            let_go(net);
+            Err(stop)
+        }
+    }
+}
+
+/// A netlist, and a report whose trace fits it.
+fn load_traced<S: Shelf>(
+    alloc: Global,
+    shelf: &mut S,
+    netlist: &str,
+    report: &str,
+) -> Result<Traced, Stop>
+    ensures { WalksTold CheckSays NoteSays S.held S.faults S.leads shelf.old shelf.new
+        (traced_of netlist.now report.now) (traced_looked netlist.now report.now) traced_in traced_in result }
+{
+    match load_netlist(alloc, shelf, netlist) {
+        Ok(net) => load_reported(alloc, shelf, net, report),
+        Err(stop) => Err(stop),
+    }
+}
+
+/// The same, where the netlist has these names.
+pub fn load_picked<S: Shelf>(
+    alloc: Global,
+    shelf: &mut S,
+    netlist: &str,
+    report: &str,
+    only: &[&str],
+) -> Result<Traced, Stop>
+    ensures { WalksTold CheckSays NoteSays S.held S.faults S.leads shelf.old shelf.new
+        (picked_of netlist.now report.now (map (λ s. s.now) only.now)) (picked_looked netlist.now report.now (map (λ s. s.now) only.now))
+        traced_in traced_in result }
+{
+    let traced = load_traced(alloc, shelf, netlist, report)?;
+    let known = known_or_told(alloc, &traced.net, only);
+    match settle_told(File::Name, known) {
+        Ok(()) => Ok(traced),
+        Err(stop) => {
+            let_go(traced);
+            Err(stop)
+        }
+    }
+}
+
+/// The same, where a waveform of the report's trace is not too large.
+pub fn load_charted<S: Shelf>(
+    alloc: Global,
+    shelf: &mut S,
+    netlist: &str,
+    report: &str,
+) -> Result<Traced, Stop>
+    ensures { WalksTold CheckSays NoteSays S.held S.faults S.leads shelf.old shelf.new
+        (charted_of netlist.now report.now) (charted_looked netlist.now report.now) traced_in traced_in result }
+{
+    let traced = load_traced(alloc, shelf, netlist, report)?;
+    let size = size_or_told(alloc, report, &traced.net, &traced.report);
+    match settle_told(File::Report, size) {
+        Ok(()) => Ok(traced),
+        Err(stop) => {
+            let_go(traced);
+            Err(stop)
+        }
+    }
+}
+
+/// A netlist, and the recorded runs of a file.
+fn load_runs<S: Shelf>(
+    alloc: Global,
+    shelf: &mut S,
+    net: Netlist,
+    runs: &str,
+) -> Result<Exercised, Stop>
+    ensures { WalksTold CheckSays NoteSays S.held S.faults S.leads shelf.old shelf.new
+        (runs_step net.raw runs.now) (runs_step_looked net.raw runs.now) exercised_in exercised_in result }
+{
+    match load_stimulus(alloc, shelf, runs, &net) {
+        Ok(runs) => Ok(Exercised { net, runs }),
+        Err(stop) => {
+            let_go(net);
+            Err(stop)
+        }
+    }
+}
+
+/// A netlist, and recorded runs.
+pub fn load_exercised<S: Shelf>(
+    alloc: Global,
+    shelf: &mut S,
+    netlist: &str,
+    runs: &str,
+) -> Result<Exercised, Stop>
+    ensures { WalksTold CheckSays NoteSays S.held S.faults S.leads shelf.old shelf.new
+        (exercised_of netlist.now runs.now) (exercised_looked netlist.now runs.now) exercised_in exercised_in result }
+{
+    match load_netlist(alloc, shelf, netlist) {
+        Ok(net) => load_runs(alloc, shelf, net, runs),
+        Err(stop) => Err(stop),
+    }
+}

@@ -1,0 +1,3 @@
+pub mod NearLemmas
+pub mod LineLemmas
+pub mod WordLemmas

@@ -1,0 +1,5 @@
+pub mod Nearest
+pub mod Listings
+pub mod Simulations
+pub mod Names
+pub mod Usages

@@ -1,0 +1,38 @@
+-- Names as a note lists them.
+use Rattle.std.specs.Prelude.{ℕ, ◌==◌, nat_lt, List, [], ◌++◌, codes, length, take, if◌then◌else◌}
+use Rattle.std.specs.List.{flat_map}
+use Rattle.bs_note_places.specs.Quotes.{shown_line}
+use Rattle.bs_note_places.specs.declared.nearest.TheConstants.{NAMED}
+use Rattle.bs_note_files.specs.Notes.{plain_text}
+use Rattle.bs_inspect_notes.specs.Nearest.{nearest}
+use Rattle.bs_inspect_notes.specs.declared.listing.TheConstants.{LISTED}
+
+-- a name in quotes, as it is shown
+unfoldable pub quoted : List ℕ → List ℕ
+quoted name = codes "`" ++ (shown_line name ++ codes "`")
+
+abbrev pub name_piece : List ℕ → List ℕ
+name_piece name = codes " " ++ quoted name
+
+-- the nearest of these names, a few of them
+abbrev pub near_text : List ℕ → List (List ℕ) → List ℕ
+near_text name names = codes "; the nearest:" ++ flat_map name_piece (take NAMED (nearest name names))
+
+-- the same, where there are names
+abbrev pub some_near : List ℕ → List (List ℕ) → List ℕ
+some_near name names = if length names == 0 then [] else near_text name names
+
+abbrev pub more_piece : ℕ → List ℕ
+more_piece count = if nat_lt LISTED count then codes " .." else []
+
+-- the first of these names, and that there are more
+abbrev pub listed : List (List ℕ) → List ℕ
+listed names = flat_map name_piece (take LISTED names) ++ more_piece (length names)
+
+-- a line of such names behind a title
+abbrev pub listing : List ℕ → List (List ℕ) → List ℕ
+listing title names = plain_text (title ++ listed names)
+
+-- the same, where there are names
+abbrev pub some_listing : List ℕ → List (List ℕ) → List ℕ
+some_listing title names = if length names == 0 then [] else listing title names

@@ -1,0 +1,38 @@
+-- Which of some names are nearest to a name. A path before a name counts as none apart.
+use Rattle.std.specs.Prelude.{ℕ, ◌-◌, ◌==◌, ◌&&◌, ◌||◌, min, nat_lt, Bool, true, false, List, [], ◌∷◌, length, drop, fold, slice_index, if◌then◌else◌}
+use Rattle.std.specs.List.{filter}
+use Rattle.std.specs.Str.{bytes_eq}
+use Rattle.bs_note_places.specs.Nearest.{apart}
+
+-- the names of a path are parted by `.`, or by `/`
+abbrev pub is_separator : ℕ → Bool
+is_separator b = (b == 46) || (b == 47)
+
+-- a text ends with a separator and this name behind it
+abbrev pub ends_behind : List ℕ → List ℕ → Bool
+ends_behind whole name =
+    if nat_lt (length name) (length whole)
+    then is_separator (slice_index whole (length whole - length name - 1)) && bytes_eq (drop (length whole - length name) whole) name
+    else false
+
+-- how far two names are apart
+abbrev pub far : List ℕ → List ℕ → ℕ
+far name other = if ends_behind name other || ends_behind other name then 0 else apart name other
+
+-- the least distance of these names
+abbrev pub least : List ℕ → List (List ℕ) → ℕ
+least name [] = 0
+least name (n ∷ ns) = fold (λ d m. min d (far name m)) (far name n) ns
+
+-- a name that is kept, or not
+abbrev pub kept : Bool → List ℕ → List (List ℕ)
+kept true name = name ∷ []
+kept false name = []
+
+-- the names that are so far from this one
+abbrev pub at_distance : List ℕ → ℕ → List (List ℕ) → List (List ℕ)
+at_distance name d names = filter (λ n. far name n == d) names
+
+-- those of these names that are as near as any
+abbrev pub nearest : List ℕ → List (List ℕ) → List (List ℕ)
+nearest name names = at_distance name (least name names) names

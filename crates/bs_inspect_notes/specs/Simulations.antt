@@ -1,0 +1,103 @@
+-- Notes on the values of a simulator.
+use Rattle.std.specs.Prelude.{ℕ, ◌==◌, nat_eq, Bool, false, not, List, [], ◌∷◌, ◌++◌, codes, decimal, slice_index, Option, Some, None, if◌then◌else◌}
+use Rattle.std.specs.List.{list_any, position, starts_with}
+use Rattle.std.specs.Str.{bytes_eq}
+use Rattle.bs_inspect_vcd.specs.Tokens.{is_white}
+use Rattle.bs_note_files.specs.Notes.{Saying, saying, file_text, plain_text}
+use Rattle.bs_inspect_notes.specs.Listings.{quoted, some_near, some_listing}
+
+-- ---- a file of another kind, by its first bytes
+
+-- the bytes with which a file begins that gzip compressed
+abbrev pub gzip_front : List ℕ
+gzip_front = 31 ∷ 139 ∷ []
+
+-- the type and the length of the first block of an FST
+abbrev pub fst_front : List ℕ
+fst_front = 0 ∷ 0 ∷ 0 ∷ 0 ∷ 0 ∷ 0 ∷ 0 ∷ 1 ∷ 73 ∷ []
+
+abbrev pub keyword_at : List ℕ → Option ℕ → Bool
+keyword_at text None = false
+keyword_at text (Some at) = slice_index text at == 36
+
+-- the first byte that is not white space is `$`
+abbrev pub begins : List ℕ → Bool
+begins text = keyword_at text (position (λ b. not (is_white b)) text)
+
+-- what a file is that is no VCD at sight
+abbrev pub foreign : List ℕ → Option (List ℕ)
+foreign text =
+    if starts_with nat_eq text gzip_front then Some (codes "this is compressed by gzip: unpack it first, as by `gzip -dc FILE > FILE.vcd`")
+    else (if starts_with nat_eq text fst_front then Some (codes "this is an FST and no VCD: convert it first, as by `fst2vcd FILE > FILE.vcd`")
+    else (if begins text then None else Some (codes "this is no VCD: its first word does not begin with `$`")))
+
+-- ---- the text
+
+abbrev pub word_saying : Saying
+word_saying =
+    saying (codes "a word of this line cannot stand there, or the command that ends here")
+    (codes "a value is `0ID`, `1ID`, `xID`, `zID` or `bBITS ID`, a time `#N`, and times rise")
+
+abbrev pub ended_text : List ℕ → List ℕ
+ended_text path =
+    file_text path (codes "the text ends in its declarations, in a comment or behind a value") ++
+    plain_text (codes "was it cut short? `$enddefinitions $end` stands before the first time")
+
+-- ---- the clock
+
+abbrev pub has_scope : List ℕ → List (List ℕ) → Bool
+has_scope path paths = list_any (λ p. bytes_eq p path) paths
+
+-- that none is the clock
+unfoldable pub clock_piece : List ℕ → List (List ℕ) → List ℕ
+clock_piece clock names = codes " is the clock " ++ (quoted clock ++ some_near clock names)
+
+-- no variable of any scope is the clock
+abbrev pub any_sentence : List ℕ → List (List ℕ) → List ℕ
+any_sentence clock names = codes "no variable of one bit" ++ clock_piece clock names
+
+-- none of this scope is
+abbrev pub scope_sentence : List ℕ → List ℕ → List (List ℕ) → List ℕ
+scope_sentence path clock names = codes "no variable of one bit in the scope " ++ (quoted path ++ clock_piece clock names)
+
+-- there is no such scope
+abbrev pub path_sentence : List ℕ → List (List ℕ) → List ℕ
+path_sentence path paths = codes "there is no scope " ++ (quoted path ++ some_near path paths)
+
+-- what is said of a clock that is none, by the path of the scope, where one is asked for, the paths of all scopes, and the names of
+-- that scope's variables, or of all
+abbrev pub scoped_sentence : List ℕ → List ℕ → (paths names : List (List ℕ)) → List ℕ
+scoped_sentence path clock paths names = if has_scope path paths then scope_sentence path clock names else path_sentence path paths
+
+abbrev pub clock_sentence : Option (List ℕ) → List ℕ → (paths names : List (List ℕ)) → List ℕ
+clock_sentence None clock paths names = any_sentence clock names
+clock_sentence (Some path) clock paths names = scoped_sentence path clock paths names
+
+abbrev pub clock_text : List ℕ → Option (List ℕ) → List ℕ → (paths names : List (List ℕ)) → List ℕ
+clock_text file scope clock paths names =
+    (file_text file (clock_sentence scope clock paths names) ++ some_listing (codes "the scopes:") paths) ++
+    some_listing (codes "the variables there:") names
+
+-- ---- the inputs
+
+-- a data input with a key that no variable is, by its name in the simulation and the names of the scope's variables
+unfoldable pub input_sentence : (key name : List ℕ) → List (List ℕ) → List ℕ
+input_sentence key name names =
+    codes "no variable in the clock's scope is the data input " ++ (quoted key ++ (codes ", by the name " ++ (quoted name ++ some_near name names)))
+
+abbrev pub input_text : List ℕ → (key name : List ℕ) → List (List ℕ) → List ℕ
+input_text file key name names =
+    file_text file (input_sentence key name names) ++
+    plain_text (codes "a name that is another in the simulation stands in a file of lines KEY NAME behind --map")
+
+-- a data input whose bit is not known
+abbrev pub unknown_text : List ℕ → List ℕ → ℕ → List ℕ
+unknown_text file key time =
+    file_text file (codes "the data input " ++ (quoted key ++ (codes " is neither 0 nor 1 before the rising edge at time " ++ decimal time))) ++
+    plain_text (codes "drive each data input before the clock rises first, or begin to dump behind that")
+
+-- more edges than a run may have cycles
+abbrev pub cycles_text : List ℕ → List ℕ
+cycles_text file =
+    file_text file (codes "the clock rises more than 65536 times, the most cycles of a run") ++
+    plain_text (codes "is this the netlist's clock? dump a shorter time")

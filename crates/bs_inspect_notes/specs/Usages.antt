@@ -1,0 +1,105 @@
+-- How the words of each command stand, and the note on words that are none of them (docs/FORMATS.md, "Words of `backspace_inspect`").
+use Rattle.std.specs.Prelude.{ℕ, ◌+◌, ◌-◌, ◌==◌, ◌&&◌, drop, nat_lt, nat_eq, Bool, false, not, List, [], ◌∷◌, ◌++◌, codes, decimal, length, map, slice_index_or}
+use Rattle.std.specs.Prelude.{Option, Some, None, if◌then◌else◌}
+use Rattle.std.specs.List.{list_any, starts_with}
+use Rattle.std.specs.Str.{bytes_eq}
+use Rattle.std.specs.Borrow.{Bor}
+use Rattle.bs_inspect_names.specs.Splits.{Halves, first_split}
+use Rattle.bs_note_files.specs.Notes.{pair_text, plain_text}
+use Rattle.bs_inspect_notes.specs.Listings.{quoted, some_near}
+
+-- a command, and how its words stand
+pub record Usage : Type 0 where
+  pub command : List ℕ
+  pub line : List ℕ
+
+abbrev pub stands : List ℕ → List ℕ → Usage
+stands command line = record { command = command; line = line }
+
+abbrev pub usages : List Usage
+usages =
+    stands (codes "flops") (codes "usage: backspace_inspect flops NETLIST")
+    ∷ stands (codes "inputs") (codes "usage: backspace_inspect inputs NETLIST")
+    ∷ stands (codes "stats") (codes "usage: backspace_inspect stats NETLIST")
+    ∷ stands (codes "trace") (codes "usage: backspace_inspect trace NETLIST REPORT [--all] [--only NAME ..]")
+    ∷ stands (codes "steps") (codes "usage: backspace_inspect steps REPORT")
+    ∷ stands (codes "wave") (codes "usage: backspace_inspect wave NETLIST REPORT")
+    ∷ stands (codes "stimulus") (codes "usage: backspace_inspect stimulus NETLIST VCD --clock NAME [--scope PATH] [--map FILE]")
+    ∷ stands (codes "signature") (codes "usage: backspace_inspect signature NETLIST STIMULUS --bits N")
+    ∷ stands (codes "help") (codes "usage: backspace_inspect help")
+    ∷ stands (codes "version") (codes "usage: backspace_inspect version")
+    ∷ []
+
+-- what the first of these commands of a name takes
+abbrev pub line_among : List ℕ → List Usage → Option (List ℕ)
+line_among name [] = None
+line_among name (u ∷ us) = if bytes_eq name u.command then Some u.line else line_among name us
+
+-- the same of a table of the code
+abbrev pub line_in : List ℕ → List (Bor (List ℕ) × Bor (List ℕ)) → Option (List ℕ)
+line_in name [] = None
+line_in name (e ∷ es) = if bytes_eq name e.0.now then Some e.1.now else line_in name es
+
+abbrev pub commands : List (List ℕ)
+commands = map (λ u. u.command) usages
+
+abbrev pub options : List (List ℕ)
+options =
+    codes "--all" ∷ codes "--only" ∷ codes "--clock" ∷ codes "--scope" ∷ codes "--map" ∷ codes "--bits" ∷ []
+
+-- ---- wrong words
+
+abbrev pub before_sign : List ℕ → Option Halves → List ℕ
+before_sign word None = word
+before_sign word (Some h) = h.before
+
+-- the name of the option that a word gives: what stands before its first `=`
+abbrev pub option_name : List ℕ → List ℕ
+option_name word = before_sign word (first_split 61 word)
+
+-- a word that begins as an option and is none
+abbrev pub is_wrong : List ℕ → Bool
+is_wrong word =
+    (starts_with nat_eq word (codes "-") && nat_lt 1 (length word)) && not (list_any (λ o. bytes_eq o (option_name word)) options)
+
+-- the number of the first such word of these, the first of which has this number; behind `--` there is none
+abbrev pub first_wrong : ℕ → List (List ℕ) → Option ℕ
+first_wrong number [] = None
+first_wrong number (w ∷ ws) =
+    if bytes_eq w (codes "--") then None else (if is_wrong w then Some number else first_wrong (number + 1) ws)
+
+abbrev pub hint : List ℕ
+hint = codes "`backspace_inspect help` tells how the words of each command stand"
+
+-- a word with its number from 1, and what it is not
+unfoldable pub word_text : ℕ → List ℕ → List ℕ → List ℕ → List (List ℕ) → List ℕ
+word_text number word name what known =
+    codes "word " ++ (decimal number ++ (codes ", " ++ (quoted word ++ (codes ", is no " ++ (what ++ some_near name known)))))
+
+abbrev pub stand_text : List ℕ → List ℕ
+stand_text line =
+    pair_text (codes "the words do not stand as this command takes them: its files in this order, and each option that it takes as often as it may stand")
+    line
+
+abbrev pub behind_text : List (List ℕ) → List ℕ → Option ℕ → List ℕ
+behind_text words line None = stand_text line
+behind_text words line (Some number) =
+    plain_text (word_text number (slice_index_or words (number - 1) []) (option_name (slice_index_or words (number - 1) [])) (codes "option") options)
+    ++ plain_text line
+
+abbrev pub command_text : List ℕ → List (List ℕ) → Option (List ℕ) → List ℕ
+command_text command words None = plain_text (word_text 1 command command (codes "command") commands) ++ plain_text hint
+command_text command words (Some line) = behind_text words line (first_wrong 2 (drop 1 words))
+
+-- the note on words that are no request
+abbrev pub words_text : List (List ℕ) → List ℕ
+words_text [] = pair_text (codes "there are no words") hint
+words_text (c ∷ ws) = command_text c (c ∷ ws) (line_among c usages)
+
+-- words that are no text
+abbrev pub unread_text : List ℕ
+unread_text = pair_text (codes "the words of the command line are no text in UTF-8") hint
+
+-- want of memory
+abbrev pub memory_text : List ℕ
+memory_text = plain_text (codes "memory ran out, and nothing was written: give the program more")

@@ -1,0 +1,23 @@
+//! The notes of the program that tells about the files of a job: what is said of a simulation, of names, and of wrong words.
+//!
+//! Modules: `nearest` (the names that are nearest to one), `listing` (names in a note), `simulation`
+//! (on a VCD), `name` (on names and places that do not fit), `usage` (how words stand, and wrong
+//! words). Used above: the text of each note, exactly (`specs/Simulations`, `specs/Names`,
+//! `specs/Usages`). A path before a name counts as none apart, so a forgotten scope is found
+//! (`specs/Nearest`). A sentence: its text in specs and its function; a command: a line of `usages`
+//! and of `USAGES`, and each option in `options` and `OPTIONS`.
+#![tactic(auto)]
+
+mod listing;
+mod name;
+mod nearest;
+mod simulation;
+mod usage;
+
+pub use listing::LISTED;
+pub use name::{
+    first_word, form_saying, key_sentence, name_note, numbered, state_note, trace_note,
+    twice_saying,
+};
+pub use simulation::{clock_note, cycles_note, ended_note, foreign, input_note, unknown_note};
+pub use usage::{push_usages, unread_note, words_note};

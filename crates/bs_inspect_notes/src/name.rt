@@ -1,0 +1,113 @@
+//! Notes on names that are asked for, on the names of inputs in a simulation, and on a report of another netlist.
+ghost use Rattle.std.specs.Prelude.{◌≡◌, ◌-◌, map, IfOk};
+ghost use Rattle.bs_note_files.specs.Notes.{said};
+ghost use Rattle.bs_inspect_notes.specs.Names.{first_word, form_saying, key_sentence, name_text, numbered, state_text, trace_text, twice_saying};
+
+use crate::listing::{push_name, push_some_near};
+use bs_bits::{NoMemory, next_line, next_word, push_number, push_piece};
+use bs_note_files::{Message, file_note, plain_note};
+use std::alloc::Global;
+
+/// A note on a name that is none of a netlist with these keys.
+pub fn name_note(alloc: Global, name: &[u8], keys: &[&[u8]]) -> Result<Vec<u8>, NoMemory>
+    ensures { IfOk result (λ note. note.items ≡ name_text name.now (map (λ k. k.now) keys.now)) }
+{
+    let mut said = b"no flip-flop, data input or vector of these has the name ".to_vec(alloc)?;
+    push_name(&mut said, name)?;
+    push_some_near(alloc, &mut said, name, keys)?;
+    let mut note = plain_note(alloc, &said)?;
+    push_piece(
+        &mut note,
+        b"note: `flops` and `inputs` tell the keys; the name of a vector without an index names its bits\n",
+    )?;
+    Ok(note)
+}
+
+/// The line with a number, from 1.
+#[tactic(auto, using(crate::proofs::LineLemmas::line_here, crate::proofs::LineLemmas::line_later, crate::proofs::LineLemmas::line_none))]
+pub fn numbered(text: &[u8], number: u64) -> &[u8]
+    ensures { result.now ≡ numbered text.now number }
+{
+    let mut left = number.saturating_sub(1);
+    let mut rest = text;
+    'lines: while let Some((line, behind)) = next_line(rest) {
+        if left == 0 {
+            return line;
+        }
+        left -= 1;
+        rest = behind;
+    }
+    b""
+}
+
+/// The first word of a line.
+#[tactic(auto, using(crate::proofs::LineLemmas::word_alone, crate::proofs::LineLemmas::word_before))]
+pub fn first_word(line: &[u8]) -> &[u8]
+    ensures { result.now ≡ first_word line.now }
+{
+    let (word, behind) = next_word(line);
+    match behind {
+        Some(_) => word,
+        None => word,
+    }
+}
+
+/// What is said of a line that is no key and name.
+pub fn form_saying() -> Message<'static>
+    ensures { said result ≡ form_saying }
+{
+    Message {
+        sentence: b"a line is `KEY NAME`, two words with one space between",
+        label: b"the key of a data input, and its name in the simulation",
+    }
+}
+
+/// What is said of a line whose key has a line already.
+pub fn twice_saying() -> Message<'static>
+    ensures { said result ≡ twice_saying }
+{
+    Message {
+        sentence: b"the key of this line has a line already",
+        label: b"take one of them out",
+    }
+}
+
+/// What is said of a key that is that of no data input with these.
+pub fn key_sentence(alloc: Global, key: &[u8], keys: &[&[u8]]) -> Result<Vec<u8>, NoMemory>
+    ensures { IfOk result (λ said. said.items ≡ key_sentence key.now (map (λ k. k.now) keys.now)) }
+{
+    let mut said = b"no data input has the key ".to_vec(alloc)?;
+    push_name(&mut said, key)?;
+    push_some_near(alloc, &mut said, key, keys)?;
+    Ok(said)
+}
+
+/// A note on a state of a report's trace that has another number of bits than a netlist has flip-flops.
+pub fn state_note(alloc: Global, file: &str, place: u64) -> Result<Vec<u8>, NoMemory>
+    ensures { IfOk result (λ note. note.items ≡ state_text file.now place) }
+{
+    let mut said = b"state ".to_vec(alloc)?;
+    push_number(&mut said, place)?;
+    push_piece(
+        &mut said,
+        b" of the trace has not one bit for each flip-flop of the netlist",
+    )?;
+    let mut note = file_note(alloc, file, &said)?;
+    push_piece(&mut note, b"note: is it the report of this very netlist?\n")?;
+    Ok(note)
+}
+
+/// A note on an input of a report's trace that has another number of bits than a netlist has data inputs.
+pub fn trace_note(alloc: Global, file: &str, place: u64) -> Result<Vec<u8>, NoMemory>
+    ensures { IfOk result (λ note. note.items ≡ trace_text file.now place) }
+{
+    let mut said = b"input ".to_vec(alloc)?;
+    push_number(&mut said, place)?;
+    push_piece(
+        &mut said,
+        b" of the trace has not one bit for each data input of the netlist",
+    )?;
+    let mut note = file_note(alloc, file, &said)?;
+    push_piece(&mut note, b"note: is it the report of this very netlist?\n")?;
+    Ok(note)
+}

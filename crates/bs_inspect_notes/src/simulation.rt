@@ -1,0 +1,271 @@
+//! Notes on the values of a simulator.
+ghost use Rattle.std.specs.Prelude.{◌≡◌, ◌<◌, ◌++◌, length, map, not, option_map, IfOk, IfSome, OnOk};
+ghost use Rattle.std.specs.List.{list_any, position};
+ghost use Rattle.std.specs.Str.{bytes_eq};
+ghost use Rattle.bs_inspect_vcd.specs.Tokens.{is_white};
+ghost use Rattle.bs_inspect_notes.specs.Simulations.{any_sentence, begins, clock_piece, clock_sentence, clock_text, cycles_text, ended_text, foreign, has_scope, input_sentence, input_text, path_sentence, scope_sentence, scoped_sentence, unknown_text};
+
+use crate::listing::{push_name, push_some_listing, push_some_near};
+use bs_bits::{NoMemory, push_number, push_piece};
+use bs_note_files::file_note;
+use std::alloc::Global;
+
+// ---- a file of another kind
+
+/// The bytes with which a file begins that gzip compressed.
+const GZIP: [u8; 2] = [31, 139];
+
+/// The type and the length of the first block of an FST.
+const FST: [u8; 9] = [0, 0, 0, 0, 0, 0, 0, 1, 73];
+
+/// Whether a byte is white space.
+fn is_white(byte: u8) -> bool
+    ensures { result ≡ is_white byte }
+{
+    byte == b' ' || (9 <= byte && byte <= 13)
+}
+
+/// The place of the first byte that is not white space.
+fn first_black(text: &[u8]) -> Option<usize>
+    ensures is { result ≡ position (λ b. not (is_white b)) text.now }
+    ensures there { IfSome result (λ at. at < length text.now) }
+{
+    text.iter().position(|byte| !is_white(*byte))
+}
+
+/// Whether the first word of a text begins with `$`.
+fn begins(text: &[u8]) -> bool
+    ensures { result ≡ begins text.now }
+{
+    match first_black(text) {
+        Some(at) => text[at] == b'$',
+        None => false,
+    }
+}
+
+/// What a file is that is no VCD at sight.
+pub fn foreign(text: &[u8]) -> Option<&'static str>
+    ensures { option_map (λ s. s.now) result ≡ foreign text.now }
+{
+    if text.starts_with(GZIP.as_slice()) {
+        return Some(
+            "this is compressed by gzip: unpack it first, as by `gzip -dc FILE > FILE.vcd`",
+        );
+    }
+    if text.starts_with(FST.as_slice()) {
+        return Some("this is an FST and no VCD: convert it first, as by `fst2vcd FILE > FILE.vcd`");
+    }
+    if begins(text) {
+        None
+    } else {
+        Some("this is no VCD: its first word does not begin with `$`")
+    }
+}
+
+/// A note on a text that ends too early.
+pub fn ended_note(alloc: Global, path: &str) -> Result<Vec<u8>, NoMemory>
+    ensures { IfOk result (λ note. note.items ≡ ended_text path.now) }
+{
+    let mut note = file_note(
+        alloc,
+        path,
+        b"the text ends in its declarations, in a comment or behind a value",
+    )?;
+    push_piece(
+        &mut note,
+        b"note: was it cut short? `$enddefinitions $end` stands before the first time\n",
+    )?;
+    Ok(note)
+}
+
+// ---- the clock
+
+/// Whether a path is one of these.
+fn has_path(path: &[u8], paths: &[&[u8]]) -> bool
+    ensures { result ≡ list_any (λ p. bytes_eq p.now path.now) paths.now }
+{
+    paths.iter().any(|p| *p == path)
+}
+
+/// Whether there is a scope with a path.
+#[tactic(auto, using(crate::proofs::NearLemmas::any_path))]
+fn has_scope(path: &[u8], paths: &[&[u8]]) -> bool
+    ensures { result ≡ has_scope path.now (map (λ p. p.now) paths.now) }
+{
+    has_path(path, paths)
+}
+
+/// Appends that none is the clock.
+fn push_clock(
+    alloc: Global,
+    said: &mut Vec<u8>,
+    clock: &str,
+    names: &[&[u8]],
+) -> Result<(), NoMemory>
+    ensures { OnOk result (said.new.items ≡ said.old.items ++ clock_piece clock.now (map (λ n. n.now) names.now)) }
+{
+    let name = clock.as_bytes();
+    push_piece(said, b" is the clock ")?;
+    push_name(said, name)?;
+    push_some_near(alloc, said, name, names)?;
+    Ok(())
+}
+
+/// What is said where no variable is the clock.
+fn any_sentence(alloc: Global, clock: &str, names: &[&[u8]]) -> Result<Vec<u8>, NoMemory>
+    ensures { IfOk result (λ said. said.items ≡ any_sentence clock.now (map (λ n. n.now) names.now)) }
+{
+    let mut said = b"no variable of one bit".to_vec(alloc)?;
+    push_clock(alloc, &mut said, clock, names)?;
+    Ok(said)
+}
+
+/// What is said where none of a scope is.
+fn scope_sentence(
+    alloc: Global,
+    path: &str,
+    clock: &str,
+    names: &[&[u8]],
+) -> Result<Vec<u8>, NoMemory>
+    ensures { IfOk result (λ said. said.items ≡ scope_sentence path.now clock.now (map (λ n. n.now) names.now)) }
+{
+    let mut said = b"no variable of one bit in the scope ".to_vec(alloc)?;
+    push_name(&mut said, path.as_bytes())?;
+    push_clock(alloc, &mut said, clock, names)?;
+    Ok(said)
+}
+
+/// What is said where there is no such scope.
+fn path_sentence(alloc: Global, path: &str, paths: &[&[u8]]) -> Result<Vec<u8>, NoMemory>
+    ensures { IfOk result (λ said. said.items ≡ path_sentence path.now (map (λ n. n.now) paths.now)) }
+{
+    let mut said = b"there is no scope ".to_vec(alloc)?;
+    push_name(&mut said, path.as_bytes())?;
+    push_some_near(alloc, &mut said, path.as_bytes(), paths)?;
+    Ok(said)
+}
+
+/// What is said of a clock that is none in a scope.
+fn scoped_sentence(
+    alloc: Global,
+    path: &str,
+    clock: &str,
+    paths: &[&[u8]],
+    names: &[&[u8]],
+) -> Result<Vec<u8>, NoMemory>
+    ensures { IfOk result (λ said. said.items ≡ scoped_sentence path.now clock.now (map (λ p. p.now) paths.now) (map (λ n. n.now) names.now)) }
+{
+    if has_scope(path.as_bytes(), paths) {
+        scope_sentence(alloc, path, clock, names)
+    } else {
+        path_sentence(alloc, path, paths)
+    }
+}
+
+/// What is said of a clock that is none.
+fn clock_sentence(
+    alloc: Global,
+    scope: Option<&str>,
+    clock: &str,
+    paths: &[&[u8]],
+    names: &[&[u8]],
+) -> Result<Vec<u8>, NoMemory>
+    ensures { IfOk result (λ said. said.items ≡ clock_sentence (option_map (λ s. s.now) scope.entry) clock.now (map (λ p. p.now) paths.now) (map (λ n. n.now) names.now)) }
+{
+    match scope {
+        Some(path) => scoped_sentence(alloc, path, clock, paths, names),
+        None => any_sentence(alloc, clock, names),
+    }
+}
+
+/// A note on a clock that is none: the nearest names, the scopes that there are, and the variables of the one that is asked for.
+pub fn clock_note(
+    alloc: Global,
+    file: &str,
+    scope: Option<&str>,
+    clock: &str,
+    paths: &[&[u8]],
+    names: &[&[u8]],
+) -> Result<Vec<u8>, NoMemory>
+    ensures { IfOk result (λ note. note.items ≡ clock_text file.now (option_map (λ s. s.now) scope.entry) clock.now (map (λ p. p.now) paths.now) (map (λ n. n.now) names.now)) }
+{
+    let said = clock_sentence(alloc, scope, clock, paths, names)?;
+    let mut note = file_note(alloc, file, &said)?;
+    push_some_listing(&mut note, "the scopes:", paths)?;
+    push_some_listing(&mut note, "the variables there:", names)?;
+    Ok(note)
+}
+
+// ---- the inputs
+
+/// What is said of a data input that no variable is.
+#[tactic(auto, unfolding(crate::specs::Simulations::input_sentence))]
+fn input_sentence(
+    alloc: Global,
+    key: &[u8],
+    name: &[u8],
+    names: &[&[u8]],
+) -> Result<Vec<u8>, NoMemory>
+    ensures { IfOk result (λ said. said.items ≡ input_sentence key.now name.now (map (λ n. n.now) names.now)) }
+{
+    let mut said = b"no variable in the clock's scope is the data input ".to_vec(alloc)?;
+    push_name(&mut said, key)?;
+    push_piece(&mut said, b", by the name ")?;
+    push_name(&mut said, name)?;
+    push_some_near(alloc, &mut said, name, names)?;
+    Ok(said)
+}
+
+/// A note on a data input that no variable is.
+pub fn input_note(
+    alloc: Global,
+    file: &str,
+    key: &[u8],
+    name: &[u8],
+    names: &[&[u8]],
+) -> Result<Vec<u8>, NoMemory>
+    ensures { IfOk result (λ note. note.items ≡ input_text file.now key.now name.now (map (λ n. n.now) names.now)) }
+{
+    let said = input_sentence(alloc, key, name, names)?;
+    let mut note = file_note(alloc, file, &said)?;
+    push_piece(
+        &mut note,
+        b"note: a name that is another in the simulation stands in a file of lines KEY NAME behind --map\n",
+    )?;
+    Ok(note)
+}
+
+/// A note on a data input whose bit is not known.
+pub fn unknown_note(alloc: Global, file: &str, key: &[u8], time: u64) -> Result<Vec<u8>, NoMemory>
+    ensures { IfOk result (λ note. note.items ≡ unknown_text file.now key.now time) }
+{
+    let mut said = b"the data input ".to_vec(alloc)?;
+    push_name(&mut said, key)?;
+    push_piece(
+        &mut said,
+        b" is neither 0 nor 1 before the rising edge at time ",
+    )?;
+    push_number(&mut said, time)?;
+    let mut note = file_note(alloc, file, &said)?;
+    push_piece(
+        &mut note,
+        b"note: drive each data input before the clock rises first, or begin to dump behind that\n",
+    )?;
+    Ok(note)
+}
+
+/// A note on values that have too many edges.
+pub fn cycles_note(alloc: Global, file: &str) -> Result<Vec<u8>, NoMemory>
+    ensures { IfOk result (λ note. note.items ≡ cycles_text file.now) }
+{
+    let mut note = file_note(
+        alloc,
+        file,
+        b"the clock rises more than 65536 times, the most cycles of a run",
+    )?;
+    push_piece(
+        &mut note,
+        b"note: is this the netlist's clock? dump a shorter time\n",
+    )?;
+    Ok(note)
+}

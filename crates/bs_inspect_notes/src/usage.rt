@@ -1,0 +1,271 @@
+//! How the words of each command stand, and the note on words that are none of them.
+ghost use Rattle.std.specs.Prelude.{◌≡◌, ◌++◌, ◌<◌, ◌≤◌, [], codes, drop, length, map, option_map, slice_index_or, string_bytes, IfOk, IfSome, OnOk};
+ghost use Rattle.std.specs.List.{flat_map, list_any};
+ghost use Rattle.std.specs.Str.{bytes_eq};
+ghost use Rattle.bs_bits.specs.Lines.{line};
+ghost use Rattle.bs_note_files.specs.Notes.{plain_text};
+ghost use Rattle.bs_inspect_notes.specs.Usages.{behind_text, command_text, commands, first_wrong, hint, is_wrong, line_among, line_in, option_name, options};
+ghost use Rattle.bs_inspect_notes.specs.Usages.{unread_text, usages, word_text, words_text};
+
+use crate::listing::{push_name, push_some_near};
+use bs_bits::{NoMemory, push_line, push_number, push_piece};
+use bs_inspect_names::first_split;
+use bs_note_files::pair_note;
+use std::alloc::Global;
+
+/// The commands, and how the words of each stand.
+const USAGES: [(&str, &str); 10] = [
+    ("flops", "usage: backspace_inspect flops NETLIST"),
+    ("inputs", "usage: backspace_inspect inputs NETLIST"),
+    ("stats", "usage: backspace_inspect stats NETLIST"),
+    (
+        "trace",
+        "usage: backspace_inspect trace NETLIST REPORT [--all] [--only NAME ..]",
+    ),
+    ("steps", "usage: backspace_inspect steps REPORT"),
+    ("wave", "usage: backspace_inspect wave NETLIST REPORT"),
+    (
+        "stimulus",
+        "usage: backspace_inspect stimulus NETLIST VCD --clock NAME [--scope PATH] [--map FILE]",
+    ),
+    (
+        "signature",
+        "usage: backspace_inspect signature NETLIST STIMULUS --bits N",
+    ),
+    ("help", "usage: backspace_inspect help"),
+    ("version", "usage: backspace_inspect version"),
+];
+
+/// The options of all commands.
+const OPTIONS: [&[u8]; 6] = [
+    b"--all", b"--only", b"--clock", b"--scope", b"--map", b"--bits",
+];
+
+/// The commands.
+const COMMANDS: [&[u8]; 10] = [
+    b"flops",
+    b"inputs",
+    b"stats",
+    b"trace",
+    b"steps",
+    b"wave",
+    b"stimulus",
+    b"signature",
+    b"help",
+    b"version",
+];
+
+/// The commands, as names.
+fn command_names() -> &'static [&'static [u8]]
+    ensures { map (λ n. n.now) result.now ≡ commands }
+{
+    &COMMANDS
+}
+
+/// The options of all commands, as names.
+fn option_names() -> &'static [&'static [u8]]
+    ensures { map (λ n. n.now) result.now ≡ options }
+{
+    &OPTIONS
+}
+
+// ---- how words stand
+
+/// Appends the line of each command of a table.
+fn push_lines(text: &mut Vec<u8>, table: &[(&str, &str)]) -> Result<(), NoMemory>
+    ensures { OnOk result (text.new.items ≡ text.old.items ++ flat_map (λ e. line e.1.now) table.now) }
+{
+    'entries: for entry in table {
+        push_line(text, entry.1.as_bytes())?;
+    }
+    Ok(())
+}
+
+/// Appends a line for each command.
+pub fn push_usages(text: &mut Vec<u8>) -> Result<(), NoMemory>
+    ensures { OnOk result (text.new.items ≡ text.old.items ++ flat_map (λ u. line u.line) usages) }
+{
+    push_lines(text, &USAGES)
+}
+
+/// The line of a command in a table.
+fn line_in<'a>(name: &[u8], table: &[(&str, &'a str)]) -> Option<&'a str>
+    ensures { option_map (λ s. s.now) result ≡ line_in name.now table.now }
+{
+    'entries: for entry in table {
+        if name == entry.0.as_bytes() {
+            return Some(entry.1);
+        }
+    }
+    None
+}
+
+/// How the words of a command stand.
+fn usage_of(name: &[u8]) -> Option<&'static str>
+    ensures { option_map (λ s. s.now) result ≡ line_among name.now usages }
+{
+    line_in(name, &USAGES)
+}
+
+// ---- wrong words
+
+/// The name of the option that a word gives.
+fn option_name(word: &[u8]) -> &[u8]
+    ensures { result.now ≡ option_name word.now }
+{
+    match first_split(b'=', word) {
+        Some((name, _)) => name,
+        None => word,
+    }
+}
+
+/// Whether a name is one of these.
+fn is_one_of(name: &[u8], names: &[&[u8]]) -> bool
+    ensures { result ≡ list_any (λ o. bytes_eq o.now name.now) names.now }
+{
+    names.iter().any(|other| *other == name)
+}
+
+/// Whether a name is that of an option.
+fn is_option(name: &[u8]) -> bool
+    ensures { result ≡ list_any (λ o. bytes_eq o name.now) options }
+{
+    is_one_of(name, &OPTIONS)
+}
+
+/// Whether a word begins as an option and is none.
+fn is_wrong(word: &[u8]) -> bool
+    ensures { result ≡ is_wrong word.now }
+{
+    let dashed = word.starts_with(b"-".as_slice());
+    let named = 1 < word.len();
+    let known = is_option(option_name(word));
+    (dashed && named) && !known
+}
+
+/// The word at a place.
+fn word_at(words: &[String], at: usize) -> &[u8]
+    requires { at < length words.now }
+    ensures { result.now ≡ slice_index_or (map string_bytes words.now) at [] }
+{
+    words[at].as_bytes()
+}
+
+/// The number, from 1, of the first word behind the command that begins as an option and is none.
+#[tactic(auto, using(crate::proofs::WordLemmas::wrong_stop, crate::proofs::WordLemmas::wrong_found, crate::proofs::WordLemmas::wrong_next, crate::proofs::WordLemmas::wrong_none))]
+fn first_wrong(words: &[String]) -> Option<usize>
+    ensures is { result ≡ first_wrong 2 (drop 1 (map string_bytes words.now)) }
+    ensures there { IfSome result (λ number. (0 < number) × (number ≤ length words.now)) }
+{
+    'words: for at in 1..words.len() {
+        let word = word_at(words, at);
+        if word == b"--".as_slice() {
+            return None;
+        }
+        if is_wrong(word) {
+            return Some(at + 1);
+        }
+    }
+    None
+}
+
+/// What is said of a word with its number, which is none of these names.
+#[tactic(auto, unfolding(crate::specs::Usages::word_text))]
+fn word_sentence(
+    alloc: Global,
+    number: u64,
+    word: &[u8],
+    name: &[u8],
+    what: &str,
+    known: &[&[u8]],
+) -> Result<Vec<u8>, NoMemory>
+    ensures { IfOk result (λ said. said.items ≡ word_text number word.now name.now what.now (map (λ n. n.now) known.now)) }
+{
+    let mut said = b"word ".to_vec(alloc)?;
+    push_number(&mut said, number)?;
+    push_piece(&mut said, b", ")?;
+    push_name(&mut said, word)?;
+    push_piece(&mut said, b", is no ")?;
+    push_piece(&mut said, what.as_bytes())?;
+    push_some_near(alloc, &mut said, name, known)?;
+    Ok(said)
+}
+
+/// A note on a word that begins as an option and is none.
+fn option_note(alloc: Global, number: usize, word: &[u8], line: &str) -> Result<Vec<u8>, NoMemory>
+    ensures { IfOk result (λ note. note.items ≡ plain_text (word_text number word.now (option_name word.now) (codes "option") options) ++ plain_text line.now) }
+{
+    let said = word_sentence(
+        alloc,
+        number as u64,
+        word,
+        option_name(word),
+        "option",
+        option_names(),
+    )?;
+    pair_note(alloc, &said, line.as_bytes())
+}
+
+/// A note on the words behind a command that stand so.
+#[tactic(auto, using(crate::proofs::WordLemmas::behind_found, crate::proofs::WordLemmas::behind_none))]
+fn behind_note(alloc: Global, words: &[String], line: &str) -> Result<Vec<u8>, NoMemory>
+    ensures { IfOk result (λ note. note.items ≡ behind_text (map string_bytes words.now) line.now (first_wrong 2 (drop 1 (map string_bytes words.now)))) }
+{
+    match first_wrong(words) {
+        Some(number) => option_note(alloc, number, word_at(words, number - 1), line),
+        None => pair_note(
+            alloc,
+            b"the words do not stand as this command takes them: its files in this order, and each option that it takes as often as it may stand",
+            line.as_bytes(),
+        ),
+    }
+}
+
+/// A note on a word that is no command.
+fn unknown_note(alloc: Global, command: &[u8]) -> Result<Vec<u8>, NoMemory>
+    ensures { IfOk result (λ note. note.items ≡ plain_text (word_text 1 command.now command.now (codes "command") commands) ++ plain_text hint) }
+{
+    let said = word_sentence(alloc, 1, command, command, "command", command_names())?;
+    pair_note(
+        alloc,
+        &said,
+        b"`backspace_inspect help` tells how the words of each command stand",
+    )
+}
+
+/// A note on words that begin with this one.
+#[tactic(auto, using(crate::proofs::WordLemmas::known_command, crate::proofs::WordLemmas::no_command))]
+fn command_note(alloc: Global, command: &[u8], words: &[String]) -> Result<Vec<u8>, NoMemory>
+    ensures { IfOk result (λ note. note.items ≡ command_text command.now (map string_bytes words.now) (line_among command.now usages)) }
+{
+    match usage_of(command) {
+        Some(line) => behind_note(alloc, words, line),
+        None => unknown_note(alloc, command),
+    }
+}
+
+/// A note on words that are no request: a command or an option that is none, with the nearest, and how the command's words stand.
+#[tactic(auto, using(crate::proofs::WordLemmas::no_words, crate::proofs::WordLemmas::some_words))]
+pub fn words_note(alloc: Global, words: &[String]) -> Result<Vec<u8>, NoMemory>
+    ensures { IfOk result (λ note. note.items ≡ words_text (map string_bytes words.now)) }
+{
+    if words.len() == 0 {
+        return pair_note(
+            alloc,
+            b"there are no words",
+            b"`backspace_inspect help` tells how the words of each command stand",
+        );
+    }
+    command_note(alloc, word_at(words, 0), words)
+}
+
+/// A note on words that are no text.
+pub fn unread_note(alloc: Global) -> Result<Vec<u8>, NoMemory>
+    ensures { IfOk result (λ note. note.items ≡ unread_text) }
+{
+    pair_note(
+        alloc,
+        b"the words of the command line are no text in UTF-8",
+        b"`backspace_inspect help` tells how the words of each command stand",
+    )
+}

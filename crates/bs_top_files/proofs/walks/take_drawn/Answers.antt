@@ -1,5 +1,0 @@
-use Rattle.bs_top_plan.proofs.TellingLemmas.{line_walked}
-use Rattle.bs_top_files.proofs.walks.take_drawn.Goals as goal
-
-pub returns : goal.returns
-returns g c = line_walked _ c.lined.ensures c.load_drawn.ensures
