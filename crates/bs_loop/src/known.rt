@@ -20,8 +20,8 @@ use bs_report::{Budgets, Cand, ListEnd, Step};
 use bs_scan::{Dump, Moment};
 use std::alloc::Global;
 
-/// How many states a step may ask about at most.
-pub const MAX_TRIES: u64 = 1_000;
+/// How many states a step may ask about at most. In the first step each is replayed from reset.
+pub const MAX_TRIES: u64 = 4;
 
 /// How many more states each step may ask about, up to the most.
 const MORE_TRIES: u64 = 1;

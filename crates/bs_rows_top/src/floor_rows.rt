@@ -1,4 +1,4 @@
-//! Lists that are cut, behind a hit: the moment before it is the last candidate.
+//! Lists that are cut: the first recorded moment that leads to the present is a candidate, or the moment before the last hit.
 
 use crate::reports::{NONE, Run, first_other};
 use bs_top::Status;
@@ -15,8 +15,14 @@ const STEPS: &str = "run a 3\n11110\n00001\n00000\nend\n";
 /// The dump of the crash.
 const CRASH: &str = "state 000001\nsig .\nend\n";
 
+/// A run in which the last of the eight is recorded, and does not lead to the state before the crash.
+const OTHERWISE: &str = "run a 2\n11110\n00000\nend\n";
+
+/// The dump of the state before the crash.
+const BEFORE: &str = "state 000010\nsig .\nend\n";
+
 /// Runs with lists that are cut.
-const CUT: [Run<'static>; 11] = [
+const CUT: [Run<'static>; 18] = [
     // the moment before the hit is the one candidate
     (
         "run n s t d --candidates 1",
@@ -129,10 +135,72 @@ const CUT: [Run<'static>; 11] = [
         "backspace 2\nasked 64 candidates 1 conflicts 100000\nstep 1\npresent 000001\nstored .\nolder .\ncand 000010 input *\nlist candidates\nhit 1 2 000010\nstep 2\npresent 000010\nstored .\nolder .\ncand 111100 input 00001 from 000000 input 11110\nlist candidates\nhit 1 1 111100\nstep 3\npresent 111100\nstored .\nolder none\ncand 000000 input *\nlist candidates\nhit 1 0 000000\nstop reset\ntrace 3\nstate 000000\ninput *\nstate 111100\ninput 00001\nstate 000010\ninput *\nstate 000001\nlog *\n",
         NONE,
     ),
+    // a recorded state leads to the dump under an input that was not recorded: of eight predecessors it is the one candidate
+    (
+        "run n s t d --candidates 1",
+        [EIGHT, "", OTHERWISE, BEFORE, ""],
+        Status::Done,
+        "backspace 1\nasked 64 candidates 1 conflicts 100000\nstep 1\npresent 000010\nstored .\ncand 111100 input 00001\nlist candidates\nhit 1 1 111100\nstep 2\npresent 111100\nstored .\ncand 000000 input *\nlist candidates\nhit 1 0 000000\nstop reset\ntrace 2\nstate 000000\ninput *\nstate 111100\ninput 00001\nstate 000010\nlog *\n",
+        NONE,
+    ),
+    // the last of seven
+    (
+        "run n s t d --candidates 7",
+        [EIGHT, "", OTHERWISE, BEFORE, ""],
+        Status::Done,
+        "backspace 1\nasked 64 candidates 7 conflicts 100000\nstep 1\npresent 000010\nstored .\ncand *\ncand *\ncand *\ncand *\ncand *\ncand *\ncand 111100 input 00001\nlist candidates\nhit 1 1 111100\nstep 2\npresent 111100\nstored .\ncand 000000 input *\ncand *\ncand *\ncand *\ncand *\ncand *\ncand *\nlist candidates\nhit 1 0 000000\nstop reset\ntrace 2\nstate 000000\ninput *\nstate 111100\ninput 00001\nstate 000010\nlog *\n",
+        NONE,
+    ),
+    // one of the eight, each of them once
+    (
+        "run n s t d --candidates 8",
+        [EIGHT, "", OTHERWISE, BEFORE, ""],
+        Status::Done,
+        "backspace 1\nasked 64 candidates 8 conflicts 100000\nstep 1\npresent 000010\nstored .\ncand 000100 input 00001\ncand 001100 input 00001\ncand 010100 input 00001\ncand 011100 input 00001\ncand 100100 input 00001\ncand 101100 input 00001\ncand 110100 input 00001\ncand 111100 input 00001\nlist candidates\nhit 1 1 111100\nstep 2\npresent 111100\nstored .\ncand 000000 input *\ncand *\ncand *\ncand *\ncand *\ncand *\ncand *\ncand *\nlist candidates\nhit 1 0 000000\nstop reset\ntrace 2\nstate 000000\ninput *\nstate 111100\ninput 00001\nstate 000010\nlog *\n",
+        NONE,
+    ),
+    // the list is finished
+    (
+        "run n s t d --candidates 9",
+        [EIGHT, "", OTHERWISE, BEFORE, ""],
+        Status::Done,
+        "backspace 1\nasked 64 candidates 9 conflicts 100000\nstep 1\npresent 000010\nstored .\ncand 000100 input 00001\ncand 001100 input 00001\ncand 010100 input 00001\ncand 011100 input 00001\ncand 100100 input 00001\ncand 101100 input 00001\ncand 110100 input 00001\ncand 111100 input 00001\nlist finished *\nhit 1 1 111100\nstep 2\npresent 111100\nstored .\ncand 000000 input *\ncand *\ncand *\ncand *\ncand *\ncand *\ncand *\ncand *\ncand *\nlist candidates\nhit 1 0 000000\nstop reset\ntrace 2\nstate 000000\ninput *\nstate 111100\ninput 00001\nstate 000010\nlog *\n",
+        NONE,
+    ),
+    // two recorded states do, and the earlier moment is the later one in the order of states
+    (
+        "run n s t d --candidates 1",
+        [EIGHT, "", "run a 3\n11110\n00010\n00000\nend\n", BEFORE, ""],
+        Status::Done,
+        "backspace 1\nasked 64 candidates 1 conflicts 100000\nstep 1\npresent 000010\nstored .\ncand 111100 input 00001\nlist candidates\nhit 1 1 111100\nstep 2\npresent 111100\nstored .\ncand 000000 input *\nlist candidates\nhit 1 0 000000\nstop reset\ntrace 2\nstate 000000\ninput *\nstate 111100\ninput 00001\nstate 000010\nlog *\n",
+        NONE,
+    ),
+    // no recorded state does, under any input
+    (
+        "run n s t d --candidates 1",
+        [EIGHT, "", "run a 2\n11100\n00000\nend\n", BEFORE, ""],
+        Status::Spent,
+        "backspace 1\nasked 64 candidates 1 conflicts 100000\nstep 1\npresent 000010\nstored .\ncand *\nlist candidates\nnohit\nstop candidates\ntrace 0\nstate 000010\nlog *\n",
+        NONE,
+    ),
+    // the state at reset does, at cycle 0
+    (
+        "run n s t d --candidates 1",
+        [
+            EIGHT,
+            "",
+            "run a 1\n00000\nend\n",
+            "state 111100\nsig .\nend\n",
+            "",
+        ],
+        Status::Done,
+        "backspace 1\nasked 64 candidates 1 conflicts 100000\nstep 1\npresent 111100\nstored .\ncand 000000 input *\nlist candidates\nhit 1 0 000000\nstop reset\ntrace 1\nstate 000000\ninput *\nstate 111100\nlog *\n",
+        NONE,
+    ),
 ];
 
 #[test]
-fn the_moment_before_a_hit_is_listed(rt: HostRuntime) -> Result<(), Fail> {
+fn a_recorded_moment_is_listed(rt: HostRuntime) -> Result<(), Fail> {
     assert_eq!(rt; first_other(rt.alloc(), &CUT)?, None);
     Ok(())
 }
