@@ -22,6 +22,8 @@ mod mode_rows;
 #[cfg(test)]
 mod older_rows;
 #[cfg(test)]
+mod output_rows;
+#[cfg(test)]
 mod reach_rows;
 #[cfg(test)]
 mod refusal_rows;
