@@ -112,8 +112,12 @@ pub place_never : (s : Stimulus) (place k left : ℕ) → length s.runs ≤ k �
 place_never s place k left le so = absurd (omega (arith, so.there, ap length (none_behind s k le)))
 
 -- the places that are taken are there
-pub place_within : (all count k : ℕ) → k < count → count ≤ all → k * all / count < all
+pub place_within : (all count k : ℕ) → k < count → count ≤ all → k * (count + 1) * all / (count * count) < all
 place_within all count k lt le =
-    let fits : k * all + all ≤ count * all = row_fits k all count all lt (omega arith) in
+    let row : k * count + count ≤ count * count = row_fits k count count count lt (omega arith) in
+    let split : k * (count + 1) ≡ k * count + k = grind arith in
+    let below : k * (count + 1) < count * count = omega (arith, row, split, lt) in
+    let fits : k * (count + 1) * all + all ≤ count * count * all = row_fits (k * (count + 1)) all (count * count) all below (omega arith) in
     let some : 0 < all = omega (arith, lt, le) in
-    (div-lt_iff_lt-mul {k = count} {x = k * all} {y = all} (omega (arith, lt))).1 (omega (arith, fits, some, mul_comm count all))
+    (div-lt_iff_lt-mul {k = count * count} {x = k * (count + 1) * all} {y = all} (omega (arith, below))).1
+    (omega (arith, fits, some, mul_comm (count * count) all))

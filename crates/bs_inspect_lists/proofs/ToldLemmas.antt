@@ -1,5 +1,5 @@
 -- What a list counts.
-use Rattle.std.proofs.Common.{◌≡◌, ℕ, zero, suc, ◌<◌, ◌≤◌, ◌+◌, ◌*◌, ◌/◌, Bool, List, [], ◌∷◌, ◌++◌, length, map, get_or, refl, ap, sym, subst, ◌∙◌, arith, min, Option, None}
+use Rattle.std.proofs.Common.{◌≡◌, ℕ, zero, suc, ◌<◌, ◌≤◌, ◌+◌, Bool, List, [], ◌∷◌, ◌++◌, length, map, get_or, refl, ap, sym, subst, ◌∙◌, arith, min, Option, None}
 use Rattle.std.specs.Prelude.{All, IfSome, slice_get}
 use Rattle.std.specs.Option.{option_to_list}
 use Rattle.std.proofs.lemmas.List.{length-map, map-append}
@@ -9,8 +9,11 @@ use Rattle.std.proofs.lemmas.List.FromFn.{map-range_with_len_more}
 use Rattle.bs_net.specs.Circuit.{Circuit}
 use Rattle.bs_log.specs.declared.line.Line.{Line}
 use Rattle.bs_scan.specs.Choice.{Chosen, depth_of}
-use Rattle.bs_scan.specs.Crash.{Recording, dump_at}
-use Rattle.bs_scan.specs.Moments.{Moment, Run, moment, run_of, state_of}
+use Rattle.bs_scan.specs.Crash.{Recording, dump_at, recording_of}
+use Rattle.bs_net.specs.Netlist.{circuit_of}
+use Rattle.bs_net.specs.Parts.{Parts}
+use Rattle.bs_stim.specs.Runs.{Stimulus, inputs_of}
+use Rattle.bs_scan.specs.Moments.{IsMoment, Moment, Run, moment, run_of, state_of}
 use Rattle.bs_scan.specs.Signature.{predecessors, signatures_before, stored_at}
 use Rattle.bs_scan.specs.declared.dump.Dump.{Dump}
 use Rattle.bs_scan.proofs.SignatureLemmas.{length_state}
@@ -19,9 +22,9 @@ use Rattle.bs_report.specs.declared.report.ListEnd.{ListEnd}
 use Rattle.bs_report.specs.declared.report.ListEnd.TheVariants.{Finished, Candidates, Conflicts}
 use Rattle.bs_report_good.specs.Step.{IsRightEnd}
 use Rattle.bs_preimage.specs.Listed.{HasListed}
-use Rattle.bs_preimage.specs.Preimage.{PreimageState}
+use Rattle.bs_preimage.specs.Preimage.{PreimageState, fresh}
 use Rattle.bs_preimage.specs.declared.listing.Listing.{Listing}
-use Rattle.bs_inspect_lists.specs.Spread.{count_taken, later_moments}
+use Rattle.bs_inspect_lists.specs.Spread.{count_taken, later_moments, place_of}
 use Rattle.bs_inspect_lists.specs.Told.{AreTold, Counts, IsCountOf, IsTold, counted_as}
 use Rattle.bs_inspect_lists.specs.declared.counting.TheConstants.{MAX_LISTED}
 use Rattle.bs_inspect_lists.specs.declared.spread.TheConstants.{MAX_MOMENTS}
@@ -69,25 +72,38 @@ wide_by c choice run zero cycle = tt
 wide_by c choice run (suc d) zero = tt
 wide_by c choice run (suc d) (suc cycle) = length-map choice.items _
 
-pub stored_wide : (r : Recording) (m : Moment) (dump : Dump) → dump ≡ dump_at r m → IfSome dump.stored (λ t. length t ≡ length r.choice.items)
-stored_wide r m dump e =
-    subst (λ (o : Option (List Bool)). IfSome o (λ t. length t ≡ length r.choice.items)) (sym (ap (λ (d : Dump). d.stored) e))
-    (wide_by r.circuit r.choice (run_of r.runs m.run) (depth_of r.choice) m.cycle)
+pub fresh_count : (p : PreimageState) (c : Circuit) (choice : Chosen) (present : List Bool) (stored : List (List Bool)) (count : Count) →
+    p ≡ fresh c choice → IsCountOf p.circuit p.choice present stored count → IsCountOf c choice present stored count
+fresh_count p c choice present stored count e h = subst (λ (q : PreimageState). IsCountOf q.circuit q.choice present stored count) e h
 
-pub state_wide : (r : Recording) (m : Moment) (dump : Dump) → dump ≡ dump_at r m → length dump.state ≡ length r.circuit.flops
-state_wide r m dump e = ap (λ (d : Dump). length d.state) e ∙ length_state r.circuit (run_of r.runs m.run) m.cycle
+pub stored_wide : (r : Recording) (raw : Parts) (choice : Chosen) (s : Stimulus) (m : Moment) (dump : Dump) → r ≡ recording_of raw choice s →
+    dump ≡ dump_at r m → IfSome dump.stored (λ t. length t ≡ length choice.items)
+stored_wide r raw choice s m dump is e =
+    let held : dump.stored ≡ (dump_at (recording_of raw choice s) m).stored =
+    ap (λ (d : Dump). d.stored) e ∙ ap (λ (q : Recording). (dump_at q m).stored) is in
+    subst (λ (o : Option (List Bool)). IfSome o (λ t. length t ≡ length choice.items)) (sym held)
+    (wide_by (circuit_of raw) choice (run_of (inputs_of s) m.run) (depth_of choice) m.cycle)
 
-pub told_is : (r : Recording) (c : Circuit) (choice : Chosen) (m : Moment) (dump : Dump) (count : Count) → c ≡ r.circuit → choice ≡ r.choice →
-    depth_of r.choice ≡ 1 → dump ≡ dump_at r m → IsCountOf c choice dump.state (option_to_list dump.stored) count →
-    IsCountOf r.circuit r.choice (state_of r.circuit r.runs m) (stored_at r.circuit r.choice (run_of r.runs m.run) m.cycle) count
-told_is r c choice m dump count ce he one e h =
-    let state : dump.state ≡ state_of r.circuit r.runs m = ap (λ (d : Dump). d.state) e in
-    let stored : option_to_list dump.stored ≡ stored_at r.circuit r.choice (run_of r.runs m.run) m.cycle =
-    ap (λ (d : Dump). option_to_list d.stored) e ∙ held_by r.circuit r.choice (run_of r.runs m.run) (depth_of r.choice) m.cycle one in
-    subst (λ (t : List (List Bool)). IsCountOf r.circuit r.choice (state_of r.circuit r.runs m) t count) stored
-    (subst (λ (s : List Bool). IsCountOf r.circuit r.choice s (option_to_list dump.stored) count) state
-    (subst (λ (c : Circuit). IsCountOf c r.choice dump.state (option_to_list dump.stored) count) ce
-    (subst (λ (h : Chosen). IsCountOf c h dump.state (option_to_list dump.stored) count) he h)))
+pub state_wide : (r : Recording) (raw : Parts) (choice : Chosen) (s : Stimulus) (m : Moment) (dump : Dump) → r ≡ recording_of raw choice s →
+    dump ≡ dump_at r m → length dump.state ≡ length (circuit_of raw).flops
+state_wide r raw choice s m dump is e =
+    ap (λ (d : Dump). length d.state) e
+    ∙ (ap (λ (q : Recording). length (dump_at q m).state) is ∙ length_state (circuit_of raw) (run_of (inputs_of s) m.run) m.cycle)
+
+pub told_is : (r : Recording) (raw : Parts) (choice : Chosen) (s : Stimulus) (m : Moment) (dump : Dump) (count : Count) → r ≡ recording_of raw choice s →
+    depth_of choice ≡ 1 → dump ≡ dump_at r m → IsCountOf (circuit_of raw) choice dump.state (option_to_list dump.stored) count →
+    IsCountOf (circuit_of raw) choice (state_of (circuit_of raw) (inputs_of s) m) (stored_at (circuit_of raw) choice (run_of (inputs_of s) m.run) m.cycle) count
+told_is r raw choice s m dump count is one e h =
+    let shown : dump ≡ dump_at (recording_of raw choice s) m = e ∙ ap (λ (q : Recording). dump_at q m) is in
+    let state : dump.state ≡ state_of (circuit_of raw) (inputs_of s) m = ap (λ (d : Dump). d.state) shown in
+    let stored : option_to_list dump.stored ≡ stored_at (circuit_of raw) choice (run_of (inputs_of s) m.run) m.cycle =
+    ap (λ (d : Dump). option_to_list d.stored) shown ∙ held_by (circuit_of raw) choice (run_of (inputs_of s) m.run) (depth_of choice) m.cycle one in
+    subst (λ (t : List (List Bool)). IsCountOf (circuit_of raw) choice (state_of (circuit_of raw) (inputs_of s) m) t count) stored
+    (subst (λ (x : List Bool). IsCountOf (circuit_of raw) choice x (option_to_list dump.stored) count) state h)
+
+pub moment_there : (r : Recording) (raw : Parts) (choice : Chosen) (s : Stimulus) (m : Moment) → r ≡ recording_of raw choice s →
+    IsMoment (inputs_of s) m → IsMoment r.runs m
+moment_there r raw choice s m is h = subst (λ (q : Recording). IsMoment q.runs m) (sym is) h
 
 pub few_listed : (old new : PreimageState) (present stored : List Bool) (b : ℕ) (listing : Listing) →
     HasListed old new present stored None None (MAX_LISTED + 1) b listing → length listing.cands ≤ MAX_LISTED + 1
@@ -114,29 +130,25 @@ one_told c choice runs told after one all is e =
 
 -- the moments of the first places that are taken
 pub moments_more : (all : List Moment) (told after : List Told) (one : Told) (m : Moment) (k count place : ℕ) →
-    map (λ (t : Told). t.moment) told ≡ map (λ k. get_or all (k * length all / count) (moment 0 0)) (range_with_len 0 k) →
-    one.moment ≡ m → m ≡ get_or all place (moment 0 0) → place ≡ k * length all / count → after ≡ told ++ one ∷ [] →
-    map (λ (t : Told). t.moment) after ≡ map (λ k. get_or all (k * length all / count) (moment 0 0)) (range_with_len 0 (k + 1))
+    map (λ (t : Told). t.moment) told ≡ map (λ k. get_or all (place_of (length all) count k) (moment 0 0)) (range_with_len 0 k) →
+    one.moment ≡ m → m ≡ get_or all place (moment 0 0) → place ≡ place_of (length all) count k → after ≡ told ++ one ∷ [] →
+    map (λ (t : Told). t.moment) after ≡ map (λ k. get_or all (place_of (length all) count k) (moment 0 0)) (range_with_len 0 (k + 1))
 moments_more all told after one m k count place e is here at goes =
-    let f : ℕ → Moment = λ k. get_or all (k * length all / count) (moment 0 0) in
+    let f : ℕ → Moment = λ k. get_or all (place_of (length all) count k) (moment 0 0) in
     ap (map (λ (t : Told). t.moment)) goes
     ∙ (map-append (λ (t : Told). t.moment) told (one ∷ [])
     ∙ ((λ i. e i ++ (is ∙ (here ∙ ap (λ (p : ℕ). get_or all p (moment 0 0)) at)) i ∷ []) ∙ sym (map-range_with_len_more f 0 k k (omega arith))))
 
 pub all_are_told : (c : Circuit) (choice : Chosen) (runs : List Run) (told : List Told) (n count k : ℕ) → n ≡ length (later_moments runs) →
     count ≡ min n MAX_MOMENTS → count ≤ k → k ≤ count →
-    map (λ (t : Told). t.moment) told ≡ map (λ k. get_or (later_moments runs) (k * length (later_moments runs) / count) (moment 0 0)) (range_with_len 0 k) →
+    map (λ (t : Told). t.moment) told ≡ map (λ k. get_or (later_moments runs) (place_of (length (later_moments runs)) count k) (moment 0 0)) (range_with_len 0 k) →
     All (IsTold c choice runs) told → AreTold c choice runs told
 all_are_told c choice runs told n count k long least le ge moments each = record {
   moments =
       let all : k ≡ count = omega (arith, le, ge) in
       let taken : count ≡ count_taken (length (later_moments runs)) = least ∙ ap (λ (m : ℕ). min m MAX_MOMENTS) long in
       moments
-      ∙ ((λ i. map (λ k. get_or (later_moments runs) (k * length (later_moments runs) / count) (moment 0 0)) (range_with_len 0 (all i)))
-      ∙ (λ i. map (λ k. get_or (later_moments runs) (k * length (later_moments runs) / taken i) (moment 0 0)) (range_with_len 0 (taken i))));
+      ∙ ((λ i. map (λ k. get_or (later_moments runs) (place_of (length (later_moments runs)) count k) (moment 0 0)) (range_with_len 0 (all i)))
+      ∙ (λ i. map (λ k. get_or (later_moments runs) (place_of (length (later_moments runs)) (taken i) k) (moment 0 0)) (range_with_len 0 (taken i))));
   each = each;
 }
-
--- the same runs by another name
-pub told_by : (c : Circuit) (choice : Chosen) (runs others : List Run) (one : Told) → others ≡ runs → IsTold c choice others one → IsTold c choice runs one
-told_by c choice runs others one e h = subst (λ (rs : List Run). IsTold c choice rs one) e h

@@ -21,7 +21,11 @@ later_moments runs = later_from 1 runs
 abbrev pub count_taken : ℕ → ℕ
 count_taken all = min all MAX_MOMENTS
 
--- of C moments with N taken, those at the places K C / N, rounded down, for K from 0 to below N
+-- the place of the moment with this number from 0, of so many that are taken: in its own part of the whole, each a step further on
+abbrev pub place_of : ℕ → ℕ → ℕ → ℕ
+place_of all taken k = k * (taken + 1) * all / (taken * taken)
+
+-- of C moments with N taken, those at the places K (N + 1) C / N^2, rounded down, for K from 0 to below N
 abbrev pub spread : List Moment → List Moment
 spread all =
-    map (λ k. slice_index_or all (k * length all / count_taken (length all)) (moment 0 0)) (range_with_len 0 (count_taken (length all)))
+    map (λ k. slice_index_or all (place_of (length all) (count_taken (length all)) k) (moment 0 0)) (range_with_len 0 (count_taken (length all)))

@@ -104,58 +104,45 @@ fn count_of_dump(alloc: Global, preimage: &mut Preimage<'_>, dump: &Dump) -> Res
     }
 }
 
-/// The moment with its count.
-#[tactic(auto, using(crate::proofs::ToldLemmas::told_is, crate::proofs::ToldLemmas::state_wide, crate::proofs::ToldLemmas::stored_wide))]
+/// The same, with a search of its own, so that no log grows.
+#[tactic(auto, using(crate::proofs::ToldLemmas::fresh_count))]
+fn count_anew(alloc: Global, net: &Netlist, choice: &Choice, dump: &Dump) -> Result<Count, NoMemory>
+    requires width { choice.now.width ≡ length (circuit net.now).flops }
+    requires state { length dump.now.state ≡ length (circuit net.now).flops }
+    requires signature { IfSome dump.now.stored (λ stored. length stored ≡ length choice.now.items) }
+    ensures { IfOk result (IsCountOf (circuit net.now) choice.now dump.now.state (option_to_list dump.now.stored)) }
+{
+    let mut preimage = Preimage::new(alloc, net, choice)?;
+    count_of_dump(alloc, &mut preimage, dump)
+}
+
+/// A moment with its count.
+#[tactic(auto, using(crate::proofs::ToldLemmas::told_is, crate::proofs::ToldLemmas::state_wide, crate::proofs::ToldLemmas::stored_wide, crate::proofs::ToldLemmas::moment_there))]
 fn told_at(
     alloc: Global,
     chip: &mut Chip<'_>,
-    preimage: &mut Preimage<'_>,
+    net: &Netlist,
+    choice: &Choice,
+    runs: &Runs,
     moment: Moment,
 ) -> Result<Told, NoMemory>
-    requires circuit { preimage.old.circuit ≡ chip.old.recording.circuit }
-    requires choice { preimage.old.choice ≡ chip.old.recording.choice }
-    requires depth { depth_of chip.old.recording.choice ≡ 1 }
-    requires moment { IsMoment chip.old.recording.runs moment }
-    requires calls { preimage.old.calls < MAX_GUARDS }
-    ensures told { IfOk result (IsTold chip.old.recording.circuit chip.old.recording.choice chip.old.recording.runs) }
+    requires recording { chip.old.recording ≡ recording_of net.now.raw choice.now runs.now }
+    requires width { choice.now.width ≡ length (circuit net.now).flops }
+    requires depth { depth_of choice.now ≡ 1 }
+    requires moment { IsMoment (inputs_of runs.now) moment }
+    ensures told { IfOk result (IsTold (circuit net.now) choice.now (inputs_of runs.now)) }
     ensures moment { IfOk result (λ told. told.moment ≡ moment) }
     ensures chip { chip.new ≡ chip.old }
-    ensures circuit { preimage.new.circuit ≡ preimage.old.circuit }
-    ensures choice { preimage.new.choice ≡ preimage.old.choice }
-    ensures calls { preimage.new.calls ≤ preimage.old.calls + 1 }
 {
+    let _runs = runs;
     let dump = chip.dump_at(alloc, moment.run, moment.cycle)?;
-    let count = count_of_dump(alloc, preimage, &dump)?;
+    let count = count_anew(alloc, net, choice, &dump)?;
     Ok(Told { moment, count })
 }
 
-/// The moments that are taken of so many, each with its count.
-#[tactic(auto, using(crate::proofs::ToldLemmas::none_told, crate::proofs::ToldLemmas::one_told, crate::proofs::ToldLemmas::moments_more, crate::proofs::ToldLemmas::all_are_told, crate::proofs::ToldLemmas::told_by, crate::proofs::SpreadLemmas::place_within))]
+/// The moments that are taken, each with its count.
+#[tactic(auto, using(crate::proofs::ToldLemmas::none_told, crate::proofs::ToldLemmas::all_are_told, crate::proofs::SpreadLemmas::place_within))]
 fn tell_each(
-    alloc: Global,
-    chip: &mut Chip<'_>,
-    preimage: &mut Preimage<'_>,
-    runs: &Runs,
-) -> Result<Vec<Told>, NoMemory>
-    requires circuit { preimage.old.circuit ≡ chip.old.recording.circuit }
-    requires choice { preimage.old.choice ≡ chip.old.recording.choice }
-    requires depth { depth_of chip.old.recording.choice ≡ 1 }
-    requires runs { chip.old.recording.runs ≡ inputs_of runs.now }
-    requires calls { preimage.old.calls ≡ 0 }
-    ensures { IfOk result (λ told. AreTold chip.old.recording.circuit chip.old.recording.choice (inputs_of runs.now) told.items) }
-{
-    let all = count_later(runs);
-    let count = all.min(MAX_MOMENTS);
-    let mut told = Vec::new(alloc);
-    'moments: for k in 0..count {
-        let moment = moment_at(runs, k * all / count);
-        told.push(told_at(alloc, chip, preimage, moment)?)?;
-    }
-    Ok(told)
-}
-
-/// The same with a chip.
-fn tell_with(
     alloc: Global,
     chip: &mut Chip<'_>,
     net: &Netlist,
@@ -167,8 +154,13 @@ fn tell_with(
     requires depth { depth_of choice.now ≡ 1 }
     ensures { IfOk result (λ told. AreTold (circuit net.now) choice.now (inputs_of runs.now) told.items) }
 {
-    let mut preimage = Preimage::new(alloc, net, choice)?;
-    let told = tell_each(alloc, chip, &mut preimage, runs)?;
+    let all = count_later(runs);
+    let count = all.min(MAX_MOMENTS);
+    let mut told = Vec::new(alloc);
+    'moments: for k in 0..count {
+        let moment = moment_at(runs, k * (count + 1) * all / (count * count));
+        told.push(told_at(alloc, chip, net, choice, runs, moment)?)?;
+    }
     Ok(told)
 }
 
@@ -179,6 +171,24 @@ fn play(alloc: Global, chip: &mut Chip<'_>) -> Result<(), NoMemory>
     let none: List<Cand> = List::new(alloc);
     let _hit = chip.first(alloc, none.slice())?;
     Ok(())
+}
+
+/// The same, where the runs are stepped first.
+fn tell_played(
+    alloc: Global,
+    chip: &mut Chip<'_>,
+    net: &Netlist,
+    choice: &Choice,
+    runs: &Runs,
+) -> Result<Vec<Told>, NoMemory>
+    requires recording { chip.old.recording ≡ recording_of net.now.raw choice.now runs.now }
+    requires width { choice.now.width ≡ length (circuit net.now).flops }
+    requires depth { depth_of choice.now ≡ 1 }
+    ensures { IfOk result (λ told. AreTold (circuit net.now) choice.now (inputs_of runs.now) told.items) }
+{
+    play(alloc, chip)?;
+    let told = tell_each(alloc, chip, net, choice, runs)?;
+    Ok(told)
 }
 
 /// At `MAX_MOMENTS` moments of the runs behind reset, or at all where these are fewer: how many predecessors the state has that
@@ -195,7 +205,5 @@ pub fn count_lists(
     ensures { IfOk result (λ told. AreTold (circuit net.now) choice.now (inputs_of runs.now) told.items) }
 {
     let mut chip = Chip::with_bound(alloc, net, choice, runs, TRACK_BYTES)?;
-    play(alloc, &mut chip)?;
-    let told = tell_with(alloc, &mut chip, net, choice, runs)?;
-    Ok(told)
+    tell_played(alloc, &mut chip, net, choice, runs)
 }
