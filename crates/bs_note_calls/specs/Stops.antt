@@ -33,7 +33,7 @@ text_of steps S.Nohit =
     (codes "record more or longer runs of what the chip did, or choose a signature that tells more states apart"))
 text_of steps S.Empty = Some (empty_text steps)
 text_of steps S.Candidates =
-    Some (step_text (codes "the list was cut, and no recorded moment was seen to lead to the state in one cycle, in step") steps
+    Some (step_text (codes "the list was cut, and no recorded moment leads to the state in one cycle, or the search for one was cut, in step") steps
     (codes "record more or longer runs of what the chip did, or choose a signature that tells more states apart"))
 text_of steps S.Conflicts =
     Some (step_text (codes "the budget of conflicts is spent, and no run comes to a listed state, in step") steps

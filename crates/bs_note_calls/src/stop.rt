@@ -67,7 +67,7 @@ pub fn stop_note(alloc: Global, steps: u64, stop: Stop) -> Result<Option<Vec<u8>
         Stop::Candidates => {
             let note = step_note(
                 alloc,
-                "the list was cut, and no recorded moment was seen to lead to the state in one cycle, in step",
+                "the list was cut, and no recorded moment leads to the state in one cycle, or the search for one was cut, in step",
                 steps,
                 "record more or longer runs of what the chip did, or choose a signature that tells more states apart",
             )?;

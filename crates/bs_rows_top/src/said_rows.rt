@@ -175,7 +175,7 @@ const SAID: [Said<'static>; 12] = [
         "",
         ROOM,
         Status::Spent,
-        "note: the list was cut, and no recorded moment was seen to lead to the state in one cycle, in step 1\nnote: record more or longer runs of what the chip did, or choose a signature that tells more states apart\n",
+        "note: the list was cut, and no recorded moment leads to the state in one cycle, or the search for one was cut, in step 1\nnote: record more or longer runs of what the chip did, or choose a signature that tells more states apart\n",
     ),
     (
         "run n.v s.txt t.txt d.txt",
