@@ -38,12 +38,18 @@ pub fn tries_after(left: u64) -> u64 {
     left.saturating_add(MORE_TRIES).min(MAX_TRIES)
 }
 
-/// Whether a list is likely to be cut, so that a search pays: one of a single candidate, the first one, and one behind a list that
-/// was cut.
+/// Lists of so many candidates are taken to be cut, before there is one.
+const FEW_CANDIDATES: u64 = 16;
+
+/// Whether a list is likely to be cut, so that a search pays: one of a single candidate, a first one of few, and one behind a list
+/// that was cut.
 pub fn is_due(steps: &List<Step>, budgets: &Budgets) -> bool {
     let count = steps.len();
-    if budgets.candidates == 1 || count == 0 {
+    if budgets.candidates == 1 {
         return true;
+    }
+    if count == 0 {
+        return budgets.candidates <= FEW_CANDIDATES;
     }
     match steps.get(count - 1).end {
         ListEnd::Candidates => true,
