@@ -20,20 +20,23 @@ bytes_of w = string_bytes w
 
 -- ---- a last word
 
+abbrev if_csv : Bool → Option (List (List ℕ))
+if_csv b = if b then Some [] else None
+
 last_so : (w : List ℕ) (ws : List (List ℕ)) (word : List ℕ) → bytes_eq word (codes "--csv") ≡ true → before_last w (ws ++ word ∷ []) ≡ Some (w ∷ ws)
-last_so w [] word e = ap (λ (b : Bool). option_map (λ (f : List (List ℕ)). w ∷ f) (if b then Some [] else None)) e
+last_so w [] word e = ap (λ (b : Bool). option_map (λ (f : List (List ℕ)). w ∷ f) (if_csv b)) e
 last_so w (v ∷ vs) word e = ap (λ (o : Option (List (List ℕ))). option_map (λ (f : List (List ℕ)). w ∷ f) o) (last_so v vs word e)
 
 ends_so : (front : List (List ℕ)) (word : List ℕ) → bytes_eq word (codes "--csv") ≡ true → before_csv (front ++ word ∷ []) ≡ Some front
-ends_so [] word e = ap (λ (b : Bool). if b then Some [] else None) e
+ends_so [] word e = ap if_csv e
 ends_so (w ∷ ws) word e = last_so w ws word e
 
 last_else : (w : List ℕ) (ws : List (List ℕ)) (word : List ℕ) → bytes_eq word (codes "--csv") ≡ false → before_last w (ws ++ word ∷ []) ≡ None
-last_else w [] word e = ap (λ (b : Bool). option_map (λ (f : List (List ℕ)). w ∷ f) (if b then Some [] else None)) e
+last_else w [] word e = ap (λ (b : Bool). option_map (λ (f : List (List ℕ)). w ∷ f) (if_csv b)) e
 last_else w (v ∷ vs) word e = ap (λ (o : Option (List (List ℕ))). option_map (λ (f : List (List ℕ)). w ∷ f) o) (last_else v vs word e)
 
 ends_else : (front : List (List ℕ)) (word : List ℕ) → bytes_eq word (codes "--csv") ≡ false → before_csv (front ++ word ∷ []) ≡ None
-ends_else [] word e = ap (λ (b : Bool). if b then Some [] else None) e
+ends_else [] word e = ap if_csv e
 ends_else (w ∷ ws) word e = last_else w ws word e
 
 -- the bytes of words before a last one

@@ -97,7 +97,6 @@ fn table_before(alloc: Global, front: &[String]) -> Result<Option<Question<'_>>,
 }
 
 /// The table that words ask for.
-#[tactic(auto, using(crate::proofs::QuestionLemmas::table_there, crate::proofs::QuestionLemmas::table_none))]
 fn table_question(alloc: Global, words: &[String]) -> Result<Option<Question<'_>>, NoMemory>
     ensures { IfOk result (λ question. shown_question question ≡ table_of (map string_bytes words.now)) }
 {

@@ -5,4 +5,6 @@ use Rattle.bs_inspect.proofs.QuestionLemmas.{question_as}
 use Rattle.bs_inspect.proofs.question.read_question.Goals as goal
 
 pub returns-in-Ok : goal.returns-in-Ok
-returns-in-Ok c = question_as (map string_bytes c.args.words.now) _ (asked_of (map string_bytes c.args.words.now)) _ c.in-Ok.ensures c.question_or.ensures
+returns-in-Ok c =
+    question_as (map string_bytes c.args.words.now) _ (asked_of (map string_bytes c.args.words.now)) c.question_or.result c.in-Ok.ensures
+    c.question_or.ensures
