@@ -69,7 +69,7 @@ fn tabled(asked: Request<'_>) -> Option<Question<'_>>
     ensures { shown_question result ≡ tabled (request_in asked.entry) }
 {
     match asked {
-        Request::Trace(asked) => Some(Question::TraceTable(asked)),
+        Request::Trace(trace) => Some(Question::TraceTable(trace)),
         Request::Steps(report) => Some(Question::StepsTable(report)),
         _ => None,
     }
