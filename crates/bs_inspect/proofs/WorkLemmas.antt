@@ -1,7 +1,9 @@
 -- Work that is done has a status of its own kind; and the answers to requests, with what is said of them.
 use Rattle.std.proofs.Common.{◌≡◌, ℕ, true, List, Option, Some, Result, Ok, Err, refl, ap, sym, subst, ◌∙◌}
-use Rattle.std.specs.Prelude.{IfOk, option_map}
+use Rattle.std.specs.Prelude.{Bool, IfOk, option_map}
 use Rattle.bs_bits.specs.declared.memory.NoMemory.{NoMemory}
+use Rattle.bs_inspect_view.specs.View.{IsDrawing}
+use Rattle.bs_net.specs.Parts.{Parts}
 use Rattle.bs_outside.specs.Calls.{FetchCall}
 use Rattle.bs_top_plan.specs.declared.file.File.{File}
 use Rattle.bs_top_plan.specs.declared.reply.Reply.{Reply}
@@ -25,7 +27,7 @@ use Rattle.bs_inspect.specs.Said.{QuestionSaid, RequestSaid, silent, WordsSaid, 
 use Rattle.bs_inspect.specs.Sources.{Sources, source_of}
 use Rattle.bs_inspect.specs.Work.{to_table, to_steps_table, to_keys, to_state}
 use Rattle.bs_inspect.specs.Work.{Work, plan_for, plan_of, to_help, to_version, to_flops, to_inputs, to_stats, to_steps, to_trace, to_run, to_wave, to_signature}
-use Rattle.bs_inspect.specs.Finishes.{finishes}
+use Rattle.bs_inspect.specs.Finishes.{commented, finishes}
 
 work_status : (work : Work) (status : Status) (text : List ℕ) → finishes work status text → is_work_status status ≡ true
 work_status to_help status text done = ap is_work_status done.0 ∙ refl
@@ -45,6 +47,11 @@ work_status (to_state scanned) status text done = ap is_work_status done.0 ∙ r
 
 pub is_work : IsWork finishes
 is_work = record { status = work_status }
+
+-- a waveform with comments that are these
+pub drawn_as : (raw : Parts) (given lines : List ℕ) (states inputs : List (List Bool)) (text : List ℕ) → given ≡ lines →
+    IsDrawing raw (commented given) states inputs text → IsDrawing raw (commented lines) states inputs text
+drawn_as raw given lines states inputs text e h = subst (λ (ls : List ℕ). IsDrawing raw (commented ls) states inputs text) e h
 
 -- a reply with no note on it
 silent_done : (finish : Status → List ℕ → Type 0) (r : Result Reply NoMemory) → IfOk r (λ a. finish a.status a.text.items) →

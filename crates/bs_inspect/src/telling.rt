@@ -3,7 +3,8 @@ ghost use Rattle.std.specs.Prelude.{◌≡◌, ◌<◌, map, IfOk};
 ghost use Rattle.bs_inspect_files.specs.Taken.{exercised_in, traced_in};
 ghost use Rattle.bs_inspect_flops.specs.Taken.{scanned_in};
 ghost use Rattle.bs_inspect_netlist.specs.Order.{state_line};
-ghost use Rattle.bs_inspect.specs.Finishes.{finishes};
+ghost use Rattle.bs_inspect_view.specs.View.{IsDrawing};
+ghost use Rattle.bs_inspect.specs.Finishes.{commented, finishes};
 ghost use Rattle.bs_inspect.specs.Work.{to_flops, to_help, to_inputs, to_keys, to_run, to_signature, to_state, to_stats, to_steps, to_steps_table, to_table, to_trace, to_version, to_wave};
 
 use crate::usage::{usage_text, version_text};
@@ -12,8 +13,8 @@ use bs_inspect_files::{Exercised, Traced, run_text};
 use bs_inspect_flops::Scanned;
 use bs_inspect_netlist::{flops_text, inputs_text, keys_text, state_text, stats_text};
 use bs_inspect_proposal::proposal_text;
-use bs_inspect_report::{steps_table, steps_text, trace_table, trace_text};
-use bs_inspect_view::view_text;
+use bs_inspect_report::{remarks_text, steps_table, steps_text, trace_table, trace_text};
+use bs_inspect_view::{Asked, drawing};
 use bs_net::Netlist;
 use bs_outside::NoMemory;
 use bs_report::Report;
@@ -113,16 +114,32 @@ pub(crate) fn tell_run(alloc: Global, lines: &List<Bits>) -> Result<Reply, NoMem
     })
 }
 
-/// The waveform of a report's trace.
-pub(crate) fn tell_wave(alloc: Global, traced: &Traced) -> Result<Reply, NoMemory>
-    ensures { IfOk result (λ answer. finishes (to_wave (traced_in traced.now)) answer.status answer.text.items) }
+/// The text of the waveform of a report's trace, with these comments.
+fn drawn(alloc: Global, traced: &Traced, remarks: &[u8]) -> Result<Vec<u8>, NoMemory>
+    ensures { IfOk result (λ text. IsDrawing traced.now.net.raw (commented remarks.now) traced.now.report.states traced.now.report.inputs text.items) }
 {
-    let text = view_text(
+    let asked = Asked {
+        from: 0,
+        all: false,
+        only: &[],
+        remarks,
+    };
+    let text = drawing(
         alloc,
         &traced.net,
         &traced.report.states,
         &traced.report.inputs,
+        &asked,
     )?;
+    Ok(text)
+}
+
+/// The waveform of a report's trace, with where its states come from as comments.
+pub(crate) fn tell_wave(alloc: Global, traced: &Traced) -> Result<Reply, NoMemory>
+    ensures { IfOk result (λ answer. finishes (to_wave (traced_in traced.now)) answer.status answer.text.items) }
+{
+    let remarks = remarks_text(alloc, &traced.report)?;
+    let text = drawn(alloc, traced, remarks.as_slice())?;
     Ok(Reply {
         status: Status::Done,
         text,
