@@ -2,6 +2,7 @@
 use Rattle.std.proofs.Common.{◌≡◌, ℕ, true, List, Option, Some, Result, Ok, Err, refl, ap, sym, subst, ◌∙◌}
 use Rattle.std.specs.Prelude.{Bool, IfOk, option_map}
 use Rattle.bs_bits.specs.declared.memory.NoMemory.{NoMemory}
+use Rattle.bs_inspect_view.specs.Drawn.{Asked}
 use Rattle.bs_inspect_view.specs.View.{IsDrawing}
 use Rattle.bs_net.specs.Parts.{Parts}
 use Rattle.bs_outside.specs.Calls.{FetchCall}
@@ -27,7 +28,7 @@ use Rattle.bs_inspect.specs.Said.{QuestionSaid, RequestSaid, silent, WordsSaid, 
 use Rattle.bs_inspect.specs.Sources.{Sources, source_of}
 use Rattle.bs_inspect.specs.Work.{to_table, to_steps_table, to_keys, to_state}
 use Rattle.bs_inspect.specs.Work.{Work, plan_for, plan_of, to_help, to_version, to_flops, to_inputs, to_stats, to_steps, to_trace, to_run, to_wave, to_signature}
-use Rattle.bs_inspect.specs.Finishes.{commented, finishes}
+use Rattle.bs_inspect.specs.Finishes.{finishes}
 
 work_status : (work : Work) (status : Status) (text : List ℕ) → finishes work status text → is_work_status status ≡ true
 work_status to_help status text done = ap is_work_status done.0 ∙ refl
@@ -49,9 +50,9 @@ pub is_work : IsWork finishes
 is_work = record { status = work_status }
 
 -- a waveform with comments that are these
-pub drawn_as : (raw : Parts) (given lines : List ℕ) (states inputs : List (List Bool)) (text : List ℕ) → given ≡ lines →
-    IsDrawing raw (commented given) states inputs text → IsDrawing raw (commented lines) states inputs text
-drawn_as raw given lines states inputs text e h = subst (λ (ls : List ℕ). IsDrawing raw (commented ls) states inputs text) e h
+pub drawn_as : (asked : List ℕ → Asked) (raw : Parts) (given lines : List ℕ) (states inputs : List (List Bool)) (text : List ℕ) → given ≡ lines →
+    IsDrawing raw (asked given) states inputs text → IsDrawing raw (asked lines) states inputs text
+drawn_as asked raw given lines states inputs text e h = subst (λ (ls : List ℕ). IsDrawing raw (asked ls) states inputs text) e h
 
 -- a reply with no note on it
 silent_done : (finish : Status → List ℕ → Type 0) (r : Result Reply NoMemory) → IfOk r (λ a. finish a.status a.text.items) →
