@@ -56,7 +56,9 @@ abbrev pub twice_saying : Saying
 twice_saying = saying (codes "the flip-flop of this line has a line already") (codes "take one of them out")
 
 abbrev pub missing_text : List ℕ → ℕ → List ℕ
-missing_text path flop = file_text path (codes "no line names flip-flop " ++ (decimal flop ++ codes ", by its number in `flops`"))
+missing_text path flop =
+    file_text path (codes "no line names flip-flop " ++ (decimal flop ++ codes " of the netlist")) ++
+    plain_text (codes "`flops` tells its number and its key")
 
 abbrev pub order_note_reason : (path text : List ℕ) → OrderFault → Reason NoteCase
 order_note_reason path text (chain.Line number) = any_of (at_line path text number form_saying)

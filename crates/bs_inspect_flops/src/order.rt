@@ -83,8 +83,9 @@ fn missing_note(alloc: Global, path: &str, flop: u64) -> Result<Vec<u8>, NoMemor
 {
     let mut said = b"no line names flip-flop ".to_vec(alloc)?;
     push_number(&mut said, flop)?;
-    push_piece(&mut said, b", by its number in `flops`")?;
-    let note = file_note(alloc, path, &said)?;
+    push_piece(&mut said, b" of the netlist")?;
+    let mut note = file_note(alloc, path, &said)?;
+    push_piece(&mut note, b"note: `flops` tells its number and its key\n")?;
     Ok(note)
 }
 
