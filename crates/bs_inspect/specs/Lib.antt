@@ -1,5 +1,6 @@
 pub mod Usage
 pub mod Asked
+pub mod Question
 pub mod Work
 pub mod Sources
 pub mod Finishes

@@ -15,9 +15,12 @@ use Rattle.bs_top_files.specs.NoteCases.{NoteCase, NoteSays}
 use Rattle.bs_top_words.specs.Request.{Request, Help, Version, Flops, Inputs, Stats, Steps, Trace, Stimulus, Wave, Signature}
 use Rattle.bs_inspect_files.specs.Simulated.{simulated_looked}
 use Rattle.bs_inspect_files.specs.Taken.{charted_looked, exercised_looked, picked_looked}
+use Rattle.bs_inspect_flops.specs.Taken.{named_looked, scanned_looked}
 use Rattle.bs_inspect_notes.specs.Usages.{words_text}
-use Rattle.bs_inspect.specs.Sources.{source_of, sources_of}
+use Rattle.bs_inspect.specs.Question.{Question, Plain, TraceTable, StepsTable, Keys, Unscan}
+use Rattle.bs_inspect.specs.Sources.{source_of, sources_for, sources_of}
 use Rattle.bs_inspect.specs.Work.{Work, to_help, to_version, to_flops, to_inputs, to_stats, to_steps, to_trace, to_run, to_wave, to_signature}
+use Rattle.bs_inspect.specs.Work.{to_table, to_steps_table, to_keys, to_state}
 
 -- the plan of a request as the notes see it: the same files and the same work, and the notes on what is refused
 abbrev pub looked_of : Request → Plan NoteCase Work
@@ -48,6 +51,22 @@ looked_of (Signature t) = do
   exercised ← exercised_looked t.netlist t.runs
   end (to_signature t.items exercised)
 
+-- the same of what words ask
+abbrev pub looked_for : Question → Plan NoteCase Work
+looked_for (Plain request) = looked_of request
+looked_for (TraceTable t) = do
+  traced ← picked_looked t.netlist t.report t.only
+  end (to_table t.only traced)
+looked_for (StepsTable report) = do
+  told ← report_looked report
+  end (to_steps_table told)
+looked_for (Keys k) = do
+  raw ← named_looked k.netlist k.names
+  end (to_keys k.names raw)
+looked_for (Unscan u) = do
+  scanned ← scanned_looked u.netlist u.order u.pattern
+  end (to_state scanned)
+
 -- nothing is said of work that is done
 abbrev pub WorkSaid : Work → List ℕ → Note → Type 0
 WorkSaid work text note = note ≡ Silent
@@ -56,10 +75,14 @@ WorkSaid work text note = note ≡ Silent
 abbrev pub RequestSaid : Request → List FetchCall → Status → List ℕ → Note → Type 0
 RequestSaid request = NoteAlong NoteSays WorkSaid (source_of (sources_of request)) (looked_of request)
 
--- the same of words: those that are no request have a note on what is wrong with them
-abbrev pub WordsSaid : List (List ℕ) → Option Request → List FetchCall → Status → List ℕ → Note → Type 0
+-- the same of what words ask
+abbrev pub QuestionSaid : Question → List FetchCall → Status → List ℕ → Note → Type 0
+QuestionSaid question = NoteAlong NoteSays WorkSaid (source_of (sources_for question)) (looked_for question)
+
+-- the same of words: those that ask nothing have a note on what is wrong with them
+abbrev pub WordsSaid : List (List ℕ) → Option Question → List FetchCall → Status → List ℕ → Note → Type 0
 WordsSaid words None = λ fetches status text note. Due (λ said. said ≡ words_text words) note
-WordsSaid words (Some request) = RequestSaid request
+WordsSaid words (Some question) = QuestionSaid question
 
 -- a reply on which there is no note
 abbrev pub silent : Result Reply NoMemory → Result Answer NoMemory

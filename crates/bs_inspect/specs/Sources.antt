@@ -5,6 +5,7 @@ use Rattle.bs_top_plan.specs.declared.file.File.{File}
 use Rattle.bs_top_plan.specs.declared.file.File.TheVariants as files
 use Rattle.bs_top_words.specs.Request.{Request, SignatureRequest, StimulusRequest, Help, Version, Flops, Inputs, Stats, Steps, Trace, Stimulus, Wave, Signature}
 use Rattle.bs_inspect.specs.declared.sources.Sources.{Sources as CodeSources}
+use Rattle.bs_inspect.specs.Question.{Question, Plain, TraceTable, StepsTable, Keys, Unscan}
 
 pub record Sources : Type 0 where
   pub netlist : List ℕ
@@ -55,6 +56,17 @@ sources_of (Trace t) = traced_sources t.netlist t.report
 sources_of (Stimulus t) = values_sources t
 sources_of (Wave t) = traced_sources t.netlist t.report
 sources_of (Signature t) = runs_sources t
+
+abbrev pub chain_sources : List ℕ → List ℕ → Sources
+chain_sources netlist order = record { netlist = netlist; stimulus = []; report = []; vcd = []; map = order }
+
+-- those of what words ask
+abbrev pub sources_for : Question → Sources
+sources_for (Plain request) = sources_of request
+sources_for (TraceTable t) = traced_sources t.netlist t.report
+sources_for (StepsTable report) = report_source report
+sources_for (Keys k) = netlist_source k.netlist
+sources_for (Unscan u) = chain_sources u.netlist u.order
 
 abbrev pub sources_in : CodeSources → Sources
 sources_in n = record { netlist = n.netlist.now; stimulus = n.stimulus.now; report = n.report.now; vcd = n.vcd.now; map = n.map.now }

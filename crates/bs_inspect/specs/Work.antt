@@ -8,9 +8,12 @@ use Rattle.bs_top_files.specs.Entry.{netlist_of, report_of}
 use Rattle.bs_top_files.specs.Refusals.{Case}
 use Rattle.bs_inspect_files.specs.Taken.{Traced, Exercised, picked_of, charted_of, exercised_of}
 use Rattle.bs_inspect_files.specs.Simulated.{simulated_of}
+use Rattle.bs_inspect_flops.specs.Taken.{Scanned, named_of, scanned_of}
+use Rattle.bs_inspect.specs.Question.{Question, Plain, TraceTable, StepsTable, Keys, Unscan}
 
 -- how words stand, the version, the flip-flops, data inputs or sizes of a netlist, the steps of a report, its trace with the
--- names of a netlist, a run with these inputs, the waveform of a trace, or a signature of so many items is to be written
+-- names of a netlist, a run with these inputs, the waveform of a trace, or a signature of so many items is to be written; a trace or
+-- steps as a table, the keys of the flip-flops that names stand for, or the state that a pattern of a scan chain is
 pub data Work : Type 0 where
   to_help : Work
   to_version : Work
@@ -22,6 +25,10 @@ pub data Work : Type 0 where
   to_run : List (List Bool) → Work
   to_wave : Traced → Work
   to_signature : ℕ → Exercised → Work
+  to_table : List (List ℕ) → Traced → Work
+  to_steps_table : Report → Work
+  to_keys : List (List ℕ) → Parts → Work
+  to_state : Scanned → Work
 
 -- the plan of a request
 abbrev pub plan_of : Request → Plan Case Work
@@ -51,3 +58,19 @@ plan_of (Wave t) = do
 plan_of (Signature t) = do
   exercised ← exercised_of t.netlist t.runs
   end (to_signature t.items exercised)
+
+-- the plan of what words ask
+abbrev pub plan_for : Question → Plan Case Work
+plan_for (Plain request) = plan_of request
+plan_for (TraceTable t) = do
+  traced ← picked_of t.netlist t.report t.only
+  end (to_table t.only traced)
+plan_for (StepsTable report) = do
+  told ← report_of report
+  end (to_steps_table told)
+plan_for (Keys k) = do
+  raw ← named_of k.netlist k.names
+  end (to_keys k.names raw)
+plan_for (Unscan u) = do
+  scanned ← scanned_of u.netlist u.order u.pattern
+  end (to_state scanned)

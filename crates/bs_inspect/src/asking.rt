@@ -5,17 +5,21 @@ ghost use Rattle.bs_top_files.specs.Refusals.{CheckSays};
 ghost use Rattle.bs_top_words.specs.Request.{Flops as FlopsOf, Inputs as InputsOf, Signature as SignatureOf, Stats as StatsOf, Steps as StepsOf, Stimulus as StimulusOf, Trace as TraceOf, Wave as WaveOf};
 ghost use Rattle.bs_top_words.specs.Asked.{request_in, signature_in, stimulus_in, trace_in, wave_in};
 ghost use Rattle.bs_inspect.specs.Finishes.{finishes};
-ghost use Rattle.bs_inspect.specs.Said.{RequestSaid, silent};
-ghost use Rattle.bs_inspect.specs.Work.{plan_of};
+ghost use Rattle.bs_inspect.specs.Question.{Keys as KeysOf, StepsTable as StepsTableOf, TraceTable as TraceTableOf, Unscan as UnscanOf, keys_in, question_in, unscan_in};
+ghost use Rattle.bs_inspect.specs.Said.{QuestionSaid, RequestSaid, silent};
+ghost use Rattle.bs_inspect.specs.Work.{plan_for, plan_of};
 
+use crate::question::{KeysQuestion, Question, UnscanQuestion};
 use crate::sources::{
-    netlist_source, report_source, runs_sources, stop_at, traced_sources, values_sources,
+    chain_sources, netlist_source, report_source, runs_sources, stop_at, traced_sources,
+    values_sources,
 };
 use crate::telling::{
-    tell_flops, tell_inputs, tell_run, tell_signature, tell_stats, tell_steps, tell_trace,
-    tell_usage, tell_version, tell_wave,
+    tell_flops, tell_inputs, tell_keys, tell_run, tell_signature, tell_state, tell_stats,
+    tell_steps, tell_steps_table, tell_table, tell_trace, tell_usage, tell_version, tell_wave,
 };
 use bs_inspect_files::{Sampling, load_charted, load_exercised, load_picked, load_simulated};
+use bs_inspect_flops::{load_named, load_scanned};
 use bs_outside::{NoMemory, Shelf};
 use bs_top_answer::{Answer, Note};
 use bs_top_files::{load_netlist, load_report};
@@ -145,7 +149,7 @@ fn signature<S: Shelf>(
 }
 
 /// What is to be answered and written for a request, and what is to be said.
-pub(crate) fn request_answer<S: Shelf>(
+fn request_answer<S: Shelf>(
     alloc: Global,
     request: &Request<'_>,
     shelf: &mut S,
@@ -164,5 +168,87 @@ pub(crate) fn request_answer<S: Shelf>(
         Request::Stimulus(asked) => stimulus(alloc, shelf, asked),
         Request::Wave(asked) => wave(alloc, shelf, asked),
         Request::Signature(asked) => signature(alloc, shelf, asked),
+    }
+}
+
+/// The answer to `trace` as a table.
+fn trace_table<S: Shelf>(
+    alloc: Global,
+    shelf: &mut S,
+    asked: &TraceRequest<'_>,
+) -> Result<Answer, NoMemory>
+    ensures { PreparedNoted CheckSays finishes (QuestionSaid (TraceTableOf (trace_in asked.now))) S.held S.faults S.leads shelf.old shelf.new (Some (plan_for (TraceTableOf (trace_in asked.now)))) result }
+{
+    let only = asked.only.as_slice();
+    match load_picked(alloc, shelf, asked.netlist, asked.report, only) {
+        Ok(traced) => silent(tell_table(alloc, &traced, only)),
+        Err(stop) => stop_at(
+            alloc,
+            traced_sources(asked.netlist, asked.report),
+            shelf.reason(),
+            stop,
+        ),
+    }
+}
+
+/// The answer to `steps` as a table.
+fn steps_table<S: Shelf>(alloc: Global, shelf: &mut S, report: &str) -> Result<Answer, NoMemory>
+    ensures { PreparedNoted CheckSays finishes (QuestionSaid (StepsTableOf report.now)) S.held S.faults S.leads shelf.old shelf.new (Some (plan_for (StepsTableOf report.now))) result }
+{
+    match load_report(alloc, shelf, report) {
+        Ok(told) => silent(tell_steps_table(alloc, &told)),
+        Err(stop) => stop_at(alloc, report_source(report), shelf.reason(), stop),
+    }
+}
+
+/// The answer to `keys`.
+fn keys<S: Shelf>(
+    alloc: Global,
+    shelf: &mut S,
+    asked: &KeysQuestion<'_>,
+) -> Result<Answer, NoMemory>
+    ensures { PreparedNoted CheckSays finishes (QuestionSaid (KeysOf (keys_in asked.now))) S.held S.faults S.leads shelf.old shelf.new (Some (plan_for (KeysOf (keys_in asked.now)))) result }
+{
+    let names = asked.names.as_slice();
+    match load_named(alloc, shelf, asked.netlist, names) {
+        Ok(net) => silent(tell_keys(alloc, &net, names)),
+        Err(stop) => stop_at(alloc, netlist_source(asked.netlist), shelf.reason(), stop),
+    }
+}
+
+/// The answer to `unscan`.
+fn unscan<S: Shelf>(
+    alloc: Global,
+    shelf: &mut S,
+    asked: &UnscanQuestion<'_>,
+) -> Result<Answer, NoMemory>
+    ensures { PreparedNoted CheckSays finishes (QuestionSaid (UnscanOf (unscan_in asked.now))) S.held S.faults S.leads shelf.old shelf.new (Some (plan_for (UnscanOf (unscan_in asked.now)))) result }
+{
+    match load_scanned(alloc, shelf, asked.netlist, asked.order, asked.pattern) {
+        Ok(scanned) => silent(tell_state(alloc, &scanned)),
+        Err(stop) => stop_at(
+            alloc,
+            chain_sources(asked.netlist, asked.order),
+            shelf.reason(),
+            stop,
+        ),
+    }
+}
+
+/// What is to be answered and written for what words ask, and what is to be said.
+pub(crate) fn question_answer<S: Shelf>(
+    alloc: Global,
+    question: &Question<'_>,
+    shelf: &mut S,
+) -> Result<Answer, NoMemory>
+    ensures { PreparedNoted CheckSays finishes (QuestionSaid (question_in question.now)) S.held S.faults S.leads shelf.old shelf.new
+        (Some (plan_for (question_in question.now))) result }
+{
+    match question {
+        Question::Plain(request) => request_answer(alloc, request, shelf),
+        Question::TraceTable(asked) => trace_table(alloc, shelf, asked),
+        Question::StepsTable(report) => steps_table(alloc, shelf, report),
+        Question::Keys(asked) => keys(alloc, shelf, asked),
+        Question::Unscan(asked) => unscan(alloc, shelf, asked),
     }
 }

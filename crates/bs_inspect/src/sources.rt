@@ -4,7 +4,7 @@ ghost use Rattle.bs_top_plan.specs.Prepared.{AnswersStop};
 ghost use Rattle.bs_top_plan.specs.Told.{line_stop, note_stop};
 ghost use Rattle.bs_top_answer.specs.Stops.{stop_file, StopNoted};
 ghost use Rattle.bs_top_words.specs.Asked.{signature_in, stimulus_in};
-ghost use Rattle.bs_inspect.specs.Sources.{netlist_source, report_source, runs_sources, source_of, sources_in, traced_sources, values_sources};
+ghost use Rattle.bs_inspect.specs.Sources.{chain_sources, netlist_source, report_source, runs_sources, source_of, sources_in, traced_sources, values_sources};
 
 use bs_outside::NoMemory;
 use bs_top_answer::{Answer, stop_file, stopped_at};
@@ -73,6 +73,19 @@ pub fn traced_sources<'a>(netlist: &'a str, report: &'a str) -> Sources<'a>
         report,
         vcd: "",
         map: "",
+    }
+}
+
+/// A netlist and the order of its scan chain.
+pub fn chain_sources<'a>(netlist: &'a str, order: &'a str) -> Sources<'a>
+    ensures { sources_in result ≡ chain_sources netlist.now order.now }
+{
+    Sources {
+        netlist,
+        stimulus: "",
+        report: "",
+        vcd: "",
+        map: order,
     }
 }
 

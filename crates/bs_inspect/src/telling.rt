@@ -1,16 +1,20 @@
 //! What is told, as an answer.
 ghost use Rattle.std.specs.Prelude.{◌≡◌, ◌<◌, map, IfOk};
 ghost use Rattle.bs_inspect_files.specs.Taken.{exercised_in, traced_in};
-ghost use Rattle.bs_inspect.specs.Finishes.{finishes};
-ghost use Rattle.bs_inspect.specs.Work.{to_flops, to_help, to_inputs, to_run, to_signature, to_stats, to_steps, to_trace, to_version, to_wave};
+ghost use Rattle.bs_inspect_flops.specs.Taken.{scanned_in};
+ghost use Rattle.bs_inspect_netlist.specs.Order.{state_line};
+ghost use Rattle.bs_inspect_view.specs.View.{IsDrawing};
+ghost use Rattle.bs_inspect.specs.Finishes.{commented, finishes};
+ghost use Rattle.bs_inspect.specs.Work.{to_flops, to_help, to_inputs, to_keys, to_run, to_signature, to_state, to_stats, to_steps, to_steps_table, to_table, to_trace, to_version, to_wave};
 
 use crate::usage::{usage_text, version_text};
 use bs_bits::{Bits, List};
 use bs_inspect_files::{Exercised, Traced, run_text};
-use bs_inspect_netlist::{flops_text, inputs_text, stats_text};
+use bs_inspect_flops::Scanned;
+use bs_inspect_netlist::{flops_text, inputs_text, keys_text, state_text, stats_text};
 use bs_inspect_proposal::proposal_text;
-use bs_inspect_report::{steps_text, trace_text};
-use bs_inspect_view::view_text;
+use bs_inspect_report::{remarks_text, steps_table, steps_text, trace_table, trace_text};
+use bs_inspect_view::{Asked, drawing};
 use bs_net::Netlist;
 use bs_outside::NoMemory;
 use bs_report::Report;
@@ -110,16 +114,32 @@ pub(crate) fn tell_run(alloc: Global, lines: &List<Bits>) -> Result<Reply, NoMem
     })
 }
 
-/// The waveform of a report's trace.
-pub(crate) fn tell_wave(alloc: Global, traced: &Traced) -> Result<Reply, NoMemory>
-    ensures { IfOk result (λ answer. finishes (to_wave (traced_in traced.now)) answer.status answer.text.items) }
+/// The text of the waveform of a report's trace, with these comments.
+fn drawn(alloc: Global, traced: &Traced, remarks: &[u8]) -> Result<Vec<u8>, NoMemory>
+    ensures { IfOk result (λ text. IsDrawing traced.now.net.raw (commented remarks.now) traced.now.report.states traced.now.report.inputs text.items) }
 {
-    let text = view_text(
+    let asked = Asked {
+        from: 0,
+        all: false,
+        only: &[],
+        remarks,
+    };
+    let text = drawing(
         alloc,
         &traced.net,
         &traced.report.states,
         &traced.report.inputs,
+        &asked,
     )?;
+    Ok(text)
+}
+
+/// The waveform of a report's trace, with where its states come from as comments.
+pub(crate) fn tell_wave(alloc: Global, traced: &Traced) -> Result<Reply, NoMemory>
+    ensures { IfOk result (λ answer. finishes (to_wave (traced_in traced.now)) answer.status answer.text.items) }
+{
+    let remarks = remarks_text(alloc, &traced.report)?;
+    let text = drawn(alloc, traced, remarks.as_slice())?;
     Ok(Reply {
         status: Status::Done,
         text,
@@ -136,6 +156,58 @@ pub(crate) fn tell_signature(
     ensures { IfOk result (λ answer. finishes (to_signature items (exercised_in exercised.now)) answer.status answer.text.items) }
 {
     let text = proposal_text(alloc, &exercised.net, &exercised.runs, items as usize)?;
+    Ok(Reply {
+        status: Status::Done,
+        text,
+    })
+}
+
+/// The trace of a report as a table.
+pub(crate) fn tell_table(alloc: Global, traced: &Traced, only: &[&str]) -> Result<Reply, NoMemory>
+    ensures { IfOk result (λ answer. finishes (to_table (map (λ s. s.now) only.now) (traced_in traced.now)) answer.status answer.text.items) }
+{
+    let text = trace_table(alloc, &traced.net, &traced.report, only)?;
+    Ok(Reply {
+        status: Status::Done,
+        text,
+    })
+}
+
+/// The steps of a report as a table.
+pub(crate) fn tell_steps_table(alloc: Global, report: &Report) -> Result<Reply, NoMemory>
+    ensures { IfOk result (λ answer. finishes (to_steps_table report.now) answer.status answer.text.items) }
+{
+    let text = steps_table(alloc, report)?;
+    Ok(Reply {
+        status: Status::Done,
+        text,
+    })
+}
+
+/// The keys of the flip-flops that names stand for.
+pub(crate) fn tell_keys(alloc: Global, net: &Netlist, names: &[&str]) -> Result<Reply, NoMemory>
+    ensures { IfOk result (λ answer. finishes (to_keys (map (λ s. s.now) names.now) net.now.raw) answer.status answer.text.items) }
+{
+    let text = keys_text(alloc, net, names)?;
+    Ok(Reply {
+        status: Status::Done,
+        text,
+    })
+}
+
+/// The state that a pattern of a scan chain is, so many flip-flops wide.
+fn state_line(alloc: Global, scanned: &Scanned, width: usize) -> Result<Vec<u8>, NoMemory>
+    ensures { IfOk result (λ text. text.items ≡ state_line width scanned.now.order.items scanned.now.pattern) }
+{
+    let text = state_text(alloc, width, scanned.order.as_slice(), &scanned.pattern)?;
+    Ok(text)
+}
+
+/// The state that a pattern of a scan chain is.
+pub(crate) fn tell_state(alloc: Global, scanned: &Scanned) -> Result<Reply, NoMemory>
+    ensures { IfOk result (λ answer. finishes (to_state (scanned_in scanned.now)) answer.status answer.text.items) }
+{
+    let text = state_line(alloc, scanned, scanned.net.width())?;
     Ok(Reply {
         status: Status::Done,
         text,

@@ -19,13 +19,15 @@ stands command line = record { command = command; line = line }
 abbrev pub usages : List Usage
 usages =
     stands (codes "flops") (codes "usage: backspace_inspect flops NETLIST")
+    ∷ stands (codes "keys") (codes "usage: backspace_inspect keys NETLIST NAME ..")
     ∷ stands (codes "inputs") (codes "usage: backspace_inspect inputs NETLIST")
     ∷ stands (codes "stats") (codes "usage: backspace_inspect stats NETLIST")
-    ∷ stands (codes "trace") (codes "usage: backspace_inspect trace NETLIST REPORT [--all] [--only NAME ..]")
-    ∷ stands (codes "steps") (codes "usage: backspace_inspect steps REPORT")
+    ∷ stands (codes "trace") (codes "usage: backspace_inspect trace NETLIST REPORT [--all] [--only NAME ..] [--csv]")
+    ∷ stands (codes "steps") (codes "usage: backspace_inspect steps REPORT [--csv]")
     ∷ stands (codes "wave") (codes "usage: backspace_inspect wave NETLIST REPORT")
     ∷ stands (codes "stimulus") (codes "usage: backspace_inspect stimulus NETLIST VCD --clock NAME [--scope PATH] [--map FILE]")
     ∷ stands (codes "signature") (codes "usage: backspace_inspect signature NETLIST STIMULUS --bits N")
+    ∷ stands (codes "unscan") (codes "usage: backspace_inspect unscan NETLIST ORDER BITS")
     ∷ stands (codes "help") (codes "usage: backspace_inspect help")
     ∷ stands (codes "version") (codes "usage: backspace_inspect version")
     ∷ []
@@ -45,7 +47,7 @@ commands = map (λ u. u.command) usages
 
 abbrev pub options : List (List ℕ)
 options =
-    codes "--all" ∷ codes "--only" ∷ codes "--clock" ∷ codes "--scope" ∷ codes "--map" ∷ codes "--bits" ∷ []
+    codes "--all" ∷ codes "--only" ∷ codes "--clock" ∷ codes "--scope" ∷ codes "--map" ∷ codes "--bits" ∷ codes "--csv" ∷ []
 
 -- ---- wrong words
 

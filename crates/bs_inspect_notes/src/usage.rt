@@ -14,15 +14,16 @@ use bs_note_files::pair_note;
 use std::alloc::Global;
 
 /// The commands, and how the words of each stand.
-const USAGES: [(&str, &str); 10] = [
+const USAGES: [(&str, &str); 12] = [
     ("flops", "usage: backspace_inspect flops NETLIST"),
+    ("keys", "usage: backspace_inspect keys NETLIST NAME .."),
     ("inputs", "usage: backspace_inspect inputs NETLIST"),
     ("stats", "usage: backspace_inspect stats NETLIST"),
     (
         "trace",
-        "usage: backspace_inspect trace NETLIST REPORT [--all] [--only NAME ..]",
+        "usage: backspace_inspect trace NETLIST REPORT [--all] [--only NAME ..] [--csv]",
     ),
-    ("steps", "usage: backspace_inspect steps REPORT"),
+    ("steps", "usage: backspace_inspect steps REPORT [--csv]"),
     ("wave", "usage: backspace_inspect wave NETLIST REPORT"),
     (
         "stimulus",
@@ -32,18 +33,23 @@ const USAGES: [(&str, &str); 10] = [
         "signature",
         "usage: backspace_inspect signature NETLIST STIMULUS --bits N",
     ),
+    (
+        "unscan",
+        "usage: backspace_inspect unscan NETLIST ORDER BITS",
+    ),
     ("help", "usage: backspace_inspect help"),
     ("version", "usage: backspace_inspect version"),
 ];
 
 /// The options of all commands.
-const OPTIONS: [&[u8]; 6] = [
-    b"--all", b"--only", b"--clock", b"--scope", b"--map", b"--bits",
+const OPTIONS: [&[u8]; 7] = [
+    b"--all", b"--only", b"--clock", b"--scope", b"--map", b"--bits", b"--csv",
 ];
 
 /// The commands.
-const COMMANDS: [&[u8]; 10] = [
+const COMMANDS: [&[u8]; 12] = [
     b"flops",
+    b"keys",
     b"inputs",
     b"stats",
     b"trace",
@@ -51,6 +57,7 @@ const COMMANDS: [&[u8]; 10] = [
     b"wave",
     b"stimulus",
     b"signature",
+    b"unscan",
     b"help",
     b"version",
 ];

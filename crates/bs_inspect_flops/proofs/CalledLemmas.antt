@@ -1,0 +1,30 @@
+-- What is told of a name that no net has.
+use Rattle.std.proofs.Common.{◌≡◌, ℕ, Bool, List, Option, Some, Err, subst}
+use Rattle.bs_top_plan.specs.declared.walk.Refusal.{Refusal}
+use Rattle.bs_top_plan.specs.declared.walk.Refusal.TheVariants as Q
+use Rattle.bs_top_plan.specs.Plan.{exactly}
+use Rattle.bs_top_plan.specs.Walks.{Reads}
+use Rattle.bs_top_files.specs.NoteCases.{HasNote, NoteCase, NoteSays}
+use Rattle.bs_top_files.specs.Refusals.{Case, CheckSays, HasWords}
+use Rattle.bs_inspect_flops.specs.Readings.{called_of, called_said, unnamed_text}
+use Rattle.bs_inspect_flops.specs.Words.{unnamed_words}
+
+words_told : {T V : Type 0} (view : T → V) (these : List ℕ) (q : Refusal) → HasWords these q →
+    Reads {R = Case} {T = T} CheckSays view (Err (exactly these)) (Err q)
+words_told view these Q.NoMemory h = tt
+words_told view these (Q.Why why) h = h
+
+note_told : {T V : Type 0} (view : T → V) (text : List ℕ) (q : Refusal) → HasNote (exactly text) q →
+    Reads {R = NoteCase} {T = T} NoteSays view (Err (exactly text)) (Err q)
+note_told view text Q.NoMemory h = tt
+note_told view text (Q.Why why) h = h
+
+pub called_words : {T : Type 0} (view : T → Bool) (first : Option (List ℕ)) (name : List ℕ) (q : Refusal) → Some name ≡ first →
+    HasWords (unnamed_words name) q → Reads CheckSays view (called_of first) (Err q)
+called_words {T = T} view first name q e h =
+    subst (λ (o : Option (List ℕ)). Reads {T = T} CheckSays view (called_of o) (Err q)) e (words_told view (unnamed_words name) q h)
+
+pub called_note : {T : Type 0} (view : T → Bool) (first : Option (List ℕ)) (name : List ℕ) (q : Refusal) → Some name ≡ first →
+    HasNote (exactly (unnamed_text name)) q → Reads NoteSays view (called_said first) (Err q)
+called_note {T = T} view first name q e h =
+    subst (λ (o : Option (List ℕ)). Reads {T = T} NoteSays view (called_said o) (Err q)) e (note_told view (unnamed_text name) q h)
