@@ -6,7 +6,8 @@
   `crates/NAME/specs/File.antt: definition`, `crates/NAME/src/file.rt: function` or `crates/NAME/src/file.rt: function (clause, clause)`.
 - In a table with a column «Stands on» each row's crate stands on just the crates of the repository that are named there.
 - Each link to a document leads to one.
-- A type or definition that stands in two crates, and that other crates use of both, stands in DECISIONS' table of words with two meanings.
+- A type or definition that stands in two crates, and that other crates use of both, stands in DECISIONS' table of words with two meanings;
+  any other that stands in two crates stands in the list below it.
 """
 import glob
 import os
@@ -99,7 +100,7 @@ def texts_of(crate, *patterns):
 
 
 def doubled(below):
-    """The types and definitions of two crates or more that other crates use of two of them, with these crates."""
+    """The types and definitions of two crates or more: those that other crates use of two of them, with these crates, and all."""
     defined, used = {}, {}
     for crate in below:
         for name in set().union(
@@ -112,7 +113,7 @@ def doubled(below):
                 for name in re.findall(r"\w+", names) if of != crate else []:
                     used.setdefault(name, set()).add(of)
     both = {name: sorted(defined[name] & used.get(name, set())) for name in defined}
-    return {name: of for name, of in both.items() if len(of) > 1}
+    return {name: of for name, of in both.items() if len(of) > 1}, {name for name in defined if len(defined[name]) > 1}
 
 
 def faults_of_words(below):
@@ -120,9 +121,12 @@ def faults_of_words(below):
     path = "docs/DECISIONS.md"
     table = read(path).partition("### Words with two meanings")[2].partition("\n## ")[0]
     listed = {it for row in re.findall(r"^\|(`[^|]*)\|", table, re.M) for it in re.findall(r"`(\w+)`", row)}
-    found = doubled(below)
+    own = set(re.findall(r"\w+", table.partition("```text")[2].partition("```")[0]))
+    found, every = doubled(below)
     faults = [f"{name} is used of {' and '.join(found[name])}, and is no word of the table" for name in sorted({*found} - listed)]
-    return faults + [f"{name} has one meaning outside its crate" for name in sorted(listed - {*found})]
+    faults += [f"{name} has one meaning outside its crate" for name in sorted(listed - {*found})]
+    faults += [f"{name} stands in two crates, and not in the list" for name in sorted(every - listed - own)]
+    return faults + [f"{name} stands in one crate, or in the table" for name in sorted(own - (every - listed))]
 
 
 def main():
