@@ -9,28 +9,10 @@ ghost use Rattle.bs_flat_nets.specs.Blocks.{design_of, module_of};
 ghost use Rattle.bs_flat_nets.specs.Order.{IsChildrenFirst};
 ghost use Rattle.bs_flat_elaborate.specs.Whole as spec;
 
+use crate::depth::check_depth;
 use bs_flat_meaning::FlatFault;
-use bs_flat_nets::{FlatModule, has_many_nets, has_many_parts, is_deep};
+use bs_flat_nets::{FlatModule, has_many_nets, has_many_parts};
 use std::alloc::Global;
-
-/// No path has more than `MAX_DEPTH` instance names.
-fn check_depth(
-    alloc: Global,
-    blocks: &[FlatModule],
-    order: &[u32],
-    top: u32,
-) -> Result<(), FlatFault>
-    requires order { IsChildrenFirst (map module_of blocks.now) order.now }
-    requires top { top < length blocks.now }
-    ensures { MatchResult result (λ _. reading.is_deep (design_of blocks.now top) ≡ false)
-        (λ fault. (fault ≡ faults.NoMemory) ⊎ ((fault ≡ faults.FlatDepth) × (reading.is_deep (design_of blocks.now top) ≡ true))) }
-{
-    match is_deep(alloc, blocks, order, top) {
-        Err(_) => Err(FlatFault::NoMemory),
-        Ok(true) => Err(FlatFault::FlatDepth),
-        Ok(false) => Ok(()),
-    }
-}
 
 /// There are at most `MAX_PARTS` gates, flip-flops and instances.
 fn check_parts(

@@ -7,8 +7,8 @@ ghost use Rattle.bs_verilog.specs.Terminals as terminals;
 ghost use Rattle.bs_flat_meaning.specs.Connecting as spec;
 ghost use Rattle.bs_flat_wiring.specs.Growing as growing;
 
-use crate::keys::Keys;
 use crate::naming::scalar;
+use crate::nets::Keys;
 use bs_bits::{List, NoMemory};
 use bs_flat_meaning::Written;
 use bs_net::{Const, Names, NetId};

@@ -5,8 +5,8 @@ ghost use Rattle.bs_verilog_scope.specs.Keys as keys_spec;
 ghost use Rattle.bs_verilog_scope.specs.Nets as nets_spec;
 ghost use Rattle.bs_flat_wiring.specs.Wiring as spec;
 
-use crate::keys::Keys;
 use crate::naming::{scalar, vector_bit};
+use crate::nets::Keys;
 use bs_bits::NoMemory;
 use bs_net::NetId;
 use bs_verilog_lexemes::{Name, Table};

@@ -5,8 +5,8 @@ ghost use Rattle.bs_verilog_scope.specs.Keys as keys_spec;
 ghost use Rattle.bs_flat_meaning.specs.Connecting as flat;
 ghost use Rattle.bs_flat_wiring.specs.Wiring as spec;
 
-use crate::keys::Keys;
 use crate::naming::{bit_count, scalar, vector_bit};
+use crate::nets::Keys;
 use crate::wiring::Wiring;
 use bs_bits::NoMemory;
 use bs_verilog_lexemes::{Name, Table};

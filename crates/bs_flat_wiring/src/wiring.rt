@@ -6,8 +6,8 @@ ghost use Rattle.bs_flat_wiring.specs.Growing.{bare, bare_of, terms_in};
 ghost use Rattle.bs_flat_wiring.specs.Wiring as spec;
 
 use crate::growing::{Made, add_instances, own_made};
-use crate::keys::Keys;
 use crate::naming::said;
+use crate::nets::Keys;
 use crate::spans::{Spans, spans_of};
 use bs_bits::{List, NoMemory};
 use bs_flat_meaning::Written;

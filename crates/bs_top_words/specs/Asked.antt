@@ -4,12 +4,12 @@ use Rattle.std.specs.Option.{option_map}
 use Rattle.bs_top_words.specs.declared.given.Setting.{Setting as CodeSetting}
 use Rattle.bs_top_words.specs.declared.given.Given.{Given as CodeGiven}
 use Rattle.bs_top_words.specs.declared.given.Progress.{Progress as CodeTaken}
-use Rattle.bs_top_words.specs.declared.request.TraceRequest.{TraceRequest as CodeTraceRequest}
-use Rattle.bs_top_words.specs.declared.request.StimulusRequest.{StimulusRequest as CodeStimulusRequest}
-use Rattle.bs_top_words.specs.declared.request.WaveRequest.{WaveRequest as CodeWaveRequest}
+use Rattle.bs_top_words.specs.declared.words.TraceRequest.{TraceRequest as CodeTraceRequest}
+use Rattle.bs_top_words.specs.declared.words.StimulusRequest.{StimulusRequest as CodeStimulusRequest}
+use Rattle.bs_top_words.specs.declared.words.WaveRequest.{WaveRequest as CodeWaveRequest}
 use Rattle.bs_top_words.specs.declared.proposed.SignatureRequest.{SignatureRequest as CodeSignatureRequest}
-use Rattle.bs_top_words.specs.declared.request.Request.{Request as CodeRequest}
-use Rattle.bs_top_words.specs.declared.request.Request.TheVariants as R
+use Rattle.bs_top_words.specs.declared.words.Request.{Request as CodeRequest}
+use Rattle.bs_top_words.specs.declared.words.Request.TheVariants as R
 use Rattle.bs_top_words.specs.Given.{Setting, Given, Progress}
 use Rattle.bs_top_words.specs.Request.{Request, Help, Version, Flops, Inputs, Stats, Steps, TraceRequest, Trace}
 use Rattle.bs_top_words.specs.Request.{StimulusRequest, Stimulus, WaveRequest, Wave, SignatureRequest, Signature}

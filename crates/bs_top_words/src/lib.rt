@@ -18,9 +18,9 @@ mod limits;
 mod line;
 mod options;
 mod proposed;
-mod request;
 mod signature;
 mod stimulus;
+mod words;
 
 pub use fault::{WordFault, word_fault};
 pub use job::{AuditJob, DumpJob, Job, ReachJob, RunJob, read_words};
@@ -30,4 +30,4 @@ pub use limits::{
     MAX_CONFLICTS, MAX_STEPS,
 };
 pub use proposed::SignatureRequest;
-pub use request::{Request, StimulusRequest, TraceRequest, WaveRequest, read_request};
+pub use words::{Request, StimulusRequest, TraceRequest, WaveRequest, read_request};

@@ -11,8 +11,8 @@ use crate::given::{Given, Setting};
 use crate::limits::MAX_BITS;
 use crate::options::number_between;
 use crate::proposed::SignatureRequest;
-use crate::request::{Request, times};
 use crate::stimulus::value_of;
+use crate::words::{Request, times};
 
 /// Whether each option is one of `signature`.
 fn all_for_signature(settings: &[Setting<'_>]) -> bool

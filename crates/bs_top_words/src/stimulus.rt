@@ -8,7 +8,7 @@ ghost use Rattle.bs_top_words.specs.Asked.{given_in, setting_of, shown_request};
 
 use crate::flags::{Flag, is_flag};
 use crate::given::{Given, Setting};
-use crate::request::{Request, StimulusRequest, times};
+use crate::words::{Request, StimulusRequest, times};
 
 /// The first value that an option is given.
 #[tactic(auto, using(crate::proofs::ValueLemmas::value_more, crate::proofs::ValueLemmas::value_found, crate::proofs::ValueLemmas::value_none))]

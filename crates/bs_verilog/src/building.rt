@@ -5,8 +5,8 @@ ghost use Rattle.bs_verilog.specs.Building as spec;
 ghost use Rattle.bs_bits.specs.Reading.{Answers};
 ghost use Rattle.bs_verilog_syntax.specs.declared.fault.VerilogFault.TheVariants.{NoMemory as want};
 
-use crate::cells::starts_as_one;
 use crate::placing::{Made, connection_nets};
+use crate::reset::starts_as_one;
 use crate::terminals::{Control, Pins, cell_pins, is_assignment, is_gate, is_single};
 use bs_bits::List;
 use bs_net::{Flop, Gate, Kind, Mode, NetId, Terms};

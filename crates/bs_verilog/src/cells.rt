@@ -1,4 +1,4 @@
-//! The cells: which pins each has, and with which bit its flip-flop begins.
+//! The cells: which pins each has.
 ghost use Rattle.std.specs.Prelude.{◌≡◌};
 ghost use Rattle.bs_verilog.specs.Cells as spec;
 
@@ -35,15 +35,5 @@ pub fn pin_list(cell: Cell) -> &'static [Pin]
         Cell::Dff | Cell::Dffs => &[Pin::Clock, Pin::Output, Pin::Input],
         Cell::Dffe => &[Pin::Clock, Pin::Output, Pin::Input, Pin::Enable],
         Cell::Dffr => &[Pin::Clock, Pin::Output, Pin::Input, Pin::Clear],
-    }
-}
-
-/// Whether a cell's flip-flop is 1 at reset.
-pub fn starts_as_one(cell: Cell) -> bool
-    ensures { result ≡ spec.starts_as_one cell }
-{
-    match cell {
-        Cell::Dffs => true,
-        Cell::Dff | Cell::Dffe | Cell::Dffr => false,
     }
 }

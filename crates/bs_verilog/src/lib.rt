@@ -1,6 +1,6 @@
 //! The reader of a netlist text: structural Verilog of one module, as the parts of a netlist or a refusal with its place.
 //!
-//! Modules: `cells` (the pins of each cell), `terminals` (what a gate, cell or assignment may be
+//! Modules: `cells` (the pins of each cell), `reset` (with which bit a flip-flop begins), `terminals` (what a gate, cell or assignment may be
 //! connected to), `placing` (the net of a term, implicit nets, constants), `ports`, `building`
 //! (gates and flip-flops in file order), `netlist` (from a scope to `Raw`), `reader` (`read`: the
 //! four passes). Used above: `read` answers exactly `netlist_text`, the value or the first fault of
@@ -15,6 +15,7 @@ mod netlist;
 mod placing;
 mod ports;
 mod reader;
+mod reset;
 mod terminals;
 
 pub use bs_verilog_lexemes::numbers_are_told_apart;

@@ -4,7 +4,7 @@ ghost use Rattle.bs_verilog_scope.specs.Checking.{Checks, looked, marked};
 ghost use Rattle.bs_verilog_scope.specs.Declaring as spec;
 
 use crate::numbering::{Known, first_over, known_nets};
-use crate::scope::{bare_fault, header_marks, scope_of, stray_fault, wide_fault};
+use crate::redeclaring::{bare_fault, header_marks, scope_of, stray_fault, wide_fault};
 use crate::tables::{Marks, Scope};
 use bs_bits::List;
 use bs_verilog_lexemes::{Name, Table};

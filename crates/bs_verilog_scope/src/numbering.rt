@@ -10,7 +10,7 @@ ghost use Rattle.bs_bits.specs.Reading.{Answers};
 ghost use Rattle.bs_verilog_syntax.specs.declared.fault.VerilogFault.TheVariants.{NoMemory as want};
 
 use crate::keys::{bit_key, index_at, scalar_key, width};
-use crate::scope::{entry, is_marked};
+use crate::redeclaring::{entry, is_marked};
 use crate::tables::{Marks, Scope};
 use bs_bits::List;
 use bs_net::{MAX_NETS, Names};

@@ -1,7 +1,7 @@
 use Rattle.std.proofs.Common.{◌∙◌, ℕ, ◌<◌, List, map, length, subst, sym, ap, arith, nat_eq}
 use Rattle.std.specs.List.{All, IsDistinct}
 use Rattle.bs_net.specs.declared.net.Gate.{Gate}
-use Rattle.bs_net.specs.declared.loops.Levelling.{Levelling}
+use Rattle.bs_net.specs.declared.order.Levelling.{Levelling}
 use Rattle.bs_net.specs.Order.{IsOrder}
 use Rattle.bs_net.specs.Loops.{IsLoop, IsLevelling}
 use Rattle.bs_flat_order.specs.Gates.{turned}
