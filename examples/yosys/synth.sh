@@ -82,7 +82,7 @@ awk '
     $1 == "wire" && (/ input [0-9]/ || / inout [0-9]/) && FNR == NR { inputs[module] = inputs[module] " " $NF; size[module, $NF] = width() }
     FNR == NR { next }
     $1 == "cell" { kind = $2; name = $3; split("", given) }
-    $1 == "connect" { given[$2] = 1 }
+    $1 == "connect" && !($3 == "{" && $4 == "}") { given[$2] = 1 }
     $1 == "end" && kind != "" {
         count = split(inputs[kind], ports, " ")
         for (i = 1; i <= count; i++)

@@ -1,0 +1,59 @@
+#!/usr/bin/env python3
+"""Runs the commands of examples/README.md with the built programs and compares what they write with the stored texts.
+
+At the top of the repository: python3 tools/examples.py [BACKSPACE INSPECT]. The programs are those that `rt run` built, unless
+others are given. Prints a line for each command and ends with 1 where a text or a status is another one.
+"""
+import os
+import subprocess
+import sys
+
+# program, words, exit status, the file that standard output must equal (or None)
+ROWS = [
+    ("b", "run shift/netlist.v shift/signature.txt shift/stimulus.txt shift/dump.txt", 0, "shift/report.txt"),
+    ("b", "audit shift/netlist.v shift/signature.txt shift/stimulus.txt shift/dump.txt shift/report.txt", 0, None),
+    ("b", "dump shift/netlist.v shift/signature.txt shift/stimulus.txt 1 3", 0, "shift/dump.txt"),
+    ("b", "wave shift/netlist.v shift/signature.txt shift/stimulus.txt shift/dump.txt shift/report.txt", 0, "shift/waveform.vcd"),
+    ("b", "run older/netlist.v older/signature.txt older/stimulus.txt older/dump.txt", 0, None),
+    ("b", "audit older/netlist.v older/signature.txt older/stimulus.txt older/dump.txt older/report.txt", 0, None),
+    ("b", "dump older/netlist.v older/signature.txt older/stimulus.txt 1 3", 0, "older/dump.txt"),
+    ("b", "run toggle/netlist.v toggle/signature.txt toggle/stimulus.txt toggle/dump.txt", 0, None),
+    ("b", "audit toggle/netlist.v toggle/signature.txt toggle/stimulus.txt toggle/dump.txt toggle/report.txt", 0, None),
+    ("b", "reach counter/netlist.v 0101 12", 0, "counter/reached.txt"),
+    ("b", "reach counter/netlist.v 0101 4", 15, "counter/unreached.txt"),
+    ("b", "reach counter/netlist.v 0101 12 --conflicts 1", 5, "counter/unknown.txt"),
+    ("b", "reach shift/netlist.v 11 5", 0, "shift/reach.txt"),
+    ("b", "run counter/netlist.v runs/signature.txt runs/stimulus.txt runs/near_dump.txt", 0, "runs/near.txt"),
+    ("b", "run counter/netlist.v runs/signature.txt runs/stimulus.txt runs/far_dump.txt", 3, "runs/far.txt"),
+    ("b", "run s27/netlist.v s27/signature.txt s27/stimulus.txt s27/dump.txt", 0, "s27/report.txt"),
+    ("b", "audit s27/netlist.v s27/signature.txt s27/stimulus.txt s27/dump.txt s27/report.txt", 0, None),
+    ("b", "demo 7", 0, "demo/line.txt"),
+    ("b", "run yosys/netlist.v yosys/signature.txt yosys/stimulus.txt yosys/dump.txt --steps 8", 0, "yosys/report.txt"),
+    ("b", "audit yosys/netlist.v yosys/signature.txt yosys/stimulus.txt yosys/dump.txt yosys/report.txt", 0, None),
+    ("i", "stimulus yosys/netlist.v yosys/sim.vcd --clock ck --scope tb.dut", 0, "yosys/stimulus.txt"),
+    ("i", "trace yosys/netlist.v yosys/report.txt", 0, None),
+    ("i", "wave yosys/netlist.v yosys/report.txt", 0, None),
+    ("b", "run hierarchy/netlist.v hierarchy/signature.txt hierarchy/stimulus.txt hierarchy/dump.txt", 0, "hierarchy/report.txt"),
+    ("b", "audit hierarchy/netlist.v hierarchy/signature.txt hierarchy/stimulus.txt hierarchy/dump.txt hierarchy/report.txt", 0, None),
+    ("i", "flops hierarchy/netlist.v", 0, None),
+]
+
+
+def main():
+    programs = sys.argv[1:] or ["crates/backspace/out/backspace", "crates/backspace_inspect/out/backspace_inspect"]
+    of = {"b": os.path.abspath(programs[0]), "i": os.path.abspath(programs[1])}
+    wrong = 0
+    for program, words, status, stored in ROWS:
+        done = subprocess.run([of[program], *words.split()], cwd="examples", stdout=subprocess.PIPE, stderr=subprocess.PIPE)
+        said = "as stored" if stored else "not stored"
+        if done.returncode != status:
+            said = f"status {done.returncode}, not {status}"
+        elif stored and done.stdout != open(f"examples/{stored}", "rb").read():
+            said = f"not {stored}"
+        wrong += said not in ("as stored", "not stored")
+        print(f"{os.path.basename(of[program])} {words}: {said}")
+    print(f"{len(ROWS) - wrong} of {len(ROWS)} as they should be")
+    sys.exit(1 if wrong else 0)
+
+
+main()
