@@ -34,10 +34,12 @@ use Rattle.bs_report.specs.declared.report.ListEnd.TheVariants.{Finished, Candid
 use Rattle.bs_report_good.specs.Step.{listed}
 use Rattle.bs_report_good.specs.Valid.{blocks_due}
 use Rattle.bs_solve.specs.Budget.{last_lemmas, HasFewLemmas}
-use Rattle.bs_preimage.specs.Turn.{Extends, Keeps, HasSearched, MayTurn, HasNext, HasRefutedAll, HasSpent, IsOneOf, block_in, guard_in, steps_after}
-use Rattle.bs_preimage.specs.Finding.{is_inner, HasLogged, IsAgain, IsUnderWay, HasKnown, KeepsLimit, HasEndedSearch}
+use Rattle.bs_preimage.specs.declared.turn.TurnEnd.TheVariants.{Listed, Refuted, Spent}
+use Rattle.bs_preimage.specs.Asking.{HasAsked, IsAsked}
+use Rattle.bs_preimage.specs.Turn.{Extends, Keeps, HasSearched, MayTurn, TurnsTo, HasNext, HasRefutedAll, HasSpent, IsOneOf, block_in, guard_in, steps_after}
+use Rattle.bs_preimage.specs.Finding.{is_inner, HasLogged, IsAgain, IsUnderWay, HasKnown, KeepsLimit, HasEndedSearch, IsSearching, HasComeTo, HasFilled}
 use Rattle.bs_solve_recording.proofs.CallerLemmas.{runs_over}
-use Rattle.bs_preimage.proofs.TurnLemmas.{extends_then, extends_from}
+use Rattle.bs_preimage.proofs.TurnLemmas.{extends_then, extends_from, none_is_known, no_known}
 use Rattle.bs_preimage.proofs.InnerLemmas.{lemmas_inner, inner_step}
 
 -- ---- the guard of the step
@@ -127,9 +129,9 @@ none_listed (t ∷ ts) s e = by (bits_eq s t) refl e (none_listed ts s)
     by false b e rest = (b, rest e)
 
 -- the next candidate's state is another one than each found
-other_states : (e : Encoded) (a : Clause) (limit k : ℕ) (known : Option Cand) (start s s2 : SolverState) (found : List Cand) (cand : Cand) →
-    IsUnderWay e a known start s found → HasNext e a limit found known k s s2 cand → Each (λ t. bits_eq cand.state t ≡ false) (listed found)
-other_states e a limit k known start s s2 found cand u one = by one.apart
+other_states : (e : Encoded) (a : Clause) (limit : ℕ) (known : Option Cand) (start s s2 : SolverState) (found : List Cand) (cand : Cand) →
+    IsUnderWay e a known start s found → HasNext e a limit found known s s2 cand → Each (λ t. bits_eq cand.state t ≡ false) (listed found)
+other_states e a limit known start s s2 found cand u one = by one.apart
   where
     by : ((t : List Bool) → Contains (standing s.book) (block_in e s.book t) → cand.state ≢ t) ⊎ (is_listed (listed found) cand.state ≡ false) →
         Each (λ t. bits_eq cand.state t ≡ false) (listed found)
@@ -152,10 +154,10 @@ distinct_push xs x d all =
     IsDistinct-IsPermutation bits_eq flips (x ∷ xs) (xs ++ x ∷ []) (IsPermutation-sym (xs ++ x ∷ []) (x ∷ xs) (IsPermutation-to_front xs x))
     (IsDistinct-cons bits_eq x xs all d)
 
-pub one_more_cand : (e : Encoded) (a : Clause) (limit k : ℕ) (known : Option Cand) (start s s2 : SolverState) (found : List Cand) (cand : Cand) →
-    start.stage ≡ Begun → IsUnderWay e a known start s found → HasNext e a limit found known k s s2 cand →
+pub one_more_cand : (e : Encoded) (a : Clause) (limit : ℕ) (known : Option Cand) (start s s2 : SolverState) (found : List Cand) (cand : Cand) →
+    start.stage ≡ Begun → IsUnderWay e a known start s found → HasNext e a limit found known s s2 cand →
     IsUnderWay e a known start s2 (found ++ cand ∷ [])
-one_more_cand e a limit k known start s s2 found cand b u one =
+one_more_cand e a limit known start s s2 found cand b u one =
     let m : HasLogged e start one.middle found = searched_logs e a start s one.middle found one.lemmas u.logged one.searched in
     let block : Clause = negation (guard_in one.middle.book) ∷ block_for e cand.state in
     let same : block ≡ block_in e start.book cand.state = block_of_middle e start s one.middle found u.logged m cand.state in
@@ -180,7 +182,7 @@ one_more_cand e a limit k known start s s2 found cand b u one =
       cands = record {
         shown = All-push (IsOneOf e a known) found cand u.cands.shown one.right;
         apart = subst (IsDistinct bits_eq) (sym (map-append (λ (c : Cand). c.state) found (cand ∷ [])))
-            (distinct_push (listed found) cand.state u.cands.apart (other_states e a limit k known start s s2 found cand u one));
+            (distinct_push (listed found) cand.state u.cands.apart (other_states e a limit known start s s2 found cand u one));
       };
       blocked = All-push (λ (c : Cand). Contains (standing s2.book) (block_in e start.book c.state)) found cand
           (All-weaker (λ (c : Cand). Contains (standing s.book) (block_in e start.book c.state))
@@ -259,9 +261,9 @@ searched_few : (a : Clause) (limit : ℕ) (start s s2 : SolverState) (lemmas : L
 searched_few a limit start s s2 lemmas k r n =
     record { few = λ f. subst (HasFewLemmas limit) (sym r.history) (few_lemmas limit lemmas s.book.history r.are_lemmas n (k.few f)) }
 
-next_few : (e : Encoded) (a : Clause) (limit k : ℕ) (known : Option Cand) (start s s2 : SolverState) (found : List Cand) (cand : Cand) →
-    KeepsLimit limit start s → HasNext e a limit found known k s s2 cand → KeepsLimit limit start s2
-next_few e a limit k known start s s2 found cand keeps one =
+next_few : (e : Encoded) (a : Clause) (limit : ℕ) (known : Option Cand) (start s s2 : SolverState) (found : List Cand) (cand : Cand) →
+    KeepsLimit limit start s → HasNext e a limit found known s s2 cand → KeepsLimit limit start s2
+next_few e a limit known start s s2 found cand keeps one =
     let count : last_lemmas one.middle.book.history ≡ length one.lemmas =
     ap last_lemmas one.searched.history ∙ lemmas_counted one.lemmas s.book.history one.searched.are_lemmas in
     let middle : KeepsLimit limit start one.middle =
@@ -284,12 +286,8 @@ listed_last [] cand = ap (λ (b : Bool). b || false) (bits_same cand.state)
 listed_last (c ∷ cs) cand = or_right (bits_eq cand.state c.state) (is_listed (listed (cs ++ cand ∷ [])) cand.state) (listed_last cs cand)
 
 next_known : (e : Encoded) (a : Clause) (limit k : ℕ) (known : Option Cand) (s s2 : SolverState) (found : List Cand) (cand : Cand) →
-    length found < k → HasNext e a limit found known k s s2 cand → HasKnown known k (found ++ cand ∷ [])
-next_known e a limit k known s s2 found cand under one =
-    record {
-      there = λ c is n.
-          let longer = length-append found (cand ∷ []) in by c (one.last (omega (arith, longer, n, under)) c is);
-    }
+    HasNext e a limit found known s s2 cand → HasKnown known k (found ++ cand ∷ [])
+next_known e a limit k known s s2 found cand one = record { there = λ c is _. by c (one.last c is) }
   where
     by : (c : Cand) → (is_listed (listed found) c.state ≡ true) ⊎ (c ≡ cand) → is_listed (listed (found ++ cand ∷ [])) c.state ≡ true
     by c (inl there) = listed_more found cand c.state there
@@ -299,6 +297,10 @@ none_known : (known : Option Cand) (k : ℕ) (found : List Cand) → length foun
 none_known known k found under = record { there = λ c is n. absurd (omega (arith, under, n)) }
 
 -- ---- the ends
+
+abbrev is_candidates : ListEnd → Bool
+is_candidates Candidates = true
+is_candidates end = false
 
 abbrev pub is_conflicts : ListEnd → Bool
 is_conflicts Conflicts = true
@@ -439,31 +441,136 @@ extends_on e a known start s new found b u x = by u.stage
 
 -- ---- the loop
 
--- the search so far: at most k candidates, a known one among k, and few lemmas in each solve
-pub record IsSearching (e : Encoded) (a : Clause) (known : Option Cand) (k limit : ℕ) (start s : SolverState) (found : List Cand) : Type 0 where
-  pub way : IsUnderWay e a known start s found
-  pub most : length found ≤ k
-  pub with_known : HasKnown known k found
-  pub limited : KeepsLimit limit start s
-
-pub searching_at_first : (e : Encoded) (a : Clause) (known : Option Cand) (k limit : ℕ) (start : SolverState) (found : List Cand) → 1 ≤ k → found ≡ [] →
-    IsSearching e a known k limit start start found
-searching_at_first e a known k limit start found some none =
-    subst (IsSearching e a known k limit start start) (sym none) (record {
+searching_at_first : (e : Encoded) (a : Clause) (known : Option Cand) (k limit : ℕ) (start : SolverState) → 1 ≤ k →
+    IsSearching e a known k limit start start []
+searching_at_first e a known k limit start some =
+    record {
       way = under_way_at_first e a known start;
       most = omega arith;
       with_known = none_known known k [] (omega (arith, some));
       limited = record { few = λ f. f };
+    }
+
+searching_more : (e : Encoded) (a : Clause) (known : Option Cand) (k limit : ℕ) (start s s2 : SolverState) (found : List Cand) (cand : Cand) →
+    start.stage ≡ Begun → IsSearching e a known k limit start s found → HasNext e a limit found known s s2 cand →
+    length found < k → IsSearching e a known k limit start s2 (found ++ cand ∷ [])
+searching_more e a known k limit start s s2 found cand b u one under =
+    let longer = length-append found (cand ∷ []) in
+    record {
+      way = one_more_cand e a limit known start s s2 found cand b u.way one;
+      most = omega (arith, longer, under);
+      with_known = next_known e a limit k known s s2 found cand one;
+      limited = next_few e a limit known start s s2 found cand u.limited one;
+    }
+
+-- one place at least is left
+pub record IsBelowLast (e : Encoded) (a : Clause) (k limit : ℕ) (start s : SolverState) (found : List Cand) : Type 0 where
+  pub search : IsSearching e a None k limit start s found
+  pub left : length found + 1 ≤ k
+
+pub below_at_first : (e : Encoded) (a : Clause) (k limit : ℕ) (start : SolverState) (found : List Cand) → 1 ≤ k → found ≡ [] →
+    IsBelowLast e a k limit start start found
+below_at_first e a k limit start found some none =
+    subst (IsBelowLast e a k limit start start) (sym none) (record { search = searching_at_first e a None k limit start some; left = omega (arith, some) })
+
+pub below_more : (e : Encoded) (a : Clause) (k limit : ℕ) (start s s2 : SolverState) (found : List Cand) (cand : Cand) (found2 : List Cand) →
+    start.stage ≡ Begun → IsBelowLast e a k limit start s found → TurnsTo e a limit s s2 (Listed cand) → found2 ≡ found ++ cand ∷ [] →
+    length found < k - 1 → IsBelowLast e a k limit start s2 found2
+below_more e a k limit start s s2 found cand found2 b u one pushed under =
+    let longer = length-append found (cand ∷ []) in
+    subst (IsBelowLast e a k limit start s2) (sym pushed) (record {
+      search = searching_more e a None k limit start s s2 found cand b u.search (none_is_known e a limit found s s2 (Listed cand) one)
+          (omega (arith, under));
+      left = omega (arith, longer, under);
     })
 
-pub searching_more : (e : Encoded) (a : Clause) (known : Option Cand) (k limit : ℕ) (start s s2 : SolverState) (found : List Cand) (cand : Cand)
-    (found2 : List Cand) → start.stage ≡ Begun → IsSearching e a known k limit start s found → HasNext e a limit found known k s s2 cand →
-    found2 ≡ found ++ cand ∷ [] → length found < k → IsSearching e a known k limit start s2 found2
-searching_more e a known k limit start s s2 found cand found2 b u one pushed under =
-    let longer = length-append found (cand ∷ []) in
-    subst (IsSearching e a known k limit start s2) (sym pushed) (record {
-      way = one_more_cand e a limit k known start s s2 found cand b u.way one;
-      most = omega (arith, longer, under);
-      with_known = next_known e a limit k known s s2 found cand under one;
-      limited = next_few e a limit k known start s s2 found cand u.limited one;
+not_finished : (id : ℕ) → Finished id ≢ Candidates
+not_finished id e = true≢false (sym (ap is_candidates e))
+
+not_spent : Conflicts ≢ Candidates
+not_spent e = true≢false (sym (ap is_candidates e))
+
+pub refuted_sooner : (e : Encoded) (a : Clause) (k limit id : ℕ) (start s s2 : SolverState) (found : List Cand) → start.stage ≡ Begun →
+    IsBelowLast e a k limit start s found → TurnsTo e a limit s s2 (Refuted id) → HasComeTo e a k limit start s2 found (Some (Finished id))
+refuted_sooner e a k limit id start s s2 found b u r =
+    record {
+      search = refuted_search e a None k limit id start s s2 found b u.search.way u.search.limited r (omega (arith, u.left));
+      sooner = not_finished id;
+    }
+
+pub spent_sooner : (e : Encoded) (a : Clause) (k limit : ℕ) (start s s2 : SolverState) (found : List Cand) → start.stage ≡ Begun →
+    IsBelowLast e a k limit start s found → TurnsTo e a limit s s2 Spent → HasComeTo e a k limit start s2 found (Some Conflicts)
+spent_sooner e a k limit start s s2 found b u r =
+    record {
+      search = spent_search e a None k limit start s s2 found b u.search.way u.search.limited r (omega (arith, u.left));
+      sooner = not_spent;
+    }
+
+pub at_last : (e : Encoded) (a : Clause) (k limit : ℕ) (start s : SolverState) (found : List Cand) → IsBelowLast e a k limit start s found →
+    ¬ (length found < k - 1) → HasComeTo e a k limit start s found None
+at_last e a k limit start s found u over = record { search = u.search; one_left = omega (arith, u.left, over) }
+
+-- ---- the last place
+
+none_is_one : (e : Encoded) (a : Clause) (known : Option Cand) (cand : Cand) → IsOneOf e a None cand → IsOneOf e a known cand
+none_is_one e a known cand (inl shown) = inl shown
+none_is_one e a known cand (inr is) = absurd (no_known cand cand is)
+
+-- a search with nothing known, where something is known
+under_way_with : (e : Encoded) (a : Clause) (known : Option Cand) (start s : SolverState) (found : List Cand) → IsUnderWay e a None start s found →
+    IsUnderWay e a known start s found
+under_way_with e a known start s found u =
+    record {
+      logged = u.logged;
+      cands = record {
+        shown = All-weaker (IsOneOf e a None) (IsOneOf e a known) (λ cand h. none_is_one e a known cand h) found u.cands.shown;
+        apart = u.cands.apart;
+      };
+      blocked = u.blocked;
+      stage = u.stage;
+    }
+
+searching_with : (e : Encoded) (a : Clause) (known : Option Cand) (k limit : ℕ) (start s : SolverState) (found : List Cand) → length found < k →
+    IsSearching e a None k limit start s found → IsSearching e a known k limit start s found
+searching_with e a known k limit start s found under u =
+    record {
+      way = under_way_with e a known start s found u.way;
+      most = u.most;
+      with_known = none_known known k found under;
+      limited = u.limited;
+    }
+
+filled_search : (e : Encoded) (a : Clause) (known : Option Cand) (k limit : ℕ) (start s s2 : SolverState) (found after : List Cand) (end : ListEnd) →
+    start.stage ≡ Begun → IsSearching e a known k limit start s found → length found + 1 ≡ k → HasFilled e a limit found known s s2 after end →
+    HasEndedSearch e a known k limit start s2 after end
+filled_search e a known k limit start s s2 found after (Finished id) b u left h =
+    subst (λ (cs : List Cand). HasEndedSearch e a known k limit start s2 cs (Finished id)) (sym h.1)
+    (refuted_search e a known k limit id start s s2 found b u.way u.limited h.0 (omega (arith, left)))
+filled_search e a known k limit start s s2 found after Candidates b u left h =
+    let more : IsSearching e a known k limit start s2 (found ++ h.cand ∷ []) =
+    searching_more e a known k limit start s s2 found h.cand b u h.next (omega (arith, left)) in
+    let longer = length-append found (h.cand ∷ []) in
+    subst (λ (cs : List Cand). HasEndedSearch e a known k limit start s2 cs Candidates) (sym h.pushed)
+    (full_search e a known k limit start s2 (found ++ h.cand ∷ []) more.way more.limited more.with_known (omega (arith, left)) (omega (arith, longer, left)))
+filled_search e a known k limit start s s2 found after Conflicts b u left h =
+    subst (λ (cs : List Cand). HasEndedSearch e a known k limit start s2 cs Conflicts) (sym h.1)
+    (spent_search e a known k limit start s s2 found b u.way u.limited h.0 (omega (arith, left)))
+
+-- ---- the whole search, which asks a source
+
+pub found_unasked : {S : Type 0} (knows : S → Option Cand → S → Type 0) (source : S) (e : Encoded) (a : Clause) (k limit : ℕ) (start s : SolverState)
+    (found : List Cand) (end : ListEnd) → HasComeTo e a k limit start s found (Some end) →
+    HasAsked knows source source (λ known. HasEndedSearch e a known k limit start s found end) end
+found_unasked knows source e a k limit start s found end h = inl (record { same = refl; sooner = h.sooner; made = h.search })
+
+pub found_asking : {S : Type 0} (knows : S → Option Cand → S → Type 0) (source after : S) (e : Encoded) (a : Clause) (k limit : ℕ)
+    (start s s2 : SolverState) (found found2 : List Cand) (end : ListEnd) → start.stage ≡ Begun → HasComeTo e a k limit start s found None →
+    IsAsked knows source after (λ known. HasFilled e a limit found known s s2 found2 end) →
+    HasAsked knows source after (λ known. HasEndedSearch e a known k limit start s2 found2 end) end
+found_asking knows source after e a k limit start s s2 found found2 end b u h =
+    inr (record {
+      known = h.known;
+      answer = h.answer;
+      made = filled_search e a h.known k limit start s s2 found found2 end b
+          (searching_with e a h.known k limit start s found (let left = u.one_left in omega (arith, left)) u.search) u.one_left h.made;
     })

@@ -1,5 +1,6 @@
 pub mod InnerLemmas
 pub mod TurnLemmas
+pub mod AskingLemmas
 pub mod FindingLemmas
 pub mod OrderLemmas
 pub mod StepLinesLemmas

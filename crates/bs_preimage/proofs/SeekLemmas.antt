@@ -16,7 +16,10 @@ use Rattle.bs_encode.specs.Assuming.{assumptions_for, asking}
 use Rattle.bs_preimage.specs.Preimage.{next_guard}
 use Rattle.bs_preimage.specs.Rest.{IsAtRest}
 use Rattle.bs_preimage.specs.Turn.{Extends, IsReadable, MayTurn, guard_in}
-use Rattle.bs_preimage.specs.Step.{begun, assumptions_at}
+use Rattle.bs_report.specs.declared.report.Cand.{Cand}
+use Rattle.bs_report.specs.declared.report.ListEnd.{ListEnd}
+use Rattle.bs_preimage.specs.Finding.{HasEndedSearch}
+use Rattle.bs_preimage.specs.Step.{begun, assumptions_at, ending_of, HasSought}
 use Rattle.bs_preimage.proofs.TurnLemmas.{extends_line, extends_same, extends_from, extends_then}
 
 begun_is_not_blocked : Begun ≡ Blocked → ⊥
@@ -59,6 +62,21 @@ may_seek e old s present stored older guard a readable vars clauses rest new g i
     subst (λ (a : Clause). MayTurn e s a) (sym (assumptions_are e old present stored older guard a rest g is))
     (subst (λ (s : SolverState). MayTurn e s (assumptions_at e old.book present stored older)) (sym new)
     (may_start e old present stored older readable vars clauses rest))
+
+-- a search in a step that was begun, and the end of the step
+pub sought_with : (e : Encoded) (old s middle new : SolverState) (present stored : List Bool) (older : Option (List Bool)) (guard : Literal) (a : Clause)
+    (known : Option Cand) (k b : ℕ) (found : List Cand) (end : ListEnd) (last : Option ℕ) → IsAtRest old → s ≡ begun old → guard ≡ guard_in old.book →
+    a ≡ assumptions_for e guard (asking present stored older) → last ≡ ending_of end → HasEnded middle new last →
+    HasEndedSearch e a known k b s middle found end → HasSought e old new present stored older known k b found end
+sought_with e old s middle new present stored older guard a known k b found end last rest new_is g is last_is ended h =
+    record {
+      middle = middle;
+      search =
+          subst (λ (a : Clause). HasEndedSearch e a known k b (begun old) middle found end)
+          (assumptions_are e old present stored older guard a rest g is)
+          (subst (λ (s : SolverState). HasEndedSearch e a known k b s middle found end) new_is h);
+      ended = subst (HasEnded middle new) last_is ended;
+    }
 
 -- ---- extensions
 

@@ -253,12 +253,12 @@ opened_vars e a old new may h = ap (λ (b : Book). b.problem.vars) h.book ∙ (b
 
 -- ---- the next turn
 
-no_known : (known cand : Cand) → None ≡ Some cand → ⊥
+pub no_known : (known cand : Cand) → None ≡ Some cand → ⊥
 no_known known cand e = cc
 
-pub none_is_known : (e : Encoded) (a : Clause) (limit : ℕ) (found : List Cand) (k : ℕ) (old new : SolverState) (turn : TurnEnd) →
-    TurnsTo e a limit old new turn → GoesTo e a limit found None k old new turn
-none_is_known e a limit found k old new (Listed cand) one =
+pub none_is_known : (e : Encoded) (a : Clause) (limit : ℕ) (found : List Cand) (old new : SolverState) (turn : TurnEnd) →
+    TurnsTo e a limit old new turn → GoesTo e a limit found None old new turn
+none_is_known e a limit found old new (Listed cand) one =
     record {
       middle = one.middle;
       lemmas = one.lemmas;
@@ -268,33 +268,22 @@ none_is_known e a limit found k old new (Listed cand) one =
       blocked = one.blocked;
       right = inl one.shown;
       apart = inl one.apart;
-      last = λ n c is. absurd (no_known c c is);
+      last = λ c is. absurd (no_known c c is);
     }
-none_is_known e a limit found k old new (Refuted id) r = r
-none_is_known e a limit found k old new Spent r = r
-
-found_where_last : (last found : Bool) → last ≡ true → (last && not found) ≡ false → found ≡ true
-found_where_last true true e f = refl
-found_where_last true false e f = absurd (true≢false f)
-found_where_last false found e f = absurd (false≢true e)
+none_is_known e a limit found old new (Refuted id) r = r
+none_is_known e a limit found old new Spent r = r
 
 same_known : (known cand : Cand) → Some known ≡ Some cand → known ≡ cand
 same_known known cand e = cc
 
 -- whether a candidate found has a state
-found_is : (found : List Cand) (s : List Bool) → list_any (λ (cand : Cand). bits_eq s cand.state) found ≡ is_listed (listed found) s
+pub found_is : (found : List Cand) (s : List Bool) → list_any (λ (cand : Cand). bits_eq s cand.state) found ≡ is_listed (listed found) s
 found_is [] s = refl
 found_is (c ∷ cs) s = ap (λ (b : Bool). bits_eq s c.state || b) (found_is cs s)
 
-pub due_is : (found : List Cand) (known : Cand) (k : ℕ) (b : Bool) →
-    ((length found + 1 == k) && not (list_any (λ (cand : Cand). bits_eq known.state cand.state) found)) ≡ b →
-    ((length found + 1 == k) && not (is_listed (listed found) known.state)) ≡ b
-due_is found known k b e = ap (λ (there : Bool). (length found + 1 == k) && not there) (sym (found_is found known.state)) ∙ e
-
-pub known_waits : (e : Encoded) (a : Clause) (limit : ℕ) (found : List Cand) (known : Cand) (k : ℕ) (old new : SolverState) (turn : TurnEnd) →
-    ((length found + 1 == k) && not (is_listed (listed found) known.state)) ≡ false → TurnsTo e a limit old new turn →
-    GoesTo e a limit found (Some known) k old new turn
-known_waits e a limit found known k old new (Listed cand) due one =
+pub known_waits : (e : Encoded) (a : Clause) (limit : ℕ) (found : List Cand) (known : Cand) (old new : SolverState) (turn : TurnEnd) →
+    is_listed (listed found) known.state ≡ true → TurnsTo e a limit old new turn → GoesTo e a limit found (Some known) old new turn
+known_waits e a limit found known old new (Listed cand) there one =
     record {
       middle = one.middle;
       lemmas = one.lemmas;
@@ -304,21 +293,15 @@ known_waits e a limit found known k old new (Listed cand) due one =
       blocked = one.blocked;
       right = inl one.shown;
       apart = inl one.apart;
-      last = λ n c is. inl (subst (λ (x : Cand). is_listed (listed found) x.state ≡ true) (same_known known c is)
-          (found_where_last (length found + 1 == k) (is_listed (listed found) known.state) (eq-eqb (length found + 1) k n) due));
+      last = λ c is. inl (subst (λ (x : Cand). is_listed (listed found) x.state ≡ true) (same_known known c is) there);
     }
-known_waits e a limit found known k old new (Refuted id) due r = r
-known_waits e a limit found known k old new Spent due r = r
+known_waits e a limit found known old new (Refuted id) there r = r
+known_waits e a limit found known old new Spent there r = r
 
-not_found : (last found : Bool) → (last && not found) ≡ true → found ≡ false
-not_found true false e = refl
-not_found true true e = absurd (false≢true e)
-not_found false found e = absurd (false≢true e)
-
-pub known_comes : (e : Encoded) (a : Clause) (limit : ℕ) (found : List Cand) (known : Cand) (k : ℕ) (old new : SolverState) (turn : TurnEnd) →
-    1 ≤ limit → ((length found + 1 == k) && not (is_listed (listed found) known.state)) ≡ true → HasTakenKnown e a known old new turn →
-    GoesTo e a limit found (Some known) k old new turn
-known_comes e a limit found known k old new (Listed cand) some due h =
+pub known_comes : (e : Encoded) (a : Clause) (limit : ℕ) (found : List Cand) (known : Cand) (old new : SolverState) (turn : TurnEnd) →
+    1 ≤ limit → is_listed (listed found) known.state ≡ false → HasTakenKnown e a known old new turn →
+    GoesTo e a limit found (Some known) old new turn
+known_comes e a limit found known old new (Listed cand) some out h =
     record {
       middle = h.way.middle;
       lemmas = [];
@@ -327,9 +310,8 @@ known_comes e a limit found known k old new (Listed cand) some due h =
       id = h.way.id;
       blocked = subst (λ (x : Cand). HasBlocked h.way.middle new (block_for e x.state) h.way.id) (sym h.is) h.way.blocked;
       right = inr (ap Some (sym h.is));
-      apart = inr (ap (λ (x : Cand). is_listed (listed found) x.state) h.is
-          ∙ not_found (length found + 1 == k) (is_listed (listed found) known.state) due);
-      last = λ n c is. inr (sym (same_known known c is) ∙ sym h.is);
+      apart = inr (ap (λ (x : Cand). is_listed (listed found) x.state) h.is ∙ out);
+      last = λ c is. inr (sym (same_known known c is) ∙ sym h.is);
     }
-known_comes e a limit found known k old new (Refuted id) some due h = absurd h
-known_comes e a limit found known k old new Spent some due h = absurd h
+known_comes e a limit found known old new (Refuted id) some out h = absurd h
+known_comes e a limit found known old new Spent some out h = absurd h

@@ -1,5 +1,6 @@
 -- The search for the candidates of a step: what it has found and logged.
-use Rattle.std.specs.Prelude.{◌≡◌, ◌⊎◌, ℕ, ◌-◌, ◌^◌, ◌<◌, ◌≤◌, Bool, true, false, List, [], ◌∷◌, ◌++◌, length, reverse, filter_map, All, Contains, Option, Some}
+use Rattle.std.specs.Prelude.{◌≡◌, ◌≢◌, ◌⊎◌, ℕ, ◌+◌, ◌-◌, ◌^◌, ◌<◌, ◌≤◌, Bool, true, false, List, [], ◌∷◌, ◌++◌, length, reverse, filter_map, All, Contains, Option}
+use Rattle.std.specs.Prelude.{Some, None}
 use Rattle.std.specs.List.{AllByRecursion, IsDistinct}
 use Rattle.bs_bits.specs.Bits.{bits_eq}
 use Rattle.bs_clause.specs.Literal.{Literal, Clause}
@@ -20,7 +21,7 @@ use Rattle.bs_solve_recording.specs.Book.{standing}
 use Rattle.bs_solve_recording.specs.Search.{assumed}
 use Rattle.bs_solve_recording.specs.Solver.{SolverState}
 use Rattle.bs_solve.specs.Budget.{HasFewLemmas}
-use Rattle.bs_preimage.specs.Turn.{IsOneOf, Keeps, guard_in, block_in}
+use Rattle.bs_preimage.specs.Turn.{IsOneOf, Keeps, HasNext, HasRefutedAll, HasSpent, guard_in, block_in}
 
 -- a line inside a step
 abbrev pub is_inner : Line → Bool
@@ -82,3 +83,39 @@ pub record HasEndedSearch (e : Encoded) (assumptions : Clause) (known : Option C
   pub steps : s.book.problem.steps ≡ start.book.problem.steps ++ assumptions ∷ []
   pub ended : EndedBy k limit assumptions s logged.lines (length found) end
   pub bound : end ≡ Conflicts → (run : List Literal) → IsUnitRun (standing start.book) assumptions run → limit < 2 ^ (start.vars - length run)
+
+-- the search so far: at most k candidates, a known one among k, and few lemmas in each solve
+pub record IsSearching (e : Encoded) (assumptions : Clause) (known : Option Cand) (k limit : ℕ) (start s : SolverState) (found : List Cand) :
+    Type 0 where
+  pub way : IsUnderWay e assumptions known start s found
+  pub most : length found ≤ k
+  pub with_known : HasKnown known k found
+  pub limited : KeepsLimit limit start s
+
+-- the search ended before k candidates were found
+pub record HasEndedSooner (e : Encoded) (assumptions : Clause) (k limit : ℕ) (start s : SolverState) (found : List Cand) (end : ListEnd) : Type 0 where
+  pub search : HasEndedSearch e assumptions None k limit start s found end
+  pub sooner : end ≢ Candidates
+
+-- all candidates but one of k were found
+pub record IsAtLast (e : Encoded) (assumptions : Clause) (k limit : ℕ) (start s : SolverState) (found : List Cand) : Type 0 where
+  pub search : IsSearching e assumptions None k limit start s found
+  pub one_left : length found + 1 ≡ k
+
+-- a search for all candidates but one of k
+abbrev pub HasComeTo : Encoded → Clause → ℕ → ℕ → SolverState → SolverState → List Cand → Option ListEnd → Type 0
+HasComeTo e assumptions k limit start s found (Some end) = HasEndedSooner e assumptions k limit start s found end
+HasComeTo e assumptions k limit start s found None = IsAtLast e assumptions k limit start s found
+
+-- one candidate more
+pub record HasOneMore (e : Encoded) (assumptions : Clause) (limit : ℕ) (found : List Cand) (known : Option Cand) (old new : SolverState)
+    (after : List Cand) : Type 0 where
+  pub cand : Cand
+  pub next : HasNext e assumptions limit found known old new cand
+  pub pushed : after ≡ found ++ cand ∷ []
+
+-- the last candidate was found or known, or the search ended without it
+abbrev pub HasFilled : Encoded → Clause → ℕ → List Cand → Option Cand → SolverState → SolverState → List Cand → ListEnd → Type 0
+HasFilled e assumptions limit found known old new after (Finished id) = HasRefutedAll assumptions limit old new id × (after ≡ found)
+HasFilled e assumptions limit found known old new after Candidates = HasOneMore e assumptions limit found known old new after
+HasFilled e assumptions limit found known old new after Conflicts = HasSpent assumptions limit old new × (after ≡ found)

@@ -1,5 +1,6 @@
 -- what public contracts rest on
 pub mod Preimage
+pub mod Asking
 pub mod Listed
 -- what inner functions promise each other
 pub mod Rest

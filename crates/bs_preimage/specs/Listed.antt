@@ -17,6 +17,7 @@ use Rattle.bs_report.specs.declared.report.ListEnd.TheVariants.{Candidates, Conf
 use Rattle.bs_report_good.specs.Step.{listed, Ascend, IsCandidate, IsRightEnd}
 use Rattle.bs_report_good.specs.Valid.{is_right_before, HaveBefores, blocks_due, are_right_blocks, blocks_in, is_right_finish, finishes_in}
 use Rattle.bs_preimage.specs.declared.listing.Listing.{Listing}
+use Rattle.bs_preimage.specs.Asking.{HasAsked}
 use Rattle.bs_preimage.specs.Preimage.{PreimageState, encoding_in, next_guard, assumptions_in, GoesOn}
 
 -- a predecessor with an input under which it leads to the present state, and with the right state before it
@@ -46,3 +47,9 @@ pub record HasListed (old new : PreimageState) (present stored : List Bool) (old
   pub few : HasFewLemmas b old.history → HasFewLemmas b new.history
   pub bound : listing.end ≡ Conflicts → (run : List Literal) → HasVariables (encoding_in old).variables run →
       IsUnitRun (encoding_in old).clauses (assumptions_in old present stored older) run → b < 2 ^ ((encoding_in old).variables - length run)
+
+-- The same, where a source is asked for what is known, once at most: unless the list ended before its last place was left.
+abbrev pub HasListedAsking : {S : Type 0} → (S → Option Cand → S → Type 0) → S → S → PreimageState → PreimageState → List Bool → List Bool →
+    Option (List Bool) → ℕ → ℕ → Listing → Type 0
+HasListedAsking knows source after old new present stored older k b listing =
+    HasAsked knows source after (λ known. HasListed old new present stored older known k b listing) listing.end

@@ -187,9 +187,8 @@ HasTakenKnown e assumptions known old new other = ⊥
 abbrev pub IsOneOf : Encoded → Clause → Option Cand → Cand → Type 0
 IsOneOf e assumptions known cand = IsShownIn e assumptions cand ⊎ (known ≡ Some cand)
 
--- One more candidate, whose state was not found before. Where its place is the last of k, a known candidate was found before or
--- is this one.
-pub record HasNext (e : Encoded) (assumptions : Clause) (limit : ℕ) (found : List Cand) (known : Option Cand) (k : ℕ) (old new : SolverState)
+-- One more candidate, whose state was not found before. A known candidate was found before or is this one.
+pub record HasNext (e : Encoded) (assumptions : Clause) (limit : ℕ) (found : List Cand) (known : Option Cand) (old new : SolverState)
     (cand : Cand) : Type 0 where
   pub middle : SolverState
   pub lemmas : List Line
@@ -199,9 +198,9 @@ pub record HasNext (e : Encoded) (assumptions : Clause) (limit : ℕ) (found : L
   pub blocked : HasBlocked middle new (block_for e cand.state) id
   pub right : IsOneOf e assumptions known cand
   pub apart : ((t : List Bool) → Contains (standing old.book) (block_in e old.book t) → cand.state ≢ t) ⊎ (is_listed (listed found) cand.state ≡ false)
-  pub last : length found + 1 ≡ k → (c : Cand) → known ≡ Some c → (is_listed (listed found) c.state ≡ true) ⊎ (c ≡ cand)
+  pub last : (c : Cand) → known ≡ Some c → (is_listed (listed found) c.state ≡ true) ⊎ (c ≡ cand)
 
-abbrev pub GoesTo : Encoded → Clause → ℕ → List Cand → Option Cand → ℕ → SolverState → SolverState → TurnEnd → Type 0
-GoesTo e assumptions limit found known k old new (Listed cand) = HasNext e assumptions limit found known k old new cand
-GoesTo e assumptions limit found known k old new (Refuted id) = HasRefutedAll assumptions limit old new id
-GoesTo e assumptions limit found known k old new Spent = HasSpent assumptions limit old new
+abbrev pub GoesTo : Encoded → Clause → ℕ → List Cand → Option Cand → SolverState → SolverState → TurnEnd → Type 0
+GoesTo e assumptions limit found known old new (Listed cand) = HasNext e assumptions limit found known old new cand
+GoesTo e assumptions limit found known old new (Refuted id) = HasRefutedAll assumptions limit old new id
+GoesTo e assumptions limit found known old new Spent = HasSpent assumptions limit old new

@@ -12,10 +12,12 @@ ghost use Rattle.bs_encode.specs.Depth.{encoding_by};
 ghost use Rattle.bs_encode.specs.declared.encoding.TheConstants.{MAX_GUARDS};
 ghost use Rattle.bs_preimage.specs.Preimage.{fresh, assumptions_in, GoesOn, MayHaveStep};
 ghost use Rattle.bs_preimage.specs.Rest.{made};
-ghost use Rattle.bs_preimage.specs.Listed.{HasListed, IsRightCand};
+ghost use Rattle.bs_preimage.specs.Asking.{KeepsSource, KnowsRight};
+ghost use Rattle.bs_preimage.specs.Listed.{HasListed, HasListedAsking, IsRightCand};
 
 use crate::listing::Listing;
 use crate::probe::Probe;
+use crate::source::{Held, Source};
 use crate::step::{Question, list_step};
 use bs_bits::{Bits, NoMemory};
 use bs_clause::{Clauses, Lits};
@@ -144,6 +146,39 @@ impl<'a> Preimage<'a> {
         ensures stays { self.old.failed ≡ true → (self.new.problem ≡ self.old.problem) × (self.new.history ≡ self.old.history) }
         ensures calls { self.new.calls ≡ self.old.calls + 1 }
     {
+        let mut held = Held { known };
+        let listing = self.list_asking(alloc, present, stored, older, &mut held, k, b)?;
+        Ok(listing)
+    }
+
+    /// The list as `list` makes it, where a source is asked for what is known: once at most, where one place is left and the list is
+    /// neither finished nor spent. With `k` 1 it is asked before anything is searched.
+    pub fn list_asking<S: Source>(
+        &mut self,
+        alloc: Global,
+        present: &Bits,
+        stored: &Bits,
+        older: Option<&Bits>,
+        source: &mut S,
+        k: u64,
+        b: u64,
+    ) -> Result<Listing, NoMemory>
+        requires state { length present.now ≡ length self.old.circuit.flops }
+        requires signature { length stored.now ≡ length self.old.choice.items }
+        requires older { AreWide (length self.old.choice.items) (option_map (λ bits. bits.now) older) }
+        requires alone { depth_of self.old.choice ≡ 1 → option_map (λ bits. bits.now) older ≡ None }
+        requires right { KnowsRight S.knows source.old (IsRightCand self.old.circuit self.old.choice present.now stored.now (option_map (λ bits. bits.now) older)) }
+        requires candidates { 1 ≤ k }
+        requires conflicts { 1 ≤ b }
+        requires calls { self.old.calls < MAX_GUARDS }
+        ensures ok { IfOk result (HasListedAsking S.knows source.old source.new self.old self.new present.now stored.now (option_map (λ bits. bits.now) older.entry) k b) }
+        ensures err { IfErr result (λ _. self.new.failed ≡ true) }
+        ensures goes_on { GoesOn self.old self.new }
+        ensures steps { MayHaveStep self.old self.new (assumptions_in self.old present.now stored.now (option_map (λ bits. bits.now) older.entry)) }
+        ensures stays { self.old.failed ≡ true → (self.new.problem ≡ self.old.problem) × (self.new.history ≡ self.old.history) }
+        ensures calls { self.new.calls ≡ self.old.calls + 1 }
+        ensures source { KeepsSource S.stays source.old source.new }
+    {
         self.calls += 1;
         if self.failed {
             return Err(NoMemory);
@@ -153,7 +188,6 @@ impl<'a> Preimage<'a> {
             present,
             stored,
             older,
-            known,
             k,
             b,
         };
@@ -164,6 +198,7 @@ impl<'a> Preimage<'a> {
             &self.encoding,
             &mut self.solver,
             &asked,
+            source,
         )?;
         self.failed = false;
         Ok(listing)

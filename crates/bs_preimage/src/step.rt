@@ -1,9 +1,10 @@
 //! A step of the log: the list of candidates for one present state.
-ghost use Rattle.std.specs.Prelude.{◌≡◌, ◌≤◌, ◌<◌, [], true, length, IfOk, IfSome, None, option_map};
+ghost use Rattle.std.specs.Prelude.{◌≡◌, ◌≤◌, ◌<◌, [], true, length, IfOk, None, option_map};
 ghost use Rattle.bs_net.specs.Netlist.{circuit};
 ghost use Rattle.bs_scan.specs.Choice.{depth_of};
 ghost use Rattle.bs_encode.specs.Assuming.{AreWide};
 ghost use Rattle.bs_encode.specs.declared.encoding.TheConstants.{MAX_GUARDS};
+ghost use Rattle.bs_preimage.specs.Asking.{HasAsked, KeepsSource, KnowsRight};
 ghost use Rattle.bs_preimage.specs.Listed.{IsRightCand};
 ghost use Rattle.bs_preimage.specs.Rest.{IsAbout, IsAtRest};
 ghost use Rattle.bs_preimage.specs.Turn.{IsReadable, Extends};
@@ -12,6 +13,7 @@ ghost use Rattle.bs_preimage.specs.Step.{ending_of, assumptions_at, HasSought, H
 use crate::finding::find;
 use crate::listing::Listing;
 use crate::order::ascending;
+use crate::source::Source;
 use bs_bits::Bits;
 use bs_clause::NoMemory;
 use bs_encode::{Encoding, encodings_are_tidy, predecessors_are_shown, solutions_are_predecessors};
@@ -22,13 +24,12 @@ use bs_solve::Solver;
 use std::alloc::Global;
 
 /// What is asked: which states that agree with the stored signature and the older one lead to the present one, at most `k`
-/// of them, with at most `b` lemmas in a solve. One may be known, which is then among `k`.
+/// of them, with at most `b` lemmas in a solve.
 #[derive(Clone, Copy)]
 pub(crate) struct Question<'a> {
     pub(crate) present: &'a Bits,
     pub(crate) stored: &'a Bits,
     pub(crate) older: Option<&'a Bits>,
-    pub(crate) known: &'a Option<Cand>,
     pub(crate) k: u64,
     pub(crate) b: u64,
 }
@@ -44,12 +45,13 @@ fn ending(end: ListEnd) -> Option<u64>
     }
 }
 
-/// Makes a step of the log, and finds the candidates of the question.
-fn seek(
+/// Makes a step of the log, and finds the candidates of the question. A source may be asked.
+fn seek<S: Source>(
     alloc: Global,
     encoding: &Encoding,
     solver: &mut Solver,
     asked: &Question<'_>,
+    source: &mut S,
     found: &mut Vec<Cand>,
 ) -> Result<ListEnd, NoMemory>
     requires readable { IsReadable encoding.now }
@@ -60,12 +62,13 @@ fn seek(
     requires state { length asked.now.present.now ≡ length encoding.now.next }
     requires signature { length asked.now.stored.now ≡ length encoding.now.signatures }
     requires older { AreWide (length encoding.now.older_signatures) (option_map (λ bits. bits.now) asked.now.older) }
-    requires width { IfSome asked.now.known.now (λ cand. length cand.state ≡ length encoding.now.states) }
+    requires right { KnowsRight S.knows source.old (λ cand. length cand.state ≡ length encoding.now.states) }
     requires candidates { 1 ≤ asked.now.k }
     requires conflicts { 1 ≤ asked.now.b }
     requires none { found.old.items ≡ [] }
-    ensures ok { IfOk result (HasSought encoding.now solver.old solver.new asked.now.present.now asked.now.stored.now (option_map (λ bits. bits.now) asked.now.older) asked.now.known.now asked.now.k asked.now.b found.new.items) }
+    ensures ok { IfOk result (λ end. HasAsked S.knows source.old source.new (λ known. HasSought encoding.now solver.old solver.new asked.now.present.now asked.now.stored.now (option_map (λ bits. bits.now) asked.now.older) known asked.now.k asked.now.b found.new.items end) end) }
     ensures lines { Extends true solver.old.book solver.new.book (assumptions_at encoding.now solver.old.book asked.now.present.now asked.now.stored.now (option_map (λ bits. bits.now) asked.now.older)) }
+    ensures source { KeepsSource S.stays source.old source.new }
 {
     let guard = solver.begin_step()?;
     let assumptions = encoding.assumptions(alloc, guard, asked.present, asked.stored, asked.older)?;
@@ -75,7 +78,7 @@ fn seek(
         solver,
         &assumptions,
         found,
-        asked.known,
+        source,
         asked.k,
         asked.b,
     )?;
@@ -83,14 +86,15 @@ fn seek(
     Ok(end)
 }
 
-/// The list that answers a question, as a step of the log.
-pub(crate) fn list_step(
+/// The list that answers a question, as a step of the log, where a source may be asked.
+pub(crate) fn list_step<S: Source>(
     alloc: Global,
     net: &Netlist,
     choice: &Choice,
     encoding: &Encoding,
     solver: &mut Solver,
     asked: &Question<'_>,
+    source: &mut S,
 ) -> Result<Listing, NoMemory>
     requires about { IsAbout (circuit net.now) choice.now encoding.now solver.old.book }
     requires rest { IsAtRest solver.old }
@@ -99,18 +103,19 @@ pub(crate) fn list_step(
     requires signature { length asked.now.stored.now ≡ length choice.now.items }
     requires older { AreWide (length choice.now.items) (option_map (λ bits. bits.now) asked.now.older) }
     requires alone { depth_of choice.now ≡ 1 → option_map (λ bits. bits.now) asked.now.older ≡ None }
-    requires known { IfSome asked.now.known.now (IsRightCand (circuit net.now) choice.now asked.now.present.now asked.now.stored.now (option_map (λ bits. bits.now) asked.now.older)) }
+    requires right { KnowsRight S.knows source.old (IsRightCand (circuit net.now) choice.now asked.now.present.now asked.now.stored.now (option_map (λ bits. bits.now) asked.now.older)) }
     requires candidates { 1 ≤ asked.now.k }
     requires conflicts { 1 ≤ asked.now.b }
-    ensures ok { IfOk result (HasMadeStep (circuit net.now) choice.now solver.old solver.new asked.now.present.now asked.now.stored.now (option_map (λ bits. bits.now) asked.now.older) asked.now.known.now asked.now.k asked.now.b) }
+    ensures ok { IfOk result (λ listing. HasAsked S.knows source.old source.new (λ known. HasMadeStep (circuit net.now) choice.now solver.old solver.new asked.now.present.now asked.now.stored.now (option_map (λ bits. bits.now) asked.now.older) known asked.now.k asked.now.b listing) listing.end) }
     ensures lines { Extends true solver.old.book solver.new.book (assumptions_at encoding.now solver.old.book asked.now.present.now asked.now.stored.now (option_map (λ bits. bits.now) asked.now.older)) }
+    ensures source { KeepsSource S.stays source.old source.new }
 {
     encodings_are_tidy(net, choice);
     predecessors_are_shown(net, choice);
     solutions_are_predecessors(net, choice);
     let _items = choice.items();
     let mut found = Vec::new(alloc);
-    let end = seek(alloc, encoding, solver, asked, &mut found)?;
+    let end = seek(alloc, encoding, solver, asked, source, &mut found)?;
     let _log = solver.log();
     let cands = ascending(alloc, found)?;
     Ok(Listing { cands, end })

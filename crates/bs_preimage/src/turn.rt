@@ -1,5 +1,5 @@
 //! A turn of the search for candidates: one solve, and what comes of it, or a candidate that is known.
-ghost use Rattle.std.specs.Prelude.{◌≡◌, ◌==◌, ◌&&◌, ◌+◌, ◌<◌, ◌≤◌, [], false, not, length, IfOk, IfSome, Some};
+ghost use Rattle.std.specs.Prelude.{◌≡◌, ◌≤◌, [], false, length, IfOk, IfSome, Some};
 ghost use Rattle.std.specs.List.{list_any};
 ghost use Rattle.bs_bits.specs.Bits.{bits_eq};
 ghost use Rattle.bs_solve_recording.specs.Stages.{is_begun};
@@ -92,16 +92,6 @@ fn is_found(found: &[Cand], state: &Bits) -> bool
     found.iter().any(|cand| state.equals(&cand.state))
 }
 
-/// Whether the next place is the last one, and the known candidate's state is not among those found.
-fn is_due(found: &[Cand], known: &Cand, k: u64) -> bool
-    requires { length found.now < k }
-    ensures { result ≡ ((length found.now + 1 == k) && not (list_any (λ cand. bits_eq known.now.state cand.state) found.now)) }
-{
-    let is_last = found.len() as u64 + 1 == k;
-    let is_new = !is_found(found, &known.state);
-    is_last && is_new
-}
-
 /// Blocks a state that is known. Nothing is searched.
 fn block_known(
     alloc: Global,
@@ -140,8 +130,7 @@ fn list_known(
     Ok(TurnEnd::Listed(listed))
 }
 
-/// A turn beside a known candidate: where the next place is the last one and its state is not found yet, it takes the place; else
-/// a solve is made.
+/// A turn beside a known candidate: it takes the place, unless its state was found before. Then a solve is made.
 fn turn_beside(
     alloc: Global,
     encoding: &Encoding,
@@ -149,45 +138,41 @@ fn turn_beside(
     assumptions: &Lits,
     found: &[Cand],
     known: &Cand,
-    k: u64,
     limit: u64,
 ) -> Result<TurnEnd, NoMemory>
     requires readable { IsReadable encoding.now }
     requires may { MayTurn encoding.now solver.old assumptions.now }
     requires width { length known.now.state ≡ length encoding.now.states }
-    requires few { length found.now < k }
     requires limit { 1 ≤ limit }
-    ensures ok { IfOk result (GoesTo encoding.now assumptions.now limit found.now (Some known.now) k solver.old solver.new) }
+    ensures ok { IfOk result (GoesTo encoding.now assumptions.now limit found.now (Some known.now) solver.old solver.new) }
     ensures lines { Extends (is_begun solver.old.stage) solver.old.book solver.new.book assumptions.now }
 {
-    if is_due(found, known, k) {
-        list_known(alloc, encoding, solver, assumptions, known)
-    } else {
+    if is_found(found, &known.state) {
         take_turn(alloc, encoding, solver, assumptions, limit)
+    } else {
+        list_known(alloc, encoding, solver, assumptions, known)
     }
 }
 
-/// A turn towards `k` candidates, behind those found, where one may be known.
-pub(crate) fn next_turn(
+/// The turn for the last place, behind the candidates found, where one may be known.
+pub(crate) fn last_turn(
     alloc: Global,
     encoding: &Encoding,
     solver: &mut Solver,
     assumptions: &Lits,
     found: &[Cand],
     known: &Option<Cand>,
-    k: u64,
     limit: u64,
 ) -> Result<TurnEnd, NoMemory>
     requires readable { IsReadable encoding.now }
     requires may { MayTurn encoding.now solver.old assumptions.now }
     requires width { IfSome known.now (λ cand. length cand.state ≡ length encoding.now.states) }
-    requires few { length found.now < k }
     requires limit { 1 ≤ limit }
-    ensures ok { IfOk result (GoesTo encoding.now assumptions.now limit found.now known.now k solver.old solver.new) }
+    ensures ok { IfOk result (GoesTo encoding.now assumptions.now limit found.now known.now solver.old solver.new) }
     ensures lines { Extends (is_begun solver.old.stage) solver.old.book solver.new.book assumptions.now }
 {
     match known {
         None => take_turn(alloc, encoding, solver, assumptions, limit),
-        Some(cand) => turn_beside(alloc, encoding, solver, assumptions, found, cand, k, limit),
+        Some(cand) => turn_beside(alloc, encoding, solver, assumptions, found, cand, limit),
     }
 }
