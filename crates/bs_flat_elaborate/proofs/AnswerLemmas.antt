@@ -6,10 +6,10 @@ use Rattle.bs_net.specs.Parts.{Parts}
 use Rattle.bs_net.specs.declared.limits.TheConstants.{MAX_NETS}
 use Rattle.bs_flat_meaning.specs.Design.{Design}
 use Rattle.bs_flat_meaning.specs.Flat.{flat_parts}
-use Rattle.bs_flat_meaning.specs.Reading.{is_deep, part_count, clash_in, limited, clashing, elaborated}
+use Rattle.bs_flat_meaning.specs.Reading.{is_deep, part_count, clash_in, limited, clashing, elaborated, terminal_count}
 use Rattle.bs_flat_meaning.specs.declared.fault.FlatFault.{FlatFault}
-use Rattle.bs_flat_meaning.specs.declared.fault.FlatFault.TheVariants.{FlatDepth, FlatParts, FlatNets, FlatKeys, NameClash, NoMemory}
-use Rattle.bs_flat_meaning.specs.declared.limits.TheConstants.{MAX_PARTS, MAX_KEY_BYTES}
+use Rattle.bs_flat_meaning.specs.declared.fault.FlatFault.TheVariants.{FlatDepth, FlatParts, FlatNets, FlatKeys, NameClash, FlatTerminals, NoMemory}
+use Rattle.bs_flat_meaning.specs.declared.limits.TheConstants.{MAX_PARTS, MAX_TERMINALS, MAX_KEY_BYTES}
 use Rattle.bs_flat_elaborate.specs.Naming.{keys_of, bytes_of}
 use Rattle.bs_flat_elaborate.specs.Whole.{IsSmall}
 
@@ -17,9 +17,13 @@ use Rattle.bs_flat_elaborate.specs.Whole.{IsSmall}
 abbrev chain : Bool → Bool → Bool → Bool → Result Parts FlatFault → Result Parts FlatFault
 chain a b c e r = limited a FlatDepth (limited b FlatParts (limited c FlatNets (limited e FlatKeys r)))
 
+-- the last limit, and the flat parts
+abbrev ending : Design → Result Parts FlatFault
+ending d = limited (nat_lt MAX_TERMINALS (terminal_count d)) FlatTerminals (Ok (flat_parts d))
+
 elaborated_is : (d : Design) → elaborated d
     ≡ chain (is_deep d) (nat_lt MAX_PARTS (part_count d)) (nat_lt MAX_NETS (length (flat_parts d).names))
-    (nat_lt MAX_KEY_BYTES (sum (map length (flat_parts d).names))) (clashing (clash_in (flat_parts d).names) (flat_parts d))
+    (nat_lt MAX_KEY_BYTES (sum (map length (flat_parts d).names))) (clashing (clash_in (flat_parts d).names) (ending d))
 unfolding elaborated
 elaborated_is d = refl
 
@@ -47,7 +51,7 @@ depth_answer d fault h =
     ⊎_elim
     (λ (m : fault ≡ NoMemory). inl m)
     (λ (k : (fault ≡ FlatDepth) × (is_deep d ≡ true)). inr (elaborated_is d ∙ (first_passed (is_deep d) (nat_lt MAX_PARTS (part_count d)) (nat_lt MAX_NETS (length (flat_parts d).names)) (nat_lt MAX_KEY_BYTES (sum (map length (flat_parts d).names)))
-    (clashing (clash_in (flat_parts d).names) (flat_parts d)) k.1 ∙ ap Err (sym k.0))))
+    (clashing (clash_in (flat_parts d).names) (ending d)) k.1 ∙ ap Err (sym k.0))))
     h
 
 pub parts_answer : (d : Design) (fault : FlatFault) → is_deep d ≡ false →
@@ -57,7 +61,7 @@ parts_answer d fault shallow h =
     (λ (m : fault ≡ NoMemory). inl m)
     (λ (k : (fault ≡ FlatParts) × (nat_lt MAX_PARTS (part_count d) ≡ true)).
     inr (elaborated_is d ∙ (second_passed (is_deep d) (nat_lt MAX_PARTS (part_count d)) (nat_lt MAX_NETS (length (flat_parts d).names)) (nat_lt MAX_KEY_BYTES (sum (map length (flat_parts d).names)))
-    (clashing (clash_in (flat_parts d).names) (flat_parts d)) shallow k.1 ∙ ap Err (sym k.0))))
+    (clashing (clash_in (flat_parts d).names) (ending d)) shallow k.1 ∙ ap Err (sym k.0))))
     h
 
 pub nets_answer : (d : Design) (fault : FlatFault) → is_deep d ≡ false → nat_lt MAX_PARTS (part_count d) ≡ false →
@@ -67,7 +71,7 @@ nets_answer d fault shallow few h =
     (λ (m : fault ≡ NoMemory). inl m)
     (λ (k : (fault ≡ FlatNets) × (nat_lt MAX_NETS (length (flat_parts d).names) ≡ true)).
     inr (elaborated_is d ∙ (third_passed (is_deep d) (nat_lt MAX_PARTS (part_count d)) (nat_lt MAX_NETS (length (flat_parts d).names)) (nat_lt MAX_KEY_BYTES (sum (map length (flat_parts d).names)))
-    (clashing (clash_in (flat_parts d).names) (flat_parts d)) shallow few k.1 ∙ ap Err (sym k.0))))
+    (clashing (clash_in (flat_parts d).names) (ending d)) shallow few k.1 ∙ ap Err (sym k.0))))
     h
 
 -- ---- the keys
@@ -77,11 +81,11 @@ unfolding flat_parts
 names_are d = refl
 
 small_is : (d : Design) (b : Bool) → IsSmall d → nat_lt MAX_KEY_BYTES (bytes_of (keys_of d)) ≡ b →
-    elaborated d ≡ limited b FlatKeys (clashing (clash_in (keys_of d)) (flat_parts d))
+    elaborated d ≡ limited b FlatKeys (clashing (clash_in (keys_of d)) (ending d))
 small_is d b s e =
     elaborated_is d
     ∙ (last_is _ _ _ _ b _ s.shallow s.parts s.nets (ap (λ (l : List (List ℕ)). nat_lt MAX_KEY_BYTES (bytes_of l)) (names_are d) ∙ e)
-    ∙ ap (λ (l : List (List ℕ)). limited b FlatKeys (clashing (clash_in l) (flat_parts d))) (names_are d))
+    ∙ ap (λ (l : List (List ℕ)). limited b FlatKeys (clashing (clash_in l) (ending d))) (names_are d))
 
 pub long_answer : (d : Design) → IsSmall d → MAX_KEY_BYTES < bytes_of (keys_of d) → elaborated d ≡ Err FlatKeys
 long_answer d s h = small_is d true s (lt-ltb MAX_KEY_BYTES (bytes_of (keys_of d)) h)
@@ -89,10 +93,19 @@ long_answer d s h = small_is d true s (lt-ltb MAX_KEY_BYTES (bytes_of (keys_of d
 pub clash_answer : (d : Design) (key : List ℕ) → IsSmall d → bytes_of (keys_of d) ≤ MAX_KEY_BYTES → clash_in (keys_of d) ≡ Some key →
     elaborated d ≡ Err (NameClash key)
 clash_answer d key s h e =
-    small_is d false s (le-ltb MAX_KEY_BYTES (bytes_of (keys_of d)) h) ∙ ap (λ (o : Option (List ℕ)). clashing o (flat_parts d)) e
+    small_is d false s (le-ltb MAX_KEY_BYTES (bytes_of (keys_of d)) h) ∙ ap (λ (o : Option (List ℕ)). clashing o (ending d)) e
 
-pub whole_answer : (d : Design) (parts : Parts) → IsSmall d → bytes_of (keys_of d) ≤ MAX_KEY_BYTES → clash_in (keys_of d) ≡ None → parts ≡ flat_parts d →
-    elaborated d ≡ Ok parts
-whole_answer d parts s h e same =
+-- no key stands twice
+apart_answer : (d : Design) (b : Bool) → IsSmall d → bytes_of (keys_of d) ≤ MAX_KEY_BYTES → clash_in (keys_of d) ≡ None
+    → nat_lt MAX_TERMINALS (terminal_count d) ≡ b → elaborated d ≡ limited b FlatTerminals (Ok (flat_parts d))
+apart_answer d b s h e t =
     small_is d false s (le-ltb MAX_KEY_BYTES (bytes_of (keys_of d)) h)
-    ∙ (ap (λ (o : Option (List ℕ)). clashing o (flat_parts d)) e ∙ ap Ok (sym same))
+    ∙ (ap (λ (o : Option (List ℕ)). clashing o (ending d)) e ∙ ap (λ (c : Bool). limited c FlatTerminals (Ok (flat_parts d))) t)
+
+pub wide_answer : (d : Design) → IsSmall d → bytes_of (keys_of d) ≤ MAX_KEY_BYTES → clash_in (keys_of d) ≡ None
+    → nat_lt MAX_TERMINALS (terminal_count d) ≡ true → elaborated d ≡ Err FlatTerminals
+wide_answer d s h e t = apart_answer d true s h e t
+
+pub whole_answer : (d : Design) (parts : Parts) → IsSmall d → bytes_of (keys_of d) ≤ MAX_KEY_BYTES → clash_in (keys_of d) ≡ None
+    → nat_lt MAX_TERMINALS (terminal_count d) ≡ false → parts ≡ flat_parts d → elaborated d ≡ Ok parts
+whole_answer d parts s h e t same = apart_answer d false s h e t ∙ ap Ok (sym same)

@@ -10,7 +10,6 @@ ghost use Rattle.bs_flat_nets.specs.Climbing.{AreClimbable, joins_of_node, path_
 ghost use Rattle.bs_flat_elaborate.specs.Laid.{IsLaid};
 ghost use Rattle.bs_flat_elaborate.specs.Parts as spec;
 
-use crate::limits::MAX_TERMS;
 use crate::nets::{block_of, net_of, node_count};
 use bs_bits::{List, NoMemory};
 use bs_flat_meaning::Node;
@@ -130,7 +129,7 @@ fn add_const(
     Ok(())
 }
 
-/// Adds the flat constants of those on a node's path. More than `MAX_TERMS` of all are want of memory.
+/// Adds the flat constants of those on a node's path.
 fn add_consts(
     blocks: &[FlatModule],
     nodes: &[Node],
@@ -145,9 +144,6 @@ fn add_consts(
 {
     let consts = block_of(blocks, nodes, node).consts.slice();
     'consts: for constant in consts {
-        if all.len() >= MAX_TERMS {
-            return Err(NoMemory);
-        }
         add_const(blocks, nodes, top, numbering, node, all, *constant)?;
     }
     Ok(())

@@ -15,6 +15,7 @@ ghost use Rattle.bs_flat_elaborate.specs.Whole as spec;
 use crate::flat::flat;
 use crate::naming::{Named, name_nets};
 use crate::sizes::check_sizes;
+use crate::terminals::has_many_terminals;
 use bs_bits::{List, NoMemory};
 use bs_flat_meaning::{FlatFault, Node};
 use bs_flat_nets::{FlatModule, Numbering, number_nets, path_nodes};
@@ -46,7 +47,7 @@ fn lay(alloc: Global, blocks: &[FlatModule], top: u32) -> Result<Laid, NoMemory>
     })
 }
 
-/// The flat parts of a small design whose keys are the names of its flat nets.
+/// The flat parts of a small design whose keys are the names of its flat nets; or its gates have too many inputs.
 fn whole(
     alloc: Global,
     blocks: &[FlatModule],
@@ -61,6 +62,9 @@ fn whole(
     requires small { spec.IsSmall (design_of blocks.now top) }
     ensures { Answers want parts_of result (elaborated (design_of blocks.now top)) }
 {
+    if has_many_terminals(blocks, nodes) {
+        return Err(FlatFault::FlatTerminals);
+    }
     match flat(alloc, blocks, nodes, top, numbering, names) {
         Ok(raw) => Ok(raw),
         Err(_) => Err(FlatFault::NoMemory),

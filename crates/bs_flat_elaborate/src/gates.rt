@@ -1,5 +1,5 @@
 //! The flat gates.
-ghost use Rattle.std.specs.Prelude.{◌≡◌, ◌<◌, ◌-◌, ◌++◌, length, map, IfOk, OnOk};
+ghost use Rattle.std.specs.Prelude.{◌≡◌, ◌<◌, ◌++◌, length, map, IfOk, OnOk};
 ghost use Rattle.bs_flat_meaning.specs.Design as design;
 ghost use Rattle.bs_flat_meaning.specs.Flat as flat;
 ghost use Rattle.bs_flat_nets.specs.Blocks.{design_of};
@@ -7,23 +7,12 @@ ghost use Rattle.bs_flat_nets.specs.Climbing.{path_in};
 ghost use Rattle.bs_flat_elaborate.specs.Laid.{IsLaid};
 ghost use Rattle.bs_flat_elaborate.specs.Parts as spec;
 
-use crate::limits::MAX_TERMS;
 use crate::nets::{block_of, net_of, node_count, terms_of};
 use bs_bits::{List, NoMemory};
 use bs_flat_meaning::Node;
 use bs_flat_nets::{FlatModule, Numbering};
 use bs_net::Gate;
 use std::alloc::Global;
-
-/// Takes inputs from those that may still be made.
-fn spend(left: usize, inputs: usize) -> Result<usize, NoMemory>
-    ensures { IfOk result (λ rest. rest ≡ left - inputs) }
-{
-    if inputs > left {
-        return Err(NoMemory);
-    }
-    Ok(left - inputs)
-}
 
 /// The flat gate of a gate on a node's path.
 fn flat_gate(
@@ -48,7 +37,7 @@ fn flat_gate(
     })
 }
 
-/// Adds the flat gates of the gates on a node's path, which may have so many inputs; tells how many more others may have.
+/// Adds the flat gates of the gates on a node's path.
 fn add_gates(
     alloc: Global,
     blocks: &[FlatModule],
@@ -57,23 +46,20 @@ fn add_gates(
     numbering: &Numbering,
     node: u32,
     all: &mut List<Gate>,
-    most: usize,
-) -> Result<usize, NoMemory>
+) -> Result<(), NoMemory>
     requires laid { IsLaid blocks.now nodes.now top numbering.now }
     requires there { node < length nodes.now }
     ensures { OnOk result (all.new ≡ all.old ++ spec.gates_on (design_of blocks.now top) (path_in (design_of blocks.now top) node)) }
 {
     let gates = block_of(blocks, nodes, node).gates.slice();
-    let mut left = most;
     'gates: for gate in gates {
-        left = spend(left, gate.ins.slice().len())?;
         let flat = flat_gate(alloc, blocks, nodes, top, numbering, node, gate)?;
         all.push(flat)?;
     }
-    Ok(left)
+    Ok(())
 }
 
-/// The flat gates of a design. More than `MAX_TERMS` inputs of all are want of memory.
+/// The flat gates of a design.
 pub fn flat_gates(
     alloc: Global,
     blocks: &[FlatModule],
@@ -85,10 +71,9 @@ pub fn flat_gates(
     ensures { IfOk result (λ all. all ≡ map (flat.flat_gate (design_of blocks.now top)) (design.gates (design_of blocks.now top))) }
 {
     let mut all = List::new(alloc);
-    let mut left = MAX_TERMS;
     let count = node_count(nodes)?;
     'nodes: for node in 0..count {
-        left = add_gates(alloc, blocks, nodes, top, numbering, node, &mut all, left)?;
+        add_gates(alloc, blocks, nodes, top, numbering, node, &mut all)?;
     }
     Ok(all)
 }

@@ -23,15 +23,15 @@ use Rattle.bs_verilog.specs.Netlist.{meaning_of, netlist_text}
 use Rattle.bs_verilog.proofs.NamedLemmas.{PartsNamed, constant_named, key_more, module_named, nets_are_named, scalar_named, text_visible}
 use Rattle.bs_verilog.proofs.SpellingLemmas.{IsVisible, IsVisibleToken, table_is_visible, text_is_visible}
 use Rattle.bs_flat_meaning.specs.declared.fault.FlatFault.{FlatFault}
-use Rattle.bs_flat_meaning.specs.declared.fault.FlatFault.TheVariants.{Connect, FlatDepth, FlatKeys, FlatNets, FlatParts, Tops, Twice}
-use Rattle.bs_flat_meaning.specs.declared.limits.TheConstants.{MAX_KEY_BYTES, MAX_OWN_NETS, MAX_PARTS}
+use Rattle.bs_flat_meaning.specs.declared.fault.FlatFault.TheVariants.{Connect, FlatDepth, FlatKeys, FlatNets, FlatParts, FlatTerminals, Tops, Twice}
+use Rattle.bs_flat_meaning.specs.declared.limits.TheConstants.{MAX_KEY_BYTES, MAX_OWN_NETS, MAX_PARTS, MAX_TERMINALS}
 use Rattle.bs_flat_meaning.specs.declared.statements.Written.{Written}
 use Rattle.bs_flat_meaning.specs.Connecting.{ReadModule, scope_of, whole_parts, with_term, with_terms}
 use Rattle.bs_flat_meaning.specs.Design.{Design, Instance, Module}
 use Rattle.bs_flat_meaning.specs.Flat.{flat_parts}
 use Rattle.bs_flat_meaning.specs.Pieces.{Piece, modules_of, own_text}
 use Rattle.bs_flat_meaning.specs.Reading.{◌then◌, Answer, ringed, plain, AnswerFor, IsAnswer, TokensAnswer, all_of, as_verilog, fitting, owns_within, clash_in, clashing, connect_fault, connected_modules}
-use Rattle.bs_flat_meaning.specs.Reading.{elaborated, first_of, first_top, flattened, gathered, instance_of, is_deep, limited, module_from, no_fault, part_count}
+use Rattle.bs_flat_meaning.specs.Reading.{elaborated, first_of, first_top, flattened, gathered, instance_of, is_deep, limited, module_from, no_fault, part_count, terminal_count}
 use Rattle.bs_flat_meaning.specs.Reading.{read_modules, read_own, read_written, second_instance, second_module, tops}
 use Rattle.bs_flat_meaning.specs.Names.{FlatNetsAreNamed}
 use Rattle.bs_flat_meaning.proofs.FlatKeyLemmas.{IsNamedModule, design_named}
@@ -168,9 +168,10 @@ module _ (table : List (List ℕ)) (v : All IsVisible table) where
         (within_limit (nat_lt MAX_NETS (length parts.names)) FlatNets _
         (within_limit (nat_lt MAX_KEY_BYTES (sum (map length parts.names))) FlatKeys _ (by (clash_in parts.names)))))
       where
-        by : (o : Option (List ℕ)) → IfOk (clashing o (flat_parts d)) PartsNamed
+        by : (o : Option (List ℕ))
+            → IfOk (clashing o (limited (nat_lt MAX_TERMINALS (terminal_count d)) FlatTerminals (Ok (flat_parts d)))) PartsNamed
         by (Some key) = tt
-        by None = design_named d k
+        by None = within_limit (nat_lt MAX_TERMINALS (terminal_count d)) FlatTerminals (Ok (flat_parts d)) (design_named d k)
 
     flattened_named : IfOk (flattened table ms ks) PartsNamed
     unfolding flattened

@@ -2,7 +2,7 @@
 use Rattle.std.specs.Prelude.{◌≡◌, ℕ, zero, suc, ◌+◌, ◌-◌, Bool, true, false, not, nat_lt, IsTrue, if◌then◌else◌, List, [], ◌∷◌, length, map, filter, sum, zip, All}
 use Rattle.std.specs.Prelude.{◌<◌, ◌≤◌}
 use Rattle.std.specs.Prelude.{◌==◌, unwrap_or, slice_index_or, Option, Some, None, Result, Ok, Err}
-use Rattle.std.specs.List.{flat_map, list_any, range_with_len, IsDistinct, position_or_len}
+use Rattle.std.specs.List.{flat_map, list_any, sum_by, range_with_len, IsDistinct, position_or_len}
 use Rattle.std.specs.Str.{bytes_eq}
 use Rattle.std.specs.Bool.{nat_eq}
 use Rattle.bs_net.specs.Parts.{Parts}
@@ -15,9 +15,9 @@ use Rattle.bs_verilog_syntax.specs.Reading.{Rest, at}
 use Rattle.bs_verilog_syntax.specs.Modules.{syntax_of}
 use Rattle.bs_verilog.specs.Netlist.{meaning_of, netlist_text, tokenised}
 use Rattle.bs_flat_meaning.specs.declared.fault.FlatFault.{FlatFault}
-use Rattle.bs_flat_meaning.specs.declared.fault.FlatFault.TheVariants.{Verilog, Twice, OwnNets, Recursion, Tops, Connect, FlatDepth, FlatParts, FlatNets, FlatKeys, NameClash}
+use Rattle.bs_flat_meaning.specs.declared.fault.FlatFault.TheVariants.{Verilog, Twice, OwnNets, Recursion, Tops, Connect, FlatDepth, FlatParts, FlatNets, FlatKeys, NameClash, FlatTerminals}
 use Rattle.bs_net.specs.declared.limits.TheConstants.{MAX_NETS}
-use Rattle.bs_flat_meaning.specs.declared.limits.TheConstants.{MAX_DEPTH, MAX_OWN_NETS, MAX_PARTS, MAX_KEY_BYTES}
+use Rattle.bs_flat_meaning.specs.declared.limits.TheConstants.{MAX_DEPTH, MAX_OWN_NETS, MAX_PARTS, MAX_TERMINALS, MAX_KEY_BYTES}
 use Rattle.bs_flat_meaning.specs.Design.{Design, Module, Instance, paths_from, paths, gates, flops}
 use Rattle.bs_verilog_scope.specs.Keys.{text}
 use Rattle.bs_verilog_syntax.specs.declared.tree.Says.{Says}
@@ -179,6 +179,10 @@ is_deep d = list_any (λ p. nat_lt MAX_DEPTH (length p)) (paths_from (MAX_DEPTH 
 abbrev pub part_count : Design → ℕ
 part_count d = length (gates d) + (length (flops d) + (length (paths d) - 1))
 
+-- how many inputs the gates have together
+abbrev pub terminal_count : Design → ℕ
+terminal_count d = sum_by (λ g. length g.it.ins) (gates d)
+
 -- the lowest net that shares its key
 unfoldable pub clash_in : List (List ℕ) → Option (List ℕ)
 clash_in [] = None
@@ -188,9 +192,9 @@ abbrev pub limited : Bool → FlatFault → Result Parts FlatFault → Result Pa
 limited true fault later = Err fault
 limited false fault later = later
 
-abbrev pub clashing : Option (List ℕ) → Parts → Result Parts FlatFault
-clashing (Some key) parts = Err (NameClash key)
-clashing None parts = Ok parts
+abbrev pub clashing : Option (List ℕ) → Result Parts FlatFault → Result Parts FlatFault
+clashing (Some key) later = Err (NameClash key)
+clashing None later = later
 
 -- the modules of a design, whose connections go with their ports; or the first that does not
 unfoldable pub connected_modules : List (List ℕ) → List Piece → List ReadModule → Result (List Module) FlatFault
@@ -208,7 +212,8 @@ elaborated d =
     (limited (nat_lt MAX_PARTS (part_count d)) FlatParts
     (limited (nat_lt MAX_NETS (length parts.names)) FlatNets
     (limited (nat_lt MAX_KEY_BYTES (sum (map length parts.names))) FlatKeys
-    (clashing (clash_in parts.names) parts))))
+    (clashing (clash_in parts.names)
+    (limited (nat_lt MAX_TERMINALS (terminal_count d)) FlatTerminals (Ok parts))))))
 
 -- the flat parts of modules without a ring, or the first refusal
 unfoldable pub flattened : List (List ℕ) → List Piece → List ReadModule → Result Parts FlatFault

@@ -28,6 +28,8 @@ pub enum FlatFault {
     FlatKeys,
     /// The key of the lowest net that has another's key.
     NameClash(List<u8>),
+    /// Gates with more than `MAX_TERMINALS` inputs together.
+    FlatTerminals,
     /// Want of memory.
     NoMemory,
 }

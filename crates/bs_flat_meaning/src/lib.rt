@@ -21,6 +21,6 @@ pub use law::{
     flat_parts_keep_meaning, modules_count_the_design, modules_read_are_whole,
     read_designs_are_whole, rings_are_found,
 };
-pub use limits::{MAX_DEPTH, MAX_KEY_BYTES, MAX_OWN_NETS, MAX_PARTS, MAX_PATHS};
+pub use limits::{MAX_DEPTH, MAX_KEY_BYTES, MAX_OWN_NETS, MAX_PARTS, MAX_PATHS, MAX_TERMINALS};
 pub use paths::{Instanced, Node, add_below, all_paths};
 pub use statements::{Written, instancing};

@@ -13,5 +13,8 @@ pub const MAX_OWN_NETS: u32 = 4_194_304;
 /// How many gates, flip-flops and instances the flat parts may have together.
 pub const MAX_PARTS: usize = 400_000;
 
+/// How many inputs the gates of the flat parts may have together. `MAX_PARTS` gates that pass the check have not a tenth of them.
+pub const MAX_TERMINALS: usize = 268_435_456;
+
 /// How many bytes the keys of all flat nets may have together.
 pub const MAX_KEY_BYTES: usize = 268_435_456;
