@@ -8,7 +8,7 @@ use Rattle.std.proofs.lemmas.List.FromFn.{get_or-map-range_with_len, length-map-
 use Rattle.bs_stim.specs.Runs.{Recorded, Stimulus, inputs_of, run_at}
 use Rattle.bs_scan.specs.Moments.{IsMoment, Moment, Run, moment, run_of}
 use Rattle.bs_scan.proofs.CrashLemmas.{run_inputs}
-use Rattle.bs_inspect_lists.specs.Spread.{later_from, later_moments, later_of}
+use Rattle.bs_inspect_lists.specs.Spread.{count_taken, later_from, later_moments, later_of, moment_taken, part_of, place_in}
 
 later_long : (number : ℕ) (run : Run) → length (later_of number run) ≡ length run
 later_long number run = length-map-range_with_len (moment number) 1 (length run)
@@ -121,3 +121,16 @@ place_within all count k lt le =
     let some : 0 < all = omega (arith, lt, le) in
     (div-lt_iff_lt-mul {k = count * count} {x = k * (count + 1) * all} {y = all} (omega (arith, below))).1
     (omega (arith, fits, some, mul_comm (count * count) all))
+
+-- the moment at the place in a part
+pub taken_is : (moments : List Moment) (m : Moment) (all taken part k : ℕ) → all ≡ length moments → taken ≡ count_taken all → part ≡ part_of taken k →
+    m ≡ get_or moments (part * (taken + 1) * all / (taken * taken)) (moment 0 0) → m ≡ moment_taken moments k
+taken_is moments m all taken part k long least in_part is =
+    is
+    ∙ ((λ i. get_or moments (place_in (long i) taken part) (moment 0 0))
+    ∙ ap (λ (n : ℕ). get_or moments (place_in (length moments) n part) (moment 0 0)) by_count
+    ∙ ap (λ (p : ℕ). get_or moments (place_in (length moments) (count_taken (length moments)) p) (moment 0 0))
+    (in_part ∙ ap (λ (n : ℕ). part_of n k) by_count))
+  where
+    by_count : taken ≡ count_taken (length moments)
+    by_count = least ∙ ap count_taken long

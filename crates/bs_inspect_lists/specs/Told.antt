@@ -1,5 +1,6 @@
 -- What is told of the lists of predecessors at moments.
-use Rattle.std.specs.Prelude.{◌≡◌, ◌≤◌, ◌+◌, Bool, List, length, map, All}
+use Rattle.std.specs.Prelude.{◌≡◌, ◌⊎◌, ℕ, ◌<◌, ◌≤◌, ◌+◌, ◌/◌, Bool, true, false, List, length, map, take, All, if◌then◌else◌}
+use Rattle.std.specs.List.{range_with_len, sum_by}
 use Rattle.bs_net.specs.Circuit.{Circuit}
 use Rattle.bs_scan.specs.Choice.{Chosen}
 use Rattle.bs_scan.specs.Moments.{Run, run_of, state_of}
@@ -8,11 +9,12 @@ use Rattle.bs_report.specs.declared.report.Cand.{Cand}
 use Rattle.bs_report.specs.declared.report.ListEnd.{ListEnd}
 use Rattle.bs_report.specs.declared.report.ListEnd.TheVariants.{Finished, Candidates, Conflicts}
 use Rattle.bs_report_good.specs.Step.{Ascend, IsCandidate, listed}
-use Rattle.bs_inspect_lists.specs.Spread.{later_moments, spread}
+use Rattle.bs_inspect_lists.specs.Spread.{count_taken, later_moments, moment_taken}
 use Rattle.bs_inspect_lists.specs.declared.counting.TheConstants.{MAX_LISTED}
+use Rattle.bs_inspect_lists.specs.declared.lists.TheConstants.{MAX_LISTED_BITS}
 use Rattle.bs_inspect_lists.specs.declared.counting.Count.{Count}
 use Rattle.bs_inspect_lists.specs.declared.counting.Count.TheVariants.{Whole, More, Spent}
-use Rattle.bs_inspect_lists.specs.declared.counting.Told.{Told}
+use Rattle.bs_inspect_lists.specs.declared.lists.Told.{Told}
 
 -- what a list counts, by its end
 abbrev pub counted_as : List Cand → ListEnd → Count
@@ -38,7 +40,32 @@ abbrev pub IsTold : Circuit → Chosen → List Run → Told → Type 0
 IsTold c choice runs told =
     IsCountOf c choice (state_of c runs told.moment) (stored_at c choice (run_of runs told.moment.run) told.moment.cycle) told.count
 
--- each moment that is taken is told of
+-- how many are counted: of a list that was cut those that it has, up to `MAX_LISTED`
+abbrev pub number_of : Count → ℕ
+number_of (Whole n) = n
+number_of More = MAX_LISTED
+number_of (Spent n) = n
+
+abbrev pub is_cut : Count → Bool
+is_cut (Whole n) = false
+is_cut More = true
+is_cut (Spent n) = true
+
+-- how much of the room a list takes: one that was cut as much as a longest one
+abbrev pub weight_of : Count → ℕ
+weight_of count = if is_cut count then MAX_LISTED else number_of count
+
+abbrev pub weights_of : List Told → ℕ
+weights_of all = sum_by (λ told. weight_of told.count) all
+
+-- how many members there is room for in all lists, by the number of flip-flops
+abbrev pub room_of : ℕ → ℕ
+room_of width = MAX_LISTED_BITS / (width + 1)
+
+-- The first of the moments that are taken are told of, in their order: a further one while those before leave room.
 pub record AreTold (c : Circuit) (choice : Chosen) (runs : List Run) (all : List Told) : Type 0 where
-  pub moments : map (λ told. told.moment) all ≡ spread (later_moments runs)
+  pub moments : map (λ told. told.moment) all ≡ map (moment_taken (later_moments runs)) (range_with_len 0 (length all))
   pub each : All (IsTold c choice runs) all
+  pub few : length all ≤ count_taken (length (later_moments runs))
+  pub begun : (i : ℕ) → i < length all → weights_of (take i all) < room_of (length c.flops)
+  pub ended : (length all ≡ count_taken (length (later_moments runs))) ⊎ (room_of (length c.flops) ≤ weights_of all)

@@ -1,15 +1,24 @@
-//! How many predecessors agree with the stored signature, at some moments of recorded runs.
+//! What lists of predecessors a proposed signature leads to, at some moments of recorded runs.
 //!
-//! Modules: `spread` (which moments), `counting` (the list at each), `lines` (the text). Used above:
-//! `AreCounted` (`specs/Told`) of `count_lists`: each number is that of a list of predecessors, all
-//! of them, or the list was cut; and `push_lists`. More moments: `MAX_MOMENTS`; longer lists:
-//! `MAX_LISTED`; harder ones: `MAX_LEMMAS`.
+//! Modules: `spread` (which moments), `counting` (how many members a list has), `lists` (the lists by
+//! one signature), `sizes` (how many bits are tried), `rows` (the lists by each), `lines` (the text),
+//! `signature` (`signature_text`: a proposal, and the lists behind it). Used above: `TellsSignature`
+//! (`specs/Signature`), over `AreTold` (`specs/Told`): each number is that of a list of predecessors,
+//! all of them, or the list was cut. More moments: `MAX_MOMENTS`; longer lists: `MAX_LISTED`, and
+//! `MAX_LISTED_BITS` for all together; harder ones: `MAX_LEMMAS`; more bits: `MAX_DOUBLINGS`.
 #![tactic(auto)]
 
 mod counting;
 mod lines;
+mod lists;
+mod rows;
+mod signature;
+mod sizes;
 mod spread;
 
-pub use counting::{Count, MAX_LEMMAS, MAX_LISTED, Told, count_lists};
-pub use lines::push_lists;
+pub use counting::{Count, MAX_LEMMAS, MAX_LISTED};
+pub use lists::{MAX_LISTED_BITS, Told, count_lists};
+pub use rows::Row;
+pub use signature::signature_text;
+pub use sizes::MAX_DOUBLINGS;
 pub use spread::MAX_MOMENTS;

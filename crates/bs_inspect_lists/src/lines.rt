@@ -1,33 +1,14 @@
 //! The lines on lists.
-ghost use Rattle.std.specs.Prelude.{◌≡◌, ◌≤◌, ◌*◌, ◌^◌, ◌++◌, count_by, length, OnOk};
+ghost use Rattle.std.specs.Prelude.{◌≡◌, ◌≤◌, ◌*◌, ◌^◌, ◌++◌, length, All, OnOk};
 ghost use Rattle.std.specs.List.{flat_map, sum_by};
-ghost use Rattle.bs_inspect_lists.specs.Lines.{count_words, decimals, is_cut, list_line, lists_line, lists_text, mean_of, number_of};
+ghost use Rattle.bs_inspect_lists.specs.Lines.{count_cut, count_words, decimals, first_text, list_line, mean_of, row_line, rows_text};
+ghost use Rattle.bs_inspect_lists.specs.Told.{number_of};
 ghost use Rattle.bs_inspect_lists.specs.declared.spread.TheConstants.{MAX_MOMENTS};
 
-use crate::counting::{Count, MAX_LISTED, Told};
+use crate::counting::{Count, is_cut, number_of};
+use crate::lists::Told;
+use crate::rows::Row;
 use bs_bits::{NoMemory, end_line, push_number, push_piece};
-
-/// How many are counted: of a list that was cut those that it has.
-fn number_of(count: Count) -> u32
-    ensures { result ≡ number_of count }
-{
-    match count {
-        Count::Whole(number) => number,
-        Count::More => MAX_LISTED as u32,
-        Count::Spent(number) => number,
-    }
-}
-
-/// Whether a list was cut.
-fn is_cut(count: Count) -> bool
-    ensures { result ≡ is_cut count }
-{
-    match count {
-        Count::Whole(_) => false,
-        Count::More => true,
-        Count::Spent(_) => true,
-    }
-}
 
 /// Appends what a list counts.
 fn push_count(text: &mut Vec<u8>, count: Count) -> Result<(), NoMemory>
@@ -69,7 +50,7 @@ fn sum_of(all: &[Told]) -> u64
 
 /// How many lists were cut.
 fn count_cut(all: &[Told]) -> usize
-    ensures { result ≡ count_by (λ told. is_cut told.count) all.now }
+    ensures { result ≡ count_cut all.now }
 {
     all.iter().filter(|told| is_cut(told.count)).count()
 }
@@ -97,17 +78,20 @@ fn push_decimals(text: &mut Vec<u8>, number: u64) -> Result<(), NoMemory>
     Ok(())
 }
 
-/// Appends how many lists there are, their mean, and how many were cut.
-fn push_mean(text: &mut Vec<u8>, all: &[Told]) -> Result<(), NoMemory>
-    requires { length all.now ≤ MAX_MOMENTS }
-    ensures { OnOk result (text.new.items ≡ text.old.items ++ lists_line all.now) }
+/// Appends how many bits the signature has, how many lists there are, their mean, and how many were cut.
+fn push_row(text: &mut Vec<u8>, row: &Row) -> Result<(), NoMemory>
+    requires { length row.now.lists.items ≤ MAX_MOMENTS }
+    ensures { OnOk result (text.new.items ≡ text.old.items ++ row_line row.now) }
 {
+    let lists = row.lists.as_slice();
     push_piece(text, b"lists ")?;
-    push_number(text, all.len() as u64)?;
+    push_number(text, row.bits as u64)?;
     push_piece(text, b" ")?;
-    push_decimals(text, mean_of(all))?;
+    push_number(text, lists.len() as u64)?;
     push_piece(text, b" ")?;
-    push_number(text, count_cut(all) as u64)?;
+    push_decimals(text, mean_of(lists))?;
+    push_piece(text, b" ")?;
+    push_number(text, count_cut(lists) as u64)?;
     end_line(text)
 }
 
@@ -122,11 +106,38 @@ fn push_each(text: &mut Vec<u8>, all: &[Told]) -> Result<(), NoMemory>
     Ok(())
 }
 
-/// Appends how many predecessors the lists have in the mean, how many were cut, and each moment with its list.
-pub fn push_lists(text: &mut Vec<u8>, all: &[Told]) -> Result<(), NoMemory>
-    requires { length all.now ≤ MAX_MOMENTS }
-    ensures { OnOk result (text.new.items ≡ text.old.items ++ lists_text all.now) }
+/// Appends the row of the proposed signature, with its lists.
+fn push_first(text: &mut Vec<u8>, row: &Row) -> Result<(), NoMemory>
+    requires { length row.now.lists.items ≤ MAX_MOMENTS }
+    ensures { OnOk result (text.new.items ≡ text.old.items ++ first_text row.now) }
 {
-    push_mean(text, all)?;
-    push_each(text, all)
+    push_row(text, row)?;
+    push_each(text, row.lists.as_slice())
+}
+
+/// Appends the rows of more bits.
+#[tactic(auto, using(crate::proofs::LineLemmas::row_more, crate::proofs::LineLemmas::row_few))]
+fn push_further(text: &mut Vec<u8>, rows: &[Row]) -> Result<(), NoMemory>
+    requires { All (λ row. length row.lists.items ≤ MAX_MOMENTS) rows.now }
+    ensures { OnOk result (text.new.items ≡ text.old.items ++ flat_map row_line rows.now) }
+{
+    'rows: for i in 0..rows.len() {
+        push_row(text, &rows[i])?;
+    }
+    Ok(())
+}
+
+/// Appends the row of the proposed signature, with its lists, and the rows of more bits.
+#[tactic(auto, using(crate::proofs::LineLemmas::first_few, crate::proofs::LineLemmas::others_few))]
+pub(crate) fn push_rows(text: &mut Vec<u8>, rows: &[Row]) -> Result<(), NoMemory>
+    requires { All (λ row. length row.lists.items ≤ MAX_MOMENTS) rows.now }
+    ensures { OnOk result (text.new.items ≡ text.old.items ++ rows_text rows.now) }
+{
+    match rows {
+        [] => Ok(()),
+        [first, others @ ..] => {
+            push_first(text, first)?;
+            push_further(text, others)
+        }
+    }
 }

@@ -1,8 +1,9 @@
 //! Moments of recorded runs, spread evenly.
-ghost use Rattle.std.specs.Prelude.{◌≡◌, ◌<◌, ◌^◌, length, slice_index_or};
+ghost use Rattle.std.specs.Prelude.{◌≡◌, ◌<◌, ◌≤◌, ◌^◌, length, slice_index_or};
 ghost use Rattle.bs_stim.specs.Runs.{inputs_of};
 ghost use Rattle.bs_scan.specs.Moments.{IsMoment, moment};
-ghost use Rattle.bs_inspect_lists.specs.Spread.{later_moments};
+ghost use Rattle.bs_inspect_lists.specs.Spread.{count_taken, later_moments, moment_taken, part_of};
+ghost use Rattle.bs_inspect_lists.specs.declared.spread.TheConstants.{MAX_MOMENTS};
 
 use bs_scan::Moment;
 use bs_stim::Runs;
@@ -25,7 +26,7 @@ pub(crate) fn count_later(runs: &Runs) -> usize
 
 /// The moment at a place among those behind reset.
 #[tactic(auto, using(crate::proofs::SpreadLemmas::place_begin, crate::proofs::SpreadLemmas::place_more, crate::proofs::SpreadLemmas::place_here, crate::proofs::SpreadLemmas::place_moment, crate::proofs::SpreadLemmas::place_never))]
-pub(crate) fn moment_at(runs: &Runs, place: usize) -> Moment
+fn moment_at(runs: &Runs, place: usize) -> Moment
     requires { place < length (later_moments (inputs_of runs.now)) }
     ensures is { result ≡ slice_index_or (later_moments (inputs_of runs.now)) place (moment 0 0) }
     ensures moment { IsMoment (inputs_of runs.now) result }
@@ -42,4 +43,32 @@ pub(crate) fn moment_at(runs: &Runs, place: usize) -> Moment
         left -= cycles;
     }
     Moment { run: 1, cycle: 1 }
+}
+
+/// The part of the whole from which the moment with this number is taken.
+fn part_of(taken: usize, k: usize) -> usize
+    requires few { taken ≤ MAX_MOMENTS }
+    requires there { k < taken }
+    ensures part { result ≡ part_of taken k }
+    ensures within { result < taken }
+{
+    if taken == MAX_MOMENTS {
+        k * 13 % MAX_MOMENTS
+    } else {
+        k
+    }
+}
+
+/// The moment with this number, of so many behind reset, of which so many are taken.
+#[tactic(auto, using(crate::proofs::SpreadLemmas::place_within, crate::proofs::SpreadLemmas::taken_is))]
+pub(crate) fn moment_taken(runs: &Runs, all: usize, taken: usize, k: usize) -> Moment
+    requires all { all ≡ length (later_moments (inputs_of runs.now)) }
+    requires few { all < 2 ^ 32 }
+    requires taken { taken ≡ count_taken all }
+    requires there { k < taken }
+    ensures is { result ≡ moment_taken (later_moments (inputs_of runs.now)) k }
+    ensures moment { IsMoment (inputs_of runs.now) result }
+{
+    let part = part_of(taken, k);
+    moment_at(runs, part * (taken + 1) * all / (taken * taken))
 }

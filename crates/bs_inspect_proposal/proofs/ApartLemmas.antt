@@ -5,9 +5,9 @@ use Rattle.std.proofs.lemmas.List.{take_more, map-append, length-map, length-tak
 use Rattle.bs_scan.specs.Choice.{Chosen}
 use Rattle.bs_scan.specs.Signature.{signature}
 use Rattle.bs_inspect_proposal.specs.Apart.{states_apart, step_signature, steps_apart}
-use Rattle.bs_inspect_proposal.specs.Kept.{AreSteps, Step, first_rows, step_row}
+use Rattle.bs_inspect_film.specs.Kept.{AreSteps, Step, first_rows, step_row}
 use Rattle.bs_inspect_proposal.specs.Sharing.{tally_of}
-use Rattle.bs_inspect_proposal.specs.declared.rows.TheConstants.{MAX_ROWS}
+use Rattle.bs_inspect_film.specs.declared.kept.TheConstants.{MAX_ROWS}
 use Rattle.bs_inspect_proposal.specs.declared.sharing.Tally.{Tally}
 
 mapped_more : {X : Type 0} (f : X → List Bool) (rows : List X) (own after : List (List Bool)) (i : ℕ) (d : X) (bits : List Bool) → i < length rows →

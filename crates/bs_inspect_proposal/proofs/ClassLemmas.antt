@@ -5,7 +5,7 @@ use Rattle.std.specs.Prelude.{slice_set, ◌==◌, nat_le}
 use Rattle.std.specs.List.{sum_by, range_with_len}
 use Rattle.std.proofs.lemmas.Bool.{eqb-true, eqb-false, eq-eqb, ne_eqb, leb-true, leb-false}
 use Rattle.std.proofs.lemmas.List.{take_more, map-append, get_or-set_same, get_or-set_other}
-use Rattle.std.proofs.lemmas.List.Sums.{count_by-le-length, sum_by_push, sum_by-cons}
+use Rattle.std.proofs.lemmas.List.Sums.{count_by-le-length, get_or-le-sum_by, sum_by_push, sum_by-cons}
 use Rattle.std.proofs.Math.Nat.{div-mul-le_self}
 use Rattle.bs_net.specs.Circuit.{bit_at}
 use Rattle.bs_bits.proofs.RangeLemmas.{range_push}
@@ -136,3 +136,19 @@ few_places n s e = by (nat_le (n / s) 2048) refl
         let over : 2048 < n / s = leb-false (n / s) 2048 h in
         let wide : 2049 * s ≤ n / s * s = times_mono 2049 (n / s) s (omega (arith, over)) in
         absurd (omega (arith, wide, div-mul-le_self n s, e))
+
+-- ---- each row shares its class with itself
+
+sum_least : (f : ℕ → ℕ) (xs : List ℕ) → ((k d : ℕ) → k < length xs → 1 ≤ f (get_or xs k d)) → length xs ≤ sum_by f xs
+sum_least f [] some = omega arith
+sum_least f (x ∷ xs) some =
+    omega (arith, sum_by-cons f x xs, some 0 0 (omega arith), sum_least f xs (λ k d lt. some (suc k) d (omega (arith, lt))))
+
+like_here : (keys : List ℕ) (k d : ℕ) → k < length keys → 1 ≤ like keys (get_or keys k d)
+like_here keys k d lt =
+    let here : one_if (get_or keys k d == get_or keys k d) ≤ like keys (get_or keys k d) =
+    get_or-le-sum_by (λ (y : ℕ). one_if (y == get_or keys k d)) keys k d lt in
+    omega (arith, here, ap one_if (eq-eqb (get_or keys k d) (get_or keys k d) refl))
+
+pub shares_least : (keys : List ℕ) → length keys ≤ key_shares keys
+shares_least keys = sum_least (like keys) keys (like_here keys)

@@ -9,10 +9,11 @@ use Rattle.std.proofs.lemmas.List.{length-append, length-map, get_or_append_left
 use Rattle.std.proofs.lemmas.List.FromFn.{get_or-map-range_with_len, length-range_with_len}
 use Rattle.std.proofs.Math.Seq.{get_or-append_seam}
 use Rattle.bs_inspect_proposal.specs.Begun.{Begun, Grows, IsUnderWay, NoMore, OneMore}
-use Rattle.bs_inspect_proposal.specs.Classes.{AreClasses, IsFound, IsLeast, Renumbers, column_of, columns_of, found_with, lesser, shares_of, split_keys}
+use Rattle.bs_inspect_proposal.specs.Classes.{AreClasses, IsFound, IsLeast, Renumbers, column_of, columns_of, found_with, lesser, shares_of, split_keys, tells_all}
 use Rattle.bs_inspect_proposal.specs.Greedy.{IsBest, IsGreedy, is_chosen, shares_with}
 use Rattle.bs_inspect_proposal.specs.declared.best.Found.{Found}
-use Rattle.bs_inspect_proposal.proofs.SplitLemmas.{classes_split, one_class, shares_same}
+use Rattle.bs_inspect_proposal.proofs.SplitLemmas.{classes_split, keys_wide, one_class, shares_same}
+use Rattle.bs_inspect_proposal.proofs.ClassLemmas.{shares_least}
 
 not_both : (b : Bool) → b ≡ true → b ≡ false → (P : Type 0) → P
 not_both true e f P = absurd cc
@@ -31,6 +32,30 @@ found_none shares flops n all = record {
   none = λ e. all;
   some = λ one e. absurd cc;
 }
+
+-- what tells all rows apart is the best
+pub found_early : (classes : List ℕ) (columns : List (List Bool)) (flops : List ℕ) (n : ℕ) (found : Option Found) (b : Bool) → b ≡ tells_all found (length classes) →
+    b ≡ true → n ≤ length columns → IsFound (shares_of classes columns) flops n found → IsFound (shares_of classes columns) flops (length columns) found
+found_early classes columns flops n None b is e le are = absurd (false_true (sym is ∙ e))
+  where
+    false_true : false ≡ true → (1 ≡ 0)
+    false_true h = cc
+found_early classes columns flops n (Some one) b is e le are =
+    let old : IsLeast (shares_of classes columns) flops n one = are.some one refl in
+    found_one (shares_of classes columns) flops (length columns) one record {
+      there = omega (arith, old.there, le);
+      new = old.new;
+      shares_are = old.shares_are;
+      least = λ f lt new.
+          omega (
+            arith,
+            old.shares_are,
+            leb-true one.shares (length classes) (sym is ∙ e),
+            keys_wide classes (get_or columns f []),
+            shares_least (split_keys classes (get_or columns f []))
+          );
+      first = old.first;
+    }
 
 pub nothing_found : (shares : ℕ → ℕ) (flops : List ℕ) → IsFound shares flops 0 None
 nothing_found shares flops = found_none shares flops 0 (λ f lt. absurd (omega (arith, lt)))

@@ -1,10 +1,4 @@
-pub mod RowLemmas
 pub mod TallyLemmas
-pub mod LookedLemmas
-pub mod PackedLemmas
-pub mod KeptLemmas
-pub mod FilmLemmas
-pub mod ListingLemmas
 pub mod ApartLemmas
 pub mod ClassLemmas
 pub mod PlaceLemmas
@@ -14,4 +8,5 @@ pub mod ComparedLemmas
 pub mod ItemLemmas
 pub mod KeyLemmas
 pub mod LineLemmas
+pub mod OrderLemmas
 pub mod ProposalLemmas

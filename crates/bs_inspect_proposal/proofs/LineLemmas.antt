@@ -1,5 +1,6 @@
 -- Lines, one after another; and how great a sum of shares is.
 use Rattle.std.proofs.Common.{◌≡◌, ℕ, ◌<◌, ◌≤◌, ◌+◌, ◌*◌, ◌^◌, arith, Bool, List, [], ◌∷◌, ◌++◌, length, map, take, get_or, ap, sym, ◌∙◌, append_assoc}
+use Rattle.std.specs.Prelude.{All}
 use Rattle.std.specs.List.{flat_map, sum_by}
 use Rattle.std.proofs.lemmas.Grind.{flat_map-append}
 use Rattle.std.proofs.lemmas.List.{take_more, append-nil, length-map}
@@ -8,9 +9,9 @@ use Rattle.bs_bits.specs.Bits.{bits_eq}
 use Rattle.bs_scan.specs.Choice.{Chosen}
 use Rattle.bs_scan.specs.Signature.{signature}
 use Rattle.bs_inspect_proposal.specs.Apart.{states_apart, step_signature, steps_apart}
-use Rattle.bs_inspect_proposal.specs.Proposal.{shares_line, xor_line}
+use Rattle.bs_inspect_proposal.specs.Proposal.{bit_lines, shares_line, xor_line}
 use Rattle.bs_inspect_proposal.specs.Sharing.{sharing, tally_of}
-use Rattle.bs_inspect_proposal.specs.declared.rows.TheConstants.{MAX_ROWS}
+use Rattle.bs_inspect_film.specs.declared.kept.TheConstants.{MAX_ROWS}
 use Rattle.bs_inspect_proposal.specs.declared.sharing.Tally.{Tally}
 
 pieces_more : {X : Type 0} (f : X → List ℕ) (xs : List X) (old before after : List ℕ) (i : ℕ) (d : X) → i < length xs →
@@ -58,3 +59,12 @@ tallies_whole old middle new one two n k m j t u v w e f en et ek eu =
     f
     ∙ ((λ i. e i ++ shares_line two (ek i) (eu i))
     ∙ ((λ i. (old ++ shares_line one (en i) (et i)) ++ shares_line two j w) ∙ append_assoc old (shares_line one m v) (shares_line two j w)))
+
+-- ---- items, one by one
+
+-- lines by the same keys
+pub lines_as : (ks keys : List (List ℕ)) (flops text : List ℕ) → ks ≡ keys → text ≡ bit_lines ks flops → text ≡ bit_lines keys flops
+lines_as ks keys flops text e is = is ∙ ap (λ (k : List (List ℕ)). bit_lines k flops) e
+
+pub flops_under : (m n : ℕ) (flops : List ℕ) → m ≡ n → All (λ flop. flop < n) flops → All (λ flop. flop < m) flops
+flops_under m n flops e all = λ k d lt. (let small = all k d lt in omega (arith, small, e))

@@ -5,13 +5,15 @@ use Rattle.std.specs.Borrow.{Bor}
 use Rattle.std.specs.List.{flat_map}
 use Rattle.std.proofs.lemmas.Grind.{get_or_default_zero}
 use Rattle.std.proofs.lemmas.List.{get_or-take, length-map, length-take, take_min}
+use Rattle.std.proofs.lemmas.List.Elements.{All-take}
 use Rattle.bs_bits.specs.Lines.{line}
 use Rattle.bs_scan.specs.ChoiceText.{chosen}
 use Rattle.bs_inspect_proposal.specs.Greedy.{IsGreedy, compared}
 use Rattle.bs_inspect_proposal.specs.Items.{single}
-use Rattle.bs_inspect_proposal.specs.Kept.{IsLooked, Step, first_rows, step_row}
-use Rattle.bs_inspect_proposal.specs.Proposal.{TellsChoices, bit_line, bits_told, parities_told, parity_items, shares_text, xor_line}
-use Rattle.bs_inspect_proposal.specs.declared.rows.TheConstants.{MAX_ROWS}
+use Rattle.bs_inspect_film.specs.Kept.{IsLooked, Step, first_rows, step_row}
+use Rattle.bs_inspect_proposal.specs.Proposal.{IsProposal, bit_line, bits_told, parities_told, parity_items, shares_text, xor_line}
+use Rattle.bs_inspect_film.specs.declared.kept.TheConstants.{MAX_ROWS}
+use Rattle.bs_inspect_proposal.proofs.OrderLemmas.{greedy_first}
 
 pub states_count : (rows : List (List Bool)) (n : ℕ) → n ≡ min (length rows) MAX_ROWS → n ≡ length (first_rows rows)
 states_count rows n e = omega (arith, e, length-take MAX_ROWS rows)
@@ -73,22 +75,40 @@ parities_whole keys states steps bits items old a b c is e f g =
     (flat_map (xor_line now) (parity_items (length now) bits)) e (f ∙ (λ t. a ++ shares_text (chosen (wide t) 1 (same t)) states steps))
     (g ∙ ap (λ (xs : List (List ℕ)). b ++ flat_map (xor_line now) xs) same)
 
-pub tells : (keys : List (Bor (List ℕ))) (states steps : List (List Bool)) (bits : ℕ) (flops text : List ℕ) →
-    IsGreedy (length keys) (compared states) bits flops →
+pub first_taken : (order got all : List ℕ) (bits n : ℕ) → n ≡ min (length order) bits → all ≡ order → got ≡ take n all → got ≡ take bits order
+first_taken order got all bits n e same is =
+    let turned : n ≡ min bits (length order) = omega (arith, e) in
+    is ∙ ((λ i. take (turned i) (same i)) ∙ take_min bits order)
+
+pub first_within : (width : ℕ) (rows : List (List Bool)) (bits most : ℕ) (order flops : List ℕ) → IsGreedy width rows most order →
+    flops ≡ take bits order → All (λ flop. flop < width) flops
+first_within width rows bits most order flops greedy e = subst (All (λ (f : ℕ). f < width)) (sym e) (All-take (λ (f : ℕ). f < width) bits order (flops_within width rows most order greedy))
+
+pub proposes : (keys : List (Bor (List ℕ))) (states steps : List (List Bool)) (bits most : ℕ) (order flops text : List ℕ) → bits ≤ most →
+    IsGreedy (length keys) (compared states) most order → flops ≡ take bits order →
     text ≡ bits_told (map (λ s. s.now) keys) states steps flops ++ parities_told (map (λ s. s.now) keys) states steps bits →
-    TellsChoices (map (λ s. s.now) keys) states steps bits text
-tells keys states steps bits flops text greedy told = record {
-  flops = flops;
-  best = subst (λ (n : ℕ). IsGreedy n (compared states) bits flops) (sym (length-map keys (λ (s : Bor (List ℕ)). s.now))) greedy;
-  told = told;
-}
+    IsProposal (map (λ s. s.now) keys) states steps bits most order text
+proposes keys states steps bits most order flops text le greedy first told =
+    let now : List (List ℕ) = map (λ (s : Bor (List ℕ)). s.now) keys in
+    let wide : length keys ≡ length now = sym (length-map keys (λ (s : Bor (List ℕ)). s.now)) in
+    let whole_order : IsGreedy (length now) (compared states) most order = subst (λ (n : ℕ). IsGreedy n (compared states) most order) wide greedy in
+    record {
+      best = whole_order;
+      choices = record {
+        flops = flops;
+        best = subst (IsGreedy (length now) (compared states) bits) (sym first) (greedy_first (length now) (compared states) bits most order le whole_order);
+        told = told;
+      };
+      first = first;
+    }
 
-pub renamed : (ks keys : List (List ℕ)) (states steps : List (List Bool)) (bits : ℕ) (text : List ℕ) → ks ≡ keys →
-    TellsChoices ks states steps bits text → TellsChoices keys states steps bits text
-renamed ks keys states steps bits text e told = subst (λ (k : List (List ℕ)). TellsChoices k states steps bits text) e told
+pub renamed : (ks keys : List (List ℕ)) (states steps : List (List Bool)) (bits most : ℕ) (order text : List ℕ) → ks ≡ keys →
+    IsProposal ks states steps bits most order text → IsProposal keys states steps bits most order text
+renamed ks keys states steps bits most order text e told = subst (λ (k : List (List ℕ)). IsProposal k states steps bits most order text) e told
 
-pub moved : (keys : List (List ℕ)) (states steps looked_states looked_steps : List (List Bool)) (bits : ℕ) (text : List ℕ) →
-    states ≡ looked_states → steps ≡ looked_steps → TellsChoices keys states steps bits text → TellsChoices keys looked_states looked_steps bits text
-moved keys states steps looked_states looked_steps bits text f g told =
-    subst (λ (s : List (List Bool)). TellsChoices keys s looked_steps bits text) f
-    (subst (λ (s : List (List Bool)). TellsChoices keys states s bits text) g told)
+pub moved : (keys : List (List ℕ)) (states steps looked_states looked_steps : List (List Bool)) (bits most : ℕ) (order text : List ℕ) →
+    states ≡ looked_states → steps ≡ looked_steps → IsProposal keys states steps bits most order text →
+    IsProposal keys looked_states looked_steps bits most order text
+moved keys states steps looked_states looked_steps bits most order text f g told =
+    subst (λ (s : List (List Bool)). IsProposal keys s looked_steps bits most order text) f
+    (subst (λ (s : List (List Bool)). IsProposal keys states s bits most order text) g told)

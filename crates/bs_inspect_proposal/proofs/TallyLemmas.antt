@@ -11,7 +11,7 @@ use Rattle.std.specs.Map.{lookup}
 use Rattle.bs_bits.specs.Bits.{bits_eq}
 use Rattle.bs_inspect_proposal.specs.Keys.{CountsAll, counted, same_row}
 use Rattle.bs_inspect_proposal.specs.Sharing.{sharing}
-use Rattle.bs_inspect_proposal.proofs.RowLemmas.{bits_turned, bits_same}
+use Rattle.bs_inspect_film.proofs.RowLemmas.{bits_turned, bits_same}
 
 taken_few : (xs : List (List Bool)) (n : ℕ) → length (take n xs) ≤ length xs
 taken_few xs zero = omega arith

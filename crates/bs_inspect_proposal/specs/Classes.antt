@@ -57,6 +57,11 @@ abbrev pub lesser : Option Found → ℕ → ℕ → Found
 lesser None flop shares = record { flop = flop; shares = shares }
 lesser (Some found) flop shares = if nat_le found.shares shares then found else record { flop = flop; shares = shares }
 
+-- whether each row has a class of its own with what is found
+abbrev pub tells_all : Option Found → ℕ → Bool
+tells_all None rows = false
+tells_all (Some found) rows = nat_le found.shares rows
+
 -- what is found with one flip-flop more
 abbrev pub found_with : (ℕ → ℕ) → List ℕ → ℕ → Option Found → Option Found
 found_with shares flops flop found = if is_chosen flops flop then found else Some (lesser found flop (shares flop))

@@ -1,5 +1,5 @@
 -- The proposal of a signature (docs/FORMATS.md, "Texts of `backspace_inspect`").
-use Rattle.std.specs.Prelude.{◌≡◌, ℕ, ◌+◌, ◌*◌, ◌/◌, ◌%◌, ◌==◌, min, Bool, List, [], ◌∷◌, ◌++◌, length, map, filter, codes, decimal, slice_index_or}
+use Rattle.std.specs.Prelude.{◌≡◌, ℕ, ◌+◌, ◌*◌, ◌/◌, ◌%◌, ◌==◌, min, Bool, List, [], ◌∷◌, ◌++◌, length, map, take, filter, codes, decimal, slice_index_or}
 use Rattle.std.specs.Prelude.{if◌then◌else◌}
 use Rattle.std.specs.List.{flat_map, range_with_len}
 use Rattle.bs_bits.specs.Lines.{line}
@@ -12,7 +12,7 @@ use Rattle.bs_scan.specs.ChoiceText.{chosen}
 use Rattle.bs_inspect_proposal.specs.Apart.{states_apart, steps_apart}
 use Rattle.bs_inspect_proposal.specs.Greedy.{IsGreedy, compared}
 use Rattle.bs_inspect_proposal.specs.Items.{singles}
-use Rattle.bs_inspect_proposal.specs.Looked.{states_looked, steps_looked}
+use Rattle.bs_inspect_film.specs.Looked.{states_looked, steps_looked}
 use Rattle.bs_inspect_proposal.specs.declared.sharing.Tally.{Tally}
 
 -- ---- the choices
@@ -55,6 +55,10 @@ flop_keys raw = map (λ f. slice_index_or raw.names f.q.0 []) raw.flops
 abbrev pub bit_line : List (List ℕ) → ℕ → List ℕ
 bit_line keys flop = line (codes "bit " ++ slice_index_or keys flop [])
 
+-- the lines of a signature file whose items are these flip-flops, one by one
+abbrev pub bit_lines : List (List ℕ) → List ℕ → List ℕ
+bit_lines keys flops = flat_map (bit_line keys) flops
+
 -- a name behind a space
 abbrev pub name_words : List (List ℕ) → ℕ → List ℕ
 name_words keys flop = codes " " ++ slice_index_or keys flop []
@@ -66,7 +70,7 @@ xor_line keys item = line (codes "xor" ++ flat_map (name_words keys) item)
 -- the single flip-flops that tell states apart best
 abbrev pub bits_told : List (List ℕ) → List (List Bool) → List (List Bool) → List ℕ → List ℕ
 bits_told keys states steps flops =
-    line (codes "choice bits") ++ (shares_text (singles (length keys) flops) states steps ++ flat_map (bit_line keys) flops)
+    line (codes "choice bits") ++ (shares_text (singles (length keys) flops) states steps ++ bit_lines keys flops)
 
 -- the parities of all flip-flops
 abbrev pub parities_told : List (List ℕ) → List (List Bool) → List (List Bool) → ℕ → List ℕ
@@ -81,8 +85,14 @@ pub record TellsChoices (keys : List (List ℕ)) (states steps : List (List Bool
   pub best : IsGreedy (length keys) (compared states) bits flops
   pub told : text ≡ bits_told keys states steps flops ++ parities_told keys states steps bits
 
+-- the same, where the choice goes on: most flip-flops, or all, in the order in which they are chosen
+pub record IsProposal (keys : List (List ℕ)) (states steps : List (List Bool)) (bits most : ℕ) (order text : List ℕ) : Type 0 where
+  pub best : IsGreedy (length keys) (compared states) most order
+  pub choices : TellsChoices keys states steps bits text
+  pub first : choices.flops ≡ take bits order
+
 -- the same of the flip-flops of a netlist, and of the states and steps of all runs
-abbrev pub TellsProposal : Parts → Stimulus → ℕ → List ℕ → Type 0
-TellsProposal raw stimulus bits text =
-    TellsChoices (flop_keys raw) (states_looked (circuit_of raw) MAX_CYCLES (inputs_of stimulus))
-    (steps_looked (circuit_of raw) MAX_CYCLES (inputs_of stimulus)) bits text
+abbrev pub Proposes : Parts → Stimulus → ℕ → ℕ → List ℕ → List ℕ → Type 0
+Proposes raw stimulus bits most order text =
+    IsProposal (flop_keys raw) (states_looked (circuit_of raw) MAX_CYCLES (inputs_of stimulus))
+    (steps_looked (circuit_of raw) MAX_CYCLES (inputs_of stimulus)) bits most order text

@@ -1,6 +1,6 @@
 //! The flip-flop that tells classes of rows apart best.
 ghost use Rattle.std.specs.Prelude.{◌≡◌, ◌<◌, ◌≤◌, ◌^◌, length, All, IfOk};
-ghost use Rattle.bs_inspect_proposal.specs.Classes.{IsFound, found_with, key_shares, lesser, shares_of, split_keys};
+ghost use Rattle.bs_inspect_proposal.specs.Classes.{IsFound, found_with, key_shares, lesser, shares_of, split_keys, tells_all};
 ghost use Rattle.bs_inspect_proposal.specs.Greedy.{is_chosen};
 
 use crate::classes::{key_shares, split_keys};
@@ -72,8 +72,18 @@ fn with_flop(
     Ok(Some(lesser(found, flop, shares)))
 }
 
+/// Whether what is found tells so many rows apart, each from each: nothing is better.
+fn tells_all(found: Option<Found>, rows: usize) -> bool
+    ensures { result ≡ tells_all found rows }
+{
+    match found {
+        Some(found) => found.shares <= rows as u64,
+        None => false,
+    }
+}
+
 /// The first flip-flop, of those that are not chosen, that leaves the least sum of shares.
-#[tactic(auto, using(crate::proofs::GreedyLemmas::nothing_found, crate::proofs::GreedyLemmas::found_more))]
+#[tactic(auto, using(crate::proofs::GreedyLemmas::nothing_found, crate::proofs::GreedyLemmas::found_more, crate::proofs::GreedyLemmas::found_early))]
 pub(crate) fn best(
     alloc: Global,
     columns: &List<Bits>,
@@ -88,6 +98,9 @@ pub(crate) fn best(
 {
     let mut found = None;
     'flops: for i in 0..columns.len() {
+        if tells_all(found, classes.len()) {
+            return Ok(found);
+        }
         found = with_flop(alloc, columns, classes, flops, i as u32, found)?;
     }
     Ok(found)

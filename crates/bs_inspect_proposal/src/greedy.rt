@@ -8,8 +8,8 @@ ghost use Rattle.bs_inspect_proposal.specs.declared.greedy.TheConstants.{MAX_COM
 
 use crate::best::{Found, best};
 use crate::classes::{renumber, split_keys, zeros};
-use crate::row::Row;
 use bs_bits::{Bits, List, NoMemory};
+use bs_inspect_film::Row;
 use std::alloc::Global;
 
 /// How many rows are compared: where there are more, some are passed over.

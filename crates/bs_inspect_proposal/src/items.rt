@@ -4,15 +4,14 @@ ghost use Rattle.std.specs.List.{range_with_len};
 ghost use Rattle.bs_scan.specs.ChoiceText.{chosen};
 ghost use Rattle.bs_scan.specs.Signature.{parity_of, signature};
 ghost use Rattle.bs_inspect_proposal.specs.Items.{AreWithin, single};
-ghost use Rattle.bs_inspect_proposal.specs.Kept.{AreSteps, first_rows, step_row};
+ghost use Rattle.bs_inspect_film.specs.Kept.{AreSteps, first_rows, step_row};
 ghost use Rattle.bs_inspect_proposal.specs.Proposal.{every, parity_items};
 ghost use Rattle.bs_inspect_proposal.specs.Sharing.{tally_of};
-ghost use Rattle.bs_inspect_proposal.specs.declared.rows.TheConstants.{MAX_ROWS};
+ghost use Rattle.bs_inspect_film.specs.declared.kept.TheConstants.{MAX_ROWS};
 
-use crate::row::Row;
-use crate::rows::MAX_ROWS;
 use crate::sharing::{Tally, tally_rows};
 use bs_bits::{Bits, List, NoMemory};
+use bs_inspect_film::{MAX_ROWS, Row};
 use std::alloc::Global;
 
 /// The parity of an item's flip-flops in a state.
@@ -63,7 +62,7 @@ pub(crate) fn signatures_of(
 }
 
 /// Two lists of bits behind one another.
-#[tactic(auto, using(crate::proofs::LookedLemmas::joined_more))]
+#[tactic(auto, using(bs_inspect_film::proofs::LookedLemmas::joined_more))]
 fn joined(first: &Bits, second: &Bits) -> Result<Bits, NoMemory>
     ensures { IfOk result (λ bits. bits ≡ first.now ++ second.now) }
 {

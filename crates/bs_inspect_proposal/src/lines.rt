@@ -1,11 +1,14 @@
 //! The lines of a proposal.
-ghost use Rattle.std.specs.Prelude.{◌≡◌, ◌<◌, ◌≤◌, ◌^◌, ◌+◌, ◌++◌, length, map, slice_index_or, [], All, OnOk};
+ghost use Rattle.std.specs.Prelude.{◌≡◌, ◌<◌, ◌≤◌, ◌^◌, ◌+◌, ◌++◌, length, map, slice_index_or, [], All, IfOk, OnOk};
 ghost use Rattle.std.specs.List.{flat_map};
 ghost use Rattle.bs_inspect_proposal.specs.Items.{AreWithin};
-ghost use Rattle.bs_inspect_proposal.specs.Proposal.{bit_line, decimals, hundredths, name_words, shares_line, xor_line};
+ghost use Rattle.bs_inspect_proposal.specs.Proposal.{bit_line, bit_lines, decimals, flop_keys, hundredths, name_words, shares_line, xor_line};
 
+use crate::keys::flop_keys;
 use crate::sharing::Tally;
 use bs_bits::{List, NoMemory, end_line, push_number, push_piece};
+use bs_net::Netlist;
+use std::alloc::Global;
 
 /// The hundredth parts of a mean, rounded down.
 fn hundredths(sum: u64, rows: usize) -> u64
@@ -125,4 +128,25 @@ pub(crate) fn push_xors(
         push_xor(text, keys, items[i].slice())?;
     }
     Ok(())
+}
+
+/// The lines of a signature file whose items are these flip-flops, one by one, by these keys.
+fn lines_by(alloc: Global, keys: &[&str], flops: &[u32]) -> Result<Vec<u8>, NoMemory>
+    requires { All (λ flop. flop < length keys.now) flops.now }
+    ensures { IfOk result (λ text. text.items ≡ bit_lines (map (λ s. s.now) keys.now) flops.now) }
+{
+    let mut text = Vec::new(alloc);
+    push_bits(&mut text, keys, flops)?;
+    Ok(text)
+}
+
+/// The lines of a signature file whose items are these flip-flops of a netlist, one by one.
+#[tactic(auto, using(crate::proofs::LineLemmas::lines_as, crate::proofs::LineLemmas::flops_under))]
+pub fn bit_lines(alloc: Global, net: &Netlist, flops: &[u32]) -> Result<Vec<u8>, NoMemory>
+    requires { All (λ flop. flop < length net.now.raw.flops) flops.now }
+    ensures { IfOk result (λ text. text.items ≡ bit_lines (flop_keys net.now.raw) flops.now) }
+{
+    let keys = flop_keys(alloc, net)?;
+    let text = lines_by(alloc, keys.as_slice(), flops)?;
+    Ok(text)
 }

@@ -1,21 +1,19 @@
 //! The proposal of a signature.
-ghost use Rattle.std.specs.Prelude.{◌≡◌, ◌<◌, ◌≤◌, ◌+◌, ◌^◌, ◌++◌, length, map, All, IfOk, OnOk};
+ghost use Rattle.std.specs.Prelude.{◌≡◌, ◌<◌, ◌≤◌, ◌+◌, ◌^◌, ◌++◌, length, map, take, All, IfOk, OnOk};
 ghost use Rattle.bs_net.specs.Netlist.{circuit};
 ghost use Rattle.bs_scan.specs.ChoiceText.{chosen};
 ghost use Rattle.bs_scan.specs.Signature.{signature};
 ghost use Rattle.bs_inspect_proposal.specs.Greedy.{IsGreedy, compared};
 ghost use Rattle.bs_inspect_proposal.specs.Items.{AreWithin, single};
-ghost use Rattle.bs_inspect_proposal.specs.Kept.{IsLooked, states_of, steps_of};
-ghost use Rattle.bs_inspect_proposal.specs.Proposal.{bits_told, flop_keys, parities_told, parity_items, shares_text, TellsChoices, TellsProposal};
+ghost use Rattle.bs_inspect_film.specs.Kept.{IsLooked, states_of, steps_of};
+ghost use Rattle.bs_inspect_proposal.specs.Proposal.{bits_told, flop_keys, IsProposal, parities_told, parity_items, Proposes, shares_text};
 
 use crate::greedy::best_flops;
 use crate::items::{parity_items, share_states, share_steps, signatures_of, singles};
 use crate::keys::flop_keys;
 use crate::lines::{push_bits, push_shares, push_xors};
-use crate::listing::{Looked, look};
-use crate::row::Row;
-use crate::rows::MAX_ROWS;
 use bs_bits::{Bits, List, NoMemory, push_line};
+use bs_inspect_film::{Looked, MAX_ROWS, Row, look};
 use bs_net::Netlist;
 use bs_stim::{MAX_CYCLES, Runs};
 use std::alloc::Global;
@@ -171,73 +169,120 @@ fn text_of(
     Ok(text)
 }
 
-/// Both choices of so many items, where these are the flip-flops of the first.
-#[tactic(auto, using(crate::proofs::ProposalLemmas::flops_within, crate::proofs::ProposalLemmas::tells))]
+/// The first flip-flops of an order, so many or all.
+#[tactic(auto, using(crate::proofs::ProposalLemmas::first_taken))]
+fn first_flops(order: &[u32], bits: usize) -> &[u32]
+    ensures { result.now ≡ take bits order.now }
+{
+    &order[..order.len().min(bits)]
+}
+
+/// Both choices of so many items, where the flip-flops of the first begin this order.
+#[tactic(auto, using(crate::proofs::ProposalLemmas::first_within, crate::proofs::ProposalLemmas::proposes))]
 fn text_with(
     alloc: Global,
     keys: &[&str],
     looked: &Looked,
-    flops: &[u32],
+    order: &[u32],
     bits: usize,
+    most: usize,
 ) -> Result<Vec<u8>, NoMemory>
     requires some { 0 < bits }
+    requires few { bits ≤ most }
     requires narrow { length keys.now < 2 ^ 20 }
     requires looked { IsLooked (length keys.now) looked.now.rows looked.now.steps.items }
-    requires best { IsGreedy (length keys.now) (compared (states_of looked.now)) bits flops.now }
-    ensures { IfOk result (λ text. TellsChoices (map (λ s. s.now) keys.now) (states_of looked.now) (steps_of looked.now) bits text.items) }
+    requires best { IsGreedy (length keys.now) (compared (states_of looked.now)) most order.now }
+    ensures { IfOk result (λ text. IsProposal (map (λ s. s.now) keys.now) (states_of looked.now) (steps_of looked.now) bits most order.now text.items) }
 {
-    let text = text_of(alloc, keys, looked, flops, bits)?;
+    let _most = most;
+    let text = text_of(alloc, keys, looked, first_flops(order, bits), bits)?;
     Ok(text)
 }
 
-/// Both choices of so many items, and what they tell apart of states and steps.
-fn choices_text(
+/// The flip-flops that tell states apart best, and a proposal of a signature by the first of them.
+#[derive(Drop)]
+pub struct Proposal {
+    /// The flip-flops, one after another.
+    pub order: Vec<u32>,
+    /// The proposal.
+    pub text: Vec<u8>,
+}
+
+/// The proposal in this order.
+fn proposal_in(
+    alloc: Global,
+    keys: &[&str],
+    looked: &Looked,
+    order: Vec<u32>,
+    bits: usize,
+    most: usize,
+) -> Result<Proposal, NoMemory>
+    requires some { 0 < bits }
+    requires few { bits ≤ most }
+    requires narrow { length keys.now < 2 ^ 20 }
+    requires looked { IsLooked (length keys.now) looked.now.rows looked.now.steps.items }
+    requires best { IsGreedy (length keys.now) (compared (states_of looked.now)) most order.items }
+    ensures { IfOk result (λ own. IsProposal (map (λ s. s.now) keys.now) (states_of looked.now) (steps_of looked.now) bits most own.order.items own.text.items) }
+{
+    let text = text_with(alloc, keys, looked, order.as_slice(), bits, most)?;
+    Ok(Proposal { order, text })
+}
+
+/// The proposal of so many items, and what it tells apart of states and steps.
+fn choose(
     alloc: Global,
     keys: &[&str],
     looked: &Looked,
     bits: usize,
-) -> Result<Vec<u8>, NoMemory>
+    most: usize,
+) -> Result<Proposal, NoMemory>
     requires some { 0 < bits }
+    requires few { bits ≤ most }
     requires narrow { length keys.now < 2 ^ 20 }
     requires looked { IsLooked (length keys.now) looked.now.rows looked.now.steps.items }
-    ensures { IfOk result (λ text. TellsChoices (map (λ s. s.now) keys.now) (states_of looked.now) (steps_of looked.now) bits text.items) }
+    ensures { IfOk result (λ own. IsProposal (map (λ s. s.now) keys.now) (states_of looked.now) (steps_of looked.now) bits most own.order.items own.text.items) }
 {
-    let flops = best_flops(alloc, keys.len(), states(looked), bits)?;
-    let text = text_with(alloc, keys, looked, flops.as_slice(), bits)?;
-    Ok(text)
+    let order = best_flops(alloc, keys.len(), states(looked), most)?;
+    let own = proposal_in(alloc, keys, looked, order, bits, most)?;
+    Ok(own)
 }
 
-/// Both choices of so many items, by the names of a netlist.
+/// The proposal of so many items, by the names of a netlist.
 #[tactic(auto, using(crate::proofs::ProposalLemmas::looked_by, crate::proofs::ProposalLemmas::renamed))]
-fn named_text(
+fn choose_named(
     alloc: Global,
     net: &Netlist,
     looked: &Looked,
     bits: usize,
-) -> Result<Vec<u8>, NoMemory>
+    most: usize,
+) -> Result<Proposal, NoMemory>
     requires some { 0 < bits }
+    requires few { bits ≤ most }
     requires looked { IsLooked (length (circuit net.now).flops) looked.now.rows looked.now.steps.items }
-    ensures { IfOk result (λ text. TellsChoices (flop_keys net.now.raw) (states_of looked.now) (steps_of looked.now) bits text.items) }
+    ensures { IfOk result (λ own. IsProposal (flop_keys net.now.raw) (states_of looked.now) (steps_of looked.now) bits most own.order.items own.text.items) }
 {
     let keys = flop_keys(alloc, net)?;
-    let text = choices_text(alloc, keys.as_slice(), looked, bits)?;
-    Ok(text)
+    let own = choose(alloc, keys.as_slice(), looked, bits, most)?;
+    Ok(own)
 }
 
 /// A proposal of a signature with so many items: the single flip-flops that tell the states of the runs apart best, chosen one
-/// after another, and the parities of all flip-flops; each with what it tells apart of the runs' states and steps.
+/// after another, and the parities of all flip-flops; each with what it tells apart of the runs' states and steps. The order in
+/// which flip-flops are chosen goes on to `most` of them.
 #[tactic(auto, using(crate::proofs::ProposalLemmas::moved))]
-pub fn proposal_text(
+pub fn propose(
     alloc: Global,
     net: &Netlist,
     runs: &Runs,
     bits: usize,
-) -> Result<Vec<u8>, NoMemory>
+    most: usize,
+) -> Result<Proposal, NoMemory>
     requires width { runs.now.width ≡ length (circuit net.now).inputs }
     requires some { 0 < bits }
-    ensures { IfOk result (λ text. TellsProposal net.now.raw runs.now bits text.items) }
+    requires few { bits ≤ most }
+    ensures { IfOk result (λ own. Proposes net.now.raw runs.now bits most own.order.items own.text.items) }
 {
     let looked = look(alloc, net, runs, MAX_CYCLES)?;
-    let text = named_text(alloc, net, &looked, bits)?;
-    Ok(text)
+    let own = choose_named(alloc, net, &looked, bits, most)?;
+    Ok(own)
 }

@@ -4,7 +4,6 @@ ghost use Rattle.std.specs.HashMap.{Updates};
 ghost use Rattle.bs_inspect_proposal.specs.Keys.{CountsAll, counted, same_row};
 ghost use Rattle.bs_inspect_proposal.specs.Sharing.{tally_of};
 
-use crate::rows::key_of;
 use bs_bits::{Bits, NoMemory};
 use std::alloc::Global;
 use std::collections::HashMap;
@@ -16,6 +15,18 @@ pub struct Tally {
     pub greatest: u64,
     /// The sum over all members of how many share theirs, each with itself.
     pub sum: u64,
+}
+
+/// A row as a key.
+#[tactic(auto, using(bs_inspect_film::proofs::RowLemmas::row_more))]
+fn key_of(alloc: Global, row: &Bits) -> Result<Vec<bool>, NoMemory>
+    ensures { IfOk result (λ key. key.items ≡ row.now) }
+{
+    let mut key = Vec::new(alloc);
+    'places: for i in 0..row.len() {
+        key.push(row.get(i))?;
+    }
+    Ok(key)
 }
 
 /// How often a row was counted.

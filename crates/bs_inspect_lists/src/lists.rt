@@ -1,0 +1,185 @@
+//! The lists of predecessors at some moments, by one signature.
+ghost use Rattle.std.specs.Prelude.{◌≡◌, ◌<◌, ◌≤◌, ◌+◌, length, IfOk};
+ghost use Rattle.bs_net.specs.Netlist.{circuit};
+ghost use Rattle.bs_encode.specs.declared.encoding.TheConstants.{MAX_GUARDS};
+ghost use Rattle.bs_stim.specs.Runs.{inputs_of};
+ghost use Rattle.bs_scan.specs.Choice.{depth_of};
+ghost use Rattle.bs_scan.specs.Crash.{recording_of};
+ghost use Rattle.bs_scan.specs.Moments.{IsMoment};
+ghost use Rattle.bs_preimage.specs.Preimage.{fresh};
+ghost use Rattle.bs_inspect_lists.specs.Told.{AreTold, IsTold, room_of};
+
+use crate::counting::{Count, count_of_dump, weight_of};
+use crate::spread::{MAX_MOMENTS, count_later, moment_taken};
+use bs_bits::{List, NoMemory};
+use bs_chip::Chip;
+use bs_net::Netlist;
+use bs_preimage::Preimage;
+use bs_report::Cand;
+use bs_scan::{Choice, Moment};
+use bs_stim::Runs;
+use std::alloc::Global;
+
+/// How many bits the members of all lists by one signature may have, a bit a flip-flop: then no further list is begun.
+pub const MAX_LISTED_BITS: usize = 1_048_576;
+
+/// How many bytes the cycles that are kept of the runs may take.
+const TRACK_BYTES: usize = 67_108_864;
+
+/// A moment, and how many predecessors its state has that agree with what the register holds there.
+#[derive(Clone, Copy, Debug, PartialEq, Eq)]
+pub struct Told {
+    pub moment: Moment,
+    pub count: Count,
+}
+
+/// A moment with its count.
+#[tactic(auto, using(crate::proofs::ToldLemmas::told_as, crate::proofs::ToldLemmas::state_wide, crate::proofs::ToldLemmas::stored_wide, crate::proofs::ToldLemmas::moment_there))]
+fn told_at(
+    alloc: Global,
+    chip: &mut Chip<'_>,
+    preimage: &mut Preimage<'_>,
+    net: &Netlist,
+    choice: &Choice,
+    runs: &Runs,
+    moment: Moment,
+) -> Result<Told, NoMemory>
+    requires recording { chip.old.recording ≡ recording_of net.now.raw choice.now runs.now }
+    requires circuit { preimage.old.circuit ≡ circuit net.now }
+    requires choice { preimage.old.choice ≡ choice.now }
+    requires calls { preimage.old.calls < MAX_GUARDS }
+    requires depth { depth_of choice.now ≡ 1 }
+    requires moment { IsMoment (inputs_of runs.now) moment }
+    ensures told { IfOk result (IsTold (circuit net.now) choice.now (inputs_of runs.now)) }
+    ensures moment { IfOk result (λ told. told.moment ≡ moment) }
+    ensures chip { chip.new ≡ chip.old }
+    ensures circuit { preimage.new.circuit ≡ preimage.old.circuit }
+    ensures choice { preimage.new.choice ≡ preimage.old.choice }
+    ensures calls { preimage.new.calls ≤ preimage.old.calls + 1 }
+{
+    let _net = net;
+    let _choice = choice;
+    let _runs = runs;
+    let dump = chip.dump_at(alloc, moment.run, moment.cycle)?;
+    let count = count_of_dump(alloc, preimage, &dump)?;
+    Ok(Told { moment, count })
+}
+
+/// How many members there is room for in all lists, by the number of flip-flops.
+fn room_of(width: usize) -> u64
+    requires { width < 2 ^ 32 }
+    ensures { result ≡ room_of width }
+{
+    MAX_LISTED_BITS as u64 / (width as u64 + 1)
+}
+
+/// The moments that are taken, each with its count, while there is room.
+#[tactic(auto, using(crate::proofs::ToldLemmas::none_told, crate::proofs::ToldLemmas::all_are_told, crate::proofs::ToldLemmas::enough_told))]
+fn tell_each(
+    alloc: Global,
+    chip: &mut Chip<'_>,
+    preimage: &mut Preimage<'_>,
+    net: &Netlist,
+    choice: &Choice,
+    runs: &Runs,
+) -> Result<Vec<Told>, NoMemory>
+    requires recording { chip.old.recording ≡ recording_of net.now.raw choice.now runs.now }
+    requires preimage { preimage.old ≡ fresh (circuit net.now) choice.now }
+    requires depth { depth_of choice.now ≡ 1 }
+    ensures { IfOk result (λ told. AreTold (circuit net.now) choice.now (inputs_of runs.now) told.items) }
+{
+    let all = count_later(runs);
+    let count = all.min(MAX_MOMENTS);
+    let room = room_of(net.width());
+    let mut spent = 0u64;
+    let mut told = Vec::new(alloc);
+    'moments: for k in 0..count {
+        if spent >= room {
+            return Ok(told);
+        }
+        let moment = moment_taken(runs, all, count, k);
+        let one = told_at(alloc, chip, preimage, net, choice, runs, moment)?;
+        spent += weight_of(one.count);
+        told.push(one)?;
+    }
+    Ok(told)
+}
+
+/// The same by a search that is at its beginning.
+fn tell_by(
+    alloc: Global,
+    chip: &mut Chip<'_>,
+    mut preimage: Preimage<'_>,
+    net: &Netlist,
+    choice: &Choice,
+    runs: &Runs,
+) -> Result<Vec<Told>, NoMemory>
+    requires recording { chip.old.recording ≡ recording_of net.now.raw choice.now runs.now }
+    requires preimage { preimage ≡ fresh (circuit net.now) choice.now }
+    requires depth { depth_of choice.now ≡ 1 }
+    ensures { IfOk result (λ told. AreTold (circuit net.now) choice.now (inputs_of runs.now) told.items) }
+{
+    tell_each(alloc, chip, &mut preimage, net, choice, runs)
+}
+
+/// Steps all runs, so that a chip keeps their states.
+fn play(alloc: Global, chip: &mut Chip<'_>) -> Result<(), NoMemory>
+    ensures { chip.new.recording ≡ chip.old.recording }
+{
+    let none: List<Cand> = List::new(alloc);
+    let _hit = chip.first(alloc, none.slice())?;
+    Ok(())
+}
+
+/// The moments that are taken, each with its count, where the runs are stepped first.
+fn tell_played(
+    alloc: Global,
+    chip: &mut Chip<'_>,
+    net: &Netlist,
+    choice: &Choice,
+    runs: &Runs,
+) -> Result<Vec<Told>, NoMemory>
+    requires recording { chip.old.recording ≡ recording_of net.now.raw choice.now runs.now }
+    requires width { choice.now.width ≡ length (circuit net.now).flops }
+    requires depth { depth_of choice.now ≡ 1 }
+    ensures { IfOk result (λ told. AreTold (circuit net.now) choice.now (inputs_of runs.now) told.items) }
+{
+    play(alloc, chip)?;
+    let told = tell_by(alloc, chip, Preimage::new(alloc, net, choice)?, net, choice, runs)?;
+    Ok(told)
+}
+
+/// The same by a chip whose runs are not stepped yet.
+fn tell_on(
+    alloc: Global,
+    mut chip: Chip<'_>,
+    net: &Netlist,
+    choice: &Choice,
+    runs: &Runs,
+) -> Result<Vec<Told>, NoMemory>
+    requires recording { chip.recording ≡ recording_of net.now.raw choice.now runs.now }
+    requires width { choice.now.width ≡ length (circuit net.now).flops }
+    requires depth { depth_of choice.now ≡ 1 }
+    ensures { IfOk result (λ told. AreTold (circuit net.now) choice.now (inputs_of runs.now) told.items) }
+{
+    tell_played(alloc, &mut chip, net, choice, runs)
+}
+
+/// At `MAX_MOMENTS` moments of the runs behind reset, or at all where these are fewer: how many predecessors the state has that
+/// agree with the stored signature. No further one is told of where the lists before have `MAX_LISTED_BITS`. The lists share one
+/// search, whose log grows by a block for each member.
+pub fn count_lists(
+    alloc: Global,
+    net: &Netlist,
+    choice: &Choice,
+    runs: &Runs,
+) -> Result<Vec<Told>, NoMemory>
+    requires states { choice.now.width ≡ length (circuit net.now).flops }
+    requires inputs { runs.now.width ≡ length (circuit net.now).inputs }
+    requires depth { depth_of choice.now ≡ 1 }
+    ensures { IfOk result (λ told. AreTold (circuit net.now) choice.now (inputs_of runs.now) told.items) }
+{
+    let chip = Chip::with_bound(alloc, net, choice, runs, TRACK_BYTES)?;
+    let told = tell_on(alloc, chip, net, choice, runs)?;
+    Ok(told)
+}
