@@ -2,3 +2,4 @@ pub mod SplitLemmas
 pub mod SignalLemmas
 pub mod HexLemmas
 pub mod RtlLemmas
+pub mod SpaceLemmas

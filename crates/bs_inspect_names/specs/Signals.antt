@@ -25,16 +25,22 @@ abbrev pub plain : List ℕ → List ℕ
 plain [] = []
 plain (b ∷ bs) = if b == 92 then bs else b ∷ bs
 
+-- a name without the space that may end it, as yosys writes one behind an escaped name
+abbrev pub unspaced : List ℕ → List ℕ
+unspaced [] = []
+unspaced (b ∷ []) = if b == 32 then [] else b ∷ []
+unspaced (b ∷ c ∷ cs) = b ∷ unspaced (c ∷ cs)
+
 abbrev pub same_bit : Option ℕ → Option ℕ → Bool
 same_bit None bit = true
 same_bit (Some n) None = false
 same_bit (Some n) (Some m) = n == m
 
--- whether a name is that of a bit, or of its vector
+-- whether a name is that of a bit, or of its vector; the space that may end it, or stand before its brackets, is passed over
 abbrev pub is_named : KeyParts → List ℕ → Bool
 is_named parts name =
-    let of_name = key_parts name in
-    bytes_eq (plain of_name.base) (plain parts.base) && same_bit of_name.bit parts.bit
+    let of_name = key_parts (unspaced name) in
+    bytes_eq (plain (unspaced of_name.base)) (plain parts.base) && same_bit of_name.bit parts.bit
 
 -- whether a bit is one of these names, or there are none
 abbrev pub is_wanted : List (List ℕ) → KeyParts → Bool

@@ -16,5 +16,7 @@ mod splits;
 pub use hex::push_value;
 pub use key::{KeyParts, key_parts};
 pub use rtl::{push_rtl_name, same_name};
-pub use signal::{Member, Signal, is_named, members, plain, push_name, push_range, signals};
+pub use signal::{
+    Member, Signal, is_named, members, plain, push_name, push_range, same_bit, signals, unspaced,
+};
 pub use splits::{first_split, last_split};
