@@ -1,0 +1,2 @@
+pub mod TurnedLemmas
+pub mod LookLemmas
