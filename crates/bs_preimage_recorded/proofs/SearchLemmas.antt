@@ -1,7 +1,8 @@
 -- Run after run, and cycle after cycle.
-use Rattle.std.proofs.Common.{◌≡◌, ◌≢◌, ℕ, ◌+◌, ◌-◌, ◌<◌, ◌≤◌, Bool, true, false, List, ◌∷◌, length, refl, ap, subst, sym, ◌∙◌, arith, ⊎_elim}
+use Rattle.std.proofs.Common.{◌≡◌, ◌≢◌, ℕ, ◌+◌, ◌-◌, ◌*◌, ◌<◌, ◌≤◌, Bool, true, false, List, ◌∷◌, length, refl, ap, subst, sym, ◌∙◌, arith, ⊎_elim}
 use Rattle.std.proofs.Common.{Option, Some, None}
-use Rattle.std.specs.Prelude.{◌&&◌, MatchOption}
+use Rattle.std.proofs.Math.Nat.{suc-mul}
+use Rattle.std.specs.Prelude.{◌&&◌, MatchOption, suc}
 use Rattle.std.specs.Option.{option_to_list}
 use Rattle.std.proofs.lemmas.Bool.{and_parts, cases_eq, cases_lt}
 use Rattle.bs_bits.specs.Bits.{bits_eq}
@@ -21,8 +22,11 @@ use Rattle.bs_preimage.specs.declared.probe.Probed.TheVariants.{Predecessor, NoP
 use Rattle.bs_preimage.specs.Probe.{IsProbed}
 use Rattle.bs_preimage_recorded.specs.declared.search.Recorded.{Recorded}
 use Rattle.bs_preimage_recorded.specs.declared.search.Sought.{Sought}
-use Rattle.bs_preimage_recorded.specs.declared.search.Sought.TheVariants.{Found, NoMoment, Cut}
-use Rattle.bs_preimage_recorded.specs.Search.{asked_in, turn_by, IsRecorded, SoughtAt, SoughtBefore, SoughtSooner, SoughtOfAll, TurnsTo, IsFirstRecorded}
+use Rattle.bs_preimage_recorded.specs.declared.search.Sought.TheVariants.{Found, NoMoment, Cut, Unsaid}
+use Rattle.bs_preimage_recorded.specs.declared.search.Turn.{Turn}
+use Rattle.bs_preimage_recorded.specs.declared.search.Turn.TheVariants.{GoOn, End}
+use Rattle.bs_preimage_recorded.specs.Search.{asked_in, place_of, turn_by, HasTried, HasTurned, IsCutAt, IsOpenAt, IsRecorded, SoughtAt, SoughtBefore}
+use Rattle.bs_preimage_recorded.specs.Search.{SoughtSooner, SoughtOfAll, TurnsTo, IsFirstRecorded, NoneSooner}
 
 -- ---- a state with another signature
 
@@ -76,11 +80,17 @@ one_more_run r states cycle from run some none here =
           (λ (other : n ≡ run → ⊥). none.each n lo (omega (arith, hi, other, some)) there last) (cases_eq n run);
     }
 
+-- the run that is next stays open
+pub open_at : (r : Recording) (present stored : List Bool) (older : Option (List Bool)) (cycle from run : ℕ) → IsNextAlike r stored cycle from run →
+    IsOpenAt r (asked_in r present stored older) cycle from (moment run cycle)
+open_at r present stored older cycle from run next =
+    record { cycle_is = refl; behind = next.behind; before = none_among r present stored older cycle from (run - 1) next.before }
+
 pub turned : (r : Recording) (present stored : List Bool) (older : Option (List Bool)) (cycle from below run : ℕ) (said : Probed) →
-    IsNextAlike r stored cycle from run →
+    IsNextAlike r stored cycle from run → run ≤ below →
     IsProbed r.circuit r.choice present stored older (state_at r.circuit (run_of r.runs run) cycle) said →
     TurnsTo r present stored older cycle from below (turn_by said run cycle)
-turned r present stored older cycle from below run (Predecessor cand) next h = (
+turned r present stored older cycle from below run (Predecessor cand) next within h = (
   refl,
   record {
     behind = next.behind;
@@ -91,12 +101,19 @@ turned r present stored older cycle from below run (Predecessor cand) next h = (
   },
   record { cand = h.0; state = h.1 },
 )
-turned r present stored older cycle from below run NoPredecessor next h = (
+turned r present stored older cycle from below run NoPredecessor next within h = (
   next.behind,
+  within,
   one_more_run r (asked_in r present stored older) cycle from run (omega (arith, next.behind))
       (none_among r present stored older cycle from (run - 1) next.before) h,
 )
-turned r present stored older cycle from below run Unknown next h = tt
+turned r present stored older cycle from below run Unknown next within h = open_at r present stored older cycle from run next
+
+-- one try is taken
+pub tried_one : (old new from below run cycle : ℕ) (said : Probed) → old ≡ new + 1 → from < run → HasTurned old new from below (turn_by said run cycle)
+tried_one old new from below run cycle (Predecessor cand) one behind = tt
+tried_one old new from below run cycle NoPredecessor one behind = omega (arith, one, behind)
+tried_one old new from below run cycle Unknown one behind = tt
 
 -- ---- the runs of a cycle
 
@@ -115,6 +132,11 @@ pub fewer_runs : (r : Recording) (states : List (List Bool)) (cycle from below :
     NoneAmong r.circuit r.runs states cycle 0 below
 fewer_runs r states cycle from below le a = record { each = λ n lo hi there last. a.each n lo (omega (arith, hi, le)) there last }
 
+open_further : (r : Recording) (states : List (List Bool)) (cycle from : ℕ) (m : Moment) → NoneAmong r.circuit r.runs states cycle 0 from →
+    IsOpenAt r states cycle from m → IsOpenAt r states cycle 0 m
+open_further r states cycle from m none h =
+    record { cycle_is = h.cycle_is; behind = omega (arith, h.behind); before = both_spans r states cycle from (m.run - 1) none h.before }
+
 pub sought_at : (r : Recording) (present stored : List Bool) (older : Option (List Bool)) (cycle from below : ℕ) (sought : Sought) →
     NoneAmong r.circuit r.runs (asked_in r present stored older) cycle 0 from → SoughtAt r present stored older cycle from below sought →
     SoughtAt r present stored older cycle 0 below sought
@@ -131,7 +153,16 @@ sought_at r present stored older cycle from below (Found f) none h =
       h.2,
     )
 sought_at r present stored older cycle from below NoMoment none h = both_spans r (asked_in r present stored older) cycle from below none h
-sought_at r present stored older cycle from below Cut none h = tt
+sought_at r present stored older cycle from below (Cut m) none h = open_further r (asked_in r present stored older) cycle from m none h
+sought_at r present stored older cycle from below (Unsaid m) none h = open_further r (asked_in r present stored older) cycle from m none h
+
+-- the tries of the runs so far and of what is left
+pub tried_at : (first old new from below : ℕ) (sought : Sought) → first ≤ old + from → HasTried (old + from) new below (λ m. m.run - 1) sought →
+    HasTried first new below (λ m. m.run - 1) sought
+tried_at first old new from below (Found f) so_far h = tt
+tried_at first old new from below NoMoment so_far h = omega (arith, so_far, h)
+tried_at first old new from below (Cut m) so_far h = omega (arith, so_far, h)
+tried_at first old new from below (Unsaid m) so_far h = tt
 
 -- ---- the cycles
 
@@ -147,16 +178,55 @@ found_first r present stored older cycle below f none h =
       recorded = h.2;
     }
 
+pub open_sooner : (r : Recording) (states : List (List Bool)) (cycle : ℕ) (m : Moment) → NoneBefore r.circuit r.runs states cycle →
+    IsOpenAt r states cycle 0 m → NoneSooner r states m
+open_sooner r states cycle m none h =
+    record {
+      cycles = subst (λ (n : ℕ). NoneBefore r.circuit r.runs states n) (sym h.cycle_is) none;
+      runs = subst (λ (n : ℕ). NoneAmong r.circuit r.runs states n 0 (m.run - 1)) (sym h.cycle_is) h.before;
+    }
+
 pub sooner_found : (r : Recording) (present stored : List Bool) (older : Option (List Bool)) (m : Moment) (sought : Sought) →
     NoneBefore r.circuit r.runs (asked_in r present stored older) m.cycle → SoughtAt r present stored older m.cycle 0 (m.run - 1) sought →
     SoughtSooner r present stored older m sought
 sooner_found r present stored older m (Found f) none h = found_first r present stored older m.cycle (m.run - 1) f none h
 sooner_found r present stored older m NoMoment none h = record { cycles = none; runs = h }
-sooner_found r present stored older m Cut none h = tt
+sooner_found r present stored older m (Cut o) none h = open_sooner r (asked_in r present stored older) m.cycle o none h
+sooner_found r present stored older m (Unsaid o) none h = open_sooner r (asked_in r present stored older) m.cycle o none h
 
 pub of_all : (r : Recording) (present stored : List Bool) (older : Option (List Bool)) (most : ℕ) (sought : Sought) → IsLongest r.runs most →
     SoughtBefore r present stored older (most + 1) sought → SoughtOfAll r present stored older sought
 of_all r present stored older most (Found f) longest h = h
 of_all r present stored older most NoMoment longest h =
     behind_all r.circuit r.runs (asked_in r present stored older) most most (omega arith) longest h
-of_all r present stored older most Cut longest h = tt
+of_all r present stored older most (Cut o) longest h = h
+of_all r present stored older most (Unsaid o) longest h = h
+
+-- ---- the tries of cycles
+
+one_cycle_more : (cycle runs : ℕ) → (cycle + 1) * runs ≡ cycle * runs + runs
+one_cycle_more cycle runs = let next : cycle + 1 ≡ suc cycle = omega arith in ap (λ (n : ℕ). n * runs) next ∙ suc-mul cycle runs
+
+pub tried_cycle : (first old new cycle runs : ℕ) → first ≤ old + cycle * runs → old ≤ new + runs → first ≤ new + (cycle + 1) * runs
+tried_cycle first old new cycle runs so_far here = let more = one_cycle_more cycle runs in omega (arith, so_far, here, more)
+
+-- the search is cut in a cycle, behind those before it
+pub cut_in_cycle : (r : Recording) (states : List (List Bool)) (cycle first old : ℕ) (m : Moment) → first ≤ old + cycle * length r.runs →
+    IsOpenAt r states cycle 0 m → old ≤ m.run - 1 → first ≤ place_of r m
+cut_in_cycle r states cycle first old m so_far h here =
+    subst (λ (n : ℕ). first ≤ n * length r.runs + (m.run - 1)) (sym h.cycle_is) (omega (arith, so_far, here))
+
+pub cut_sooner : (r : Recording) (present stored : List Bool) (older : Option (List Bool)) (m : Moment) (first old new : ℕ) (sought : Sought) →
+    first ≤ old + m.cycle * length r.runs → SoughtAt r present stored older m.cycle 0 (m.run - 1) sought →
+    HasTried old new (m.run - 1) (λ o. o.run - 1) sought → IsCutAt r first sought
+cut_sooner r present stored older m first old new (Found f) so_far h tried = tt
+cut_sooner r present stored older m first old new NoMoment so_far h tried = tt
+cut_sooner r present stored older m first old new (Cut o) so_far h tried =
+    cut_in_cycle r (asked_in r present stored older) m.cycle first old o so_far h tried
+cut_sooner r present stored older m first old new (Unsaid o) so_far h tried = tt
+
+pub cut_of_tried : (r : Recording) (old new places : ℕ) (sought : Sought) → HasTried old new places (place_of r) sought → IsCutAt r old sought
+cut_of_tried r old new places (Found f) h = tt
+cut_of_tried r old new places NoMoment h = tt
+cut_of_tried r old new places (Cut m) h = h
+cut_of_tried r old new places (Unsaid m) h = tt

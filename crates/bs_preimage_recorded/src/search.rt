@@ -1,27 +1,22 @@
 //! The moments of recorded runs in their order, until one is in a predecessor.
-ghost use Rattle.std.specs.Prelude.{◌≡◌, ◌≤◌, ◌+◌, option_map, IfOk, IfSome};
-ghost use Rattle.bs_scan.specs.Moments.{IsMoment, moment, run_of, state_at};
+ghost use Rattle.std.specs.Prelude.{◌≡◌, ◌≤◌, ◌+◌, ◌-◌, ◌*◌, length, option_map, IfOk, IfSome};
+ghost use Rattle.bs_preimage_recorded.specs.declared.search.TheConstants.{MAX_ASKS};
+ghost use Rattle.bs_scan.specs.Moments.{IsMoment, moment};
 ghost use Rattle.bs_stim.specs.declared.limits.TheConstants.{MAX_CYCLES};
 ghost use Rattle.bs_chip.specs.Signs.{IsNextAlike};
-ghost use Rattle.bs_preimage.specs.Probe.{IsProbed};
-ghost use Rattle.bs_preimage_recorded.specs.Search.{turn_by, IsAsking, SoughtAt, SoughtBefore, SoughtOfAll, SoughtSooner, SoughtWithin, TurnsTo};
+ghost use Rattle.bs_preimage_recorded.specs.Finder.{IsAsking};
+ghost use Rattle.bs_preimage_recorded.specs.Search.{place_of, turn_by, HasTried, HasTurned, IsCutAt, SoughtAt, SoughtBefore, SoughtOfAll, SoughtSooner, SoughtWithin, TurnsTo};
 
-use bs_bits::{Bits, NoMemory};
-use bs_chip::{Chip, Signs};
-use bs_preimage::{Probe, Probed};
+use crate::finder::{Finder, Query};
+use bs_bits::NoMemory;
+use bs_chip::Chip;
+use bs_preimage::Probed;
 use bs_report::Cand;
 use bs_scan::Moment;
 use std::alloc::Global;
 
-/// What is asked: which recorded state leads to the present one and agrees with the stored signature and the older one, with
-/// at most `b` lemmas a state.
-#[derive(Clone, Copy)]
-pub struct Query<'a> {
-    pub present: &'a Bits,
-    pub stored: &'a Bits,
-    pub older: Option<&'a Bits>,
-    pub b: u64,
-}
+/// How many states a search may ask about at most.
+pub const MAX_ASKS: u64 = 1_000;
 
 /// A moment, a run from 1 and a cycle from 0, and its state as a candidate.
 #[derive(Drop)]
@@ -38,8 +33,10 @@ pub enum Sought {
     Found(Recorded),
     /// No moment that was looked at is in one.
     NoMoment,
-    /// The search was cut.
-    Cut,
+    /// As many states as the limit were asked about. No moment before this one is in a predecessor.
+    Cut(Moment),
+    /// The solver did not say whether the state of this moment is a predecessor. No moment before it is in one.
+    Unsaid(Moment),
 }
 
 /// What comes of one run.
@@ -49,33 +46,6 @@ enum Turn {
     GoOn(u32),
     /// The search at the cycle ends.
     End(Sought),
-}
-
-/// Whether the state of a moment is a predecessor.
-fn ask_moment(
-    alloc: Global,
-    chip: &mut Chip<'_>,
-    probe: &mut Probe<'_>,
-    query: &Query<'_>,
-    run: u32,
-    cycle: u32,
-) -> Result<Probed, NoMemory>
-    requires there { IsMoment chip.old.recording.runs (moment run cycle) }
-    requires asking { IsAsking chip.old.recording probe.old query.now.present.now query.now.stored.now (option_map (λ bits. bits.now) query.now.older) query.now.b }
-    ensures said { IfOk result (IsProbed chip.old.recording.circuit chip.old.recording.choice query.now.present.now query.now.stored.now (option_map (λ bits. bits.now) query.now.older) (state_at chip.old.recording.circuit (run_of chip.old.recording.runs run) cycle)) }
-    ensures chip { chip.new ≡ chip.old }
-    ensures probe { probe.new ≡ probe.old }
-{
-    let dump = chip.dump_at(alloc, run, cycle)?;
-    let said = probe.ask(
-        alloc,
-        query.present,
-        query.stored,
-        query.older,
-        &dump.state,
-        query.b,
-    )?;
-    Ok(said)
 }
 
 /// The runs behind one number, up to another, at a cycle.
@@ -93,58 +63,84 @@ fn turn_of(said: Probed, run: u32, cycle: u32) -> Turn
     match said {
         Probed::Predecessor(cand) => Turn::End(Sought::Found(Recorded { run, cycle, cand })),
         Probed::NoPredecessor => Turn::GoOn(run),
-        Probed::Unknown => Turn::End(Sought::Cut),
+        Probed::Unknown => Turn::End(Sought::Unsaid(Moment { run, cycle })),
     }
 }
 
-/// What comes of the run that is next in a state with the signature, out of so many tries.
-fn try_run(
+/// What comes of the run that is next in a state with the signature, where one of so many tries is taken.
+fn ask_run(
     alloc: Global,
     chip: &mut Chip<'_>,
-    probe: &mut Probe<'_>,
+    finder: &mut Finder<'_, '_>,
     query: &Query<'_>,
     span: Span,
     run: u32,
     tries: &mut u64,
 ) -> Result<Turn, NoMemory>
     requires next { IsNextAlike chip.old.recording query.now.stored.now span.cycle span.from run }
-    requires asking { IsAsking chip.old.recording probe.old query.now.present.now query.now.stored.now (option_map (λ bits. bits.now) query.now.older) query.now.b }
+    requires within { run ≤ span.below }
+    requires aimed { finder.old ≡ record { recording = chip.old.recording; present = query.now.present.now; stored = query.now.stored.now } }
+    requires asking { IsAsking chip.old.recording query.now.present.now query.now.stored.now (option_map (λ bits. bits.now) query.now.older) query.now.b }
     ensures turn { IfOk result (TurnsTo chip.old.recording query.now.present.now query.now.stored.now (option_map (λ bits. bits.now) query.now.older) span.cycle span.from span.below) }
+    ensures tried { IfOk result (HasTurned tries.old tries.new span.from span.below) }
     ensures chip { chip.new ≡ chip.old }
-    ensures probe { probe.new ≡ probe.old }
+    ensures finder { finder.new ≡ finder.old }
+{
+    if *tries == 0 {
+        let cycle = span.cycle;
+        return Ok(Turn::End(Sought::Cut(Moment { run, cycle })));
+    }
+    *tries -= 1;
+    let said = finder.ask(alloc, chip, query, run, span.cycle)?;
+    Ok(turn_of(said, run, span.cycle))
+}
+
+/// What comes of the run that is next in a state with the signature.
+fn try_run(
+    alloc: Global,
+    chip: &mut Chip<'_>,
+    finder: &mut Finder<'_, '_>,
+    query: &Query<'_>,
+    span: Span,
+    run: u32,
+    tries: &mut u64,
+) -> Result<Turn, NoMemory>
+    requires next { IsNextAlike chip.old.recording query.now.stored.now span.cycle span.from run }
+    requires order { span.from ≤ span.below }
+    requires aimed { finder.old ≡ record { recording = chip.old.recording; present = query.now.present.now; stored = query.now.stored.now } }
+    requires asking { IsAsking chip.old.recording query.now.present.now query.now.stored.now (option_map (λ bits. bits.now) query.now.older) query.now.b }
+    ensures turn { IfOk result (TurnsTo chip.old.recording query.now.present.now query.now.stored.now (option_map (λ bits. bits.now) query.now.older) span.cycle span.from span.below) }
+    ensures tried { IfOk result (HasTurned tries.old tries.new span.from span.below) }
+    ensures chip { chip.new ≡ chip.old }
+    ensures finder { finder.new ≡ finder.old }
 {
     if span.below < run {
         return Ok(Turn::End(Sought::NoMoment));
     }
-    if *tries == 0 {
-        return Ok(Turn::End(Sought::Cut));
-    }
-    *tries -= 1;
-    let said = ask_moment(alloc, chip, probe, query, run, span.cycle)?;
-    Ok(turn_of(said, run, span.cycle))
+    ask_run(alloc, chip, finder, query, span, run, tries)
 }
 
 /// What comes of the next run of a span.
 fn next_turn(
     alloc: Global,
     chip: &mut Chip<'_>,
-    signs: &mut Signs<'_>,
-    probe: &mut Probe<'_>,
+    finder: &mut Finder<'_, '_>,
     query: &Query<'_>,
     span: Span,
     tries: &mut u64,
 ) -> Result<Turn, NoMemory>
     requires few { span.cycle ≤ MAX_CYCLES }
-    requires signs { signs.old ≡ chip.old.recording }
-    requires asking { IsAsking chip.old.recording probe.old query.now.present.now query.now.stored.now (option_map (λ bits. bits.now) query.now.older) query.now.b }
+    requires order { span.from ≤ span.below }
+    requires aimed { finder.old ≡ record { recording = chip.old.recording; present = query.now.present.now; stored = query.now.stored.now } }
+    requires asking { IsAsking chip.old.recording query.now.present.now query.now.stored.now (option_map (λ bits. bits.now) query.now.older) query.now.b }
     ensures turn { IfOk result (TurnsTo chip.old.recording query.now.present.now query.now.stored.now (option_map (λ bits. bits.now) query.now.older) span.cycle span.from span.below) }
+    ensures tried { IfOk result (HasTurned tries.old tries.new span.from span.below) }
     ensures chip { chip.new ≡ chip.old }
-    ensures signs { signs.new ≡ signs.old }
-    ensures probe { probe.new ≡ probe.old }
+    ensures finder { finder.new ≡ finder.old }
 {
-    match signs.next_alike(alloc, query.stored, span.cycle, span.from)? {
+    match finder.next_alike(alloc, span.cycle, span.from)? {
         None => Ok(Turn::End(Sought::NoMoment)),
-        Some(run) => try_run(alloc, chip, probe, query, span, run, tries),
+        Some(run) => try_run(alloc, chip, finder, query, span, run, tries),
     }
 }
 
@@ -152,25 +148,24 @@ fn next_turn(
 fn lowest_at(
     alloc: Global,
     chip: &mut Chip<'_>,
-    signs: &mut Signs<'_>,
-    probe: &mut Probe<'_>,
+    finder: &mut Finder<'_, '_>,
     query: &Query<'_>,
     cycle: u32,
     below: u32,
     tries: &mut u64,
 ) -> Result<Sought, NoMemory>
     requires few { cycle ≤ MAX_CYCLES }
-    requires signs { signs.old ≡ chip.old.recording }
-    requires asking { IsAsking chip.old.recording probe.old query.now.present.now query.now.stored.now (option_map (λ bits. bits.now) query.now.older) query.now.b }
+    requires aimed { finder.old ≡ record { recording = chip.old.recording; present = query.now.present.now; stored = query.now.stored.now } }
+    requires asking { IsAsking chip.old.recording query.now.present.now query.now.stored.now (option_map (λ bits. bits.now) query.now.older) query.now.b }
     ensures sought { IfOk result (SoughtAt chip.old.recording query.now.present.now query.now.stored.now (option_map (λ bits. bits.now) query.now.older) cycle 0 below) }
+    ensures tried { IfOk result (HasTried tries.old tries.new below (λ m. m.run - 1)) }
     ensures chip { chip.new ≡ chip.old }
-    ensures signs { signs.new ≡ signs.old }
-    ensures probe { probe.new ≡ probe.old }
+    ensures finder { finder.new ≡ finder.old }
 {
     let mut from = 0;
     'runs: for _ in 0..below {
         let span = Span { cycle, from, below };
-        match next_turn(alloc, chip, signs, probe, query, span, tries)? {
+        match next_turn(alloc, chip, finder, query, span, tries)? {
             Turn::GoOn(run) => from = run,
             Turn::End(sought) => return Ok(sought),
         }
@@ -182,26 +177,26 @@ fn lowest_at(
 fn first_before(
     alloc: Global,
     chip: &mut Chip<'_>,
-    signs: &mut Signs<'_>,
-    probe: &mut Probe<'_>,
+    finder: &mut Finder<'_, '_>,
     query: &Query<'_>,
     limit: u32,
     tries: &mut u64,
 ) -> Result<Sought, NoMemory>
     requires few { limit ≤ MAX_CYCLES + 1 }
-    requires signs { signs.old ≡ chip.old.recording }
-    requires asking { IsAsking chip.old.recording probe.old query.now.present.now query.now.stored.now (option_map (λ bits. bits.now) query.now.older) query.now.b }
+    requires aimed { finder.old ≡ record { recording = chip.old.recording; present = query.now.present.now; stored = query.now.stored.now } }
+    requires asking { IsAsking chip.old.recording query.now.present.now query.now.stored.now (option_map (λ bits. bits.now) query.now.older) query.now.b }
     ensures sought { IfOk result (SoughtBefore chip.old.recording query.now.present.now query.now.stored.now (option_map (λ bits. bits.now) query.now.older) limit) }
+    ensures tried { IfOk result (HasTried tries.old tries.new (limit * length chip.old.recording.runs) (place_of chip.old.recording)) }
     ensures chip { chip.new ≡ chip.old }
-    ensures signs { signs.new ≡ signs.old }
-    ensures probe { probe.new ≡ probe.old }
+    ensures finder { finder.new ≡ finder.old }
 {
-    let runs = signs.runs();
+    let runs = finder.runs();
     'cycles: for cycle in 0..limit {
-        match lowest_at(alloc, chip, signs, probe, query, cycle, runs, tries)? {
+        match lowest_at(alloc, chip, finder, query, cycle, runs, tries)? {
             Sought::NoMoment => {}
             Sought::Found(found) => return Ok(Sought::Found(found)),
-            Sought::Cut => return Ok(Sought::Cut),
+            Sought::Cut(moment) => return Ok(Sought::Cut(moment)),
+            Sought::Unsaid(moment) => return Ok(Sought::Unsaid(moment)),
         }
     }
     Ok(Sought::NoMoment)
@@ -211,34 +206,26 @@ fn first_before(
 fn first_sooner(
     alloc: Global,
     chip: &mut Chip<'_>,
-    signs: &mut Signs<'_>,
-    probe: &mut Probe<'_>,
+    finder: &mut Finder<'_, '_>,
     query: &Query<'_>,
     moment: Moment,
     tries: &mut u64,
 ) -> Result<Sought, NoMemory>
     requires few { moment.cycle ≤ MAX_CYCLES }
     requires from_one { 1 ≤ moment.run }
-    requires signs { signs.old ≡ chip.old.recording }
-    requires asking { IsAsking chip.old.recording probe.old query.now.present.now query.now.stored.now (option_map (λ bits. bits.now) query.now.older) query.now.b }
+    requires aimed { finder.old ≡ record { recording = chip.old.recording; present = query.now.present.now; stored = query.now.stored.now } }
+    requires asking { IsAsking chip.old.recording query.now.present.now query.now.stored.now (option_map (λ bits. bits.now) query.now.older) query.now.b }
     ensures sought { IfOk result (SoughtSooner chip.old.recording query.now.present.now query.now.stored.now (option_map (λ bits. bits.now) query.now.older) moment) }
+    ensures tried { IfOk result (IsCutAt chip.old.recording tries.old) }
     ensures chip { chip.new ≡ chip.old }
-    ensures signs { signs.new ≡ signs.old }
-    ensures probe { probe.new ≡ probe.old }
+    ensures finder { finder.new ≡ finder.old }
 {
-    match first_before(alloc, chip, signs, probe, query, moment.cycle, tries)? {
-        Sought::NoMoment => lowest_at(
-            alloc,
-            chip,
-            signs,
-            probe,
-            query,
-            moment.cycle,
-            moment.run - 1,
-            tries,
-        ),
+    let (run, cycle) = (moment.run, moment.cycle);
+    match first_before(alloc, chip, finder, query, cycle, tries)? {
+        Sought::NoMoment => lowest_at(alloc, chip, finder, query, cycle, run - 1, tries),
         Sought::Found(found) => Ok(Sought::Found(found)),
-        Sought::Cut => Ok(Sought::Cut),
+        Sought::Cut(moment) => Ok(Sought::Cut(moment)),
+        Sought::Unsaid(moment) => Ok(Sought::Unsaid(moment)),
     }
 }
 
@@ -246,44 +233,64 @@ fn first_sooner(
 fn first_of_all(
     alloc: Global,
     chip: &mut Chip<'_>,
-    signs: &mut Signs<'_>,
-    probe: &mut Probe<'_>,
+    finder: &mut Finder<'_, '_>,
     query: &Query<'_>,
     tries: &mut u64,
 ) -> Result<Sought, NoMemory>
-    requires signs { signs.old ≡ chip.old.recording }
-    requires asking { IsAsking chip.old.recording probe.old query.now.present.now query.now.stored.now (option_map (λ bits. bits.now) query.now.older) query.now.b }
+    requires aimed { finder.old ≡ record { recording = chip.old.recording; present = query.now.present.now; stored = query.now.stored.now } }
+    requires asking { IsAsking chip.old.recording query.now.present.now query.now.stored.now (option_map (λ bits. bits.now) query.now.older) query.now.b }
     ensures sought { IfOk result (SoughtOfAll chip.old.recording query.now.present.now query.now.stored.now (option_map (λ bits. bits.now) query.now.older)) }
+    ensures tried { IfOk result (IsCutAt chip.old.recording tries.old) }
     ensures chip { chip.new ≡ chip.old }
-    ensures signs { signs.new ≡ signs.old }
-    ensures probe { probe.new ≡ probe.old }
+    ensures finder { finder.new ≡ finder.old }
 {
-    let limit = signs.longest() + 1;
-    let sought = first_before(alloc, chip, signs, probe, query, limit, tries)?;
+    let limit = finder.longest() + 1;
+    let sought = first_before(alloc, chip, finder, query, limit, tries)?;
     Ok(sought)
 }
 
-/// The first moment in a predecessor: of those before a moment, if one is given, or of all. `tries` goes down by each state
-/// that is asked about, and at 0 the search is cut.
-pub fn first_recorded(
+/// The first moment in a predecessor, of those before a moment, if one is given, or of all, with so many tries.
+fn first_within(
     alloc: Global,
     chip: &mut Chip<'_>,
-    signs: &mut Signs<'_>,
-    probe: &mut Probe<'_>,
+    finder: &mut Finder<'_, '_>,
     query: &Query<'_>,
     before: Option<Moment>,
-    tries: &mut u64,
+    most: u64,
 ) -> Result<Sought, NoMemory>
     requires before { IfSome before (λ moment. (1 ≤ moment.run) × (moment.cycle ≤ MAX_CYCLES)) }
-    requires signs { signs.old ≡ chip.old.recording }
-    requires asking { IsAsking chip.old.recording probe.old query.now.present.now query.now.stored.now (option_map (λ bits. bits.now) query.now.older) query.now.b }
+    requires aimed { finder.old ≡ record { recording = chip.old.recording; present = query.now.present.now; stored = query.now.stored.now } }
+    requires asking { IsAsking chip.old.recording query.now.present.now query.now.stored.now (option_map (λ bits. bits.now) query.now.older) query.now.b }
     ensures sought { IfOk result (SoughtWithin chip.old.recording query.now.present.now query.now.stored.now (option_map (λ bits. bits.now) query.now.older) before) }
+    ensures tried { IfOk result (IsCutAt chip.old.recording most) }
     ensures chip { chip.new ≡ chip.old }
-    ensures signs { signs.new ≡ signs.old }
-    ensures probe { probe.new ≡ probe.old }
+    ensures finder { finder.new ≡ finder.old }
 {
+    let mut tries = most;
     match before {
-        Some(moment) => first_sooner(alloc, chip, signs, probe, query, moment, tries),
-        None => first_of_all(alloc, chip, signs, probe, query, tries),
+        Some(moment) => first_sooner(alloc, chip, finder, query, moment, &mut tries),
+        None => first_of_all(alloc, chip, finder, query, &mut tries),
     }
+}
+
+/// The first moment in a predecessor: of those before a moment, if one is given, or of all. The search is cut where it has asked
+/// about `MAX_ASKS` states, so that as many moments are before the one that it stands at.
+pub fn first_recorded<'a>(
+    alloc: Global,
+    chip: &mut Chip<'a>,
+    finder: &mut Finder<'a, '_>,
+    query: &Query<'_>,
+    before: Option<Moment>,
+) -> Result<Sought, NoMemory>
+    requires before { IfSome before (λ moment. (1 ≤ moment.run) × (moment.cycle ≤ MAX_CYCLES)) }
+    requires recording { finder.old.recording ≡ chip.old.recording }
+    requires asking { IsAsking chip.old.recording query.now.present.now query.now.stored.now (option_map (λ bits. bits.now) query.now.older) query.now.b }
+    ensures sought { IfOk result (SoughtWithin chip.old.recording query.now.present.now query.now.stored.now (option_map (λ bits. bits.now) query.now.older) before) }
+    ensures cut { IfOk result (IsCutAt chip.old.recording MAX_ASKS) }
+    ensures chip { chip.new ≡ chip.old }
+    ensures finder { finder.new.recording ≡ finder.old.recording }
+{
+    finder.stand_at(query.present, query.stored)?;
+    let sought = first_within(alloc, chip, finder, query, before, MAX_ASKS)?;
+    Ok(sought)
 }

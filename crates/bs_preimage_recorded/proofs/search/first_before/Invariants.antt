@@ -1,4 +1,4 @@
-use Rattle.std.proofs.Common.{◌≡◌}
+use Rattle.std.proofs.Common.{◌≡◌, ◌≤◌, ◌+◌, ◌*◌, length}
 use Rattle.std.specs.Prelude.{option_map}
 use Rattle.bs_chip.specs.Lockstep.{NoneBefore}
 use Rattle.bs_preimage_recorded.specs.Search.{asked_in}
@@ -7,8 +7,8 @@ use Rattle.bs_preimage_recorded.proofs.search.first_before.Given as goal
 abbrev pub invariant-cycles : goal.invariant-cycles
 invariant-cycles l = record {
   chip : l.chip ≡ l.fn.chip;
-  signs : l.signs ≡ l.fn.signs;
-  probe : l.probe ≡ l.fn.probe;
+  finder : l.finder ≡ l.fn.finder;
+  tried : l.fn.tries ≤ l.tries + l.cycle * length l.fn.chip.recording.runs;
   none : NoneBefore l.fn.chip.recording.circuit l.fn.chip.recording.runs
       (asked_in l.fn.chip.recording l.query.present.now l.query.stored.now (option_map (λ bits. bits.now) l.query.older)) l.cycle;
 }

@@ -1,7 +1,7 @@
 use Rattle.std.proofs.Common.{ℕ, Option, length, subst}
 use Rattle.std.specs.Prelude.{MatchOption, option_map}
-use Rattle.bs_scan.specs.Crash.{Recording}
 use Rattle.bs_chip.specs.Signs.{NoneAlike, IsNextAlike}
+use Rattle.bs_preimage_recorded.specs.Finder.{Seeker}
 use Rattle.bs_preimage_recorded.proofs.SearchLemmas.{none_behind}
 use Rattle.bs_preimage_recorded.proofs.search.next_turn.Goals as goal
 
@@ -9,7 +9,8 @@ pub returns-in-None-clause-turn : goal.returns-in-None-clause-turn
 returns-in-None-clause-turn c =
     none_behind c.args.chip.now.recording c.args.query.now.present.now c.args.query.now.stored.now (option_map (λ bits. bits.now) c.args.query.now.older)
     c.args.span.cycle c.args.span.from c.args.span.below
-    (subst (λ (s : Recording). NoneAlike s c.args.query.now.stored.now c.args.span.cycle c.args.span.from (length s.runs)) c.requires.signs
+    (subst (λ (f : Seeker). NoneAlike f.recording f.stored c.args.span.cycle c.args.span.from (length f.recording.runs)) c.requires.aimed
     (subst (λ (o : Option ℕ). MatchOption o
-    (NoneAlike c.args.signs.now c.args.query.now.stored.now c.args.span.cycle c.args.span.from (length c.args.signs.now.runs))
-    (IsNextAlike c.args.signs.now c.args.query.now.stored.now c.args.span.cycle c.args.span.from)) c.in-None.is c.in_ok-next_alike.ensures.alike))
+    (NoneAlike c.args.finder.now.recording c.args.finder.now.stored c.args.span.cycle c.args.span.from (length c.args.finder.now.recording.runs))
+    (IsNextAlike c.args.finder.now.recording c.args.finder.now.stored c.args.span.cycle c.args.span.from)) c.in-None.is
+    c.in_ok-next_alike.ensures.alike))
