@@ -54,7 +54,7 @@ pub(crate) fn solver_of(alloc: Global, encoding: &Encoding) -> Result<Solver, No
 }
 
 /// Drops an encoding.
-fn let_go(_encoding: Encoding) {}
+pub(crate) fn let_go(_encoding: Encoding) {}
 
 /// What lists candidates. Contracts see its netlist's circuit, what the signature is taken of, what its log is about, the
 /// log's lines, the newest first, how many lists were asked for, and whether memory ran out.
