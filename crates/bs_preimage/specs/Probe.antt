@@ -10,9 +10,7 @@ use Rattle.bs_scan.specs.Moments.{is_listed}
 use Rattle.bs_scan.specs.Present.{Present}
 use Rattle.bs_scan.specs.Signature.{predecessors}
 use Rattle.bs_encode.specs.Encoded.{Encoded}
-use Rattle.bs_encode.specs.Depth.{encoding_by}
 use Rattle.bs_encode.specs.Assuming.{signed, assumptions_for, asking, AreWide}
-use Rattle.bs_report.specs.declared.report.Cand.{Cand}
 use Rattle.bs_solve_recording.specs.declared.stage.Stage.TheVariants.{Idle}
 use Rattle.bs_solve_recording.specs.Book.{Book}
 use Rattle.bs_solve_recording.specs.Solver.{SolverState, HasEnded}

@@ -10,7 +10,7 @@ ghost use Rattle.bs_preimage.specs.Rest.{IsAbout};
 ghost use Rattle.bs_preimage.specs.Turn.{IsReadable, MayTurn, TurnsTo};
 ghost use Rattle.bs_preimage.specs.Probe.{last_of, probed_of, probing_at, probing_for, HasAnswered, HasProbed, IsPaused, IsProbed, IsQuestion, IsReadyEngine, IsReadyFor, MayProbe};
 
-use crate::preimage::{let_go, solver_of};
+use crate::preimage::{let_go, let_solver_go, solver_of};
 use crate::turn::{TurnEnd, take_turn};
 use bs_bits::Bits;
 use bs_clause::{Lit, Lits, NoMemory};
@@ -205,9 +205,6 @@ struct Engine {
     solver: Solver,
     count: u64,
 }
-
-/// Drops a solver.
-fn let_solver_go(_solver: Solver) {}
 
 // One function for every place that drops an engine, so that the proof of each such place stays small.
 impl Drop for Engine {
