@@ -97,6 +97,7 @@ fn fill_asking<S: Source>(
 ) -> Result<ListEnd, NoMemory>
     requires readable { IsReadable encoding.now }
     requires may { MayTurn encoding.now solver.old assumptions.now }
+    requires ready { S.ready source.old }
     requires right { KnowsRight S.knows source.old (λ cand. length cand.state ≡ length encoding.now.states) }
     requires conflicts { 1 ≤ b }
     ensures ok { IfOk result (λ end. IsTold S.knows source.old source.new (λ known. HasFilled encoding.now assumptions.now b found.old.items known solver.old solver.new found.new.items end)) }
@@ -125,6 +126,7 @@ pub(crate) fn find<S: Source>(
     requires may { MayTurn encoding.now solver.old assumptions.now }
     requires begun { solver.old.stage ≡ Begun }
     requires none { found.old.items ≡ [] }
+    requires ready { S.ready source.old }
     requires right { KnowsRight S.knows source.old (λ cand. length cand.state ≡ length encoding.now.states) }
     requires candidates { 1 ≤ k }
     requires conflicts { 1 ≤ b }

@@ -185,6 +185,7 @@ impl<'a> Preimage<'a> {
         requires signature { length stored.now ≡ length self.old.choice.items }
         requires older { AreWide (length self.old.choice.items) (option_map (λ bits. bits.now) older) }
         requires alone { depth_of self.old.choice ≡ 1 → option_map (λ bits. bits.now) older ≡ None }
+        requires ready { S.ready source.old }
         requires right { KnowsRight S.knows source.old (IsRightCand self.old.circuit self.old.choice present.now stored.now (option_map (λ bits. bits.now) older)) }
         requires candidates { 1 ≤ k }
         requires conflicts { 1 ≤ b }

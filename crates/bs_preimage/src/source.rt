@@ -10,6 +10,9 @@ use std::alloc::Global;
 
 /// What may know a predecessor of a present, once its list is about to be cut.
 pub trait Source {
+    /// What it needs to be asked.
+    ghost ready: { Self → Type 0 } = { λ _. Unit {0} };
+
     /// A call leads from the source as it was, with what it knew, to the source as it is.
     ghost knows: { Self → Option Cand → Self → Type 0 };
 
@@ -19,6 +22,7 @@ pub trait Source {
     /// A predecessor that is known, if there is one. It is asked for once at most in a list, where one place is left and the list is
     /// neither finished nor spent.
     fn known(&mut self, alloc: Global) -> Result<Option<Cand>, NoMemory>
+        requires ready { ready self.old }
         ensures known { IfOk result (λ known. knows self.old known self.new) }
         ensures stays { stays self.old self.new };
 }

@@ -62,6 +62,7 @@ fn seek<S: Source>(
     requires state { length asked.now.present.now ≡ length encoding.now.next }
     requires signature { length asked.now.stored.now ≡ length encoding.now.signatures }
     requires older { AreWide (length encoding.now.older_signatures) (option_map (λ bits. bits.now) asked.now.older) }
+    requires ready { S.ready source.old }
     requires right { KnowsRight S.knows source.old (λ cand. length cand.state ≡ length encoding.now.states) }
     requires candidates { 1 ≤ asked.now.k }
     requires conflicts { 1 ≤ asked.now.b }
@@ -103,6 +104,7 @@ pub(crate) fn list_step<S: Source>(
     requires signature { length asked.now.stored.now ≡ length choice.now.items }
     requires older { AreWide (length choice.now.items) (option_map (λ bits. bits.now) asked.now.older) }
     requires alone { depth_of choice.now ≡ 1 → option_map (λ bits. bits.now) asked.now.older ≡ None }
+    requires ready { S.ready source.old }
     requires right { KnowsRight S.knows source.old (IsRightCand (circuit net.now) choice.now asked.now.present.now asked.now.stored.now (option_map (λ bits. bits.now) asked.now.older)) }
     requires candidates { 1 ≤ asked.now.k }
     requires conflicts { 1 ≤ asked.now.b }
