@@ -1,9 +1,9 @@
 -- The walk from a literal that a clause forced down to the trail's first place, as one over a trail on which the literal is denied.
-use Rattle.std.proofs.Common.{◌≡◌, ℕ, ◌+◌, ◌-◌, ◌<◌, ◌≤◌, arith, true, false, Bool, not, cond, List, [], ◌∷◌, ◌++◌, length, take, refl, sym, ap, subst}
-use Rattle.std.proofs.Common.{◌∙◌, inl, inr, ◌⊎◌, Option, Some, None, get_or, set}
+use Rattle.std.proofs.Common.{◌≡◌, ℕ, ◌+◌, ◌-◌, ◌<◌, ◌≤◌, arith, true, false, cond, List, [], ◌∷◌, ◌++◌, length, take, refl, sym, ap, subst}
+use Rattle.std.proofs.Common.{◌∙◌, inl, inr, ◌⊎◌, Option, Some, None}
 use Rattle.std.specs.Prelude.{All, Contains, slice_get, is_some}
 use Rattle.std.proofs.lemmas.Bool.{cases_eq, false≢true}
-use Rattle.std.proofs.lemmas.List.{map-append, length-take-le, take_at, get_or-set_same, get_or-set_other, length-set, length_push}
+use Rattle.std.proofs.lemmas.List.{map-append, length-take-le, get_or-set_same, get_or-set_other, length-set, length_push}
 use Rattle.std.proofs.lemmas.List.Elements.{All-contains, Contains-append_left, Contains-append_right}
 use Rattle.bs_clause.specs.Literal.{Literal, Clause, negation}
 use Rattle.bs_clause.specs.Range.{HasVariables}
@@ -12,17 +12,17 @@ use Rattle.bs_arena.specs.Arena.{Held, held_at, literals_at}
 use Rattle.bs_watch.specs.declared.watch.Level.{Level}
 use Rattle.bs_watch.specs.Trail.{IsFalseOn}
 use Rattle.bs_watch.specs.Places.{Place, literals_of, AreApart, IsLiteralAt}
-use Rattle.bs_watch.proofs.Gets.{same_some, none_is_not_some, get_take, take_get, get_push_cases, get_left, get_within, get_map, Contains_from_get}
+use Rattle.bs_watch.proofs.Gets.{same_some, get_take, take_get, get_push_cases, get_left, get_within}
 use Rattle.bs_watch.proofs.Advancing.{true_in_front}
 use Rattle.bs_watch.proofs.Literals.{negation-negation}
 use Rattle.bs_solve_analysis.specs.Reasons.{live_clauses, IsSpared, IsReasoned, IsConflictAt, AreSpared, AreAllForced}
 use Rattle.bs_solve_analysis.specs.Walk.{IsLearnt}
 use Rattle.bs_solve_analysis.specs.Point.{IsUnforced, IsReasonIn}
-use Rattle.bs_solve_analysis.specs.Marks.{MarkState, is_marked, marked_with, added, IsClear, HasMarked, HasTraded, HasMoved, AreWithin}
+use Rattle.bs_solve_analysis.specs.Marks.{MarkState, is_marked, marked_with, added, IsClear, HasMarked, HasTraded, HasMoved}
 use Rattle.bs_solve_analysis.proofs.Clauses.{nothing_in, contains_first, contains_cases, all_from}
 use Rattle.bs_solve_analysis.proofs.CallerLemmas.{reasoned_take, reasoned_free}
 use Rattle.bs_solve_analysis.proofs.Pointing.{FinalMarks}
-use Rattle.bs_solve_analysis.proofs.Steps.{clause_within, at_first, past_free, traded_free, done}
+use Rattle.bs_solve_analysis.proofs.Steps.{at_first, past_free, traded_free, done}
 
 -- ---- the trail on which the literal is denied
 
@@ -50,8 +50,8 @@ spared_there clauses places = record {
   each = λ v is.
       let same : record { start = 0; looked = 0 } ≡ v = same_some (record { start = 0; looked = 0 }) v is in
       subst (λ (x : Level). All (IsSpared (take x.start places)) (live_clauses clauses)) same
-          (all_from (IsSpared []) (live_clauses clauses) (λ c in_clauses.
-          all_from (λ l. ¬ IsFalseOn (literals_of []) l) c (λ l in_c there. nothing_in (negation l) there)));
+      (all_from (IsSpared []) (live_clauses clauses) (λ c in_clauses.
+      all_from (λ l. ¬ IsFalseOn (literals_of []) l) c (λ l in_c there. nothing_in (negation l) there)));
 }
 
 apart_there : (places : List Place) (at : ℕ) (l : Literal) → IsLiteralAt places at l → AreApart places → AreApart (denied_from places at l)
@@ -83,11 +83,11 @@ false_there : (places : List Place) (at : ℕ) (l m : Literal) → (m ≡ l) ⊎
     IsFalseOn (literals_of (denied_from places at l)) m
 false_there places at l m (inl same) =
     subst (λ x. IsFalseOn (literals_of (denied_from places at l)) x) (sym same)
-        (subst (λ ls. Contains ls (negation l)) (sym (map-append (λ (p : Place). p.literal) (take at places) (denial_of l ∷ [])))
-        (Contains-append_right (literals_of (take at places)) (negation l ∷ []) (negation l) (contains_first (negation l) [])))
+    (subst (λ ls. Contains ls (negation l)) (sym (map-append (λ (p : Place). p.literal) (take at places) (denial_of l ∷ [])))
+    (Contains-append_right (literals_of (take at places)) (negation l ∷ []) (negation l) (contains_first (negation l) [])))
 false_there places at l m (inr before) =
     subst (λ ls. Contains ls (negation m)) (sym (map-append (λ (p : Place). p.literal) (take at places) (denial_of l ∷ [])))
-        (Contains-append_left (literals_of (take at places)) (negation l ∷ []) (negation m) before)
+    (Contains-append_left (literals_of (take at places)) (negation l ∷ []) (negation m) before)
 
 -- ---- the reason of the literal
 

@@ -121,7 +121,7 @@ axioms_found p h (id ∷ ids) right named_all =
     let (rest, same) = axioms_found p h ids right (All-tail (λ n. is_some (entry_of (axioms_from 1 p.clauses) n) ≡ true) id ids named_all) in (
       All-cons (λ n. is_some (entry_of (live p h) n) ≡ true) id ids (ap is_some here) rest,
       ap (λ o. cons_option (option_map (λ (x : Entry). x.literals) o) (clauses_of (live p h) ids)) (here ∙ sym found) ∙
-      ap (λ cs. cons_option (option_map (λ (x : Entry). x.literals) (entry_of (axioms_from 1 p.clauses) id)) cs) same,
+          ap (λ cs. cons_option (option_map (λ (x : Entry). x.literals) (entry_of (axioms_from 1 p.clauses) id)) cs) same,
     )
 
 -- a lemma that follows from the clauses that a log is about is right in each right log

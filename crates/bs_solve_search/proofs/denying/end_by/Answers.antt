@@ -1,4 +1,4 @@
-use Rattle.std.proofs.Common.{◌≡◌, ◌∙◌, length, sym, subst, arith, ap, inl}
+use Rattle.std.proofs.Common.{◌∙◌, length, sym, subst, arith, ap, inl}
 use Rattle.bs_clause.specs.Range.{HasVariables}
 use Rattle.bs_log.specs.Refusal.{has_distinct_variables}
 use Rattle.bs_log.specs.declared.origin.Origin.TheVariants.{Learnt as FromConflict}
