@@ -1,20 +1,23 @@
 -- What no delete line takes away: the clauses that the log is about, and the units of retired guards.
 use Rattle.std.proofs.Common.{◌≡◌, ℕ, zero, suc, ◌+◌, ◌<◌, ◌≤◌, arith, Bool, true, false, not, ◌||◌, List, [], ◌∷◌, ◌++◌, map, refl, sym, ap, subst, ◌∙◌}
 use Rattle.std.proofs.Common.{inl, inr, ◌⊎◌, Option, Some, None, eqb}
-use Rattle.std.specs.Prelude.{Contains}
-use Rattle.std.specs.List.{list_any, list_all}
+use Rattle.std.specs.Prelude.{All, Contains, is_some, option_map, IsTrue}
+use Rattle.std.specs.List.{list_any, list_all, cons_option}
 use Rattle.std.proofs.lemmas.Bool.{cases_Bool, cases_lt, eqb-true, and_parts, false≢true, false_from_ne_true}
-use Rattle.std.proofs.lemmas.List.Elements.{Contains-append_cases, Contains-append_left, Contains-append_right}
+use Rattle.std.proofs.lemmas.List.Elements.{Contains-append_cases, Contains-append_left, Contains-append_right, All-contains, All-nil, All-cons, All-tail}
 use Rattle.bs_clause.specs.Literal.{Clause, negation}
 use Rattle.bs_log.specs.declared.line.Line.TheVariants.{Solve, Lemma, Block, Finish, Retire, Delete}
 use Rattle.bs_log.specs.declared.origin.Origin.TheVariants.{Axiom, Learnt, Blocked, Retired}
 use Rattle.bs_log.specs.History.{Problem, History, Entry, axioms_from, added, is_deleted, live, last_id, state_of, phase_of, step_of, guard_of}
-use Rattle.bs_log.specs.Refusal.{NoneRefused, entry_of, passes, is_lemma_or_block, is_between_steps}
+use Rattle.bs_log.specs.Refusal.{NoneRefused, entry_of, clauses_of, passes, is_lemma_or_block, is_between_steps}
+use Rattle.bs_log.specs.Propagation.{hints_are_unit, last_is_false}
+use Rattle.bs_log.specs.Lean.{IsResolventOf}
 use Rattle.bs_log.proofs.Tests.{right_from_none}
 use Rattle.bs_log.proofs.Histories.{deleted_ids, next_given}
-use Rattle.bs_solve_reduction.proofs.Deletions.{same_entry}
+use Rattle.bs_solve_reduction.proofs.Deletions.{same_entry, named}
+use Rattle.bs_solve_recording.specs.Walk.{IsLoggedLearnt}
 use Rattle.bs_solve_analysis.proofs.Clauses.{nothing_in, contains_first, cons_contains, contains_cases, filter_cases, filter_from, map_contains}
-use Rattle.bs_solve_recording.proofs.Entries.{found_stands, found_id, order_of, added_given, passing_entry}
+use Rattle.bs_solve_recording.proofs.Entries.{found_stands, found_id, some_entry, order_of, added_given, passing_entry, live_in_order}
 
 -- the clause of an entry that is no lemma and no block has not been taken away by these ids
 not_named : (p : Problem) (h : History) (e : Entry) (ids : List ℕ) → NoneRefused p h → Contains (added p h) e → is_lemma_or_block e ≡ false →
@@ -89,6 +92,50 @@ axiom_added p (Delete ids ∷ h) e there = axiom_added p h e there
 axiom_added p (Lemma id lits hints ∷ h) e there = Contains-append_left (added p h) _ e (axiom_added p h e there)
 axiom_added p (Block id lits ∷ h) e there = Contains-append_left (added p h) _ e (axiom_added p h e there)
 axiom_added p (Retire id ∷ h) e there = Contains-append_left (added p h) _ e (axiom_added p h e there)
+
+-- none of them is a lemma or a block
+axiom_is_plain : (n : ℕ) (cs : List Clause) (e : Entry) → Contains (axioms_from n cs) e → is_lemma_or_block e ≡ false
+axiom_is_plain n [] e there = absurd (nothing_in e there)
+axiom_is_plain n (x ∷ cs) e there = elim (contains_cases _ (axioms_from (n + 1) cs) e there) [
+  | inl same ↦ ap is_lemma_or_block (sym same)
+  | inr later ↦ axiom_is_plain (n + 1) cs e later
+]
+
+-- an entry of theirs is found in each right log under its id
+axiom_found : (p : Problem) (h : History) (id : ℕ) (e : Entry) → NoneRefused p h → entry_of (axioms_from 1 p.clauses) id ≡ Some e →
+    entry_of (live p h) id ≡ Some e
+axiom_found p h id e right found =
+    let in_axioms = found_stands (axioms_from 1 p.clauses) id e found in
+    let there = axiom_added p h e in_axioms in
+    let stays = kept_entry p h e right there (axiom_is_plain 1 p.clauses e in_axioms) in
+    subst (λ n. entry_of (live p h) n ≡ Some e) (found_id (axioms_from 1 p.clauses) id e found)
+    (named (live p h) e (live_in_order p h right) (filter_from (λ (x : Entry). not (is_deleted h x.id)) (added p h) e there (ap not stays)))
+
+axioms_found : (p : Problem) (h : History) (ids : List ℕ) → NoneRefused p h → All (λ id. is_some (entry_of (axioms_from 1 p.clauses) id) ≡ true) ids →
+    All (λ id. is_some (entry_of (live p h) id) ≡ true) ids × (clauses_of (live p h) ids ≡ clauses_of (axioms_from 1 p.clauses) ids)
+axioms_found p h [] right named_all = (All-nil (λ id. is_some (entry_of (live p h) id) ≡ true), refl)
+axioms_found p h (id ∷ ids) right named_all =
+    let (e, found) = some_entry (entry_of (axioms_from 1 p.clauses) id)
+    (All-contains (λ n. is_some (entry_of (axioms_from 1 p.clauses) n) ≡ true) (id ∷ ids) id named_all (contains_first id ids)) in
+    let here = axiom_found p h id e right found in
+    let (rest, same) = axioms_found p h ids right (All-tail (λ n. is_some (entry_of (axioms_from 1 p.clauses) n) ≡ true) id ids named_all) in (
+      All-cons (λ n. is_some (entry_of (live p h) n) ≡ true) id ids (ap is_some here) rest,
+      ap (λ o. cons_option (option_map (λ (x : Entry). x.literals) o) (clauses_of (live p h) ids)) (here ∙ sym found) ∙
+          ap (λ cs. cons_option (option_map (λ (x : Entry). x.literals) (entry_of (axioms_from 1 p.clauses) id)) cs) same,
+    )
+
+-- a lemma that follows from the clauses that a log is about is right in each right log
+pub learnt_of_axioms : (p : Problem) (h : History) (lemma : Clause) (hints : List ℕ) → NoneRefused p h →
+    IsLoggedLearnt (axioms_from 1 p.clauses) lemma hints → IsLoggedLearnt (live p h) lemma hints
+learnt_of_axioms p h lemma hints right l =
+    let (named_all, same) = axioms_found p h hints right l.named in
+    record {
+      named = named_all;
+      distinct = l.distinct;
+      unit = subst (λ cs. IsTrue (hints_are_unit lemma cs)) (sym same) l.unit;
+      last = subst (λ cs. IsTrue (last_is_false lemma cs)) (sym same) l.last;
+      resolvent = subst (IsResolventOf lemma) (sym same) l.resolvent;
+    }
 
 pub axioms_stand_still : (p : Problem) (h : History) (c : Clause) → NoneRefused p h → Contains p.clauses c →
     Contains (map (λ (e : Entry). e.literals) (live p h)) c

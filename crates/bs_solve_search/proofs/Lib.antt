@@ -12,6 +12,7 @@ pub mod Teachings
 pub mod Turns
 pub mod Beginnings
 pub mod Refutings
+pub mod Denyings
 pub mod Pausings
 pub mod Blockings
 pub mod Retirings

@@ -3,7 +3,7 @@
 //! Modules: `stock` (clauses by rows, the short ones apart), `laying` (the first level), `retiring`
 //! (a retired guard's unit), `turning` (decide, propagate, learn, refute: `search`), `lesson` and
 //! `teaching` (a learnt clause, and how far the trail goes back), `blocking` (a block:
-//! `add_between`), `pausing`. Used above: `search` ends as bs_solve_recording's `Ends` says, with
+//! `add_between`), `denying` (a lemma that is known ends the step), `pausing`. Used above: `search` ends as bs_solve_recording's `Ends` says, with
 //! the clauses that stand in the arena and watched (`IsAtRest`, or `IsPaused` where values were
 //! found). What holds between two turns: `specs/Running`; between two solves: `specs/Pausing`; what
 //! stands for good: `specs/Ground`.
@@ -11,6 +11,7 @@
 
 mod activity;
 mod blocking;
+mod denying;
 mod laying;
 mod lesson;
 mod pausing;
@@ -22,11 +23,12 @@ mod turning;
 mod value;
 
 pub use blocking::{Retreat, add_between};
-pub use laying::begin_level;
+pub use denying::end_by;
+pub use laying::{begin_level, lay};
 pub use lesson::take_lesson;
 pub use pausing::rest;
 pub use retiring::retire;
 pub use stock::{Stock, add_clause, join, note};
-pub use teaching::learn;
-pub use turning::search;
+pub use teaching::{ids_of, learn};
+pub use turning::{propagate, search};
 pub use value::values;

@@ -55,8 +55,8 @@ fn decide(watch: &mut Watch) -> bool
     }
 }
 
-// Assigns what is forced, until no clause is unit, or one is false.
-fn propagate(watch: &mut Watch, arena: &mut Arena) -> Result<Outcome, NoMemory>
+/// Assigns what is forced, until no clause is unit, or one is false.
+pub fn propagate(watch: &mut Watch, arena: &mut Arena) -> Result<Outcome, NoMemory>
     requires { Serves watch.old arena.old.clauses }
     ensures { IfOk result (HasPropagated watch.old watch.new arena.old.clauses arena.new.clauses) }
 {
