@@ -48,7 +48,7 @@ other_first n p ps e = rw e refl
 pub outside_design : (p : Piece) (ps : List Piece) → is_design p ≡ true → others_of (p ∷ ps) ≡ others_of ps
 outside_design p ps e = ap (λ b. cond b [] (p.attributes ++ p.body) ++ others_of ps) e
 
-outside_other : (p : Piece) (ps : List Piece) → is_design p ≡ false → others_of (p ∷ ps) ≡ (p.attributes ++ p.body) ++ others_of ps
+pub outside_other : (p : Piece) (ps : List Piece) → is_design p ≡ false → others_of (p ∷ ps) ≡ (p.attributes ++ p.body) ++ others_of ps
 outside_other p ps e = ap (λ b. cond b [] (p.attributes ++ p.body) ++ others_of ps) e
 
 pub deal_start : (ts : Rest) → IsDealing ts [] [] 0

@@ -79,14 +79,14 @@ only_others ms [] k least place h r = refl
 only_others ms (p ∷ ps) k least place h r =
     others_by (is_design p) ms ps p k least place refl h r (λ k least h r. only_others ms ps k least place h r)
 
-take_past : (xs ys : Rest) (n : ℕ) → length xs ≤ n → take n (xs ++ ys) ≡ xs ++ take (n - length xs) ys
+pub take_past : (xs ys : Rest) (n : ℕ) → length xs ≤ n → take n (xs ++ ys) ≡ xs ++ take (n - length xs) ys
 take_past [] ys n h = let same : n ≡ n - 0 = omega arith in ap (λ k. take k ys) same
 take_past (x ∷ xs) ys zero h = absurd (omega arith)
 take_past (x ∷ xs) ys (suc n) h =
     let same : n - length xs ≡ suc n - suc (length xs) = omega arith in
     ap (λ (zs : Rest). x ∷ zs) (take_past xs ys n (omega arith)) ∙ ap (λ k. x ∷ (xs ++ take k ys)) same
 
-drop_past : (xs ys : Rest) (n : ℕ) → length xs ≤ n → drop n (xs ++ ys) ≡ drop (n - length xs) ys
+pub drop_past : (xs ys : Rest) (n : ℕ) → length xs ≤ n → drop n (xs ++ ys) ≡ drop (n - length xs) ys
 drop_past [] ys n h = let same : n ≡ n - 0 = omega arith in ap (λ k. drop k ys) same
 drop_past (x ∷ xs) ys zero h = absurd (omega arith)
 drop_past (x ∷ xs) ys (suc n) h =

@@ -8,3 +8,7 @@ pub mod NameLemmas
 pub mod LawLemmas
 pub mod ReadLemmas
 pub mod CountLemmas
+pub mod ShutLemmas
+pub mod GoesLemmas
+pub mod AloneLemmas
+pub mod TidyLemmas

@@ -4,6 +4,8 @@ pub mod Reading
 pub mod Dealing
 -- What the own text of each module says, and its instances.
 pub mod Owns
+-- When a module's own text says alone what it says with all that stands outside the modules.
+pub mod Alone
 pub mod Items
 pub mod Names
 -- Lexemes put together from parts of a text.

@@ -17,7 +17,7 @@ use bs_verilog_syntax::{VerilogFault, is_at, sort_of};
 use std::alloc::Global;
 
 /// Whether an attribute is open behind a lexeme; the flag says that one is open before it.
-fn stays_inside(inside: bool, sort: Sort) -> bool
+pub fn stays_inside(inside: bool, sort: Sort) -> bool
     ensures { result ≡ spec.stays_inside inside sort }
 {
     match sort {

@@ -2,11 +2,13 @@
 //!
 //! Modules: `dealing` (where the modules stand among the lexemes, and what stands outside), `names`
 //! (none twice), `items` (instance statements, and what an own text keeps), `copying` and `owns`
-//! (own texts, and what they say), `reading` (`read_modules`). Used above: `read_modules` answers
+//! (own texts, and what they say), `alone` (what stands outside need not be read with each),
+//! `reading` (`read_modules`). Used above: `read_modules` answers
 //! exactly what `specs/Reading` of bs_flat_meaning says. That what it reads is whole is a law of
 //! bs_flat_meaning.
 #![tactic(auto)]
 
+mod alone;
 mod copying;
 mod dealing;
 mod ids;

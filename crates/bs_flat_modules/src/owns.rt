@@ -6,8 +6,10 @@ ghost use Rattle.bs_verilog_syntax.specs.declared.fault.VerilogFault.TheVariants
 ghost use Rattle.bs_flat_meaning.specs.declared.fault.FlatFault.TheVariants.{OwnNets, NoMemory as no_memory};
 ghost use Rattle.bs_flat_meaning.specs.Reading.{as_verilog};
 ghost use Rattle.bs_flat_modules.specs.Owns as spec;
+ghost use Rattle.bs_flat_modules.specs.Alone as alone_spec;
 ghost use Rattle.bs_flat_modules.specs.Reading.{fault_of};
 
+use crate::alone::is_shut;
 use crate::copying::{copy, part};
 use crate::dealing::ModuleSpan;
 use crate::items::{item_size, own_items, written_items};
@@ -72,8 +74,56 @@ fn said(alloc: Global, table: &Table, own: &[Lexeme]) -> Result<Own, VerilogFaul
     Ok(Own { says, parts })
 }
 
-/// What the own text of the module at a place says.
-fn own_said(
+/// The own text of the module at a place, without what stands outside the modules.
+fn alone_text(
+    alloc: Global,
+    ts: &[Lexeme],
+    marks: &Marks,
+    place: ModuleSpan,
+) -> Result<List<Lexeme>, NoMemory>
+    ensures { IfOk result (λ own. own ≡ alone_spec.alone (marked marks.now) ts.now place) }
+{
+    let mut own = List::new(alloc);
+    copy(&mut own, part(ts, place.from, place.body))?;
+    own_body(&mut own, marks, part(ts, place.body, place.stop))?;
+    Ok(own)
+}
+
+/// What an own text says that is shut; nothing where it is not, or has a fault.
+fn said_shut(alloc: Global, table: &Table, own: &[Lexeme]) -> Result<Option<Own>, NoMemory>
+    ensures { IfOk result (λ o. alone_spec.IsSaidOf table.now own.now o) }
+{
+    if !is_shut(own) {
+        return Ok(None);
+    }
+    match said(alloc, table, own) {
+        Ok(own) => Ok(Some(own)),
+        Err(VerilogFault::NoMemory) => Err(NoMemory),
+        Err(_) => Ok(None),
+    }
+}
+
+/// What the module at a place says alone, if what stands outside the modules need not be read with it.
+fn said_alone(
+    alloc: Global,
+    table: &Table,
+    ts: &[Lexeme],
+    marks: &Marks,
+    place: ModuleSpan,
+    tidy: bool,
+) -> Result<Option<Own>, NoMemory>
+    ensures { IfOk result (λ o. alone_spec.IsSaidWhere tidy table.now (alone_spec.alone (marked marks.now) ts.now place) o) }
+{
+    if !tidy {
+        return Ok(None);
+    }
+    let own = alone_text(alloc, ts, marks, place)?;
+    let said = said_shut(alloc, table, own.slice())?;
+    Ok(said)
+}
+
+/// What the own text of the module at a place says, read with what stands outside the modules.
+fn said_among(
     alloc: Global,
     table: &Table,
     ts: &[Lexeme],
@@ -86,6 +136,25 @@ fn own_said(
     let own = own_text(alloc, ts, others, marks, place)?;
     let said = said(alloc, table, own.slice())?;
     Ok(said)
+}
+
+/// What the own text of the module at a place says: read alone where that is the same, and else with what stands outside.
+fn own_said(
+    alloc: Global,
+    table: &Table,
+    ts: &[Lexeme],
+    others: &[Lexeme],
+    marks: &Marks,
+    place: ModuleSpan,
+    tidy: bool,
+) -> Result<Own, VerilogFault>
+    requires { alone_spec.IsAlikeWhere tidy others.now place }
+    ensures { Answers want spec.module_and_parts result (spec.said table.now (spec.own_text (marked marks.now) others.now ts.now place)) }
+{
+    match said_alone(alloc, table, ts, marks, place, tidy)? {
+        Some(own) => Ok(own),
+        None => said_among(alloc, table, ts, others, marks, place),
+    }
 }
 
 /// A refusal of a module's own text, or of an instance statement.
@@ -106,10 +175,12 @@ fn read_own(
     others: &[Lexeme],
     marks: &Marks,
     place: ModuleSpan,
+    tidy: bool,
 ) -> Result<Own, FlatFault>
+    requires { alone_spec.IsAlikeWhere tidy others.now place }
     ensures { Answers no_memory spec.module_and_parts result (as_verilog (spec.said table.now (spec.own_text (marked marks.now) others.now ts.now place))) }
 {
-    match own_said(alloc, table, ts, others, marks, place) {
+    match own_said(alloc, table, ts, others, marks, place, tidy) {
         Ok(own) => Ok(own),
         Err(fault) => Err(fault_of(fault)),
     }
@@ -138,7 +209,8 @@ fn push_own(owns: &mut List<Own>, own: Own) -> Result<(), FlatFault>
     }
 }
 
-/// What the own text of each module says, or the first fault, or the first module by which their nets pass `MAX_OWN_NETS`.
+/// What the own text of each module says, or the first fault, or the first module by which their nets pass `MAX_OWN_NETS`. The
+/// flag says that a module says alone what it says with what stands outside the modules.
 pub fn read_owns(
     alloc: Global,
     table: &Table,
@@ -146,14 +218,16 @@ pub fn read_owns(
     others: &[Lexeme],
     marks: &Marks,
     modules: &[ModuleSpan],
+    tidy: bool,
 ) -> Result<List<Own>, FlatFault>
+    requires { alone_spec.AlikeWhere tidy others.now modules.now }
     ensures { Answers no_memory (λ os. map spec.module_and_parts os) result (spec.owns table.now (marked marks.now) others.now ts.now modules.now) }
 {
     let mut owns = List::new(alloc);
     let mut room = MAX_OWN_NETS;
     'modules: for place in modules {
         let at = place_of(part(ts, place.body, place.stop));
-        let read = read_own(alloc, table, ts, others, marks, *place)?;
+        let read = read_own(alloc, table, ts, others, marks, *place, tidy)?;
         let own = fitted(read, room, at)?;
         room -= own.parts.names.len();
         push_own(&mut owns, own)?;

@@ -6,10 +6,12 @@ ghost use Rattle.bs_verilog_scope.specs.Checking.{Checks, marked};
 ghost use Rattle.bs_verilog_scope.specs.Declaring.{is_in, repeated_fault};
 ghost use Rattle.bs_flat_meaning.specs.declared.fault.FlatFault.TheVariants.{NoMemory as want};
 ghost use Rattle.bs_flat_meaning.specs.Reading as flat;
+ghost use Rattle.bs_flat_modules.specs.Dealing.{IsDealt};
 ghost use Rattle.bs_flat_modules.specs.Names as naming;
 ghost use Rattle.bs_flat_modules.specs.Owns.{all_written, module_and_parts};
 ghost use Rattle.bs_flat_modules.specs.Reading as spec;
 
+use crate::alone::is_tidy;
 use crate::dealing::{Dealt, ModuleSpan, deal};
 use crate::names::{all_apart, are_rising, heads};
 use crate::owns::{Modules, Own, fault_of, read_owns, read_written};
@@ -75,10 +77,15 @@ fn read_all(
     dealt: &Dealt,
     marks: &Marks,
 ) -> Result<Modules, FlatFault>
+    requires { IsDealt ts.now dealt.now }
     ensures { Answers want spec.parts_read result (spec.all_read table.now (marked marks.now) ts.now dealt.now) }
 {
     let modules = dealt.modules.slice();
-    match read_owns(alloc, table, ts, dealt.others.slice(), marks, modules) {
+    let tidy = match is_tidy(ts) {
+        Ok(tidy) => tidy,
+        Err(_) => return Err(FlatFault::NoMemory),
+    };
+    match read_owns(alloc, table, ts, dealt.others.slice(), marks, modules, tidy) {
         Ok(owns) => with_written(alloc, ts, marks, modules, owns),
         Err(fault) => Err(fault),
     }

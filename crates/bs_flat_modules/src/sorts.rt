@@ -24,3 +24,10 @@ pub fn is_cell(sort: Sort) -> bool
 {
     matches!(sort, Sort::Name(Some(_)))
 }
+
+/// Whether a lexeme is the end of the text.
+pub fn is_end(sort: Sort) -> bool
+    ensures { result ≡ modules.is_end sort }
+{
+    matches!(sort, Sort::End)
+}
