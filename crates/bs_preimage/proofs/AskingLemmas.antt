@@ -1,5 +1,5 @@
 -- What a list that asks a source says of what is known.
-use Rattle.std.proofs.Common.{◌≡◌, ◌≢◌, ℕ, List, Bool, inl, inr, Option, Some, None, subst}
+use Rattle.std.proofs.Common.{◌≡◌, ◌≢◌, ℕ, ◌+◌, ◌≤◌, List, Bool, inl, inr, Option, None, subst}
 use Rattle.std.specs.Prelude.{IfSome}
 use Rattle.bs_report.specs.declared.report.Cand.{Cand}
 use Rattle.bs_report.specs.declared.report.ListEnd.{ListEnd}
@@ -11,16 +11,21 @@ use Rattle.bs_preimage.specs.Listed.{HasListed, HasListedAsking}
 
 -- what is made with something right that is known gives something else
 pub asked_then : {S : Type 0} (knows : S → Option Cand → S → Type 0) (source after : S) (Right : Cand → Type 0) (M N : Option Cand → Type 0)
-    (end : ListEnd) → KnowsRight knows source Right → ((known : Option Cand) → IfSome known Right → M known → N known) → HasAsked knows source after M end →
-    HasAsked knows source after N end
-asked_then knows source after Right M N end may f (inl h) = inl (record { same = h.same; sooner = h.sooner; made = f None tt h.made })
-asked_then knows source after Right M N end may f (inr h) =
-    inr (record { known = h.known; answer = h.answer; made = f h.known (may.right h.known after h.answer) h.made })
+    (k n m : ℕ) (end : ListEnd) → n ≡ m → KnowsRight knows source Right → ((known : Option Cand) → IfSome known Right → M known → N known) →
+    HasAsked knows source after M k n end → HasAsked knows source after N k m end
+asked_then knows source after Right M N k n m end as_many may f (inl h) = inl (record { same = h.same; sooner = h.sooner; made = f None tt h.made })
+asked_then knows source after Right M N k n m end as_many may f (inr h) =
+    inr (record {
+      known = h.known;
+      answer = h.answer;
+      late = subst (λ (x : ℕ). k ≤ x + 1) as_many h.late;
+      made = f h.known (may.right h.known after h.answer) h.made;
+    })
 
-pub asked_so : {S : Type 0} (knows : S → Option Cand → S → Type 0) (source after : S) (M N : Option Cand → Type 0) (end : ListEnd) →
-    ((known : Option Cand) → M known → N known) → HasAsked knows source after M end → HasAsked knows source after N end
-asked_so knows source after M N end f (inl h) = inl (record { same = h.same; sooner = h.sooner; made = f None h.made })
-asked_so knows source after M N end f (inr h) = inr (record { known = h.known; answer = h.answer; made = f h.known h.made })
+pub asked_so : {S : Type 0} (knows : S → Option Cand → S → Type 0) (source after : S) (M N : Option Cand → Type 0) (k n : ℕ) (end : ListEnd) →
+    ((known : Option Cand) → M known → N known) → HasAsked knows source after M k n end → HasAsked knows source after N k n end
+asked_so knows source after M N k n end f (inl h) = inl (record { same = h.same; sooner = h.sooner; made = f None h.made })
+asked_so knows source after M N k n end f (inr h) = inr (record { known = h.known; answer = h.answer; late = h.late; made = f h.known h.made })
 
 -- what a source may know is right also in a weaker sense
 pub knows_weaker : {S : Type 0} (knows : S → Option Cand → S → Type 0) (source : S) (Right Weak : Cand → Type 0) →

@@ -35,7 +35,7 @@ use Rattle.bs_report_good.specs.Step.{listed}
 use Rattle.bs_report_good.specs.Valid.{blocks_due}
 use Rattle.bs_solve.specs.Budget.{last_lemmas, HasFewLemmas}
 use Rattle.bs_preimage.specs.declared.turn.TurnEnd.TheVariants.{Listed, Refuted, Spent}
-use Rattle.bs_preimage.specs.Asking.{HasAsked, IsAsked}
+use Rattle.bs_preimage.specs.Asking.{HasAsked, IsTold}
 use Rattle.bs_preimage.specs.Turn.{Extends, Keeps, HasSearched, MayTurn, TurnsTo, HasNext, HasRefutedAll, HasSpent, IsOneOf, block_in, guard_in, steps_after}
 use Rattle.bs_preimage.specs.Finding.{is_inner, HasLogged, IsAgain, IsUnderWay, HasKnown, KeepsLimit, HasEndedSearch, IsSearching, HasComeTo, HasFilled}
 use Rattle.bs_solve_recording.proofs.CallerLemmas.{runs_over}
@@ -556,21 +556,30 @@ filled_search e a known k limit start s s2 found after Conflicts b u left h =
     subst (λ (cs : List Cand). HasEndedSearch e a known k limit start s2 cs Conflicts) (sym h.1)
     (spent_search e a known k limit start s s2 found b u.way u.limited h.0 (omega (arith, left)))
 
+-- none that was found is lost
+filled_count : (e : Encoded) (a : Clause) (limit : ℕ) (found : List Cand) (known : Option Cand) (s s2 : SolverState) (after : List Cand) (end : ListEnd) →
+    HasFilled e a limit found known s s2 after end → length found ≤ length after
+filled_count e a limit found known s s2 after (Finished id) h = let same = ap length h.1 in omega (arith, same)
+filled_count e a limit found known s s2 after Candidates h =
+    let longer = ap length h.pushed ∙ length-append found (h.cand ∷ []) in omega (arith, longer)
+filled_count e a limit found known s s2 after Conflicts h = let same = ap length h.1 in omega (arith, same)
+
 -- ---- the whole search, which asks a source
 
 pub found_unasked : {S : Type 0} (knows : S → Option Cand → S → Type 0) (source : S) (e : Encoded) (a : Clause) (k limit : ℕ) (start s : SolverState)
     (found : List Cand) (end : ListEnd) → HasComeTo e a k limit start s found (Some end) →
-    HasAsked knows source source (λ known. HasEndedSearch e a known k limit start s found end) end
+    HasAsked knows source source (λ known. HasEndedSearch e a known k limit start s found end) k (length found) end
 found_unasked knows source e a k limit start s found end h = inl (record { same = refl; sooner = h.sooner; made = h.search })
 
 pub found_asking : {S : Type 0} (knows : S → Option Cand → S → Type 0) (source after : S) (e : Encoded) (a : Clause) (k limit : ℕ)
     (start s s2 : SolverState) (found found2 : List Cand) (end : ListEnd) → start.stage ≡ Begun → HasComeTo e a k limit start s found None →
-    IsAsked knows source after (λ known. HasFilled e a limit found known s s2 found2 end) →
-    HasAsked knows source after (λ known. HasEndedSearch e a known k limit start s2 found2 end) end
+    IsTold knows source after (λ known. HasFilled e a limit found known s s2 found2 end) →
+    HasAsked knows source after (λ known. HasEndedSearch e a known k limit start s2 found2 end) k (length found2) end
 found_asking knows source after e a k limit start s s2 found found2 end b u h =
     inr (record {
       known = h.known;
       answer = h.answer;
+      late = let left = u.one_left in omega (arith, left, filled_count e a limit found h.known s s2 found2 end h.made);
       made = filled_search e a h.known k limit start s s2 found found2 end b
           (searching_with e a h.known k limit start s found (let left = u.one_left in omega (arith, left)) u.search) u.one_left h.made;
     })

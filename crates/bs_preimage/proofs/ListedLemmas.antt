@@ -1,6 +1,6 @@
 -- A step of the log is a right list.
 use Rattle.std.proofs.Common.{◌≡◌, ◌≢◌, ℕ, ◌+◌, ◌-◌, ◌<◌, ◌≤◌, Bool, true, false, cond, List, [], ◌∷◌, ◌++◌, length, reverse, get_or, refl, ap, subst, sym}
-use Rattle.std.proofs.Common.{◌∙◌, ◌⊎◌, inl, inr, append_assoc, arith, Option, Some, None}
+use Rattle.std.proofs.Common.{◌∙◌, inl, inr, append_assoc, arith, Option, Some, None}
 use mathlib.Core.List.{reverse_aux}
 use Rattle.std.specs.Prelude.{◌^◌, Contains, All, IfSome, ◌==◌, ◌||◌, ◌&&◌, filter_map, slice_get, IsTrue}
 use Rattle.std.specs.Option.{option_to_list}
@@ -8,7 +8,7 @@ use Rattle.std.specs.List.{AllByRecursion as Each}
 use Rattle.std.specs.List.Sorted.{IsPermutation}
 use Rattle.std.proofs.lemmas.Bool.{true≢false, and_from, or_right, eq-eqb}
 use Rattle.std.proofs.lemmas.List.{length-append, reverse-reverse}
-use Rattle.std.proofs.lemmas.List.Elements.{All-weaker, All-map, All-from_recursion, recursion_from_All, Contains-append_left, Contains-push}
+use Rattle.std.proofs.lemmas.List.Elements.{All-weaker, All-map, All-from_recursion, recursion_from_All}
 use Rattle.std.proofs.lemmas.List.Sorted.{IsPermutation-map, IsPermutation-sym, length_permutation, list_any-IsPermutation, All-permutation}
 use Rattle.bs_bits.specs.Bits.{bits_eq}
 use Rattle.bs_clause.specs.Literal.{Literal, Clause, negation, literal_value, Satisfies}
@@ -58,7 +58,6 @@ use Rattle.bs_preimage.specs.Order.{IsInOrder}
 use Rattle.bs_preimage.specs.Step.{HasSought, HasMadeStep, assumptions_at, ending_of}
 use Rattle.bs_solve_analysis.proofs.Clauses.{contains_first}
 use Rattle.bs_solve_recording.proofs.CallerLemmas.{bound_is, axioms_stand_still, guards_stay_retired}
-use Rattle.std.proofs.Math.Nat.{eq-or-lt_of_le}
 use Rattle.bs_preimage.proofs.OrderLemmas.{in_order_ascend}
 use Rattle.bs_preimage.proofs.StepLinesLemmas.{is_in_step, finish_lines, in_step, step_kept, step_lines_are, whole_after, get_last, slice_get_last}
 use Rattle.bs_preimage.proofs.StepLinesLemmas.{blocks_are_due, right_blocks, one_finish, finish_is, end_is}

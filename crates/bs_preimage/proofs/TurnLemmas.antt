@@ -1,10 +1,10 @@
 -- What a turn does.
-use Rattle.std.proofs.Common.{◌≡◌, ◌≢◌, ℕ, ◌+◌, ◌<◌, ◌≤◌, Bool, true, false, not, List, [], ◌∷◌, ◌++◌, map, length, refl, ap, subst, sym, ◌∙◌, ◌⊎◌}
+use Rattle.std.proofs.Common.{◌≡◌, ◌≢◌, ℕ, ◌≤◌, Bool, true, false, not, List, [], ◌∷◌, ◌++◌, map, refl, ap, subst, sym, ◌∙◌, ◌⊎◌}
 use Rattle.std.proofs.Common.{inl, inr, append_assoc, arith, Option, Some, None}
-use Rattle.std.specs.Prelude.{Contains, All, ◌||◌, ◌&&◌, ◌==◌}
+use Rattle.std.specs.Prelude.{Contains, All, ◌||◌}
 use Rattle.std.specs.List.{AllByRecursion as Each, list_any}
 use Rattle.std.specs.Bool.{beq}
-use Rattle.std.proofs.lemmas.Bool.{false≢true, true≢false, eq-eqb}
+use Rattle.std.proofs.lemmas.Bool.{false≢true, true≢false}
 use Rattle.std.proofs.lemmas.List.Elements.{All-contains}
 use Rattle.bs_clause.specs.Literal.{Literal, Clause, negation, literal_value, Satisfies}
 use Rattle.bs_clause.specs.UnitRun.{IsUnitRun}
@@ -32,7 +32,7 @@ use Rattle.bs_solve.specs.Opening.{HasOpened}
 use Rattle.bs_preimage.specs.declared.turn.TurnEnd.{TurnEnd}
 use Rattle.bs_preimage.specs.declared.turn.TurnEnd.TheVariants.{Listed, Refuted, Spent}
 use Rattle.bs_preimage.specs.Turn.{Extends, HasSearched, MayTurn, TurnsTo, HasShown, HasShownCand, HasListedOne, block_in, guard_in, steps_after}
-use Rattle.bs_preimage.specs.Turn.{HasBlockedState, HasBlockedKnown, HasListedKnown, HasTakenKnown, GoesTo}
+use Rattle.bs_preimage.specs.Turn.{HasBlockedState, HasBlockedKnown, HasTakenKnown, GoesTo}
 use Rattle.bs_solve_recording.proofs.CallerLemmas.{begun_history, begun_vars, begun_clauses, open_are_lemmas, solved_keeps}
 
 -- ---- the book as a search begins

@@ -48,8 +48,8 @@ pub record HasListed (old new : PreimageState) (present stored : List Bool) (old
   pub bound : listing.end ≡ Conflicts → (run : List Literal) → HasVariables (encoding_in old).variables run →
       IsUnitRun (encoding_in old).clauses (assumptions_in old present stored older) run → b < 2 ^ ((encoding_in old).variables - length run)
 
--- The same, where a source is asked for what is known, once at most: unless the list ended before its last place was left.
+-- The same, where a source is asked for what is known, once at most, and not before one place is left.
 abbrev pub HasListedAsking : {S : Type 0} → (S → Option Cand → S → Type 0) → S → S → PreimageState → PreimageState → List Bool → List Bool →
     Option (List Bool) → ℕ → ℕ → Listing → Type 0
 HasListedAsking knows source after old new present stored older k b listing =
-    HasAsked knows source after (λ known. HasListed old new present stored older known k b listing) listing.end
+    HasAsked knows source after (λ known. HasListed old new present stored older known k b listing) k (length listing.cands) listing.end

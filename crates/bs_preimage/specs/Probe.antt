@@ -1,5 +1,5 @@
 -- A private search: whether one state is a predecessor.
-use Rattle.std.specs.Prelude.{◌≡◌, ℕ, ◌+◌, false, List, [], ◌∷◌, ◌++◌, length, Bool, Option, Some, None}
+use Rattle.std.specs.Prelude.{◌≡◌, ℕ, ◌+◌, ◌≤◌, false, List, [], ◌∷◌, ◌++◌, length, Bool, Option, Some, None, IfSome}
 use Rattle.std.specs.Option.{option_to_list}
 use Rattle.bs_clause.specs.Literal.{Literal, Clause}
 use Rattle.bs_log.specs.History.{step_of}
@@ -10,12 +10,11 @@ use Rattle.bs_scan.specs.Moments.{is_listed}
 use Rattle.bs_scan.specs.Present.{Present}
 use Rattle.bs_scan.specs.Signature.{predecessors}
 use Rattle.bs_encode.specs.Encoded.{Encoded}
-use Rattle.bs_encode.specs.Depth.{encoding_by}
-use Rattle.bs_encode.specs.Assuming.{signed, assumptions_for, asking}
-use Rattle.bs_report.specs.declared.report.Cand.{Cand}
+use Rattle.bs_encode.specs.Assuming.{signed, assumptions_for, asking, AreWide}
 use Rattle.bs_solve_recording.specs.declared.stage.Stage.TheVariants.{Idle}
 use Rattle.bs_solve_recording.specs.Book.{Book}
 use Rattle.bs_solve_recording.specs.Solver.{SolverState, HasEnded}
+use Rattle.bs_preimage.specs.declared.probe.Engine.{Engine}
 use Rattle.bs_preimage.specs.declared.probe.Probed.{Probed}
 use Rattle.bs_preimage.specs.declared.probe.Probed.TheVariants.{Predecessor, NoPredecessor, Unknown}
 use Rattle.bs_preimage.specs.declared.turn.TurnEnd.{TurnEnd}
@@ -82,11 +81,23 @@ pub record IsReadyFor (c : Circuit) (choice : Chosen) (e : Encoded) (s : SolverS
   pub rest : IsPaused s
   pub steps : length s.book.problem.steps ≡ count
 
--- the solver is ready, while memory has not run out
-pub record IsProbing (c : Circuit) (choice : Chosen) (e : Encoded) (s : SolverState) (count : ℕ) (failed : Bool) : Type 0 where
+-- the same of an engine
+abbrev pub IsReadyEngine : Circuit → Chosen → Engine → Type 0
+IsReadyEngine c choice engine = IsReadyFor c choice engine.encoding engine.solver engine.count
+
+-- an engine, if there is one, is ready, while memory has not run out
+pub record IsProbing (c : Circuit) (choice : Chosen) (engine : Option Engine) (failed : Bool) : Type 0 where
   pub width : choice.width ≡ length c.flops
-  pub encoding : e ≡ encoding_by c choice
-  pub ready : failed ≡ false → IsReadyFor c choice e s count
+  pub ready : failed ≡ false → IfSome engine (IsReadyEngine c choice)
+
+-- a question has the widths of the circuit and its signature, and one signature is kept, or both are there
+pub record IsQuestion (c : Circuit) (choice : Chosen) (present stored : List Bool) (older : Option (List Bool)) (state : List Bool) (b : ℕ) : Type 0 where
+  pub present_width : length present ≡ length c.flops
+  pub stored_width : length stored ≡ length choice.items
+  pub older_width : AreWide (length choice.items) older
+  pub state_width : length state ≡ length c.flops
+  pub may : MayProbe choice older
+  pub limit : 1 ≤ b
 
 -- a question was answered in a step of its own
 pub record HasAnswered (c : Circuit) (choice : Chosen) (e : Encoded) (old new : SolverState) (present stored : List Bool)

@@ -2,7 +2,7 @@
 ghost use Rattle.std.specs.Prelude.{◌≡◌, ◌≤◌, ◌∷◌, ◌++◌, [], true, length, IfOk, IfSome};
 ghost use Rattle.bs_solve_recording.specs.Stages.{is_begun};
 ghost use Rattle.bs_solve_recording.specs.declared.stage.Stage.TheVariants.{Begun};
-ghost use Rattle.bs_preimage.specs.Asking.{HasAsked, IsAsked, KeepsSource, KnowsRight};
+ghost use Rattle.bs_preimage.specs.Asking.{HasAsked, IsTold, KeepsSource, KnowsRight};
 ghost use Rattle.bs_preimage.specs.Turn.{IsReadable, MayTurn, Extends};
 ghost use Rattle.bs_preimage.specs.Finding.{HasComeTo, HasEndedSearch, HasFilled};
 
@@ -100,7 +100,7 @@ fn fill_asking<S: Source>(
     requires ready { S.ready source.old }
     requires right { KnowsRight S.knows source.old (λ cand. length cand.state ≡ length encoding.now.states) }
     requires conflicts { 1 ≤ b }
-    ensures ok { IfOk result (λ end. IsAsked S.knows source.old source.new (λ known. HasFilled encoding.now assumptions.now b found.old.items known solver.old solver.new found.new.items end)) }
+    ensures ok { IfOk result (λ end. IsTold S.knows source.old source.new (λ known. HasFilled encoding.now assumptions.now b found.old.items known solver.old solver.new found.new.items end)) }
     ensures lines { Extends (is_begun solver.old.stage) solver.old.book solver.new.book assumptions.now }
     ensures source { S.stays source.old source.new }
 {
@@ -130,7 +130,7 @@ pub(crate) fn find<S: Source>(
     requires right { KnowsRight S.knows source.old (λ cand. length cand.state ≡ length encoding.now.states) }
     requires candidates { 1 ≤ k }
     requires conflicts { 1 ≤ b }
-    ensures ok { IfOk result (λ end. HasAsked S.knows source.old source.new (λ known. HasEndedSearch encoding.now assumptions.now known k b solver.old solver.new found.new.items end) end) }
+    ensures ok { IfOk result (λ end. HasAsked S.knows source.old source.new (λ known. HasEndedSearch encoding.now assumptions.now known k b solver.old solver.new found.new.items end) k (length found.new.items) end) }
     ensures lines { Extends true solver.old.book solver.new.book assumptions.now }
     ensures source { KeepsSource S.stays source.old source.new }
 {

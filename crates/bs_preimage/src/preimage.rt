@@ -54,11 +54,13 @@ pub(crate) fn solver_of(alloc: Global, encoding: &Encoding) -> Result<Solver, No
 }
 
 /// Drops an encoding.
-fn let_go(_encoding: Encoding) {}
+pub(crate) fn let_go(_encoding: Encoding) {}
+
+/// Drops a solver.
+pub(crate) fn let_solver_go(_solver: Solver) {}
 
 /// What lists candidates. Contracts see its netlist's circuit, what the signature is taken of, what its log is about, the
 /// log's lines, the newest first, how many lists were asked for, and whether memory ran out.
-#[derive(Drop)]
 pub struct Preimage<'a> {
     net: &'a Netlist,
     choice: &'a Choice,
@@ -66,6 +68,22 @@ pub struct Preimage<'a> {
     solver: Solver,
     calls: u64,
     failed: bool,
+}
+
+// One function for every place that drops it, so that the proof of each such place stays small.
+impl<'a> Drop for Preimage<'a> {
+    fn drop(self) {
+        let Preimage {
+            net: _,
+            choice: _,
+            encoding,
+            solver,
+            calls: _,
+            failed: _,
+        } = self;
+        let_go(encoding);
+        let_solver_go(solver);
+    }
 }
 
 impl<'a> Model for Preimage<'a> {
@@ -229,7 +247,15 @@ impl<'a> Preimage<'a> {
         ensures texts { All HasText result }
         ensures accepted { self.entry.failed ≡ false → IsAccepted self.entry.problem result }
     {
-        let_go(self.encoding);
-        self.solver.into_log()
+        let Preimage {
+            net: _,
+            choice: _,
+            encoding,
+            solver,
+            calls: _,
+            failed: _,
+        } = self;
+        let_go(encoding);
+        solver.into_log()
     }
 }

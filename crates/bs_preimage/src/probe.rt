@@ -1,5 +1,5 @@
 //! A private search, whose log is not written: whether one state is a predecessor.
-ghost use Rattle.std.specs.Prelude.{◌≡◌, ◌+◌, ◌<◌, ◌≤◌, true, length, IfOk, option_map};
+ghost use Rattle.std.specs.Prelude.{◌≡◌, ◌+◌, ◌<◌, ◌≤◌, true, length, IfOk, IfSome, option_map};
 ghost use Rattle.std.specs.Bool.{OnTrue};
 ghost use Rattle.bs_net.specs.Netlist.{circuit};
 ghost use Rattle.bs_log.specs.Refusal.{has_distinct_variables};
@@ -8,9 +8,9 @@ ghost use Rattle.bs_encode.specs.Depth.{encoding_by};
 ghost use Rattle.bs_encode.specs.declared.encoding.TheConstants.{MAX_GUARDS};
 ghost use Rattle.bs_preimage.specs.Rest.{IsAbout};
 ghost use Rattle.bs_preimage.specs.Turn.{IsReadable, MayTurn, TurnsTo};
-ghost use Rattle.bs_preimage.specs.Probe.{last_of, probed_of, probing_at, probing_for, HasAnswered, HasProbed, IsPaused, IsProbed, IsReadyFor, MayProbe};
+ghost use Rattle.bs_preimage.specs.Probe.{last_of, probed_of, probing_at, probing_for, HasAnswered, HasProbed, IsPaused, IsProbed, IsQuestion, IsReadyEngine, IsReadyFor, MayProbe};
 
-use crate::preimage::solver_of;
+use crate::preimage::{let_go, let_solver_go, solver_of};
 use crate::turn::{TurnEnd, take_turn};
 use bs_bits::Bits;
 use bs_clause::{Lit, Lits, NoMemory};
@@ -199,14 +199,134 @@ fn may_ask(choice: &Choice, older: Option<&Bits>) -> bool
     }
 }
 
-/// What answers whether states are predecessors. Contracts see its netlist's circuit and what the signature is taken of.
+/// The encoding of a netlist, a solver over it whose log is not written, and how many questions the solver has answered.
+struct Engine {
+    encoding: Encoding,
+    solver: Solver,
+    count: u64,
+}
+
+// One function for every place that drops an engine, so that the proof of each such place stays small.
+impl Drop for Engine {
+    fn drop(self) {
+        let Engine {
+            encoding,
+            solver,
+            count: _,
+        } = self;
+        let_go(encoding);
+        let_solver_go(solver);
+    }
+}
+
+/// An engine over the encoding of a netlist, which has answered no question.
+fn engine_over(
+    alloc: Global,
+    net: &Netlist,
+    choice: &Choice,
+    encoding: Encoding,
+) -> Result<Engine, NoMemory>
+    requires width { choice.now.width ≡ length (circuit net.now).flops }
+    requires encoding { encoding ≡ encoding_by (circuit net.now) choice.now }
+    ensures { IfOk result (IsReadyEngine (circuit net.now) choice.now) }
+{
+    encodings_are_tidy(net, choice);
+    let solver = solver_of(alloc, &encoding)?;
+    Ok(Engine {
+        encoding,
+        solver,
+        count: 0,
+    })
+}
+
+/// An engine that has answered no question.
+fn engine_of(alloc: Global, net: &Netlist, choice: &Choice) -> Result<Engine, NoMemory>
+    requires { choice.now.width ≡ length (circuit net.now).flops }
+    ensures { IfOk result (IsReadyEngine (circuit net.now) choice.now) }
+{
+    let encoding = Encoding::new(alloc, net, choice)?;
+    engine_over(alloc, net, choice, encoding)
+}
+
+/// Answers a question by an engine.
+fn answer_by(
+    alloc: Global,
+    net: &Netlist,
+    choice: &Choice,
+    engine: &mut Engine,
+    asked: &Asked<'_>,
+) -> Result<Probed, NoMemory>
+    requires ready { IsReadyEngine (circuit net.now) choice.now engine.old }
+    requires question { IsQuestion (circuit net.now) choice.now asked.now.present.now asked.now.stored.now (option_map (λ bits. bits.now) asked.now.older) asked.now.state.now asked.now.b }
+    ensures ready { IfOk result (λ _. IsReadyEngine (circuit net.now) choice.now engine.new) }
+    ensures probed { IfOk result (IsProbed (circuit net.now) choice.now asked.now.present.now asked.now.stored.now (option_map (λ bits. bits.now) asked.now.older) asked.now.state.now) }
+{
+    renew(
+        alloc,
+        net,
+        choice,
+        &engine.encoding,
+        &mut engine.solver,
+        &mut engine.count,
+    )?;
+    let answer = probe_step(
+        alloc,
+        net,
+        choice,
+        &engine.encoding,
+        &mut engine.solver,
+        asked,
+    )?;
+    engine.count += 1;
+    Ok(answer)
+}
+
+/// Answers the first question, by an engine that is made for it.
+fn answer_first(
+    alloc: Global,
+    net: &Netlist,
+    choice: &Choice,
+    place: &mut Option<Engine>,
+    asked: &Asked<'_>,
+) -> Result<Probed, NoMemory>
+    requires width { choice.now.width ≡ length (circuit net.now).flops }
+    requires question { IsQuestion (circuit net.now) choice.now asked.now.present.now asked.now.stored.now (option_map (λ bits. bits.now) asked.now.older) asked.now.state.now asked.now.b }
+    ensures ready { IfOk result (λ _. IfSome place.new (IsReadyEngine (circuit net.now) choice.now)) }
+    ensures probed { IfOk result (IsProbed (circuit net.now) choice.now asked.now.present.now asked.now.stored.now (option_map (λ bits. bits.now) asked.now.older) asked.now.state.now) }
+{
+    let mut engine = engine_of(alloc, net, choice)?;
+    let answer = answer_by(alloc, net, choice, &mut engine, asked)?;
+    *place = Some(engine);
+    Ok(answer)
+}
+
+/// Answers a question by the engine that is there, or by one that is made.
+fn answer_in(
+    alloc: Global,
+    net: &Netlist,
+    choice: &Choice,
+    place: &mut Option<Engine>,
+    asked: &Asked<'_>,
+) -> Result<Probed, NoMemory>
+    requires width { choice.now.width ≡ length (circuit net.now).flops }
+    requires ready { IfSome place.old (IsReadyEngine (circuit net.now) choice.now) }
+    requires question { IsQuestion (circuit net.now) choice.now asked.now.present.now asked.now.stored.now (option_map (λ bits. bits.now) asked.now.older) asked.now.state.now asked.now.b }
+    ensures ready { IfOk result (λ _. IfSome place.new (IsReadyEngine (circuit net.now) choice.now)) }
+    ensures probed { IfOk result (IsProbed (circuit net.now) choice.now asked.now.present.now asked.now.stored.now (option_map (λ bits. bits.now) asked.now.older) asked.now.state.now) }
+{
+    match place {
+        None => answer_first(alloc, net, choice, place, asked),
+        Some(engine) => answer_by(alloc, net, choice, engine, asked),
+    }
+}
+
+/// What answers whether states are predecessors. Its encoding and its solver are made at the first question that needs them.
+/// Contracts see its netlist's circuit and what the signature is taken of.
 #[derive(Drop)]
 pub struct Probe<'a> {
     net: &'a Netlist,
     choice: &'a Choice,
-    encoding: Encoding,
-    solver: Solver,
-    count: u64,
+    engine: Option<Engine>,
     failed: bool,
 }
 
@@ -218,38 +338,19 @@ impl<'a> Model for Probe<'a> {
 
     ghost view = { λ p. record { circuit = circuit p.net.now; choice = p.choice.now } };
 
-    ghost invariant = { λ p. IsProbing (circuit p.net.now) p.choice.now p.encoding p.solver p.count p.failed };
+    ghost invariant = { λ p. IsProbing (circuit p.net.now) p.choice.now p.engine p.failed };
 }
 
 impl<'a> Probe<'a> {
-    /// What answers about states of a netlist, by a signature of its width.
-    pub fn new(alloc: Global, net: &'a Netlist, choice: &'a Choice) -> Result<Probe<'a>, NoMemory>
+    /// What answers about states of a netlist, by a signature of its width. It takes no memory yet.
+    pub fn new(_alloc: Global, net: &'a Netlist, choice: &'a Choice) -> Result<Probe<'a>, NoMemory>
         requires { choice.now.width ≡ length (circuit net.now).flops }
         ensures { IfOk result (λ p. p ≡ record { circuit = circuit net.now; choice = choice.now }) }
     {
-        let encoding = Encoding::new(alloc, net, choice)?;
-        Probe::over(alloc, net, choice, encoding)
-    }
-
-    /// The same over the encoding of the netlist.
-    fn over(
-        alloc: Global,
-        net: &'a Netlist,
-        choice: &'a Choice,
-        encoding: Encoding,
-    ) -> Result<Probe<'a>, NoMemory>
-        requires width { choice.now.width ≡ length (circuit net.now).flops }
-        requires encoding { encoding ≡ encoding_by (circuit net.now) choice.now }
-        ensures { IfOk result (λ p. p ≡ record { circuit = circuit net.now; choice = choice.now }) }
-    {
-        encodings_are_tidy(net, choice);
-        let solver = solver_of(alloc, &encoding)?;
         Ok(Probe {
             net,
             choice,
-            encoding,
-            solver,
-            count: 0,
+            engine: None,
             failed: false,
         })
     }
@@ -289,12 +390,7 @@ impl<'a> Probe<'a> {
 
     /// Answers a question, where one signature is kept or both are there.
     fn answer(&mut self, alloc: Global, asked: &Asked<'_>) -> Result<Probed, NoMemory>
-        requires present { length asked.now.present.now ≡ length self.old.circuit.flops }
-        requires stored { length asked.now.stored.now ≡ length self.old.choice.items }
-        requires older { AreWide (length self.old.choice.items) (option_map (λ bits. bits.now) asked.now.older) }
-        requires state { length asked.now.state.now ≡ length self.old.circuit.flops }
-        requires may { MayProbe self.old.choice (option_map (λ bits. bits.now) asked.now.older) }
-        requires limit { 1 ≤ asked.now.b }
+        requires { IsQuestion self.old.circuit self.old.choice asked.now.present.now asked.now.stored.now (option_map (λ bits. bits.now) asked.now.older) asked.now.state.now asked.now.b }
         ensures probed { IfOk result (IsProbed self.old.circuit self.old.choice asked.now.present.now asked.now.stored.now (option_map (λ bits. bits.now) asked.now.older) asked.now.state.now) }
         ensures kept { self.new ≡ self.old }
     {
@@ -302,23 +398,7 @@ impl<'a> Probe<'a> {
             return Err(NoMemory);
         }
         self.failed = true;
-        renew(
-            alloc,
-            self.net,
-            self.choice,
-            &self.encoding,
-            &mut self.solver,
-            &mut self.count,
-        )?;
-        let answer = probe_step(
-            alloc,
-            self.net,
-            self.choice,
-            &self.encoding,
-            &mut self.solver,
-            asked,
-        )?;
-        self.count += 1;
+        let answer = answer_in(alloc, self.net, self.choice, &mut self.engine, asked)?;
         self.failed = false;
         Ok(answer)
     }

@@ -67,7 +67,7 @@ fn seek<S: Source>(
     requires candidates { 1 ≤ asked.now.k }
     requires conflicts { 1 ≤ asked.now.b }
     requires none { found.old.items ≡ [] }
-    ensures ok { IfOk result (λ end. HasAsked S.knows source.old source.new (λ known. HasSought encoding.now solver.old solver.new asked.now.present.now asked.now.stored.now (option_map (λ bits. bits.now) asked.now.older) known asked.now.k asked.now.b found.new.items end) end) }
+    ensures ok { IfOk result (λ end. HasAsked S.knows source.old source.new (λ known. HasSought encoding.now solver.old solver.new asked.now.present.now asked.now.stored.now (option_map (λ bits. bits.now) asked.now.older) known asked.now.k asked.now.b found.new.items end) asked.now.k (length found.new.items) end) }
     ensures lines { Extends true solver.old.book solver.new.book (assumptions_at encoding.now solver.old.book asked.now.present.now asked.now.stored.now (option_map (λ bits. bits.now) asked.now.older)) }
     ensures source { KeepsSource S.stays source.old source.new }
 {
@@ -108,7 +108,7 @@ pub(crate) fn list_step<S: Source>(
     requires right { KnowsRight S.knows source.old (IsRightCand (circuit net.now) choice.now asked.now.present.now asked.now.stored.now (option_map (λ bits. bits.now) asked.now.older)) }
     requires candidates { 1 ≤ asked.now.k }
     requires conflicts { 1 ≤ asked.now.b }
-    ensures ok { IfOk result (λ listing. HasAsked S.knows source.old source.new (λ known. HasMadeStep (circuit net.now) choice.now solver.old solver.new asked.now.present.now asked.now.stored.now (option_map (λ bits. bits.now) asked.now.older) known asked.now.k asked.now.b listing) listing.end) }
+    ensures ok { IfOk result (λ listing. HasAsked S.knows source.old source.new (λ known. HasMadeStep (circuit net.now) choice.now solver.old solver.new asked.now.present.now asked.now.stored.now (option_map (λ bits. bits.now) asked.now.older) known asked.now.k asked.now.b listing) asked.now.k (length listing.cands) listing.end) }
     ensures lines { Extends true solver.old.book solver.new.book (assumptions_at encoding.now solver.old.book asked.now.present.now asked.now.stored.now (option_map (λ bits. bits.now) asked.now.older)) }
     ensures source { KeepsSource S.stays source.old source.new }
 {

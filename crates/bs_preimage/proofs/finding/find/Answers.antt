@@ -1,5 +1,4 @@
-use Rattle.std.proofs.Common.{Option, None, subst}
-use Rattle.bs_report.specs.declared.report.ListEnd.{ListEnd}
+use Rattle.std.proofs.Common.{None, subst}
 use Rattle.bs_preimage.specs.Finding.{HasComeTo}
 use Rattle.bs_preimage.proofs.OrderLemmas.{if_ok}
 use Rattle.bs_preimage.proofs.FindingLemmas.{may_turn_again, extends_on, found_asking}

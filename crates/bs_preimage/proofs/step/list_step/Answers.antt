@@ -1,5 +1,6 @@
-use Rattle.std.proofs.Common.{◌≡◌, refl}
+use Rattle.std.proofs.Common.{◌≡◌, refl, sym}
 use Rattle.std.specs.Prelude.{length, option_map}
+use Rattle.std.proofs.lemmas.List.Sorted.{length_permutation}
 use Rattle.bs_net.specs.Netlist.{circuit}
 use Rattle.bs_preimage.specs.Listed.{IsRightCand}
 use Rattle.bs_preimage.specs.Step.{HasSought, HasMadeStep}
@@ -37,7 +38,8 @@ returns-clause-ok g c =
     (λ known. HasMadeStep (circuit c.args.net.now) c.args.choice.now c.args.solver.now c.seek.new.solver c.args.asked.now.present.now
     c.args.asked.now.stored.now (option_map (λ bits. bits.now) c.args.asked.now.older) known c.args.asked.now.k c.args.asked.now.b
     (record { cands = c.in_ok-cands.cands; end = c.in_ok-end.end }))
-    c.in_ok-end.end c.requires.right
+    c.args.asked.now.k (length c.seek.new.found.items) (length c.in_ok-cands.cands) c.in_ok-end.end
+    (sym (length_permutation c.seek.new.found.items c.in_ok-cands.cands c.in_ok-cands.ensures.same)) c.requires.right
     (λ known right sought.
     made_step
     (record {

@@ -1,4 +1,4 @@
-use Rattle.std.proofs.Common.{true, []}
+use Rattle.std.proofs.Common.{true, [], length}
 use Rattle.std.specs.Prelude.{option_map}
 use Rattle.bs_preimage.specs.Finding.{HasEndedSearch}
 use Rattle.bs_preimage.specs.Step.{HasSought}
@@ -51,7 +51,7 @@ returns-clause-ok g c =
     c.find.new.solver c.find.new.found.items c.in_ok-end.end)
     (λ known. HasSought c.args.encoding.now c.args.solver.now c.end_step.new.self c.args.asked.now.present.now c.args.asked.now.stored.now
     (option_map (λ bits. bits.now) c.args.asked.now.older) known c.args.asked.now.k c.args.asked.now.b c.find.new.found.items c.in_ok-end.end)
-    c.in_ok-end.end
+    c.args.asked.now.k (length c.find.new.found.items) c.in_ok-end.end
     (λ known found.
     sought_with c.args.encoding.now c.args.solver.now c.begin_step.new.self c.find.new.solver c.end_step.new.self c.args.asked.now.present.now
     c.args.asked.now.stored.now (option_map (λ bits. bits.now) c.args.asked.now.older) c.in_ok-guard.guard c.in_ok-assumptions.assumptions known

@@ -1,4 +1,4 @@
-use Rattle.std.proofs.Common.{List, subst}
+use Rattle.std.proofs.Common.{subst}
 use Rattle.bs_clause.specs.Literal.{Clause}
 use Rattle.bs_solve_recording.specs.Solver.{HasBlocked}
 use Rattle.bs_preimage.proofs.TurnLemmas.{blocked_extends}

@@ -1,5 +1,5 @@
 use Rattle.std.proofs.Common.{◌+◌, false}
-use Rattle.std.specs.Prelude.{option_map}
+use Rattle.std.specs.Prelude.{length, option_map}
 use Rattle.bs_net.specs.Netlist.{circuit}
 use Rattle.bs_preimage.specs.Listed.{HasListed}
 use Rattle.bs_preimage.specs.Step.{HasMadeStep}
@@ -15,7 +15,7 @@ returns-clause-ok g c =
     (λ known. HasListed c.args.self.now
     (viewed (circuit c.self.inside.net.now) c.self.inside.choice.now c.list_step.new.solver.book (c.self.inside.calls + 1) false)
     c.args.present.now c.args.stored.now (option_map (λ bits. bits.now) c.args.older) known c.args.k c.args.b c.in_ok-listing.listing)
-    c.in_ok-listing.listing.end
+    c.args.k (length c.in_ok-listing.listing.cands) c.in_ok-listing.listing.end
     (λ known made.
     listed_again (circuit c.self.inside.net.now)
     c.self.inside.choice.now c.self.inside.solver.book c.list_step.new.solver.book c.args.self.now c.self.inside.failed c.self.inside.calls

@@ -1,6 +1,5 @@
-use Rattle.std.proofs.Common.{◌≡◌, ℕ, ◌+◌, ◌≤◌, false, [], length, refl, sym, subst, arith}
+use Rattle.std.proofs.Common.{◌≡◌, false, length, refl, sym, subst, arith}
 use Rattle.std.specs.Prelude.{Contains}
-use Rattle.bs_clause.specs.Literal.{Clause}
 use Rattle.bs_net.specs.Circuit.{Circuit}
 use Rattle.bs_net.specs.Netlist.{circuit}
 use Rattle.bs_scan.specs.Choice.{Chosen}
