@@ -26,7 +26,7 @@ use Rattle.bs_chip.proofs.LaneLemmas.{place_of}
 
 -- ---- prints
 
-print_snoc : (bits : List Bool) (bit : Bool) → print_of (bits ++ bit ∷ []) ≡ print_more (print_of bits) bit
+pub print_snoc : (bits : List Bool) (bit : Bool) → print_of (bits ++ bit ∷ []) ≡ print_more (print_of bits) bit
 print_snoc bits bit = fold-append print_more 0 bits (bit ∷ [])
 
 pub print_next : (bits : List Bool) (i print next : ℕ) (bit : Bool) → i < length bits → bit ≡ get_or bits i false → print ≡ print_of (take i bits) →

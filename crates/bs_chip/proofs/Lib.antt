@@ -7,4 +7,5 @@ pub mod InputLemmas
 pub mod StepLemmas
 pub mod TrackLemmas
 pub mod IndexLemmas
+pub mod ParityLemmas
 pub mod SignLemmas

@@ -1,42 +1,51 @@
 -- The signs of the runs, run by run and cycle by cycle.
-use Rattle.std.proofs.Common.{◌≡◌, ◌≢◌, ℕ, suc, zero, ◌<◌, ◌≤◌, ◌+◌, ◌-◌, ◌*◌, Bool, List, [], ◌∷◌, ◌++◌, length, take, get_or, refl, arith}
-use Rattle.std.proofs.Common.{ap, sym, subst, ◌∙◌, inl, inr, ⊎_elim, length-append, Option, Some, None}
+use Rattle.std.proofs.Common.{◌≡◌, ◌≢◌, ℕ, suc, zero, ◌<◌, ◌≤◌, ◌+◌, ◌-◌, ◌*◌, Bool, List, [], ◌∷◌, ◌++◌, length, get_or, refl, arith}
+use Rattle.std.proofs.Common.{ap, ap₂, sym, subst, ◌∙◌, ⊎_elim, length-append, Option, Some, None}
 use Rattle.std.specs.Prelude.{MatchOption, OnOk, OnErr, Result, Ok, Err, slice_get}
 use Rattle.std.proofs.lemmas.Bool.{cases_eq}
 use Rattle.bs_lanes_planes.specs.Planes.{lane}
 use Rattle.bs_net.specs.Circuit.{Circuit}
-use Rattle.bs_scan.specs.Choice.{Chosen, depth_of, IsDepth}
+use Rattle.bs_scan.specs.Choice.{Chosen, IsChoice}
 use Rattle.bs_scan.specs.Crash.{Recording, IsRecording}
 use Rattle.bs_scan.specs.Moments.{Run, moment, IsMoment, run_of, state_at}
 use Rattle.bs_scan.specs.Signature.{signature}
 use Rattle.bs_chip.specs.Lockstep.{wide_of, Passing, IsSamePass, ShowsCycle}
-use Rattle.bs_chip.specs.Prints.{print_of}
-use Rattle.bs_chip.specs.Replay.{Played, IsSameChip}
+use Rattle.bs_chip.specs.Parities.{HaveParities}
+use Rattle.bs_chip.specs.Prints.{print_of, ListsEach}
+use Rattle.bs_chip.proofs.ParityLemmas.{signature_lane}
 use Rattle.bs_chip.proofs.TrackLemmas.{track_at}
 use Rattle.bs_chip.specs.Signs.{signature_at, recorded_by, HasSign, HaveSigns, SignsShow, IsSigned, NoneSigned, IsNextSigned, NoneAlike, IsNextAlike}
 
--- ---- one run
-
--- a register keeps at least one signature
-pub first_kept : (choice : Chosen) (t : List Bool) → IsDepth (depth_of choice) → slice_get (take (depth_of choice) (t ∷ [])) 0 ≡ Some t
-first_kept choice t (inl one) = ap (λ (d : ℕ). slice_get (take d (t ∷ [])) 0) one
-first_kept choice t (inr two) = ap (λ (d : ℕ). slice_get (take d (t ∷ [])) 0) two
-
--- the same machine and runs, and the same choice
-pub same_recorded : (old new : Played) (choice other : Chosen) → IsSameChip old new → other ≡ choice → recorded_by new other ≡ recorded_by old choice
-same_recorded old new choice other same is = λ i. record { circuit = same.circuit i; choice = is i; runs = same.runs i }
-
-pub sign_shown : (p : Played) (choice : Chosen) (planes : List ℕ) (run cycle sign : ℕ) → ShowsCycle p.circuit p.runs planes cycle → 1 ≤ run →
-    run ≤ length p.runs → sign ≡ print_of (signature choice (lane (wide_of (length p.runs)) (length p.circuit.flops) planes (run - 1))) →
-    HasSign (recorded_by p choice) run cycle sign
-sign_shown p choice planes run cycle sign shows low high is =
-    record { is = λ last. is ∙ ap (λ (s : List Bool). print_of (signature choice s)) (shows.each run low high last) }
-
-pub no_sign : (p : Played) (choice : Chosen) (run cycle sign cycles : ℕ) → cycles ≡ length (run_of p.runs run) → cycles < cycle →
-    HasSign (recorded_by p choice) run cycle sign
-no_sign p choice run cycle sign cycles is short = record { is = λ last. absurd (omega (arith, last, short, is)) }
-
 -- ---- the runs of a cycle
+
+-- the same machine and runs
+pub have_same : (old new : Passing) (choice : Chosen) (signs : List ℕ) → IsSamePass old new →
+    HaveSigns (recorded_by new choice) signs new.cycle (length new.runs) → HaveSigns (recorded_by old choice) signs new.cycle (length old.runs)
+have_same old new choice signs same h =
+    let is : recorded_by new choice ≡ recorded_by old choice = λ i. record { circuit = same.circuit i; choice = choice; runs = same.runs i } in
+    subst (λ (r : Recording). HaveSigns r signs new.cycle (length r.runs)) is h
+
+-- the prints of the items' lanes are the signs
+pub have_signs : (p : Passing) (choice : Chosen) (planes items words signs : List ℕ) (wide count n lanes : ℕ) → IsChoice choice →
+    choice.width ≡ length p.circuit.flops → wide ≡ wide_of (length p.runs) → count ≡ length choice.items * wide_of (length p.runs) →
+    lanes ≤ 64 * wide_of (length p.runs) → ShowsCycle p.circuit p.runs planes p.cycle → HaveParities choice.items planes wide count items →
+    words ≡ items → n ≡ length choice.items → lanes ≡ length p.runs → ListsEach (λ r. print_of (lane wide n words r)) signs lanes →
+    HaveSigns (recorded_by p choice) signs p.cycle (length p.runs)
+have_signs p choice planes items words signs wide count n lanes sound width w size room shows have is number all prints =
+    let whole : count ≡ length choice.items * wide = size ∙ ap (λ (n : ℕ). length choice.items * n) (sym w) in
+    record {
+      size = prints.size ∙ all;
+      each = λ k low high. record {
+        is = λ last.
+            let there : k - 1 < 64 * wide = omega (arith, low, high, room, w, all) in
+            let state : lane wide choice.width planes (k - 1) ≡ state_at p.circuit (run_of p.runs k) p.cycle =
+            ap₂ (λ (a b : ℕ). lane a b planes (k - 1)) w width ∙ shows.each k low high last in
+            prints.each (k - 1) (omega (arith, low, high, all))
+            ∙ ((λ i. print_of (lane wide (number i) (is i) (k - 1)))
+            ∙ (ap print_of (signature_lane choice planes items wide count (k - 1) sound.in_range whole have there)
+            ∙ ap (λ (s : List Bool). print_of (signature choice s)) state));
+      };
+    }
 
 at_end : {X : Type 0} (xs : List X) (x d : X) → get_or (xs ++ x ∷ []) (length xs) d ≡ x
 at_end [] x d = refl
@@ -46,26 +55,6 @@ at_front : {X : Type 0} (xs : List X) (x d : X) (k : ℕ) → k < length xs → 
 at_front [] x d k lt = absurd (omega (arith, lt))
 at_front (y ∷ xs) x d zero lt = refl
 at_front (y ∷ xs) x d (suc k) lt = at_front xs x d k (omega (arith, lt))
-
-pub no_signs : (r : Recording) (cycle : ℕ) → HaveSigns r [] cycle 0
-no_signs r cycle = record { size = refl; each = λ n low high. absurd (omega (arith, low, high)) }
-
-pub more_signs : (r : Recording) (signs : List ℕ) (cycle k sign : ℕ) → HaveSigns r signs cycle k → HasSign r (k + 1) cycle sign →
-    HaveSigns r (signs ++ sign ∷ []) cycle (k + 1)
-more_signs r signs cycle k sign have here =
-    record {
-      size = length-append signs (sign ∷ []) ∙ ap (λ (n : ℕ). n + 1) have.size;
-      each = λ n low high.
-          ⊎_elim
-          (λ (same : n ≡ k + 1).
-          let last : n - 1 ≡ length signs = omega (arith, same, have.size) in
-          subst (λ (s : ℕ). HasSign r n cycle s) (sym (ap (λ (i : ℕ). get_or (signs ++ sign ∷ []) i 0) last ∙ at_end signs sign 0))
-          (subst (λ (m : ℕ). HasSign r m cycle sign) (sym same) here))
-          (λ (other : n ≡ k + 1 → ⊥).
-          subst (λ (s : ℕ). HasSign r n cycle s) (sym (at_front signs sign 0 (n - 1) (omega (arith, low, high, other, have.size))))
-          (have.each n low (omega (arith, high, other))))
-          (cases_eq n (k + 1));
-    }
 
 -- ---- the cycles
 
@@ -176,8 +165,8 @@ alike_by r stored signs cycle print from None have is h = none_alike r stored si
 alike_by r stored signs cycle print from (Some n) have is h =
     record { behind = h.behind; is_moment = h.is_moment; before = none_alike r stored signs cycle print from (n - 1) have is h.before }
 
-pub alike_found : (self : Recording) (p q : Played) (choice : Chosen) (signs : List (List ℕ)) (pass : Passing) (row : List ℕ) (stored : List Bool)
-    (cycle print from : ℕ) (found : Option ℕ) → recorded_by p choice ≡ self → IsSameChip p q → IsSigned (recorded_by p choice) pass signs →
+pub alike_found : (self : Recording) (p q : Passing) (choice : Chosen) (signs : List (List ℕ)) (pass : Passing) (row : List ℕ) (stored : List Bool)
+    (cycle print from : ℕ) (found : Option ℕ) → recorded_by p choice ≡ self → IsSamePass p q → IsSigned (recorded_by p choice) pass signs →
     cycle < length signs → slice_get signs cycle ≡ Some row → print ≡ print_of stored →
     MatchOption found (NoneSigned q.runs row cycle print from (length q.runs)) (IsNextSigned q.runs row cycle print from) →
     MatchOption found (NoneAlike self stored cycle from (length self.runs)) (IsNextAlike self stored cycle from)

@@ -17,7 +17,7 @@ use Rattle.bs_chip.proofs.ReplayLemmas.{state_first, state_more}
 -- ---- one clock edge
 
 -- what the lanes' table says of a lane, said of the machine and the runs
-of_table : (c d e : Circuit) (w v u : ℕ) (old new inputs : List ℕ) (q : ℕ) → d ≡ c → e ≡ c → v ≡ w → u ≡ w →
+pub of_table : (c d e : Circuit) (w v u : ℕ) (old new inputs : List ℕ) (q : ℕ) → d ≡ c → e ≡ c → v ≡ w → u ≡ w →
     lane u (length e.flops) new q ≡ next d (lane v (length d.flops) old q) (lane v (length d.inputs) inputs q) →
     lane w (length c.flops) new q ≡ next c (lane w (length c.flops) old q) (lane w (length c.inputs) inputs q)
 of_table c d e w v u old new inputs q dc ec vw uw h =

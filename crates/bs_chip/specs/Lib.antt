@@ -7,5 +7,6 @@ pub mod Live
 pub mod Lockstep
 pub mod Inputs
 pub mod Prints
+pub mod Parities
 pub mod Index
 pub mod Chip

@@ -7,14 +7,13 @@ use Rattle.bs_scan.specs.Moments.{Run, moment, IsMoment, run_of, state_at}
 use Rattle.bs_scan.specs.Signature.{signature}
 use Rattle.bs_chip.specs.Lockstep.{Passing}
 use Rattle.bs_chip.specs.Prints.{print_of}
-use Rattle.bs_chip.specs.Replay.{Played}
 
 -- the signature of the state of a run at a cycle
 abbrev pub signature_at : Recording → ℕ → ℕ → List Bool
 signature_at r run cycle = signature r.choice (state_at r.circuit (run_of r.runs run) cycle)
 
 -- a machine and its runs, with what their signature is taken of
-abbrev pub recorded_by : Played → Chosen → Recording
+abbrev pub recorded_by : Passing → Chosen → Recording
 recorded_by p choice = record { circuit = p.circuit; choice = choice; runs = p.runs }
 
 -- the sign of a run that lasts to a cycle is the print of the signature there

@@ -1,14 +1,16 @@
 //! All runs in lock step: the lanes at one cycle, and at the next.
-ghost use Rattle.std.specs.Prelude.{◌≡◌, ◌<◌, ◌≤◌, ◌*◌, ◌+◌, length, min, IfOk, MatchOption, OnOk};
+ghost use Rattle.std.specs.Prelude.{◌≡◌, ◌<◌, ◌≤◌, ◌*◌, ◌+◌, length, min, IfOk, IsTrue, MatchOption, OnOk};
 ghost use Rattle.bs_net.specs.Netlist.{circuit};
 ghost use Rattle.bs_scan.specs.Crash.{Recording};
 ghost use Rattle.bs_stim.specs.Runs.{inputs_of};
 ghost use Rattle.bs_chip.specs.Index.{Keeps, NotesCycle, price_of};
-ghost use Rattle.bs_chip.specs.Lockstep.{IsLongest, IsLowest, NoneAmong, ShowsCycle, ShowsPass};
+ghost use Rattle.bs_lanes.specs.Lanes.{is_wide};
+ghost use Rattle.bs_scan.specs.Moments.{run_of};
+ghost use Rattle.bs_chip.specs.Lockstep.{wide_of, IsLongest, IsLowest, IsSamePass, NoneAmong, ShowsCycle, ShowsPass};
 
 use crate::inputs::put_inputs;
 use crate::lanes::wide_for;
-use crate::live::{Live, longest};
+use crate::live::{Live, cycles_of, longest};
 use crate::looking::lowest_run;
 use crate::notes::note_lanes;
 use bs_bits::NoMemory;
@@ -52,7 +54,7 @@ fn zero_words(alloc: Global, count: usize) -> Result<Vec<u64>, NoMemory>
 }
 
 /// So many planes of zeros.
-fn zero_planes(alloc: Global, count: usize, wide: usize) -> Result<Vec<u64>, NoMemory>
+pub fn zero_planes(alloc: Global, count: usize, wide: usize) -> Result<Vec<u64>, NoMemory>
     ensures { IfOk result (λ words. length words.items ≡ count * wide) }
 {
     match count.checked_mul(wide) {
@@ -88,6 +90,34 @@ impl<'a> Pass<'a> {
         ensures few { result ≤ MAX_CYCLES }
     {
         longest(self.runs)
+    }
+
+    /// The number of runs.
+    pub fn count(&self) -> u32
+        ensures count { result ≡ length self.now.runs }
+        ensures room { result ≤ 64 * wide_of (length self.now.runs) }
+    {
+        self.runs.count()
+    }
+
+    /// The number of words of a plane.
+    pub fn wide(&self) -> usize
+        ensures value { result ≡ wide_of (length self.now.runs) }
+        ensures some { 1 ≤ result }
+        ensures few { result ≤ 4 }
+        ensures known { IsTrue (is_wide result) }
+    {
+        wide_for(self.runs)
+    }
+
+    /// How many cycles a run has. Runs are numbered from 1.
+    pub fn cycles(&self, run: u32) -> u32
+        requires from_one { 1 ≤ run }
+        requires there { run ≤ length self.now.runs }
+        ensures count { result ≡ length (run_of self.now.runs run) }
+        ensures few { result ≤ MAX_CYCLES }
+    {
+        cycles_of(self.runs, run)
     }
 
     /// The cycle.
@@ -182,5 +212,18 @@ impl<'a> Pass<'a> {
     {
         self.live.go_to(self.at);
         lowest_run(&self.live, bank, self.lanes.flops(), self.lanes.wide())
+    }
+}
+
+/// Goes to the cycle of a number, if the pass is at the one before.
+pub fn step_to(pass: &mut Pass<'_>, number: usize)
+    requires few { number ≤ MAX_CYCLES }
+    requires noted { pass.old.cycle ≤ number }
+    requires near { number ≤ pass.old.cycle + 1 }
+    ensures same { IsSamePass pass.old pass.new }
+    ensures there { pass.new.cycle ≡ number }
+{
+    if (pass.cycle() as usize) < number {
+        pass.step();
     }
 }

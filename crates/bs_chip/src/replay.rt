@@ -244,6 +244,21 @@ impl<'a> Chip<'a> {
         Signs::new(alloc, self.player.net(), self.choice, self.player.runs())
     }
 
+    /// The netlist.
+    pub fn net(&self) -> &'a Netlist
+        ensures { circuit result.now ≡ self.now.recording.circuit }
+    {
+        self.player.net()
+    }
+
+    /// All runs at reset, to be stepped apart from the chip.
+    pub fn pass(&self, alloc: Global) -> Result<Pass<'a>, NoMemory>
+        ensures { IfOk result (λ pass. pass ≡ record { circuit = self.now.recording.circuit; runs = self.now.recording.runs; cycle = 0 }) }
+    {
+        let pass = Pass::new(alloc, self.player.net(), self.player.runs())?;
+        Ok(pass)
+    }
+
     /// The chip's lanes. Each run that lasts to the cycle at which they stand is in its state there: after a `first` that
     /// gave a hit, and until the next one, at the hit's cycle.
     pub fn lanes(&self) -> &Lanes<'a>

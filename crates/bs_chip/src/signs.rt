@@ -1,128 +1,59 @@
 //! The signatures of the recorded states, as prints by cycle and run: states with another signature are passed over.
-ghost use Rattle.std.specs.Prelude.{◌≡◌, ◌<◌, ◌≤◌, ◌+◌, ◌-◌, ◌*◌, [], length, slice_get, IfOk, IfSome, MatchOption, OnOk};
+ghost use Rattle.std.specs.Prelude.{◌≡◌, ◌<◌, ◌≤◌, ◌+◌, ◌*◌, length, IfOk, MatchOption, OnOk};
 ghost use Rattle.bs_net.specs.Netlist.{circuit};
-ghost use Rattle.bs_lanes_planes.specs.Planes.{lane as lane_in};
 ghost use Rattle.bs_scan.specs.Crash.{recording_of};
-ghost use Rattle.bs_scan.specs.Register.{Register};
-ghost use Rattle.bs_scan.specs.Signature.{signature};
 ghost use Rattle.bs_stim.specs.declared.limits.TheConstants.{MAX_CYCLES};
-ghost use Rattle.bs_chip.specs.Lockstep.{wide_of, IsLongest, IsSamePass, ShowsCycle};
-ghost use Rattle.bs_chip.specs.Prints.{print_of};
-ghost use Rattle.bs_chip.specs.Replay.{IsSameChip};
-ghost use Rattle.bs_chip.specs.Signs.{recorded_by, HasSign, HaveSigns, IsNextAlike, IsNextSigned, IsSigned, NoneAlike, NoneSigned};
+ghost use Rattle.bs_chip.specs.Lockstep.{wide_of, IsLongest, IsSamePass};
+ghost use Rattle.bs_chip.specs.Signs.{recorded_by, HaveSigns, IsNextAlike, IsNextSigned, IsSigned, NoneAlike, NoneSigned};
 
-use crate::pass::Pass;
-use crate::player::Player;
-use crate::prints::print_of;
+use crate::lanes::wide_for;
+use crate::parities::put_parities;
+use crate::pass::{Pass, step_to, zero_planes};
+use crate::prints::{lane_prints, print_of};
 use bs_bits::{Bits, List, NoMemory};
 use bs_net::Netlist;
-use bs_scan::{Choice, SigReg};
+use bs_scan::Choice;
 use bs_stim::Runs;
 use std::alloc::Global;
 use std::marker::Model;
 
-/// The print of the signature that a register holds.
-fn stored_print(register: &SigReg<'_>) -> u64
-    ensures { IfSome (slice_get register.now.stored 0) (λ bits. result ≡ print_of bits) }
-{
-    match register.stored() {
-        None => 0,
-        Some(bits) => print_of(bits),
-    }
-}
-
-/// The print of the signature of the state that the lane of a run shows.
-fn sign_of(player: &mut Player<'_>, register: &mut SigReg<'_>, planes: &[u64], run: u32) -> u64
-    requires from_one { 1 ≤ run }
-    requires there { run ≤ length player.old.runs }
-    requires size { length planes.now ≡ length player.old.circuit.flops * wide_of (length player.old.runs) }
-    requires width { register.old.choice.width ≡ length player.old.circuit.flops }
-    ensures same { IsSameChip player.old player.new }
-    ensures choice { register.new.choice ≡ register.old.choice }
-    ensures sign { result ≡ print_of (signature register.old.choice (lane_in (wide_of (length player.old.runs)) (length player.old.circuit.flops) planes.now (run - 1))) }
-{
-    let _depth = register.depth();
-    player.enter(planes, run);
-    register.clear();
-    register.clock(player.state());
-    stored_print(register)
-}
-
-/// The sign of a run at a cycle that planes show, or 0 where the run does not last to it.
-fn sign_at(
-    player: &mut Player<'_>,
-    register: &mut SigReg<'_>,
-    planes: &[u64],
-    run: u32,
-    cycle: u32,
-) -> u64
-    requires from_one { 1 ≤ run }
-    requires there { run ≤ length player.old.runs }
-    requires shows { ShowsCycle player.old.circuit player.old.runs planes.now cycle }
-    requires width { register.old.choice.width ≡ length player.old.circuit.flops }
-    ensures same { IsSameChip player.old player.new }
-    ensures choice { register.new.choice ≡ register.old.choice }
-    ensures sign { HasSign (recorded_by player.old register.old.choice) run cycle result }
-{
-    if player.cycles(run) < cycle {
-        return 0;
-    }
-    sign_of(player, register, planes, run)
-}
-
-/// The signs of all runs at a cycle that planes show.
+/// The signs of all runs at the cycle of a pass, by way of the items' planes.
 fn signs_of(
     alloc: Global,
-    player: &mut Player<'_>,
-    register: &mut SigReg<'_>,
-    planes: &[u64],
-    cycle: u32,
+    pass: &Pass<'_>,
+    choice: &Choice,
+    items: &mut Vec<u64>,
 ) -> Result<List<u64>, NoMemory>
-    requires shows { ShowsCycle player.old.circuit player.old.runs planes.now cycle }
-    requires width { register.old.choice.width ≡ length player.old.circuit.flops }
-    ensures same { IsSameChip player.old player.new }
-    ensures choice { register.new.choice ≡ register.old.choice }
-    ensures signs { IfOk result (λ signs. HaveSigns (recorded_by player.old register.old.choice) signs cycle (length player.old.runs)) }
+    requires width { choice.now.width ≡ length pass.now.circuit.flops }
+    requires items { length items.old.items ≡ length choice.now.items * wide_of (length pass.now.runs) }
+    ensures items { length items.new.items ≡ length items.old.items }
+    ensures signs { IfOk result (λ signs. HaveSigns (recorded_by pass.now choice.now) signs pass.now.cycle (length pass.now.runs)) }
 {
-    let mut signs = List::new(alloc);
-    let count = player.count();
-    'runs: for lane in 0..count {
-        let sign = sign_at(player, register, planes, lane + 1, cycle);
-        signs.push(sign)?;
-    }
+    let wide = pass.wide();
+    let _depth = choice.depth();
+    put_parities(choice, pass.planes(), wide, items);
+    let signs = lane_prints(alloc, items.as_slice(), wide, choice.items(), pass.count())?;
     Ok(signs)
-}
-
-/// Goes to the cycle of a number, if the pass is at the one before.
-fn step_to(pass: &mut Pass<'_>, number: usize)
-    requires few { number ≤ MAX_CYCLES }
-    requires noted { pass.old.cycle ≤ number }
-    requires near { number ≤ pass.old.cycle + 1 }
-    ensures same { IsSamePass pass.old pass.new }
-    ensures there { pass.new.cycle ≡ number }
-{
-    if (pass.cycle() as usize) < number {
-        pass.step();
-    }
 }
 
 /// The signs of one more cycle.
 fn advance(
     alloc: Global,
     pass: &mut Pass<'_>,
-    player: &mut Player<'_>,
-    register: &mut SigReg<'_>,
+    choice: &Choice,
+    items: &mut Vec<u64>,
     signs: &mut List<List<u64>>,
 ) -> Result<(), NoMemory>
-    requires signed { IsSigned (recorded_by player.old register.old.choice) pass.old signs.old }
+    requires signed { IsSigned (recorded_by pass.old choice.now) pass.old signs.old }
+    requires items { length items.old.items ≡ length choice.now.items * wide_of (length pass.old.runs) }
     requires few { length signs.old ≤ MAX_CYCLES }
-    ensures same { IsSameChip player.old player.new }
-    ensures choice { register.new.choice ≡ register.old.choice }
-    ensures signed { IsSigned (recorded_by player.old register.old.choice) pass.new signs.new }
+    ensures same { IsSamePass pass.old pass.new }
+    ensures items { length items.new.items ≡ length items.old.items }
+    ensures signed { IsSigned (recorded_by pass.old choice.now) pass.new signs.new }
     ensures more { OnOk result (length signs.new ≡ length signs.old + 1) }
 {
     step_to(pass, signs.len());
-    let next = signs_of(alloc, player, register, pass.planes(), pass.cycle())?;
+    let next = signs_of(alloc, pass, choice, items)?;
     signs.push(next)
 }
 
@@ -130,31 +61,32 @@ fn advance(
 fn reach(
     alloc: Global,
     pass: &mut Pass<'_>,
-    player: &mut Player<'_>,
-    register: &mut SigReg<'_>,
+    choice: &Choice,
+    items: &mut Vec<u64>,
     signs: &mut List<List<u64>>,
     cycle: usize,
 ) -> Result<(), NoMemory>
-    requires signed { IsSigned (recorded_by player.old register.old.choice) pass.old signs.old }
+    requires signed { IsSigned (recorded_by pass.old choice.now) pass.old signs.old }
+    requires items { length items.old.items ≡ length choice.now.items * wide_of (length pass.old.runs) }
     requires few { cycle ≤ MAX_CYCLES }
-    ensures same { IsSameChip player.old player.new }
-    ensures choice { register.new.choice ≡ register.old.choice }
-    ensures signed { IsSigned (recorded_by player.old register.old.choice) pass.new signs.new }
+    ensures same { IsSamePass pass.old pass.new }
+    ensures items { length items.new.items ≡ length items.old.items }
+    ensures signed { IsSigned (recorded_by pass.old choice.now) pass.new signs.new }
     ensures there { OnOk result (cycle < length signs.new) }
 {
     'cycles: for _ in signs.len()..cycle + 1 {
-        advance(alloc, pass, player, register, signs)?;
+        advance(alloc, pass, choice, items, signs)?;
     }
     Ok(())
 }
 
 /// The first run behind a number that lasts to a cycle and has a sign there.
-fn next_signed(player: &Player<'_>, signs: &[u64], cycle: u32, print: u64, from: u32) -> Option<u32>
-    requires size { length signs.now ≡ length player.now.runs }
-    ensures { MatchOption result (NoneSigned player.now.runs signs.now cycle print from (length player.now.runs)) (IsNextSigned player.now.runs signs.now cycle print from) }
+fn next_signed(pass: &Pass<'_>, signs: &[u64], cycle: u32, print: u64, from: u32) -> Option<u32>
+    requires size { length signs.now ≡ length pass.now.runs }
+    ensures { MatchOption result (NoneSigned pass.now.runs signs.now cycle print from (length pass.now.runs)) (IsNextSigned pass.now.runs signs.now cycle print from) }
 {
-    'runs: for lane in from..player.count() {
-        if signs[lane as usize] == print && cycle <= player.cycles(lane + 1) {
+    'runs: for lane in from..pass.count() {
+        if signs[lane as usize] == print && cycle <= pass.cycles(lane + 1) {
             return Some(lane + 1);
         }
     }
@@ -166,20 +98,22 @@ fn next_signed(player: &Player<'_>, signs: &[u64], cycle: u32, print: u64, from:
 #[derive(Drop)]
 pub struct Signs<'a> {
     pass: Pass<'a>,
-    player: Player<'a>,
-    register: SigReg<'a>,
+    choice: &'a Choice,
+    items: Vec<u64>,
     signs: List<List<u64>>,
 }
 
 impl<'a> Model for Signs<'a> {
     ghost use Rattle.bs_scan.specs.Crash.{Recording};
+    ghost use Rattle.std.specs.Prelude.{◌≡◌, ◌*◌, length};
+    ghost use Rattle.bs_chip.specs.Lockstep.{wide_of};
     ghost use Rattle.bs_chip.specs.Signs.{recorded_by, IsSigned};
 
     ghost Value = { Recording };
 
-    ghost view = { λ s. recorded_by s.player s.register.choice };
+    ghost view = { λ s. recorded_by s.pass s.choice.now };
 
-    ghost invariant = { λ s. IsSigned (recorded_by s.player s.register.choice) s.pass s.signs };
+    ghost invariant = { λ s. IsSigned (recorded_by s.pass s.choice.now) s.pass s.signs × (length s.items.items ≡ length s.choice.now.items * wide_of (length s.pass.runs)) };
 }
 
 impl<'a> Signs<'a> {
@@ -197,13 +131,12 @@ impl<'a> Signs<'a> {
         let _order = net.order();
         let _depth = choice.depth();
         let _count = runs.count();
-        let player = Player::new(alloc, net, runs)?;
-        let register = SigReg::new(alloc, choice)?;
+        let items = zero_planes(alloc, choice.items(), wide_for(runs))?;
         let pass = Pass::new(alloc, net, runs)?;
         Ok(Signs {
             pass,
-            player,
-            register,
+            choice,
+            items,
             signs: List::new(alloc),
         })
     }
@@ -212,7 +145,7 @@ impl<'a> Signs<'a> {
     pub fn runs(&self) -> u32
         ensures { result ≡ length self.now.runs }
     {
-        self.player.count()
+        self.pass.count()
     }
 
     /// The number of cycles of the longest run.
@@ -239,13 +172,13 @@ impl<'a> Signs<'a> {
         reach(
             alloc,
             &mut self.pass,
-            &mut self.player,
-            &mut self.register,
+            self.choice,
+            &mut self.items,
             &mut self.signs,
             cycle as usize,
         )?;
         let signs = self.signs.get(cycle as usize).slice();
-        let next = next_signed(&self.player, signs, cycle, print_of(stored), from);
+        let next = next_signed(&self.pass, signs, cycle, print_of(stored), from);
         Ok(next)
     }
 }

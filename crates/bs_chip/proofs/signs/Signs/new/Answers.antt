@@ -1,9 +1,7 @@
-use Rattle.std.proofs.Common.{◌≡◌, ℕ, List, ap, subst, sym}
+use Rattle.std.proofs.Common.{◌≡◌, ◌∙◌, ℕ, List, ap, ap₂, subst, sym, length, ◌*◌}
 use Rattle.bs_scan.specs.Crash.{Recording, recording_of}
-use Rattle.bs_scan.specs.Register.{Register}
 use Rattle.bs_scan.proofs.CrashLemmas.{recording_is}
-use Rattle.bs_chip.specs.Lockstep.{Passing}
-use Rattle.bs_chip.specs.Replay.{Played}
+use Rattle.bs_chip.specs.Lockstep.{wide_of, Passing}
 use Rattle.bs_chip.specs.Signs.{recorded_by, IsSigned}
 use Rattle.bs_chip.proofs.SignLemmas.{new_signs}
 use Rattle.bs_chip.proofs.signs.Signs.new.Goals as goal
@@ -11,15 +9,17 @@ use Rattle.bs_chip.proofs.signs.Signs.new.Goals as goal
 pub invariant_of-result : goal.invariant_of-result
 invariant_of-result c =
     let net = c.args.net.now in
-    let p = c.in_ok-player.player in
+    let p = c.in_ok-pass.pass in
     let of : Recording = recording_of net.raw c.args.choice.now c.args.runs.now in
-    let made : Recording = recorded_by p c.in_ok-register.register.choice in
-    let circuits : p.circuit ≡ of.circuit = ap (λ (p : Played). p.circuit) c.in_ok-player.ensures in
-    let choices : made.choice ≡ of.choice = ap (λ (r : Register). r.choice) c.in_ok-register.ensures in
-    let runs : p.runs ≡ of.runs = ap (λ (p : Played). p.runs) c.in_ok-player.ensures in
-    subst (λ (signs : List (List ℕ)). IsSigned made c.in_ok-pass.pass signs) (sym c.new-4.ensures)
-    (new_signs made of c.in_ok-pass.pass
-    (recording_is net.raw c.args.choice.now c.args.runs.now c.order-order.ensures.checked c.depth-depth.ensures.sound.kept
-    c.count-count.ensures.sound c.requires.states c.requires.inputs)
-    (ap (λ (p : Passing). p.circuit) c.in_ok-pass.ensures) (ap (λ (p : Passing). p.runs) c.in_ok-pass.ensures)
-    (ap (λ (p : Passing). p.cycle) c.in_ok-pass.ensures) (λ i. record { circuit = circuits i; choice = choices i; runs = runs i }))
+    let made : Recording = recorded_by p c.args.choice.now in
+    let circuits : p.circuit ≡ of.circuit = ap (λ (p : Passing). p.circuit) c.in_ok-pass.ensures in
+    let runs : p.runs ≡ of.runs = ap (λ (p : Passing). p.runs) c.in_ok-pass.ensures in (
+      subst (λ (signs : List (List ℕ)). IsSigned made p signs) (sym c.new-2.ensures)
+          (new_signs made of p
+          (recording_is net.raw c.args.choice.now c.args.runs.now c.order-order.ensures.checked c.depth-depth.ensures.sound.kept
+          c.count-count.ensures.sound c.requires.states c.requires.inputs)
+          circuits runs (ap (λ (p : Passing). p.cycle) c.in_ok-pass.ensures)
+          (λ i. record { circuit = circuits i; choice = c.args.choice.now; runs = runs i })),
+      c.in_ok-items.ensures
+          ∙ ap₂ (λ (a b : ℕ). a * b) c.items.ensures.count (c.wide_for.ensures.value ∙ ap (λ (n : ℕ). wide_of n) (ap length (sym runs))),
+    )

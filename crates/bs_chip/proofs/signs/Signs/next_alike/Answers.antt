@@ -6,8 +6,8 @@ use Rattle.bs_chip.proofs.signs.Signs.next_alike.Goals as goal
 
 pub returns-clause-alike : goal.returns-clause-alike
 returns-clause-alike c =
-    let q = c.reach.new.player in
-    alike_found c.args.self.now c.self.inside.player q c.self.inside.register.choice c.reach.new.signs c.reach.new.pass c.get.result.now
+    let q = c.reach.new.pass in
+    alike_found c.args.self.now c.self.inside.pass q c.self.inside.choice.now c.reach.new.signs q c.get.result.now
     c.args.stored.now c.args.cycle c.print_of.result c.args.from c.next_signed-next.result c.self.view_is c.in_ok-reach.ensures.same
     c.in_ok-reach.ensures.signed c.in_ok-reach.ensures.there c.get.ensures.lookup c.print_of.ensures
     (subst (λ (row : List ℕ). MatchOption c.next_signed-next.result

@@ -1,0 +1,5 @@
+use Rattle.bs_net_free.specs.Marks.{StayHeld, ShowSame}
+use Rattle.bs_net_free.proofs.nets.mark_states.Given as goal
+
+abbrev pub invariant-flops : goal.invariant-flops
+invariant-flops l = StayHeld (ShowSame l.flops) l.initial.marks l.marks
