@@ -4,3 +4,4 @@ pub mod Endings
 pub mod Startings
 pub mod Engines
 pub mod BudgetLemmas
+pub mod Rootings

@@ -362,7 +362,7 @@ guard_range n vars l is same low =
 
 -- ---- the first clauses
 
-axiom_clauses : (n : ℕ) (cs : List Clause) → clauses_in (axioms_from n cs) ≡ cs
+pub axiom_clauses : (n : ℕ) (cs : List Clause) → clauses_in (axioms_from n cs) ≡ cs
 axiom_clauses n [] = refl
 axiom_clauses n (c ∷ cs) = ap (λ xs. c ∷ xs) (axiom_clauses (n + 1) cs)
 

@@ -1,4 +1,5 @@
 pub mod Budget
+pub mod Denying
 pub mod Dropping
 pub mod Ending
 pub mod Opening

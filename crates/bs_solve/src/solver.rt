@@ -11,8 +11,10 @@ ghost use Rattle.bs_solve_recording.specs.Stages.{is_begun, is_solved};
 ghost use Rattle.bs_solve_recording.specs.Solver.{MaySolve, HasSolved, HasBlocked, HasEnded, Follows, finished};
 ghost use Rattle.bs_arena.specs.Arena.{live_words};
 ghost use Rattle.bs_solve.specs.Opening.{HasOpened};
+ghost use Rattle.bs_solve.specs.Denying.{Denies, HasDenied};
 ghost use Rattle.bs_solve.specs.Starting.{HoldsStanding};
 
+use crate::denying::Denial;
 use crate::dropping::Known;
 use crate::ending::{prepare, settle};
 use crate::starting::{filled, grow_to};
@@ -25,7 +27,7 @@ use bs_solve_recording::{
     Answer, Recording, Stage, begin_solve, finish, guarded, is_begun, stage_after,
 };
 use bs_solve_reduction::Guards;
-use bs_solve_search::{Stock, add_between, rest, search};
+use bs_solve_search::{Stock, add_between, end_by, rest, search};
 use bs_watch::Watch;
 use std::alloc::Global;
 use std::marker::Model;
@@ -158,6 +160,41 @@ impl Solver {
         self.stage = stage_after(&answer);
         self.failed = false;
         Ok(answer)
+    }
+
+    /// Ends the first solve of a step by a lemma that the caller knows from the clauses that the solver was given: nothing is
+    /// searched. It answers the lemma's id.
+    pub fn solve_denied(
+        &mut self,
+        alloc: Global,
+        assumptions: &Lits,
+        denial: Denial,
+    ) -> Result<u64, NoMemory>
+        requires stage { MaySolve self.old assumptions.now }
+        requires first { self.old.failed ≡ false → self.old.stage ≡ Begun }
+        requires denial { Denies self.old.book.problem.clauses assumptions.now denial }
+        ensures ok { IfOk result (HasDenied self.old self.new assumptions.now) }
+        ensures lines { Follows (is_begun self.old.stage) self.old.book self.new.book assumptions.now }
+        ensures err { IfErr result (λ _. self.new.failed ≡ true) }
+    {
+        if self.failed {
+            return Err(NoMemory);
+        }
+        self.failed = true;
+        begin_solve(alloc, &mut self.book, is_begun(self.stage), assumptions)?;
+        grow_to(alloc, &mut self.watch, &mut self.marks, self.vars)?;
+        let _ = self.book.log();
+        let id = end_by(
+            &mut self.book,
+            &mut self.watch,
+            &mut self.arena,
+            &mut self.stock,
+            denial.lits,
+            denial.hints,
+        )?;
+        self.stage = Stage::Ended(id);
+        self.failed = false;
+        Ok(id)
     }
 
     /// Begins a solve for values that the caller knows: nothing is searched, and no lemma is logged. A block may follow.
