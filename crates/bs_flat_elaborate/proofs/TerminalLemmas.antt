@@ -1,18 +1,26 @@
 -- The inputs of all gates, by sums over modules and over paths.
-use Rattle.std.proofs.Common.{◌≡◌, ℕ, zero, suc, ◌+◌, ◌<◌, ◌≤◌, true, false, nat_lt, List, [], ◌∷◌, ◌++◌, map, length, get_or, take, refl, sym, ap, ◌∙◌}
+use Rattle.std.proofs.Common.{◌≡◌, ℕ, zero, suc, ◌+◌, ◌<◌, ◌≤◌, true, false, nat_lt, List, [], ◌∷◌, map, length, get_or, take, refl, sym, ap, ◌∙◌}
 use Rattle.std.proofs.Common.{arith, subst}
-use Rattle.std.specs.List.{sum_by, flat_map}
-use Rattle.std.proofs.lemmas.Bool.{lt-ltb, le-ltb}
-use Rattle.std.proofs.lemmas.List.{take_all, get_or-map}
+use Rattle.std.specs.List.{All, sum_by, flat_map}
+use Rattle.std.specs.Prelude.{◌^◌}
+use Rattle.std.proofs.lemmas.Bool.{lt-ltb, le-ltb, ltb-false}
+use Rattle.std.proofs.lemmas.List.{take_all, get_or-map, length-map}
+use Rattle.std.proofs.lemmas.List.Elements.{All-nil, All-cons, All-map, All-weaker}
 use Rattle.std.proofs.lemmas.List.Sums.{sum_by-append, sum_by-cons, sum_by-take-le}
 use Rattle.bs_net.specs.declared.net.Gate.{Gate}
-use Rattle.bs_flat_meaning.specs.Design.{Design, Module, Path, At, on, on_each, own, module_at, module_in, paths, gates}
-use Rattle.bs_flat_meaning.specs.Reading.{terminal_count}
+use Rattle.bs_flat_meaning.specs.Design.{Design, Module, Path, At, on, PathNet, own, module_at, module_in, paths, flops, gates}
+use Rattle.bs_flat_meaning.specs.Reading.{part_count, terminal_count}
+use Rattle.bs_flat_meaning.specs.Flat.{flat_flop, flat_gate, flat_key, flat_net, flat_nets, flat_parts}
 use Rattle.bs_flat_meaning.specs.Paths.{ArePaths, no_node}
 use Rattle.bs_flat_meaning.specs.declared.paths.Node.{Node}
-use Rattle.bs_flat_meaning.specs.declared.limits.TheConstants.{MAX_TERMINALS}
-use Rattle.bs_flat_nets.specs.Blocks.{design_of, module_of}
+use Rattle.bs_flat_meaning.specs.declared.limits.TheConstants.{MAX_PARTS, MAX_TERMINALS}
+use Rattle.bs_net.specs.declared.limits.TheConstants.{MAX_NETS}
+use Rattle.bs_net.specs.declared.net.Flop.{Flop}
+use Rattle.bs_flat_nets.specs.Blocks.{design_of}
 use Rattle.bs_flat_nets.specs.declared.blocks.FlatModule.{FlatModule}
+use Rattle.bs_flat_nets.specs.Numbering.{net_at}
+use Rattle.bs_flat_nets.specs.declared.climbing.NetOnPath.{NetOnPath}
+use Rattle.bs_flat_elaborate.specs.Whole.{AreShort}
 use Rattle.bs_flat_elaborate.specs.Terminals.{width, gates_at, terminals_at, terminals_of}
 
 -- ---- a sum on the way
@@ -100,6 +108,53 @@ terminals_are blocks nodes top stand =
     sum_same (λ (n : Node). terminals_at blocks n.of) (λ (p : Path). terminals_in (module_at d p)) nodes (paths d) no_node [] stand.count
     (λ k lt. sym (ap (λ gs. sum_by width gs) (module_gates blocks top (get_or nodes k no_node).of)) ∙ ap terminals_in (stand.each k lt).same)
     ∙ sym (by_paths d)
+
+-- ---- what the limits leave
+
+all_within : {A : Type 0} (f : A → ℕ) (xs : List A) → All (λ x. f x ≤ sum_by f xs) xs
+all_within f [] = All-nil (λ x. f x ≤ 0)
+all_within f (x ∷ xs) =
+    let whole = sum_by-cons f x xs in
+    All-cons (λ y. f y ≤ sum_by f (x ∷ xs)) x xs (omega (arith, whole))
+    (All-weaker (λ y. f y ≤ sum_by f xs) (λ y. f y ≤ sum_by f (x ∷ xs)) (λ y h. omega (arith, whole, h)) xs (all_within f xs))
+
+-- gates and flip-flops of a design that passes the limits
+pub flat_short : (d : Design) (gs : List Gate) (fs : List Flop) → nat_lt MAX_PARTS (part_count d) ≡ false
+    → nat_lt MAX_TERMINALS (terminal_count d) ≡ false → gs ≡ map (flat_gate d) (gates d) → fs ≡ map (flat_flop d) (flops d) → AreShort gs fs
+flat_short d gs fs parts narrow eg ef =
+    let most = ltb-false MAX_PARTS (part_count d) parts in
+    let wide = ltb-false MAX_TERMINALS (terminal_count d) narrow in
+    let gate_count : length gs ≡ length (gates d) = ap (λ (l : List Gate). length l) eg ∙ length-map (gates d) (flat_gate d) in
+    let flop_count : length fs ≡ length (flops d) = ap (λ (l : List Flop). length l) ef ∙ length-map (flops d) (flat_flop d) in
+    record {
+      gates_few = omega (arith, gate_count, most);
+      narrow =
+          subst (λ (l : List Gate). All (λ g. length g.ins < 2 ^ 32) l) (sym eg)
+          (All-map (λ (g : Gate). length g.ins < 2 ^ 32) (flat_gate d) (gates d)
+          (All-weaker (λ (g : At Gate). length g.it.ins ≤ terminal_count d) (λ (g : At Gate). length (flat_gate d g).ins < 2 ^ 32)
+          (λ g h. let same = length-map g.it.ins (flat_net d g.path) in omega (arith, same, h, wide)) (gates d)
+          (all_within (λ (g : At Gate). length g.it.ins) (gates d))));
+      flops_few = omega (arith, flop_count, most);
+    }
+
+-- the paths of a design that passes the limits
+pub paths_few : (d : Design) (nodes : List Node) → nat_lt MAX_PARTS (part_count d) ≡ false → ArePaths d nodes (paths d)
+    → length nodes ≤ MAX_PARTS + 1
+paths_few d nodes parts stand =
+    let most = ltb-false MAX_PARTS (part_count d) parts in
+    let count = stand.count in
+    omega (arith, most, count)
+
+-- the flat nets of a design that passes the limits
+pub places_few : (d : Design) (places : List NetOnPath) → nat_lt MAX_NETS (length (flat_parts d).names) ≡ false
+    → map (net_at d) places ≡ flat_nets d → length places ≤ MAX_NETS
+unfolding flat_parts
+places_few d places nets e =
+    let most = ltb-false MAX_NETS (length (map (flat_key d) (flat_nets d))) nets in
+    let named = length-map (flat_nets d) (flat_key d) in
+    let placed = length-map places (net_at d) in
+    let same = ap (λ (l : List PathNet). length l) e in
+    omega (arith, most, named, placed, same)
 
 pub gates_there : (blocks : List FlatModule) (k : ℕ) (b : FlatModule) → k < length blocks → b ≡ get_or blocks k b → b.gates ≡ gates_at blocks k
 gates_there blocks k b h e = ap (λ (c : FlatModule). c.gates) e ∙ sym (get_or-map (λ (c : FlatModule). c.gates) blocks k b [] h)

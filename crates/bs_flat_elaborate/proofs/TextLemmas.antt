@@ -1,9 +1,8 @@
 -- The texts of paths, by nodes.
-use Rattle.std.proofs.Common.{◌≡◌, ℕ, ◌<◌, ◌+◌, List, [], ◌∷◌, ◌++◌, length, get_or, refl, arith, ap, sym, ◌∙◌, add-one}
+use Rattle.std.proofs.Common.{◌≡◌, ℕ, ◌<◌, List, [], ◌∷◌, ◌++◌, length, refl, arith, ap, sym, ◌∙◌}
 use Rattle.std.specs.Prelude.{codes}
-use Rattle.bs_flat_meaning.specs.declared.limits.TheConstants.{MAX_DEPTH}
 use Rattle.bs_flat_meaning.specs.declared.paths.Node.{Node}
-use Rattle.bs_flat_meaning.specs.Design.{Design, Module, Path, instance_in, module_at, paths_from, paths}
+use Rattle.bs_flat_meaning.specs.Design.{Design, Module, Path, instance_in, module_at}
 use Rattle.bs_flat_meaning.specs.Flat.{path_text}
 use Rattle.bs_flat_nets.specs.Blocks.{design_of}
 use Rattle.bs_flat_nets.specs.Climbing.{node_at, path_in}

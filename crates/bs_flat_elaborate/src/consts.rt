@@ -1,5 +1,5 @@
 //! The flat constants: `1'b0` and `1'b1` stand once, where they stand first.
-ghost use Rattle.std.specs.Prelude.{◌≡◌, ◌<◌, ◌++◌, ◌&&◌, [], ◌∷◌, not, nat_eq, if◌then◌else◌, length, map, filter, slice_index_or, string_bytes, IfOk, OnOk};
+ghost use Rattle.std.specs.Prelude.{◌≡◌, ◌+◌, ◌≤◌, ◌<◌, ◌++◌, ◌&&◌, [], ◌∷◌, not, nat_eq, if◌then◌else◌, length, map, filter, slice_index_or, string_bytes, IfOk, OnOk};
 ghost use Rattle.std.specs.List.{flat_map};
 ghost use Rattle.std.specs.Str.{bytes_eq};
 ghost use Rattle.bs_verilog_scope.specs.Keys as keys;
@@ -12,7 +12,7 @@ ghost use Rattle.bs_flat_elaborate.specs.Parts as spec;
 
 use crate::nets::{block_of, net_of, node_count};
 use bs_bits::{List, NoMemory};
-use bs_flat_meaning::Node;
+use bs_flat_meaning::{MAX_PARTS, Node};
 use bs_flat_nets::{FlatModule, JoinedNets, Numbering, outer_of};
 use bs_net::{Const, NetId};
 use bs_verilog_scope::constant_key;
@@ -157,11 +157,12 @@ pub fn flat_consts(
     top: u32,
     numbering: &Numbering,
 ) -> Result<List<Const>, NoMemory>
-    requires { IsLaid blocks.now nodes.now top numbering.now }
+    requires laid { IsLaid blocks.now nodes.now top numbering.now }
+    requires few { length nodes.now ≤ MAX_PARTS + 1 }
     ensures { IfOk result (λ all. all ≡ (flat.flat_parts (design_of blocks.now top)).consts) }
 {
     let mut all = List::new(alloc);
-    let count = node_count(nodes)?;
+    let count = node_count(nodes);
     'nodes: for node in 0..count {
         add_consts(blocks, nodes, top, numbering, node, &mut all)?;
     }

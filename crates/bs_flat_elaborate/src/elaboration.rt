@@ -35,6 +35,7 @@ fn lay(alloc: Global, blocks: &[FlatModule], top: u32) -> Result<Laid, NoMemory>
     requires top { top < length blocks.now }
     requires there { AreThere blocks.now }
     requires design { IsDesign (design_of blocks.now top) }
+    requires small { spec.IsSmall (design_of blocks.now top) }
     ensures { IfOk result (λ laid. spec.IsMadeOf blocks.now top laid) }
 {
     let nodes = path_nodes(alloc, blocks, top)?;

@@ -1,9 +1,11 @@
 //! The flat parts together.
-ghost use Rattle.std.specs.Prelude.{◌≡◌, ◌<◌, ◌≤◌, ◌^◌, [], length, map, All, IfOk, IsTrue};
+ghost use Rattle.std.specs.Prelude.{◌≡◌, ◌<◌, ◌≤◌, ◌+◌, ◌^◌, [], false, nat_lt, length, map, All, IfOk, IsTrue};
 ghost use Rattle.bs_net.specs.Netlist.{parts_of};
 ghost use Rattle.bs_net.specs.Gate.{takes};
 ghost use Rattle.bs_flat_meaning.specs.Design as design;
 ghost use Rattle.bs_flat_meaning.specs.Flat.{flat_flop, flat_gate, flat_net, flat_parts};
+ghost use Rattle.bs_flat_meaning.specs.Reading.{terminal_count};
+ghost use Rattle.bs_flat_meaning.specs.declared.limits.TheConstants.{MAX_TERMINALS as most_terminals};
 ghost use Rattle.bs_flat_nets.specs.Blocks.{design_of};
 ghost use Rattle.bs_flat_elaborate.specs.Laid.{IsLaid};
 ghost use Rattle.bs_flat_elaborate.specs.Naming.{keys_of};
@@ -14,12 +16,12 @@ use crate::flops::flat_flops;
 use crate::gates::flat_gates;
 use crate::ports::{flat_inputs, flat_outputs};
 use bs_bits::{List, NoMemory};
-use bs_flat_meaning::Node;
+use bs_flat_meaning::{MAX_PARTS, Node};
 use bs_flat_nets::{FlatModule, Numbering};
 use bs_net::{Const, Flop, Gate, MAX_NETS, Names, NetId, Raw};
 use std::alloc::Global;
 
-/// A list of 2^32 members and more is want of memory.
+/// A list of 2^32 members and more is want of memory: a module's ports and constants in its own text have fewer.
 fn short(count: usize) -> Result<(), NoMemory>
     ensures { IfOk result (λ _. count < 2 ^ 32) }
 {
@@ -30,37 +32,15 @@ fn short(count: usize) -> Result<(), NoMemory>
     }
 }
 
-/// Each gate has fewer than 2^32 inputs.
-fn short_gates(gates: &[Gate]) -> Result<(), NoMemory>
-    ensures { IfOk result (λ _. All (λ g. length g.ins < 2 ^ 32) gates.now) }
-{
-    'gates: for gate in gates {
-        short(gate.ins.slice().len())?;
-    }
-    Ok(())
-}
-
-/// So many inputs, outputs, constants and flip-flops, and these gates, are each fewer than 2^32, and so are each gate's inputs.
-fn are_short(
-    inputs: usize,
-    outputs: usize,
-    consts: usize,
-    flops: usize,
-    gates: &[Gate],
-) -> Result<(), NoMemory>
+/// So many inputs, outputs and constants are each fewer than 2^32.
+fn are_short(inputs: usize, outputs: usize, consts: usize) -> Result<(), NoMemory>
     ensures inputs { IfOk result (λ _. inputs < 2 ^ 32) }
     ensures outputs { IfOk result (λ _. outputs < 2 ^ 32) }
     ensures consts { IfOk result (λ _. consts < 2 ^ 32) }
-    ensures flops { IfOk result (λ _. flops < 2 ^ 32) }
-    ensures gates { IfOk result (λ _. length gates.now < 2 ^ 32) }
-    ensures narrow { IfOk result (λ _. All (λ g. length g.ins < 2 ^ 32) gates.now) }
 {
     short(inputs)?;
     short(outputs)?;
     short(consts)?;
-    short(flops)?;
-    short(gates.len())?;
-    short_gates(gates)?;
     Ok(())
 }
 
@@ -82,7 +62,8 @@ fn lists_of(
     top: u32,
     numbering: &Numbering,
 ) -> Result<Lists, NoMemory>
-    requires { IsLaid blocks.now nodes.now top numbering.now }
+    requires laid { IsLaid blocks.now nodes.now top numbering.now }
+    requires paths { length nodes.now ≤ MAX_PARTS + 1 }
     ensures inputs { IfOk result (λ l. l.inputs ≡ map (flat_net (design_of blocks.now top) []) (design.own (design_of blocks.now top) []).inputs) }
     ensures outputs { IfOk result (λ l. l.outputs ≡ map (flat_net (design_of blocks.now top) []) (design.own (design_of blocks.now top) []).outputs) }
     ensures consts { IfOk result (λ l. l.consts ≡ (flat_parts (design_of blocks.now top)).consts) }
@@ -105,16 +86,11 @@ fn lists_of(
 
 /// The parts of a netlist, each of whose nets has a name.
 fn raw_of(names: Names, lists: Lists) -> Result<Raw, NoMemory>
-    requires { spec.AreNamed (record { names = names; inputs = lists.inputs; outputs = lists.outputs; consts = lists.consts; gates = lists.gates; flops = lists.flops }) }
+    requires named { spec.AreNamed (record { names = names; inputs = lists.inputs; outputs = lists.outputs; consts = lists.consts; gates = lists.gates; flops = lists.flops }) }
+    requires short { spec.AreShort lists.gates lists.flops }
     ensures { IfOk result (λ r. parts_of r ≡ record { names = names; inputs = lists.inputs; outputs = lists.outputs; consts = lists.consts; gates = lists.gates; flops = lists.flops }) }
 {
-    are_short(
-        lists.inputs.len(),
-        lists.outputs.len(),
-        lists.consts.len(),
-        lists.flops.len(),
-        lists.gates.slice(),
-    )?;
+    are_short(lists.inputs.len(), lists.outputs.len(), lists.consts.len())?;
     Ok(Raw {
         names,
         inputs: lists.inputs,
@@ -138,6 +114,9 @@ pub fn flat(
     requires takes { All (λ b. All (λ g. IsTrue (takes g.kind (length g.ins))) b.gates) blocks.now }
     requires named { names ≡ keys_of (design_of blocks.now top) }
     requires few { length names ≤ MAX_NETS }
+    requires small { spec.IsSmall (design_of blocks.now top) }
+    requires narrow { nat_lt most_terminals (terminal_count (design_of blocks.now top)) ≡ false }
+    requires paths { length nodes.now ≤ MAX_PARTS + 1 }
     ensures { IfOk result (λ r. parts_of r ≡ flat_parts (design_of blocks.now top)) }
 {
     let lists = lists_of(alloc, blocks, nodes, top, numbering)?;

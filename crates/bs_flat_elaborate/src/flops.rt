@@ -1,5 +1,5 @@
 //! The flat flip-flops.
-ghost use Rattle.std.specs.Prelude.{◌≡◌, ◌<◌, ◌++◌, length, map, IfOk, OnOk};
+ghost use Rattle.std.specs.Prelude.{◌≡◌, ◌+◌, ◌≤◌, ◌<◌, ◌++◌, length, map, IfOk, OnOk};
 ghost use Rattle.bs_flat_meaning.specs.Design as design;
 ghost use Rattle.bs_flat_meaning.specs.Flat as flat;
 ghost use Rattle.bs_flat_nets.specs.Blocks.{design_of};
@@ -9,7 +9,7 @@ ghost use Rattle.bs_flat_elaborate.specs.Parts as spec;
 
 use crate::nets::{block_of, net_of, node_count};
 use bs_bits::{List, NoMemory};
-use bs_flat_meaning::Node;
+use bs_flat_meaning::{MAX_PARTS, Node};
 use bs_flat_nets::{FlatModule, Numbering};
 use bs_net::{Flop, Mode};
 use std::alloc::Global;
@@ -95,11 +95,12 @@ pub fn flat_flops(
     top: u32,
     numbering: &Numbering,
 ) -> Result<List<Flop>, NoMemory>
-    requires { IsLaid blocks.now nodes.now top numbering.now }
+    requires laid { IsLaid blocks.now nodes.now top numbering.now }
+    requires few { length nodes.now ≤ MAX_PARTS + 1 }
     ensures { IfOk result (λ all. all ≡ map (flat.flat_flop (design_of blocks.now top)) (design.flops (design_of blocks.now top))) }
 {
     let mut all = List::new(alloc);
-    let count = node_count(nodes)?;
+    let count = node_count(nodes);
     'nodes: for node in 0..count {
         add_flops(blocks, nodes, top, numbering, node, &mut all)?;
     }

@@ -1,5 +1,5 @@
 //! The flat gates.
-ghost use Rattle.std.specs.Prelude.{◌≡◌, ◌<◌, ◌++◌, length, map, IfOk, OnOk};
+ghost use Rattle.std.specs.Prelude.{◌≡◌, ◌+◌, ◌≤◌, ◌<◌, ◌++◌, length, map, IfOk, OnOk};
 ghost use Rattle.bs_flat_meaning.specs.Design as design;
 ghost use Rattle.bs_flat_meaning.specs.Flat as flat;
 ghost use Rattle.bs_flat_nets.specs.Blocks.{design_of};
@@ -9,7 +9,7 @@ ghost use Rattle.bs_flat_elaborate.specs.Parts as spec;
 
 use crate::nets::{block_of, net_of, node_count, terms_of};
 use bs_bits::{List, NoMemory};
-use bs_flat_meaning::Node;
+use bs_flat_meaning::{MAX_PARTS, Node};
 use bs_flat_nets::{FlatModule, Numbering};
 use bs_net::Gate;
 use std::alloc::Global;
@@ -67,11 +67,12 @@ pub fn flat_gates(
     top: u32,
     numbering: &Numbering,
 ) -> Result<List<Gate>, NoMemory>
-    requires { IsLaid blocks.now nodes.now top numbering.now }
+    requires laid { IsLaid blocks.now nodes.now top numbering.now }
+    requires few { length nodes.now ≤ MAX_PARTS + 1 }
     ensures { IfOk result (λ all. all ≡ map (flat.flat_gate (design_of blocks.now top)) (design.gates (design_of blocks.now top))) }
 {
     let mut all = List::new(alloc);
-    let count = node_count(nodes)?;
+    let count = node_count(nodes);
     'nodes: for node in 0..count {
         add_gates(alloc, blocks, nodes, top, numbering, node, &mut all)?;
     }

@@ -82,12 +82,10 @@ pub fn name_nets(
     numbering: &Numbering,
 ) -> Result<Named, NoMemory>
     requires laid { IsLaid blocks.now nodes.now top numbering.now }
+    requires few { length numbering.now.places ≤ MAX_NETS }
     ensures { IfOk result (λ named. spec.IsNamed (spec.keys_of (design_of blocks.now top)) named) }
 {
     let places = numbering.places.slice();
-    if places.len() > MAX_NETS as usize {
-        return Err(NoMemory);
-    }
     let mut label = first_label(alloc, blocks, nodes);
     let mut made = nothing(alloc);
     'nets: for place in places {

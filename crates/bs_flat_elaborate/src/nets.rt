@@ -1,12 +1,12 @@
 //! The flat nets that stand for the nets of parts.
-ghost use Rattle.std.specs.Prelude.{◌≡◌, ◌<◌, length, map, slice_index_or, IfOk};
+ghost use Rattle.std.specs.Prelude.{◌≡◌, ◌<◌, ◌≤◌, ◌+◌, length, map, slice_index_or, IfOk};
 ghost use Rattle.bs_flat_meaning.specs.Flat as flat;
 ghost use Rattle.bs_flat_nets.specs.Blocks.{design_of};
 ghost use Rattle.bs_flat_nets.specs.Climbing.{node_at, path_in};
 ghost use Rattle.bs_flat_elaborate.specs.Laid.{IsLaid};
 
 use bs_bits::{List, NoMemory};
-use bs_flat_meaning::Node;
+use bs_flat_meaning::{MAX_PARTS, Node};
 use bs_flat_nets::{FlatModule, Numbering, flat_net};
 use bs_net::{NetId, Terms};
 use std::alloc::Global;
@@ -75,15 +75,12 @@ pub fn terms_of(
     Ok(all)
 }
 
-/// How many nodes there are. 2^32 and more are want of memory, and no list of paths has them.
-pub fn node_count(nodes: &[Node]) -> Result<u32, NoMemory>
-    ensures { IfOk result (λ n. n ≡ length nodes.now) }
+/// How many nodes there are.
+pub fn node_count(nodes: &[Node]) -> u32
+    requires { length nodes.now ≤ MAX_PARTS + 1 }
+    ensures { result ≡ length nodes.now }
 {
-    if nodes.len() <= 4294967295 {
-        Ok(nodes.len() as u32)
-    } else {
-        Err(NoMemory)
-    }
+    nodes.len() as u32
 }
 
 /// The block of a node.

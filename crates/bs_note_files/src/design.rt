@@ -185,6 +185,11 @@ pub fn design_note(
             b"the keys of all nets have more than 268435456 bytes together: give shorter names",
         ),
         FlatFault::NameClash(key) => clash_note(alloc, path, key.slice()),
+        FlatFault::FlatTerminals => file_note(
+            alloc,
+            path,
+            b"on all paths gates have more than 268435456 inputs together: give a gate 64 inputs at most",
+        ),
         FlatFault::NoMemory => file_note(alloc, path, b"memory ran out"),
     }
 }

@@ -7,6 +7,6 @@ use Rattle.bs_flat_elaborate.proofs.consts.flat_consts.Goals as goal
 pub returns : goal.returns
 returns c =
     let d = design_of c.args.blocks.now c.args.top in
-    all_paths c.args.blocks.now c.args.nodes.now c.args.top c.nodes.node c.in_ok-count.count (consts_on d) c.nodes.all c.requires.stand c.in_ok-count.ensures
+    all_paths c.args.blocks.now c.args.nodes.now c.args.top c.nodes.node c.node_count-count.result (consts_on d) c.nodes.all c.requires.laid.stand c.node_count-count.ensures
     c.nodes-test.false c.nodes.invariant
     ∙ consts_are d

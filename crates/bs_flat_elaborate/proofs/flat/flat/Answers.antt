@@ -3,11 +3,12 @@ use Rattle.bs_net.specs.declared.limits.TheConstants.{MAX_NETS}
 use Rattle.bs_flat_nets.specs.Blocks.{design_of}
 use Rattle.bs_flat_elaborate.specs.Naming.{keys_of}
 use Rattle.bs_flat_elaborate.specs.Whole.{AreNamed}
+use Rattle.bs_flat_elaborate.proofs.TerminalLemmas.{flat_short}
 use Rattle.bs_flat_elaborate.proofs.WholeLemmas.{flat_named, whole_is}
 use Rattle.bs_flat_elaborate.proofs.flat.flat.Goals as goal
 
-pub raw_of-requires : goal.raw_of-requires
-raw_of-requires c =
+pub raw_of-requires-clause-named : goal.raw_of-requires-clause-named
+raw_of-requires-clause-named c =
     let d = design_of c.args.blocks.now c.args.top in
     let few : length (keys_of d) ≤ MAX_NETS = subst (λ (l : List (List ℕ)). length l ≤ MAX_NETS) c.requires.named c.requires.few in
     subst AreNamed
@@ -15,6 +16,11 @@ raw_of-requires c =
     (whole_is d c.args.names c.in_ok-lists.lists.inputs c.in_ok-lists.lists.outputs c.in_ok-lists.lists.consts c.in_ok-lists.lists.gates c.in_ok-lists.lists.flops c.requires.named
     c.in_ok-lists.ensures.inputs c.in_ok-lists.ensures.outputs c.in_ok-lists.ensures.consts c.in_ok-lists.ensures.gates c.in_ok-lists.ensures.flops))
     (flat_named c.args.blocks.now c.args.top c.requires.laid.design c.requires.takes few)
+
+pub raw_of-requires-clause-short : goal.raw_of-requires-clause-short
+raw_of-requires-clause-short c =
+    flat_short (design_of c.args.blocks.now c.args.top) c.in_ok-lists.lists.gates c.in_ok-lists.lists.flops c.requires.small.parts c.requires.narrow
+    c.in_ok-lists.ensures.gates c.in_ok-lists.ensures.flops
 
 pub returns : goal.returns
 returns c =

@@ -2,7 +2,6 @@ use Rattle.std.proofs.Common.{◌≡◌, ◌<◌, ◌+◌, ◌∙◌, ap, sym, s
 use Rattle.std.proofs.lemmas.Bool.{ltb-true, ltb-false}
 use Rattle.bs_flat_meaning.specs.declared.limits.TheConstants.{MAX_KEY_BYTES}
 use Rattle.bs_flat_nets.specs.Blocks.{design_of}
-use Rattle.bs_flat_nets.specs.declared.climbing.NetOnPath.{NetOnPath}
 use Rattle.bs_flat_elaborate.specs.Keys.{key_of_place}
 use Rattle.bs_flat_elaborate.specs.Naming.{keys_of, bytes_of, added, IsMade}
 use Rattle.bs_flat_elaborate.proofs.NamingLemmas.{keys_are, keys_count, made_more, made_all, long_is}
@@ -46,5 +45,4 @@ returns c =
     let all : IsMade (keys_of d) c.nets.made =
     subst (λ (l : List (List ℕ)). IsMade l c.nets.made) (sym keys) (made_all f places c.nets.place-index c.nets.made c.nets-test.false c.nets.invariant.made) in
     let count = keys_count c.args.blocks.now c.args.nodes.now c.args.top c.args.numbering.now c.requires.laid in
-    let same = ap (λ (l : List NetOnPath). length l) c.slice-places.ensures in
-    (all.names c.if-made.false, omega (arith, all.bytes, all.low), all.apart c.if-made.false, omega (arith, count, same, c.if-places.false))
+    (all.names c.if-made.false, omega (arith, all.bytes, all.low), all.apart c.if-made.false, omega (arith, count, c.requires.few))
