@@ -6,7 +6,7 @@ use Rattle.bs_inspect_files.specs.Run.{simulated}
 use Rattle.bs_stim.specs.StimulusText.{run_text}
 use Rattle.bs_inspect_view.specs.Drawn.{Asked}
 use Rattle.bs_inspect_view.specs.View.{IsDrawing}
-use Rattle.bs_inspect_proposal.specs.Proposal.{TellsProposal}
+use Rattle.bs_inspect_lists.specs.Signature.{TellsSignature}
 use Rattle.bs_inspect_netlist.specs.Called.{TellsKeys}
 use Rattle.bs_inspect_netlist.specs.Order.{state_line}
 use Rattle.bs_inspect_netlist.specs.Told.{TellsFlops, TellsInputs}
@@ -34,7 +34,7 @@ finishes (to_trace all only traced) status text = (status ≡ Done) × TellsTrac
 finishes (to_run lines) status text = (status ≡ Done) × (text ≡ run_text (simulated lines))
 finishes (to_wave traced) status text =
     (status ≡ Done) × IsDrawing traced.raw (commented (remarks traced.report)) traced.report.states traced.report.inputs text
-finishes (to_signature items exercised) status text = (status ≡ Done) × TellsProposal exercised.raw exercised.runs items text
+finishes (to_signature items exercised) status text = (status ≡ Done) × TellsSignature exercised.raw exercised.runs items text
 finishes (to_table only traced) status text = (status ≡ Done) × TellsTable traced.raw traced.report only text
 finishes (to_steps_table report) status text = (status ≡ Done) × (text ≡ steps_table report)
 finishes (to_keys names raw) status text = (status ≡ Done) × TellsKeys raw names text

@@ -11,8 +11,8 @@ use crate::usage::{usage_text, version_text};
 use bs_bits::{Bits, List};
 use bs_inspect_files::{Exercised, Traced, run_text};
 use bs_inspect_flops::Scanned;
+use bs_inspect_lists::signature_text;
 use bs_inspect_netlist::{flops_text, inputs_text, keys_text, state_text, stats_text};
-use bs_inspect_proposal::proposal_text;
 use bs_inspect_report::{remarks_text, steps_table, steps_text, trace_table, trace_text};
 use bs_inspect_view::{Asked, drawing};
 use bs_net::Netlist;
@@ -146,7 +146,7 @@ pub(crate) fn tell_wave(alloc: Global, traced: &Traced) -> Result<Reply, NoMemor
     })
 }
 
-/// A signature of so many items that recorded runs propose.
+/// A signature of so many items that recorded runs propose, and the lists that it leads to.
 pub(crate) fn tell_signature(
     alloc: Global,
     exercised: &Exercised,
@@ -155,7 +155,7 @@ pub(crate) fn tell_signature(
     requires { 0 < items }
     ensures { IfOk result (λ answer. finishes (to_signature items (exercised_in exercised.now)) answer.status answer.text.items) }
 {
-    let text = proposal_text(alloc, &exercised.net, &exercised.runs, items as usize)?;
+    let text = signature_text(alloc, &exercised.net, &exercised.runs, items as usize)?;
     Ok(Reply {
         status: Status::Done,
         text,

@@ -168,6 +168,26 @@ fn lanes_at_reset<'a>(
     Ok(lanes)
 }
 
+/// The same by lanes that are let go.
+fn film_by(
+    alloc: Global,
+    mut lanes: Lanes<'_>,
+    runs: &Runs,
+    first: u32,
+    count: u32,
+    cycles: u32,
+) -> Result<List<List<u64>>, NoMemory>
+    requires wide { lanes.wide ≡ 1 }
+    requires width { runs.now.width ≡ length (circuit lanes.net).inputs }
+    requires some { first < length runs.now.runs }
+    requires count { count ≡ min (length runs.now.runs - first) 64 }
+    requires shows { ShowsCycle (circuit lanes.net) (inputs_of runs.now) first lanes.flops 0 }
+    ensures film { IfOk result (λ film. IsFilm (circuit lanes.entry.net) (inputs_of runs.now) first film) }
+    ensures long { IfOk result (λ film. length film ≡ cycles + 1) }
+{
+    film_with(alloc, &mut lanes, runs, first, count, cycles)
+}
+
 /// The words of the flip-flops at each cycle up to one, of so many runs behind the first ones. A run that ends before moves on by
 /// inputs that nothing is said of.
 pub(crate) fn film_of(
@@ -184,7 +204,7 @@ pub(crate) fn film_of(
     ensures film { IfOk result (λ film. IsFilm (circuit net.now) (inputs_of runs.now) first film) }
     ensures long { IfOk result (λ film. length film ≡ cycles + 1) }
 {
-    let mut lanes = lanes_at_reset(alloc, net, runs, first)?;
-    let film = film_with(alloc, &mut lanes, runs, first, count, cycles)?;
+    let lanes = lanes_at_reset(alloc, net, runs, first)?;
+    let film = film_by(alloc, lanes, runs, first, count, cycles)?;
     Ok(film)
 }

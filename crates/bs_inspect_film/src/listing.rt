@@ -289,12 +289,7 @@ fn without_keys(width: usize, kept: Kept) -> Looked
 
 /// The states of all runs up to a cycle, run by run, each once, and their steps; `MAX_ROWS` of them at most. The runs are moved in
 /// lock step, 64 at once. Beside what is kept it takes a word for each flip-flop and each cycle of the longest of 64 runs.
-pub fn look(
-    alloc: Global,
-    net: &Netlist,
-    runs: &Runs,
-    cycles: u32,
-) -> Result<Looked, NoMemory>
+pub fn look(alloc: Global, net: &Netlist, runs: &Runs, cycles: u32) -> Result<Looked, NoMemory>
     requires { runs.now.width ≡ length (circuit net.now).inputs }
     ensures looked { IfOk result (λ looked. IsLooked (length (circuit net.now).flops) looked.rows looked.steps.items) }
     ensures states { IfOk result (λ looked. states_of looked ≡ states_looked (circuit net.now) cycles (inputs_of runs.now)) }

@@ -1,8 +1,10 @@
 -- What a list counts.
-use Rattle.std.proofs.Common.{◌≡◌, ℕ, zero, suc, ◌<◌, ◌≤◌, ◌+◌, Bool, List, [], ◌∷◌, ◌++◌, length, map, get_or, refl, ap, sym, subst, ◌∙◌, arith, min, Option, None}
-use Rattle.std.specs.Prelude.{All, IfSome, slice_get}
+use Rattle.std.proofs.Common.{◌≡◌, inl, inr, ℕ, zero, suc, ◌<◌, ◌≤◌, ◌+◌, Bool, true, false, List, [], ◌∷◌, ◌++◌, length, map, take, get_or, refl, ap, sym, subst, ◌∙◌, arith, min, Option, None}
+use Rattle.std.specs.Prelude.{All, IfSome, nat_lt, slice_get}
+use Rattle.std.proofs.lemmas.Bool.{ltb-true, ltb-false}
 use Rattle.std.specs.Option.{option_to_list}
-use Rattle.std.proofs.lemmas.List.{length-map, map-append}
+use Rattle.std.proofs.lemmas.List.{length-append, length-map, map-append, take-append-le, take_all}
+use Rattle.std.proofs.lemmas.List.Sums.{sum_by_push}
 use Rattle.std.specs.List.{range_with_len}
 use Rattle.std.proofs.lemmas.List.Elements.{All-append}
 use Rattle.std.proofs.lemmas.List.FromFn.{map-range_with_len_more}
@@ -13,7 +15,7 @@ use Rattle.bs_scan.specs.Crash.{Recording, dump_at, recording_of}
 use Rattle.bs_net.specs.Netlist.{circuit_of}
 use Rattle.bs_net.specs.Parts.{Parts}
 use Rattle.bs_stim.specs.Runs.{Stimulus, inputs_of}
-use Rattle.bs_scan.specs.Moments.{IsMoment, Moment, Run, moment, run_of, state_of}
+use Rattle.bs_scan.specs.Moments.{IsMoment, Moment, Run, run_of, state_of}
 use Rattle.bs_scan.specs.Signature.{predecessors, signatures_before, stored_at}
 use Rattle.bs_scan.specs.declared.dump.Dump.{Dump}
 use Rattle.bs_scan.proofs.SignatureLemmas.{length_state}
@@ -22,15 +24,15 @@ use Rattle.bs_report.specs.declared.report.ListEnd.{ListEnd}
 use Rattle.bs_report.specs.declared.report.ListEnd.TheVariants.{Finished, Candidates, Conflicts}
 use Rattle.bs_report_good.specs.Step.{IsRightEnd}
 use Rattle.bs_preimage.specs.Listed.{HasListed}
-use Rattle.bs_preimage.specs.Preimage.{PreimageState, fresh}
+use Rattle.bs_preimage.specs.Preimage.{PreimageState}
 use Rattle.bs_preimage.specs.declared.listing.Listing.{Listing}
-use Rattle.bs_inspect_lists.specs.Spread.{count_taken, later_moments, place_of}
-use Rattle.bs_inspect_lists.specs.Told.{AreTold, Counts, IsCountOf, IsTold, counted_as}
+use Rattle.bs_inspect_lists.specs.Spread.{count_taken, later_moments, moment_taken}
+use Rattle.bs_inspect_lists.specs.Told.{AreTold, Counts, IsCountOf, IsTold, counted_as, room_of, weight_of, weights_of}
 use Rattle.bs_inspect_lists.specs.declared.counting.TheConstants.{MAX_LISTED}
 use Rattle.bs_inspect_lists.specs.declared.spread.TheConstants.{MAX_MOMENTS}
 use Rattle.bs_inspect_lists.specs.declared.counting.Count.{Count}
 use Rattle.bs_inspect_lists.specs.declared.counting.Count.TheVariants.{Spent}
-use Rattle.bs_inspect_lists.specs.declared.counting.Told.{Told}
+use Rattle.bs_inspect_lists.specs.declared.lists.Told.{Told}
 
 ends_count : (asked : List (List Bool)) (b : ℕ) (lines : List Line) (cands : List Cand) (end : ListEnd) →
     IsRightEnd asked (MAX_LISTED + 1) b lines cands end → Counts asked cands (counted_as cands end)
@@ -72,34 +74,42 @@ wide_by c choice run zero cycle = tt
 wide_by c choice run (suc d) zero = tt
 wide_by c choice run (suc d) (suc cycle) = length-map choice.items _
 
-pub fresh_count : (p : PreimageState) (c : Circuit) (choice : Chosen) (present : List Bool) (stored : List (List Bool)) (count : Count) →
-    p ≡ fresh c choice → IsCountOf p.circuit p.choice present stored count → IsCountOf c choice present stored count
-fresh_count p c choice present stored count e h = subst (λ (q : PreimageState). IsCountOf q.circuit q.choice present stored count) e h
-
-pub stored_wide : (r : Recording) (raw : Parts) (choice : Chosen) (s : Stimulus) (m : Moment) (dump : Dump) → r ≡ recording_of raw choice s →
-    dump ≡ dump_at r m → IfSome dump.stored (λ t. length t ≡ length choice.items)
-stored_wide r raw choice s m dump is e =
+pub stored_wide : (r : Recording) (raw : Parts) (choice : Chosen) (s : Stimulus) (m : Moment) (dump : Dump) (p : PreimageState) → r ≡ recording_of raw choice s →
+    p.choice ≡ choice → dump ≡ dump_at r m → IfSome dump.stored (λ t. length t ≡ length p.choice.items)
+stored_wide r raw choice s m dump p is same e =
     let held : dump.stored ≡ (dump_at (recording_of raw choice s) m).stored =
     ap (λ (d : Dump). d.stored) e ∙ ap (λ (q : Recording). (dump_at q m).stored) is in
-    subst (λ (o : Option (List Bool)). IfSome o (λ t. length t ≡ length choice.items)) (sym held)
-    (wide_by (circuit_of raw) choice (run_of (inputs_of s) m.run) (depth_of choice) m.cycle)
+    subst (λ (ch : Chosen). IfSome dump.stored (λ t. length t ≡ length ch.items)) (sym same)
+    (subst (λ (o : Option (List Bool)). IfSome o (λ t. length t ≡ length choice.items)) (sym held)
+    (wide_by (circuit_of raw) choice (run_of (inputs_of s) m.run) (depth_of choice) m.cycle))
 
-pub state_wide : (r : Recording) (raw : Parts) (choice : Chosen) (s : Stimulus) (m : Moment) (dump : Dump) → r ≡ recording_of raw choice s →
-    dump ≡ dump_at r m → length dump.state ≡ length (circuit_of raw).flops
-state_wide r raw choice s m dump is e =
+pub state_wide : (r : Recording) (raw : Parts) (choice : Chosen) (s : Stimulus) (m : Moment) (dump : Dump) (p : PreimageState) → r ≡ recording_of raw choice s →
+    p.circuit ≡ circuit_of raw → dump ≡ dump_at r m → length dump.state ≡ length p.circuit.flops
+state_wide r raw choice s m dump p is same e =
     ap (λ (d : Dump). length d.state) e
-    ∙ (ap (λ (q : Recording). length (dump_at q m).state) is ∙ length_state (circuit_of raw) (run_of (inputs_of s) m.run) m.cycle)
+    ∙ (ap (λ (q : Recording). length (dump_at q m).state) is
+    ∙ (length_state (circuit_of raw) (run_of (inputs_of s) m.run) m.cycle ∙ ap (λ (c : Circuit). length c.flops) (sym same)))
 
-pub told_is : (r : Recording) (raw : Parts) (choice : Chosen) (s : Stimulus) (m : Moment) (dump : Dump) (count : Count) → r ≡ recording_of raw choice s →
+told_is : (raw : Parts) (choice : Chosen) (s : Stimulus) (r : Recording) (m : Moment) (dump : Dump) (count : Count) → r ≡ recording_of raw choice s →
     depth_of choice ≡ 1 → dump ≡ dump_at r m → IsCountOf (circuit_of raw) choice dump.state (option_to_list dump.stored) count →
     IsCountOf (circuit_of raw) choice (state_of (circuit_of raw) (inputs_of s) m) (stored_at (circuit_of raw) choice (run_of (inputs_of s) m.run) m.cycle) count
-told_is r raw choice s m dump count is one e h =
+told_is raw choice s r m dump count is one e h =
     let shown : dump ≡ dump_at (recording_of raw choice s) m = e ∙ ap (λ (q : Recording). dump_at q m) is in
     let state : dump.state ≡ state_of (circuit_of raw) (inputs_of s) m = ap (λ (d : Dump). d.state) shown in
     let stored : option_to_list dump.stored ≡ stored_at (circuit_of raw) choice (run_of (inputs_of s) m.run) m.cycle =
     ap (λ (d : Dump). option_to_list d.stored) shown ∙ held_by (circuit_of raw) choice (run_of (inputs_of s) m.run) (depth_of choice) m.cycle one in
     subst (λ (t : List (List Bool)). IsCountOf (circuit_of raw) choice (state_of (circuit_of raw) (inputs_of s) m) t count) stored
     (subst (λ (x : List Bool). IsCountOf (circuit_of raw) choice x (option_to_list dump.stored) count) state h)
+
+-- the same of the circuit and the choice that a search is about
+pub told_as : (r : Recording) (raw : Parts) (choice : Chosen) (s : Stimulus) (m : Moment) (dump : Dump) (p : PreimageState) (count : Count) → r ≡ recording_of raw choice s →
+    p.circuit ≡ circuit_of raw → p.choice ≡ choice → depth_of choice ≡ 1 → dump ≡ dump_at r m →
+    IsCountOf p.circuit p.choice dump.state (option_to_list dump.stored) count →
+    IsCountOf (circuit_of raw) choice (state_of (circuit_of raw) (inputs_of s) m) (stored_at (circuit_of raw) choice (run_of (inputs_of s) m.run) m.cycle) count
+told_as r raw choice s m dump p count is circuit same one e h =
+    told_is raw choice s r m dump count is one e
+    (subst (λ (c : Circuit). IsCountOf c choice dump.state (option_to_list dump.stored) count) circuit
+    (subst (λ (ch : Chosen). IsCountOf p.circuit ch dump.state (option_to_list dump.stored) count) same h))
 
 pub moment_there : (r : Recording) (raw : Parts) (choice : Chosen) (s : Stimulus) (m : Moment) → r ≡ recording_of raw choice s →
     IsMoment (inputs_of s) m → IsMoment r.runs m
@@ -129,26 +139,77 @@ one_told c choice runs told after one all is e =
     alone (suc k) d lt = absurd (omega (arith, lt))
 
 -- the moments of the first places that are taken
-pub moments_more : (all : List Moment) (told after : List Told) (one : Told) (m : Moment) (k count place : ℕ) →
-    map (λ (t : Told). t.moment) told ≡ map (λ k. get_or all (place_of (length all) count k) (moment 0 0)) (range_with_len 0 k) →
-    one.moment ≡ m → m ≡ get_or all place (moment 0 0) → place ≡ place_of (length all) count k → after ≡ told ++ one ∷ [] →
-    map (λ (t : Told). t.moment) after ≡ map (λ k. get_or all (place_of (length all) count k) (moment 0 0)) (range_with_len 0 (k + 1))
-moments_more all told after one m k count place e is here at goes =
-    let f : ℕ → Moment = λ k. get_or all (place_of (length all) count k) (moment 0 0) in
-    ap (map (λ (t : Told). t.moment)) goes
-    ∙ (map-append (λ (t : Told). t.moment) told (one ∷ [])
-    ∙ ((λ i. e i ++ (is ∙ (here ∙ ap (λ (p : ℕ). get_or all p (moment 0 0)) at)) i ∷ []) ∙ sym (map-range_with_len_more f 0 k k (omega arith))))
+-- the first moments that are taken are told of
+pub record TellsSo (c : Circuit) (choice : Chosen) (runs : List Run) (told : List Told) (spent k : ℕ) : Type 0 where
+  pub long : length told ≡ k
+  pub moments : map (λ (t : Told). t.moment) told ≡ map (moment_taken (later_moments runs)) (range_with_len 0 k)
+  pub each : All (IsTold c choice runs) told
+  pub spent_is : spent ≡ weights_of told
+  pub begun : (i : ℕ) → i < length told → weights_of (take i told) < room_of (length c.flops)
 
-pub all_are_told : (c : Circuit) (choice : Chosen) (runs : List Run) (told : List Told) (n count k : ℕ) → n ≡ length (later_moments runs) →
-    count ≡ min n MAX_MOMENTS → count ≤ k → k ≤ count →
-    map (λ (t : Told). t.moment) told ≡ map (λ k. get_or (later_moments runs) (place_of (length (later_moments runs)) count k) (moment 0 0)) (range_with_len 0 k) →
-    All (IsTold c choice runs) told → AreTold c choice runs told
-all_are_told c choice runs told n count k long least le ge moments each = record {
-  moments =
-      let all : k ≡ count = omega (arith, le, ge) in
-      let taken : count ≡ count_taken (length (later_moments runs)) = least ∙ ap (λ (m : ℕ). min m MAX_MOMENTS) long in
-      moments
-      ∙ ((λ i. map (λ k. get_or (later_moments runs) (place_of (length (later_moments runs)) count k) (moment 0 0)) (range_with_len 0 (all i)))
-      ∙ (λ i. map (λ k. get_or (later_moments runs) (place_of (length (later_moments runs)) (taken i) k) (moment 0 0)) (range_with_len 0 (taken i))));
-  each = each;
+pub tells_none : (c : Circuit) (choice : Chosen) (runs : List Run) (told : List Told) → told ≡ [] → TellsSo c choice runs told 0 0
+tells_none c choice runs told e = rw e record {
+  long = refl;
+  moments = refl;
+  each = none_told c choice runs [] refl;
+  spent_is = refl;
+  begun = λ i lt. absurd (omega (arith, lt));
 }
+
+pub tells_more : (c : Circuit) (choice : Chosen) (runs : List Run) (told after : List Told) (one : Told) (m : Moment) (spent weight room k : ℕ) →
+    TellsSo c choice runs told spent k → IsTold c choice runs one → one.moment ≡ m → m ≡ moment_taken (later_moments runs) k →
+    weight ≡ weight_of one.count → spent < room → room ≡ room_of (length c.flops) → after ≡ told ++ one ∷ [] →
+    TellsSo c choice runs after (spent + weight) (k + 1)
+tells_more c choice runs told after one m spent weight room k so is at here weighs less rooms goes = rw goes record {
+  long = length-append told (one ∷ []) ∙ omega (arith, so.long);
+  moments =
+      map-append (λ (t : Told). t.moment) told (one ∷ [])
+      ∙ ((λ i. so.moments i ++ (at ∙ here) i ∷ [])
+      ∙ sym (map-range_with_len_more (moment_taken (later_moments runs)) 0 k k (omega arith)));
+  each = one_told c choice runs told (told ++ one ∷ []) one so.each is refl;
+  spent_is = (λ i. so.spent_is i + weighs i) ∙ sym (sum_by_push (λ (t : Told). weight_of t.count) told one);
+  begun = λ i lt. before i (nat_lt i (length told)) refl (omega (arith, lt, length-append told (one ∷ [])));
+}
+  where
+    same_part : (i : ℕ) → i ≤ length told → weights_of (take i told) < room_of (length c.flops) →
+        weights_of (take i (told ++ one ∷ [])) < room_of (length c.flops)
+    same_part i le h = subst (λ (t : List Told). weights_of t < room_of (length c.flops)) (sym (take-append-le i told (one ∷ []) le)) h
+
+    before : (i : ℕ) (b : Bool) → nat_lt i (length told) ≡ b → i ≤ length told → weights_of (take i (told ++ one ∷ [])) < room_of (length c.flops)
+    before i true e le = same_part i le (so.begun i (ltb-true i (length told) e))
+    before i false e le =
+        same_part i le
+        (omega (
+          arith,
+          less,
+          rooms,
+          so.spent_is,
+          ap weights_of (take_all i told (ltb-false i (length told) e)),
+        ))
+
+-- ---- all that are told of
+
+pub all_are_told : (c : Circuit) (choice : Chosen) (runs : List Run) (told : List Told) (n count spent k : ℕ) → n ≡ length (later_moments runs) →
+    count ≡ min n MAX_MOMENTS → count ≤ k → k ≤ count → TellsSo c choice runs told spent k → AreTold c choice runs told
+all_are_told c choice runs told n count spent k long least le ge so =
+    let taken : count ≡ count_taken (length (later_moments runs)) = least ∙ ap (λ (m : ℕ). min m MAX_MOMENTS) long in
+    record {
+      moments = so.moments ∙ ap (λ (m : ℕ). map (moment_taken (later_moments runs)) (range_with_len 0 m)) (sym so.long);
+      each = so.each;
+      few = omega (arith, so.long, ge, taken);
+      begun = so.begun;
+      ended = inl (omega (arith, so.long, ge, le, taken));
+    }
+
+pub enough_told : (c : Circuit) (choice : Chosen) (runs : List Run) (told : List Told) (n count spent room k : ℕ) → n ≡ length (later_moments runs) →
+    count ≡ min n MAX_MOMENTS → k < count → room ≡ room_of (length c.flops) → room ≤ spent → TellsSo c choice runs told spent k →
+    AreTold c choice runs told
+enough_told c choice runs told n count spent room k long least lt rooms le so =
+    let taken : count ≡ count_taken (length (later_moments runs)) = least ∙ ap (λ (m : ℕ). min m MAX_MOMENTS) long in
+    record {
+      moments = so.moments ∙ ap (λ (m : ℕ). map (moment_taken (later_moments runs)) (range_with_len 0 m)) (sym so.long);
+      each = so.each;
+      few = omega (arith, so.long, lt, taken);
+      begun = so.begun;
+      ended = inr (omega (arith, le, rooms, so.spent_is));
+    }

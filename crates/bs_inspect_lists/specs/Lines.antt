@@ -31,13 +31,17 @@ count_cut all = count_by (λ told. is_cut told.count) all
 abbrev pub decimals : ℕ → List ℕ
 decimals n = decimal (n / 100) ++ (codes "." ++ ((48 + n % 100 / 10) ∷ (48 + n % 10) ∷ []))
 
--- how many bits the signature has, how many lists there are, their mean, and how many were cut
+-- how many bits the signature has, and how many lists there are
+abbrev pub counts_words : ℕ → ℕ → List ℕ
+counts_words bits count = codes "lists " ++ (decimal bits ++ (codes " " ++ (decimal count ++ codes " ")))
+
+-- the same, their mean, and how many were cut
+abbrev pub lists_line : ℕ → List Told → List ℕ
+lists_line bits lists =
+    line (counts_words bits (length lists) ++ (decimals (mean_of lists) ++ (codes " " ++ decimal (count_cut lists))))
+
 abbrev pub row_line : Row → List ℕ
-row_line row =
-    line (
-    codes "lists "
-    ++ (decimal row.bits
-    ++ (codes " " ++ (decimal (length row.lists.items) ++ (codes " " ++ (decimals (mean_of row.lists.items) ++ (codes " " ++ decimal (count_cut row.lists.items))))))))
+row_line row = lists_line row.bits row.lists.items
 
 -- the row of the proposed signature, with its lists
 abbrev pub first_text : Row → List ℕ

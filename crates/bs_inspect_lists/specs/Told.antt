@@ -1,5 +1,5 @@
 -- What is told of the lists of predecessors at moments.
-use Rattle.std.specs.Prelude.{◌≡◌, ◌⊎◌, ℕ, ◌<◌, ◌≤◌, ◌+◌, ◌/◌, Bool, true, false, List, length, map, take, All, if◌then◌else◌}
+use Rattle.std.specs.Prelude.{◌≡◌, ◌⊎◌, ℕ, ◌<◌, ◌≤◌, ◌+◌, ◌/◌, max, Bool, true, false, List, length, map, take, All, if◌then◌else◌}
 use Rattle.std.specs.List.{range_with_len, sum_by}
 use Rattle.bs_net.specs.Circuit.{Circuit}
 use Rattle.bs_scan.specs.Choice.{Chosen}
@@ -60,7 +60,7 @@ weights_of all = sum_by (λ told. weight_of told.count) all
 
 -- how many members there is room for in all lists, by the number of flip-flops
 abbrev pub room_of : ℕ → ℕ
-room_of width = MAX_LISTED_BITS / (width + 1)
+room_of width = MAX_LISTED_BITS / max width 1
 
 -- The first of the moments that are taken are told of, in their order: a further one while those before leave room.
 pub record AreTold (c : Circuit) (choice : Chosen) (runs : List Run) (all : List Told) : Type 0 where

@@ -1,5 +1,5 @@
 //! How many members a list of predecessors has.
-ghost use Rattle.std.specs.Prelude.{◌≡◌, ◌<◌, ◌≤◌, ◌+◌, [], ◌∷◌, length, IfOk, IfSome};
+ghost use Rattle.std.specs.Prelude.{◌≡◌, ◌<◌, ◌≤◌, ◌+◌, ◌^◌, [], ◌∷◌, length, IfOk, IfSome};
 ghost use Rattle.std.specs.Option.{option_to_list};
 ghost use Rattle.bs_encode.specs.declared.encoding.TheConstants.{MAX_GUARDS};
 ghost use Rattle.bs_inspect_lists.specs.declared.counting.TheConstants.{MAX_LISTED};
@@ -70,11 +70,7 @@ fn count_in(
 
 /// How many predecessors of a dump's state agree with what it holds, at a moment behind reset.
 #[tactic(auto, using(crate::proofs::ToldLemmas::none_counted))]
-pub(crate) fn count_of_dump(
-    alloc: Global,
-    preimage: &mut Preimage<'_>,
-    dump: &Dump,
-) -> Result<Count, NoMemory>
+fn count_of_dump(alloc: Global, preimage: &mut Preimage<'_>, dump: &Dump) -> Result<Count, NoMemory>
     requires state { length dump.now.state ≡ length preimage.old.circuit.flops }
     requires signature { IfSome dump.now.stored (λ stored. length stored ≡ length preimage.old.choice.items) }
     requires calls { preimage.old.calls < MAX_GUARDS }
@@ -87,6 +83,23 @@ pub(crate) fn count_of_dump(
         Some(stored) => count_in(alloc, preimage, &dump.state, stored),
         None => Ok(Count::Spent(0)),
     }
+}
+
+/// The same of a dump that is let go.
+pub(crate) fn count_dump(
+    alloc: Global,
+    preimage: &mut Preimage<'_>,
+    dump: Dump,
+) -> Result<Count, NoMemory>
+    requires state { length dump.state ≡ length preimage.old.circuit.flops }
+    requires signature { IfSome dump.stored (λ stored. length stored ≡ length preimage.old.choice.items) }
+    requires calls { preimage.old.calls < MAX_GUARDS }
+    ensures count { IfOk result (IsCountOf preimage.old.circuit preimage.old.choice dump.state (option_to_list dump.stored)) }
+    ensures circuit { preimage.new.circuit ≡ preimage.old.circuit }
+    ensures choice { preimage.new.choice ≡ preimage.old.choice }
+    ensures calls { preimage.new.calls ≤ preimage.old.calls + 1 }
+{
+    count_of_dump(alloc, preimage, &dump)
 }
 
 /// How many are counted: of a list that was cut those that it has.
@@ -113,7 +126,8 @@ pub(crate) fn is_cut(count: Count) -> bool
 
 /// How much of the room a list takes: one that was cut as much as a longest one.
 pub(crate) fn weight_of(count: Count) -> u64
-    ensures { result ≡ weight_of count }
+    ensures weight { result ≡ weight_of count }
+    ensures small { result < 2 ^ 32 }
 {
     if is_cut(count) {
         MAX_LISTED as u64

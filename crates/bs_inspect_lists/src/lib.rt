@@ -5,7 +5,7 @@
 //! `signature` (`signature_text`: a proposal, and the lists behind it). Used above: `TellsSignature`
 //! (`specs/Signature`), over `AreTold` (`specs/Told`): each number is that of a list of predecessors,
 //! all of them, or the list was cut. More moments: `MAX_MOMENTS`; longer lists: `MAX_LISTED`, and
-//! `MAX_LISTED_BITS` for all together; harder ones: `MAX_LEMMAS`; more bits: `MAX_DOUBLINGS`.
+//! `MAX_LISTED_BITS` for all together; harder ones: `MAX_LEMMAS`; more bits: `MAX_FACTOR`.
 #![tactic(auto)]
 
 mod counting;
@@ -20,5 +20,5 @@ pub use counting::{Count, MAX_LEMMAS, MAX_LISTED};
 pub use lists::{MAX_LISTED_BITS, Told, count_lists};
 pub use rows::Row;
 pub use signature::signature_text;
-pub use sizes::MAX_DOUBLINGS;
+pub use sizes::MAX_FACTOR;
 pub use spread::MAX_MOMENTS;

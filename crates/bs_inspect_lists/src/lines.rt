@@ -1,7 +1,7 @@
 //! The lines on lists.
 ghost use Rattle.std.specs.Prelude.{◌≡◌, ◌≤◌, ◌*◌, ◌^◌, ◌++◌, length, All, OnOk};
 ghost use Rattle.std.specs.List.{flat_map, sum_by};
-ghost use Rattle.bs_inspect_lists.specs.Lines.{count_cut, count_words, decimals, first_text, list_line, mean_of, row_line, rows_text};
+ghost use Rattle.bs_inspect_lists.specs.Lines.{count_cut, count_words, counts_words, decimals, first_text, list_line, lists_line, mean_of, row_line, rows_text};
 ghost use Rattle.bs_inspect_lists.specs.Told.{number_of};
 ghost use Rattle.bs_inspect_lists.specs.declared.spread.TheConstants.{MAX_MOMENTS};
 
@@ -78,21 +78,35 @@ fn push_decimals(text: &mut Vec<u8>, number: u64) -> Result<(), NoMemory>
     Ok(())
 }
 
-/// Appends how many bits the signature has, how many lists there are, their mean, and how many were cut.
-fn push_row(text: &mut Vec<u8>, row: &Row) -> Result<(), NoMemory>
-    requires { length row.now.lists.items ≤ MAX_MOMENTS }
-    ensures { OnOk result (text.new.items ≡ text.old.items ++ row_line row.now) }
+/// Appends how many bits the signature has, and how many lists there are.
+fn push_counts(text: &mut Vec<u8>, bits: usize, count: usize) -> Result<(), NoMemory>
+    ensures { OnOk result (text.new.items ≡ text.old.items ++ counts_words bits count) }
 {
-    let lists = row.lists.as_slice();
     push_piece(text, b"lists ")?;
-    push_number(text, row.bits as u64)?;
+    push_number(text, bits as u64)?;
     push_piece(text, b" ")?;
-    push_number(text, lists.len() as u64)?;
-    push_piece(text, b" ")?;
+    push_number(text, count as u64)?;
+    push_piece(text, b" ")
+}
+
+/// Appends how many bits the signature has, how many lists there are, their mean, and how many were cut.
+fn push_lists(text: &mut Vec<u8>, bits: usize, lists: &[Told]) -> Result<(), NoMemory>
+    requires { length lists.now ≤ MAX_MOMENTS }
+    ensures { OnOk result (text.new.items ≡ text.old.items ++ lists_line bits lists.now) }
+{
+    push_counts(text, bits, lists.len())?;
     push_decimals(text, mean_of(lists))?;
     push_piece(text, b" ")?;
     push_number(text, count_cut(lists) as u64)?;
     end_line(text)
+}
+
+/// Appends the line of a row.
+fn push_row(text: &mut Vec<u8>, row: &Row) -> Result<(), NoMemory>
+    requires { length row.now.lists.items ≤ MAX_MOMENTS }
+    ensures { OnOk result (text.new.items ≡ text.old.items ++ row_line row.now) }
+{
+    push_lists(text, row.bits, row.lists.as_slice())
 }
 
 /// Appends each moment with its list.

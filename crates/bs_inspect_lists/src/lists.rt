@@ -8,8 +8,9 @@ ghost use Rattle.bs_scan.specs.Crash.{recording_of};
 ghost use Rattle.bs_scan.specs.Moments.{IsMoment};
 ghost use Rattle.bs_preimage.specs.Preimage.{fresh};
 ghost use Rattle.bs_inspect_lists.specs.Told.{AreTold, IsTold, room_of};
+ghost use Rattle.bs_inspect_lists.specs.declared.lists.TheConstants.{MAX_LISTED_BITS};
 
-use crate::counting::{Count, count_of_dump, weight_of};
+use crate::counting::{Count, count_dump, weight_of};
 use crate::spread::{MAX_MOMENTS, count_later, moment_taken};
 use bs_bits::{List, NoMemory};
 use bs_chip::Chip;
@@ -61,16 +62,16 @@ fn told_at(
     let _choice = choice;
     let _runs = runs;
     let dump = chip.dump_at(alloc, moment.run, moment.cycle)?;
-    let count = count_of_dump(alloc, preimage, &dump)?;
+    let count = count_dump(alloc, preimage, dump)?;
     Ok(Told { moment, count })
 }
 
 /// How many members there is room for in all lists, by the number of flip-flops.
 fn room_of(width: usize) -> u64
-    requires { width < 2 ^ 32 }
-    ensures { result ≡ room_of width }
+    ensures room { result ≡ room_of width }
+    ensures small { result ≤ MAX_LISTED_BITS }
 {
-    MAX_LISTED_BITS as u64 / (width as u64 + 1)
+    (MAX_LISTED_BITS / width.max(1)) as u64
 }
 
 /// The moments that are taken, each with its count, while there is room.
@@ -105,6 +106,9 @@ fn tell_each(
     Ok(told)
 }
 
+/// Drops a search.
+fn drop_search(_preimage: Preimage<'_>) {}
+
 /// The same by a search that is at its beginning.
 fn tell_by(
     alloc: Global,
@@ -119,7 +123,9 @@ fn tell_by(
     requires depth { depth_of choice.now ≡ 1 }
     ensures { IfOk result (λ told. AreTold (circuit net.now) choice.now (inputs_of runs.now) told.items) }
 {
-    tell_each(alloc, chip, &mut preimage, net, choice, runs)
+    let told = tell_each(alloc, chip, &mut preimage, net, choice, runs);
+    drop_search(preimage);
+    told
 }
 
 /// Steps all runs, so that a chip keeps their states.
@@ -145,9 +151,19 @@ fn tell_played(
     ensures { IfOk result (λ told. AreTold (circuit net.now) choice.now (inputs_of runs.now) told.items) }
 {
     play(alloc, chip)?;
-    let told = tell_by(alloc, chip, Preimage::new(alloc, net, choice)?, net, choice, runs)?;
+    let told = tell_by(
+        alloc,
+        chip,
+        Preimage::new(alloc, net, choice)?,
+        net,
+        choice,
+        runs,
+    )?;
     Ok(told)
 }
+
+/// Drops a chip.
+fn drop_chip(_chip: Chip<'_>) {}
 
 /// The same by a chip whose runs are not stepped yet.
 fn tell_on(
@@ -162,7 +178,9 @@ fn tell_on(
     requires depth { depth_of choice.now ≡ 1 }
     ensures { IfOk result (λ told. AreTold (circuit net.now) choice.now (inputs_of runs.now) told.items) }
 {
-    tell_played(alloc, &mut chip, net, choice, runs)
+    let told = tell_played(alloc, &mut chip, net, choice, runs);
+    drop_chip(chip);
+    told
 }
 
 /// At `MAX_MOMENTS` moments of the runs behind reset, or at all where these are fewer: how many predecessors the state has that

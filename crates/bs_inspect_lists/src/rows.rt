@@ -1,5 +1,5 @@
 //! The lists by a signature, and by longer ones.
-ghost use Rattle.std.specs.Prelude.{◌≡◌, ◌≢◌, length, map, take, true, false, All, IfOk};
+ghost use Rattle.std.specs.Prelude.{◌≡◌, ◌≢◌, ◌<◌, length, map, None, Some, true, false, All, IfOk};
 ghost use Rattle.bs_net.specs.Netlist.{circuit};
 ghost use Rattle.bs_stim.specs.Runs.{inputs_of};
 ghost use Rattle.bs_scan.specs.Choice.{depth_of};
@@ -8,7 +8,7 @@ ghost use Rattle.bs_inspect_lists.specs.Rows.{AreBy, IsRow, choice_in};
 
 use crate::lists::{Told, count_lists};
 use bs_bits::NoMemory;
-use bs_inspect_proposal::bit_lines;
+use bs_inspect_proposal::{bit_lines, first_flops};
 use bs_net::Netlist;
 use bs_scan::{Choice, ChoiceFault, MAX_SIGNATURE_BYTES};
 use bs_stim::Runs;
@@ -80,12 +80,7 @@ fn lists_in(
 
 /// The lists by the signature that a text is as a file, and none where it is no such file.
 #[tactic(auto, using(crate::proofs::RowLemmas::none_by))]
-fn lists_by(
-    alloc: Global,
-    net: &Netlist,
-    runs: &Runs,
-    text: &[u8],
-) -> Result<Vec<Told>, NoMemory>
+fn lists_by(alloc: Global, net: &Netlist, runs: &Runs, text: &[u8]) -> Result<Vec<Told>, NoMemory>
     requires inputs { runs.now.width ≡ length (circuit net.now).inputs }
     ensures { IfOk result (λ lists. AreBy (circuit net.now) (inputs_of runs.now) (choice_in net.now.raw text.now) lists.items) }
 {
@@ -93,14 +88,6 @@ fn lists_by(
         Some(choice) => lists_in(alloc, net, choice, runs, text),
         None => Ok(Vec::new(alloc)),
     }
-}
-
-/// The first flip-flops of an order, so many or all.
-#[tactic(auto, using(crate::proofs::RowLemmas::first_taken))]
-fn first_flops(order: &[u32], bits: usize) -> &[u32]
-    ensures { result.now ≡ take bits order.now }
-{
-    &order[..order.len().min(bits)]
 }
 
 /// The lists by as many flip-flops of an order as there are bits.

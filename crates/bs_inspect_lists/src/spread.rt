@@ -65,6 +65,8 @@ pub(crate) fn moment_taken(runs: &Runs, all: usize, taken: usize, k: usize) -> M
     requires all { all ≡ length (later_moments (inputs_of runs.now)) }
     requires few { all < 2 ^ 32 }
     requires taken { taken ≡ count_taken all }
+    requires small { taken ≤ MAX_MOMENTS }
+    requires enough { taken ≤ all }
     requires there { k < taken }
     ensures is { result ≡ moment_taken (later_moments (inputs_of runs.now)) k }
     ensures moment { IsMoment (inputs_of runs.now) result }

@@ -36,10 +36,7 @@ found_none shares flops n all = record {
 -- what tells all rows apart is the best
 pub found_early : (classes : List ℕ) (columns : List (List Bool)) (flops : List ℕ) (n : ℕ) (found : Option Found) (b : Bool) → b ≡ tells_all found (length classes) →
     b ≡ true → n ≤ length columns → IsFound (shares_of classes columns) flops n found → IsFound (shares_of classes columns) flops (length columns) found
-found_early classes columns flops n None b is e le are = absurd (false_true (sym is ∙ e))
-  where
-    false_true : false ≡ true → (1 ≡ 0)
-    false_true h = cc
+found_early classes columns flops n None b is e le are = not_both b e is (IsFound (shares_of classes columns) flops (length columns) None)
 found_early classes columns flops n (Some one) b is e le are =
     let old : IsLeast (shares_of classes columns) flops n one = are.some one refl in
     found_one (shares_of classes columns) flops (length columns) one record {
@@ -52,7 +49,7 @@ found_early classes columns flops n (Some one) b is e le are =
             old.shares_are,
             leb-true one.shares (length classes) (sym is ∙ e),
             keys_wide classes (get_or columns f []),
-            shares_least (split_keys classes (get_or columns f []))
+            shares_least (split_keys classes (get_or columns f [])),
           );
       first = old.first;
     }

@@ -17,5 +17,5 @@ mod sharing;
 
 pub use greedy::MAX_COMPARED;
 pub use lines::bit_lines;
-pub use proposal::{Proposal, propose};
+pub use proposal::{Proposal, first_flops, propose};
 pub use sharing::Tally;

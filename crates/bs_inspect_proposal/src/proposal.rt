@@ -171,14 +171,14 @@ fn text_of(
 
 /// The first flip-flops of an order, so many or all.
 #[tactic(auto, using(crate::proofs::ProposalLemmas::first_taken))]
-fn first_flops(order: &[u32], bits: usize) -> &[u32]
+pub fn first_flops(order: &[u32], bits: usize) -> &[u32]
     ensures { result.now ≡ take bits order.now }
 {
     &order[..order.len().min(bits)]
 }
 
 /// Both choices of so many items, where the flip-flops of the first begin this order.
-#[tactic(auto, using(crate::proofs::ProposalLemmas::first_within, crate::proofs::ProposalLemmas::proposes))]
+#[tactic(auto, using(crate::proofs::ProposalLemmas::first_within))]
 fn text_with(
     alloc: Global,
     keys: &[&str],

@@ -2,7 +2,7 @@
 use crate::netlists::netlist;
 use crate::traces::{are_wide, bits_in};
 use bs_bits::{Bits, List, NoMemory};
-use bs_inspect_proposal::proposal_text;
+use bs_inspect_lists::signature_text;
 use bs_inspect_view::view_text;
 use bs_net::Netlist;
 use bs_stim::{MAX_TEXT, Runs};
@@ -21,7 +21,7 @@ fn proposed(alloc: Global, net: &Netlist, runs: &Runs, bits: usize) -> Result<Ve
     if bits == 0 || runs.width() != net.data_inputs().len() {
         return Ok(Vec::new(alloc));
     }
-    proposal_text(alloc, net, runs, bits)
+    signature_text(alloc, net, runs, bits)
 }
 
 /// The proposal for a netlist and runs that are given as a text.

@@ -1,6 +1,6 @@
 use Rattle.std.proofs.Common.{◌≡◌, ◌≤◌, ◌*◌, ◌^◌, take}
 use Rattle.std.specs.List.{sum_by}
-use Rattle.bs_inspect_lists.specs.Lines.{number_of}
+use Rattle.bs_inspect_lists.specs.Told.{number_of}
 use Rattle.bs_inspect_lists.proofs.lines.sum_of.Given as goal
 
 abbrev pub invariant-lists : goal.invariant-lists

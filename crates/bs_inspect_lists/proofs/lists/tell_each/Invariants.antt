@@ -1,0 +1,14 @@
+use Rattle.std.proofs.Common.{◌≡◌, ◌≤◌}
+use Rattle.bs_net.specs.Netlist.{circuit}
+use Rattle.bs_stim.specs.Runs.{inputs_of}
+use Rattle.bs_inspect_lists.proofs.ToldLemmas.{TellsSo}
+use Rattle.bs_inspect_lists.proofs.lists.tell_each.Given as goal
+
+abbrev pub invariant-moments : goal.invariant-moments
+invariant-moments l = record {
+  chip : l.chip.recording ≡ l.initial.chip.recording;
+  about : l.preimage.circuit ≡ circuit l.net;
+  chosen : l.preimage.choice ≡ l.choice;
+  calls : l.preimage.calls ≤ l.k;
+  so : TellsSo (circuit l.net) l.choice (inputs_of l.runs) l.told.items l.spent l.k;
+}
