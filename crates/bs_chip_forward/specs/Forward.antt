@@ -1,0 +1,93 @@
+-- Where recorded states lead: prints of the next bits that no data input but one moves, where that one is 0, and where it is 1.
+use Rattle.std.specs.Prelude.{◌≡◌, ◌≢◌, ℕ, ◌<◌, ◌≤◌, ◌+◌, ◌-◌, ◌*◌, Bool, true, false, List, [], length, slice_index_or}
+use Rattle.bs_net.specs.Circuit.{Circuit, next}
+use Rattle.bs_net_free.specs.Free.{IsFree}
+use Rattle.bs_stim.specs.Packing.{bit_in}
+use Rattle.bs_lanes_planes.specs.Planes.{bit_place, lane}
+use Rattle.bs_scan.specs.Moments.{Run, run_of, state_at}
+use Rattle.bs_chip_forward.specs.declared.forward.Aim.{Aim}
+use Rattle.bs_chip_forward.specs.declared.forward.Row.{Row}
+use Rattle.bs_chip.specs.Lockstep.{wide_of, Passing}
+use Rattle.bs_chip.specs.Prints.{print_of}
+use Rattle.bs_chip_forward.specs.Masks.{masked}
+
+-- ---- what callers see
+
+-- a machine and its runs, and flags of the flip-flops that are looked at where the data input is 0, and where it is 1
+pub record Ahead : Type 0 where
+  pub circuit : Circuit
+  pub runs : List Run
+  pub low : List Bool
+  pub high : List Bool
+
+-- the prints of a state's bits that are looked at
+pub record IsAim (a : Ahead) (present : List Bool) (aim : Aim) : Type 0 where
+  pub low : aim.low ≡ print_of (masked a.low present)
+  pub high : aim.high ≡ print_of (masked a.high present)
+
+-- under no input of the netlist's width does a state lead to another
+pub record LeadsNowhere (c : Circuit) (s present : List Bool) : Type 0 where
+  pub each : (x : List Bool) → length x ≡ length c.inputs → next c s x ≢ present
+
+-- ---- one value of the input
+
+-- a machine in which a data input is held at a value, the number of words of a plane, and flags of flip-flops
+pub record Holding : Type 0 where
+  pub circuit : Circuit
+  pub wide : ℕ
+  pub input : ℕ
+  pub value : Bool
+  pub flags : List Bool
+
+-- in each of the first lanes the plane of an input has a bit
+pub record IsHeldIn (wide input : ℕ) (value : Bool) (planes : List ℕ) (lanes : ℕ) : Type 0 where
+  pub each : (r : ℕ) → r < lanes → bit_in planes (bit_place wide input r) ≡ value
+
+-- the input has the value in each lane, if it is there, and the flagged flip-flops are free then
+pub record IsHolding (h : Holding) (inputs : List ℕ) : Type 0 where
+  pub few : h.wide ≤ 4
+  pub size : length inputs ≡ length h.circuit.inputs * h.wide
+  pub held : h.input < length h.circuit.inputs → IsHeldIn h.wide h.input h.value inputs (64 * h.wide)
+  pub free : IsFree h.circuit h.input h.value h.flags
+
+-- a print is that of where a state leads under each input in which this one has the value, of the flagged flip-flops
+pub record TellsLead (h : Holding) (s : List Bool) (print : ℕ) : Type 0 where
+  pub each : (x : List Bool) → length x ≡ length h.circuit.inputs → slice_index_or x h.input false ≡ h.value →
+      print ≡ print_of (masked h.flags (next h.circuit s x))
+
+-- so many prints are those of where the lanes of planes lead
+pub record TellLeads (h : Holding) (planes prints : List ℕ) (lanes : ℕ) : Type 0 where
+  pub size : length prints ≡ lanes
+  pub each : (r : ℕ) → r < lanes → TellsLead h (lane h.wide (length h.circuit.flops) planes r) (slice_index_or prints r 0)
+
+-- ---- all runs
+
+-- the prints of where each run leads from a cycle that it lasts to
+pub record TellRuns (p : Passing) (h : Holding) (prints : List ℕ) (cycle : ℕ) : Type 0 where
+  pub size : length prints ≡ length p.runs
+  pub each : (n : ℕ) → 1 ≤ n → n ≤ length p.runs → cycle ≤ length (run_of p.runs n) →
+      TellsLead h (state_at p.circuit (run_of p.runs n) cycle) (slice_index_or prints (n - 1) 0)
+
+-- the same for both values
+pub record TellsRow (p : Passing) (low high : Holding) (row : Row) (cycle : ℕ) : Type 0 where
+  pub lows : TellRuns p low row.low cycle
+  pub highs : TellRuns p high row.high cycle
+
+-- a row of nothing, which stands past the end of a list
+abbrev pub no_row : Row
+no_row = record { low = []; high = [] }
+
+-- a machine with an input held at a value is that of a pass
+pub record IsSide (p : Passing) (h : Holding) (value : Bool) : Type 0 where
+  pub circuit : h.circuit ≡ p.circuit
+  pub wide : h.wide ≡ wide_of (length p.runs)
+  pub held : h.value ≡ value
+
+-- the rows of the first cycles, the last of which is that of the pass or the one before
+pub record IsForward (p : Passing) (low high : Holding) (rows : List Row) : Type 0 where
+  pub low_side : IsSide p low false
+  pub high_side : IsSide p high true
+  pub input : high.input ≡ low.input
+  pub noted : p.cycle ≤ length rows
+  pub near : length rows ≤ p.cycle + 1
+  pub show : (k : ℕ) → k < length rows → TellsRow p low high (slice_index_or rows k no_row) k

@@ -1,0 +1,275 @@
+//! Where the recorded states lead, as prints by cycle and run: states that lead elsewhere under every input are passed over.
+ghost use Rattle.std.specs.Prelude.{◌≡◌, ◌<◌, ◌≤◌, ◌+◌, ◌==◌, ◌||◌, false, true, length, slice_index_or, IfOk, IsTrue, OnOk};
+ghost use Rattle.bs_net.specs.Netlist.{circuit};
+ghost use Rattle.bs_net_free.specs.Free.{IsFree};
+ghost use Rattle.bs_stim.specs.declared.limits.TheConstants.{MAX_CYCLES};
+ghost use Rattle.bs_scan.specs.Moments.{moment, run_of, state_at, IsMoment};
+ghost use Rattle.bs_lanes.specs.Lanes.{is_wide};
+ghost use Rattle.bs_chip_forward.specs.Forward.{IsAim, IsForward, IsSide, LeadsNowhere, TellsRow};
+ghost use Rattle.bs_chip.specs.Lockstep.{IsSamePass};
+
+use crate::held::Held;
+use crate::masks::masked_print;
+use bs_bits::{Bits, List, NoMemory};
+use bs_chip::{Chip, Pass, step_to};
+use bs_net::Netlist;
+use bs_net_free::{Split, free_flops, split_of};
+use std::alloc::Global;
+use std::marker::Model;
+
+/// The prints of a present state's bits that no data input but one moves: where this one is 0, and where it is 1.
+#[derive(Clone, Copy)]
+pub struct Aim {
+    pub low: u64,
+    pub high: u64,
+}
+
+/// The prints of where all runs lead from one cycle: where the data input is 0, and where it is 1.
+#[derive(Drop)]
+pub struct Row {
+    pub low: List<u64>,
+    pub high: List<u64>,
+}
+
+/// The flip-flops that are free where there is no data input.
+fn unsplit(alloc: Global, net: &Netlist) -> Result<Split, NoMemory>
+    ensures low { IfOk result (λ split. IsFree (circuit net.now) split.input false split.low) }
+    ensures high { IfOk result (λ split. IsFree (circuit net.now) split.input true split.high) }
+{
+    let low = free_flops(alloc, net, 0, false)?;
+    let high = free_flops(alloc, net, 0, true)?;
+    Ok(Split {
+        input: 0,
+        low,
+        high,
+    })
+}
+
+/// A data input, if there is one, and the flip-flops that no other one moves.
+fn freeing(alloc: Global, net: &Netlist) -> Result<Split, NoMemory>
+    ensures low { IfOk result (λ split. IsFree (circuit net.now) split.input false split.low) }
+    ensures high { IfOk result (λ split. IsFree (circuit net.now) split.input true split.high) }
+{
+    match split_of(alloc, net)? {
+        Some(split) => Ok(split),
+        None => unsplit(alloc, net),
+    }
+}
+
+/// A netlist with a data input held at 0, and with the same one held at 1.
+#[derive(Drop)]
+struct Sides<'a> {
+    low: Held<'a>,
+    high: Held<'a>,
+}
+
+/// The second of two sides beside the first.
+fn beside<'a>(
+    alloc: Global,
+    net: &'a Netlist,
+    wide: usize,
+    low: Held<'a>,
+    input: u32,
+    flags: Bits,
+) -> Result<Sides<'a>, NoMemory>
+    requires wide { IsTrue (is_wide wide) }
+    requires few { wide ≤ 4 }
+    requires free { IsFree (circuit net.now) input true flags }
+    ensures low { IfOk result (λ sides. sides.low ≡ low.entry) }
+    ensures high { IfOk result (λ sides. sides.high ≡ record { circuit = circuit net.now; wide = wide; input = input; value = true; flags = flags }) }
+{
+    let high = Held::new(alloc, net, wide, input as usize, true, flags)?;
+    Ok(Sides { low, high })
+}
+
+/// Both sides of a split.
+fn sides_of<'a>(
+    alloc: Global,
+    net: &'a Netlist,
+    wide: usize,
+    split: Split,
+) -> Result<Sides<'a>, NoMemory>
+    requires wide { IsTrue (is_wide wide) }
+    requires few { wide ≤ 4 }
+    requires low { IsFree (circuit net.now) split.input false split.low }
+    requires high { IsFree (circuit net.now) split.input true split.high }
+    ensures low { IfOk result (λ sides. sides.low ≡ record { circuit = circuit net.now; wide = wide; input = split.input; value = false; flags = split.low }) }
+    ensures high { IfOk result (λ sides. sides.high ≡ record { circuit = circuit net.now; wide = wide; input = split.input; value = true; flags = split.high }) }
+{
+    let Split { input, low, high } = split;
+    let side = Held::new(alloc, net, wide, input as usize, false, low)?;
+    let sides = beside(alloc, net, wide, side, input, high)?;
+    Ok(sides)
+}
+
+/// Where all runs lead from the cycle of a pass.
+fn row_of(
+    alloc: Global,
+    pass: &Pass<'_>,
+    low: &mut Held<'_>,
+    high: &mut Held<'_>,
+) -> Result<Row, NoMemory>
+    requires low { IsSide pass.now low.old false }
+    requires high { IsSide pass.now high.old true }
+    ensures low { low.new ≡ low.old }
+    ensures high { high.new ≡ high.old }
+    ensures row { IfOk result (λ row. TellsRow pass.now low.old high.old row pass.now.cycle) }
+{
+    let lows = low.prints(alloc, pass.planes(), pass.count())?;
+    let highs = high.prints(alloc, pass.planes(), pass.count())?;
+    Ok(Row {
+        low: lows,
+        high: highs,
+    })
+}
+
+/// The row of one more cycle.
+fn advance(
+    alloc: Global,
+    pass: &mut Pass<'_>,
+    low: &mut Held<'_>,
+    high: &mut Held<'_>,
+    rows: &mut List<Row>,
+) -> Result<(), NoMemory>
+    requires ahead { IsForward pass.old low.old high.old rows.old }
+    requires few { length rows.old ≤ MAX_CYCLES }
+    ensures same { IsSamePass pass.old pass.new }
+    ensures low { low.new ≡ low.old }
+    ensures high { high.new ≡ high.old }
+    ensures ahead { IsForward pass.new low.old high.old rows.new }
+    ensures more { OnOk result (length rows.new ≡ length rows.old + 1) }
+{
+    step_to(pass, rows.len());
+    let row = row_of(alloc, pass, low, high)?;
+    rows.push(row)
+}
+
+/// The rows of all cycles up to one.
+fn reach(
+    alloc: Global,
+    pass: &mut Pass<'_>,
+    low: &mut Held<'_>,
+    high: &mut Held<'_>,
+    rows: &mut List<Row>,
+    cycle: usize,
+) -> Result<(), NoMemory>
+    requires ahead { IsForward pass.old low.old high.old rows.old }
+    requires few { cycle ≤ MAX_CYCLES }
+    ensures same { IsSamePass pass.old pass.new }
+    ensures low { low.new ≡ low.old }
+    ensures high { high.new ≡ high.old }
+    ensures ahead { IsForward pass.new low.old high.old rows.new }
+    ensures there { OnOk result (cycle < length rows.new) }
+{
+    'cycles: for _ in rows.len()..cycle + 1 {
+        advance(alloc, pass, low, high, rows)?;
+    }
+    Ok(())
+}
+
+/// Whether a lane has one of two prints.
+fn is_aimed(row: &Row, lane: usize, aim: Aim) -> bool
+    requires low { lane < length row.now.low }
+    requires high { lane < length row.now.high }
+    ensures { result ≡ ((slice_index_or row.now.low lane 0 == aim.low) || (slice_index_or row.now.high lane 0 == aim.high)) }
+{
+    let low = *row.low.get(lane);
+    let high = *row.high.get(lane);
+    low == aim.low || high == aim.high
+}
+
+/// Where the recorded states lead, made cycle by cycle as it is asked for: 16 bytes for a run and a cycle. Next states are
+/// made where one data input is 0 and where it is 1, and are looked at in the flip-flops that no other data input moves
+/// then. Contracts see the machine, the runs, and these flip-flops' flags.
+#[derive(Drop)]
+pub struct Forward<'a> {
+    pass: Pass<'a>,
+    low: Held<'a>,
+    high: Held<'a>,
+    rows: List<Row>,
+}
+
+impl<'a> Model for Forward<'a> {
+    ghost use Rattle.bs_chip_forward.specs.Forward.{Ahead, IsForward};
+
+    ghost Value = { Ahead };
+
+    ghost view = { λ f. record { circuit = f.pass.circuit; runs = f.pass.runs; low = f.low.flags; high = f.high.flags } };
+
+    ghost invariant = { λ f. IsForward f.pass f.low f.high f.rows };
+}
+
+/// Where the runs of a pass at reset lead, of no cycle yet.
+fn started<'a>(
+    alloc: Global,
+    net: &'a Netlist,
+    split: Split,
+    pass: Pass<'a>,
+) -> Result<Forward<'a>, NoMemory>
+    requires net { circuit net.now ≡ pass.circuit }
+    requires reset { pass.cycle ≡ 0 }
+    requires low { IsFree (circuit net.now) split.input false split.low }
+    requires high { IsFree (circuit net.now) split.input true split.high }
+    ensures circuit { IfOk result (λ f. f.circuit ≡ pass.entry.circuit) }
+    ensures runs { IfOk result (λ f. f.runs ≡ pass.entry.runs) }
+{
+    let Sides { low, high } = sides_of(alloc, net, pass.wide(), split)?;
+    Ok(Forward {
+        pass,
+        low,
+        high,
+        rows: List::new(alloc),
+    })
+}
+
+impl<'a> Forward<'a> {
+    /// Where the recorded runs of a chip lead, of no cycle yet.
+    pub fn new(alloc: Global, chip: &Chip<'a>) -> Result<Forward<'a>, NoMemory>
+        ensures circuit { IfOk result (λ f. f.circuit ≡ chip.now.recording.circuit) }
+        ensures runs { IfOk result (λ f. f.runs ≡ chip.now.recording.runs) }
+    {
+        let net = chip.net();
+        let split = freeing(alloc, net)?;
+        let pass = chip.pass(alloc)?;
+        let forward = started(alloc, net, split, pass)?;
+        Ok(forward)
+    }
+
+    /// What a recorded state that leads to a present one is looked up by.
+    pub fn aim(&self, present: &Bits) -> Aim
+        requires { length present.now ≡ length self.now.circuit.flops }
+        ensures { IsAim self.now present.now result }
+    {
+        let low = masked_print(self.low.flags(), present);
+        let high = masked_print(self.high.flags(), present);
+        Aim { low, high }
+    }
+
+    /// Whether the state of a moment may lead to a present one, of which this is the aim. Where it says no, it does so
+    /// under no input. Runs are numbered from 1, and cycles from 0.
+    pub fn may_lead(
+        &mut self,
+        alloc: Global,
+        present: &Bits,
+        aim: Aim,
+        run: u32,
+        cycle: u32,
+    ) -> Result<bool, NoMemory>
+        requires moment { IsMoment self.old.runs (moment run cycle) }
+        requires aim { IsAim self.old present.now aim }
+        ensures lead { IfOk result (λ may. may ≡ false → LeadsNowhere self.old.circuit (state_at self.old.circuit (run_of self.old.runs run) cycle) present.now) }
+        ensures kept { self.new ≡ self.old }
+    {
+        let _cycles = self.pass.cycles(run);
+        reach(
+            alloc,
+            &mut self.pass,
+            &mut self.low,
+            &mut self.high,
+            &mut self.rows,
+            cycle as usize,
+        )?;
+        let row = self.rows.get(cycle as usize);
+        Ok(is_aimed(row, run as usize - 1, aim))
+    }
+}
