@@ -1,20 +1,17 @@
 -- What a search makes known, and what a list with it is met at.
-use Rattle.std.proofs.Common.{◌≡◌, ◌≢◌, ℕ, ◌-◌, ◌<◌, ◌≤◌, Bool, true, false, List, [], ◌∷◌, length, refl, ap, subst, sym, ◌∙◌, arith, ⊎_elim, Option, Some, None}
-use Rattle.std.specs.Prelude.{All, IfSome, MatchOption, ◌==◌, if◌then◌else◌}
+use Rattle.std.proofs.Common.{◌≡◌, ◌≢◌, ◌⊎◌, inl, inr, ℕ, ◌-◌, ◌<◌, ◌≤◌, Bool, true, false, List, [], ◌∷◌, length, refl, ap, subst, sym, ◌∙◌, arith, ⊎_elim, Option, Some, None}
+use Rattle.std.specs.Prelude.{All, IfSome, MatchOption, if◌then◌else◌}
 use Rattle.std.specs.Option.{option_to_list}
 use Rattle.std.specs.List.{AllByRecursion as Each}
-use Rattle.std.proofs.lemmas.Bool.{cases_eq, cases_lt, false≢true, true≢false, eq-eqb, ne_eqb}
+use Rattle.std.proofs.lemmas.Bool.{cases_eq, cases_lt, true≢false, eq-eqb, ne_eqb}
 use Rattle.std.proofs.lemmas.List.Elements.{All-weaker, recursion_from_All}
-use Rattle.bs_net.specs.Circuit.{Circuit}
-use Rattle.bs_net.proofs.NextLemmas.{Member}
 use Rattle.bs_scan.specs.declared.dump.Dump.{Dump}
-use Rattle.bs_scan.specs.Choice.{Chosen}
 use Rattle.bs_scan.specs.Crash.{Recording, IsRecording, DumpFits}
 use Rattle.bs_scan.specs.Dump.{signatures_of}
-use Rattle.bs_scan.specs.Moments.{Run, Moment, moment, IsMoment, run_of, state_at, state_of, is_listed, first_moment}
+use Rattle.bs_scan.specs.Moments.{Moment, moment, IsMoment, run_of, state_at, state_of, is_listed, first_moment}
 use Rattle.bs_scan.specs.Signature.{predecessors}
 use Rattle.bs_scan.proofs.MomentLemmas.{each_member}
-use Rattle.bs_chip.specs.Lockstep.{IsFirstIn, IsLowest, NoneAmong, NoneBefore, NoneReached}
+use Rattle.bs_chip.specs.Lockstep.{IsFirstIn, NoneAmong, NoneBefore, NoneReached}
 use Rattle.bs_chip.specs.Replay.{lists}
 use Rattle.bs_chip.proofs.MomentLemmas.{first_found, none_found}
 use Rattle.bs_report.specs.declared.report.Cand.{Cand}
@@ -22,33 +19,28 @@ use Rattle.bs_report.specs.declared.report.ListEnd.{ListEnd}
 use Rattle.bs_report.specs.declared.report.ListEnd.TheVariants.{Finished, Candidates, Conflicts}
 use Rattle.bs_report_good.specs.Step.{listed, IsCandidate, IsRightEnd}
 use Rattle.bs_report_good.proofs.GoodLemmas.{listed_member}
-use Rattle.bs_encode.specs.Assuming.{AreWide}
 use Rattle.bs_stim.specs.declared.limits.TheConstants.{MAX_CYCLES}
-use Rattle.bs_report.specs.declared.report.Budgets.{Budgets}
 use Rattle.bs_preimage.specs.declared.listing.Listing.{Listing}
 use Rattle.bs_preimage.specs.Preimage.{PreimageState}
 use Rattle.bs_preimage.specs.Listed.{HasListed, IsRightCand}
-use Rattle.bs_preimage.specs.Probe.{Prober}
 use Rattle.bs_preimage_recorded.specs.declared.search.Sought.{Sought}
-use Rattle.bs_preimage_recorded.specs.declared.search.Sought.TheVariants.{Found, NoMoment, Cut}
-use Rattle.bs_preimage_recorded.specs.Search.{asked_in, IsAsking, SoughtSooner, SoughtOfAll, SoughtWithin, IsFirstRecorded, NoneSooner}
+use Rattle.bs_preimage_recorded.specs.declared.search.Sought.TheVariants.{Found, NoMoment, Cut, Unsaid}
+use Rattle.bs_preimage_recorded.specs.declared.search.TheConstants.{MAX_ASKS}
+use Rattle.bs_preimage_recorded.specs.Finder.{IsAsking}
+use Rattle.bs_preimage_recorded.specs.Search.{asked_in, IsCutAt, SoughtSooner, SoughtOfAll, SoughtWithin}
 use Rattle.bs_loop.specs.Recorded.{cand_at, known_before, StandsIn}
-use Rattle.bs_loop.specs.Budget.{IsBudget}
 use Rattle.bs_loop.proofs.MeetLemmas.{IsHeld, held_wide}
-use Rattle.bs_loop.specs.Known.{floor_of, known_by, IsOfFirst, HasSooner, IsKnown}
+use Rattle.bs_loop.specs.declared.known.Answer.{Answer}
+use Rattle.bs_loop.specs.declared.known.Reach.{Reach}
+use Rattle.bs_loop.specs.declared.known.Reach.TheVariants.{Whole, Limited, Unanswered}
+use Rattle.bs_loop.specs.Known.{floor_of, known_by, seen_at, seen_by, sight_by, IsOfFirst, IsOfNone, HasSooner, IsKnown, IsAsked, IsAnswered, Reaches, Sees}
 use Rattle.bs_loop.proofs.RecordedLemmas.{earlier_moment, known_is_right, known_is}
-
--- a search that is not made says nothing
-pub cut_within : (r : Recording) (present stored : List Bool) (older : Option (List Bool)) (before : Option Moment) →
-    SoughtWithin r present stored older before Cut
-cut_within r present stored older None = tt
-cut_within r present stored older (Some m) = tt
 
 -- what has been found is of the first moment
 of_first : (r : Recording) (now : Dump) (stored : List Bool) (run cycle : ℕ) (cand : Cand) →
     IsFirstIn r.circuit r.runs (asked_in r now.state stored now.older) (moment run cycle) →
-    cand.state ≡ state_at r.circuit (run_of r.runs run) cycle → IsOfFirst r (asked_in r now.state stored now.older) cand
-of_first r now stored run cycle cand first state = record { there = moment run cycle; first = first; state = state }
+    cand.state ≡ state_at r.circuit (run_of r.runs run) cycle → IsOfFirst r (asked_in r now.state stored now.older) (Some (moment run cycle)) cand
+of_first r now stored run cycle cand first state = record { there = moment run cycle; is = refl; first_in = first; state = state }
 
 nothing_here : (m : Moment) → None ≡ Some m → ⊥
 nothing_here m e = cc
@@ -56,17 +48,19 @@ nothing_here m e = cc
 -- ---- where no moment before the present is at hand
 
 known_alone : (r : Recording) (now : Dump) (stored : List Bool) (at : Option Moment) (sought : Sought) →
-    ((m : Moment) → at ≡ Some m → 1 ≤ m.cycle → ⊥) → SoughtOfAll r now.state stored now.older sought →
-    IsKnown r now stored at (known_by sought None).cand (known_by sought None).whole
-known_alone r now stored at (Found f) never h =
+    ((m : Moment) → at ≡ Some m → 1 ≤ m.cycle → ⊥) → SoughtOfAll r now.state stored now.older sought → IsCutAt r MAX_ASKS sought →
+    IsKnown r now stored at (known_by sought None None).cand (known_by sought None None).answer
+known_alone r now stored at (Found f) never h far =
     record {
       right = h.recorded.cand;
-      first = λ _. of_first r now stored f.run f.cycle f.cand h.first h.recorded.state;
+      reach = of_first r now stored f.run f.cycle f.cand h.first h.recorded.state;
       sooner = λ m e low. absurd (never m e low);
     }
-known_alone r now stored at NoMoment never h = record { right = tt; first = λ _. h; sooner = λ m e low. absurd (never m e low) }
-known_alone r now stored at Cut never h =
-    record { right = tt; first = λ e. absurd (false≢true e); sooner = λ m e low. absurd (never m e low) }
+known_alone r now stored at NoMoment never h far =
+    record { right = tt; reach = record { is = refl; none = h }; sooner = λ m e low. absurd (never m e low) }
+known_alone r now stored at (Cut m) never h far =
+    record { right = tt; reach = record { none = h; far = far }; sooner = λ m e low. absurd (never m e low) }
+known_alone r now stored at (Unsaid m) never h far = record { right = tt; reach = h; sooner = λ m e low. absurd (never m e low) }
 
 -- ---- where it is
 
@@ -101,29 +95,50 @@ same_moment m o e = cc
 sooner_at : (r : Recording) (known : Option Cand) (m : Moment) → HasSooner r known m → (o : Moment) → Some m ≡ Some o → 1 ≤ o.cycle → HasSooner r known o
 sooner_at r known m h o e low = subst (HasSooner r known) (same_moment m o e) h
 
+-- the moment before the present is sooner
+floor_sooner : (r : Recording) (now : Dump) (stored : List Bool) (m : Moment) (cand : Cand) → IsFloor r now stored m cand →
+    (o : Moment) → Some m ≡ Some o → 1 ≤ o.cycle → HasSooner r (Some cand) o
+floor_sooner r now stored m cand floor =
+    sooner_at r (Some cand) m
+    (record {
+      cand = cand;
+      is = refl;
+      there = moment m.run (m.cycle - 1);
+      recorded = floor.recorded;
+      sooner = omega (arith, floor.above);
+      state = floor.state;
+    })
+
+-- the moment found is
+found_sooner : (r : Recording) (now : Dump) (stored : List Bool) (m : Moment) (cand found : Cand) (run cycle : ℕ) → IsFloor r now stored m cand →
+    IsFirstIn r.circuit r.runs (asked_in r now.state stored now.older) (moment run cycle) →
+    found.state ≡ state_at r.circuit (run_of r.runs run) cycle → (o : Moment) → Some m ≡ Some o → 1 ≤ o.cycle → HasSooner r (Some found) o
+found_sooner r now stored m cand found run cycle floor first state =
+    sooner_at r (Some found) m
+    (record {
+      cand = found;
+      is = refl;
+      there = moment run cycle;
+      recorded = record { from_one = omega (arith, first.lowest.behind); recorded = first.lowest.recorded; lasts = first.lowest.lasts };
+      sooner = not_behind r now stored m cand (moment run cycle) floor first;
+      state = state;
+    })
+
 known_above : (r : Recording) (now : Dump) (stored : List Bool) (m : Moment) (cand : Cand) (sought : Sought) → IsFloor r now stored m cand →
-    SoughtSooner r now.state stored now.older (moment m.run (m.cycle - 1)) sought →
-    IsKnown r now stored (Some m) (known_by sought (Some cand)).cand (known_by sought (Some cand)).whole
-known_above r now stored m cand (Found f) floor h =
+    SoughtSooner r now.state stored now.older (moment m.run (m.cycle - 1)) sought → IsCutAt r MAX_ASKS sought →
+    IsKnown r now stored (Some m) (known_by sought (Some (moment m.run (m.cycle - 1))) (Some cand)).cand
+    (known_by sought (Some (moment m.run (m.cycle - 1))) (Some cand)).answer
+known_above r now stored m cand (Found f) floor h far =
     let first : IsFirstIn r.circuit r.runs (asked_in r now.state stored now.older) (moment f.run f.cycle) = h.first in
     record {
       right = h.recorded.cand;
-      first = λ _. of_first r now stored f.run f.cycle f.cand first h.recorded.state;
-      sooner = sooner_at r (Some f.cand) m
-          (record {
-            cand = f.cand;
-            is = refl;
-            there = moment f.run f.cycle;
-            recorded = record { from_one = omega (arith, first.lowest.behind); recorded = first.lowest.recorded; lasts = first.lowest.lasts };
-            sooner = not_behind r now stored m cand (moment f.run f.cycle) floor first;
-            state = h.recorded.state;
-          });
+      reach = of_first r now stored f.run f.cycle f.cand first h.recorded.state;
+      sooner = found_sooner r now stored m cand f.cand f.run f.cycle floor first h.recorded.state;
     }
-known_above r now stored m cand NoMoment floor h =
+known_above r now stored m cand NoMoment floor h far =
     record {
       right = floor.right;
-      first = λ _.
-          of_first r now stored m.run (m.cycle - 1) cand
+      reach = of_first r now stored m.run (m.cycle - 1) cand
           (record {
             lowest = record {
               behind = omega (arith, floor.recorded.from_one);
@@ -134,30 +149,12 @@ known_above r now stored m cand NoMoment floor h =
             };
             before = h.cycles;
           }) floor.state;
-      sooner = sooner_at r (Some cand) m
-          (record {
-            cand = cand;
-            is = refl;
-            there = moment m.run (m.cycle - 1);
-            recorded = floor.recorded;
-            sooner = omega (arith, floor.above);
-            state = floor.state;
-          });
+      sooner = floor_sooner r now stored m cand floor;
     }
-known_above r now stored m cand Cut floor h =
-    record {
-      right = floor.right;
-      first = λ e. absurd (false≢true e);
-      sooner = sooner_at r (Some cand) m
-          (record {
-            cand = cand;
-            is = refl;
-            there = moment m.run (m.cycle - 1);
-            recorded = floor.recorded;
-            sooner = omega (arith, floor.above);
-            state = floor.state;
-          });
-    }
+known_above r now stored m cand (Cut o) floor h far =
+    record { right = floor.right; reach = record { none = h; far = far }; sooner = floor_sooner r now stored m cand floor }
+known_above r now stored m cand (Unsaid o) floor h far =
+    record { right = floor.right; reach = h; sooner = floor_sooner r now stored m cand floor }
 
 -- ---- in any case
 
@@ -184,15 +181,19 @@ floor_may r now (Some m) most stands few =
 
 pub is_known : (r : Recording) (now : Dump) (stored : List Bool) (at : Option Moment) (sought : Sought) → IsRecording r → IfSome at (StandsIn r now) →
     signatures_of now ≡ stored ∷ option_to_list now.older → SoughtWithin r now.state stored now.older (floor_of at) sought →
-    IsKnown r now stored at (known_by sought (known_before r at)).cand (known_by sought (known_before r at)).whole
-is_known r now stored None sought sound stands held h = known_alone r now stored None sought (λ m e low. nothing_here m e) h
-is_known r now stored (Some m) sought sound stands held h =
+    IsCutAt r MAX_ASKS sought →
+    IsKnown r now stored at (known_by sought (floor_of at) (known_before r at)).cand (known_by sought (floor_of at) (known_before r at)).answer
+is_known r now stored None sought sound stands held h far = known_alone r now stored None sought (λ m e low. nothing_here m e) h far
+is_known r now stored (Some m) sought sound stands held h far =
+    let Is : Option Moment → Option Cand → Type 0 =
+    λ place floor. IsKnown r now stored (Some m) (known_by sought place floor).cand (known_by sought place floor).answer in
     ⊎_elim
     (λ (zero_cycle : m.cycle ≡ 0).
-    subst (λ (floor : Option Cand). IsKnown r now stored (Some m) (known_by sought floor).cand (known_by sought floor).whole) (sym (none_at_zero r m zero_cycle))
+    subst (λ (place : Option Moment). Is place (known_before r (Some m))) (sym (no_floor m zero_cycle))
+    (subst (Is None) (sym (none_at_zero r m zero_cycle))
     (known_alone r now stored (Some m) sought
     (λ o e low. let same : m.cycle ≡ o.cycle = ap (λ (x : Moment). x.cycle) (same_moment m o e) in omega (arith, same, zero_cycle, low))
-    (subst (λ (o : Option Moment). SoughtWithin r now.state stored now.older o sought) (no_floor m zero_cycle) h)))
+    (subst (λ (o : Option Moment). SoughtWithin r now.state stored now.older o sought) (no_floor m zero_cycle) h) far)))
     (λ (above : m.cycle ≡ 0 → ⊥).
     let low : 1 ≤ m.cycle = omega (arith, above) in
     let cand : Cand = cand_at r m.run (m.cycle - 1) in
@@ -204,9 +205,16 @@ is_known r now stored (Some m) sought sound stands held h =
           (known_is_right r now stored (Some m) sound stands held);
       state = refl;
     } in
-    subst (λ (floor : Option Cand). IsKnown r now stored (Some m) (known_by sought floor).cand (known_by sought floor).whole) (sym is)
-    (known_above r now stored m cand sought floor (subst (λ (o : Option Moment). SoughtWithin r now.state stored now.older o sought) (a_floor m above) h)))
+    subst (λ (place : Option Moment). Is place (known_before r (Some m))) (sym (a_floor m above))
+    (subst (Is (Some (moment m.run (m.cycle - 1)))) (sym is)
+    (known_above r now stored m cand sought floor (subst (λ (o : Option Moment). SoughtWithin r now.state stored now.older o sought) (a_floor m above) h)
+    far)))
     (cases_eq m.cycle 0)
+
+-- where the present is a moment, it is one of the runs
+pub at_moments : (r : Recording) (now : Dump) (at : Option Moment) → IfSome at (StandsIn r now) → IfSome at (IsMoment r.runs)
+at_moments r now None stands = tt
+at_moments r now (Some m) stands = stands.moment
 
 -- ---- what a search asks for
 
@@ -215,18 +223,11 @@ few_cycles r sound m is =
     let few : length (run_of r.runs m.run) ≤ MAX_CYCLES = sound.few_cycles (m.run - 1) [] (omega (arith, is.from_one, is.recorded)) in
     omega (arith, is.lasts, few)
 
-pub is_asking : (r : Recording) (p : Prober) (now : Dump) (stored : List Bool) (budgets : Budgets) → p ≡ record { circuit = r.circuit; choice = r.choice } →
-    DumpFits r.circuit r.choice now → signatures_of now ≡ stored ∷ option_to_list now.older → IsBudget budgets →
-    IsAsking r p now.state stored now.older budgets.conflicts
-is_asking r p now stored budgets is fits held asked =
+pub is_asking : (r : Recording) (now : Dump) (stored : List Bool) (b : ℕ) → DumpFits r.circuit r.choice now →
+    signatures_of now ≡ stored ∷ option_to_list now.older → 1 ≤ b → IsAsking r now.state stored now.older b
+is_asking r now stored b fits held some =
     let wide : IsHeld r.circuit r.choice now stored = held_wide r.circuit r.choice now stored fits held in
-    record {
-      prober = is;
-      present_wide = wide.state ∙ sym (ap (λ (x : Prober). length x.circuit.flops) is);
-      stored_wide = wide.stored ∙ sym (ap (λ (x : Prober). length x.choice.items) is);
-      older_wide = subst (λ (x : Prober). AreWide (length x.choice.items) now.older) (sym is) wide.older;
-      conflicts = asked.conflicts.0;
-    }
+    record { present_wide = wide.state; stored_wide = wide.stored; older_wide = wide.older; conflicts = some }
 
 -- ---- where a list is met
 
@@ -282,32 +283,99 @@ met_none r few many out none =
     sym (none_found r.circuit r.runs few (record { each = λ cycle. fewer_among r few many cycle 0 (length r.runs) out (none.each cycle) }))
     ∙ none_found r.circuit r.runs many none
 
-met_known : (r : Recording) (asked : List (List Bool)) (cands : List Cand) (known : Option Cand) →
-    MatchOption known (NoneReached r.circuit r.runs asked) (IsOfFirst r asked) → All (λ cand. is_listed asked cand.state ≡ true) cands →
+met_known : (r : Recording) (asked : List (List Bool)) (cands : List Cand) (known : Option Cand) (first : Option Moment) →
+    MatchOption known (IsOfNone r asked first) (IsOfFirst r asked first) → All (λ cand. is_listed asked cand.state ≡ true) cands →
     ((cand : Cand) → known ≡ Some cand → is_listed (listed cands) cand.state ≡ true) →
     first_moment r.circuit r.runs (listed cands) ≡ first_moment r.circuit r.runs asked
-met_known r asked cands None h all there = met_none r (listed cands) asked (within asked cands all) h
-met_known r asked cands (Some cand) h all there =
-    met_first r (listed cands) asked h.there (within asked cands all) h.first
+met_known r asked cands None first h all there = met_none r (listed cands) asked (within asked cands all) h.none
+met_known r asked cands (Some cand) first h all there =
+    met_first r (listed cands) asked h.there (within asked cands all) h.first_in
     (subst (λ (s : List Bool). is_listed (listed cands) s ≡ true) h.state (there cand refl))
 
--- where a search was whole, a list that has not ended with conflicts is met where all predecessors are
-pub met_where_all : (r : Recording) (now : Dump) (stored : List Bool) (at : Option Moment) (known : Option Cand) (whole : Bool) (old new : PreimageState)
-    (k b : ℕ) (listing : Listing) → old.circuit ≡ r.circuit → old.choice ≡ r.choice → IsKnown r now stored at known whole →
-    HasListed old new now.state stored now.older known k b listing → whole ≡ true → (end : ListEnd) → listing.end ≡ end → end ≢ Conflicts →
+-- a whole search has found the first moment
+found_whole : (r : Recording) (asked : List (List Bool)) (known : Option Cand) (first : Option Moment) →
+    MatchOption known (IsOfNone r asked first) (IsOfFirst r asked first) → first_moment r.circuit r.runs asked ≡ first
+found_whole r asked None first h = sym (none_found r.circuit r.runs asked h.none) ∙ sym h.is
+found_whole r asked (Some cand) first h = sym (first_found r.circuit r.runs asked h.there h.first_in) ∙ sym h.is
+
+whole_moment : (r : Recording) (asked : List (List Bool)) (known : Option Cand) (first : Option Moment) →
+    MatchOption known (IsOfNone r asked first) (IsOfFirst r asked first) → IfSome first (IsMoment r.runs)
+whole_moment r asked None first h = subst (λ (o : Option Moment). IfSome o (IsMoment r.runs)) (sym h.is) tt
+whole_moment r asked (Some cand) first h =
+    let low = h.first_in.lowest in
+    subst (λ (o : Option Moment). IfSome o (IsMoment r.runs)) (sym h.is)
+    (record { from_one = omega (arith, low.behind); recorded = low.recorded; lasts = low.lasts })
+
+-- a list that is finished is met where all predecessors are
+pub met_finished : (r : Recording) (now : Dump) (stored : List Bool) (known : Option Cand) (old new : PreimageState) (k b id : ℕ)
+    (listing : Listing) → old.circuit ≡ r.circuit → old.choice ≡ r.choice →
+    HasListed old new now.state stored now.older known k b listing → listing.end ≡ Finished id →
     first_moment r.circuit r.runs (listed listing.cands) ≡ first_moment r.circuit r.runs (asked_in r now.state stored now.older)
-met_where_all r now stored at known whole old new k b listing circuits choices is l all (Finished id) e out =
+met_finished r now stored known old new k b id listing circuits choices l e =
     let asked_is : predecessors old.circuit old.choice now.state (stored ∷ option_to_list now.older) ≡ asked_in r now.state stored now.older =
     λ i. predecessors (circuits i) (choices i) now.state (stored ∷ option_to_list now.older) in
     let ends : IsRightEnd (predecessors old.circuit old.choice now.state (stored ∷ option_to_list now.older)) k b l.lines listing.cands (Finished id) =
     subst (IsRightEnd (predecessors old.circuit old.choice now.state (stored ∷ option_to_list now.older)) k b l.lines listing.cands) e l.ends in
     ap (first_moment r.circuit r.runs) (ends.0 ∙ asked_is)
-met_where_all r now stored at known whole old new k b listing circuits choices is l all Candidates e out =
+
+-- so is one that ended by its count, where the search was whole
+pub met_counted : (r : Recording) (now : Dump) (stored : List Bool) (known : Option Cand) (first : Option Moment) (old new : PreimageState) (k b : ℕ)
+    (listing : Listing) → old.circuit ≡ r.circuit → old.choice ≡ r.choice →
+    MatchOption known (IsOfNone r (asked_in r now.state stored now.older) first) (IsOfFirst r (asked_in r now.state stored now.older) first) →
+    HasListed old new now.state stored now.older known k b listing → listing.end ≡ Candidates →
+    first_moment r.circuit r.runs (listed listing.cands) ≡ first_moment r.circuit r.runs (asked_in r now.state stored now.older)
+met_counted r now stored known first old new k b listing circuits choices whole l e =
     let asked_is : predecessors old.circuit old.choice now.state (stored ∷ option_to_list now.older) ≡ asked_in r now.state stored now.older =
     λ i. predecessors (circuits i) (choices i) now.state (stored ∷ option_to_list now.older) in
-    met_known r (asked_in r now.state stored now.older) listing.cands known (is.first all)
+    met_known r (asked_in r now.state stored now.older) listing.cands known first whole
     (All-weaker (IsCandidate old.circuit old.choice now.state (stored ∷ option_to_list now.older))
     (λ (cand : Cand). is_listed (asked_in r now.state stored now.older) cand.state ≡ true)
     (λ cand right. subst (λ (asked : List (List Bool)). is_listed asked cand.state ≡ true) asked_is right.predecessor) listing.cands l.candidates)
     (λ cand same. l.with_known cand same e)
-met_where_all r now stored at known whole old new k b listing circuits choices is l all Conflicts e out = absurd (out refl)
+
+-- ---- what a search has seen of a list
+
+seen_whole : (r : Recording) (now : Dump) (stored : List Bool) (known : Option Cand) (cands : List Cand) (first : Option Moment) (reach : Reach) →
+    Reaches r (asked_in r now.state stored now.older) known first reach →
+    (MatchOption known (IsOfNone r (asked_in r now.state stored now.older) first) (IsOfFirst r (asked_in r now.state stored now.older) first) →
+    first_moment r.circuit r.runs (listed cands) ≡ first_moment r.circuit r.runs (asked_in r now.state stored now.older)) →
+    Sees r cands (seen_at first reach)
+seen_whole r now stored known cands first Whole h met = (
+  met h ∙ found_whole r (asked_in r now.state stored now.older) known first h,
+  whole_moment r (asked_in r now.state stored now.older) known first h,
+)
+seen_whole r now stored known cands first (Limited m) h met = tt
+seen_whole r now stored known cands first (Unanswered m) h met = tt
+
+seen_given : (r : Recording) (now : Dump) (stored : List Bool) (known : Option Cand) (answer : Answer) (old new : PreimageState) (k b : ℕ)
+    (listing : Listing) → old.circuit ≡ r.circuit → old.choice ≡ r.choice →
+    Reaches r (asked_in r now.state stored now.older) known answer.first answer.reach →
+    HasListed old new now.state stored now.older known k b listing → (end : ListEnd) → listing.end ≡ end →
+    Sees r listing.cands (seen_by (Some answer) end)
+seen_given r now stored known answer old new k b listing circuits choices h l (Finished id) e =
+    seen_whole r now stored known listing.cands answer.first answer.reach h
+    (λ whole. met_finished r now stored known old new k b id listing circuits choices l e)
+seen_given r now stored known answer old new k b listing circuits choices h l Candidates e =
+    seen_whole r now stored known listing.cands answer.first answer.reach h
+    (λ whole. met_counted r now stored known answer.first old new k b listing circuits choices whole l e)
+seen_given r now stored known answer old new k b listing circuits choices h l Conflicts e = tt
+
+seen : (r : Recording) (now : Dump) (stored : List Bool) (at : Option Moment) (known : Option Cand) (answer : Option Answer)
+    (old new : PreimageState) (k b : ℕ) (listing : Listing) → old.circuit ≡ r.circuit → old.choice ≡ r.choice →
+    HasListed old new now.state stored now.older known k b listing → IsAnswered r now stored at listing.end known answer →
+    Sees r listing.cands (seen_by answer listing.end)
+seen r now stored at known answer old new k b listing circuits choices l answered = by answered.either
+  where
+    by : ((answer ≡ None) × (listing.end ≢ Candidates)) ⊎ IsAsked r now stored at known answer → Sees r listing.cands (seen_by answer listing.end)
+    by (inl none) = subst (λ (o : Option Answer). Sees r listing.cands (seen_by o listing.end)) (sym none.0) tt
+    by (inr asked) =
+        subst (λ (o : Option Answer). Sees r listing.cands (seen_by o listing.end)) (sym asked.is)
+        (seen_given r now stored known asked.given old new k b listing circuits choices asked.known_is.reach l listing.end refl)
+
+pub sees : (r : Recording) (now : Dump) (stored : List Bool) (at : Option Moment) (known : Option Cand) (answer : Option Answer)
+    (old new : PreimageState) (k b : ℕ) (listing : Listing) → old.circuit ≡ r.circuit → old.choice ≡ r.choice →
+    HasListed old new now.state stored now.older known k b listing → IsAnswered r now stored at listing.end known answer →
+    Sees r listing.cands (sight_by at answer listing.end)
+sees r now stored None known answer old new k b listing circuits choices l answered = tt
+sees r now stored (Some m) known answer old new k b listing circuits choices l answered =
+    seen r now stored (Some m) known answer old new k b listing circuits choices l answered

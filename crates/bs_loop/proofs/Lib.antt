@@ -1,5 +1,6 @@
 pub mod RecordedLemmas
 pub mod KnownLemmas
+pub mod LookoutLemmas
 pub mod MadeLemmas
 pub mod StopLemmas
 pub mod MeetLemmas
@@ -8,4 +9,5 @@ pub mod SearchedLemmas
 pub mod WayLemmas
 pub mod GoodLemmas
 pub mod TraceLemmas
+pub mod LogLemmas
 pub mod ReadableLemmas

@@ -1,6 +1,6 @@
 -- One more step of a backtrace.
-use Rattle.std.proofs.Common.{◌≡◌, ℕ, suc, zero, ◌+◌, ◌-◌, ◌<◌, ◌≤◌, ◌^◌, Bool, true, Option, List, [], ◌∷◌, ◌++◌, map, length, reverse, refl, ap, subst, sym}
-use Rattle.std.proofs.Common.{◌∙◌, Some, None, arith}
+use Rattle.std.proofs.Common.{◌≡◌, ℕ, suc, zero, ◌+◌, ◌-◌, ◌<◌, ◌≤◌, ◌^◌, Bool, true, Option, List, [], ◌∷◌, ◌++◌, map, length, reverse, ap, subst, sym}
+use Rattle.std.proofs.Common.{◌∙◌, ◌≢◌, ◌⊎◌, inl, inr, Some, None, arith}
 use Rattle.std.specs.Prelude.{slice_get, slice_index_or, option_map, option_and_then}
 use Rattle.std.specs.Option.{option_to_list}
 use Rattle.std.specs.List.{last_or}
@@ -37,7 +37,9 @@ use Rattle.bs_preimage.specs.Preimage.{PreimageState, next_guard}
 use Rattle.bs_preimage.specs.Listed.{HasListed}
 use Rattle.bs_loop.specs.Made.{encoding_in, guard_at, IsLoggedStep, state_after, HasMade, StandsAt}
 use Rattle.bs_loop.specs.Recorded.{last_moment}
-use Rattle.bs_loop.specs.Known.{HasSooner, IsKnown}
+use Rattle.bs_loop.specs.declared.known.Answer.{Answer}
+use Rattle.bs_loop.specs.declared.known.Reach.{Reach}
+use Rattle.bs_loop.specs.Known.{HasSooner, IsAnswered, IsAsked}
 use Rattle.bs_loop.specs.Turn.{step_of, HasLookedBack, HasLookedFrom, IsStepBack}
 
 -- ---- the lines of the steps
@@ -73,18 +75,29 @@ problem_more crash steps step =
     ∙ sym (steps_from_more e 1 qs (present_of step))
     ∙ ap (steps_from e 1) (sym (map-append present_of steps (step ∷ [])))
 
+-- where a list ended by its count, something was asked
+known_there : (r : Recording) (now : Dump) (stored : List Bool) (at : Option Moment) (known : Option Cand) (answer : Option Answer) (listing : Listing) →
+    IsAnswered r now stored at listing.end known answer → listing.end ≡ Candidates → (m : Moment) → at ≡ Some m → 1 ≤ m.cycle → HasSooner r known m
+known_there r now stored at known answer listing answered ended m here low = by answered.either
+  where
+    by : ((answer ≡ None) × (listing.end ≢ Candidates)) ⊎ IsAsked r now stored at known answer → HasSooner r known m
+    by (inl none) = absurd (none.1 ended)
+    by (inr asked) = asked.known_is.sooner m here low
+
 -- where the last hit is above cycle 0, a candidate of an earlier moment is known, and so a list that ends by its count has it
 lists_before : (r : Recording) (dump : Dump) (steps : List Step) (old new : PreimageState) (now : Dump) (at : Option Moment) (stored : List Bool)
-    (known : Option Cand) (whole : Bool) (k b : ℕ) (listing : Listing) (hit : Option Hit) → at ≡ last_moment steps → IsKnown r now stored at known whole →
+    (known : Option Cand) (answer : Option Answer) (k b : ℕ) (listing : Listing) (hit : Option Hit) → at ≡ last_moment steps →
+    IsAnswered r now stored at listing.end known answer →
     HasListed old new now.state stored now.older known k b listing → (earlier : Step) → last_or None steps ≡ Some earlier →
     listing.end ≡ Candidates → ListsBefore (crash_of r dump) earlier (step_of now stored listing hit)
-lists_before r dump steps old new now at stored known whole k b listing hit last is_known l earlier there ended =
+lists_before r dump steps old new now at stored known answer k b listing hit last answered l earlier there ended =
     record {
       before = λ h is low.
           let here : at ≡ Some (moment h.run h.cycle) =
           last ∙ (ap (option_and_then (λ (s : Step). option_map (λ (x : HitLine). moment x.run x.cycle) s.hit)) there
           ∙ ap (option_map (λ (x : HitLine). moment x.run x.cycle)) is) in
-          let s : HasSooner r known (moment h.run h.cycle) = is_known.sooner (moment h.run h.cycle) here low in
+          let s : HasSooner r known (moment h.run h.cycle) =
+          known_there r now stored at known answer listing answered ended (moment h.run h.cycle) here low in
           record {
             there = s.there;
             recorded = s.recorded;
@@ -94,12 +107,12 @@ lists_before r dump steps old new now at stored known whole k b listing hit last
     }
 
 step_made : (r : Recording) (dump : Dump) (budgets : Budgets) (steps : List Step) (old new : PreimageState) (now : Dump) (at : Option Moment)
-    (stored : List Bool) (listing : Listing) (hit : Option Hit) (whole : Bool) →
+    (stored : List Bool) (listing : Listing) (hit : Option Hit) (reach : Reach) →
     HasMade (crash_of r dump) budgets steps old → StandsAt (crash_of r dump) steps now → DumpFits r.circuit r.choice now → at ≡ last_moment steps →
     signatures_of now ≡ stored ∷ option_to_list now.older →
-    HasLookedFrom r budgets old new now stored at listing hit whole →
+    HasLookedFrom r budgets old new now stored at listing hit reach →
     HasMade (crash_of r dump) budgets (steps ++ step_of now stored listing hit ∷ []) new
-step_made r dump budgets steps old new now at stored listing hit whole made stands fits last held from =
+step_made r dump budgets steps old new now at stored listing hit reach made stands fits last held from =
     let back : HasLookedBack r budgets old new now stored from.known listing hit = from.back in
     let crash : Crash = crash_of r dump in
     let step : Step = step_of now stored listing hit in
@@ -143,8 +156,8 @@ step_made r dump budgets steps old new now at stored listing hit whole made stan
       befores = All-append (λ (step : Step). HaveBefores crash.circuit crash.choice step.older step.cands) steps (step ∷ []) made.befores
           (All-from_recursion (λ (step : Step). HaveBefores crash.circuit crash.choice step.older step.cands) (step ∷ []) (l.befores, tt));
       back = before_more crash steps step made.back
-          (lists_before r dump steps (state_after crash steps old.history) new now at stored from.known whole budgets.candidates budgets.conflicts listing
-          hit last from.is_known l);
+          (lists_before r dump steps (state_after crash steps old.history) new now at stored from.known from.answer budgets.candidates budgets.conflicts listing
+          hit last from.answered l);
       few = l.few made.few;
       follow = follow_more crash (Some (present_in crash.dump)) steps step made.follow (stands ∙ ap Some present);
       count =
@@ -165,4 +178,4 @@ pub made_more : (r : Recording) (dump : Dump) (budgets : Budgets) (steps : List 
     HasMade (crash_of r dump) budgets (steps ++ step ∷ []) new
 made_more r dump budgets steps old new now at step hit made stands fits last is =
     subst (λ (s : Step). HasMade (crash_of r dump) budgets (steps ++ s ∷ []) new) (sym is.step_is)
-    (step_made r dump budgets steps old new now at is.stored is.listing hit is.whole made stands fits last is.held is.from)
+    (step_made r dump budgets steps old new now at is.stored is.listing hit is.reach made stands fits last is.held is.from)

@@ -1,6 +1,6 @@
 -- The moment that a list is met at.
 use Rattle.std.proofs.Common.{◌≡◌, Bool, List, ◌∷◌, length, refl, ap, sym, subst, ◌∙◌, Option, Some, None}
-use Rattle.std.specs.Prelude.{All, option_map, IfSome}
+use Rattle.std.specs.Prelude.{All, Result, Ok, Err, IfOk, option_map, IfSome}
 use Rattle.std.specs.Option.{option_to_list}
 use Rattle.std.proofs.lemmas.List.Elements.{All-weaker, All-from_recursion, recursion_from_All}
 use Rattle.bs_net.specs.Circuit.{Circuit}
@@ -42,6 +42,12 @@ held_wide c choice now stored fits held =
       older = All-from_recursion Wide (option_to_list now.older) each.1;
       alone = λ one. fits.sound.alone (fits.depth ∙ one);
     }
+
+-- a hit at the moment that is first
+pub hit_first : {E : Type 0} (x first : Option Moment) (result : Result (Option Hit) E) → x ≡ first →
+    IfOk result (λ hit. first ≡ option_map (λ hit. moment hit.run hit.cycle) hit) → IfOk result (λ hit. x ≡ option_map (λ hit. moment hit.run hit.cycle) hit)
+hit_first x first (Ok hit) is there = is ∙ there
+hit_first x first (Err want) is there = tt
 
 -- the line of a hit is what the list is due
 pub hit_is : (r : Recording) (now : Dump) (cands : List Cand) (hit : Option Hit) →

@@ -1,26 +1,24 @@
 -- The moment before a moment leads to it.
-use Rattle.std.proofs.Common.{◌≡◌, ◌⊎◌, inl, inr, ℕ, suc, zero, ◌+◌, ◌-◌, ◌<◌, ◌≤◌, Bool, true, false, List, [], ◌∷◌, ◌++◌, length, get_or, refl, ap, subst, sym}
+use Rattle.std.proofs.Common.{◌≡◌, inl, inr, ℕ, suc, zero, ◌-◌, ◌≤◌, Bool, true, false, List, [], ◌∷◌, length, get_or, refl, ap, subst, sym}
 use Rattle.std.proofs.Common.{◌∙◌, Option, Some, None, arith}
-use Rattle.std.specs.Prelude.{All, IsTrue, IfSome, ◌==◌, ◌||◌, ◌&&◌, if◌then◌else◌, slice_get, option_map}
+use Rattle.std.specs.Prelude.{IfSome, ◌==◌, ◌||◌, ◌&&◌, if◌then◌else◌, slice_get}
 use Rattle.std.specs.Option.{option_to_list}
-use Rattle.std.proofs.lemmas.Bool.{and_from, or_right, eq-eqb, ne_eqb}
+use Rattle.std.proofs.lemmas.Bool.{or_right, eq-eqb, ne_eqb}
 use Rattle.bs_bits.specs.Bits.{bits_eq}
 use Rattle.bs_net.specs.Circuit.{Circuit, Leads, next, reset_state}
 use Rattle.bs_net.proofs.NextLemmas.{next_is_led}
 use Rattle.bs_scan.specs.declared.dump.Dump.{Dump}
 use Rattle.bs_scan.specs.Choice.{Chosen, depth_of, IsDepth}
-use Rattle.bs_scan.specs.Crash.{Recording, IsRecording, dump_at}
+use Rattle.bs_scan.specs.Crash.{Recording, IsRecording}
 use Rattle.bs_scan.specs.Dump.{signatures_of}
-use Rattle.bs_scan.specs.Moments.{Run, Moment, moment, IsMoment, run_of, state_at, is_listed}
-use Rattle.bs_scan.specs.Signature.{signature, signatures_before, stored_at, predecessors}
-use Rattle.bs_scan.specs.Present.{Present, present_in}
+use Rattle.bs_scan.specs.Moments.{Run, Moment, moment, IsMoment, run_of, state_at}
+use Rattle.bs_scan.specs.Signature.{signature, signatures_before, stored_at}
+use Rattle.bs_scan.specs.Present.{Present}
 use Rattle.bs_scan.proofs.CrashLemmas.{present_at}
 use Rattle.bs_scan.proofs.SignatureLemmas.{bits_same, came_from, length_state}
 use Rattle.bs_report.specs.declared.report.Before.{Before}
-use Rattle.bs_report.specs.declared.report.Cand.{Cand}
 use Rattle.bs_report_good.specs.Step.{IsCandidate}
 use Rattle.bs_report_good.specs.Valid.{is_right_before}
-use Rattle.bs_report_good.proofs.ProgressLemmas.{none_at_reset}
 use Rattle.bs_preimage.specs.Listed.{IsRightCand}
 use Rattle.bs_loop.specs.Recorded.{recorded_at, before_at, cand_at, known_before, StandsIn}
 

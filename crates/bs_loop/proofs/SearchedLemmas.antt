@@ -1,69 +1,132 @@
--- The bits of the steps, one step on.
-use Rattle.std.proofs.Common.{◌≡◌, ◌≢◌, ℕ, suc, zero, Bool, true, false, List, [], ◌∷◌, ◌++◌, ◌+◌, length, get_or, refl, ap, subst, sym, ◌∙◌, ◌⊎◌, inl, inr, arith}
+-- How far was searched for the steps, one step on.
+use Rattle.std.proofs.Common.{◌≡◌, ◌≢◌, ℕ, suc, zero, Bool, List, [], ◌∷◌, ◌++◌, ◌+◌, length, refl, ap, subst, sym, ◌∙◌, ◌⊎◌, inl, inr, arith}
 use Rattle.std.proofs.Common.{length-append, Option, Some, None}
 use Rattle.std.specs.Prelude.{Result, Ok, Err, IfOk, option_map, slice_get}
 use Rattle.bs_scan.specs.declared.dump.Dump.{Dump}
 use Rattle.bs_scan.specs.Crash.{Recording}
-use Rattle.bs_scan.specs.Moments.{Moment, state_of}
+use Rattle.bs_scan.specs.Moments.{Moment, state_of, first_moment}
 use Rattle.bs_chip.specs.declared.replay.Hit.{Hit}
 use Rattle.bs_report.specs.declared.report.Budgets.{Budgets}
+use Rattle.bs_report.specs.declared.report.Cand.{Cand}
 use Rattle.bs_report.specs.declared.report.HitLine.{HitLine}
+use Rattle.bs_report.specs.declared.report.ListEnd.{ListEnd}
+use Rattle.bs_report.specs.declared.report.ListEnd.TheVariants.{Finished, Candidates, Conflicts}
 use Rattle.bs_report.specs.declared.report.Step.{Step}
+use Rattle.bs_report_good.specs.Step.{listed}
 use Rattle.bs_preimage.specs.declared.listing.Listing.{Listing}
 use Rattle.bs_preimage.specs.Preimage.{PreimageState}
-use Rattle.bs_loop.specs.Searched.{HitsFirst, AreSearched, IsOneSearched, IsTurnSearched}
+use Rattle.bs_preimage.specs.Listed.{HasListed}
+use Rattle.bs_preimage_recorded.specs.Search.{asked_in}
+use Rattle.bs_loop.specs.declared.known.Answer.{Answer}
+use Rattle.bs_loop.specs.declared.known.Reach.{Reach}
+use Rattle.bs_loop.specs.declared.known.Reach.TheVariants.{Whole, Limited, Unanswered}
+use Rattle.bs_loop.specs.Known.{reach_by, IsAsked, Reaches}
+use Rattle.bs_loop.specs.Searched.{HitsBy, HitsFirst, AreSearched, IsOneSearched, IsTurnSearched}
 use Rattle.bs_loop.specs.Turn.{step_of, HasLookedFrom}
-use Rattle.bs_loop.proofs.KnownLemmas.{met_where_all}
+use Rattle.bs_loop.proofs.KnownLemmas.{met_finished, met_counted}
 
--- the step of a list behind a search
+-- the line of a moment, if there is one
+abbrev line_at : Recording → Option Moment → Option HitLine
+line_at r = option_map (λ (m : Moment). record { run = m.run; cycle = m.cycle; state = state_of r.circuit r.runs m })
+
+-- a list that did not end by its count
+unasked_met : (r : Recording) (now : Dump) (stored : List Bool) (known : Option Cand) (old new : PreimageState) (k b : ℕ) (listing : Listing) →
+    old.circuit ≡ r.circuit → old.choice ≡ r.choice → HasListed old new now.state stored now.older known k b listing → (end : ListEnd) →
+    listing.end ≡ end → end ≢ Candidates → end ≢ Conflicts →
+    first_moment r.circuit r.runs (listed listing.cands) ≡ first_moment r.circuit r.runs (asked_in r now.state stored now.older)
+unasked_met r now stored known old new k b listing circuits choices l (Finished id) e counted spent =
+    met_finished r now stored known old new k b id listing circuits choices l e
+unasked_met r now stored known old new k b listing circuits choices l Candidates e counted spent = absurd (counted refl)
+unasked_met r now stored known old new k b listing circuits choices l Conflicts e counted spent = absurd (spent refl)
+
+-- one that a whole search answered
+asked_met : (r : Recording) (now : Dump) (stored : List Bool) (known : Option Cand) (first : Option Moment) (old new : PreimageState) (k b : ℕ)
+    (listing : Listing) → old.circuit ≡ r.circuit → old.choice ≡ r.choice → Reaches r (asked_in r now.state stored now.older) known first Whole →
+    HasListed old new now.state stored now.older known k b listing → (end : ListEnd) → listing.end ≡ end → end ≢ Conflicts →
+    first_moment r.circuit r.runs (listed listing.cands) ≡ first_moment r.circuit r.runs (asked_in r now.state stored now.older)
+asked_met r now stored known first old new k b listing circuits choices h l (Finished id) e spent =
+    met_finished r now stored known old new k b id listing circuits choices l e
+asked_met r now stored known first old new k b listing circuits choices h l Candidates e spent =
+    met_counted r now stored known first old new k b listing circuits choices h l e
+asked_met r now stored known first old new k b listing circuits choices h l Conflicts e spent = absurd (spent refl)
+
+given_hits : (r : Recording) (budgets : Budgets) (old new : PreimageState) (now : Dump) (stored : List Bool) (at : Option Moment) (listing : Listing)
+    (hit : Option Hit) (reach : Reach) (answer : Answer) (given_reach : Reach) → old.circuit ≡ r.circuit → old.choice ≡ r.choice →
+    (from : HasLookedFrom r budgets old new now stored at listing hit reach) →
+    Reaches r (asked_in r now.state stored now.older) from.known answer.first given_reach → HitsBy r (step_of now stored listing hit) given_reach
+given_hits r budgets old new now stored at listing hit reach answer Whole circuits choices from h =
+    λ spent.
+    from.back.line
+    ∙ ap (line_at r)
+    (asked_met r now stored from.known answer.first old new budgets.candidates budgets.conflicts listing circuits choices h from.back.listed
+    listing.end refl spent)
+given_hits r budgets old new now stored at listing hit reach answer (Limited m) circuits choices from h = h
+given_hits r budgets old new now stored at listing hit reach answer (Unanswered m) circuits choices from h = h
+
+looked_hits : (r : Recording) (budgets : Budgets) (old new : PreimageState) (now : Dump) (stored : List Bool) (at : Option Moment) (listing : Listing)
+    (hit : Option Hit) (reach : Reach) → old.circuit ≡ r.circuit → old.choice ≡ r.choice →
+    HasLookedFrom r budgets old new now stored at listing hit reach → HitsBy r (step_of now stored listing hit) reach
+looked_hits r budgets old new now stored at listing hit reach circuits choices from = by from.answered.either
+  where
+    by : ((from.answer ≡ None) × (listing.end ≢ Candidates)) ⊎ IsAsked r now stored at from.known from.answer →
+        HitsBy r (step_of now stored listing hit) reach
+    by (inl none) =
+        let is : reach ≡ Whole = from.reach_is ∙ ap reach_by none.0 in
+        subst (HitsBy r (step_of now stored listing hit)) (sym is)
+        (λ spent.
+        from.back.line
+        ∙ ap (line_at r)
+        (unasked_met r now stored from.known old new budgets.candidates budgets.conflicts listing circuits choices from.back.listed listing.end refl
+        none.1 spent))
+    by (inr asked) =
+        let is : reach ≡ asked.given.reach = from.reach_is ∙ ap reach_by asked.is in
+        subst (HitsBy r (step_of now stored listing hit)) (sym is)
+        (given_hits r budgets old new now stored at listing hit reach asked.given asked.given.reach circuits choices from asked.known_is.reach)
+
+-- the step of a list
 pub step_hits : (r : Recording) (budgets : Budgets) (old new : PreimageState) (now : Dump) (stored : List Bool) (at : Option Moment) (listing : Listing)
-    (hit : Option Hit) (whole : Bool) (step : Step) → old.circuit ≡ r.circuit → old.choice ≡ r.choice →
-    HasLookedFrom r budgets old new now stored at listing hit whole → step ≡ step_of now stored listing hit → HitsFirst r step whole
-step_hits r budgets old new now stored at listing hit whole step circuits choices from is =
-    subst (λ (s : Step). HitsFirst r s whole) (sym is)
-    (record {
-      hit = λ all out.
-          from.back.line
-          ∙ ap (option_map (λ (m : Moment). record { run = m.run; cycle = m.cycle; state = state_of r.circuit r.runs m }))
-          (met_where_all r now stored at from.known whole old new budgets.candidates budgets.conflicts listing circuits choices from.is_known from.back.listed
-          all listing.end refl out);
-    })
+    (hit : Option Hit) (reach : Reach) (step : Step) → old.circuit ≡ r.circuit → old.choice ≡ r.choice →
+    HasLookedFrom r budgets old new now stored at listing hit reach → step ≡ step_of now stored listing hit → HitsFirst r step reach
+step_hits r budgets old new now stored at listing hit reach step circuits choices from is =
+    subst (λ (s : Step). HitsFirst r s reach) (sym is)
+    (record { hit = looked_hits r budgets old new now stored at listing hit reach circuits choices from })
 
-pub turn_searched : {A E : Type 0} (r : Recording) (steps more : List Step) (bits longer : List Bool) (step : Step) (whole : Bool) (result : Result A E) →
-    IfOk result (λ _. more ≡ steps ++ step ∷ []) → IfOk result (λ _. longer ≡ bits ++ whole ∷ []) → HitsFirst r step whole →
-    IfOk result (λ _. IsTurnSearched r steps more bits longer)
-turn_searched r steps more bits longer step whole (Ok done) made bit hits =
-    record { either = inr (record { step = step; whole = whole; made = made; bit = bit; hits = hits }) }
-turn_searched r steps more bits longer step whole (Err want) made bit hits = tt
+pub turn_searched : {A E : Type 0} (r : Recording) (steps more : List Step) (reaches longer : List Reach) (step : Step) (reach : Reach) (result : Result A E) →
+    IfOk result (λ _. more ≡ steps ++ step ∷ []) → IfOk result (λ _. longer ≡ reaches ++ reach ∷ []) → HitsFirst r step reach →
+    IfOk result (λ _. IsTurnSearched r steps more reaches longer)
+turn_searched r steps more reaches longer step reach (Ok done) made noted hits =
+    record { either = inr (record { step = step; reach = reach; made = made; noted = noted; hits = hits }) }
+turn_searched r steps more reaches longer step reach (Err want) made noted hits = tt
 
-pub none_searched : (r : Recording) (bits : List Bool) → bits ≡ [] → AreSearched r [] bits
-none_searched r bits is = subst (AreSearched r []) (sym is) (record { count = refl; each = λ i step e. cc })
+pub none_searched : (r : Recording) (reaches : List Reach) → reaches ≡ [] → AreSearched r [] reaches
+none_searched r reaches is = subst (AreSearched r []) (sym is) (record { count = refl; each = λ i step reach e f. cc })
 
-each_more : (P : Bool → Step → Type 0) (steps : List Step) (step : Step) (bits : List Bool) (bit : Bool) → length bits ≡ length steps →
-    ((i : ℕ) (s : Step) → slice_get steps i ≡ Some s → P (get_or bits i false) s) → P bit step →
-    (i : ℕ) (s : Step) → slice_get (steps ++ step ∷ []) i ≡ Some s → P (get_or (bits ++ bit ∷ []) i false) s
-each_more P [] step [] bit e h p zero s is = let same : step ≡ s = cc in subst (P bit) same p
-each_more P [] step [] bit e h p (suc i) s is = cc
-each_more P [] step (b ∷ bs) bit e h p i s is = absurd (omega (arith, e))
-each_more P (t ∷ ts) step [] bit e h p i s is = absurd (omega (arith, e))
-each_more P (t ∷ ts) step (b ∷ bs) bit e h p zero s is = h zero s is
-each_more P (t ∷ ts) step (b ∷ bs) bit e h p (suc i) s is =
-    each_more P ts step bs bit (omega (arith, e)) (λ j x q. h (suc j) x q) p i s is
+each_more : (P : Reach → Step → Type 0) (steps : List Step) (step : Step) (reaches : List Reach) (reach : Reach) → length reaches ≡ length steps →
+    ((i : ℕ) (s : Step) (x : Reach) → slice_get steps i ≡ Some s → slice_get reaches i ≡ Some x → P x s) → P reach step →
+    (i : ℕ) (s : Step) (x : Reach) → slice_get (steps ++ step ∷ []) i ≡ Some s → slice_get (reaches ++ reach ∷ []) i ≡ Some x → P x s
+each_more P [] step [] reach e h p zero s x is at =
+    let same : step ≡ s = cc in let noted : reach ≡ x = cc in subst (P x) same (subst (λ (y : Reach). P y step) noted p)
+each_more P [] step [] reach e h p (suc i) s x is at = cc
+each_more P [] step (b ∷ bs) reach e h p i s x is at = absurd (omega (arith, e))
+each_more P (t ∷ ts) step [] reach e h p i s x is at = absurd (omega (arith, e))
+each_more P (t ∷ ts) step (b ∷ bs) reach e h p zero s x is at = h zero s x is at
+each_more P (t ∷ ts) step (b ∷ bs) reach e h p (suc i) s x is at =
+    each_more P ts step bs reach (omega (arith, e)) (λ j s x q a. h (suc j) s x q a) p i s x is at
 
-one_more : (r : Recording) (steps more : List Step) (bits longer : List Bool) → AreSearched r steps bits → IsOneSearched r steps more bits longer →
-    AreSearched r more longer
-one_more r steps more bits longer all one =
+one_more : (r : Recording) (steps more : List Step) (reaches longer : List Reach) → AreSearched r steps reaches →
+    IsOneSearched r steps more reaches longer → AreSearched r more longer
+one_more r steps more reaches longer all one =
     subst (λ (l : List Step). AreSearched r l longer) (sym one.made)
-    (subst (AreSearched r (steps ++ one.step ∷ [])) (sym one.bit)
+    (subst (AreSearched r (steps ++ one.step ∷ [])) (sym one.noted)
     (record {
-      count = length-append bits (one.whole ∷ []) ∙ (ap (λ (n : ℕ). n + 1) all.count ∙ sym (length-append steps (one.step ∷ [])));
-      each = each_more (λ bit step. HitsFirst r step bit) steps one.step bits one.whole all.count all.each one.hits;
+      count = length-append reaches (one.reach ∷ []) ∙ (ap (λ (n : ℕ). n + 1) all.count ∙ sym (length-append steps (one.step ∷ [])));
+      each = each_more (λ x s. HitsFirst r s x) steps one.step reaches one.reach all.count all.each one.hits;
     }))
 
-pub searched_more : (r : Recording) (steps more : List Step) (bits longer : List Bool) → AreSearched r steps bits →
-    IsTurnSearched r steps more bits longer → AreSearched r more longer
-searched_more r steps more bits longer all turn = by turn.either
+pub searched_more : (r : Recording) (steps more : List Step) (reaches longer : List Reach) → AreSearched r steps reaches →
+    IsTurnSearched r steps more reaches longer → AreSearched r more longer
+searched_more r steps more reaches longer all turn = by turn.either
   where
-    by : ((more ≡ steps) × (longer ≡ bits)) ⊎ IsOneSearched r steps more bits longer → AreSearched r more longer
+    by : ((more ≡ steps) × (longer ≡ reaches)) ⊎ IsOneSearched r steps more reaches longer → AreSearched r more longer
     by (inl same) = subst (λ (l : List Step). AreSearched r l longer) (sym same.0) (subst (AreSearched r steps) (sym same.1) all)
-    by (inr one) = one_more r steps more bits longer all one
+    by (inr one) = one_more r steps more reaches longer all one

@@ -5,6 +5,7 @@ pub mod Searched
 -- what inner functions promise each other
 pub mod Recorded
 pub mod Known
+pub mod Lookout
 pub mod Made
 pub mod Turn
 pub mod Way

@@ -1,5 +1,5 @@
--- Where the steps of a backtrace hit, where the search among the recorded moments was whole.
-use Rattle.std.specs.Prelude.{◌≡◌, ◌≢◌, ◌⊎◌, ℕ, Bool, true, false, List, [], ◌∷◌, ◌++◌, length, Option, Some, option_map, slice_get, slice_index_or}
+-- Where the steps of a backtrace hit, and how far the recorded moments were searched for each.
+use Rattle.std.specs.Prelude.{◌≡◌, ◌≢◌, ◌⊎◌, ℕ, Bool, List, [], ◌∷◌, ◌++◌, length, Option, Some, option_map, slice_get}
 use Rattle.bs_scan.specs.Crash.{Recording}
 use Rattle.bs_scan.specs.Moments.{first_moment, state_of}
 use Rattle.bs_scan.specs.Signature.{predecessors}
@@ -7,30 +7,44 @@ use Rattle.bs_report.specs.declared.report.HitLine.{HitLine}
 use Rattle.bs_report.specs.declared.report.ListEnd.TheVariants.{Conflicts}
 use Rattle.bs_report.specs.declared.report.Step.{Step}
 use Rattle.bs_report_good.specs.Step.{stored_of}
+use Rattle.bs_preimage_recorded.specs.Search.{NoneSooner}
+use Rattle.bs_loop.specs.Known.{IsCutFar}
+use Rattle.bs_loop.specs.declared.known.Reach.{Reach}
+use Rattle.bs_loop.specs.declared.known.Reach.TheVariants.{Whole, Limited, Unanswered}
 
 -- the line of the first moment at which a run is in one of these states
 abbrev pub hit_among : Recording → List (List Bool) → Option HitLine
 hit_among r states =
     option_map (λ m. record { run = m.run; cycle = m.cycle; state = state_of r.circuit r.runs m }) (first_moment r.circuit r.runs states)
 
+-- the predecessors that a step asks for
+abbrev pub sought_by : Recording → Step → List (List Bool)
+sought_by r step = predecessors r.circuit r.choice step.present (stored_of step)
+
 -- A step whose search was whole, and whose list did not end with conflicts, hits the first moment of any run in a predecessor, of all
--- predecessors and not only of the listed ones; and where it has no hit, no recorded moment is in one.
-pub record HitsFirst (r : Recording) (step : Step) (whole : Bool) : Type 0 where
-  pub hit : whole ≡ true → step.end ≢ Conflicts → step.hit ≡ hit_among r (predecessors r.circuit r.choice step.present (stored_of step))
+-- predecessors and not only of the listed ones; and where it has no hit, no recorded moment is in one. Where the search was cut, no moment
+-- before one is, of which nothing is known: there are as many before it as a search may ask about, or the solver said nothing of it.
+abbrev pub HitsBy : Recording → Step → Reach → Type 0
+HitsBy r step Whole = step.end ≢ Conflicts → step.hit ≡ hit_among r (sought_by r step)
+HitsBy r step (Limited m) = IsCutFar r (sought_by r step) m
+HitsBy r step (Unanswered m) = NoneSooner r (sought_by r step) m
 
--- each step does, where its bit is set
-pub record AreSearched (r : Recording) (steps : List Step) (bits : List Bool) : Type 0 where
-  pub count : length bits ≡ length steps
-  pub each : (i : ℕ) (step : Step) → slice_get steps i ≡ Some step → HitsFirst r step (slice_index_or bits i false)
+pub record HitsFirst (r : Recording) (step : Step) (reach : Reach) : Type 0 where
+  pub hit : HitsBy r step reach
 
--- one more step and its bit
-pub record IsOneSearched (r : Recording) (steps more : List Step) (bits longer : List Bool) : Type 0 where
+-- each step does, by how far was searched for it
+pub record AreSearched (r : Recording) (steps : List Step) (reaches : List Reach) : Type 0 where
+  pub count : length reaches ≡ length steps
+  pub each : (i : ℕ) (step : Step) (reach : Reach) → slice_get steps i ≡ Some step → slice_get reaches i ≡ Some reach → HitsFirst r step reach
+
+-- one more step, and how far was searched for it
+pub record IsOneSearched (r : Recording) (steps more : List Step) (reaches longer : List Reach) : Type 0 where
   pub step : Step
-  pub whole : Bool
+  pub reach : Reach
   pub made : more ≡ steps ++ step ∷ []
-  pub bit : longer ≡ bits ++ whole ∷ []
-  pub hits : HitsFirst r step whole
+  pub noted : longer ≡ reaches ++ reach ∷ []
+  pub hits : HitsFirst r step reach
 
 -- one more, or none
-pub record IsTurnSearched (r : Recording) (steps more : List Step) (bits longer : List Bool) : Type 0 where
-  pub either : ((more ≡ steps) × (longer ≡ bits)) ⊎ IsOneSearched r steps more bits longer
+pub record IsTurnSearched (r : Recording) (steps more : List Step) (reaches longer : List Reach) : Type 0 where
+  pub either : ((more ≡ steps) × (longer ≡ reaches)) ⊎ IsOneSearched r steps more reaches longer

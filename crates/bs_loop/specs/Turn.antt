@@ -17,7 +17,9 @@ use Rattle.bs_report_good.specs.Valid.{cause_of_end}
 use Rattle.bs_preimage.specs.declared.listing.Listing.{Listing}
 use Rattle.bs_preimage.specs.Preimage.{PreimageState}
 use Rattle.bs_preimage.specs.Listed.{HasListed}
-use Rattle.bs_loop.specs.Known.{IsKnown}
+use Rattle.bs_loop.specs.Known.{reach_by, IsAnswered}
+use Rattle.bs_loop.specs.declared.known.Answer.{Answer}
+use Rattle.bs_loop.specs.declared.known.Reach.{Reach}
 
 -- the hit line of a hit
 abbrev pub line_of : Hit → HitLine
@@ -40,11 +42,21 @@ abbrev pub step_of : Dump → List Bool → Listing → Option Hit → Step
 step_of now stored listing hit =
     record { present = now.state; stored = stored; older = now.older; cands = listing.cands; end = listing.end; hit = option_map line_of hit }
 
--- the same behind a search, which may have been whole and made a candidate known
-pub record HasLookedFrom (r : Recording) (budgets : Budgets) (old new : PreimageState) (now : Dump) (stored : List Bool) (at : Option Moment)
-    (listing : Listing) (hit : Option Hit) (whole : Bool) : Type 0 where
+-- a list for a present and its stored signatures, and what was answered for it
+pub record HasListedFrom (r : Recording) (budgets : Budgets) (old new : PreimageState) (now : Dump) (stored : List Bool) (at : Option Moment)
+    (listing : Listing) (answer : Option Answer) : Type 0 where
   pub known : Option Cand
-  pub is_known : IsKnown r now stored at known whole
+  pub listed : HasListed old new now.state stored now.older known budgets.candidates budgets.conflicts listing
+  pub calls : new.calls ≡ old.calls + 1
+  pub answered : IsAnswered r now stored at listing.end known answer
+
+-- the same with the first moment of a run in a listed state, and how far the recorded moments were searched
+pub record HasLookedFrom (r : Recording) (budgets : Budgets) (old new : PreimageState) (now : Dump) (stored : List Bool) (at : Option Moment)
+    (listing : Listing) (hit : Option Hit) (reach : Reach) : Type 0 where
+  pub known : Option Cand
+  pub answer : Option Answer
+  pub answered : IsAnswered r now stored at listing.end known answer
+  pub reach_is : reach ≡ reach_by answer
   pub back : HasLookedBack r budgets old new now stored known listing hit
 
 -- a step back from a present, which may be at a moment, and the moment that it hit
@@ -53,8 +65,8 @@ pub record IsStepBack (r : Recording) (budgets : Budgets) (old new : PreimageSta
   pub stored : List Bool
   pub held : signatures_of now ≡ stored ∷ option_to_list now.older
   pub listing : Listing
-  pub whole : Bool
-  pub from : HasLookedFrom r budgets old new now stored at listing hit whole
+  pub reach : Reach
+  pub from : HasLookedFrom r budgets old new now stored at listing hit reach
   pub step_is : step ≡ step_of now stored listing hit
 
 -- one more step, with a hit, whose moment is the next present

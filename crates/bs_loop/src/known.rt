@@ -1,61 +1,65 @@
-//! The candidate that is known before a list is made: of the first recorded moment that leads to the present, or else of the moment
-//! before the present.
-ghost use Rattle.std.specs.Prelude.{◌≡◌, ◌∷◌, IfOk, IfSome};
+//! The candidate that is known where a list is about to be cut: of the first recorded moment that leads to the present, or else of
+//! the moment before the present.
+ghost use Rattle.std.specs.Prelude.{◌≡◌, ◌≤◌, ◌∷◌, IfOk, IfSome, Some};
 ghost use Rattle.std.specs.Option.{option_to_list};
 ghost use Rattle.bs_scan.specs.Choice.{depth_of};
 ghost use Rattle.bs_scan.specs.Crash.{DumpFits};
 ghost use Rattle.bs_scan.specs.Dump.{signatures_of};
-ghost use Rattle.bs_preimage_recorded.specs.Search.{SoughtWithin};
-ghost use Rattle.bs_loop.specs.Budget.{IsBudget};
-ghost use Rattle.bs_loop.specs.Known.{floor_of, known_by, IsKnown};
-ghost use Rattle.bs_loop.specs.Recorded.{StandsIn};
+ghost use Rattle.bs_scan.specs.Moments.{moment, IsMoment};
+ghost use Rattle.bs_preimage_recorded.specs.Search.{IsCutAt, SoughtWithin};
+ghost use Rattle.bs_preimage_recorded.specs.declared.search.TheConstants.{MAX_ASKS};
+ghost use Rattle.bs_loop.specs.declared.known.Reach.TheVariants.{Whole};
+ghost use Rattle.bs_loop.specs.Known.{floor_of, known_by, reach_by, seen_at, seen_by, sight_by, IsKnown};
+ghost use Rattle.bs_loop.specs.Recorded.{known_before, StandsIn};
 
 use crate::recorded::known_before;
 use crate::steps::lent;
-use bs_bits::{Bits, List, NoMemory};
-use bs_chip::{Chip, Signs};
-use bs_preimage::Probe;
-use bs_preimage_recorded::{Query, Sought, first_recorded};
-use bs_report::{Budgets, Cand, ListEnd, Step};
+use bs_bits::{Bits, NoMemory};
+use bs_chip::Chip;
+use bs_preimage_recorded::{Finder, Query, Recorded, Sought, first_recorded};
+use bs_report::{Cand, ListEnd};
 use bs_scan::{Dump, Moment};
 use std::alloc::Global;
 
-/// How many states a step may ask about at most. In the first step each is replayed from reset.
-pub const MAX_TRIES: u64 = 4;
+/// How far the recorded moments were searched for the predecessors of a step.
+#[derive(Clone, Copy)]
+pub enum Reach {
+    /// The step hits the first moment of all, or none is in one, unless its list ended with conflicts.
+    Whole,
+    /// As many states as the limit were asked about. No moment before this one is in a predecessor.
+    Limited(Moment),
+    /// The solver did not say whether the state of this moment is a predecessor. No moment before it is in one.
+    Unanswered(Moment),
+}
 
-/// How many more states each step may ask about, up to the most.
-const MORE_TRIES: u64 = 1;
+/// What a search says: the first moment in a predecessor, where it is whole.
+#[derive(Clone, Copy)]
+pub struct Answer {
+    pub first: Option<Moment>,
+    pub reach: Reach,
+}
 
-/// A candidate that is known, and whether all moments before its own were looked at.
+/// A candidate that is known, and what the search for it says.
 #[derive(Drop)]
 pub struct Known {
     pub cand: Option<Cand>,
-    pub whole: bool,
+    pub answer: Answer,
 }
 
-/// The tries of a step, from those that the one before it left.
-pub fn tries_after(left: u64) -> u64 {
-    left.saturating_add(MORE_TRIES).min(MAX_TRIES)
+/// Whether the first moment in a listed state is known.
+#[derive(Clone, Copy)]
+pub enum Sight {
+    /// This one, or that there is none.
+    Seen(Option<Moment>),
+    /// Not yet.
+    Unseen,
 }
 
-/// Lists of so many candidates are taken to be cut, before there is one.
-const FEW_CANDIDATES: u64 = 16;
-
-/// Whether a list is likely to be cut, so that a search pays: one of a single candidate, a first one of few, and one behind a list
-/// that was cut.
-pub fn is_due(steps: &List<Step>, budgets: &Budgets) -> bool {
-    let count = steps.len();
-    if budgets.candidates == 1 {
-        return true;
-    }
-    if count == 0 {
-        return budgets.candidates <= FEW_CANDIDATES;
-    }
-    match steps.get(count - 1).end {
-        ListEnd::Candidates => true,
-        ListEnd::Finished(_) => false,
-        ListEnd::Conflicts => false,
-    }
+/// What a search says, from its parts.
+fn answer_of(first: Option<Moment>, reach: Reach) -> Answer
+    ensures { result ≡ record { first = first; reach = reach } }
+{
+    Answer { first, reach }
 }
 
 /// The moment before a moment above cycle 0.
@@ -76,92 +80,164 @@ fn floor_of(at: Option<Moment>) -> Option<Moment>
     }
 }
 
-/// What is known after a search, where the moment before the present is at hand.
-fn known_of(sought: Sought, floor: Option<Cand>) -> Known
-    ensures { result ≡ known_by sought floor }
-{
-    match sought {
-        Sought::Found(found) => Known {
-            cand: Some(found.cand),
-            whole: true,
-        },
-        Sought::NoMoment => Known {
-            cand: floor,
-            whole: true,
-        },
-        Sought::Cut => Known {
-            cand: floor,
-            whole: false,
-        },
-    }
-}
-
-/// The search before a moment that is known to lead to the present, or among all, if it is due.
-fn seek(
+/// The search before a moment that is known to lead to the present, or among all.
+fn seek<'a>(
     alloc: Global,
-    chip: &mut Chip<'_>,
-    signs: &mut Signs<'_>,
-    probe: &mut Probe<'_>,
+    chip: &mut Chip<'a>,
+    finder: &mut Finder<'a, '_>,
     now: &Dump,
     at: Option<Moment>,
     stored: &Bits,
-    budgets: &Budgets,
-    due: bool,
-    tries: &mut u64,
+    b: u64,
 ) -> Result<Sought, NoMemory>
-    requires signs { signs.old ≡ chip.old.recording }
-    requires probe { probe.old ≡ record { circuit = chip.old.recording.circuit; choice = chip.old.recording.choice } }
+    requires finder { finder.old.recording ≡ chip.old.recording }
     requires dump { DumpFits chip.old.recording.circuit chip.old.recording.choice now.now }
     requires at { IfSome at (StandsIn chip.old.recording now.now) }
     requires stored { signatures_of now.now ≡ stored.now ∷ option_to_list now.now.older }
-    requires budgets { IsBudget budgets.now }
+    requires conflicts { 1 ≤ b }
     ensures sought { IfOk result (SoughtWithin chip.old.recording now.now.state stored.now now.now.older (floor_of at)) }
+    ensures cut { IfOk result (IsCutAt chip.old.recording MAX_ASKS) }
     ensures chip { chip.new ≡ chip.old }
-    ensures signs { signs.new ≡ signs.old }
-    ensures probe { probe.new ≡ probe.old }
+    ensures finder { finder.new.recording ≡ finder.old.recording }
 {
-    if !due {
-        return Ok(Sought::Cut);
-    }
     chip.is_recording();
     let query = Query {
         present: &now.state,
         stored,
         older: lent(&now.older),
-        b: budgets.conflicts,
+        b,
     };
-    let sought = first_recorded(alloc, chip, signs, probe, &query, floor_of(at), tries)?;
+    let sought = first_recorded(alloc, chip, finder, &query, floor_of(at))?;
     Ok(sought)
 }
 
-/// What is known of the states before a present.
-pub fn known_for(
+/// The moment before the present, with what a search says.
+fn floor_known(
     alloc: Global,
     chip: &mut Chip<'_>,
-    signs: &mut Signs<'_>,
-    probe: &mut Probe<'_>,
+    at: Option<Moment>,
+    depth: u8,
+    answer: Answer,
+) -> Result<Known, NoMemory>
+    requires at { IfSome at (IsMoment chip.old.recording.runs) }
+    requires depth { depth ≡ depth_of chip.old.recording.choice }
+    ensures known { IfOk result (λ known. known ≡ record { cand = known_before chip.old.recording at; answer = answer }) }
+    ensures chip { chip.new ≡ chip.old }
+{
+    let cand = known_before(alloc, chip, at, depth)?;
+    Ok(Known { cand, answer })
+}
+
+/// What is known where a moment was found.
+fn found_known(found: Recorded) -> Known
+    ensures { result ≡ record { cand = Some found.cand; answer = record { first = Some (moment found.run found.cycle); reach = Whole } } }
+{
+    let Recorded { run, cycle, cand } = found;
+    let first = Some(Moment { run, cycle });
+    let reach = Reach::Whole;
+    Known {
+        cand: Some(cand),
+        answer: Answer { first, reach },
+    }
+}
+
+/// What is known after a search.
+fn known_of(
+    alloc: Global,
+    chip: &mut Chip<'_>,
+    at: Option<Moment>,
+    depth: u8,
+    sought: Sought,
+) -> Result<Known, NoMemory>
+    requires at { IfSome at (IsMoment chip.old.recording.runs) }
+    requires depth { depth ≡ depth_of chip.old.recording.choice }
+    ensures known { IfOk result (λ known. known ≡ known_by sought (floor_of at) (known_before chip.old.recording at)) }
+    ensures chip { chip.new ≡ chip.old }
+{
+    let first = floor_of(at);
+    match sought {
+        Sought::Found(found) => Ok(found_known(found)),
+        Sought::NoMoment => floor_known(alloc, chip, at, depth, answer_of(first, Reach::Whole)),
+        Sought::Cut(m) => floor_known(alloc, chip, at, depth, answer_of(None, Reach::Limited(m))),
+        Sought::Unsaid(m) => {
+            floor_known(
+                alloc,
+                chip,
+                at,
+                depth,
+                answer_of(None, Reach::Unanswered(m)),
+            )
+        }
+    }
+}
+
+/// What is known of the states before a present.
+pub fn known_for<'a>(
+    alloc: Global,
+    chip: &mut Chip<'a>,
+    finder: &mut Finder<'a, '_>,
     now: &Dump,
     at: Option<Moment>,
     stored: &Bits,
-    budgets: &Budgets,
-    due: bool,
-    tries: &mut u64,
+    b: u64,
 ) -> Result<Known, NoMemory>
-    requires signs { signs.old ≡ chip.old.recording }
-    requires probe { probe.old ≡ record { circuit = chip.old.recording.circuit; choice = chip.old.recording.choice } }
+    requires finder { finder.old.recording ≡ chip.old.recording }
     requires dump { DumpFits chip.old.recording.circuit chip.old.recording.choice now.now }
     requires at { IfSome at (StandsIn chip.old.recording now.now) }
     requires stored { signatures_of now.now ≡ stored.now ∷ option_to_list now.now.older }
-    requires budgets { IsBudget budgets.now }
-    ensures known { IfOk result (λ known. IsKnown chip.old.recording now.now stored.now at known.cand known.whole) }
+    requires conflicts { 1 ≤ b }
+    ensures known { IfOk result (λ known. IsKnown chip.old.recording now.now stored.now at known.cand known.answer) }
     ensures chip { chip.new ≡ chip.old }
-    ensures signs { signs.new ≡ signs.old }
-    ensures probe { probe.new ≡ probe.old }
+    ensures finder { finder.new.recording ≡ finder.old.recording }
 {
     chip.is_recording();
-    let floor = known_before(alloc, chip, at, now.depth)?;
-    let sought = seek(
-        alloc, chip, signs, probe, now, at, stored, budgets, due, tries,
-    )?;
-    Ok(known_of(sought, floor))
+    let sought = seek(alloc, chip, finder, now, at, stored, b)?;
+    let known = known_of(alloc, chip, at, now.depth, sought)?;
+    Ok(known)
+}
+
+/// How far the search came for a list: where nothing was asked, what leads to the present is all in the list.
+pub fn reach_of(answer: Option<Answer>) -> Reach
+    ensures { result ≡ reach_by answer }
+{
+    match answer {
+        None => Reach::Whole,
+        Some(answer) => answer.reach,
+    }
+}
+
+/// What is seen of a list by a search that came so far.
+fn seen_at(first: Option<Moment>, reach: Reach) -> Sight
+    ensures { result ≡ seen_at first reach }
+{
+    match reach {
+        Reach::Whole => Sight::Seen(first),
+        Reach::Limited(_) => Sight::Unseen,
+        Reach::Unanswered(_) => Sight::Unseen,
+    }
+}
+
+/// What is seen of a list that has ended so.
+fn seen_by(answer: Option<Answer>, end: &ListEnd) -> Sight
+    ensures { result ≡ seen_by answer end.now }
+{
+    match answer {
+        None => Sight::Unseen,
+        Some(answer) => match end {
+            ListEnd::Finished(_) => seen_at(answer.first, answer.reach),
+            ListEnd::Candidates => seen_at(answer.first, answer.reach),
+            ListEnd::Conflicts => Sight::Unseen,
+        },
+    }
+}
+
+/// Whether the first moment in a state of a list that has ended is known. Where the present is at no moment the runs are looked
+/// through, so that the chip keeps their states.
+pub fn sight_of(at: Option<Moment>, answer: Option<Answer>, end: &ListEnd) -> Sight
+    ensures { result ≡ sight_by at answer end.now }
+{
+    match at {
+        None => Sight::Unseen,
+        Some(_) => seen_by(answer, end),
+    }
 }

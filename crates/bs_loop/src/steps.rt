@@ -1,38 +1,43 @@
 //! One step back: the list of the states before the present one, and the first moment of a run in a listed state.
-ghost use Rattle.std.specs.Prelude.{◌≡◌, ◌<◌, ◌∷◌, ◌++◌, [], IfOk, IfSome, MatchOption, option_map};
+ghost use Rattle.std.specs.Prelude.{◌≡◌, ◌<◌, ◌∷◌, ◌++◌, [], All, IfOk, IfSome, MatchOption, length, option_map};
 ghost use Rattle.std.specs.Option.{option_to_list};
 ghost use Rattle.bs_scan.specs.Crash.{DumpFits};
 ghost use Rattle.bs_scan.specs.Dump.{signatures_of};
 ghost use Rattle.bs_scan.specs.Moments.{moment};
-ghost use Rattle.bs_preimage.specs.Listed.{IsRightCand};
+ghost use Rattle.bs_scan.specs.Crash.{dump_at};
+ghost use Rattle.bs_scan.specs.Moments.{first_moment, IsMoment};
+ghost use Rattle.bs_report_good.specs.Step.{listed};
 ghost use Rattle.bs_report_good.specs.Valid.{cause_of_end};
 ghost use Rattle.bs_loop.specs.Budget.{IsBudget};
+ghost use Rattle.bs_loop.specs.Known.{Sees};
 ghost use Rattle.bs_loop.specs.Recorded.{StandsIn};
 ghost use Rattle.bs_loop.specs.Searched.{IsTurnSearched};
-ghost use Rattle.bs_loop.specs.Turn.{line_of, step_of, HasLookedBack, HasLookedFrom, HasStepped, HasStopped};
+ghost use Rattle.bs_loop.specs.Turn.{line_of, step_of, HasListedFrom, HasLookedFrom, HasStepped, HasStopped};
 
-use crate::known::{is_due, known_for, tries_after};
+use crate::known::{Answer, Reach, Sight, reach_of, sight_of};
+use crate::lookout::Lookout;
 use crate::stop::cause_after;
 use bs_bits::{Bits, List, NoMemory};
-use bs_chip::{Chip, Hit, Signs};
-use bs_preimage::{Listing, Preimage, Probe};
+use bs_chip::{Chip, Hit};
+use bs_preimage::{Listing, Preimage};
+use bs_preimage_recorded::Finder;
 use bs_report::{Budgets, Cand, HitLine, MAX_STEPS, Step, Stop};
 use bs_scan::{Dump, Moment};
 use std::alloc::Global;
 
-/// A list of states, and the first moment of a run in one of them.
+/// A list of states, and what was answered for it, if anything was asked.
 #[derive(Drop)]
-struct Back {
+struct Listed {
     listing: Listing,
-    hit: Option<Hit>,
+    answer: Option<Answer>,
 }
 
-/// The same, and whether the search before it was whole.
+/// A list of states, the first moment of a run in one of them, and how far the recorded moments were searched.
 #[derive(Drop)]
 struct Looked {
     listing: Listing,
     hit: Option<Hit>,
-    whole: bool,
+    reach: Reach,
 }
 
 /// The signature, lent, if there is one.
@@ -45,37 +50,91 @@ pub fn lent(signature: &Option<Bits>) -> Option<&Bits>
     }
 }
 
-/// The states before a present that has a stored signature, a known one among them, and the first moment of a run in one of them.
-fn look_back(
+/// The states before a present that has a stored signature. Where their list is about to be cut, the recorded moments are searched.
+fn list_from<'s, 'a>(
     alloc: Global,
-    chip: &mut Chip<'_>,
+    chip: &'s mut Chip<'a>,
+    finder: &'s mut Finder<'a, '_>,
     preimage: &mut Preimage<'_>,
-    now: &Dump,
-    stored: &Bits,
-    known: &Option<Cand>,
+    now: &'s Dump,
+    at: Option<Moment>,
+    stored: &'s Bits,
     budgets: &Budgets,
-) -> Result<Back, NoMemory>
+) -> Result<Listed, NoMemory>
+    requires finder { finder.old.recording ≡ chip.old.recording }
     requires circuit { preimage.old.circuit ≡ chip.old.recording.circuit }
     requires choice { preimage.old.choice ≡ chip.old.recording.choice }
     requires dump { DumpFits chip.old.recording.circuit chip.old.recording.choice now.now }
+    requires at { IfSome at (StandsIn chip.old.recording now.now) }
     requires stored { signatures_of now.now ≡ stored.now ∷ option_to_list now.now.older }
-    requires known { IfSome known.now (IsRightCand chip.old.recording.circuit chip.old.recording.choice now.now.state stored.now now.now.older) }
     requires budgets { IsBudget budgets.now }
     requires calls { preimage.old.calls < MAX_STEPS }
-    ensures back { IfOk result (λ back. HasLookedBack chip.old.recording budgets.now preimage.old preimage.new now.now stored.now known.now back.listing back.hit) }
+    ensures listed { IfOk result (λ listed. HasListedFrom chip.old.recording budgets.now preimage.old preimage.new now.now stored.now at listed.listing listed.answer) }
     ensures chip { chip.new.recording ≡ chip.old.recording }
+    ensures finder { finder.new.recording ≡ finder.old.recording }
 {
-    let listing = preimage.list(
+    let mut lookout = Lookout {
+        chip,
+        finder,
+        now,
+        stored,
+        at,
+        b: budgets.conflicts,
+        answer: None,
+    };
+    let listing = preimage.list_asking(
         alloc,
         &now.state,
         stored,
         lent(&now.older),
-        known,
+        &mut lookout,
         budgets.candidates,
         budgets.conflicts,
     )?;
-    let hit = chip.first(alloc, listing.cands.slice())?;
-    Ok(Back { listing, hit })
+    let answer = lookout.answer;
+    Ok(Listed { listing, answer })
+}
+
+/// A moment and its dump, if there is one.
+fn hit_at(
+    alloc: Global,
+    chip: &mut Chip<'_>,
+    first: Option<Moment>,
+) -> Result<Option<Hit>, NoMemory>
+    requires { IfSome first (IsMoment chip.old.recording.runs) }
+    ensures first { IfOk result (λ hit. first ≡ option_map (λ hit. moment hit.run hit.cycle) hit) }
+    ensures dump { IfOk result (λ hit. IfSome hit (λ hit. hit.dump ≡ dump_at chip.old.recording (moment hit.run hit.cycle))) }
+    ensures chip { chip.new.recording ≡ chip.old.recording }
+{
+    match first {
+        None => Ok(None),
+        Some(Moment { run, cycle }) => {
+            let dump = chip.dump_at(alloc, run, cycle)?;
+            Ok(Some(Hit { run, cycle, dump }))
+        }
+    }
+}
+
+/// The first moment of a run in a listed state, where it is not known yet.
+fn hit_in(
+    alloc: Global,
+    chip: &mut Chip<'_>,
+    cands: &[Cand],
+    sight: Sight,
+) -> Result<Option<Hit>, NoMemory>
+    requires widths { All (λ cand. length cand.state ≡ length chip.old.recording.circuit.flops) cands.now }
+    requires sight { Sees chip.old.recording cands.now sight }
+    ensures first { IfOk result (λ hit. first_moment chip.old.recording.circuit chip.old.recording.runs (listed cands.now) ≡ option_map (λ hit. moment hit.run hit.cycle) hit) }
+    ensures dump { IfOk result (λ hit. IfSome hit (λ hit. hit.dump ≡ dump_at chip.old.recording (moment hit.run hit.cycle))) }
+    ensures chip { chip.new.recording ≡ chip.old.recording }
+{
+    match sight {
+        Sight::Seen(first) => hit_at(alloc, chip, first),
+        Sight::Unseen => {
+            let hit = chip.first(alloc, cands)?;
+            Ok(hit)
+        }
+    }
 }
 
 /// An equal signature of its own, or none.
@@ -119,22 +178,18 @@ fn step_of(now: &Dump, stored: Bits, listing: Listing, hit: &Option<Hit>) -> Res
     })
 }
 
-/// What is before a present: the list with a candidate that a search makes known, and the first moment hit.
-fn look_from(
+/// What is before a present: the list, and the first moment hit.
+fn look_from<'a>(
     alloc: Global,
-    chip: &mut Chip<'_>,
-    signs: &mut Signs<'_>,
-    probe: &mut Probe<'_>,
+    chip: &mut Chip<'a>,
+    finder: &mut Finder<'a, '_>,
     preimage: &mut Preimage<'_>,
     now: &Dump,
     at: Option<Moment>,
     stored: &Bits,
     budgets: &Budgets,
-    due: bool,
-    tries: &mut u64,
 ) -> Result<Looked, NoMemory>
-    requires signs { signs.old ≡ chip.old.recording }
-    requires probe { probe.old ≡ record { circuit = chip.old.recording.circuit; choice = chip.old.recording.choice } }
+    requires finder { finder.old.recording ≡ chip.old.recording }
     requires circuit { preimage.old.circuit ≡ chip.old.recording.circuit }
     requires choice { preimage.old.choice ≡ chip.old.recording.choice }
     requires dump { DumpFits chip.old.recording.circuit chip.old.recording.choice now.now }
@@ -142,19 +197,20 @@ fn look_from(
     requires stored { signatures_of now.now ≡ stored.now ∷ option_to_list now.now.older }
     requires budgets { IsBudget budgets.now }
     requires calls { preimage.old.calls < MAX_STEPS }
-    ensures back { IfOk result (λ back. HasLookedFrom chip.old.recording budgets.now preimage.old preimage.new now.now stored.now at back.listing back.hit back.whole) }
+    ensures back { IfOk result (λ back. HasLookedFrom chip.old.recording budgets.now preimage.old preimage.new now.now stored.now at back.listing back.hit back.reach) }
     ensures chip { chip.new.recording ≡ chip.old.recording }
-    ensures signs { signs.new ≡ signs.old }
-    ensures probe { probe.new ≡ probe.old }
+    ensures finder { finder.new.recording ≡ finder.old.recording }
 {
-    let known = known_for(
-        alloc, chip, signs, probe, now, at, stored, budgets, due, tries,
+    let Listed { listing, answer } = list_from(
+        alloc, chip, finder, preimage, now, at, stored, budgets,
     )?;
-    let back = look_back(alloc, chip, preimage, now, stored, &known.cand, budgets)?;
+    let sight = sight_of(at, answer, &listing.end);
+    let hit = hit_in(alloc, chip, listing.cands.slice(), sight)?;
+    let reach = reach_of(answer);
     Ok(Looked {
-        listing: back.listing,
-        hit: back.hit,
-        whole: known.whole,
+        listing,
+        hit,
+        reach,
     })
 }
 
@@ -173,44 +229,41 @@ fn go_on(now: &mut Dump, at: &mut Option<Moment>, hit: Option<Hit>, cause: Stop)
     }
 }
 
-/// Puts a step to the others, and its bit. Where it has a hit, the present is now the moment hit; else the cause comes for which the
+/// Puts a step to the others, and how far was searched for it. Where it has a hit, the present is now the moment hit; else the cause comes for which the
 /// backtrace stops.
 fn advance(
     steps: &mut List<Step>,
-    searched: &mut List<bool>,
+    searched: &mut List<Reach>,
     now: &mut Dump,
     at: &mut Option<Moment>,
     step: Step,
     hit: Option<Hit>,
-    whole: bool,
+    reach: Reach,
 ) -> Result<Option<Stop>, NoMemory>
-    ensures searched { IfOk result (λ _. searched.new ≡ searched.old ++ whole ∷ []) }
+    ensures searched { IfOk result (λ _. searched.new ≡ searched.old ++ reach ∷ []) }
     ensures steps { IfOk result (λ _. steps.new ≡ steps.old ++ step ∷ []) }
     ensures stop { IfOk result (λ stop. MatchOption hit (stop ≡ Some (cause_of_end step step.end)) (λ hit. (stop ≡ None) × (now.new ≡ hit.dump) × (at.new ≡ Some (moment hit.run hit.cycle)))) }
 {
     let stop = go_on(now, at, hit, cause_after(&step));
     steps.push(step)?;
-    searched.push(whole)?;
+    searched.push(reach)?;
     Ok(stop)
 }
 
 /// One turn of a backtrace: the cause for which it stops at the present or after a step; or a step with a hit, which is
 /// the next present. Where the present is a moment of a run, its place is at hand.
-pub fn turn(
+pub fn turn<'a>(
     alloc: Global,
-    chip: &mut Chip<'_>,
-    signs: &mut Signs<'_>,
-    probe: &mut Probe<'_>,
+    chip: &mut Chip<'a>,
+    finder: &mut Finder<'a, '_>,
     preimage: &mut Preimage<'_>,
     budgets: &Budgets,
     steps: &mut List<Step>,
-    searched: &mut List<bool>,
+    searched: &mut List<Reach>,
     now: &mut Dump,
     at: &mut Option<Moment>,
-    tries: &mut u64,
 ) -> Result<Option<Stop>, NoMemory>
-    requires signs { signs.old ≡ chip.old.recording }
-    requires probe { probe.old ≡ record { circuit = chip.old.recording.circuit; choice = chip.old.recording.choice } }
+    requires finder { finder.old.recording ≡ chip.old.recording }
     requires circuit { preimage.old.circuit ≡ chip.old.recording.circuit }
     requires choice { preimage.old.choice ≡ chip.old.recording.choice }
     requires dump { DumpFits chip.old.recording.circuit chip.old.recording.choice now.old }
@@ -220,22 +273,17 @@ pub fn turn(
     ensures turn { IfOk result (λ stop. MatchOption stop (HasStepped chip.old.recording budgets.now steps.old steps.new preimage.old preimage.new now.old now.new at.old at.new) (HasStopped chip.old.recording budgets.now steps.old steps.new preimage.old preimage.new now.old at.old)) }
     ensures searched { IfOk result (λ _. IsTurnSearched chip.old.recording steps.old steps.new searched.old searched.new) }
     ensures chip { chip.new.recording ≡ chip.old.recording }
-    ensures signs { signs.new ≡ signs.old }
-    ensures probe { probe.new ≡ probe.old }
+    ensures finder { finder.new.recording ≡ finder.old.recording }
 {
     let stored = match &now.stored {
         None => return Ok(Some(Stop::Reset)),
         Some(stored) => stored.copy()?,
     };
-    *tries = tries_after(*tries);
-    let due = is_due(steps, budgets);
     let Looked {
         listing,
         hit,
-        whole,
-    } = look_from(
-        alloc, chip, signs, probe, preimage, now, *at, &stored, budgets, due, tries,
-    )?;
+        reach,
+    } = look_from(alloc, chip, finder, preimage, now, *at, &stored, budgets)?;
     let step = step_of(now, stored, listing, &hit)?;
-    advance(steps, searched, now, at, step, hit, whole)
+    advance(steps, searched, now, at, step, hit, reach)
 }

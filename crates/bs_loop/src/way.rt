@@ -17,17 +17,18 @@ ghost use Rattle.bs_preimage.specs.Preimage.{fresh};
 ghost use Rattle.bs_loop.specs.Budget.{IsBudget};
 ghost use Rattle.bs_loop.specs.Made.{HasMade};
 ghost use Rattle.bs_loop.specs.Way.{HasEnded};
-ghost use Rattle.bs_loop.specs.Report.{IsOfWay, IsWithLog};
+ghost use Rattle.bs_loop.specs.Report.{IsAlikeButLog, IsOfWay, IsWithLog};
 ghost use Rattle.bs_loop.specs.Bound.{HasBound};
 ghost use Rattle.bs_loop.specs.Searched.{AreSearched};
 
-use crate::known::MAX_TRIES;
+use crate::known::Reach;
 use crate::steps::turn;
 use crate::trace::{inputs_back, states_back};
 use bs_bits::{Bits, List, NoMemory};
-use bs_chip::{Chip, Signs};
+use bs_chip::Chip;
 use bs_log::Log;
-use bs_preimage::{Preimage, Probe};
+use bs_preimage::Preimage;
+use bs_preimage_recorded::Finder;
 use bs_report::{Budgets, Report, Step, Stop};
 use bs_scan::Dump;
 use std::alloc::Global;
@@ -50,19 +51,17 @@ fn cause_at(now: &Dump) -> Stop
 }
 
 /// Turn after turn from the dump until a stop, with what searches the recorded moments.
-fn walk_turns(
+fn walk_turns<'a>(
     alloc: Global,
-    chip: &mut Chip<'_>,
-    signs: &mut Signs<'_>,
-    probe: &mut Probe<'_>,
+    chip: &mut Chip<'a>,
+    finder: &mut Finder<'a, '_>,
     preimage: &mut Preimage<'_>,
     dump: &Dump,
     budgets: &Budgets,
-    searched: &mut List<bool>,
+    searched: &mut List<Reach>,
 ) -> Result<Way, NoMemory>
     requires searched { searched.old ≡ [] }
-    requires signs { signs.old ≡ chip.old.recording }
-    requires probe { probe.old ≡ record { circuit = chip.old.recording.circuit; choice = chip.old.recording.choice } }
+    requires finder { finder.old.recording ≡ chip.old.recording }
     requires fresh { preimage.old ≡ fresh chip.old.recording.circuit chip.old.recording.choice }
     requires dump { DumpFits chip.old.recording.circuit chip.old.recording.choice dump.now }
     requires budgets { IsBudget budgets.now }
@@ -75,11 +74,9 @@ fn walk_turns(
     let mut steps = List::new(alloc);
     let mut now = dump.copy()?;
     let mut at = None;
-    let mut tries = MAX_TRIES;
     'turns: for _ in 0..budgets.steps {
         match turn(
-            alloc, chip, signs, probe, preimage, budgets, &mut steps, searched, &mut now, &mut at,
-            &mut tries,
+            alloc, chip, finder, preimage, budgets, &mut steps, searched, &mut now, &mut at,
         )? {
             Some(stop) => return Ok(Way { steps, stop }),
             None => {}
@@ -89,18 +86,18 @@ fn walk_turns(
     Ok(Way { steps, stop })
 }
 
-/// The same with what answers about single states.
-fn walk_with(
+/// The same, and lets go of what searches.
+fn walk_with<'a>(
     alloc: Global,
-    chip: &mut Chip<'_>,
-    signs: &mut Signs<'_>,
+    chip: &mut Chip<'a>,
+    finder: Finder<'a, '_>,
     preimage: &mut Preimage<'_>,
     dump: &Dump,
     budgets: &Budgets,
-    searched: &mut List<bool>,
+    searched: &mut List<Reach>,
 ) -> Result<Way, NoMemory>
     requires searched { searched.old ≡ [] }
-    requires signs { signs.old ≡ chip.old.recording }
+    requires finder { finder.recording ≡ chip.old.recording }
     requires fresh { preimage.old ≡ fresh chip.old.recording.circuit chip.old.recording.choice }
     requires dump { DumpFits chip.old.recording.circuit chip.old.recording.choice dump.now }
     requires budgets { IsBudget budgets.now }
@@ -110,11 +107,24 @@ fn walk_with(
     ensures stop { IfOk result (λ way. StopsFor (crash_of chip.old.recording dump.now) budgets.now way.steps way.stop) }
     ensures chip { chip.new.recording ≡ chip.old.recording }
 {
-    let mut probe = preimage.probe(alloc)?;
-    let way = walk_turns(
-        alloc, chip, signs, &mut probe, preimage, dump, budgets, searched,
-    )?;
-    Ok(way)
+    let mut finder = finder;
+    walk_turns(alloc, chip, &mut finder, preimage, dump, budgets, searched)
+}
+
+/// What searches the recorded moments of a chip for predecessors of the same netlist and signature.
+fn finder_of<'a, 'p>(
+    alloc: Global,
+    chip: &Chip<'a>,
+    preimage: &Preimage<'p>,
+) -> Result<Finder<'a, 'p>, NoMemory>
+    requires circuit { preimage.now.circuit ≡ chip.now.recording.circuit }
+    requires choice { preimage.now.choice ≡ chip.now.recording.choice }
+    ensures { IfOk result (λ finder. finder.recording ≡ chip.now.recording) }
+{
+    match preimage.probe(alloc) {
+        Ok(probe) => Finder::new(alloc, chip, probe),
+        Err(want) => Err(want),
+    }
 }
 
 /// Turn after turn from the dump until a stop.
@@ -124,7 +134,7 @@ fn walk(
     preimage: &mut Preimage<'_>,
     dump: &Dump,
     budgets: &Budgets,
-    searched: &mut List<bool>,
+    searched: &mut List<Reach>,
 ) -> Result<Way, NoMemory>
     requires searched { searched.old ≡ [] }
     requires fresh { preimage.old ≡ fresh chip.old.recording.circuit chip.old.recording.choice }
@@ -136,9 +146,10 @@ fn walk(
     ensures stop { IfOk result (λ way. StopsFor (crash_of chip.old.recording dump.now) budgets.now way.steps way.stop) }
     ensures chip { chip.new.recording ≡ chip.old.recording }
 {
-    let mut signs = chip.signs(alloc)?;
-    let way = walk_with(alloc, chip, &mut signs, preimage, dump, budgets, searched)?;
-    Ok(way)
+    match finder_of(alloc, chip, preimage) {
+        Ok(finder) => walk_with(alloc, chip, finder, preimage, dump, budgets, searched),
+        Err(want) => Err(want),
+    }
 }
 
 /// The trace of steps from a dump: its states, and its inputs.
@@ -192,7 +203,7 @@ fn unlogged(
     preimage: &mut Preimage<'_>,
     dump: &Dump,
     budgets: &Budgets,
-    searched: &mut List<bool>,
+    searched: &mut List<Reach>,
 ) -> Result<Report, NoMemory>
     requires searched { searched.old ≡ [] }
     requires fresh { preimage.old ≡ fresh chip.old.recording.circuit chip.old.recording.choice }
@@ -222,35 +233,38 @@ fn log_of(preimage: Preimage<'_>) -> Log
     log
 }
 
-/// The report with the log of the search.
-fn with_log(report: Report, preimage: Preimage<'_>) -> Report
-    ensures { IsWithLog preimage.entry report result }
+/// The report with a log.
+fn with_log(report: Report, log: Log) -> Report
+    ensures log { result.log ≡ log }
+    ensures alike { IsAlikeButLog report result }
 {
     let mut report = report;
-    report.log = log_of(preimage);
+    report.log = log;
     report
 }
 
-/// The same, where there is a report.
+/// The report with the log of the search, where there is a report.
 fn logged(report: Result<Report, NoMemory>, preimage: Preimage<'_>) -> Result<Report, NoMemory>
     ensures { MatchResult report (λ report. IfOk result (IsWithLog preimage.entry report)) (λ want. result ≡ Err want) }
 {
+    let log = log_of(preimage);
     match report {
-        Ok(report) => Ok(with_log(report, preimage)),
+        Ok(report) => Ok(with_log(report, log)),
         Err(want) => Err(want),
     }
 }
 
-/// The backtrace of a dump, as `backtrace`, with a bit for each step: whether all recorded moments before the one that it hit, or
-/// all where it has no hit, were looked at. Such a step hits the first moment of any run whose state is a predecessor that agrees
-/// with the stored signatures, unless its list ends with conflicts.
+/// The backtrace of a dump, as `backtrace`, and for each step how far the recorded moments were searched. Where the search was whole the
+/// step hits the first moment of any run whose state is a predecessor that agrees with the stored signatures, of all predecessors and
+/// not only of the listed ones, unless its list ends with conflicts; and where it was cut, no moment before the one that it came to is
+/// in a predecessor.
 pub fn backtrace_searched(
     alloc: Global,
     chip: &mut Chip<'_>,
     preimage: Preimage<'_>,
     dump: &Dump,
     budgets: &Budgets,
-    searched: &mut List<bool>,
+    searched: &mut List<Reach>,
 ) -> Result<Report, NoMemory>
     requires searched { searched.old ≡ [] }
     requires fresh { preimage ≡ fresh chip.old.recording.circuit chip.old.recording.choice }

@@ -1,16 +1,10 @@
 use Rattle.std.proofs.Common.{◌≤◌, Option, subst, sym}
-use Rattle.std.specs.Prelude.{IfSome, option_map}
+use Rattle.std.specs.Prelude.{IfSome}
 use Rattle.bs_stim.specs.declared.limits.TheConstants.{MAX_CYCLES}
 use Rattle.bs_scan.specs.Moments.{Moment}
-use Rattle.bs_preimage_recorded.specs.Search.{IsAsking, SoughtWithin}
-use Rattle.bs_loop.specs.Known.{floor_of}
-use Rattle.bs_loop.proofs.MeetLemmas.{held_wide}
-use Rattle.bs_loop.proofs.KnownLemmas.{cut_within, floor_may, few_cycles, is_asking}
+use Rattle.bs_preimage_recorded.specs.Search.{SoughtWithin}
+use Rattle.bs_loop.proofs.KnownLemmas.{floor_may, few_cycles, is_asking}
 use Rattle.bs_loop.proofs.known.seek.Goals as goal
-
-pub returns-then-not-due-clause-sought : goal.returns-then-not-due-clause-sought
-returns-then-not-due-clause-sought c =
-    cut_within c.args.chip.now.recording c.args.now.now.state c.args.stored.now c.args.now.now.older (floor_of c.args.at)
 
 pub first_recorded-requires-clause-before : goal.first_recorded-requires-clause-before
 first_recorded-requires-clause-before c =
@@ -20,8 +14,7 @@ first_recorded-requires-clause-before c =
 pub first_recorded-requires-clause-asking : goal.first_recorded-requires-clause-asking
 first_recorded-requires-clause-asking c =
     rw c.lent.ensures
-    (is_asking c.args.chip.now.recording c.args.probe.now c.args.now.now c.args.stored.now c.args.budgets.now c.requires.probe c.requires.dump
-    c.requires.stored c.requires.budgets)
+    (is_asking c.args.chip.now.recording c.args.now.now c.args.stored.now c.args.b c.requires.dump c.requires.stored c.requires.conflicts)
 
 pub returns-clause-sought : goal.returns-clause-sought
 returns-clause-sought c =

@@ -2,13 +2,13 @@ use Rattle.std.proofs.Common.{subst, ◌∙◌}
 use Rattle.bs_scan.specs.Crash.{Recording}
 use Rattle.bs_loop.specs.Searched.{AreSearched, IsTurnSearched}
 use Rattle.bs_loop.specs.Turn.{HasStepped, HasStopped}
-use Rattle.bs_loop.proofs.SearchedLemmas.{none_searched, searched_more}
+use Rattle.bs_loop.proofs.SearchedLemmas.{searched_more}
 use Rattle.bs_loop.proofs.WayLemmas.{stepped, stopped}
 use Rattle.bs_loop.proofs.way.walk_turns.Goals as goal
 
 pub returns-in-Some : goal.returns-in-Some
 returns-in-Some c =
-    let bits : AreSearched c.args.chip.now.recording c.turn.new.steps c.turn.new.searched =
+    let reaches : AreSearched c.args.chip.now.recording c.turn.new.steps c.turn.new.searched =
     searched_more c.args.chip.now.recording c.turns.steps c.turn.new.steps c.turns.searched c.turn.new.searched c.turns.invariant.searched
     (subst (λ (k : Recording). IsTurnSearched k c.turns.steps c.turn.new.steps c.turns.searched c.turn.new.searched) c.turns.invariant.chip
     c.in_ok-stop.ensures.searched) in
@@ -19,19 +19,18 @@ returns-in-Some c =
     (subst (λ (k : Recording). HasStopped k c.args.budgets.now c.turns.steps c.turn.new.steps c.turns.preimage c.turn.new.preimage c.turns.now
     c.turns.at c.in-Some.stop) c.turns.invariant.chip
     (rw c.in-Some.is at c.in_ok-stop.ensures.turn)) in
-    record { searched = bits; made = made.made; few = made.few; stop = made.cause; chip = c.in_ok-stop.ensures.chip ∙ c.turns.invariant.chip }
+    record { searched = reaches; made = made.made; few = made.few; stop = made.cause; chip = c.in_ok-stop.ensures.chip ∙ c.turns.invariant.chip }
 
 pub turns-preserved : goal.turns-preserved
 turns-preserved c =
-    let bits : AreSearched c.args.chip.now.recording c.turn.new.steps c.turn.new.searched =
+    let reaches : AreSearched c.args.chip.now.recording c.turn.new.steps c.turn.new.searched =
     searched_more c.args.chip.now.recording c.turns.steps c.turn.new.steps c.turns.searched c.turn.new.searched c.turns.invariant.searched
     (subst (λ (k : Recording). IsTurnSearched k c.turns.steps c.turn.new.steps c.turns.searched c.turn.new.searched) c.turns.invariant.chip
     c.in_ok-stop.ensures.searched) in
     record {
-      searched = bits;
+      searched = reaches;
       chip = c.in_ok-stop.ensures.chip ∙ c.turns.invariant.chip;
-      signs = c.in_ok-stop.ensures.signs ∙ c.turns.invariant.signs;
-      probe = c.in_ok-stop.ensures.probe ∙ c.turns.invariant.probe;
+      finder = c.in_ok-stop.ensures.finder ∙ c.turns.invariant.finder;
       way =
           stepped c.args.chip.now.recording c.args.dump.now c.args.budgets.now c.turns.steps c.turn.new.steps c.turns.preimage c.turn.new.preimage c.turns.now
           c.turn.new.now c.turns.at c.turn.new.at c.turns.counter

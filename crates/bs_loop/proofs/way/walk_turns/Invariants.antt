@@ -6,8 +6,7 @@ use Rattle.bs_loop.proofs.way.walk_turns.Given as goal
 abbrev pub invariant-turns : goal.invariant-turns
 invariant-turns l = record {
   chip : l.chip.recording ≡ l.fn.chip.recording;
-  signs : l.signs ≡ l.fn.signs;
-  probe : l.probe ≡ l.fn.probe;
+  finder : l.finder.recording ≡ l.fn.finder.recording;
   searched : AreSearched l.fn.chip.recording l.steps l.searched;
   way : IsUnderWay l.fn.chip.recording l.dump l.budgets l.steps l.preimage l.now l.at l.counter;
 }
