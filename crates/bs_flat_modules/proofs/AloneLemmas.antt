@@ -1,30 +1,27 @@
 -- A text that is shut says what it says alone also with cells around it.
-use Rattle.std.proofs.Common.{◌≡◌, ℕ, zero, suc, ◌+◌, ◌<◌, ◌≤◌, Bool, true, false, cond, List, [], ◌∷◌, ◌++◌, length, Option, Some, None, Result, Ok, Err}
-use Rattle.std.proofs.Common.{refl, sym, ap, ◌∙◌, arith, append_assoc}
-use Rattle.std.specs.Prelude.{if◌then◌else◌}
+use Rattle.std.proofs.Common.{◌≡◌, ℕ, zero, suc, ◌+◌, ◌<◌, ◌≤◌, Bool, true, false, cond, [], ◌∷◌, ◌++◌, length, Option, Some, None, Result, Ok, Err}
+use Rattle.std.proofs.Common.{refl, ap, ◌∙◌, arith, append_assoc}
 use Rattle.std.proofs.lemmas.List.{length-append}
 use Rattle.std.proofs.Math.Path.{subst}
 use Rattle.bs_bits.specs.Reading.{◌>>=◌}
 use Rattle.bs_verilog_lexemes.specs.Packed.{Lexeme}
-use Rattle.bs_verilog_lexemes.specs.Lexemes.{is_name}
 use Rattle.bs_verilog_lexemes.specs.declared.lexeme.Sort.{Sort}
 use Rattle.bs_verilog_lexemes.specs.declared.lexeme.Sort.TheVariants as sorts
 use Rattle.bs_verilog_lexemes.specs.declared.lexeme.Word.TheVariants as words
-use Rattle.bs_verilog_syntax.specs.declared.reading.Due.TheVariants as due
 use Rattle.bs_verilog_syntax.specs.declared.fault.VerilogFault.{VerilogFault}
 use Rattle.bs_verilog_syntax.specs.declared.fault.VerilogFault.TheVariants.{Syntax}
 use Rattle.bs_verilog_syntax.specs.declared.tree.Module.{Module}
 use Rattle.bs_verilog_syntax.specs.declared.tree.Adds.{Adds}
 use Rattle.bs_verilog_syntax.specs.declared.tree.Direction as code
 use Rattle.bs_verilog_syntax.specs.declared.tree.Net as code_net
-use Rattle.bs_verilog_syntax.specs.Reading.{Rest, Read, Skip, at, sort, rest, refused, expect_name}
+use Rattle.bs_verilog_syntax.specs.Reading.{Rest, Read, Skip, sort, expect_name}
 use Rattle.bs_verilog_syntax.specs.Terms.{attributes, attributes_from}
 use Rattle.bs_verilog_syntax.specs.Declarations.{direction, net, port_says, net_says, names, header}
 use Rattle.bs_verilog_syntax.specs.Parts.{gates, instances, assignments}
 use Rattle.bs_verilog_syntax.specs.Modules as modules
-use Rattle.bs_verilog_syntax.specs.Modules.{statement, item, items, top, together, is_endmodule, is_end, is_cell, is_module, skipped, begun, further, cells, leading, syntax_of}
-use Rattle.bs_flat_modules.proofs.ShutLemmas.{Shut, tail_shut, shut_end, sort_more, rest_more, name_passes, Each, Goes, Passes, Ends, goes_then, goes_if}
-use Rattle.bs_flat_modules.proofs.ShutLemmas.{passes_if, pass_then, pass_pass, goes_end, pass_end, end_end}
+use Rattle.bs_verilog_syntax.specs.Modules.{statement, item, items, top, is_endmodule, is_end, is_cell, is_module, skipped, begun, further, cells, leading, syntax_of}
+use Rattle.bs_flat_modules.proofs.ShutLemmas.{Shut, tail_shut, shut_end, sort_more, rest_more, Each, Goes, Passes, Ends, goes_then}
+use Rattle.bs_flat_modules.proofs.ShutLemmas.{passes_if, pass_pass, goes_end, pass_end, end_end}
 use Rattle.bs_flat_modules.proofs.GoesLemmas.{attributes_go, name_goes, port_says_go, net_says_go, names_go, header_goes, gates_go, instances_go, assignments_go}
 
 module _ (u : Rest) where
@@ -111,10 +108,10 @@ module _ (u : Rest) where
       read_as adds left = Ok (adds, left)
 
       more : Read Adds
-      more = attributes (t ∷ ts) >>= λ here. item here >>= λ first. items n first.1 >>= λ others. Ok (together first.0 others.0, others.1)
+      more = attributes (t ∷ ts) >>= λ here. item here >>= λ first. items n first.1 >>= λ others. Ok (modules.together first.0 others.0, others.1)
 
       more_there : Read Adds
-      more_there = attributes (t ∷ (ts ++ u)) >>= λ here. item here >>= λ first. items m first.1 >>= λ others. Ok (together first.0 others.0, others.1)
+      more_there = attributes (t ∷ (ts ++ u)) >>= λ here. item here >>= λ first. items m first.1 >>= λ others. Ok (modules.together first.0 others.0, others.1)
 
       by : (b : Bool) → is_endmodule t.sort ≡ b → ((r : Rest) → Shut r → Ends u (items n r) (items m (r ++ u)))
           → Ends u (cond b (Ok (nothing, ts)) more) (cond b (Ok (nothing, ts ++ u)) more_there)

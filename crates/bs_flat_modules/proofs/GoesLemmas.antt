@@ -1,5 +1,5 @@
 -- What each production reads of a text that is shut, it reads of it whatever stands behind.
-use Rattle.std.proofs.Common.{◌≡◌, ℕ, zero, suc, ◌+◌, ◌≤◌, Bool, true, false, cond, ◌&&◌, List, [], ◌∷◌, ◌++◌, length, map, Option, Some, None, Ok, Err}
+use Rattle.std.proofs.Common.{◌≡◌, ℕ, zero, suc, ◌≤◌, Bool, true, false, cond, ◌&&◌, List, [], ◌∷◌, ◌++◌, length, Option, Some, None, Ok, Err}
 use Rattle.std.proofs.Common.{refl, sym, ap, ◌∙◌, arith}
 use Rattle.std.specs.Prelude.{if◌then◌else◌, is_some}
 use Rattle.std.proofs.lemmas.List.{length-append}
@@ -15,9 +15,7 @@ use Rattle.bs_verilog_lexemes.specs.declared.lexeme.Word.TheVariants as words
 use Rattle.bs_verilog_lexemes.specs.Lexemes.{is_name}
 use Rattle.bs_verilog_syntax.specs.declared.reading.Due.{Due}
 use Rattle.bs_verilog_syntax.specs.declared.reading.Due.TheVariants as due
-use Rattle.bs_verilog_syntax.specs.declared.reading.AttributeStep.{AttributeStep}
 use Rattle.bs_verilog_syntax.specs.declared.reading.AttributeStep.TheVariants.{On, Over, Unclosed}
-use Rattle.bs_verilog_syntax.specs.declared.fault.VerilogFault.{VerilogFault}
 use Rattle.bs_verilog_syntax.specs.declared.fault.VerilogFault.TheVariants.{Syntax}
 use Rattle.bs_verilog_syntax.specs.declared.tree.Term as code_term
 use Rattle.bs_verilog_syntax.specs.declared.tree.Term.TheVariants.{Constant, Named}
@@ -33,14 +31,13 @@ use Rattle.bs_verilog_syntax.specs.Unsupported.{after_direction}
 use Rattle.bs_verilog_syntax.specs.Reading.{Rest, Read, Skip, at, sort, rest, name, bit, digits, is_at, refused, expect, expect_name, expect_digits}
 use Rattle.bs_verilog_syntax.specs.Reading.{with_commas, listed}
 use Rattle.bs_verilog_syntax.specs.Terms.{index, term, num, time, timed, delay, attribute_step, attributes_from, attributes}
-use Rattle.bs_verilog_syntax.specs.Declarations as declarations
-use Rattle.bs_verilog_syntax.specs.Declarations.{range, direction, net, is_wire, port_says, net_says, declared_name, names, plain_port, header_port}
+use Rattle.bs_verilog_syntax.specs.Declarations.{range, direction, is_wire, port_says, net_says, declared_name, names, plain_port, header_port}
 use Rattle.bs_verilog_syntax.specs.Declarations.{plain_ports, declared_ports, ports, header}
 use Rattle.bs_verilog_syntax.specs.Parts as parts
 use Rattle.bs_verilog_syntax.specs.Parts.{by_place, instance_name, opened, place, pin, connections, instance, assignment, is_strength, gates, instances}
 use Rattle.bs_verilog_syntax.specs.Parts.{assignments}
 use Rattle.bs_verilog_syntax.specs.Modules.{is_endmodule}
-use Rattle.bs_flat_modules.proofs.ShutLemmas.{true_is_not_false, Closes, now, later, Shut, last, on, is_close, is_open, tail_shut, sort_more, at_more, name_more, rest_more}
+use Rattle.bs_flat_modules.proofs.ShutLemmas.{true_is_not_false, Closes, now, later, Shut, last, on, is_close, is_open, tail_shut, sort_more, at_more, rest_more}
 use Rattle.bs_flat_modules.proofs.ShutLemmas.{mark_passes, name_passes, Goes, Passes, goes_then, goes_pass, pass_then, pass_pass, goes_if, passes_if}
 
 module _ (u : Rest) where

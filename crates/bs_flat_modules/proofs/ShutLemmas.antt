@@ -1,6 +1,6 @@
 -- A text whose last lexeme is its only `endmodule`, with no attribute open there; and readings that go the same way whatever
 -- stands behind such a text.
-use Rattle.std.proofs.Common.{◌≡◌, ℕ, zero, suc, ◌+◌, ◌-◌, ◌<◌, ◌≤◌, ◌==◌, Bool, true, false, cond, not, ◌&&◌, List, [], ◌∷◌, ◌++◌, length, drop}
+use Rattle.std.proofs.Common.{◌≡◌, ℕ, zero, suc, ◌+◌, ◌-◌, ◌<◌, ◌≤◌, ◌==◌, Bool, true, false, cond, not, ◌&&◌, [], ◌∷◌, ◌++◌, length, drop}
 use Rattle.std.proofs.Common.{get_or, Result, Ok, Err, refl, sym, ap, ◌∙◌, subst, arith}
 use Rattle.std.proofs.lemmas.Bool.{eqb-true, ne_eqb}
 use Rattle.std.proofs.lemmas.List.{drop_more, drop_all, length-drop}
@@ -11,8 +11,7 @@ use Rattle.bs_verilog_lexemes.specs.Packed.{Lexeme}
 use Rattle.bs_verilog_lexemes.specs.Lexemes.{is_name}
 use Rattle.bs_verilog_lexemes.specs.declared.lexeme.Sort.{Sort}
 use Rattle.bs_verilog_lexemes.specs.declared.lexeme.Sort.TheVariants as sorts
-use Rattle.bs_verilog_syntax.specs.declared.fault.VerilogFault.{VerilogFault}
-use Rattle.bs_verilog_syntax.specs.Reading.{Rest, Read, Skip, at, sort, rest, name, is_at}
+use Rattle.bs_verilog_syntax.specs.Reading.{Rest, Read, Skip, at, sort, rest, is_at}
 use Rattle.bs_verilog_syntax.specs.Unsupported.{symbol}
 use Rattle.bs_verilog_syntax.specs.Modules.{is_endmodule}
 use Rattle.bs_flat_modules.specs.Items.{stays_inside}
@@ -166,10 +165,6 @@ sort_more u (t ∷ ts) k = refl
 pub at_more : (u ts : Rest) → Shut ts → at (ts ++ u) ≡ at ts
 at_more u [] k = absurd (elim k [ ])
 at_more u (t ∷ ts) k = refl
-
-pub name_more : (u ts : Rest) → Shut ts → name (ts ++ u) ≡ name ts
-name_more u [] k = absurd (elim k [ ])
-name_more u (t ∷ ts) k = refl
 
 pub rest_more : (u ts : Rest) → Shut ts → rest (ts ++ u) ≡ rest ts ++ u
 rest_more u [] k = absurd (elim k [ ])

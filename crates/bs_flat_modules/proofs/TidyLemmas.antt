@@ -1,10 +1,10 @@
 -- Where all that stands outside the modules are cells, a module's own text says alone what it says with them.
-use Rattle.std.proofs.Common.{◌≡◌, ℕ, zero, suc, ◌+◌, ◌-◌, ◌<◌, ◌≤◌, Bool, true, false, cond, not, ◌&&◌, ◌==◌, List, [], ◌∷◌, ◌++◌, length, map, take, drop, get_or}
+use Rattle.std.proofs.Common.{◌≡◌, ℕ, zero, suc, ◌+◌, ◌-◌, ◌<◌, ◌≤◌, Bool, true, false, cond, not, ◌&&◌, ◌==◌, List, [], ◌∷◌, ◌++◌, length, map, take, drop}
 use Rattle.std.proofs.Common.{Option, Some, None, Result, Ok, Err, refl, sym, ap, ◌∙◌, arith, append_assoc}
 use Rattle.std.specs.Prelude.{option_map}
 use Rattle.std.specs.List.{All, list_all}
 use Rattle.std.proofs.Math.Path.{subst}
-use Rattle.std.proofs.lemmas.List.{length-append, get_or-map}
+use Rattle.std.proofs.lemmas.List.{length-append}
 use Rattle.std.proofs.lemmas.Bool.{eqb-true}
 use Rattle.std.proofs.lemmas.List.Elements.{All-weaker, All-cons, All-nil, All-head, All-tail}
 use Rattle.bs_bits.specs.Reading.{◌>>=◌}
@@ -31,7 +31,7 @@ use Rattle.bs_flat_modules.specs.Dealing.{CutsFirst, Standing, piece_at, IsDealt
 use Rattle.bs_flat_modules.specs.declared.dealing.ModuleSpan.{ModuleSpan}
 use Rattle.bs_flat_modules.specs.declared.dealing.Dealt.{Dealt}
 use Rattle.bs_flat_modules.specs.Owns.{own_body, own_text, said}
-use Rattle.bs_flat_modules.specs.Alone.{AreTidy, text_end, one_module, IsSure, is_shut, is_whole_module, alone, SaysAlike, AlikeWhere}
+use Rattle.bs_flat_modules.specs.Alone.{AreTidy, text_end, one_module, IsSure, is_shut, is_whole_module, own_alone, SaysAlike, AlikeWhere}
 use Rattle.bs_flat_modules.specs.Copying.{part}
 use Rattle.bs_flat_modules.proofs.DealLemmas.{design_first, other_first, outside_design, outside_other}
 use Rattle.bs_flat_modules.proofs.PieceLemmas.{pieces_cut, drop_drop}
@@ -446,8 +446,8 @@ alike_where ts d tidy dealt sure =
 -- ---- what is said alone
 
 pub said_alone_is : (table : List (List ℕ)) (marks : ℕ → Bool) (others ts : Rest) (p : ModuleSpan) (v : Module × Parts) → SaysAlike others p.before
-    → is_shut false (alone marks ts p) ≡ true → said table (alone marks ts p) ≡ Ok v → said table (own_text marks others ts p) ≡ Ok v
-said_alone_is table marks others ts p v s k e = by (syntax_of (alone marks ts p)) refl e
+    → is_shut false (own_alone marks ts p) ≡ true → said table (own_alone marks ts p) ≡ Ok v → said table (own_text marks others ts p) ≡ Ok v
+said_alone_is table marks others ts p v s k e = by (syntax_of (own_alone marks ts p)) refl e
   where
     a : Rest
     a = part ts p.from p.body
@@ -458,10 +458,10 @@ said_alone_is table marks others ts p v s k e = by (syntax_of (alone marks ts p)
     meant : Module → Result (Module × Parts) VerilogFault
     meant m = meaning_of table m >>= λ parts. Ok (m, parts)
 
-    by : (r : Result Module VerilogFault) → syntax_of (alone marks ts p) ≡ r → (r >>= meant) ≡ Ok v → said table (own_text marks others ts p) ≡ Ok v
+    by : (r : Result Module VerilogFault) → syntax_of (own_alone marks ts p) ≡ r → (r >>= meant) ≡ Ok v → said table (own_text marks others ts p) ≡ Ok v
     by (Ok m) r e =
         ap (λ xs. syntax_of (take p.before others ++ xs) >>= meant) (sym (append_assoc a b (drop p.before others)))
-        ∙ ap (λ (t : Result Module VerilogFault). t >>= meant) (s.is (alone marks ts p) m k r) ∙ e
+        ∙ ap (λ (t : Result Module VerilogFault). t >>= meant) (s.is (own_alone marks ts p) m k r) ∙ e
     by (Err f) r e = absurd cc
 
 -- ---- the test, piece by piece

@@ -34,8 +34,8 @@ pub record IsSure (tidy : Bool) (ps : List Piece) : Type 0 where
   pub sure : tidy ≡ true → AreTidy ps
 
 -- the own text of the module at a place, without what stands outside the modules
-abbrev pub alone : (ℕ → Bool) → Rest → ModuleSpan → Rest
-alone marks ts p = part ts p.from p.body ++ own_body marks (part ts p.body p.stop)
+abbrev pub own_alone : (ℕ → Bool) → Rest → ModuleSpan → Rest
+own_alone marks ts p = part ts p.from p.body ++ own_body marks (part ts p.body p.stop)
 
 -- a text that is shut says what it says alone also between so many of these lexemes and the others
 pub record SaysAlike (others : Rest) (n : ℕ) : Type 0 where

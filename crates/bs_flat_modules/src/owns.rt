@@ -81,7 +81,7 @@ fn alone_text(
     marks: &Marks,
     place: ModuleSpan,
 ) -> Result<List<Lexeme>, NoMemory>
-    ensures { IfOk result (λ own. own ≡ alone_spec.alone (marked marks.now) ts.now place) }
+    ensures { IfOk result (λ own. own ≡ alone_spec.own_alone (marked marks.now) ts.now place) }
 {
     let mut own = List::new(alloc);
     copy(&mut own, part(ts, place.from, place.body))?;
@@ -112,7 +112,7 @@ fn said_alone(
     place: ModuleSpan,
     tidy: bool,
 ) -> Result<Option<Own>, NoMemory>
-    ensures { IfOk result (λ o. alone_spec.IsSaidWhere tidy table.now (alone_spec.alone (marked marks.now) ts.now place) o) }
+    ensures { IfOk result (λ o. alone_spec.IsSaidWhere tidy table.now (alone_spec.own_alone (marked marks.now) ts.now place) o) }
 {
     if !tidy {
         return Ok(None);
