@@ -13,8 +13,9 @@ fn words_of(alloc: Global, line: &str) -> Result<Vec<String>, NoMemory> {
     Ok(words)
 }
 
-/// The files of a job, by name.
-const FILES: [(&str, &str); 4] = [
+/// The files of a job, by name, and those of a shift register of three flip-flops. The latter's states are 000, 100, 110 and 011, and
+/// its signatures of the first and the last flip-flop, each of the state before: 00, 10 and 10.
+const FILES: [(&str, &str); 7] = [
     (
         "n.v",
         "module sh(ck,a); input ck,a; dff f0(ck,q0,a); dff f1(ck,q1,q0); endmodule\n",
@@ -22,6 +23,12 @@ const FILES: [(&str, &str); 4] = [
     ("s.txt", "bit q1\n"),
     ("t.txt", "run a 1\n0\nend\n"),
     ("d.txt", "state 11\nsig 1\nend\n"),
+    (
+        "c.v",
+        "module sh(ck,a); input ck,a; dff f0(ck,q0,a); dff f1(ck,q1,q0); dff f2(ck,q2,q1); endmodule\n",
+    ),
+    ("cs.txt", "bit q0\nbit q2\n"),
+    ("ct.txt", "run b 3\n1\n1\n0\nend\n"),
 ];
 
 /// The files of a job, and one of them with a mistake, `x`.
@@ -120,7 +127,7 @@ fn first_other<'a>(
 }
 
 /// Calls, and their notes.
-const SAID: [Said<'static>; 12] = [
+const SAID: [Said<'static>; 16] = [
     (
         "run n.v s.txt x d.txt",
         "run a 3\n1\n1\n1\nend\n",
@@ -175,14 +182,42 @@ const SAID: [Said<'static>; 12] = [
         "",
         ROOM,
         Status::Spent,
-        "note: the list was cut, and no recorded moment leads to the state in one cycle, or the search for one was cut, in step 1\nnote: record more or longer runs of what the chip did, or choose a signature that tells more states apart\n",
+        "note: the list was cut, and no recorded moment leads to the state in one cycle, or the search for one was cut, in step 1\nnote: record more or longer runs of what the chip did, or choose a signature that tells more states apart\nnote: the dump's state itself was never recorded, nor that state read backwards; this alone is no fault: a crash need not be in a run\n",
     ),
     (
         "run n.v s.txt t.txt d.txt",
         "",
         ROOM,
         Status::Nohit,
-        "note: no recorded run comes to a state that is listed in step 1\nnote: record more or longer runs of what the chip did, or choose a signature that tells more states apart\nnote: so many moments of recorded runs were searched, each cycle of each run from 0: 2\n",
+        "note: no recorded run comes to a state that is listed in step 1\nnote: record more or longer runs of what the chip did, or choose a signature that tells more states apart\nnote: so many moments of recorded runs were searched, each cycle of each run from 0: 2\nnote: the dump's state itself was never recorded, nor that state read backwards; this alone is no fault: a crash need not be in a run\n",
+    ),
+    (
+        "run c.v cs.txt ct.txt x",
+        "state 001\nsig 00\nend\n",
+        ROOM,
+        Status::Nohit,
+        "note: read backwards, the dump's state is that of run 1 at cycle 1, whose dump has `sig 00`\nnote: turn the state around: its bits are in the order of the netlist's flip-flops, the first on the left\n",
+    ),
+    (
+        "run c.v cs.txt ct.txt x",
+        "state 011\nsig 01\nend\n",
+        ROOM,
+        Status::Empty,
+        "note: the dump's state is that of run 1 at cycle 3, whose dump has `sig 10`\nnote: this dump has it read backwards: turn it around, so that the bit of the signature's first line is the first on the left\n",
+    ),
+    (
+        "run c.v cs.txt ct.txt x",
+        "state 100\nsig 10\nend\n",
+        ROOM,
+        Status::Empty,
+        "note: the dump's state is that of run 1 at cycle 1, whose dump has `sig 00`\nnote: this dump has another: were state and `sig` read at the same cycle, and is the signature file the chip's?\n",
+    ),
+    (
+        "run c.v cs.txt ct.txt x",
+        "state 101\nsig 00\nend\n",
+        ROOM,
+        Status::Nohit,
+        "note: no recorded run comes to a state that is listed in step 1\nnote: record more or longer runs of what the chip did, or choose a signature that tells more states apart\nnote: so many moments of recorded runs were searched, each cycle of each run from 0: 4\nnote: the dump's state itself was never recorded, nor that state read backwards; this alone is no fault: a crash need not be in a run\n",
     ),
     (
         "reach n.v 111 5",
