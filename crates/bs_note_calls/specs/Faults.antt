@@ -1,6 +1,5 @@
 -- Notes on files that do not read, on an output that does not take the answer, and on a moment that no run has.
-use Rattle.std.specs.Prelude.{◌≡◌, ◌⊎◌, ℕ, List, [], ◌++◌, codes, decimal, length, nat_le, Bool, ◌&&◌, Option, Some, None, IfNone, if◌then◌else◌}
-use Rattle.std.specs.Option.{option_map_or}
+use Rattle.std.specs.Prelude.{◌≡◌, ℕ, List, [], ◌++◌, codes, decimal, length, nat_le, ◌&&◌, Option, Some, None, IfNone, if◌then◌else◌}
 use Rattle.std.specs.declared.io.ErrorKind.{ErrorKind}
 use Rattle.bs_stim.specs.Runs.{Stimulus, run_at}
 use Rattle.bs_top_plan.specs.declared.file.File.{File}

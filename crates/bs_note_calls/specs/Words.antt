@@ -14,7 +14,9 @@ named_text at word sentence usage =
 
 -- the number of words by position, and how the command is used
 abbrev pub counted_text : ℕ → List ℕ → List ℕ
-counted_text given usage = plain_text (codes "the number of words by position behind the command is " ++ decimal given) ++ plain_text usage
+counted_text given usage =
+    plain_text (codes "the number of words by position behind the command is " ++ (decimal given ++ codes "; a file name with a space in it stands in quotes"))
+    ++ plain_text usage
 
 -- how a command is used, or all of them
 abbrev pub usage : List ℕ → List ℕ

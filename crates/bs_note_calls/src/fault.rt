@@ -35,11 +35,21 @@ fn cause_words(alloc: Global, kind: Option<ErrorKind>) -> Result<Vec<u8>, NoMemo
     }
 }
 
+/// The reason for which a file does not read: the word `-` is the name of a file as any other.
+fn reason_of(alloc: Global, kind: Option<ErrorKind>, path: &str) -> Result<Vec<u8>, NoMemory> {
+    if path == "-" {
+        return Ok(
+            b"there is no such file, and standard input is read as /dev/stdin alone".to_vec(alloc)?,
+        );
+    }
+    cause_words(alloc, kind)
+}
+
 /// A note on a file that does not read: its name, and the system's reason where one is known.
 pub fn unread_note(alloc: Global, kind: Option<ErrorKind>, path: &str) -> Result<Vec<u8>, NoMemory>
     ensures { IfOk result (λ note. IsUnreadNote path.now note.items) }
 {
-    let reason = cause_words(alloc, kind)?;
+    let reason = reason_of(alloc, kind, path)?;
     let note = caused_note(alloc, path, &reason)?;
     Ok(note)
 }

@@ -76,6 +76,10 @@ fn counted_note(alloc: Global, given: usize, usage: &str) -> Result<Vec<u8>, NoM
 {
     let mut said = b"the number of words by position behind the command is ".to_vec(alloc)?;
     push_number(&mut said, given as u64)?;
+    push_piece(
+        &mut said,
+        b"; a file name with a space in it stands in quotes",
+    )?;
     pair_note(alloc, &said, usage.as_bytes())
 }
 

@@ -101,5 +101,5 @@ IsCheckNote r path text net.NoFlop note =
     note ≡ file_text path (codes "there is no flip-flop: cells are dff, dffs, dffe and dffr (docs/FORMATS.md, Netlists)")
 IsCheckNote r path text (net.ClockMixed n) note =
     IsNetNote path text (net_key r n) (codes " is no single clock")
-    (codes "all flip-flops take one input port bit as their clock, and no gate and no d, e or r reads it") note
+    (codes "all flip-flops take one input port bit as their clock, and no gate and no d, e or r reads it: make a gated clock an enable (dffe), negedge posedge, and keep one clock's part") note
 IsCheckNote r path text net.NoMemory note = note ≡ file_text path (codes "memory ran out")

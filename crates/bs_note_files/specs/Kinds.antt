@@ -16,7 +16,8 @@ kind_of text =
     else (if starts_with nat_eq text (codes "run ") then Some Stimulus
     else (if starts_with nat_eq text (codes "state ") then Some Dump
     else (if starts_with nat_eq text (codes "backspace ") then Some Report
-    else None))))))
+    else (if starts_with nat_eq text (codes "$") then Some Vcd
+    else None)))))))
 
 -- the place of a file among the names of a job
 abbrev pub rank : File → ℕ
@@ -37,11 +38,16 @@ other_than file kind = if rank kind == rank file then None else Some kind
 abbrev pub mistaken : File → List ℕ → Option File
 mistaken file text = option_and_then (λ (kind : File). other_than file kind) (kind_of text)
 
+-- what to do with it
+abbrev pub mistaken_advice : File → List ℕ
+mistaken_advice kind =
+    if rank kind == rank Vcd then codes " of a simulator; `backspace_inspect stimulus NETLIST VCD --clock NAME` makes a stimulus of one"
+    else codes "; the files stand in the order NETLIST SIGNATURE STIMULUS DUMP REPORT"
+
 -- what is said of a file that seems to be another one
 abbrev pub mistaken_sentence : File → File → List ℕ
 mistaken_sentence file kind =
-    codes "given as the " ++ (file_word file ++ (codes ", this file begins like a " ++ (file_word kind ++
-    codes "; the files stand in the order NETLIST SIGNATURE STIMULUS DUMP REPORT")))
+    codes "given as the " ++ (file_word file ++ (codes ", this file begins like a " ++ (file_word kind ++ mistaken_advice kind)))
 
 abbrev pub mistaken_text : File → File → List ℕ → List ℕ
 mistaken_text file kind path = file_text path (mistaken_sentence file kind)

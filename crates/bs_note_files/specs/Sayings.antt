@@ -1,5 +1,6 @@
 -- What is said of a fault, and what to do: a sentence, and a few words behind the caret.
-use Rattle.std.specs.Prelude.{ℕ, ◌==◌, List, ◌++◌, codes, decimal, length, Option, Some, None, if◌then◌else◌}
+use Rattle.std.specs.Prelude.{ℕ, ◌==◌, nat_eq, nat_lt, Bool, false, ◌&&◌, ◌||◌, not, List, ◌++◌, codes, decimal, length, Option, Some, None, if◌then◌else◌}
+use Rattle.std.specs.List.{list_all, starts_with}
 use Rattle.std.specs.Str.{bytes_eq}
 use Rattle.bs_verilog_syntax.specs.declared.fault.What.{What}
 use Rattle.bs_verilog_syntax.specs.declared.fault.What.TheVariants as what
@@ -11,46 +12,71 @@ abbrev pub mark_saying : Saying
 mark_saying = saying (codes "a byte that is no ASCII character, as a mark at the front of a file")
     (codes "save the file as plain ASCII without a byte order mark")
 
+abbrev pub packed_saying : Saying
+packed_saying = saying (codes "a byte of a file that gzip has packed") (codes "unpack it first, as by `gzip -dc FILE > TEXT`")
+
 abbrev pub stray_saying : ℕ → Saying
 stray_saying b =
     if b == 13 then saying (codes "a carriage return: lines end with a line feed alone") (codes "take the carriage returns out, as by `tr -d '\\r'`")
     else (if b == 9 then saying (codes "a tab: words are parted by one space") (codes "write one space")
     else (if b == 239 then mark_saying
-    else saying (codes "a byte that no line of this text may have") (codes "save the file as plain ASCII")))
+    else (if b == 31 then packed_saying
+    else saying (codes "a byte that no line of this text may have") (codes "save the file as plain ASCII"))))
 
 abbrev pub loose_saying : Saying
 loose_saying = saying (codes "a space too many: words are parted by one space, and none stands at an end of a line") (codes "take it out")
 
 -- ---- a netlist
 
--- a part of the language that is left out
-abbrev pub what_saying : What → Saying
-what_saying what.Behaviour = saying (codes "behavioural Verilog is left out") (codes "synthesize to gates and flip-flops first")
-what_saying what.Parameter = saying (codes "parameters are left out") (codes "let synthesis settle them")
-what_saying what.NetType = saying (codes "net types other than wire, supply0 and supply1 are left out") (codes "write wire")
-what_saying what.Primitive = saying (codes "tri-state, switch and user primitives are left out") (codes "gates are and nand or nor xor xnor buf not")
-what_saying what.Direction = saying (codes "inout ports are left out") (codes "split it into an input and an output")
-what_saying what.Strength = saying (codes "drive strengths are left out") (codes "take it out")
-what_saying what.Array = saying (codes "arrays of instances are left out") (codes "write each instance")
-what_saying what.Expression =
-    saying (codes "expressions and concatenations are left out") (codes "a net, a bit of a vector or a constant of one bit may stand here")
-what_saying what.Width = saying (codes "a whole vector or a part of it is left out") (codes "name one bit, as a[0]")
-what_saying what.Constant = saying (codes "a constant here is of one bit") (codes "write 1'b0 or 1'b1")
-what_saying what.Directive = saying (codes "this compiler directive is left out") (codes "take it out, or run a preprocessor first")
-what_saying what.Hierarchy =
-    saying (codes "no cell of this name is known")
+-- a cell that is not known, by the byte with which its name begins
+abbrev pub is_escaped : Option ℕ → Bool
+is_escaped None = false
+is_escaped (Some b) = b == 92
+
+abbrev pub cell_saying : Option ℕ → Saying
+cell_saying byte =
+    if is_escaped byte then saying (codes "an escaped name is no gate and no cell: `\\not` is another name than `not`")
+    (codes "map cells to gates and take the `\\` out of their names: examples/yosys/synth.sh does both")
+    else saying (codes "no cell of this name is known")
     (codes "cells are dff and dffs (CK, Q, D), dffe (E too), dffr (R too), gates and nand or nor xor xnor buf not: flatten and map to these (docs/FORMATS.md)")
+
+-- a part of the language that is left out, by the byte with which it begins
+abbrev pub what_saying : Option ℕ → What → Saying
+what_saying byte what.Behaviour =
+    saying (codes "behavioural Verilog is left out") (codes "synthesize it, and map it to gates and flip-flops, as examples/yosys/synth.sh does both")
+what_saying byte what.Parameter = saying (codes "parameters are left out") (codes "let synthesis settle them")
+what_saying byte what.NetType =
+    saying (codes "net types other than wire, supply0 and supply1 are left out")
+    (codes "is this RTL? synthesize and map it, as examples/yosys/synth.sh does; else write wire")
+what_saying byte what.Primitive = saying (codes "tri-state, switch and user primitives are left out") (codes "gates are and nand or nor xor xnor buf not")
+what_saying byte what.Direction = saying (codes "inout ports are left out") (codes "split it into an input and an output")
+what_saying byte what.Strength = saying (codes "drive strengths are left out") (codes "take it out")
+what_saying byte what.Array = saying (codes "arrays of instances are left out") (codes "write each instance")
+what_saying byte what.Expression =
+    saying (codes "expressions and concatenations are left out")
+    (codes "a net, a bit of a vector or a constant of one bit may stand here; examples/yosys/synth.sh maps the rest to gates")
+what_saying byte what.Width = saying (codes "a whole vector or a part of it is left out") (codes "name one bit, as a[0]")
+what_saying byte what.Constant = saying (codes "a constant here is of one bit") (codes "write 1'b0 or 1'b1")
+what_saying byte what.Directive = saying (codes "this compiler directive is left out") (codes "take it out, or run a preprocessor first")
+what_saying byte what.Hierarchy = cell_saying byte
+
+-- a byte that is none of a text: neither white space nor one of ` ` to `~`
+abbrev pub is_binary : ℕ → Bool
+is_binary b = (nat_lt b 32 && not (nat_lt 8 b && nat_lt b 14)) || nat_lt 126 b
 
 -- a byte that cannot go on, or the text's end
 abbrev pub syntax_saying : Option ℕ → Saying
 syntax_saying None =
-    saying (codes "the text ends before its module does") (codes "is the netlist empty, cut short, or `endmodule` missing?")
+    saying (codes "the text ends before its module does")
+    (codes "is the netlist cut short, or `endmodule` missing? is it empty, as by a shell's `> FILE` of the file that is read?")
 syntax_saying (Some b) =
     if b == 239 then mark_saying
     else (if b == 36 then saying (codes "no cell of this name is known")
     (codes "cells are dff and dffs (CK, Q, D), dffe (E too), dffr (R too): flatten and map to these (docs/FORMATS.md, Netlists)")
+    else (if b == 31 then packed_saying
+    else (if is_binary b then saying (codes "a byte that no text has: is this file packed or binary?") (codes "give the text of a structural netlist")
     else saying (codes "what begins here cannot stand here")
-    (codes "is a `;` missing before it? a structural netlist is read (docs/FORMATS.md, Netlists)"))
+    (codes "is a `;` missing before it? is this RTL or SystemVerilog? synthesize it, as by examples/yosys/synth.sh (docs/FORMATS.md, Netlists)"))))
 
 abbrev pub port_saying : Saying
 port_saying =
@@ -87,8 +113,19 @@ width_text bits due of =
 
 -- ---- a stimulus
 
+-- a value that a simulator knows: 0, 1, x or z
+abbrev pub is_value : ℕ → Bool
+is_value b = (b == 48 || b == 49) || ((b == 120 || b == 88) || (b == 122 || b == 90))
+
 abbrev pub run_saying : Saying
 run_saying = saying (codes "a run is `run NAME CYCLES`, as many lines of bits, and `end`") (codes "this is none of these where it stands")
+
+-- the form of a line, of which each byte may be a value
+abbrev pub run_form : List ℕ → Saying
+run_form line =
+    if list_all is_value line && not (length line == 0)
+    then saying (codes "a bit of an input is 0 or 1, and x or z stands here") (codes "drive each data input from the first cycle on, or write what the chip had")
+    else run_saying
 
 abbrev pub inputs_saying : ℕ → List ℕ → Saying
 inputs_saying width line =
@@ -133,6 +170,19 @@ dump_saying depth number =
     else (if number == 2 then saying (codes "the second line of a dump is `sig BITS` or `sig none`") (codes "a bit for each item of the signature")
     else (if depth == 2 then older_saying number else end_saying number))
 
+-- a word of a dump begins the line, so that its bits are wrong
+abbrev pub begins_bits : List ℕ → Bool
+begins_bits line =
+    starts_with nat_eq line (codes "state ") || (starts_with nat_eq line (codes "sig ") || starts_with nat_eq line (codes "old "))
+
+-- the form of such a line, or of another one
+abbrev pub dump_form : ℕ → ℕ → List ℕ → Saying
+dump_form depth number line =
+    if begins_bits line && nat_lt number 3
+    then saying (codes "behind the word stand characters 0 and 1 alone, or `sig none`, and this line has something else")
+    (codes "write a number of base 16 bit by bit, as 1010 for a; x and z are no values of a chip: read what it had")
+    else dump_saying depth number
+
 abbrev pub reset_saying : Saying
 reset_saying =
     saying (codes "`sig none` goes with the reset state alone, and this is another state")
@@ -151,7 +201,12 @@ short_saying = saying (codes "the text ends before the line `end` of a report is
 -- ---- a signature
 
 abbrev pub item_saying : Saying
-item_saying = saying (codes "`bit` takes one name") (codes "write `xor NAME NAME ..` for the parity of several, or a line for each")
+item_saying =
+    saying (codes "`bit` takes one name")
+    (codes "write `xor NAME NAME ..` for the parity of several; an index is a part of the key, as of `[0]\\a.b`: `backspace_inspect keys` tells it")
+
+abbrev pub comment_saying : Saying
+comment_saying = saying (codes "a signature has no comments") (codes "take the line out")
 
 abbrev pub items_saying : Saying
 items_saying = saying (codes "a signature has at most 256 items") (codes "this is the 257th")

@@ -1,15 +1,16 @@
 -- Notes on a text that is no signature.
-use Rattle.std.specs.Prelude.{◌≡◌, ◌≢◌, ◌⊎◌, ◌≤◌, ◌<◌, ◌+◌, ◌-◌, ◌==◌, ℕ, List, ◌++◌, codes, length, max, take, drop, slice_index, nat_eq, true, false, if◌then◌else◌}
+use Rattle.std.specs.Prelude.{◌≡◌, ◌≢◌, ◌⊎◌, ◌≤◌, ◌<◌, ◌+◌, ◌-◌, ◌==◌, ◌||◌, ℕ, List, ◌++◌, codes, length, max, take, drop, slice_index, nat_eq, true, false, if◌then◌else◌}
 use Rattle.std.specs.List.{flat_map, starts_with}
 use Rattle.bs_net.specs.Parts.{Parts}
 use Rattle.bs_scan.specs.declared.fault.ChoiceFault.{ChoiceFault}
 use Rattle.bs_scan.specs.declared.fault.ChoiceFault.TheVariants as choice
+use Rattle.bs_inspect_names.specs.Rtl.{rtl_name}
 use Rattle.bs_note_places.specs.Nearest.{AreNearest, key_at}
 use Rattle.bs_note_places.specs.Quotes.{shown_line}
 use Rattle.bs_note_files.specs.Notes.{Saying, saying, file_text, IsNoteOn}
 use Rattle.bs_note_files.specs.Flaws.{IsLineNote, IsStartNote}
 use Rattle.bs_note_files.specs.Parts.{IsNumbered}
-use Rattle.bs_note_files.specs.Sayings.{item_saying, line_saying, items_saying}
+use Rattle.bs_note_files.specs.Sayings.{comment_saying, item_saying, line_saying, items_saying}
 
 -- no flip-flop has this key
 pub record IsNoKey (r : Parts) (name : List ℕ) : Type 0 where
@@ -56,10 +57,10 @@ pub record IsUnknownWord (r : Parts) (line : List ℕ) (word : ℕ × ℕ) : Typ
 pub record AreKeys (r : Parts) (line : List ℕ) : Type 0 where
   pub each : (word : ℕ × ℕ) → IsWord line word → IsKey r (word_in line word)
 
--- the note names this name as no key, and the netlist's keys that are nearest to it
+-- the note names this name as no key, and the netlist's keys that are nearest to it, as RTL writes both
 pub record SaysUnknown (r : Parts) (path text : List ℕ) (at : ℕ) (name note : List ℕ) : Type 0 where
   pub flops : List ℕ
-  pub nearest : AreNearest r name flops
+  pub nearest : AreNearest r (rtl_name name) flops
   pub placed : IsNoteOn path text at (saying (unknown_sentence name) (unknown_label r flops)) note
 
 -- the same of a word of a line that begins at a place
@@ -88,7 +89,9 @@ IsUnknownNote r path text number note = IsUnknownIn r path text number note ⊎ 
 
 -- the form of a line
 abbrev pub form_saying : List ℕ → Saying
-form_saying line = if starts_with nat_eq line (codes "bit ") then item_saying else line_saying
+form_saying line =
+    if starts_with nat_eq line (codes "bit ") then item_saying
+    else (if starts_with nat_eq line (codes "#") || starts_with nat_eq line (codes "//") then comment_saying else line_saying)
 
 abbrev pub IsSignatureNote : Parts → List ℕ → List ℕ → ChoiceFault → List ℕ → Type 0
 IsSignatureNote r path text (choice.Line number) note = IsLineNote path text number form_saying note

@@ -303,7 +303,7 @@ pub fn check_note(
             text,
             key_of(raw, *net),
             " is no single clock",
-            b"all flip-flops take one input port bit as their clock, and no gate and no d, e or r reads it",
+            b"all flip-flops take one input port bit as their clock, and no gate and no d, e or r reads it: make a gated clock an enable (dffe), negedge posedge, and keep one clock's part",
         ),
         NetFault::NoMemory => file_note(alloc, path, b"memory ran out"),
     }

@@ -1,12 +1,12 @@
 //! Notes on a text that is no dump.
 ghost use Rattle.std.specs.Prelude.{◌≡◌, IfOk};
-ghost use Rattle.bs_note_files.specs.Flaws.{IsStartNote};
+ghost use Rattle.bs_note_files.specs.Flaws.{IsLineNote, IsStartNote};
 ghost use Rattle.bs_note_files.specs.Notes.{IsNoteOn, said};
-ghost use Rattle.bs_note_files.specs.Sayings.{bits_in, dump_saying, end_saying, older_saying, width_text};
+ghost use Rattle.bs_note_files.specs.Sayings.{begins_bits, bits_in, dump_form, dump_saying, end_saying, older_saying, width_text};
 ghost use Rattle.bs_note_files.specs.Parts.{behind};
-ghost use Rattle.bs_note_files.specs.Texts.{bits_saying, bits_text, IsDumpNote};
+ghost use Rattle.bs_note_files.specs.Texts.{bits_label, bits_saying, bits_text, IsDumpNote};
 
-use crate::flaw::line_note;
+use crate::flaw::flaw_note;
 use crate::form::{Message, file_note, note_on, say};
 use crate::part::{behind, numbered_line};
 use crate::width::{bits_in, width_sentence};
@@ -54,8 +54,8 @@ fn older_form(number: u32) -> Message<'static>
     say("nothing follows the line `end` of a dump", "take it out")
 }
 
-/// The form of a line of a dump, of a register that keeps so many signatures.
-fn form_of(depth: u8, number: u32) -> Message<'static>
+/// The form of a line of a dump by its number, of a register that keeps so many signatures.
+fn numbered_form(depth: u8, number: u32) -> Message<'static>
     ensures { said result ≡ dump_saying depth number }
 {
     if number == 1 {
@@ -74,6 +74,57 @@ fn form_of(depth: u8, number: u32) -> Message<'static>
         older_form(number)
     } else {
         end_form(number)
+    }
+}
+
+/// Whether a word of a dump begins a line.
+fn begins_bits(line: &[u8]) -> bool
+    ensures { result ≡ begins_bits line.now }
+{
+    let state = line.starts_with(b"state ".as_slice());
+    let last = line.starts_with(b"sig ".as_slice());
+    let older = line.starts_with(b"old ".as_slice());
+    state || (last || older)
+}
+
+/// The form of a line of a dump, of a register that keeps so many signatures.
+fn form_of(depth: u8, number: u32, line: &[u8]) -> Message<'static>
+    ensures { said result ≡ dump_form depth number line.now }
+{
+    let begins = begins_bits(line);
+    if begins && number < 3 {
+        return say(
+            "behind the word stand characters 0 and 1 alone, or `sig none`, and this line has something else",
+            "write a number of base 16 bit by bit, as 1010 for a; x and z are no values of a chip: read what it had",
+        );
+    }
+    numbered_form(depth, number)
+}
+
+/// A note on the line with a number that is none of a dump.
+fn form_note(
+    alloc: Global,
+    path: &str,
+    text: &[u8],
+    depth: u8,
+    number: u32,
+) -> Result<Vec<u8>, NoMemory>
+    ensures { IfOk result (λ note. IsLineNote path.now text.now number (dump_form depth number) note.items) }
+{
+    let (start, line) = numbered_line(text, u64::from(number));
+    let form = form_of(depth, number, line);
+    let note = flaw_note(alloc, path, text, start, line, form)?;
+    Ok(note)
+}
+
+/// What to look at where a line has another number of bits than are due.
+fn bits_label(widths: Widths, number: u32) -> &'static str
+    ensures { result.now ≡ bits_label widths number }
+{
+    if widths.items == 0 && !(number == 1) {
+        "the signature file has no line: is it the right one, and was it emptied?"
+    } else {
+        "is the dump of this netlist, with this signature?"
     }
 }
 
@@ -109,7 +160,7 @@ fn bits_note(
     let said = bits_sentence(alloc, widths, number, line)?;
     let message = Message {
         sentence: &said,
-        label: b"is the dump of this netlist, with this signature?",
+        label: bits_label(widths, number).as_bytes(),
     };
     let note = note_on(alloc, path, text, start, message)?;
     Ok(note)
@@ -141,15 +192,7 @@ pub fn dump_note(
     ensures { IfOk result (λ note. IsDumpNote path.now text.now widths fault note.items) }
 {
     match fault {
-        DumpFault::Line(number) => {
-            line_note(
-                alloc,
-                path,
-                text,
-                u64::from(number),
-                form_of(widths.depth, number),
-            )
-        }
+        DumpFault::Line(number) => form_note(alloc, path, text, widths.depth, number),
         DumpFault::Width(number) => width_note(alloc, path, text, widths, number),
         DumpFault::NotReset => note_on(
             alloc,

@@ -3,7 +3,7 @@ ghost use Rattle.std.specs.Prelude.{◌≡◌, ◌≤◌, ◌<◌, ℕ, length, 
 ghost use Rattle.bs_note_files.specs.Flaws.{FlawIs, is_stray, IsFlawNote, IsLineNote, IsStartNote, loose_at, stray_at};
 ghost use Rattle.bs_note_files.specs.Notes.{said};
 ghost use Rattle.bs_note_files.specs.Parts.{IsFirstPlace, NoneOf};
-ghost use Rattle.bs_note_files.specs.Sayings.{loose_saying, stray_saying};
+ghost use Rattle.bs_note_files.specs.Sayings.{loose_saying, packed_saying, stray_saying};
 
 use crate::form::{Message, note_on, say};
 use crate::part::numbered_line;
@@ -51,6 +51,16 @@ fn first_loose(line: &[u8]) -> Option<usize>
     None
 }
 
+/// What is said of a byte of a file that gzip has packed.
+pub fn packed_message() -> Message<'static>
+    ensures { said result ≡ packed_saying }
+{
+    say(
+        "a byte of a file that gzip has packed",
+        "unpack it first, as by `gzip -dc FILE > TEXT`",
+    )
+}
+
 /// What a stray byte is.
 fn stray_message(byte: u8) -> Message<'static>
     ensures { said result ≡ stray_saying byte }
@@ -69,6 +79,9 @@ fn stray_message(byte: u8) -> Message<'static>
             "a byte that is no ASCII character, as a mark at the front of a file",
             "save the file as plain ASCII without a byte order mark",
         );
+    }
+    if byte == 31 {
+        return packed_message();
     }
     say(
         "a byte that no line of this text may have",

@@ -1,6 +1,6 @@
 //! Which file of a job a text seems to be, by its first word.
 ghost use Rattle.std.specs.Prelude.{◌≡◌, IfOk};
-ghost use Rattle.bs_note_files.specs.Kinds.{kind_of, mistaken, mistaken_sentence, mistaken_text, other_than, rank};
+ghost use Rattle.bs_note_files.specs.Kinds.{kind_of, mistaken, mistaken_advice, mistaken_sentence, mistaken_text, other_than, rank};
 
 use crate::form::file_note;
 use bs_bits::{NoMemory, push_piece};
@@ -31,6 +31,9 @@ fn kind_of_text(text: &[u8]) -> Option<File>
     }
     if text.starts_with(b"backspace ".as_slice()) {
         return Some(File::Report);
+    }
+    if text.starts_with(b"$".as_slice()) {
+        return Some(File::Vcd);
     }
     None
 }
@@ -73,6 +76,17 @@ pub fn mistaken(file: File, text: &[u8]) -> Option<File>
     }
 }
 
+/// What to do with a file that seems to be another one.
+fn mistaken_advice(kind: File) -> &'static str
+    ensures { result.now ≡ mistaken_advice kind }
+{
+    if rank(kind) == rank(File::Vcd) {
+        " of a simulator; `backspace_inspect stimulus NETLIST VCD --clock NAME` makes a stimulus of one"
+    } else {
+        "; the files stand in the order NETLIST SIGNATURE STIMULUS DUMP REPORT"
+    }
+}
+
 /// What is said of a file that seems to be another one.
 fn mistaken_sentence(alloc: Global, file: File, kind: File) -> Result<Vec<u8>, NoMemory>
     ensures { IfOk result (λ said. said.items ≡ mistaken_sentence file kind) }
@@ -81,10 +95,7 @@ fn mistaken_sentence(alloc: Global, file: File, kind: File) -> Result<Vec<u8>, N
     push_piece(&mut said, file.word().as_bytes())?;
     push_piece(&mut said, b", this file begins like a ")?;
     push_piece(&mut said, kind.word().as_bytes())?;
-    push_piece(
-        &mut said,
-        b"; the files stand in the order NETLIST SIGNATURE STIMULUS DUMP REPORT",
-    )?;
+    push_piece(&mut said, mistaken_advice(kind).as_bytes())?;
     Ok(said)
 }
 

@@ -2,26 +2,53 @@
 ghost use Rattle.std.specs.Prelude.{◌≡◌, slice_get, IfOk, Some};
 ghost use Rattle.bs_note_files.specs.Netlists.{fault_saying, IsNetlistNote, place_of};
 ghost use Rattle.bs_note_files.specs.Notes.{said};
-ghost use Rattle.bs_note_files.specs.Sayings.{syntax_saying, what_saying};
+ghost use Rattle.bs_note_files.specs.Sayings.{cell_saying, is_binary, is_escaped, syntax_saying, what_saying};
 
+use crate::flaw::packed_message;
 use crate::form::{Message, note_on, say};
 use bs_bits::NoMemory;
 use bs_verilog_syntax::{VerilogFault, What};
 use std::alloc::Global;
 
-/// What is said of a part of the language that is left out.
-fn what_message(what: What) -> Message<'static>
-    ensures { said result ≡ what_saying what }
+/// Whether a byte begins an escaped name.
+fn is_escaped(byte: Option<u8>) -> bool
+    ensures { result ≡ is_escaped byte }
+{
+    match byte {
+        Some(byte) => byte == b'\\',
+        None => false,
+    }
+}
+
+/// What is said of a cell that is not known, by the byte with which its name begins.
+fn cell_message(byte: Option<u8>) -> Message<'static>
+    ensures { said result ≡ cell_saying byte }
+{
+    if is_escaped(byte) {
+        return say(
+            "an escaped name is no gate and no cell: `\\not` is another name than `not`",
+            "map cells to gates and take the `\\` out of their names: examples/yosys/synth.sh does both",
+        );
+    }
+    say(
+        "no cell of this name is known",
+        "cells are dff and dffs (CK, Q, D), dffe (E too), dffr (R too), gates and nand or nor xor xnor buf not: flatten and map to these (docs/FORMATS.md)",
+    )
+}
+
+/// What is said of a part of the language that is left out, by the byte with which it begins.
+fn what_message(byte: Option<u8>, what: What) -> Message<'static>
+    ensures { said result ≡ what_saying byte what }
 {
     match what {
         What::Behaviour => say(
             "behavioural Verilog is left out",
-            "synthesize to gates and flip-flops first",
+            "synthesize it, and map it to gates and flip-flops, as examples/yosys/synth.sh does both",
         ),
         What::Parameter => say("parameters are left out", "let synthesis settle them"),
         What::NetType => say(
             "net types other than wire, supply0 and supply1 are left out",
-            "write wire",
+            "is this RTL? synthesize and map it, as examples/yosys/synth.sh does; else write wire",
         ),
         What::Primitive => say(
             "tri-state, switch and user primitives are left out",
@@ -35,7 +62,7 @@ fn what_message(what: What) -> Message<'static>
         What::Array => say("arrays of instances are left out", "write each instance"),
         What::Expression => say(
             "expressions and concatenations are left out",
-            "a net, a bit of a vector or a constant of one bit may stand here",
+            "a net, a bit of a vector or a constant of one bit may stand here; examples/yosys/synth.sh maps the rest to gates",
         ),
         What::Width => say(
             "a whole vector or a part of it is left out",
@@ -46,11 +73,25 @@ fn what_message(what: What) -> Message<'static>
             "this compiler directive is left out",
             "take it out, or run a preprocessor first",
         ),
-        What::Hierarchy => say(
-            "no cell of this name is known",
-            "cells are dff and dffs (CK, Q, D), dffe (E too), dffr (R too), gates and nand or nor xor xnor buf not: flatten and map to these (docs/FORMATS.md)",
-        ),
+        What::Hierarchy => cell_message(byte),
     }
+}
+
+/// The byte at a place, where there is one.
+fn byte_at(text: &[u8], at: usize) -> Option<u8>
+    ensures { result ≡ slice_get text.now at }
+{
+    match text.get(at) {
+        Some(byte) => Some(*byte),
+        None => None,
+    }
+}
+
+/// Whether a byte is neither white space nor one of ` ` to `~`.
+fn is_binary(byte: u8) -> bool
+    ensures { result ≡ is_binary byte }
+{
+    (byte < 32 && !(8 < byte && byte < 14)) || 126 < byte
 }
 
 /// What is said of a byte that cannot go on.
@@ -69,9 +110,18 @@ fn byte_message(byte: u8) -> Message<'static>
             "cells are dff and dffs (CK, Q, D), dffe (E too), dffr (R too): flatten and map to these (docs/FORMATS.md, Netlists)",
         );
     }
+    if byte == 31 {
+        return packed_message();
+    }
+    if is_binary(byte) {
+        return say(
+            "a byte that no text has: is this file packed or binary?",
+            "give the text of a structural netlist",
+        );
+    }
     say(
         "what begins here cannot stand here",
-        "is a `;` missing before it? a structural netlist is read (docs/FORMATS.md, Netlists)",
+        "is a `;` missing before it? is this RTL or SystemVerilog? synthesize it, as by examples/yosys/synth.sh (docs/FORMATS.md, Netlists)",
     )
 }
 
@@ -82,7 +132,7 @@ fn syntax_message(text: &[u8], at: usize) -> Message<'static>
     match text.get(at) {
         None => say(
             "the text ends before its module does",
-            "is the netlist empty, cut short, or `endmodule` missing?",
+            "is the netlist cut short, or `endmodule` missing? is it empty, as by a shell's `> FILE` of the file that is read?",
         ),
         Some(byte) => byte_message(*byte),
     }
@@ -94,7 +144,7 @@ fn message_of(text: &[u8], fault: VerilogFault) -> Message<'static>
 {
     match fault {
         VerilogFault::Syntax(at) => syntax_message(text, at as usize),
-        VerilogFault::Unsupported(_, what) => what_message(what),
+        VerilogFault::Unsupported(at, what) => what_message(byte_at(text, at as usize), what),
         VerilogFault::Port(_) => say(
             "each name of the header has one direction, and each direction a name of the header",
             "declare it as input or output once, and name it in the header",

@@ -1,8 +1,9 @@
 //! Notes on a text that is no signature.
-ghost use Rattle.std.specs.Prelude.{◌≡◌, ◌≤◌, ◌<◌, ◌-◌, ◌++◌, ◌==◌, ◌⊎◌, ℕ, All, codes, length, take, drop, slice_index, true, false, IfNone, IfOk, IfSome, OnOk};
+ghost use Rattle.std.specs.Prelude.{◌≡◌, ◌≤◌, ◌<◌, ◌-◌, ◌++◌, ◌==◌, ◌⊎◌, ◌||◌, nat_eq, ℕ, All, codes, length, take, drop, slice_index, true, false, IfNone, IfOk, IfSome, OnOk};
 ghost use Rattle.std.specs.Bool.{MatchBool};
-ghost use Rattle.std.specs.List.{flat_map};
+ghost use Rattle.std.specs.List.{flat_map, starts_with};
 ghost use Rattle.bs_net.specs.Netlist.{parts_of};
+ghost use Rattle.bs_inspect_names.specs.Rtl.{rtl_name};
 ghost use Rattle.bs_note_places.specs.Nearest.{AreNearest, IsNearest};
 ghost use Rattle.bs_note_places.specs.Quotes.{shown_line};
 ghost use Rattle.bs_note_files.specs.Flaws.{IsLineNote};
@@ -73,7 +74,7 @@ fn push_key(label: &mut Vec<u8>, raw: &Raw, flop: usize) -> Result<(), NoMemory>
 
 /// The keys of flip-flops that are nearest to a name, as a label.
 fn label_of(alloc: Global, raw: &Raw, name: &[u8], flops: &[usize]) -> Result<Vec<u8>, NoMemory>
-    requires { AreNearest (parts_of raw.now) name.now flops.now }
+    requires { AreNearest (parts_of raw.now) (rtl_name name.now) flops.now }
     ensures { IfOk result (λ label. label.items ≡ unknown_label (parts_of raw.now) flops.now) }
 {
     let _name = name;
@@ -155,6 +156,15 @@ fn unknown_note(
     }
 }
 
+/// Whether a line begins like a comment.
+fn is_comment(line: &[u8]) -> bool
+    ensures { result ≡ starts_with nat_eq line.now (codes "#") || starts_with nat_eq line.now (codes "//") }
+{
+    let hash = line.starts_with(b"#".as_slice());
+    let slashes = line.starts_with(b"//".as_slice());
+    hash || slashes
+}
+
 /// The form of a line.
 fn form_of(line: &[u8]) -> Message<'static>
     ensures { said result ≡ form_saying line.now }
@@ -162,8 +172,11 @@ fn form_of(line: &[u8]) -> Message<'static>
     if line.starts_with(b"bit ".as_slice()) {
         return say(
             "`bit` takes one name",
-            "write `xor NAME NAME ..` for the parity of several, or a line for each",
+            "write `xor NAME NAME ..` for the parity of several; an index is a part of the key, as of `[0]\\a.b`: `backspace_inspect keys` tells it",
         );
+    }
+    if is_comment(line) {
+        return say("a signature has no comments", "take the line out");
     }
     say(
         "a line of a signature is `bit NAME` or `xor NAME NAME ..`",

@@ -1,11 +1,12 @@
 //! Notes on a text that is no stimulus.
 ghost use Rattle.std.specs.Prelude.{◌≡◌, IfOk};
-ghost use Rattle.bs_note_files.specs.Flaws.{IsStartNote};
+ghost use Rattle.bs_note_files.specs.Flaws.{IsLineNote, IsStartNote};
+ghost use Rattle.std.specs.List.{list_all};
 ghost use Rattle.bs_note_files.specs.Notes.{IsNoteOn, said};
-ghost use Rattle.bs_note_files.specs.Sayings.{count_saying, inputs_saying};
+ghost use Rattle.bs_note_files.specs.Sayings.{count_saying, inputs_saying, is_value, run_form};
 ghost use Rattle.bs_note_files.specs.Texts.{IsStimNote};
 
-use crate::flaw::{line_note, start_note};
+use crate::flaw::{flaw_note, start_note};
 use crate::form::{Message, file_note, note_on, say};
 use crate::part::numbered_line;
 use crate::width::{bits_in, width_sentence};
@@ -79,6 +80,47 @@ fn count_note(alloc: Global, path: &str, text: &[u8], number: u64) -> Result<Vec
     Ok(note)
 }
 
+/// Whether a byte is a value that a simulator knows.
+fn is_value(byte: u8) -> bool
+    ensures { result ≡ is_value byte }
+{
+    (byte == b'0' || byte == b'1')
+        || ((byte == b'x' || byte == b'X') || (byte == b'z' || byte == b'Z'))
+}
+
+/// Whether each byte of a line is such a value.
+fn are_values(line: &[u8]) -> bool
+    ensures { result ≡ list_all is_value line.now }
+{
+    line.iter().all(|&byte| is_value(byte))
+}
+
+/// The form of a line.
+fn form_of(line: &[u8]) -> Message<'static>
+    ensures { said result ≡ run_form line.now }
+{
+    let values = are_values(line);
+    if values && !(line.len() == 0) {
+        return say(
+            "a bit of an input is 0 or 1, and x or z stands here",
+            "drive each data input from the first cycle on, or write what the chip had",
+        );
+    }
+    say(
+        "a run is `run NAME CYCLES`, as many lines of bits, and `end`",
+        "this is none of these where it stands",
+    )
+}
+
+/// A note on the line with a number that is none of a stimulus.
+fn form_note(alloc: Global, path: &str, text: &[u8], number: u64) -> Result<Vec<u8>, NoMemory>
+    ensures { IfOk result (λ note. IsLineNote path.now text.now number run_form note.items) }
+{
+    let (start, line) = numbered_line(text, number);
+    let note = flaw_note(alloc, path, text, start, line, form_of(line))?;
+    Ok(note)
+}
+
 /// A note on a text that is no stimulus, with so many data inputs.
 pub fn stimulus_note(
     alloc: Global,
@@ -91,16 +133,7 @@ pub fn stimulus_note(
 {
     match fault {
         StimFault::NoRun => file_note(alloc, path, b"the file has no run"),
-        StimFault::Line(number) => line_note(
-            alloc,
-            path,
-            text,
-            u64::from(number),
-            say(
-                "a run is `run NAME CYCLES`, as many lines of bits, and `end`",
-                "this is none of these where it stands",
-            ),
-        ),
+        StimFault::Line(number) => form_note(alloc, path, text, u64::from(number)),
         StimFault::Width(number) => width_note(alloc, path, text, width, u64::from(number)),
         StimFault::Count(number) => count_note(alloc, path, text, u64::from(number)),
         StimFault::TooManyRuns(number) => start_note(

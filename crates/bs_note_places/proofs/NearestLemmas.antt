@@ -3,7 +3,8 @@ use Rattle.std.proofs.Common.{◌≡◌, ℕ, suc, zero, ◌<◌, ◌≤◌, ◌
 use Rattle.std.specs.Prelude.{◌==◌, nat_lt}
 use Rattle.std.proofs.lemmas.Bool.{eqb-true, eqb-false, ltb-true, ltb-false}
 use Rattle.std.proofs.lemmas.List.{get_or-reverse, length-reverse}
-use Rattle.std.proofs.Common.{inl, inr, ◌++◌, ◌+◌}
+use Rattle.std.proofs.Common.{inl, inr, Bool, ◌++◌, ◌+◌}
+use Rattle.std.specs.Bool.{MatchBool}
 use Rattle.std.specs.List.{All, Contains}
 use Rattle.std.specs.List.Sorted.{IsStrictlyIncreasing}
 use Rattle.std.proofs.lemmas.List.{get_or_push, get_or_append_left, length_push}
@@ -141,6 +142,21 @@ below_more r name flop flops h room is = record {
     by other near true same lt =
         inl (subst (λ (k : ℕ). Contains (flops ++ flop ∷ []) k) (sym (eqb-true other flop same)) (Contains-push flops flop))
     by other near false apart lt = inl (listed other (h.all other (omega (arith, lt, eqb-false other flop apart)) near))
+
+-- one that is farther, by a test
+pub like_far : (r : Parts) (name : List ℕ) (first flop : ℕ) (flops : List ℕ) (like : Bool) →
+    MatchBool like (IsNearest r name flop) (flop_apart r name first < flop_apart r name flop) → like ≡ false → IsNearest r name first →
+    AreNearestBelow r name flop flops → AreNearestBelow r name (flop + 1) flops
+like_far r name first flop flops false far is near h = below_far r name first flop flops near h far
+like_far r name first flop flops true like is near h = absurd cc
+
+-- one more, by a test
+pub like_more : (r : Parts) (name : List ℕ) (first flop : ℕ) (flops pushed : List ℕ) (like : Bool) →
+    MatchBool like (IsNearest r name flop) (flop_apart r name first < flop_apart r name flop) → like ≡ true → length flops < NAMED →
+    AreNearestBelow r name flop flops → pushed ≡ flops ++ flop ∷ [] → AreNearestBelow r name (flop + 1) pushed
+like_more r name first flop flops pushed true near is room h put =
+    subst (λ (l : List ℕ). AreNearestBelow r name (flop + 1) l) (sym put) (below_more r name flop flops h room near)
+like_more r name first flop flops pushed false far is room h put = absurd cc
 
 -- the nearest of all
 pub all_below : (r : Parts) (name : List ℕ) (flops : List ℕ) → AreNearestBelow r name (length r.flops) flops → AreNearest r name flops

@@ -5,6 +5,7 @@ use Rattle.std.specs.List.Sorted.{IsStrictlyIncreasing}
 use Rattle.std.specs.Option.{option_map, unwrap_or}
 use Rattle.bs_net.specs.declared.net.NetId.{NetId}
 use Rattle.bs_net.specs.Parts.{Parts}
+use Rattle.bs_inspect_names.specs.Rtl.{rtl_name}
 use Rattle.bs_note_places.specs.declared.nearest.TheConstants.{NAMED}
 
 -- how many bytes two names have in common at their front
@@ -29,9 +30,9 @@ net_key r n = slice_index_or r.names n.0 []
 abbrev pub key_at : Parts → ℕ → List ℕ
 key_at r flop = unwrap_or (option_map (λ f. net_key r f.q) (slice_get r.flops flop)) []
 
--- how far the key of a flip-flop is from a name
+-- how far the key of a flip-flop, as RTL writes it, is from a name that RTL writes
 abbrev pub flop_apart : Parts → List ℕ → ℕ → ℕ
-flop_apart r name flop = apart name (key_at r flop)
+flop_apart r name flop = apart name (rtl_name (key_at r flop))
 
 -- no key of a flip-flop is nearer to the name than this
 abbrev pub IsLeast : Parts → List ℕ → ℕ → Type 0

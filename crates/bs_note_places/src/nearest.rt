@@ -1,10 +1,13 @@
 //! How far two names are apart, and the flip-flops whose keys are nearest to a name.
-ghost use Rattle.std.specs.Prelude.{◌≡◌, ◌≤◌, ◌<◌, ◌+◌, length, reverse, IfOk, IfNone, IfSome, OnOk};
+ghost use Rattle.std.specs.Prelude.{◌≡◌, ◌≤◌, ◌<◌, ◌+◌, ◌++◌, length, reverse, IfOk, OnOk};
 ghost use Rattle.std.specs.Bool.{MatchBool};
 ghost use Rattle.bs_net.specs.Netlist.{parts_of};
+ghost use Rattle.bs_inspect_names.specs.Rtl.{rtl_name};
+ghost use Rattle.bs_inspect_names.specs.Signals.{range_text};
 ghost use Rattle.bs_note_places.specs.Nearest.{apart, AreNearest, AreNearestBelow, common, flop_apart, IsFirstNearest, IsLeast, IsNearest, key_at, net_key};
 
 use bs_bits::NoMemory;
+use bs_inspect_names::{key_parts, plain, push_range};
 use bs_net::{NetId, Raw};
 use std::alloc::Global;
 
@@ -62,49 +65,74 @@ pub fn flop_key(raw: &Raw, flop: usize) -> &[u8]
     net_key(raw, raw.flops.get(flop).q)
 }
 
-/// How far the key of a flip-flop is from a name.
-fn flop_apart(raw: &Raw, flop: usize, name: &[u8]) -> usize
-    requires { flop < length raw.now.flops }
-    ensures { result ≡ flop_apart (parts_of raw.now) name.now flop }
+/// Appends the number of a bit in brackets, where there is one.
+fn push_bit(name: &mut Vec<u8>, bit: Option<u64>) -> Result<(), NoMemory>
+    ensures { OnOk result (name.new.items ≡ name.old.items ++ range_text bit 1) }
 {
-    apart(name, flop_key(raw, flop))
+    match bit {
+        Some(bit) => push_range(name, bit, 1),
+        None => Ok(()),
+    }
+}
+
+/// The name of a key as RTL writes it.
+fn rtl_name(alloc: Global, key: &[u8]) -> Result<Vec<u8>, NoMemory>
+    ensures { IfOk result (λ name. name.items ≡ rtl_name key.now) }
+{
+    let parts = key_parts(key);
+    let mut name = plain(parts.base).to_vec(alloc)?;
+    push_bit(&mut name, parts.bit)?;
+    Ok(name)
+}
+
+/// How far the key of a flip-flop, as RTL writes it, is from a name that RTL writes.
+fn flop_apart(alloc: Global, raw: &Raw, flop: usize, name: &[u8]) -> Result<usize, NoMemory>
+    requires { flop < length raw.now.flops }
+    ensures { IfOk result (λ far. far ≡ flop_apart (parts_of raw.now) name.now flop) }
+{
+    let key = rtl_name(alloc, flop_key(raw, flop))?;
+    Ok(apart(name, &key))
 }
 
 /// The first flip-flop whose key is nearest to a name.
-fn nearest_flop(raw: &Raw, name: &[u8]) -> Option<usize>
-    ensures nearest { IfSome result (λ flop. IsFirstNearest (parts_of raw.now) name.now flop) }
-    ensures none { IfNone result (length raw.now.flops ≡ 0) }
+fn nearest_flop(alloc: Global, raw: &Raw, name: &[u8]) -> Result<usize, NoMemory>
+    requires { 0 < length raw.now.flops }
+    ensures { IfOk result (λ flop. IsFirstNearest (parts_of raw.now) name.now flop) }
 {
-    if raw.flops.len() == 0 {
-        return None;
-    }
     let mut nearest = 0;
-    let mut least = flop_apart(raw, 0, name);
+    let mut least = flop_apart(alloc, raw, 0, name)?;
     'flops: for flop in 1..raw.flops.len() {
-        let far = flop_apart(raw, flop, name);
+        let far = flop_apart(alloc, raw, flop, name)?;
         if far < least {
             nearest = flop;
             least = far;
         }
     }
-    Some(nearest)
+    Ok(nearest)
 }
 
 /// Whether the key of a flip-flop is as far from a name as that of a nearest one.
-fn is_like(raw: &Raw, name: &[u8], first: usize, flop: usize) -> bool
+fn is_like(
+    alloc: Global,
+    raw: &Raw,
+    name: &[u8],
+    first: usize,
+    flop: usize,
+) -> Result<bool, NoMemory>
     requires first { IsNearest (parts_of raw.now) name.now first }
     requires there { flop < length raw.now.flops }
-    ensures { MatchBool result
+    ensures { IfOk result (λ is. MatchBool is
         (IsNearest (parts_of raw.now) name.now flop)
-        (flop_apart (parts_of raw.now) name.now first < flop_apart (parts_of raw.now) name.now flop) }
+        (flop_apart (parts_of raw.now) name.now first < flop_apart (parts_of raw.now) name.now flop)) }
 {
-    let least = flop_apart(raw, first, name);
-    let far = flop_apart(raw, flop, name);
-    far == least
+    let least = flop_apart(alloc, raw, first, name)?;
+    let far = flop_apart(alloc, raw, flop, name)?;
+    Ok(far == least)
 }
 
 /// Puts a flip-flop behind the nearest of those before it, where it is one and they are few.
 fn add_like(
+    alloc: Global,
     nearest: &mut Vec<usize>,
     raw: &Raw,
     name: &[u8],
@@ -119,7 +147,8 @@ fn add_like(
     if nearest.len() >= NAMED {
         return Ok(());
     }
-    if !is_like(raw, name, first, flop) {
+    let like = is_like(alloc, raw, name, first, flop)?;
+    if !like {
         return Ok(());
     }
     nearest.push(flop)?;
@@ -134,21 +163,39 @@ fn flops_like(alloc: Global, raw: &Raw, name: &[u8], first: usize) -> Result<Vec
 {
     let mut nearest = vec![in alloc; first]?;
     'flops: for flop in first + 1..raw.flops.len() {
-        add_like(&mut nearest, raw, name, first, flop)?;
+        add_like(alloc, &mut nearest, raw, name, first, flop)?;
     }
     Ok(nearest)
 }
 
-/// The flip-flops whose keys are nearest to a name, at most `NAMED` of them in scan order.
+/// The same with the first nearest one before them.
+fn flops_near(alloc: Global, raw: &Raw, name: &[u8]) -> Result<Vec<usize>, NoMemory>
+    requires { 0 < length raw.now.flops }
+    ensures { IfOk result (λ flops. AreNearestBelow (parts_of raw.now) name.now (length raw.now.flops) flops.items) }
+{
+    let first = nearest_flop(alloc, raw, name)?;
+    let flops = flops_like(alloc, raw, name, first)?;
+    Ok(flops)
+}
+
+/// The flip-flops whose keys are nearest to a name that RTL writes.
 #[tactic(auto, using(crate::proofs::NearestLemmas::none_nearest))]
-pub fn nearest_flops(alloc: Global, raw: &Raw, name: &[u8]) -> Result<Vec<usize>, NoMemory>
+fn nearest_named(alloc: Global, raw: &Raw, name: &[u8]) -> Result<Vec<usize>, NoMemory>
     ensures { IfOk result (λ flops. AreNearest (parts_of raw.now) name.now flops.items) }
 {
-    match nearest_flop(raw, name) {
-        Some(first) => {
-            let flops = flops_like(alloc, raw, name, first)?;
-            Ok(flops)
-        }
-        None => Ok(Vec::new(alloc)),
+    if raw.flops.len() == 0 {
+        return Ok(Vec::new(alloc));
     }
+    let flops = flops_near(alloc, raw, name)?;
+    Ok(flops)
+}
+
+/// The flip-flops whose keys are nearest to a name, at most `NAMED` of them in scan order: name and keys as RTL writes them, so that
+/// `tx.level[0]` is next to the key `[0]\tx.level`.
+pub fn nearest_flops(alloc: Global, raw: &Raw, name: &[u8]) -> Result<Vec<usize>, NoMemory>
+    ensures { IfOk result (λ flops. AreNearest (parts_of raw.now) (rtl_name name.now) flops.items) }
+{
+    let rtl = rtl_name(alloc, name)?;
+    let flops = nearest_named(alloc, raw, &rtl)?;
+    Ok(flops)
 }

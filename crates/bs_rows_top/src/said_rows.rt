@@ -13,8 +13,9 @@ fn words_of(alloc: Global, line: &str) -> Result<Vec<String>, NoMemory> {
     Ok(words)
 }
 
-/// The files of a job, by name.
-const FILES: [(&str, &str); 4] = [
+/// The files of a job, by name, and those of a shift register of three flip-flops. The latter's states are 000, 100, 110 and 011, and
+/// its signatures of the first and the last flip-flop, each of the state before: 00, 10 and 10.
+const FILES: [(&str, &str); 7] = [
     (
         "n.v",
         "module sh(ck,a); input ck,a; dff f0(ck,q0,a); dff f1(ck,q1,q0); endmodule\n",
@@ -22,6 +23,12 @@ const FILES: [(&str, &str); 4] = [
     ("s.txt", "bit q1\n"),
     ("t.txt", "run a 1\n0\nend\n"),
     ("d.txt", "state 11\nsig 1\nend\n"),
+    (
+        "c.v",
+        "module sh(ck,a); input ck,a; wire [0:0] \\tx.q ; dff f0(ck,q0,a); dff f1(ck,q1,q0); dff f2(ck,\\tx.q [0],q1); endmodule\n",
+    ),
+    ("cs.txt", "bit q0\nbit [0]\\tx.q\n"),
+    ("ct.txt", "run b 3\n1\n1\n0\nend\n"),
 ];
 
 /// The files of a job, and one of them with a mistake, `x`.
@@ -120,7 +127,77 @@ fn first_other<'a>(
 }
 
 /// Calls, and their notes.
-const SAID: [Said<'static>; 12] = [
+const SAID: [Said<'static>; 26] = [
+    (
+        "run n.v s.txt t.txt d.txt e",
+        "",
+        ROOM,
+        Status::Words,
+        "note: the number of words by position behind the command is 5; a file name with a space in it stands in quotes\nnote: usage: backspace run NETLIST SIGNATURE STIMULUS DUMP [--steps L] [--candidates K] [--conflicts B]\n",
+    ),
+    (
+        "run - s.txt t.txt d.txt",
+        "",
+        ROOM,
+        Status::ReadFault,
+        "note: -: there is no such file, and standard input is read as /dev/stdin alone\n",
+    ),
+    (
+        "run x s.txt t.txt d.txt",
+        "\x1fgz\n",
+        ROOM,
+        Status::Netlist,
+        "note: x:1:1: a byte of a file that gzip has packed\n\\x1fgz\n^ unpack it first, as by `gzip -dc FILE > TEXT`\n",
+    ),
+    (
+        "run x s.txt t.txt d.txt",
+        "module m(a);\n input a;\n \\not u(y,a);\nendmodule\n",
+        ROOM,
+        Status::Netlist,
+        "note: x:3:2: an escaped name is no gate and no cell: `\\not` is another name than `not`\n \\not u(y,a);\n ^ map cells to gates and take the `\\` out of their names: examples/yosys/synth.sh does both\n",
+    ),
+    (
+        "run n.v x t.txt d.txt",
+        "# a\nbit q0\n",
+        ROOM,
+        Status::Signature,
+        "note: x:1:1: a signature has no comments\n# a\n^ take the line out\n",
+    ),
+    (
+        "run c.v x ct.txt d.txt",
+        "bit tx.q[0]\n",
+        ROOM,
+        Status::Signature,
+        "note: x:1:5: no flip-flop has the key `tx.q[0]`, the name of its output net\nbit tx.q[0]\n    ^ the nearest keys of flip-flops: [0]\\tx.q\n",
+    ),
+    (
+        "run n.v s.txt x d.txt",
+        "run a 1\nx\nend\n",
+        ROOM,
+        Status::Stimulus,
+        "note: x:2:1: a bit of an input is 0 or 1, and x or z stands here\nx\n^ drive each data input from the first cycle on, or write what the chip had\n",
+    ),
+    (
+        "run n.v s.txt x d.txt",
+        "$date now $end\n",
+        ROOM,
+        Status::Stimulus,
+        "note: x: given as the stimulus, this file begins like a vcd of a simulator; `backspace_inspect stimulus NETLIST VCD --clock NAME` makes a stimulus of one\n",
+    ),
+    (
+        "run n.v s.txt t.txt x",
+        "state 0x3\nsig 1\nend\n",
+        ROOM,
+        Status::Dump,
+        "note: x:1:1: behind the word stand characters 0 and 1 alone, or `sig none`, and this line has something else\nstate 0x3\n^ write a number of base 16 bit by bit, as 1010 for a; x and z are no values of a chip: read what it had\n",
+    ),
+    (
+        "run n.v x t.txt d.txt",
+        "",
+        ROOM,
+        Status::Dump,
+        "note: d.txt:2:1: 1 bits stand here, and 0 are due: one for each item of the signature\nsig 1\n^ the signature file has no line: is it the right one, and was it emptied?\n",
+    ),
     (
         "run n.v s.txt x d.txt",
         "run a 3\n1\n1\n1\nend\n",
@@ -147,7 +224,7 @@ const SAID: [Said<'static>; 12] = [
         "module m(a);\n input a;\n always @(a) ;\nendmodule\n",
         ROOM,
         Status::Netlist,
-        "note: x:3:2: behavioural Verilog is left out\n always @(a) ;\n ^ synthesize to gates and flip-flops first\n",
+        "note: x:3:2: behavioural Verilog is left out\n always @(a) ;\n ^ synthesize it, and map it to gates and flip-flops, as examples/yosys/synth.sh does both\n",
     ),
     (
         "run n.v x t.txt d.txt",
@@ -175,14 +252,42 @@ const SAID: [Said<'static>; 12] = [
         "",
         ROOM,
         Status::Spent,
-        "note: the list was cut, and no recorded moment leads to the state in one cycle, or the search for one was cut, in step 1\nnote: record more or longer runs of what the chip did, or choose a signature that tells more states apart\n",
+        "note: the list was cut, and no recorded moment leads to the state in one cycle, or the search for one was cut, in step 1\nnote: record more or longer runs of what the chip did, or choose a signature that tells more states apart\nnote: the dump's state itself was never recorded, nor that state read backwards; this alone is no fault: a crash need not be in a run\n",
     ),
     (
         "run n.v s.txt t.txt d.txt",
         "",
         ROOM,
         Status::Nohit,
-        "note: no recorded run comes to a state that is listed in step 1\nnote: record more or longer runs of what the chip did, or choose a signature that tells more states apart\nnote: so many moments of recorded runs were searched, each cycle of each run from 0: 2\n",
+        "note: no recorded run comes to a state that is listed in step 1\nnote: record more or longer runs of what the chip did, or choose a signature that tells more states apart\nnote: so many moments of recorded runs were searched, each cycle of each run from 0: 2\nnote: the dump's state itself was never recorded, nor that state read backwards; this alone is no fault: a crash need not be in a run\n",
+    ),
+    (
+        "run c.v cs.txt ct.txt x",
+        "state 001\nsig 00\nend\n",
+        ROOM,
+        Status::Nohit,
+        "note: read backwards, the dump's state is that of run 1 at cycle 1, whose dump has `sig 00`\nnote: turn the state around: its bits are in the order of the netlist's flip-flops, the first on the left\n",
+    ),
+    (
+        "run c.v cs.txt ct.txt x",
+        "state 011\nsig 01\nend\n",
+        ROOM,
+        Status::Empty,
+        "note: the dump's state is that of run 1 at cycle 3, whose dump has `sig 10`\nnote: this dump has it read backwards: turn it around, so that the bit of the signature's first line is the first on the left\n",
+    ),
+    (
+        "run c.v cs.txt ct.txt x",
+        "state 100\nsig 10\nend\n",
+        ROOM,
+        Status::Empty,
+        "note: the dump's state is that of run 1 at cycle 1, whose dump has `sig 00`\nnote: this dump has another: were state and `sig` read at the same cycle, and is the signature file the chip's?\n",
+    ),
+    (
+        "run c.v cs.txt ct.txt x",
+        "state 101\nsig 00\nend\n",
+        ROOM,
+        Status::Nohit,
+        "note: no recorded run comes to a state that is listed in step 1\nnote: record more or longer runs of what the chip did, or choose a signature that tells more states apart\nnote: so many moments of recorded runs were searched, each cycle of each run from 0: 4\nnote: the dump's state itself was never recorded, nor that state read backwards; this alone is no fault: a crash need not be in a run\n",
     ),
     (
         "reach n.v 111 5",

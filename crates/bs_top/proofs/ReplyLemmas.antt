@@ -1,11 +1,15 @@
 -- What is answered for a report, a finding, a search or a backtrace, where memory sufficed for its text.
-use Rattle.std.proofs.Common.{◌≡◌, ℕ, List, length, Bool, Result, Ok, Err, Vec, refl, Option}
+use Rattle.std.proofs.Common.{◌≡◌, ℕ, List, length, Bool, Result, Ok, Err, Vec, refl, Option, ap, subst, sym, ◌∙◌}
 use Rattle.std.specs.Prelude.{IfOk}
 use Rattle.std.specs.declared.alloc.Global.{Global}
 use Rattle.bs_bits.specs.declared.memory.NoMemory.{NoMemory}
 use Rattle.bs_net.specs.Circuit.{Circuit}
+use Rattle.bs_net.specs.Netlist.{circuit_of}
 use Rattle.bs_net.specs.Parts.{Parts}
-use Rattle.bs_scan.specs.Crash.{Crash}
+use Rattle.bs_stim.specs.Runs.{Stimulus}
+use Rattle.bs_scan.specs.declared.dump.Dump.{Dump}
+use Rattle.bs_scan.specs.Choice.{Chosen}
+use Rattle.bs_scan.specs.Crash.{Crash, DumpFits, Recording, recording_of}
 use Rattle.bs_report.specs.declared.report.Budgets.{Budgets}
 use Rattle.bs_report.specs.declared.report.Report.{Report}
 use Rattle.bs_report.specs.Text.{report_text}
@@ -19,7 +23,7 @@ use Rattle.bs_wave.specs.WaveText.{wave_text}
 use Rattle.bs_top_answer.specs.declared.note.Answer.{Answer}
 use Rattle.bs_top_answer.specs.Endings.{miss_text_of, rejected_text_if, run_text}
 use Rattle.bs_top_answer.specs.Note.{DueText}
-use Rattle.bs_top_files.specs.Entry.{Crashed}
+use Rattle.bs_top_files.specs.Entry.{Crashed, recording_in}
 use Rattle.bs_top_plan.specs.declared.status.Status.TheVariants.{Done}
 use Rattle.bs_top.specs.Drawn.{IsDrawn, IsTraceWave}
 use Rattle.bs_top.specs.Finishes.{Answers, Audits, demo_budgets, Draws, Finds, IsBacktrace, reach_status, Reports, stop_status, Summarises}
@@ -63,10 +67,22 @@ summarises_told number report (Err want) is written = tt
 
 -- ---- what is said besides
 
-pub reports_said : (crashed : Crashed) (report : Report) (r : Result Answer NoMemory) → IfOk r (λ a. a.reply.text.items ≡ report_text report) →
-    IfOk r (λ a. DueText (run_text crashed.setup.runs (length report.steps) report.stop) a.note) → IfOk r (λ a. RunSaid crashed a.reply.text.items a.note)
-reports_said crashed report (Ok a) text says = record { report = report; written = text; says = says }
-reports_said crashed report (Err want) text says = tt
+pub reports_said : (crashed : Crashed) (report : Report) (r : Result Answer NoMemory) (chip : Recording) → chip ≡ recording_in crashed.setup →
+    IfOk r (λ a. a.reply.text.items ≡ report_text report) →
+    IfOk r (λ a. DueText (run_text chip crashed.dump crashed.setup.runs (length report.steps) report.stop) a.note) →
+    IfOk r (λ a. RunSaid crashed a.reply.text.items a.note)
+reports_said crashed report (Ok a) chip is text says = record {
+  report = report;
+  written = text;
+  says = subst (λ (q : Recording). DueText (run_text q crashed.dump crashed.setup.runs (length report.steps) report.stop) a.note) is says;
+}
+reports_said crashed report (Err want) chip is text says = tt
+
+-- the dump has the width of a chip of its setup, whatever was asked of it
+pub fits_chip : (c : Circuit) (raw : Parts) (choice : Chosen) (runs : Stimulus) (dump : Dump) (before chip : Recording) → DumpFits c choice dump →
+    c ≡ circuit_of raw → before ≡ recording_of raw choice runs → chip ≡ before → length dump.state ≡ length chip.circuit.flops
+fits_chip c raw choice runs dump before chip fits same is still =
+    fits.state ∙ ap (λ (q : Circuit). length q.flops) same ∙ ap (λ (q : Recording). length q.circuit.flops) (sym (still ∙ is))
 
 pub audits_said : (part : Option Part) (r : Result Answer NoMemory) → IfOk r (λ a. a.reply.text.items ≡ finding_text part) →
     IfOk r (λ a. DueText (rejected_text_if (is_rejected part)) a.note) → IfOk r (λ a. AuditSaid a.reply.text.items a.note)

@@ -19,7 +19,7 @@ use Rattle.bs_top_answer.specs.Endings.{miss_text_of, rejected_text_if, run_text
 use Rattle.bs_top_answer.specs.Note.{Due, DueText}
 use Rattle.bs_top_answer.specs.Paths.{Paths, path_of}
 use Rattle.bs_top_answer.specs.Prepared.{NoteAlong}
-use Rattle.bs_top_files.specs.Entry.{Crashed}
+use Rattle.bs_top_files.specs.Entry.{Crashed, recording_in}
 use Rattle.bs_top_files.specs.Looking.{claimed_looked, crashed_looked, drawn_looked, placed_looked}
 use Rattle.bs_top_files.specs.NoteCases.{NoteCase, NoteSays}
 use Rattle.bs_top_plan.specs.declared.status.Status.{Status}
@@ -62,11 +62,12 @@ paths_of (Search j) = record { netlist = j.netlist; signature = []; stimulus = [
 
 -- ---- work that is done
 
--- the text is a report's, and the note tells its stop, where it is not at reset
+-- The text is a report's, and the note tells its stop, where it is not at reset; where no candidate of the first step is hit, it tells
+-- what the recorded runs show of the dump.
 pub record RunSaid (crashed : Crashed) (text : List ℕ) (note : Note) : Type 0 where
   pub report : Report
   pub written : text ≡ report_text report
-  pub says : DueText (run_text crashed.setup.runs (length report.steps) report.stop) note
+  pub says : DueText (run_text (recording_in crashed.setup) crashed.dump crashed.setup.runs (length report.steps) report.stop) note
 
 abbrev pub is_rejected : Option Part → Bool
 is_rejected None = false

@@ -13,7 +13,7 @@ ghost use Rattle.bs_net.specs.Netlist.{circuit};
 ghost use Rattle.bs_report.specs.Text.{report_text};
 ghost use Rattle.bs_scan.specs.Crash.{crash_of, DumpFits, recording_of};
 ghost use Rattle.bs_top_files.specs.Entry.{recording_in};
-ghost use Rattle.bs_top.specs.Finishes.{finishes, IsBacktrace, stop_status};
+ghost use Rattle.bs_top.specs.Finishes.{finishes, IsBacktrace, replies, stop_status};
 ghost use Rattle.bs_top.specs.Said.{JobSaid, WorkSaid};
 
 use crate::design::means_design;
@@ -24,7 +24,6 @@ use bs_outside::{NoMemory, Shelf};
 use bs_preimage::Preimage;
 use bs_report::{Budgets, Report, Stop};
 use bs_scan::Dump;
-use bs_stim::Runs;
 use bs_top_answer::{Answer, run_said, stop_answer};
 use bs_top_files::{Crashed, FileNames, Setup, load_crashed};
 use bs_top_plan::{Reply, Status};
@@ -56,6 +55,7 @@ fn trace(
     requires budgets { IsBudget budgets.now }
     ensures backtrace { IfOk result (IsBacktrace (crash_of (recording_in (setup_in setup.now)) dump.now) budgets.now) }
     ensures trace { IfOk result (λ report. length report.states ≡ length report.inputs + 1) }
+    ensures chip { chip.new.recording ≡ chip.old.recording }
 {
     let _order = setup.net.order();
     let _count = setup.runs.count();
@@ -118,25 +118,81 @@ fn written(alloc: Global, report: &Report) -> Result<Reply, NoMemory>
 }
 
 /// What is written for a report that stays, and the note on its stop.
-fn report_answer(alloc: Global, report: &Report, runs: &Runs) -> Result<Answer, NoMemory>
-    requires { length report.now.states ≡ length report.now.inputs + 1 }
+fn report_answer(
+    alloc: Global,
+    chip: &mut Chip<'_>,
+    report: &Report,
+    crashed: &Crashed,
+) -> Result<Answer, NoMemory>
+    requires trace { length report.now.states ≡ length report.now.inputs + 1 }
+    requires dump { length crashed.now.dump.state ≡ length chip.old.recording.circuit.flops }
     ensures status { IfOk result (λ answer. answer.reply.status ≡ stop_status report.now.stop) }
     ensures text { IfOk result (λ answer. answer.reply.text.items ≡ report_text report.now) }
-    ensures note { IfOk result (λ answer. DueText (run_text runs.now (length report.now.steps) report.now.stop) answer.note) }
+    ensures note { IfOk result (λ answer. DueText (run_text chip.old.recording crashed.now.dump crashed.now.setup.runs (length report.now.steps) report.now.stop) answer.note) }
 {
     let reply = written(alloc, report)?;
-    let note = run_said(alloc, runs, report.steps.len() as u64, report.stop);
+    let steps = report.steps.len() as u64;
+    let note = run_said(
+        alloc,
+        chip,
+        &crashed.dump,
+        &crashed.setup.runs,
+        steps,
+        report.stop,
+    );
     Ok(Answer { reply, note })
 }
 
 /// The same for a report that nobody needs behind it.
-fn told(alloc: Global, report: Report, runs: &Runs) -> Result<Answer, NoMemory>
-    requires { length report.states ≡ length report.inputs + 1 }
+fn told(
+    alloc: Global,
+    chip: &mut Chip<'_>,
+    report: Report,
+    crashed: &Crashed,
+) -> Result<Answer, NoMemory>
+    requires trace { length report.states ≡ length report.inputs + 1 }
+    requires dump { length crashed.now.dump.state ≡ length chip.old.recording.circuit.flops }
     ensures status { IfOk result (λ answer. answer.reply.status ≡ stop_status report.stop) }
     ensures text { IfOk result (λ answer. answer.reply.text.items ≡ report_text report) }
-    ensures note { IfOk result (λ answer. DueText (run_text runs.now (length report.steps) report.stop) answer.note) }
+    ensures note { IfOk result (λ answer. DueText (run_text chip.old.recording crashed.now.dump crashed.now.setup.runs (length report.steps) report.stop) answer.note) }
 {
-    let answer = report_answer(alloc, &report, runs);
+    let answer = report_answer(alloc, chip, &report, crashed);
+    answer
+}
+
+/// The answer for a dump that stays, on a chip of its setup.
+#[tactic(auto, using(crate::proofs::ReplyLemmas::fits_chip))]
+fn chip_answer(
+    alloc: Global,
+    chip: &mut Chip<'_>,
+    crashed: &Crashed,
+    budgets: &Budgets,
+) -> Result<Answer, NoMemory>
+    requires chip { chip.old.recording ≡ recording_in (setup_in crashed.now.setup) }
+    requires budgets { IsBudget budgets.now }
+    ensures done { IfOk result (λ answer. replies (to_run budgets.now (crashed_in crashed.now)) answer.reply.status answer.reply.text.items) }
+    ensures said { IfOk result (λ answer. WorkSaid (to_run budgets.now (crashed_in crashed.now)) answer.reply.text.items answer.note) }
+{
+    match trace(alloc, chip, &crashed.setup, &crashed.dump, budgets) {
+        Ok(report) => told(alloc, chip, report, crashed),
+        Err(want) => Err(want),
+    }
+}
+
+/// The same on a chip that nobody needs behind it.
+fn answer_on(
+    alloc: Global,
+    chip: Chip<'_>,
+    crashed: &Crashed,
+    budgets: &Budgets,
+) -> Result<Answer, NoMemory>
+    requires chip { chip.recording ≡ recording_in (setup_in crashed.now.setup) }
+    requires budgets { IsBudget budgets.now }
+    ensures done { IfOk result (λ answer. replies (to_run budgets.now (crashed_in crashed.now)) answer.reply.status answer.reply.text.items) }
+    ensures said { IfOk result (λ answer. WorkSaid (to_run budgets.now (crashed_in crashed.now)) answer.reply.text.items answer.note) }
+{
+    let mut chip = chip;
+    let answer = chip_answer(alloc, &mut chip, crashed, budgets);
     answer
 }
 
@@ -147,8 +203,13 @@ fn run_answer(alloc: Global, crashed: &Crashed, budgets: &Budgets) -> Result<Ans
     ensures said { IfOk result (λ answer. WorkSaid (to_run budgets.now (crashed_in crashed.now)) answer.reply.text.items answer.note) }
 {
     means_design(&crashed.setup.net);
-    match report_of(alloc, &crashed.setup, &crashed.dump, budgets) {
-        Ok(report) => told(alloc, report, &crashed.setup.runs),
+    match Chip::new(
+        alloc,
+        &crashed.setup.net,
+        &crashed.setup.choice,
+        &crashed.setup.runs,
+    ) {
+        Ok(chip) => answer_on(alloc, chip, crashed, budgets),
         Err(want) => Err(want),
     }
 }

@@ -1,9 +1,12 @@
 -- The notes on work that is done.
-use Rattle.std.specs.Prelude.{ℕ, ◌+◌, sum_by, Bool, true, false, List, ◌++◌, codes, decimal, length, Option, Some, None, option_map, if◌then◌else◌}
+use Rattle.std.specs.Prelude.{ℕ, ◌+◌, ◌==◌, sum_by, Bool, true, false, List, ◌++◌, codes, decimal, length, Option, Some, None, option_map, if◌then◌else◌}
 use Rattle.bs_stim.specs.Runs.{Recorded, Stimulus}
 use Rattle.bs_report.specs.declared.report.Stop.{Stop}
 use Rattle.bs_report.specs.declared.report.Stop.TheVariants as S
+use Rattle.bs_scan.specs.declared.dump.Dump.{Dump}
+use Rattle.bs_scan.specs.Crash.{Recording}
 use Rattle.bs_note_files.specs.Notes.{plain_text}
+use Rattle.bs_note_dump.specs.Looks.{looked_text}
 use Rattle.bs_note_calls.specs.Faults.{rejected_text}
 use Rattle.bs_note_calls.specs.Stops.{text_of}
 use Rattle.bs_note_calls.specs.Searches.{miss_text}
@@ -25,9 +28,23 @@ followed_text runs S.Empty text = text
 followed_text runs S.Candidates text = text
 followed_text runs S.Conflicts text = text
 
--- the note on why a run over these recorded runs stopped, after so many steps; none where it came to reset
-abbrev pub run_text : Stimulus → ℕ → Stop → Option (List ℕ)
-run_text runs steps stop = option_map (λ (text : List ℕ). followed_text runs stop text) (text_of steps stop)
+-- whether the runs are looked at for the dump: in the first step no candidate was hit
+abbrev pub is_looked : ℕ → Stop → Bool
+is_looked steps S.Reset = false
+is_looked steps S.Length = false
+is_looked steps S.Nohit = steps == 1
+is_looked steps S.Empty = steps == 1
+is_looked steps S.Candidates = steps == 1
+is_looked steps S.Conflicts = steps == 1
+
+-- the text of a stop, and what the recorded runs tell of the dump where they are looked at for it
+abbrev pub stopped_text : Recording → Dump → ℕ → Stop → List ℕ → List ℕ
+stopped_text r dump steps stop text = if is_looked steps stop then looked_text r dump text else text
+
+-- the note on why a run over these recorded runs stopped, after so many steps from a dump; none where it came to reset
+abbrev pub run_text : Recording → Dump → Stimulus → ℕ → Stop → Option (List ℕ)
+run_text r dump runs steps stop =
+    option_map (λ (text : List ℕ). stopped_text r dump steps stop (followed_text runs stop text)) (text_of steps stop)
 
 abbrev pub is_reset : Stop → Bool
 is_reset S.Reset = true

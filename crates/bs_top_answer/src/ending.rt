@@ -1,13 +1,17 @@
 //! The notes on work that is done: on the stop of a run, on a search without an execution, and on a report that is not valid.
-ghost use Rattle.std.specs.Prelude.{◌≡◌, ◌++◌, IfOk, OnOk, Some};
-ghost use Rattle.bs_top_answer.specs.Endings.{followed_text, is_reset, miss_text_of, moments, rejected_text_if, run_text, searched_text};
+ghost use Rattle.std.specs.Prelude.{◌≡◌, ◌++◌, length, IfOk, OnOk, Some};
+ghost use Rattle.bs_top_answer.specs.Endings.{followed_text, is_looked, is_reset, miss_text_of, moments, rejected_text_if, run_text, searched_text};
+ghost use Rattle.bs_top_answer.specs.Endings.{stopped_text};
 ghost use Rattle.bs_top_answer.specs.Note.{DueText};
 
 use crate::note::{Note, note_made};
 use bs_bits::{NoMemory, push_number, push_piece};
+use bs_chip::Chip;
 use bs_note_calls::{Miss, miss_note, rejected_note, stop_note};
+use bs_note_dump::looked_note;
 use bs_note_files::plain_note;
 use bs_report::Stop;
+use bs_scan::Dump;
 use bs_stim::Runs;
 use std::alloc::Global;
 
@@ -66,13 +70,73 @@ fn followed(alloc: Global, text: Vec<u8>, runs: &Runs, stop: Stop) -> Result<Vec
     }
 }
 
+/// Whether the runs are looked at for the dump.
+fn is_looked(steps: u64, stop: Stop) -> bool
+    ensures { result ≡ is_looked steps stop }
+{
+    match stop {
+        Stop::Reset => false,
+        Stop::Length => false,
+        Stop::Nohit => steps == 1,
+        Stop::Empty => steps == 1,
+        Stop::Candidates => steps == 1,
+        Stop::Conflicts => steps == 1,
+    }
+}
+
+/// The text of a stop, and what the recorded runs tell of the dump where they are looked at for it.
+#[tactic(auto, using(crate::proofs::EndingLemmas::looked_so, crate::proofs::EndingLemmas::unlooked_so))]
+fn stopped(
+    alloc: Global,
+    chip: &mut Chip<'_>,
+    dump: &Dump,
+    steps: u64,
+    stop: Stop,
+    text: Vec<u8>,
+) -> Result<Vec<u8>, NoMemory>
+    requires { length dump.now.state ≡ length chip.old.recording.circuit.flops }
+    ensures { IfOk result (λ note. note.items ≡ stopped_text chip.old.recording dump.now steps stop text.items) }
+{
+    if is_looked(steps, stop) {
+        return looked_note(alloc, chip, dump, &text);
+    }
+    Ok(text)
+}
+
+/// The note on a stop, from the text of its own.
+fn noted(
+    alloc: Global,
+    chip: &mut Chip<'_>,
+    dump: &Dump,
+    runs: &Runs,
+    steps: u64,
+    stop: Stop,
+    text: Vec<u8>,
+) -> Result<Vec<u8>, NoMemory>
+    requires { length dump.now.state ≡ length chip.old.recording.circuit.flops }
+    ensures { IfOk result (λ note. note.items ≡ stopped_text chip.old.recording dump.now steps stop (followed_text runs.now stop text.items)) }
+{
+    match followed(alloc, text, runs, stop) {
+        Ok(text) => stopped(alloc, chip, dump, steps, stop, text),
+        Err(want) => Err(want),
+    }
+}
+
 /// The note on a stop that has one.
 #[tactic(auto, using(crate::proofs::EndingLemmas::run_followed))]
-fn run_note(alloc: Global, runs: &Runs, steps: u64, stop: Stop) -> Result<Vec<u8>, NoMemory>
-    ensures { IfOk result (λ note. Some note.items ≡ run_text runs.now steps stop) }
+fn run_note(
+    alloc: Global,
+    chip: &mut Chip<'_>,
+    dump: &Dump,
+    runs: &Runs,
+    steps: u64,
+    stop: Stop,
+) -> Result<Vec<u8>, NoMemory>
+    requires { length dump.now.state ≡ length chip.old.recording.circuit.flops }
+    ensures { IfOk result (λ note. Some note.items ≡ run_text chip.old.recording dump.now runs.now steps stop) }
 {
     match stop_note(alloc, steps, stop)? {
-        Some(text) => followed(alloc, text, runs, stop),
+        Some(text) => noted(alloc, chip, dump, runs, steps, stop, text),
         None => Err(NoMemory),
     }
 }
@@ -91,15 +155,23 @@ fn is_reset(stop: Stop) -> bool
     }
 }
 
-/// The note on why a run stopped after so many steps, where it did not come to reset.
+/// The note on why a run from a dump stopped after so many steps, where it did not come to reset. The chip is that of the runs.
 #[tactic(auto, using(crate::proofs::EndingLemmas::run_silent, crate::proofs::EndingLemmas::run_made))]
-pub fn run_said(alloc: Global, runs: &Runs, steps: u64, stop: Stop) -> Note
-    ensures { DueText (run_text runs.now steps stop) result }
+pub fn run_said(
+    alloc: Global,
+    chip: &mut Chip<'_>,
+    dump: &Dump,
+    runs: &Runs,
+    steps: u64,
+    stop: Stop,
+) -> Note
+    requires { length dump.now.state ≡ length chip.old.recording.circuit.flops }
+    ensures { DueText (run_text chip.old.recording dump.now runs.now steps stop) result }
 {
     if is_reset(stop) {
         return Note::Silent;
     }
-    note_made(run_note(alloc, runs, steps, stop))
+    note_made(run_note(alloc, chip, dump, runs, steps, stop))
 }
 
 /// The note on a search, where it has no execution.
