@@ -21,7 +21,7 @@ use Rattle.bs_flat_nets.specs.declared.blocks.FlatModule.{FlatModule}
 use Rattle.bs_flat_nets.specs.Numbering.{net_at}
 use Rattle.bs_flat_nets.specs.declared.climbing.NetOnPath.{NetOnPath}
 use Rattle.bs_flat_elaborate.specs.Whole.{AreShort}
-use Rattle.bs_flat_elaborate.specs.Terminals.{width, gates_at, terminals_at, terminals_of}
+use Rattle.bs_flat_elaborate.specs.Terminals.{gate_terminals, gates_at, terminals_at, terminals_of}
 
 -- ---- a sum on the way
 
@@ -83,7 +83,7 @@ sum_same f g (x ∷ xs) (y ∷ ys) a b e h =
 
 -- how many inputs the gates of a module have
 abbrev terminals_in : Module → ℕ
-terminals_in m = sum_by width m.own.gates
+terminals_in m = sum_by gate_terminals m.own.gates
 
 by_paths : (d : Design) → terminal_count d ≡ sum_by (λ p. terminals_in (module_at d p)) (paths d)
 by_paths d =
@@ -106,7 +106,7 @@ pub terminals_are : (blocks : List FlatModule) (nodes : List Node) (top : ℕ) �
 terminals_are blocks nodes top stand =
     let d = design_of blocks top in
     sum_same (λ (n : Node). terminals_at blocks n.of) (λ (p : Path). terminals_in (module_at d p)) nodes (paths d) no_node [] stand.count
-    (λ k lt. sym (ap (λ gs. sum_by width gs) (module_gates blocks top (get_or nodes k no_node).of)) ∙ ap terminals_in (stand.each k lt).same)
+    (λ k lt. sym (ap (λ gs. sum_by gate_terminals gs) (module_gates blocks top (get_or nodes k no_node).of)) ∙ ap terminals_in (stand.each k lt).same)
     ∙ sym (by_paths d)
 
 -- ---- what the limits leave

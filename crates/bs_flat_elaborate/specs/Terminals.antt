@@ -6,8 +6,8 @@ use Rattle.bs_flat_meaning.specs.declared.paths.Node.{Node}
 use Rattle.bs_flat_nets.specs.declared.blocks.FlatModule.{FlatModule}
 
 -- how many inputs a gate has
-abbrev pub width : Gate → ℕ
-width g = length g.ins
+abbrev pub gate_terminals : Gate → ℕ
+gate_terminals g = length g.ins
 
 -- the gates of the module with a number
 abbrev pub gates_at : List FlatModule → ℕ → List Gate
@@ -15,7 +15,7 @@ gates_at blocks k = slice_index_or (map (λ b. b.gates) blocks) k []
 
 -- how many inputs the gates of the module with a number have
 abbrev pub terminals_at : List FlatModule → ℕ → ℕ
-terminals_at blocks k = sum_by width (gates_at blocks k)
+terminals_at blocks k = sum_by gate_terminals (gates_at blocks k)
 
 -- how many inputs the gates on the paths of these nodes have
 abbrev pub terminals_of : List FlatModule → List Node → ℕ

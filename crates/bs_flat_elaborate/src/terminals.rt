@@ -10,7 +10,7 @@ use bs_net::Gate;
 
 /// What is left of so many inputs behind those of these gates; nothing where they have more.
 fn left_behind(gates: &[Gate], room: usize) -> Option<usize>
-    ensures { MatchOption result (room < sum_by spec.width gates.now) (λ left. left + sum_by spec.width gates.now ≡ room) }
+    ensures { MatchOption result (room < sum_by spec.gate_terminals gates.now) (λ left. left + sum_by spec.gate_terminals gates.now ≡ room) }
 {
     let mut left = room;
     'gates: for gate in gates {

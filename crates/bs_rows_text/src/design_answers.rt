@@ -89,6 +89,7 @@ fn refusal(alloc: Global, fault: &FlatFault) -> Result<String, NoMemory> {
             add_name(&mut line, key.slice())?;
             Ok(line)
         }
+        FlatFault::FlatTerminals => Ok(String::from_str(alloc, "FlatTerminals")?),
         FlatFault::NoMemory => Err(NoMemory),
     }
 }

@@ -89,10 +89,28 @@ fn is_row(alloc: Global, row: &Tower<'_>) -> Result<bool, NoMemory> {
     is_tower(alloc, row, row.1)
 }
 
+/// A gate with so many inputs.
+fn wide_gate(alloc: Global, inputs: u32) -> Result<String, NoMemory> {
+    let mut gate = String::from_str(alloc, "and g(ck")?;
+    for _ in 0..inputs {
+        gate.push_str(",ck")?;
+    }
+    gate.push_str(");")?;
+    Ok(gate)
+}
+
+/// Whether 131,072 gates with so many inputs each are answered so.
+fn is_wide(alloc: Global, inputs: u32, want: &str) -> Result<bool, NoMemory> {
+    let gate = wide_gate(alloc, inputs)?;
+    let text = tower(alloc, 17, " u(ck),v(ck)", gate.as_str())?;
+    is_counted(alloc, &text, want)
+}
+
 #[test]
 fn designs_at_their_limits(rt: HostRuntime) -> Result<(), Fail> {
     for row in &TOWERS {
         assert!(rt; is_row(rt.alloc(), row)?);
     }
+    assert!(rt; is_wide(rt.alloc(), 2049, "FlatTerminals")?);
     Ok(())
 }

@@ -15,15 +15,15 @@ use Rattle.bs_net.specs.Netlist.{circuit_of}
 use Rattle.bs_net.proofs.CallerLemmas.{passes_is}
 use Rattle.bs_scan.specs.Moments.{Run, state_at}
 use Rattle.bs_flat_meaning.specs.declared.fault.FlatFault.{FlatFault}
-use Rattle.bs_flat_meaning.specs.declared.fault.FlatFault.TheVariants.{Connect, Tops, FlatDepth, FlatKeys, FlatNets, FlatParts}
+use Rattle.bs_flat_meaning.specs.declared.fault.FlatFault.TheVariants.{Connect, Tops, FlatDepth, FlatKeys, FlatNets, FlatParts, FlatTerminals}
 use Rattle.bs_flat_meaning.specs.Connecting.{ReadModule}
 use Rattle.bs_flat_meaning.specs.Design.{Design, Module}
 use Rattle.bs_flat_meaning.specs.Executions.{AreStatesAt, AreStatesUnder, IsDesignExecution, RunsAs}
 use Rattle.bs_flat_meaning.specs.Flat.{IsDesign, flat_parts}
 use Rattle.bs_flat_meaning.specs.Pieces.{Piece, modules_of}
 use Rattle.bs_flat_meaning.specs.Reading.{IsRead, clash_in, clashing, connect_fault, connected_modules, design_of, elaborated, first_top, flattened, has_ring, limited}
-use Rattle.bs_flat_meaning.specs.Reading.{is_deep, module_from, part_count, read_modules, tops, ◌then◌}
-use Rattle.bs_flat_meaning.specs.declared.limits.TheConstants.{MAX_PARTS, MAX_KEY_BYTES}
+use Rattle.bs_flat_meaning.specs.Reading.{is_deep, module_from, part_count, read_modules, terminal_count, tops, ◌then◌}
+use Rattle.bs_flat_meaning.specs.declared.limits.TheConstants.{MAX_PARTS, MAX_TERMINALS, MAX_KEY_BYTES}
 use Rattle.bs_net.specs.declared.limits.TheConstants.{MAX_NETS}
 use Rattle.bs_flat_meaning.proofs.ExecutionLemmas.{flat_keeps_executions}
 use Rattle.bs_flat_meaning.proofs.LawLemmas.{flat_keeps_meaning}
@@ -59,22 +59,24 @@ limited_ok : (b : Bool) (fault : FlatFault) (later : Result Parts FlatFault) (ra
 limited_ok true fault later raw e = absurd cc
 limited_ok false fault later raw e = e
 
-clashing_ok : (key : Option (List ℕ)) (parts raw : Parts) → clashing key parts ≡ flat_as raw → raw ≡ parts
-clashing_ok (Some key) parts raw e = absurd cc
-clashing_ok None parts raw e = sym (flat_same parts raw e)
+clashing_ok : (key : Option (List ℕ)) (later : Result Parts FlatFault) (raw : Parts) → clashing key later ≡ flat_as raw → later ≡ flat_as raw
+clashing_ok (Some key) later raw e = absurd cc
+clashing_ok None later raw e = e
 
 elaborated_ok : (d : Design) (raw : Parts) → elaborated d ≡ flat_as raw → raw ≡ flat_parts d
 unfolding elaborated
 elaborated_ok d raw e =
     let parts = flat_parts d in
-    let last = clashing (clash_in parts.names) parts in
+    let all = limited (nat_lt MAX_TERMINALS (terminal_count d)) FlatTerminals (Ok parts) in
+    let last = clashing (clash_in parts.names) all in
     let keys = limited (nat_lt MAX_KEY_BYTES (sum (map length parts.names))) FlatKeys last in
     let nets = limited (nat_lt MAX_NETS (length parts.names)) FlatNets keys in
     let count = limited (nat_lt MAX_PARTS (part_count d)) FlatParts nets in
-    clashing_ok (clash_in parts.names) parts raw
+    sym (flat_same parts raw (limited_ok (nat_lt MAX_TERMINALS (terminal_count d)) FlatTerminals (Ok parts) raw
+    (clashing_ok (clash_in parts.names) all raw
     (limited_ok (nat_lt MAX_KEY_BYTES (sum (map length parts.names))) FlatKeys last raw
     (limited_ok (nat_lt MAX_NETS (length parts.names)) FlatNets keys raw
-    (limited_ok (nat_lt MAX_PARTS (part_count d)) FlatParts nets raw (limited_ok (is_deep d) FlatDepth count raw e))))
+    (limited_ok (nat_lt MAX_PARTS (part_count d)) FlatParts nets raw (limited_ok (is_deep d) FlatDepth count raw e))))))
 
 -- what a value tells of the connections and the flat parts
 pub record IsFlattened (table : List (List ℕ)) (ms : List Piece) (ks : List ReadModule) (raw : Parts) : Type 0 where

@@ -62,6 +62,7 @@ flat_words flat.FlatParts = codes "FlatParts"
 flat_words flat.FlatNets = codes "FlatNets"
 flat_words flat.FlatKeys = codes "FlatKeys"
 flat_words (flat.NameClash key) = codes "NameClash " ++ key
+flat_words flat.FlatTerminals = codes "FlatTerminals"
 flat_words flat.NoMemory = []
 
 -- a signature; a line counts from 1

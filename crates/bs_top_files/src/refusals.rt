@@ -155,6 +155,7 @@ pub fn flat_refusal(alloc: Global, fault: &FlatFault) -> Refusal
         FlatFault::FlatNets => worded(alloc, b"FlatNets"),
         FlatFault::FlatKeys => worded(alloc, b"FlatKeys"),
         FlatFault::NameClash(key) => texted(alloc, b"NameClash ", key.slice()),
+        FlatFault::FlatTerminals => worded(alloc, b"FlatTerminals"),
         FlatFault::NoMemory => Refusal::NoMemory,
     }
 }
