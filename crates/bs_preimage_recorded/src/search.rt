@@ -16,7 +16,7 @@ use bs_scan::Moment;
 use std::alloc::Global;
 
 /// How many states a search may ask about at most.
-pub const MAX_ASKS: u64 = 1_000;
+pub const MAX_ASKS: u64 = 2;
 
 /// A moment, a run from 1 and a cycle from 0, and its state as a candidate.
 #[derive(Drop)]
