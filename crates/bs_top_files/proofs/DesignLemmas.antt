@@ -76,7 +76,7 @@ elaborated_ok d raw e =
     (clashing_ok (clash_in parts.names) all raw
     (limited_ok (nat_lt MAX_KEY_BYTES (sum (map length parts.names))) FlatKeys last raw
     (limited_ok (nat_lt MAX_NETS (length parts.names)) FlatNets keys raw
-    (limited_ok (nat_lt MAX_PARTS (part_count d)) FlatParts nets raw (limited_ok (is_deep d) FlatDepth count raw e))))))
+    (limited_ok (nat_lt MAX_PARTS (part_count d)) FlatParts nets raw (limited_ok (is_deep d) FlatDepth count raw e)))))))
 
 -- what a value tells of the connections and the flat parts
 pub record IsFlattened (table : List (List ℕ)) (ms : List Piece) (ks : List ReadModule) (raw : Parts) : Type 0 where
