@@ -6,7 +6,7 @@ use Rattle.std.specs.declared.alloc.Global.{Global}
 use Rattle.bs_bits.specs.declared.memory.NoMemory.{NoMemory}
 use Rattle.bs_stim.specs.declared.limits.TheConstants.{MAX_CYCLES}
 use Rattle.bs_inspect_vcd.specs.Header.{Declared}
-use Rattle.bs_inspect_names.specs.Keys.{KeyParts, key_parts}
+use Rattle.bs_net_names.specs.Keys.{KeyParts, key_parts}
 use Rattle.bs_inspect_vcd.specs.Scopes.{declared_of, names_of, scopes_of}
 use Rattle.bs_note_files.specs.Notes.{Saying, file_text}
 use Rattle.bs_inspect_notes.specs.Simulations.{clock_text, cycles_text, input_text}

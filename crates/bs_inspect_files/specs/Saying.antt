@@ -5,7 +5,7 @@ use Rattle.bs_net.specs.Netlist.{circuit_of}
 use Rattle.bs_net.specs.Parts.{Parts}
 use Rattle.bs_report.specs.declared.report.Report.{Report}
 use Rattle.bs_stim.specs.declared.limits.TheConstants.{MAX_CYCLES}
-use Rattle.bs_inspect_names.specs.Keys.{key_parts}
+use Rattle.bs_net_names.specs.Keys.{key_parts}
 use Rattle.bs_inspect_vcd.specs.declared.fault.VcdFault.{VcdFault}
 use Rattle.bs_inspect_vcd.specs.declared.fault.VcdFault.TheVariants as vcd
 use Rattle.bs_inspect_vcd.specs.Header.{Declared, nothing_declared}

@@ -22,7 +22,7 @@ use crate::keys::maybe_bytes;
 use crate::lines::line_note;
 use crate::refusals::{cycles_refusal, key_at, vcd_refusal};
 use bs_bits::{Bits, List, NoMemory};
-use bs_inspect_names::key_parts;
+use bs_net_names::key_parts;
 use bs_inspect_notes::{clock_note, cycles_note, ended_note, foreign, input_note, unknown_note};
 use bs_inspect_vcd::{Declared, VcdFault, declared, names_of, scope_of, scopes_of, stimulus};
 use bs_note_files::{Message, file_note};

@@ -9,9 +9,9 @@ use Rattle.bs_bits.specs.Reading.{◌>>=◌}
 use Rattle.bs_bits.proofs.RangeLemmas.{range_push}
 use Rattle.bs_net.specs.declared.net.Flop.{Flop}
 use Rattle.bs_net.specs.Parts.{Parts, key_at}
-use Rattle.bs_inspect_names.specs.Keys.{KeyParts, key_parts, parts_in}
-use Rattle.bs_inspect_names.specs.Rtl.{same_name}
-use Rattle.bs_inspect_names.specs.declared.key.KeyParts.{KeyParts as CodeKeyParts}
+use Rattle.bs_net_names.specs.Keys.{KeyParts, key_parts, parts_in}
+use Rattle.bs_net_names.specs.Rtl.{same_name}
+use Rattle.bs_net_names.specs.declared.key.KeyParts.{KeyParts as CodeKeyParts}
 use Rattle.bs_inspect_netlist.specs.declared.fault.OrderFault.{OrderFault}
 use Rattle.bs_inspect_netlist.specs.declared.fault.OrderFault.TheVariants.{NoMemory}
 use Rattle.bs_inspect_netlist.specs.Order.{flop_named, flop_parts, listed_at, listed_from, pattern_bit, unscanned}

@@ -6,8 +6,8 @@ use Rattle.bs_bits.specs.Lines.{is_name, line, lines_of}
 use Rattle.bs_bits.specs.Reading.{◌>>=◌}
 use Rattle.bs_bits.specs.Text.{bits_of, bits_text}
 use Rattle.bs_net.specs.Parts.{Parts, key_at}
-use Rattle.bs_inspect_names.specs.Keys.{KeyParts, key_parts}
-use Rattle.bs_inspect_names.specs.Rtl.{same_name}
+use Rattle.bs_net_names.specs.Keys.{KeyParts, key_parts}
+use Rattle.bs_net_names.specs.Rtl.{same_name}
 use Rattle.bs_inspect_netlist.specs.declared.fault.OrderFault.{OrderFault}
 use Rattle.bs_inspect_netlist.specs.declared.fault.OrderFault.TheVariants.{Line, Unknown, Twice, Missing}
 use Rattle.bs_inspect_netlist.specs.declared.fault.PatternFault.{PatternFault}

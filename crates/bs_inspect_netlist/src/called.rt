@@ -1,7 +1,7 @@
 //! The keys of the flip-flops that names stand for.
 ghost use Rattle.std.specs.Prelude.{◌≡◌, ◌<◌, ◌∷◌, [], ◌++◌, ◌==◌, codes, length, map, not, option_map, IfOk, OnOk};
 ghost use Rattle.std.specs.List.{find, flat_map, list_any, range_with_len};
-ghost use Rattle.bs_inspect_names.specs.Keys.{key_parts, parts_in};
+ghost use Rattle.bs_net_names.specs.Keys.{key_parts, parts_in};
 ghost use Rattle.bs_net.specs.Netlist.{parts_of};
 ghost use Rattle.bs_net.specs.Parts.{key_at};
 ghost use Rattle.bs_inspect_netlist.specs.Called.{IsFirstUncalled, TellsKeys, called_at, called_key, called_line, called_told, first_uncalled, first_unnamed, has_shown, is_called, is_shown, net_named, nets_named};
@@ -11,7 +11,7 @@ use crate::bits::key_at;
 use crate::mark::Measure;
 use crate::marking::marks;
 use bs_bits::{NoMemory, end_line, push_piece};
-use bs_inspect_names::{KeyParts, is_named, key_parts};
+use bs_net_names::{KeyParts, is_named, key_parts};
 use bs_net::{Flop, Netlist, Raw};
 use std::alloc::Global;
 

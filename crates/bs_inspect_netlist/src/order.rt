@@ -3,8 +3,8 @@ ghost use Rattle.std.specs.Prelude.{◌≡◌, ◌<◌, ◌∷◌, [], ◌++◌,
 ghost use Rattle.std.specs.List.{find, list_any, position, range_with_len};
 ghost use Rattle.bs_bits.specs.Lines.{lines_of};
 ghost use Rattle.bs_bits.specs.Reading.{Answers};
-ghost use Rattle.bs_inspect_names.specs.Keys.{parts_in};
-ghost use Rattle.bs_inspect_names.specs.Rtl.{same_name};
+ghost use Rattle.bs_net_names.specs.Keys.{parts_in};
+ghost use Rattle.bs_net_names.specs.Rtl.{same_name};
 ghost use Rattle.bs_net.specs.Netlist.{parts_of};
 ghost use Rattle.bs_inspect_netlist.specs.declared.fault.OrderFault.TheVariants.{NoMemory as Want};
 ghost use Rattle.bs_inspect_netlist.specs.Order.{first_unlisted, flop_named, flop_parts, if_new, is_listed, listed_at, listed_from, order_in, whole_of};
@@ -12,7 +12,7 @@ ghost use Rattle.bs_inspect_netlist.specs.Order.{first_unlisted, flop_named, flo
 use crate::bits::key_at;
 use crate::fault::OrderFault;
 use bs_bits::{NoMemory, is_name, next_line};
-use bs_inspect_names::{KeyParts, key_parts, same_name};
+use bs_net_names::{KeyParts, key_parts, same_name};
 use bs_net::{Netlist, Raw};
 use std::alloc::Global;
 

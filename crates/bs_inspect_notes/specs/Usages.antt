@@ -4,7 +4,7 @@ use Rattle.std.specs.Prelude.{Option, Some, None, if◌then◌else◌}
 use Rattle.std.specs.List.{list_any, starts_with}
 use Rattle.std.specs.Str.{bytes_eq}
 use Rattle.std.specs.Borrow.{Bor}
-use Rattle.bs_inspect_names.specs.Splits.{Halves, first_split}
+use Rattle.bs_net_names.specs.Splits.{Halves, first_split}
 use Rattle.bs_note_files.specs.Notes.{pair_text, plain_text}
 use Rattle.bs_inspect_notes.specs.Listings.{quoted, some_near}
 

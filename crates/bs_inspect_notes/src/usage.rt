@@ -9,7 +9,7 @@ ghost use Rattle.bs_inspect_notes.specs.Usages.{unread_text, usages, word_text, 
 
 use crate::listing::{push_name, push_some_near};
 use bs_bits::{NoMemory, push_line, push_number, push_piece};
-use bs_inspect_names::first_split;
+use bs_net_names::first_split;
 use bs_note_files::pair_note;
 use std::alloc::Global;
 

@@ -5,7 +5,7 @@ ghost use Rattle.bs_inspect_report.specs.Known.{first_unknown, has_named};
 
 use crate::keys::{flop_keys, input_keys};
 use bs_bits::NoMemory;
-use bs_inspect_names::members;
+use bs_net_names::members;
 use bs_net::Netlist;
 use std::alloc::Global;
 

@@ -1,14 +1,14 @@
 //! One cycle of a trace.
 ghost use Rattle.std.specs.Prelude.{◌≡◌, ◌<◌, ◌≤◌, ◌+◌, ◌^◌, ◌++◌, length, map, decimal, slice_get, All, OnOk, option_map};
 ghost use Rattle.bs_bits.specs.Lines.{line};
-ghost use Rattle.bs_inspect_names.specs.Signals.{signal_in};
+ghost use Rattle.bs_net_names.specs.Signals.{signal_in};
 ghost use Rattle.bs_inspect_report.specs.Trace.{cycle_told, flops_at, hit_words, inputs_at, origin_words, state_before, step_words};
 ghost use Rattle.bs_inspect_report.specs.Told.{signals_in};
 
 use crate::named::Signals;
 use crate::signal::push_signals;
 use bs_bits::{Bits, List, NoMemory, end_line, push_number, push_piece};
-use bs_inspect_names::Signal;
+use bs_net_names::Signal;
 use bs_report::{HitLine, Report, Step};
 
 /// Appends the run and the cycle of a hit.

@@ -2,12 +2,12 @@
 ghost use Rattle.std.specs.Prelude.{◌≡◌, ◌<◌, ◌^◌, ◌++◌, length, map, not, All, IfOk, OnOk, option_map};
 ghost use Rattle.std.specs.Bool.{beq};
 ghost use Rattle.std.specs.List.{list_any};
-ghost use Rattle.bs_inspect_names.specs.Signals.{signal_in};
-ghost use Rattle.bs_inspect_names.specs.Values.{value_text};
+ghost use Rattle.bs_net_names.specs.Signals.{signal_in};
+ghost use Rattle.bs_net_names.specs.Values.{value_text};
 ghost use Rattle.bs_inspect_report.specs.Signal.{bit_at, has_changed, signal_bits, signal_line, signal_piece, signals_told};
 
 use bs_bits::{Bits, NoMemory, end_line, push_number, push_piece};
-use bs_inspect_names::{Signal, push_name, push_value};
+use bs_net_names::{Signal, push_name, push_value};
 use std::alloc::Global;
 
 /// The bit at a place of a state or an input; 0 past its end.

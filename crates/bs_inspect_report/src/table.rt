@@ -1,8 +1,8 @@
 //! The trace of a report as a table for scripts.
 ghost use Rattle.std.specs.Prelude.{◌≡◌, ◌<◌, ◌+◌, ◌^◌, ◌++◌, codes, decimal, length, map, slice_get, All, IfOk, OnOk, option_map};
 ghost use Rattle.std.specs.List.{flat_map, range_with_len};
-ghost use Rattle.bs_inspect_names.specs.Rtl.{rtl_text};
-ghost use Rattle.bs_inspect_names.specs.Signals.{signal_in};
+ghost use Rattle.bs_net_names.specs.Rtl.{rtl_text};
+ghost use Rattle.bs_net_names.specs.Signals.{signal_in};
 ghost use Rattle.bs_inspect_report.specs.Table.{TellsTable, head_row, hit_cells, name_cell, name_cells, origin_cells, state_row, step_cells, trace_rows, value_cell, value_cells};
 ghost use Rattle.bs_inspect_report.specs.Told.{signals_in};
 
@@ -12,7 +12,7 @@ use crate::named::Signals;
 use crate::signal::push_signal_value;
 use crate::trace::trace_signals;
 use bs_bits::{Bits, NoMemory, end_line, push_number, push_piece};
-use bs_inspect_names::{Signal, push_rtl_name};
+use bs_net_names::{Signal, push_rtl_name};
 use bs_net::Netlist;
 use bs_report::{HitLine, Report, Step};
 use std::alloc::Global;

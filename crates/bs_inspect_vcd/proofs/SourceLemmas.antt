@@ -4,7 +4,7 @@ use Rattle.std.proofs.Common.{Option, Some, None, Result, Ok, Err, refl, ap, sym
 use Rattle.std.specs.Borrow.{Bor}
 use Rattle.std.proofs.lemmas.List.{drop_more, drop_all, append_assoc, append-nil}
 use Rattle.bs_bits.specs.Reading.{◌>>=◌}
-use Rattle.bs_inspect_names.specs.Keys.{KeyParts}
+use Rattle.bs_net_names.specs.Keys.{KeyParts}
 use Rattle.bs_inspect_vcd.specs.declared.fault.VcdFault.{VcdFault}
 use Rattle.bs_inspect_vcd.specs.declared.fault.VcdFault.TheVariants.{NoMemory}
 use Rattle.bs_inspect_vcd.specs.declared.header.Variable.{Variable as CodeVariable}

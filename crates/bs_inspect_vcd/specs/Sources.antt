@@ -4,9 +4,9 @@ use Rattle.std.specs.Prelude.{◌++◌, length, slice_index_or, Option, Some, No
 use Rattle.std.specs.Str.{bytes_eq}
 use Rattle.bs_bits.specs.Lines.{number_in}
 use Rattle.bs_bits.specs.Reading.{◌>>=◌}
-use Rattle.bs_inspect_names.specs.Splits.{Halves, first_split, last_split}
-use Rattle.bs_inspect_names.specs.Keys.{KeyParts, key_parts}
-use Rattle.bs_inspect_names.specs.Signals.{plain}
+use Rattle.bs_net_names.specs.Splits.{Halves, first_split, last_split}
+use Rattle.bs_net_names.specs.Keys.{KeyParts, key_parts}
+use Rattle.bs_net_names.specs.Signals.{plain}
 use Rattle.bs_inspect_vcd.specs.declared.fault.VcdFault.{VcdFault}
 use Rattle.bs_inspect_vcd.specs.declared.fault.VcdFault.TheVariants.{NoClock, NoInput}
 use Rattle.bs_inspect_vcd.specs.declared.levels.Source.{Source}

@@ -1,7 +1,7 @@
 //! A run of a stimulus out of the text of a VCD.
 ghost use Rattle.std.specs.Prelude.{◌≡◌, ◌<◌, ◌+◌, ◌^◌, length, map, option_map};
 ghost use Rattle.bs_bits.specs.Reading.{Answers};
-ghost use Rattle.bs_inspect_names.specs.Keys.{parts_in};
+ghost use Rattle.bs_net_names.specs.Keys.{parts_in};
 ghost use Rattle.bs_inspect_vcd.specs.declared.fault.VcdFault.TheVariants.{NoClock, NoMemory as Want};
 ghost use Rattle.bs_inspect_vcd.specs.Header.{begun_in, declared_in, header_from, header_in};
 ghost use Rattle.bs_inspect_vcd.specs.Tokens.{tokens_from};
@@ -13,7 +13,7 @@ use crate::levels::Source;
 use crate::sources::{scope_of, source_in, take_inputs};
 use crate::watch::sample;
 use bs_bits::{Bits, List};
-use bs_inspect_names::{KeyParts, key_parts};
+use bs_net_names::{KeyParts, key_parts};
 use std::alloc::Global;
 
 /// The path of the clock's scope.

@@ -1,14 +1,14 @@
 //! The name and the bits of a variable.
 ghost use Rattle.std.specs.Prelude.{◌≡◌};
 ghost use Rattle.bs_bits.specs.Lines.{number_in};
-ghost use Rattle.bs_inspect_names.specs.Signals.{plain};
-ghost use Rattle.bs_inspect_names.specs.Splits.{first_split, halves_in, last_split};
+ghost use Rattle.bs_net_names.specs.Signals.{plain};
+ghost use Rattle.bs_net_names.specs.Splits.{first_split, halves_in, last_split};
 ghost use Rattle.bs_inspect_vcd.specs.Header.{shape_in};
 ghost use Rattle.bs_inspect_vcd.specs.Sources.{both_ends, ends_of, falling, named, named_at, named_in, of_width, one_end, or_width, place_in, range_before, range_behind, range_in, rising, split_name, whole_or};
 
 use crate::header::Variable;
 use bs_bits::read_number;
-use bs_inspect_names::{first_split, last_split};
+use bs_net_names::{first_split, last_split};
 
 /// The numbers of the first and the last bit of a vector.
 #[derive(Clone, Copy)]

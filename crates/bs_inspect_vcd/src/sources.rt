@@ -1,7 +1,7 @@
 //! Which bits of which variables a clock and inputs are.
 ghost use Rattle.std.specs.Prelude.{◌≡◌, ◌++◌, ◌∷◌, [], map, option_map, slice_index_or, OnOk};
 ghost use Rattle.bs_bits.specs.Reading.{Answers};
-ghost use Rattle.bs_inspect_names.specs.Keys.{key_parts, parts_in};
+ghost use Rattle.bs_net_names.specs.Keys.{key_parts, parts_in};
 ghost use Rattle.bs_inspect_vcd.specs.declared.fault.VcdFault.TheVariants.{NoMemory as Want};
 ghost use Rattle.bs_inspect_vcd.specs.Header.{declared_in, shape_in, variable_in};
 ghost use Rattle.bs_inspect_vcd.specs.Sources.{first_path, input_at, inputs_behind, named_at, scope_of, source_here, source_if, source_in, source_of};
@@ -12,7 +12,7 @@ use crate::levels::Source;
 use crate::range::{Named, named_in, place_in, plain};
 use crate::words::is_text;
 use bs_bits::{List, NoMemory};
-use bs_inspect_names::{KeyParts, key_parts};
+use bs_net_names::{KeyParts, key_parts};
 
 /// The bit of this name, if it is one of these.
 fn source_if(key: KeyParts<'_>, id: u64, own: Named<'_>) -> Option<Source>

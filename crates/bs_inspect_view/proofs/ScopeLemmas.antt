@@ -5,7 +5,7 @@ use Rattle.std.specs.Option.{option_map}
 use Rattle.std.specs.List.{flat_map}
 use Rattle.std.proofs.lemmas.List.{append-nil}
 use Rattle.bs_bits.specs.Lines.{onto_first}
-use Rattle.bs_inspect_names.specs.Splits.{Halves, first_split, onto}
+use Rattle.bs_net_names.specs.Splits.{Halves, first_split, onto}
 use Rattle.bs_inspect_view.specs.Scopes.{parts_of, scope_piece}
 
 -- the parts of a text that is cut at its first dot, or is not

@@ -5,7 +5,7 @@ use Rattle.std.specs.Prelude.{if◌then◌else◌}
 use Rattle.std.specs.List.{flat_map, list_any, range_with_len}
 use Rattle.bs_bits.specs.Lines.{line}
 use Rattle.bs_net.specs.Parts.{Parts}
-use Rattle.bs_inspect_names.specs.Signals.{Signal, range_text}
+use Rattle.bs_net_names.specs.Signals.{Signal, range_text}
 use Rattle.bs_inspect_view.specs.Drawn.{AreDrawn, Asked, plain_asked}
 use Rattle.bs_inspect_view.specs.Scopes.{leaf_of, moves, path_of, scopes, word_of}
 use Rattle.bs_wave.specs.declared.value.Value.{Value}

@@ -1,15 +1,15 @@
 //! The signals that are drawn.
 ghost use Rattle.std.specs.Prelude.{◌≡◌, map, filter, IfOk};
 ghost use Rattle.bs_bits.specs.Lines.{is_digits};
-ghost use Rattle.bs_inspect_names.specs.Signals.{signal_in};
-ghost use Rattle.bs_inspect_names.specs.Splits.{first_split};
+ghost use Rattle.bs_net_names.specs.Signals.{signal_in};
+ghost use Rattle.bs_net_names.specs.Splits.{first_split};
 ghost use Rattle.bs_inspect_view.specs.Drawn.{AreDrawn, asked_in, is_constant, is_counted, is_drawn, is_internal, is_nameless, is_numbered};
 
 use crate::asked::Asked;
 use crate::nets::net_signals;
 use crate::scopes::leaf_of;
 use bs_bits::NoMemory;
-use bs_inspect_names::{Signal, first_split, plain};
+use bs_net_names::{Signal, first_split, plain};
 use bs_net::Netlist;
 use std::alloc::Global;
 

@@ -1,10 +1,10 @@
 //! The signals of a netlist's nets.
 ghost use Rattle.std.specs.Prelude.{◌≡◌, ◌<◌, ◌^◌, length, map, IfOk};
-ghost use Rattle.bs_inspect_names.specs.Signals.{AreSignals, signal_in};
+ghost use Rattle.bs_net_names.specs.Signals.{AreSignals, signal_in};
 ghost use Rattle.bs_net.specs.Netlist.{parts_of};
 
 use bs_bits::NoMemory;
-use bs_inspect_names::{Signal, signals};
+use bs_net_names::{Signal, signals};
 use bs_net::{NetId, Netlist, Raw};
 use std::alloc::Global;
 

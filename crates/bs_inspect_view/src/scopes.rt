@@ -4,7 +4,7 @@ ghost use Rattle.std.specs.List.{flat_map};
 ghost use Rattle.bs_inspect_view.specs.Scopes.{leaf_of, moves, opening, parts_of, path_of, scope_piece, scopes, word_of};
 
 use bs_bits::{NoMemory, push_line, push_piece};
-use bs_inspect_names::{first_split, last_split, plain};
+use bs_net_names::{first_split, last_split, plain};
 
 /// The path of a name: what stands before its last dot.
 pub(crate) fn path_of(name: &[u8]) -> &[u8]

@@ -1,14 +1,14 @@
 //! The values of signals.
 ghost use Rattle.std.specs.Prelude.{◌≡◌, ◌++◌, map, not, OnOk, IfOk, option_map, slice_get};
 ghost use Rattle.std.specs.List.{list_any};
-ghost use Rattle.bs_inspect_names.specs.Signals.{signal_in};
+ghost use Rattle.bs_net_names.specs.Signals.{signal_in};
 ghost use Rattle.bs_inspect_view.specs.View.{change_text, changes, has_changed, signal_values, value_line, values_text};
 ghost use Rattle.bs_wave.specs.Wave.{value_at};
 ghost use Rattle.bs_wave.specs.WaveText.{id_of, same_value, value_code};
 
 use crate::head::push_id;
 use bs_bits::{NoMemory, end_line, push_piece};
-use bs_inspect_names::Signal;
+use bs_net_names::Signal;
 use bs_wave::Value;
 use std::alloc::Global;
 

@@ -4,7 +4,7 @@ use Rattle.std.specs.List.{flat_map, starts_with}
 use Rattle.bs_net.specs.Parts.{Parts}
 use Rattle.bs_scan.specs.declared.fault.ChoiceFault.{ChoiceFault}
 use Rattle.bs_scan.specs.declared.fault.ChoiceFault.TheVariants as choice
-use Rattle.bs_inspect_names.specs.Rtl.{rtl_name}
+use Rattle.bs_net_names.specs.Rtl.{rtl_name}
 use Rattle.bs_note_places.specs.Nearest.{AreNearest, key_at}
 use Rattle.bs_note_places.specs.Quotes.{shown_line}
 use Rattle.bs_note_files.specs.Notes.{Saying, saying, file_text, IsNoteOn}

@@ -3,7 +3,7 @@ ghost use Rattle.std.specs.Prelude.{◌≡◌, ◌≤◌, ◌<◌, ◌-◌, ◌+
 ghost use Rattle.std.specs.Bool.{MatchBool};
 ghost use Rattle.std.specs.List.{flat_map, starts_with};
 ghost use Rattle.bs_net.specs.Netlist.{parts_of};
-ghost use Rattle.bs_inspect_names.specs.Rtl.{rtl_name};
+ghost use Rattle.bs_net_names.specs.Rtl.{rtl_name};
 ghost use Rattle.bs_note_places.specs.Nearest.{AreNearest, IsNearest};
 ghost use Rattle.bs_note_places.specs.Quotes.{shown_line};
 ghost use Rattle.bs_note_files.specs.Flaws.{IsLineNote};

@@ -5,7 +5,7 @@ use Rattle.std.specs.List.Sorted.{IsStrictlyIncreasing}
 use Rattle.std.specs.Option.{option_map, unwrap_or}
 use Rattle.bs_net.specs.declared.net.NetId.{NetId}
 use Rattle.bs_net.specs.Parts.{Parts}
-use Rattle.bs_inspect_names.specs.Rtl.{rtl_name}
+use Rattle.bs_net_names.specs.Rtl.{rtl_name}
 use Rattle.bs_note_places.specs.declared.nearest.TheConstants.{NAMED}
 
 -- how many bytes two names have in common at their front

@@ -2,12 +2,12 @@
 ghost use Rattle.std.specs.Prelude.{◌≡◌, ◌≤◌, ◌<◌, ◌+◌, ◌++◌, length, reverse, IfOk, OnOk};
 ghost use Rattle.std.specs.Bool.{MatchBool};
 ghost use Rattle.bs_net.specs.Netlist.{parts_of};
-ghost use Rattle.bs_inspect_names.specs.Rtl.{rtl_name};
-ghost use Rattle.bs_inspect_names.specs.Signals.{range_text};
+ghost use Rattle.bs_net_names.specs.Rtl.{rtl_name};
+ghost use Rattle.bs_net_names.specs.Signals.{range_text};
 ghost use Rattle.bs_note_places.specs.Nearest.{apart, AreNearest, AreNearestBelow, common, flop_apart, IsFirstNearest, IsLeast, IsNearest, key_at, net_key};
 
 use bs_bits::NoMemory;
-use bs_inspect_names::{key_parts, plain, push_range};
+use bs_net_names::{key_parts, plain, push_range};
 use bs_net::{NetId, Raw};
 use std::alloc::Global;
 

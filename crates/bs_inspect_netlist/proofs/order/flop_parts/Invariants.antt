@@ -1,7 +1,7 @@
 use Rattle.std.proofs.Common.{◌≡◌, map, take}
 use Rattle.bs_net.specs.Netlist.{parts_of}
 use Rattle.bs_net.specs.Parts.{key_at}
-use Rattle.bs_inspect_names.specs.Keys.{key_parts, parts_in}
+use Rattle.bs_net_names.specs.Keys.{key_parts, parts_in}
 use Rattle.bs_inspect_netlist.proofs.order.flop_parts.Given as goal
 
 abbrev pub invariant-flops : goal.invariant-flops

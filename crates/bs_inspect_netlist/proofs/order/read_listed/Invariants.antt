@@ -1,6 +1,6 @@
 use Rattle.std.proofs.Common.{◌≡◌, [], map, length}
 use Rattle.bs_bits.specs.Lines.{lines_of}
-use Rattle.bs_inspect_names.specs.Keys.{parts_in}
+use Rattle.bs_net_names.specs.Keys.{parts_in}
 use Rattle.bs_inspect_netlist.specs.Order.{listed_from}
 use Rattle.bs_inspect_netlist.proofs.order.read_listed.Given as goal
 

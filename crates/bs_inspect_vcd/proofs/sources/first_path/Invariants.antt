@@ -1,5 +1,5 @@
 use Rattle.std.proofs.Common.{◌≡◌, map, drop}
-use Rattle.bs_inspect_names.specs.Keys.{parts_in}
+use Rattle.bs_net_names.specs.Keys.{parts_in}
 use Rattle.bs_inspect_vcd.specs.Header.{variable_in}
 use Rattle.bs_inspect_vcd.specs.Sources.{first_path}
 use Rattle.bs_inspect_vcd.proofs.sources.first_path.Given as goal

@@ -1,5 +1,5 @@
 use Rattle.std.proofs.Common.{sym, ap, ◌∙◌}
-use Rattle.bs_inspect_names.specs.Splits.{halves_in}
+use Rattle.bs_net_names.specs.Splits.{halves_in}
 use Rattle.bs_inspect_view.proofs.ScopeLemmas.{part_last}
 use Rattle.bs_inspect_view.proofs.scopes.push_parts.Goals as goal
 
