@@ -11,8 +11,8 @@ use crate::bits::key_at;
 use crate::mark::Measure;
 use crate::marking::marks;
 use bs_bits::{NoMemory, end_line, push_piece};
-use bs_net_names::{KeyParts, is_named, key_parts};
 use bs_net::{Flop, Netlist, Raw};
+use bs_net_names::{KeyParts, is_named, key_parts};
 use std::alloc::Global;
 
 /// What the key of a net says.

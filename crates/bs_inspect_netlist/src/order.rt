@@ -12,8 +12,8 @@ ghost use Rattle.bs_inspect_netlist.specs.Order.{first_unlisted, flop_named, flo
 use crate::bits::key_at;
 use crate::fault::OrderFault;
 use bs_bits::{NoMemory, is_name, next_line};
-use bs_net_names::{KeyParts, key_parts, same_name};
 use bs_net::{Netlist, Raw};
+use bs_net_names::{KeyParts, key_parts, same_name};
 use std::alloc::Global;
 
 /// What the keys of the flip-flops say.

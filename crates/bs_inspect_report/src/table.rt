@@ -12,8 +12,8 @@ use crate::named::Signals;
 use crate::signal::push_signal_value;
 use crate::trace::trace_signals;
 use bs_bits::{Bits, NoMemory, end_line, push_number, push_piece};
-use bs_net_names::{Signal, push_rtl_name};
 use bs_net::Netlist;
+use bs_net_names::{Signal, push_rtl_name};
 use bs_report::{HitLine, Report, Step};
 use std::alloc::Global;
 

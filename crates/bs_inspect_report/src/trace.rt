@@ -9,8 +9,8 @@ use crate::keys::{flop_keys, input_keys};
 use crate::moment::push_cycle;
 use crate::named::Signals;
 use bs_bits::NoMemory;
-use bs_net_names::{Signal, signals};
 use bs_net::Netlist;
+use bs_net_names::{Signal, signals};
 use bs_report::Report;
 use std::alloc::Global;
 

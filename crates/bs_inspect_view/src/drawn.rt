@@ -9,8 +9,8 @@ use crate::asked::Asked;
 use crate::nets::net_signals;
 use crate::scopes::leaf_of;
 use bs_bits::NoMemory;
-use bs_net_names::{Signal, first_split, plain};
 use bs_net::Netlist;
+use bs_net_names::{Signal, first_split, plain};
 use std::alloc::Global;
 
 /// Whether all bytes are digits.

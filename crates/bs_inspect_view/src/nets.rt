@@ -4,8 +4,8 @@ ghost use Rattle.bs_net_names.specs.Signals.{AreSignals, signal_in};
 ghost use Rattle.bs_net.specs.Netlist.{parts_of};
 
 use bs_bits::NoMemory;
-use bs_net_names::{Signal, signals};
 use bs_net::{NetId, Netlist, Raw};
+use bs_net_names::{Signal, signals};
 use std::alloc::Global;
 
 /// The keys of the nets of a netlist's parts.

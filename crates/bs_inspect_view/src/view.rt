@@ -11,8 +11,8 @@ use crate::drawn::drawn_signals;
 use crate::head::push_head;
 use crate::moment::push_moments;
 use bs_bits::{Bits, List, NoMemory};
-use bs_net_names::Signal;
 use bs_net::Netlist;
+use bs_net_names::Signal;
 use bs_wave::{Value, Wave};
 use std::alloc::Global;
 

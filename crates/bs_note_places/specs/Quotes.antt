@@ -1,6 +1,6 @@
 -- A line as it is shown, and the caret under a place of it.
 use Rattle.std.specs.Prelude.{ℕ, ◌+◌, ◌-◌, ◌/◌, ◌%◌, List, [], ◌∷◌, ◌++◌, length, replicate, take, min, nat_le, nat_lt, Bool, ◌&&◌, if◌then◌else◌, flat_map}
-use Rattle.bs_note_places.specs.declared.quote.TheConstants.{SHOWN}
+use Rattle.bs_note_places.specs.declared.quoted_line.TheConstants.{SHOWN}
 
 -- a digit of a number to the base 16
 abbrev pub digit : ℕ → ℕ

@@ -7,8 +7,8 @@ ghost use Rattle.bs_net_names.specs.Signals.{range_text};
 ghost use Rattle.bs_note_places.specs.Nearest.{apart, AreNearest, AreNearestBelow, common, flop_apart, IsFirstNearest, IsLeast, IsNearest, key_at, net_key};
 
 use bs_bits::NoMemory;
-use bs_net_names::{key_parts, plain, push_range};
 use bs_net::{NetId, Raw};
+use bs_net_names::{key_parts, plain, push_range};
 use std::alloc::Global;
 
 /// How many keys are named at most.

@@ -1,6 +1,6 @@
 use Rattle.std.proofs.Common.{◌≡◌, ℕ, ◌<◌, ◌+◌}
 use Rattle.bs_note_places.specs.Spots.{feeds_before}
-use Rattle.bs_note_places.proofs.line.line_start.Given as goal
+use Rattle.bs_note_places.proofs.starts.line_start.Given as goal
 
 abbrev pub invariant-bytes : goal.invariant-bytes
 invariant-bytes l = record {
