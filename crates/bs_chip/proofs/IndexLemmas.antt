@@ -1,9 +1,9 @@
 -- Prints of states, notes of them, and where a look may begin.
-use Rattle.std.proofs.Common.{◌≡◌, ℕ, ◌<◌, ◌≤◌, ◌+◌, ◌-◌, ◌*◌, ◌/◌, ◌%◌, Bool, true, false, List, [], ◌∷◌, ◌++◌, length, map, take, get_or, refl}
-use Rattle.std.proofs.Common.{arith, ap, ap₂, sym, subst, ◌∙◌, ⊎_elim, Option, Some, None, min, cond, suc, inl, inr, ◌||◌}
-use Rattle.std.proofs.Math.Nat.{mul-suc}
+use Rattle.std.proofs.Common.{◌≡◌, ℕ, ◌<◌, ◌≤◌, ◌+◌, ◌-◌, ◌*◌, ◌/◌, ◌%◌, ◌^◌, Bool, true, false, List, [], ◌∷◌, ◌++◌, length, map, take, get_or, refl}
+use Rattle.std.proofs.Common.{arith, ap, ap₂, sym, subst, ◌∙◌, ⊎_elim, Option, Some, None, min, cond, suc, inl, inr, ◌||◌, ◌⊎◌}
+use Rattle.std.proofs.Math.Nat.{mul-suc, mul_assoc, add-mul, div-mul-le_self, div-eq_of_lt, lt-div-mul-add}
 use Rattle.std.specs.Prelude.{nat_eq, All}
-use Rattle.std.specs.HashMap.{get, HashMap}
+use Rattle.std.specs.HashMap.{get, hash_map_len, HashMap}
 use Rattle.std.specs.Map.{lookup}
 use Rattle.std.specs.Option.{unwrap_or}
 use Rattle.std.proofs.lemmas.Bool.{cases_eq, cases_lt}
@@ -20,6 +20,7 @@ use Rattle.bs_lanes_planes.specs.Planes.{lane, bit_place}
 use Rattle.bs_scan.specs.Moments.{Run, run_of, state_at}
 use Rattle.bs_scan.proofs.SignatureLemmas.{bits_same_is}
 use Rattle.bs_chip.specs.Index.{HasBy, Keeps, NotesLanes, NotesCycle, NotesCycles, HasNoneBefore, IsNoted, IsPaid, is_cycle}
+use Rattle.bs_chip.specs.Index.{AddsLanes, AddsPrint, IsAdded, IsFirstPrinted, NotesFirsts}
 use Rattle.bs_chip.specs.Lockstep.{wide_of, ShowsCycle, NoneBefore}
 use Rattle.bs_chip.specs.Prints.{print_more, print_of}
 use Rattle.bs_chip.proofs.LaneLemmas.{place_of}
@@ -51,6 +52,10 @@ same_number a b e = ⊎_elim (λ (same : a ≡ b). same) (λ (other : a ≡ b �
 sooner : (o : Option ℕ) (cycle k : ℕ) → cycle < unwrap_or o (cycle + 1) → unwrap_or o (k + 1) ≤ k → cycle ≤ k
 sooner None cycle k late h = absurd (omega (arith, h))
 sooner (Some c) cycle k late h = omega (arith, late, h)
+
+later : (o : Option ℕ) (k cycle : ℕ) → k < cycle → unwrap_or o (k + 1) ≤ k → unwrap_or o (cycle + 1) ≤ cycle
+later None k cycle lt h = absurd (omega (arith, h))
+later (Some c) k cycle lt h = omega (arith, h, lt)
 
 before_all : (o : Option ℕ) (from k : ℕ) → k < min from (unwrap_or o from) → unwrap_or o (k + 1) ≤ k → ⊥
 before_all None from k lt h = omega (arith, h)
@@ -134,6 +139,104 @@ module _ {S : Type 0} where
             let Q : List Bool → Type 0 = λ s. HasBy first (print_of s) cycle in
             subst Q (shows.each r from there last) (subst P w (h.each r from there last));
       }
+
+  -- ---- what has come
+
+  pub adds_none : (old : HashMap ℕ ℕ S) (print cycle : ℕ) → AddsPrint old old print cycle
+  adds_none old print cycle = record { each = λ other at e. inl e }
+
+  pub adds_unchanged : (old new : HashMap ℕ ℕ S) (print cycle : ℕ) → new.entries ≡ old.entries → AddsPrint old new print cycle
+  adds_unchanged old new print cycle same =
+      record { each = λ other at e. inl (ap (λ (es : List (ℕ × ℕ)). lookup (nat_eq other) es) (sym same) ∙ e) }
+
+  pub adds_put : (old new : HashMap ℕ ℕ S) (print cycle : ℕ) → cycle < unwrap_or (get nat_eq old print) (cycle + 1) →
+      ((q : ℕ) → get nat_eq new q ≡ cond (nat_eq print q) (Some cycle) (get nat_eq old q)) → AddsPrint old new print cycle
+  adds_put old new print cycle late puts = record { each = λ other at e. by other at (nat_eq print other) refl (sym (puts other) ∙ e) }
+    where
+      by : (other at : ℕ) (b : Bool) → nat_eq print other ≡ b → cond {A = Option ℕ} b (Some cycle) (get nat_eq old other) ≡ Some at →
+          (get nat_eq old other ≡ Some at) ⊎ ((other ≡ print) × (at ≡ cycle) × (HasBy old print cycle → ⊥))
+      by other at true e is =
+          let same : cycle ≡ at = cc in
+          inr (sym (same_number print other e), sym same, λ (has : HasBy old print cycle). omega (arith, has, late))
+      by other at false e is = inl is
+
+  pub added_none : (runs : List Run) (old : HashMap ℕ ℕ S) (planes : List ℕ) (width cycle : ℕ) → AddsLanes runs old old planes width cycle 0
+  added_none runs old planes width cycle = record { each = λ print at e. inl e }
+
+  pub added_wider : (runs : List Run) (old new : HashMap ℕ ℕ S) (planes : List ℕ) (width cycle below more : ℕ) → below ≤ more →
+      AddsLanes runs old new planes width cycle below → AddsLanes runs old new planes width cycle more
+  added_wider runs old new planes width cycle below more le h =
+      record {
+        each = λ print at e.
+            ⊎_elim (λ (was : get nat_eq old print ≡ Some at). inl was)
+            (λ (a : IsAdded runs old planes width cycle below print at).
+            inr
+            (record {
+              here = a.here;
+              late = a.late;
+              run = a.run;
+              from_one = a.from_one;
+              recorded = omega (arith, a.recorded, le);
+              lasts = a.lasts;
+              is = a.is;
+            }))
+            (h.each print at e);
+      }
+
+  pub added_more : (runs : List Run) (old mid new : HashMap ℕ ℕ S) (planes : List ℕ) (width cycle lanes wide mark : ℕ) → wide ≡ wide_of (length runs) →
+      mark ≡ print_of (lane wide width planes lanes) → cycle ≤ length (run_of runs (lanes + 1)) → Keeps old mid →
+      AddsLanes runs old mid planes width cycle lanes → AddsPrint mid new mark cycle → AddsLanes runs old new planes width cycle (lanes + 1)
+  added_more runs old mid new planes width cycle lanes wide mark w p last keeps h adds =
+      let wider = added_wider runs old mid planes width cycle lanes (lanes + 1) (omega arith) h in
+      let back : lanes + 1 - 1 ≡ lanes = omega arith in
+      let shown : print_of (lane (wide_of (length runs)) width planes (lanes + 1 - 1)) ≡ mark =
+      ap₂ (λ (a b : ℕ). print_of (lane a width planes b)) (sym w) back ∙ sym p in
+      record {
+        each = λ print at e.
+            ⊎_elim (λ (was : get nat_eq mid print ≡ Some at). wider.each print at was)
+            (λ (a : (print ≡ mark) × (at ≡ cycle) × (HasBy mid mark cycle → ⊥)).
+            inr
+            (record {
+              here = a.1;
+              late = λ has. a.2 (keeps.each mark cycle (subst (λ (q : ℕ). HasBy old q cycle) a.0 has));
+              run = lanes + 1;
+              from_one = omega arith;
+              recorded = omega arith;
+              lasts = last;
+              is = shown ∙ sym a.0;
+            }))
+            (adds.each print at e);
+      }
+
+  -- what comes at a cycle is first there, where all cycles before are noted
+  pub firsts_more : (c : Circuit) (runs : List Run) (old new : HashMap ℕ ℕ S) (planes : List ℕ) (width cycle : ℕ) → width ≡ length c.flops →
+      ShowsCycle c runs planes cycle → NotesCycles c runs old cycle → NotesFirsts c runs old →
+      AddsLanes runs old new planes width cycle (length runs) → NotesFirsts c runs new
+  firsts_more c runs old new planes width cycle w shows notes firsts adds =
+      record {
+        each = λ print at e.
+            ⊎_elim (λ (was : get nat_eq old print ≡ Some at). firsts.each print at was)
+            (λ (a : IsAdded runs old planes width cycle (length runs) print at).
+            let state : lane (wide_of (length runs)) width planes (a.run - 1) ≡ state_at c (run_of runs a.run) cycle =
+            ap (λ (n : ℕ). lane (wide_of (length runs)) n planes (a.run - 1)) w ∙ shows.each a.run a.from_one a.recorded a.lasts in
+            let first : IsFirstPrinted c runs print cycle =
+            record {
+              there = record { run = a.run; from_one = a.from_one; recorded = a.recorded; lasts = a.lasts; is = sym (ap print_of state) ∙ a.is };
+              before = λ k lt printed.
+                  let has : HasBy old print k =
+                  subst (λ (q : ℕ). HasBy old q k) printed.is ((notes.each k lt).each printed.run printed.from_one printed.recorded printed.lasts) in
+                  a.late (later (get nat_eq old print) k cycle lt has);
+            } in
+            subst (λ (k : ℕ). IsFirstPrinted c runs print k) (sym a.here) first)
+            (adds.each print at e);
+      }
+
+  pub firsts_none : (c : Circuit) (runs : List Run) (first : HashMap ℕ ℕ S) → hash_map_len first ≡ 0 → NotesFirsts c runs first
+  firsts_none c runs first none = record { each = λ print cycle e. by print cycle first.entries none e }
+    where
+      by : (print cycle : ℕ) (es : List (ℕ × ℕ)) → length es ≡ 0 → lookup (nat_eq print) es ≡ Some cycle → IsFirstPrinted c runs print cycle
+      by print cycle [] l e = absurd cc
+      by print cycle (x ∷ es) l e = absurd (omega (arith, l))
 
   -- ---- cycles
 
@@ -268,3 +371,44 @@ pub paid_more : (price credit left from to : ℕ) → price ≤ left → IsPaid 
 paid_more price credit left from to le p =
     let more : price * (to + 1 - from) ≡ price * (to - from) + price = ap (λ n. price * n) (after_one from to p.grown) ∙ mul-suc price (to - from) in
     record { grown = omega (arith, p.grown); paid = omega (arith, le, more, p.paid) }
+
+-- ---- how many cycles are kept
+
+product : (q w : ℕ) → q * (w * 8) ≡ q * w * 8
+product q w = sym (mul_assoc q w 8)
+
+one_more_product : (q w : ℕ) → (q + 1) * (w * 8) ≡ (q * w + w) * 8
+one_more_product q w =
+    let a : (q + 1) * (w * 8) ≡ q * (w * 8) + 1 * (w * 8) = add-mul q 1 (w * 8) in
+    let b : (q * w + w) * 8 ≡ q * w * 8 + w * 8 = add-mul (q * w) w 8 in
+    omega (arith, a, b, product q w)
+
+pub cycles_fit : (bytes words room : ℕ) → bytes < 2 ^ 64 → room ≡ min (words + 8) (2 ^ 64 - 1) → bytes / 8 / room * ((words + 8) * 8) ≤ bytes
+cycles_fit bytes words room small is =
+    ⊎_elim
+    (λ (lt : words + 8 < 2 ^ 64).
+    let same : room ≡ words + 8 = omega (arith, is, lt) in
+    let whole : bytes / 8 / room * (words + 8) ≤ bytes / 8 =
+    subst (λ (n : ℕ). bytes / 8 / room * n ≤ bytes / 8) same (div-mul-le_self (bytes / 8) room) in
+    let e : bytes / 8 / room * ((words + 8) * 8) ≡ bytes / 8 / room * (words + 8) * 8 = product (bytes / 8 / room) (words + 8) in
+    omega (arith, whole, e))
+    (λ (ge : 2 ^ 64 ≤ words + 8).
+    let none : bytes / 8 / room ≡ 0 = div-eq_of_lt (let lt : bytes / 8 < room = omega (arith, is, ge, small) in lt) in
+    let e : bytes / 8 / room * ((words + 8) * 8) ≡ 0 * ((words + 8) * 8) = ap (λ (n : ℕ). n * ((words + 8) * 8)) none in
+    omega (arith, e))
+    (cases_lt (words + 8) (2 ^ 64))
+
+pub cycles_most : (bytes words room : ℕ) → bytes < 2 ^ 64 → room ≡ min (words + 8) (2 ^ 64 - 1) → bytes < (bytes / 8 / room + 1) * ((words + 8) * 8)
+cycles_most bytes words room small is =
+    ⊎_elim
+    (λ (lt : words + 8 < 2 ^ 64).
+    let same : room ≡ words + 8 = omega (arith, is, lt) in
+    let whole : bytes / 8 < bytes / 8 / room * (words + 8) + (words + 8) =
+    subst (λ (n : ℕ). bytes / 8 < bytes / 8 / room * n + n) same (lt-div-mul-add (let some : 0 < room = omega (arith, same) in some)) in
+    let e : (bytes / 8 / room + 1) * ((words + 8) * 8) ≡ (bytes / 8 / room * (words + 8) + (words + 8)) * 8 = one_more_product (bytes / 8 / room) (words + 8) in
+    omega (arith, whole, e))
+    (λ (ge : 2 ^ 64 ≤ words + 8).
+    let none : bytes / 8 / room ≡ 0 = div-eq_of_lt (let lt : bytes / 8 < room = omega (arith, is, ge, small) in lt) in
+    let e : (bytes / 8 / room + 1) * ((words + 8) * 8) ≡ (0 + 1) * ((words + 8) * 8) = ap (λ (n : ℕ). (n + 1) * ((words + 8) * 8)) none in
+    omega (arith, e, ge, small))
+    (cases_lt (words + 8) (2 ^ 64))

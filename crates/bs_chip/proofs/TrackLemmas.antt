@@ -14,7 +14,8 @@ use Rattle.bs_scan.specs.Signature.{signature, signatures_before, stored_at}
 use Rattle.bs_scan.proofs.CrashLemmas.{few_before}
 use Rattle.bs_chip.specs.declared.index.Index.{Index}
 use Rattle.bs_chip.specs.Chip.{IsChip}
-use Rattle.bs_chip.proofs.IndexLemmas.{cycles_none}
+use Rattle.std.specs.HashMap.{hash_map_len}
+use Rattle.bs_chip.proofs.IndexLemmas.{cycles_none, firsts_none}
 use Rattle.bs_chip.specs.Lockstep.{Passing, ShowsCycle, TrackShows, Extends, IsFirstIn, IsLongest, IsLowest, NoneAmong, NoneBefore, NoneReached}
 
 pub ok_weaker : {A E : Type 0} (P Q : A → Type 0) (r : Result A E) → ((a : A) → P a → Q a) → IfOk r P → IfOk r Q
@@ -169,8 +170,9 @@ filled_all c choice run first cycle k r e same f =
 
 -- a new chip stands at reset and keeps that cycle
 pub new_chip : (made : Recording) (choice : Chosen) (p : Passing) (track : List (List ℕ)) (index : Index) → IsRecording made → choice ≡ made.choice →
-    p.circuit ≡ made.circuit → p.runs ≡ made.runs → TrackShows made.circuit made.runs track → index.cycles ≡ 0 → IsChip made choice p track index
-new_chip made choice p track index recording is e f shows none =
+    p.circuit ≡ made.circuit → p.runs ≡ made.runs → TrackShows made.circuit made.runs track → index.cycles ≡ 0 →
+    hash_map_len index.first ≡ 0 → IsChip made choice p track index
+new_chip made choice p track index recording is e f shows none empty =
     record {
       recording = recording;
       choice_is = is;
@@ -178,4 +180,6 @@ new_chip made choice p track index recording is e f shows none =
       runs = f;
       shows = shows;
       notes = cycles_none made.circuit made.runs index.first index.cycles none;
+      firsts = firsts_none made.circuit made.runs index.first empty;
+      bound = omega (arith, empty);
     }

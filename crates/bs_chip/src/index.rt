@@ -1,8 +1,8 @@
 //! The index of states: a cycle before which no run is in a listed state, by the prints of the states of the first
 //! cycles. It only says where a look may begin; whether a state is listed is for the bank to say.
-ghost use Rattle.std.specs.Prelude.{◌≡◌, ◌≤◌, length, All, OnOk};
+ghost use Rattle.std.specs.Prelude.{◌≡◌, ◌≤◌, ◌+◌, ◌-◌, ◌^◌, length, min, All, OnOk};
 ghost use Rattle.std.specs.HashMap.{hash_map_len};
-ghost use Rattle.bs_chip.specs.Index.{HasNoneBefore, IsNoted, IsPaid, IsSpent, NotesCycles, price_of};
+ghost use Rattle.bs_chip.specs.Index.{looks, price_of, HasNoneBefore, IsNoted, IsPaid, IsSpent, NotesCycles, NotesFirsts};
 ghost use Rattle.bs_chip.specs.Lockstep.{TrackShows};
 ghost use Rattle.bs_chip.specs.Prints.{print_of};
 
@@ -10,11 +10,11 @@ use crate::notes::cycle_of;
 use crate::pass::Pass;
 use crate::prints::print_of;
 use bs_bits::{List, NoMemory};
-use bs_scan::HasState;
+use bs_scan::{HasState, Moment};
 use std::alloc::Global;
 use std::collections::HashMap;
 
-/// How many prints an index has when it takes no more cycles.
+/// How many prints an index has when it takes no more cycles. It never has more than this many and one a run.
 pub const MAX_PRINTS: usize = 2_097_152;
 
 /// For each print of a state of the first so many cycles, the first of these cycles at which a state has it.
@@ -27,7 +27,8 @@ pub struct Index {
 impl Index {
     /// An index of no cycles.
     pub fn new(alloc: Global) -> Index
-        ensures { result.cycles ≡ 0 }
+        ensures cycles { result.cycles ≡ 0 }
+        ensures none { hash_map_len result.first ≡ 0 }
     {
         Index {
             first: HashMap::new(alloc),
@@ -63,8 +64,12 @@ pub fn grow(
     requires width { width ≡ length pass.now.circuit.flops }
     requires shows { TrackShows pass.now.circuit pass.now.runs track.now }
     requires notes { NotesCycles pass.now.circuit pass.now.runs index.old.first index.old.cycles }
+    requires firsts { NotesFirsts pass.now.circuit pass.now.runs index.old.first }
+    requires bound { hash_map_len index.old.first ≤ MAX_PRINTS + length pass.now.runs }
     ensures notes { NotesCycles pass.now.circuit pass.now.runs index.new.first index.new.cycles }
-    ensures paid { OnOk result (IsPaid (price_of width (length pass.now.runs)) credit.old credit.new index.old.cycles index.new.cycles) }
+    ensures firsts { NotesFirsts pass.now.circuit pass.now.runs index.new.first }
+    ensures bound { hash_map_len index.new.first ≤ MAX_PRINTS + length pass.now.runs }
+    ensures paid { IsPaid (price_of width (length pass.now.runs)) credit.old credit.new index.old.cycles index.new.cycles }
     ensures spent { OnOk result (IsSpent (price_of width (length pass.now.runs)) credit.new (length track.now) index.new.cycles (hash_map_len index.new.first)) }
 {
     let price = pass.price(width);
@@ -72,9 +77,28 @@ pub fn grow(
         if *credit < price || index.first.len() >= MAX_PRINTS {
             return Ok(());
         }
-        *credit -= price;
         pass.note(&mut index.first, track.get(at).slice(), width, at as u32)?;
+        *credit -= price;
         index.cycles = at as u32 + 1;
     }
     Ok(())
+}
+
+/// How many kept cycles, from one on, were looked at: all of them, or those up to the moment that was found.
+fn looks(from: usize, kept: usize, found: Option<Moment>) -> usize
+    requires { from ≤ kept }
+    ensures { result ≡ looks from kept found }
+{
+    match found {
+        None => kept - from,
+        Some(moment) => kept.min(moment.cycle as usize + 1).saturating_sub(from),
+    }
+}
+
+/// A credit after a look: more by the number of kept cycles that were looked at, as far as it can be more.
+pub fn credited(credit: u64, from: usize, kept: usize, found: Option<Moment>) -> u64
+    requires { from ≤ kept }
+    ensures { result ≡ min (credit + looks from kept found) (2 ^ 64 - 1) }
+{
+    credit.saturating_add(looks(from, kept, found) as u64)
 }

@@ -1,10 +1,10 @@
 //! Notes of the prints of states: for each print, the first cycle at which a state has it.
 ghost use Rattle.std.specs.Prelude.{◌≡◌, ◌<◌, ◌≤◌, ◌+◌, ◌*◌, length, nat_eq, OnOk};
-ghost use Rattle.std.specs.HashMap.{get};
+ghost use Rattle.std.specs.HashMap.{get, hash_map_len};
 ghost use Rattle.std.specs.Option.{unwrap_or};
 ghost use Rattle.bs_stim.specs.declared.limits.TheConstants.{MAX_CYCLES};
 ghost use Rattle.bs_stim.specs.Runs.{inputs_of};
-ghost use Rattle.bs_chip.specs.Index.{HasBy, Keeps, NotesLanes};
+ghost use Rattle.bs_chip.specs.Index.{AddsLanes, AddsPrint, HasBy, Keeps, NotesLanes};
 ghost use Rattle.bs_chip.specs.Lockstep.{wide_of};
 
 use crate::lanes::wide_for;
@@ -26,6 +26,8 @@ fn note(first: &mut HashMap<u64, u32>, print: u64, cycle: u32) -> Result<(), NoM
     requires { cycle ≤ MAX_CYCLES }
     ensures keeps { Keeps first.old first.new }
     ensures notes { OnOk result (HasBy first.new print cycle) }
+    ensures adds { AddsPrint first.old first.new print cycle }
+    ensures few { hash_map_len first.new ≤ hash_map_len first.old + 1 }
 {
     if cycle_of(first, print, cycle + 1) <= cycle {
         return Ok(());
@@ -46,6 +48,8 @@ pub fn note_lanes(
     requires size { length planes.now ≡ width * wide_of (length (inputs_of runs.now)) }
     ensures keeps { Keeps first.old first.new }
     ensures notes { OnOk result (NotesLanes (inputs_of runs.now) first.new planes.now width cycle (length (inputs_of runs.now))) }
+    ensures adds { AddsLanes (inputs_of runs.now) first.old first.new planes.now width cycle (length (inputs_of runs.now)) }
+    ensures few { hash_map_len first.new ≤ hash_map_len first.old + length (inputs_of runs.now) }
 {
     let wide = wide_for(runs);
     'lanes: for lane in 0..runs.count() {

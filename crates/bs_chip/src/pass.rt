@@ -3,7 +3,8 @@ ghost use Rattle.std.specs.Prelude.{◌≡◌, ◌<◌, ◌≤◌, ◌*◌, ◌+
 ghost use Rattle.bs_net.specs.Netlist.{circuit};
 ghost use Rattle.bs_scan.specs.Crash.{Recording};
 ghost use Rattle.bs_stim.specs.Runs.{inputs_of};
-ghost use Rattle.bs_chip.specs.Index.{Keeps, NotesCycle, price_of};
+ghost use Rattle.std.specs.HashMap.{hash_map_len};
+ghost use Rattle.bs_chip.specs.Index.{Keeps, NotesCycle, NotesCycles, NotesFirsts, price_of};
 ghost use Rattle.bs_lanes.specs.Lanes.{is_wide};
 ghost use Rattle.bs_scan.specs.Moments.{run_of};
 ghost use Rattle.bs_chip.specs.Lockstep.{wide_of, IsLongest, IsLowest, IsSamePass, NoneAmong, ShowsCycle, ShowsPass};
@@ -143,14 +144,14 @@ impl<'a> Pass<'a> {
     }
 
     /// How many looks at a cycle cost about as much as noting one does, where a state has so many bits.
-    pub fn price(&self, width: usize) -> u64
+    pub(crate) fn price(&self, width: usize) -> u64
         ensures { result ≡ price_of width (length self.now.runs) }
     {
         (width as u64 / 8 + 2).saturating_mul(u64::from(self.runs.count()))
     }
 
     /// Notes the prints of the states that planes show at a cycle.
-    pub fn note(
+    pub(crate) fn note(
         &self,
         first: &mut HashMap<u64, u32>,
         planes: &[u64],
@@ -160,8 +161,12 @@ impl<'a> Pass<'a> {
         requires few { cycle ≤ MAX_CYCLES }
         requires width { width ≡ length self.now.circuit.flops }
         requires shows { ShowsCycle self.now.circuit self.now.runs planes.now cycle }
+        requires notes { NotesCycles self.now.circuit self.now.runs first.old cycle }
+        requires firsts { NotesFirsts self.now.circuit self.now.runs first.old }
         ensures keeps { Keeps first.old first.new }
         ensures notes { OnOk result (NotesCycle self.now.circuit self.now.runs first.new cycle) }
+        ensures firsts { NotesFirsts self.now.circuit self.now.runs first.new }
+        ensures few { hash_map_len first.new ≤ hash_map_len first.old + length self.now.runs }
     {
         note_lanes(first, self.runs, planes, width, cycle)
     }
@@ -189,7 +194,7 @@ impl<'a> Pass<'a> {
     }
 
     /// The lowest run that lasts to a cycle and is in a listed state there. The planes show the cycle.
-    pub fn lowest_in<S: HasState>(
+    pub(crate) fn lowest_in<S: HasState>(
         &mut self,
         bank: &Bank<'_, S>,
         planes: &[u64],
@@ -205,7 +210,7 @@ impl<'a> Pass<'a> {
     }
 
     /// The lowest run that lasts to the cycle and is in a listed state.
-    pub fn lowest<S: HasState>(&mut self, bank: &Bank<'_, S>) -> Option<u32>
+    pub(crate) fn lowest<S: HasState>(&mut self, bank: &Bank<'_, S>) -> Option<u32>
         requires width { bank.now.width ≡ length self.old.circuit.flops }
         ensures lowest { MatchOption result (NoneAmong self.old.circuit self.old.runs bank.now.states self.old.cycle 0 (length self.old.runs)) (IsLowest self.old.circuit self.old.runs bank.now.states self.old.cycle 0) }
         ensures kept { self.new ≡ self.old }

@@ -1,5 +1,5 @@
 //! The chip, which replays recorded runs.
-ghost use Rattle.std.specs.Prelude.{◌≡◌, ◌+◌, [], length, map, option_map, slice_get, slice_index_or, All, IfOk, IfSome};
+ghost use Rattle.std.specs.Prelude.{◌≡◌, ◌<◌, ◌≤◌, ◌+◌, ◌*◌, [], length, map, option_map, slice_get, slice_index_or, All, IfOk, IfSome};
 ghost use Rattle.bs_net.specs.Netlist.{circuit};
 ghost use Rattle.bs_scan.specs.Crash.{dump_at, recording_of, IsRecording};
 ghost use Rattle.bs_scan.specs.Moments.{first_moment as first_moment_of, moment, run_of, state_of, IsMoment};
@@ -8,7 +8,7 @@ ghost use Rattle.bs_chip.specs.Lockstep.{TrackShows};
 ghost use Rattle.bs_chip.specs.Replay.{dump_holding, in_state};
 ghost use Rattle.bs_chip.specs.Stepped.{StandsAt};
 
-use crate::index::{Index, grow, start};
+use crate::index::{Index, credited, grow, start};
 use crate::moments::{replay, unload};
 use crate::pass::Pass;
 use crate::player::Player;
@@ -106,9 +106,38 @@ fn dump_of(alloc: Global, state: &Bits, register: &SigReg<'_>) -> Result<Dump, N
     })
 }
 
-/// How many cycles may be kept of so many words each.
-fn cycles_within(bytes: usize, words: usize) -> usize {
+/// How many cycles may be kept in so many bytes, each of so many words and eight more.
+fn cycles_within(bytes: usize, words: usize) -> usize
+    ensures fit { result * ((words + 8) * 8) ≤ bytes }
+    ensures most { bytes < (result + 1) * ((words + 8) * 8) }
+{
     bytes / 8 / words.saturating_add(8)
+}
+
+/// A chip of a player and a register, where the planes of the cycles that are kept take at most so many bytes.
+fn equipped<'a>(
+    alloc: Global,
+    player: Player<'a>,
+    choice: &'a Choice,
+    register: SigReg<'a>,
+    bytes: usize,
+) -> Result<Chip<'a>, NoMemory>
+    requires choice { choice.now ≡ register.choice }
+    requires recording { IsRecording (record { circuit = player.circuit; choice = register.choice; runs = player.runs }) }
+    ensures { IfOk result (λ chip. chip.recording ≡ record { circuit = player.entry.circuit; choice = register.entry.choice; runs = player.entry.runs }) }
+{
+    let started = at_reset(alloc, player.net(), player.runs())?;
+    let most = cycles_within(bytes, started.pass.planes().len());
+    Ok(Chip {
+        player,
+        choice,
+        register,
+        pass: started.pass,
+        track: started.track,
+        most,
+        index: Index::new(alloc),
+        credit: 0,
+    })
 }
 
 impl<'a> Chip<'a> {
@@ -142,20 +171,10 @@ impl<'a> Chip<'a> {
         let _order = net.order();
         let _depth = choice.depth();
         let _count = runs.count();
-        let player = Player::new(alloc, net, runs)?;
         let register = SigReg::new(alloc, choice)?;
-        let started = at_reset(alloc, net, runs)?;
-        let most = cycles_within(bytes, started.pass.planes().len());
-        Ok(Chip {
-            player,
-            choice,
-            register,
-            pass: started.pass,
-            track: started.track,
-            most,
-            index: Index::new(alloc),
-            credit: 0,
-        })
+        let player = Player::new(alloc, net, runs)?;
+        let chip = equipped(alloc, player, choice, register, bytes)?;
+        Ok(chip)
     }
 
     /// The recording has its widths, and its netlist has passed the check.
@@ -223,17 +242,19 @@ impl<'a> Chip<'a> {
             width,
             &mut self.credit,
         )?;
-        let from = start(&self.index, list).min(self.track.len());
-        self.credit = self.credit.saturating_add((self.track.len() - from) as u64);
+        let kept = self.track.len();
+        let from = start(&self.index, list).min(kept);
         let bank = Bank::load(alloc, list, width)?;
-        first_moment(
+        let found = first_moment(
             alloc,
             &mut self.pass,
             &bank,
             &mut self.track,
             self.most,
             from,
-        )
+        )?;
+        self.credit = credited(self.credit, from, kept, found);
+        Ok(found)
     }
 
     /// The signatures of the recorded states.

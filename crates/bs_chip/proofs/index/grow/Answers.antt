@@ -13,6 +13,8 @@ cycles-preserved c =
     let p = c.args.pass.now in
     record {
       at = refl;
+      firsts = c.in_ok-note.ensures.firsts;
+      bound = omega arith;
       notes =
           cycles_more p.circuit p.runs c.cycles.index.first c.note.new.first c.cycles.at c.in_ok-note.ensures.keeps c.in_ok-note.ensures.notes
           (subst (λ (n : ℕ). NotesCycles p.circuit p.runs c.cycles.index.first n) c.cycles.invariant.at c.cycles.invariant.notes);
