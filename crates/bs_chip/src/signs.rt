@@ -4,6 +4,7 @@ ghost use Rattle.bs_net.specs.Netlist.{circuit};
 ghost use Rattle.bs_scan.specs.Crash.{recording_of};
 ghost use Rattle.bs_stim.specs.declared.limits.TheConstants.{MAX_CYCLES};
 ghost use Rattle.bs_chip.specs.Lockstep.{wide_of, IsLongest, IsSamePass};
+ghost use Rattle.bs_chip.specs.Prints.{print_of};
 ghost use Rattle.bs_chip.specs.Signs.{recorded_by, HaveSigns, IsNextAlike, IsNextSigned, IsSigned, NoneAlike, NoneSigned};
 
 use crate::lanes::wide_for;
@@ -169,6 +170,24 @@ impl<'a> Signs<'a> {
         ensures alike { IfOk result (λ found. MatchOption found (NoneAlike self.old stored.now cycle from (length self.old.runs)) (IsNextAlike self.old stored.now cycle from)) }
         ensures kept { self.new ≡ self.old }
     {
+        let next = self.next_printed(alloc, stored, print_of(stored), cycle, from)?;
+        Ok(next)
+    }
+
+    /// The same, where the print of the signature is at hand.
+    pub fn next_printed(
+        &mut self,
+        alloc: Global,
+        stored: &Bits,
+        print: u64,
+        cycle: u32,
+        from: u32,
+    ) -> Result<Option<u32>, NoMemory>
+        requires few { cycle ≤ MAX_CYCLES }
+        requires print { print ≡ print_of stored.now }
+        ensures alike { IfOk result (λ found. MatchOption found (NoneAlike self.old stored.now cycle from (length self.old.runs)) (IsNextAlike self.old stored.now cycle from)) }
+        ensures kept { self.new ≡ self.old }
+    {
         reach(
             alloc,
             &mut self.pass,
@@ -178,7 +197,7 @@ impl<'a> Signs<'a> {
             cycle as usize,
         )?;
         let signs = self.signs.get(cycle as usize).slice();
-        let next = next_signed(&self.pass, signs, cycle, print_of(stored), from);
+        let next = next_signed(&self.pass, signs, cycle, print, from);
         Ok(next)
     }
 }

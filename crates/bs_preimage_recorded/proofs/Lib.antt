@@ -1,1 +1,2 @@
+pub mod FinderLemmas
 pub mod SearchLemmas

@@ -1,19 +1,24 @@
 -- Run after run, and cycle after cycle.
 use Rattle.std.proofs.Common.{◌≡◌, ◌≢◌, ℕ, ◌+◌, ◌-◌, ◌*◌, ◌<◌, ◌≤◌, Bool, true, false, List, ◌∷◌, length, refl, ap, subst, sym, ◌∙◌, arith, ⊎_elim}
-use Rattle.std.proofs.Common.{Option, Some, None}
+use Rattle.std.proofs.Common.{Option}
 use Rattle.std.proofs.Math.Nat.{suc-mul}
-use Rattle.std.specs.Prelude.{◌&&◌, MatchOption, suc}
+use Rattle.std.specs.Prelude.{◌&&◌, suc}
 use Rattle.std.specs.Option.{option_to_list}
 use Rattle.std.proofs.lemmas.Bool.{and_parts, cases_eq, cases_lt}
 use Rattle.bs_bits.specs.Bits.{bits_eq}
 use Rattle.bs_net.specs.Circuit.{Circuit, all_bits}
 use Rattle.bs_scan.specs.Choice.{Chosen, depth_of}
 use Rattle.bs_scan.specs.Crash.{Recording}
-use Rattle.bs_scan.specs.Moments.{Run, Moment, moment, run_of, state_at, is_listed}
+use Rattle.bs_scan.specs.Moments.{Moment, moment, run_of, state_at, is_listed}
 use Rattle.bs_scan.specs.Signature.{signature, may_hold, agrees, some_input_leads, predecessors}
 use Rattle.bs_scan.proofs.SignatureLemmas.{bits_same_is}
-use Rattle.bs_report_good.proofs.GoodLemmas.{listed_member, filter_member}
-use Rattle.bs_chip.specs.Lockstep.{IsFirstIn, IsLongest, IsLowest, NoneAmong, NoneBefore}
+use Rattle.std.proofs.lemmas.List.Elements.{recursion_from_All}
+use Rattle.bs_net.specs.Circuit.{next}
+use Rattle.bs_net.proofs.CallerLemmas.{all_bits_widths}
+use Rattle.bs_scan.proofs.MomentLemmas.{each_member}
+use Rattle.bs_report_good.proofs.GoodLemmas.{listed_member, filter_member, passing, Passing}
+use Rattle.bs_chip_forward.specs.Forward.{LeadsNowhere}
+use Rattle.bs_chip.specs.Lockstep.{IsLongest, IsLowest, NoneAmong, NoneBefore}
 use Rattle.bs_chip.specs.Replay.{lists}
 use Rattle.bs_chip.specs.Signs.{signature_at, NoneAlike, IsNextAlike}
 use Rattle.bs_chip.proofs.TrackLemmas.{behind_all}
@@ -23,9 +28,8 @@ use Rattle.bs_preimage.specs.Probe.{IsProbed}
 use Rattle.bs_preimage_recorded.specs.declared.search.Recorded.{Recorded}
 use Rattle.bs_preimage_recorded.specs.declared.search.Sought.{Sought}
 use Rattle.bs_preimage_recorded.specs.declared.search.Sought.TheVariants.{Found, NoMoment, Cut, Unsaid}
-use Rattle.bs_preimage_recorded.specs.declared.search.Turn.{Turn}
-use Rattle.bs_preimage_recorded.specs.declared.search.Turn.TheVariants.{GoOn, End}
-use Rattle.bs_preimage_recorded.specs.Search.{asked_in, place_of, turn_by, HasTried, HasTurned, IsCutAt, IsOpenAt, IsRecorded, SoughtAt, SoughtBefore}
+use Rattle.bs_preimage_recorded.specs.declared.search.Turn.TheVariants.{GoOn}
+use Rattle.bs_preimage_recorded.specs.Search.{asked_in, place_of, turn_by, HasTried, HasTurned, IsCutAt, IsOpenAt, SoughtAt, SoughtBefore}
 use Rattle.bs_preimage_recorded.specs.Search.{SoughtSooner, SoughtOfAll, TurnsTo, IsFirstRecorded, NoneSooner}
 
 -- ---- a state with another signature
@@ -55,6 +59,39 @@ none_among : (r : Recording) (present stored : List Bool) (older : Option (List 
 none_among r present stored older cycle from below none =
     record { each = λ n lo hi there last. other_signature r present stored older n cycle (none.each n lo hi there last) }
 
+-- ---- a state that leads elsewhere
+
+-- some input leads from a predecessor to the present
+is_led : (c : Circuit) (choice : Chosen) (p s : List Bool) (stored : List (List Bool)) → is_listed (predecessors c choice p stored) s ≡ true →
+    some_input_leads c s p ≡ true
+unfolding predecessors
+is_led c choice p s stored there =
+    let found = filter_member (λ (s : List Bool). agrees c choice stored s && some_input_leads c s p) s (all_bits (length c.flops))
+    (listed_member s (predecessors c choice p stored) there) in
+    (and_parts (agrees c choice stored s) (some_input_leads c s p) found.0).1
+
+led_by_none : (c : Circuit) (s p : List Bool) → LeadsNowhere c s p → some_input_leads c s p ≡ true → ⊥
+led_by_none c s p nowhere some =
+    let x : Passing (λ (x : List Bool). bits_eq (next c s x) p) (all_bits (length c.inputs)) =
+    passing (λ (x : List Bool). bits_eq (next c s x) p) (all_bits (length c.inputs)) some in
+    let wide : length x.item ≡ length c.inputs =
+    each_member (λ (y : List Bool). length y ≡ length c.inputs) x.item (all_bits (length c.inputs))
+    (recursion_from_All (λ (y : List Bool). length y ≡ length c.inputs) (all_bits (length c.inputs)) (all_bits_widths (length c.inputs))) x.member in
+    nowhere.each x.item wide (bits_same_is (next c s x.item) p x.passes)
+
+leads_elsewhere : (r : Recording) (present stored : List Bool) (older : Option (List Bool)) (run cycle : ℕ) →
+    LeadsNowhere r.circuit (state_at r.circuit (run_of r.runs run) cycle) present →
+    lists r.circuit (run_of r.runs run) (asked_in r present stored older) cycle ≡ false
+leads_elsewhere r present stored older run cycle nowhere = by (lists r.circuit (run_of r.runs run) (asked_in r present stored older) cycle) refl
+  where
+    by : (b : Bool) → lists r.circuit (run_of r.runs run) (asked_in r present stored older) cycle ≡ b →
+        lists r.circuit (run_of r.runs run) (asked_in r present stored older) cycle ≡ false
+    by false is = is
+    by true is =
+        absurd
+        (led_by_none r.circuit (state_at r.circuit (run_of r.runs run) cycle) present nowhere
+        (is_led r.circuit r.choice present (state_at r.circuit (run_of r.runs run) cycle) (stored ∷ option_to_list older) is))
+
 -- ---- a run
 
 -- no run behind the number is in such a state
@@ -79,6 +116,17 @@ one_more_run r states cycle from run some none here =
           ⊎_elim (λ (same : n ≡ run). subst (λ (m : ℕ). lists r.circuit (run_of r.runs m) states cycle ≡ false) (sym same) here)
           (λ (other : n ≡ run → ⊥). none.each n lo (omega (arith, hi, other, some)) there last) (cases_eq n run);
     }
+
+-- the run that is next leads elsewhere
+pub passed : (r : Recording) (present stored : List Bool) (older : Option (List Bool)) (cycle from below run : ℕ) → IsNextAlike r stored cycle from run →
+    run ≤ below → LeadsNowhere r.circuit (state_at r.circuit (run_of r.runs run) cycle) present →
+    TurnsTo r present stored older cycle from below (GoOn run)
+passed r present stored older cycle from below run next within nowhere = (
+  next.behind,
+  within,
+  one_more_run r (asked_in r present stored older) cycle from run (omega (arith, next.behind))
+      (none_among r present stored older cycle from (run - 1) next.before) (leads_elsewhere r present stored older run cycle nowhere),
+)
 
 -- the run that is next stays open
 pub open_at : (r : Recording) (present stored : List Bool) (older : Option (List Bool)) (cycle from run : ℕ) → IsNextAlike r stored cycle from run →

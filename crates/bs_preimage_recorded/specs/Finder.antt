@@ -1,7 +1,11 @@
 -- What looks for recorded predecessors.
-use Rattle.std.specs.Prelude.{◌≡◌, ℕ, ◌≤◌, Bool, List, length, Option}
+use Rattle.std.specs.Prelude.{◌≡◌, ℕ, ◌≤◌, Bool, List, length, Option, Some, None, IfSome}
 use Rattle.bs_encode.specs.Assuming.{AreWide}
 use Rattle.bs_scan.specs.Crash.{Recording}
+use Rattle.bs_scan.specs.Moments.{run_of, state_at}
+use Rattle.bs_chip.specs.Prints.{print_of}
+use Rattle.bs_chip_forward.specs.declared.forward.Aim.{Aim}
+use Rattle.bs_chip_forward.specs.Forward.{Ahead, IsAim, LeadsNowhere}
 use Rattle.bs_preimage.specs.Probe.{Prober}
 
 -- a recording, and the present with a stored signature whose predecessors are looked for
@@ -10,9 +14,23 @@ pub record Seeker : Type 0 where
   pub present : List Bool
   pub stored : List Bool
 
--- what answers about states is of the recording's chip
-pub record IsFinder (r : Recording) (p : Prober) : Type 0 where
+-- where a recording's states lead, and what those are looked up by that lead to a present
+pub record IsAimed (r : Recording) (present : List Bool) (aim : Aim) (f : Ahead) : Type 0 where
+  pub circuit : f.circuit ≡ r.circuit
+  pub runs : f.runs ≡ r.runs
+  pub aim_is : IsAim f present aim
+
+-- the parts of a finder are of the recording's chip
+pub record IsFinder (r : Recording) (p : Prober) (forward : Option Ahead) (present : List Bool) (aim : Aim) (stored : List Bool) (print : ℕ) :
+    Type 0 where
   pub prober : p ≡ record { circuit = r.circuit; choice = r.choice }
+  pub forward_is : IfSome forward (IsAimed r present aim)
+  pub print_is : print ≡ print_of stored
+
+-- it is known where the state of a moment leads, and that is under no input to the present
+abbrev pub LeadsAway : Option Ahead → ℕ → ℕ → List Bool → Type 0
+LeadsAway None run cycle present = ⊥
+LeadsAway (Some f) run cycle present = LeadsNowhere f.circuit (state_at f.circuit (run_of f.runs run) cycle) present
 
 -- what is asked has the recording's widths
 pub record IsAsking (r : Recording) (present stored : List Bool) (older : Option (List Bool)) (b : ℕ) : Type 0 where

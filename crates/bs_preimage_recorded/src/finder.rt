@@ -1,14 +1,16 @@
-//! What a search keeps for the next one: the signatures of recorded states, and the private solver.
-ghost use Rattle.std.specs.Prelude.{◌≡◌, ◌≤◌, [], length, option_map, IfOk, MatchOption};
+//! What a search keeps for the next one: the signatures of recorded states, where they lead, and the private solver.
+ghost use Rattle.std.specs.Prelude.{◌≡◌, ◌≤◌, [], false, length, option_map, IfOk, IfSome, MatchOption};
 ghost use Rattle.bs_scan.specs.Moments.{IsMoment, moment, run_of, state_at};
 ghost use Rattle.bs_stim.specs.declared.limits.TheConstants.{MAX_CYCLES};
+ghost use Rattle.bs_chip_forward.specs.Forward.{IsAim, LeadsNowhere};
 ghost use Rattle.bs_chip.specs.Lockstep.{IsLongest};
 ghost use Rattle.bs_chip.specs.Signs.{IsNextAlike, NoneAlike};
 ghost use Rattle.bs_preimage.specs.Probe.{IsProbed};
-ghost use Rattle.bs_preimage_recorded.specs.Finder.{IsAsking, Seeker};
+ghost use Rattle.bs_preimage_recorded.specs.Finder.{IsAsking, LeadsAway};
 
 use bs_bits::{Bits, NoMemory};
-use bs_chip::{Chip, Signs};
+use bs_chip::{Chip, Signs, print_of};
+use bs_chip_forward::{Aim, Forward};
 use bs_preimage::{Probe, Probed};
 use std::alloc::Global;
 use std::marker::Model;
@@ -51,13 +53,47 @@ fn ask_moment(
     Ok(said)
 }
 
+/// What recorded states that lead to a present are looked up by, if it is known where they lead.
+fn aim_of(forward: &Option<Forward<'_>>, present: &Bits) -> Aim
+    requires { IfSome forward.now (λ f. length present.now ≡ length f.circuit.flops) }
+    ensures { IfSome forward.now (λ f. IsAim f present.now result) }
+{
+    match forward {
+        None => Aim { low: 0, high: 0 },
+        Some(forward) => forward.aim(present),
+    }
+}
+
+/// Whether the state of a moment may lead to a present, as far as it is known.
+fn may_lead_by(
+    alloc: Global,
+    forward: &mut Option<Forward<'_>>,
+    present: &Bits,
+    aim: Aim,
+    run: u32,
+    cycle: u32,
+) -> Result<bool, NoMemory>
+    requires there { IfSome forward.old (λ f. IsMoment f.runs (moment run cycle)) }
+    requires aim { IfSome forward.old (λ f. IsAim f present.now aim) }
+    ensures lead { IfOk result (λ may. may ≡ false → LeadsAway forward.old run cycle present.now) }
+    ensures kept { forward.new ≡ forward.old }
+{
+    match forward {
+        None => Ok(true),
+        Some(forward) => forward.may_lead(alloc, present, aim, run, cycle),
+    }
+}
+
 /// What looks for recorded predecessors. Contracts see the recording, and the present that it stands at with its stored signature.
 #[derive(Drop)]
 pub struct Finder<'a, 'p> {
     signs: Signs<'a>,
     probe: Probe<'p>,
+    forward: Option<Forward<'a>>,
     present: Bits,
     stored: Bits,
+    print: u64,
+    aim: Aim,
 }
 
 impl<'a, 'p> Model for Finder<'a, 'p> {
@@ -67,7 +103,7 @@ impl<'a, 'p> Model for Finder<'a, 'p> {
 
     ghost view = { λ f. record { recording = f.signs; present = f.present; stored = f.stored } };
 
-    ghost invariant = { λ f. IsFinder f.signs f.probe };
+    ghost invariant = { λ f. IsFinder f.signs f.probe f.forward f.present f.aim f.stored f.print };
 }
 
 impl<'a, 'p> Finder<'a, 'p> {
@@ -80,8 +116,11 @@ impl<'a, 'p> Finder<'a, 'p> {
             Ok(signs) => Ok(Finder {
                 signs,
                 probe,
+                forward: None,
                 present: Bits::new(alloc),
                 stored: Bits::new(alloc),
+                print: 0,
+                aim: Aim { low: 0, high: 0 },
             }),
             Err(want) => Err(want),
         }
@@ -89,11 +128,18 @@ impl<'a, 'p> Finder<'a, 'p> {
 
     /// Goes to a present and its stored signature.
     pub(crate) fn stand_at(&mut self, present: &Bits, stored: &Bits) -> Result<(), NoMemory>
+        requires { length present.now ≡ length self.old.recording.circuit.flops }
         ensures there { IfOk result (λ _. self.new ≡ record { recording = self.old.recording; present = present.now; stored = stored.now }) }
         ensures kept { self.new.recording ≡ self.old.recording }
     {
-        self.present = present.copy()?;
-        self.stored = stored.copy()?;
+        let seen = present.copy()?;
+        let held = stored.copy()?;
+        let print = print_of(stored);
+        let aim = aim_of(&self.forward, present);
+        self.present = seen;
+        self.stored = held;
+        self.print = print;
+        self.aim = aim;
         Ok(())
     }
 
@@ -124,7 +170,42 @@ impl<'a, 'p> Finder<'a, 'p> {
         ensures alike { IfOk result (λ found. MatchOption found (NoneAlike self.old.recording self.old.stored cycle from (length self.old.recording.runs)) (IsNextAlike self.old.recording self.old.stored cycle from)) }
         ensures kept { self.new ≡ self.old }
     {
-        self.signs.next_alike(alloc, &self.stored, cycle, from)
+        self.signs
+            .next_printed(alloc, &self.stored, self.print, cycle, from)
+    }
+
+    /// Whether it is known where the recorded states lead.
+    pub(crate) fn looks_forward(&self) -> bool {
+        self.forward.is_some()
+    }
+
+    /// Sees from now on where the recorded states lead.
+    pub(crate) fn look_forward(&mut self, alloc: Global, chip: &Chip<'a>) -> Result<(), NoMemory>
+        requires recording { self.old.recording ≡ chip.now.recording }
+        requires width { length self.old.present ≡ length self.old.recording.circuit.flops }
+        ensures kept { self.new ≡ self.old }
+    {
+        let forward = Forward::new(alloc, chip)?;
+        let aim = forward.aim(&self.present);
+        self.forward = Some(forward);
+        self.aim = aim;
+        Ok(())
+    }
+
+    /// Whether the state of a moment may lead to the present. Where it says no, it does so under no input.
+    pub(crate) fn may_lead(&mut self, alloc: Global, run: u32, cycle: u32) -> Result<bool, NoMemory>
+        requires there { IsMoment self.old.recording.runs (moment run cycle) }
+        ensures lead { IfOk result (λ may. may ≡ false → LeadsNowhere self.old.recording.circuit (state_at self.old.recording.circuit (run_of self.old.recording.runs run) cycle) self.old.present) }
+        ensures kept { self.new ≡ self.old }
+    {
+        may_lead_by(
+            alloc,
+            &mut self.forward,
+            &self.present,
+            self.aim,
+            run,
+            cycle,
+        )
     }
 
     /// Whether the state of a moment is a predecessor of the present.

@@ -16,7 +16,10 @@ use bs_scan::Moment;
 use std::alloc::Global;
 
 /// How many states a search may ask about at most.
-pub const MAX_ASKS: u64 = 2;
+pub const MAX_ASKS: u64 = 1_000;
+
+/// How many it asks about before it sees where recorded states lead, which takes the time of some replays of all runs.
+const FEW_ASKS: u64 = 2;
 
 /// A moment, a run from 1 and a cycle from 0, and its state as a candidate.
 #[derive(Drop)]
@@ -116,6 +119,9 @@ fn try_run(
 {
     if span.below < run {
         return Ok(Turn::End(Sought::NoMoment));
+    }
+    if !finder.may_lead(alloc, run, span.cycle)? {
+        return Ok(Turn::GoOn(run));
     }
     ask_run(alloc, chip, finder, query, span, run, tries)
 }
@@ -273,6 +279,51 @@ fn first_within(
     }
 }
 
+/// The first moment in a predecessor, where it is known where recorded states lead.
+fn first_ahead<'a>(
+    alloc: Global,
+    chip: &mut Chip<'a>,
+    finder: &mut Finder<'a, '_>,
+    query: &Query<'_>,
+    before: Option<Moment>,
+) -> Result<Sought, NoMemory>
+    requires before { IfSome before (λ moment. (1 ≤ moment.run) × (moment.cycle ≤ MAX_CYCLES)) }
+    requires aimed { finder.old ≡ record { recording = chip.old.recording; present = query.now.present.now; stored = query.now.stored.now } }
+    requires asking { IsAsking chip.old.recording query.now.present.now query.now.stored.now (option_map (λ bits. bits.now) query.now.older) query.now.b }
+    ensures sought { IfOk result (SoughtWithin chip.old.recording query.now.present.now query.now.stored.now (option_map (λ bits. bits.now) query.now.older) before) }
+    ensures cut { IfOk result (IsCutAt chip.old.recording MAX_ASKS) }
+    ensures chip { chip.new ≡ chip.old }
+    ensures finder { finder.new.recording ≡ finder.old.recording }
+{
+    finder.look_forward(alloc, chip)?;
+    let sought = first_within(alloc, chip, finder, query, before, MAX_ASKS)?;
+    Ok(sought)
+}
+
+/// The first moment in a predecessor, where it is not known yet: it is made known where a few tries do not serve.
+fn first_unseen<'a>(
+    alloc: Global,
+    chip: &mut Chip<'a>,
+    finder: &mut Finder<'a, '_>,
+    query: &Query<'_>,
+    before: Option<Moment>,
+) -> Result<Sought, NoMemory>
+    requires before { IfSome before (λ moment. (1 ≤ moment.run) × (moment.cycle ≤ MAX_CYCLES)) }
+    requires aimed { finder.old ≡ record { recording = chip.old.recording; present = query.now.present.now; stored = query.now.stored.now } }
+    requires asking { IsAsking chip.old.recording query.now.present.now query.now.stored.now (option_map (λ bits. bits.now) query.now.older) query.now.b }
+    ensures sought { IfOk result (SoughtWithin chip.old.recording query.now.present.now query.now.stored.now (option_map (λ bits. bits.now) query.now.older) before) }
+    ensures cut { IfOk result (IsCutAt chip.old.recording MAX_ASKS) }
+    ensures chip { chip.new ≡ chip.old }
+    ensures finder { finder.new.recording ≡ finder.old.recording }
+{
+    match first_within(alloc, chip, finder, query, before, FEW_ASKS)? {
+        Sought::Found(found) => Ok(Sought::Found(found)),
+        Sought::NoMoment => Ok(Sought::NoMoment),
+        Sought::Cut(_) => first_ahead(alloc, chip, finder, query, before),
+        Sought::Unsaid(moment) => Ok(Sought::Unsaid(moment)),
+    }
+}
+
 /// The first moment in a predecessor: of those before a moment, if one is given, or of all. The search is cut where it has asked
 /// about `MAX_ASKS` states, so that as many moments are before the one that it stands at.
 pub fn first_recorded<'a>(
@@ -291,6 +342,9 @@ pub fn first_recorded<'a>(
     ensures finder { finder.new.recording ≡ finder.old.recording }
 {
     finder.stand_at(query.present, query.stored)?;
-    let sought = first_within(alloc, chip, finder, query, before, MAX_ASKS)?;
-    Ok(sought)
+    if finder.looks_forward() {
+        first_within(alloc, chip, finder, query, before, MAX_ASKS)
+    } else {
+        first_unseen(alloc, chip, finder, query, before)
+    }
 }

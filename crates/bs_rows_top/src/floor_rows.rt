@@ -22,7 +22,7 @@ const OTHERWISE: &str = "run a 2\n11110\n00000\nend\n";
 const BEFORE: &str = "state 000010\nsig .\nend\n";
 
 /// Runs with lists that are cut.
-const CUT: [Run<'static>; 18] = [
+const CUT: [Run<'static>; 21] = [
     // the moment before the hit is the one candidate
     (
         "run n s t d --candidates 1",
@@ -195,6 +195,42 @@ const CUT: [Run<'static>; 18] = [
         ],
         Status::Done,
         "backspace 1\nasked 64 candidates 1 conflicts 100000\nstep 1\npresent 111100\nstored .\ncand 000000 input *\nlist candidates\nhit 1 0 000000\nstop reset\ntrace 1\nstate 000000\ninput *\nstate 111100\nlog *\n",
+        NONE,
+    ),
+    // it is the last of two in the first list
+    (
+        "run n s t d --candidates 2",
+        [EIGHT, "", OTHERWISE, BEFORE, ""],
+        Status::Done,
+        "backspace 1\nasked 64 candidates 2 conflicts 100000\nstep 1\npresent 000010\nstored .\ncand *\ncand 111100 input 00001\nlist candidates\nhit 1 1 111100\nstep 2\npresent 111100\nstored .\ncand 000000 input *\ncand *\nlist candidates\nhit 1 0 000000\nstop reset\ntrace 2\nstate 000000\ninput *\nstate 111100\ninput 00001\nstate 000010\nlog *\n",
+        NONE,
+    ),
+    // three moments come before it that do not lead to the present under any input, two of them in one state
+    (
+        "run n s t d --candidates 1",
+        [
+            EIGHT,
+            "",
+            "run a 4\n11100\n11100\n11110\n00000\nend\n",
+            BEFORE,
+            "",
+        ],
+        Status::Done,
+        "backspace 1\nasked 64 candidates 1 conflicts 100000\nstep 1\npresent 000010\nstored .\ncand 111100 input 00001\nlist candidates\nhit 1 3 111100\nstep 2\npresent 111100\nstored .\ncand 000000 input *\nlist candidates\nhit 1 0 000000\nstop reset\ntrace 2\nstate 000000\ninput *\nstate 111100\ninput 00001\nstate 000010\nlog *\n",
+        NONE,
+    ),
+    // the first list is cut at twenty
+    (
+        "run n s t d --candidates 20",
+        [
+            EIGHT,
+            "",
+            "run a 1\n00000\nend\n",
+            "state 111100\nsig .\nend\n",
+            "",
+        ],
+        Status::Done,
+        "backspace 1\nasked 64 candidates 20 conflicts 100000\nstep 1\npresent 111100\nstored .\ncand 000000 input *\ncand *\ncand *\ncand *\ncand *\ncand *\ncand *\ncand *\ncand *\ncand *\ncand *\ncand *\ncand *\ncand *\ncand *\ncand *\ncand *\ncand *\ncand *\ncand *\nlist candidates\nhit 1 0 000000\nstop reset\ntrace 1\nstate 000000\ninput *\nstate 111100\nlog *\n",
         NONE,
     ),
 ];

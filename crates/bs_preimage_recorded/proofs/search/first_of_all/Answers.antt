@@ -1,4 +1,4 @@
-use Rattle.std.proofs.Common.{ℕ, ◌+◌, ◌*◌, length, subst}
+use Rattle.std.proofs.Common.{◌+◌, ◌*◌, length, subst}
 use Rattle.std.specs.Prelude.{option_map}
 use Rattle.bs_chip.specs.Lockstep.{IsLongest}
 use Rattle.bs_preimage_recorded.specs.Finder.{Seeker}

@@ -1,0 +1,44 @@
+-- Where recorded states lead, as far as it is known.
+use Rattle.std.proofs.Common.{◌≡◌, ℕ, Bool, false, List, length, subst, sym, Option, Some, None}
+use Rattle.std.specs.Prelude.{Result, Ok, Err, IfOk, IfSome}
+use Rattle.bs_net.specs.Circuit.{Circuit}
+use Rattle.bs_scan.specs.Crash.{Recording}
+use Rattle.bs_scan.specs.Moments.{Run, moment, IsMoment, run_of, state_at}
+use Rattle.bs_chip_forward.specs.declared.forward.Aim.{Aim}
+use Rattle.bs_chip_forward.specs.Forward.{Ahead, IsAim, LeadsNowhere}
+use Rattle.bs_preimage_recorded.specs.Finder.{IsAimed, LeadsAway}
+
+-- the present is as wide as the states
+pub aimed_wide : (r : Recording) (present other : List Bool) (aim : Aim) (forward : Option Ahead) → IfSome forward (IsAimed r present aim) →
+    length other ≡ length r.circuit.flops → IfSome forward (λ f. length other ≡ length f.circuit.flops)
+aimed_wide r present other aim None is wide = tt
+aimed_wide r present other aim (Some f) is wide = subst (λ (c : Circuit). length other ≡ length c.flops) (sym is.circuit) wide
+
+pub aimed_moment : (r : Recording) (present : List Bool) (aim : Aim) (forward : Option Ahead) (run cycle : ℕ) → IfSome forward (IsAimed r present aim) →
+    IsMoment r.runs (moment run cycle) → IfSome forward (λ f. IsMoment f.runs (moment run cycle))
+aimed_moment r present aim None run cycle is there = tt
+aimed_moment r present aim (Some f) run cycle is there = subst (λ (runs : List Run). IsMoment runs (moment run cycle)) (sym is.runs) there
+
+pub aimed_at : (r : Recording) (present : List Bool) (aim : Aim) (forward : Option Ahead) → IfSome forward (IsAimed r present aim) →
+    IfSome forward (λ f. IsAim f present aim)
+aimed_at r present aim None is = tt
+aimed_at r present aim (Some f) is = is.aim_is
+
+-- it is aimed at another present
+pub aimed_anew : (r : Recording) (present other : List Bool) (aim next : Aim) (forward : Option Ahead) → IfSome forward (IsAimed r present aim) →
+    IfSome forward (λ f. IsAim f other next) → IfSome forward (IsAimed r other next)
+aimed_anew r present other aim next None is new = tt
+aimed_anew r present other aim next (Some f) is new = record { circuit = is.circuit; runs = is.runs; aim_is = new }
+
+away : (r : Recording) (present : List Bool) (aim : Aim) (forward : Option Ahead) (run cycle : ℕ) → IfSome forward (IsAimed r present aim) →
+    LeadsAway forward run cycle present → LeadsNowhere r.circuit (state_at r.circuit (run_of r.runs run) cycle) present
+away r present aim None run cycle is gone = absurd gone
+away r present aim (Some f) run cycle is gone =
+    subst (λ (c : Circuit). LeadsNowhere c (state_at c (run_of r.runs run) cycle) present) is.circuit
+    (subst (λ (runs : List Run). LeadsNowhere f.circuit (state_at f.circuit (run_of runs run) cycle) present) is.runs gone)
+
+pub leads_away : {E : Type 0} (r : Recording) (present : List Bool) (aim : Aim) (forward : Option Ahead) (run cycle : ℕ) (result : Result Bool E) →
+    IfSome forward (IsAimed r present aim) → IfOk result (λ may. may ≡ false → LeadsAway forward run cycle present) →
+    IfOk result (λ may. may ≡ false → LeadsNowhere r.circuit (state_at r.circuit (run_of r.runs run) cycle) present)
+leads_away r present aim forward run cycle (Ok may) is lead = λ no. away r present aim forward run cycle is (lead no)
+leads_away r present aim forward run cycle (Err want) is lead = tt
