@@ -1,5 +1,5 @@
 -- What a list asks, and what it was answered.
-use Rattle.std.proofs.Common.{◌≡◌, inl, inr, ◌+◌, ap, subst, sym, ◌∙◌, None}
+use Rattle.std.proofs.Common.{◌≡◌, inl, inr, ◌+◌, length, ap, subst, sym, ◌∙◌, None}
 use Rattle.std.specs.Prelude.{IfSome}
 use Rattle.bs_net.specs.Circuit.{Circuit}
 use Rattle.bs_scan.specs.Choice.{Chosen}
@@ -29,7 +29,7 @@ knows_right l c choice circuits choices =
 pub listed_from : (r : Recording) (budgets : Budgets) (old new : PreimageState) (l after : Lookout) (listing : Listing) → l.chip.now.recording ≡ r →
     l.answer ≡ None → new.calls ≡ old.calls + 1 →
     HasAsked Knows l after (λ known. HasListed old new l.now.now.state l.stored.now l.now.now.older known budgets.candidates budgets.conflicts listing)
-    listing.end →
+    budgets.candidates (length listing.cands) listing.end →
     HasListedFrom r budgets old new l.now.now l.stored.now l.at listing after.answer
 listed_from r budgets old new l after listing is unasked calls (inl sooner) =
     record {
