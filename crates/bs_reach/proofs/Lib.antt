@@ -1,3 +1,4 @@
+pub mod DenialLemmas
 pub mod LengthLemmas
 pub mod ReachLemmas
 pub mod ReadLemmas

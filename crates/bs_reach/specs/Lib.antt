@@ -2,6 +2,7 @@
 pub mod Reach
 pub mod Text
 -- what inner functions promise each other
+pub mod Denials
 pub mod Search
 pub mod Ends
 pub mod Told

@@ -8,31 +8,69 @@ ghost use Rattle.bs_reach_unrolled.specs.declared.limits.TheConstants.{MAX_COPIE
 ghost use Rattle.bs_reach_unrolled.specs.Room.{IsUnrollable};
 ghost use Rattle.bs_reach_unrolled.specs.Unrolled.{unrolled};
 ghost use Rattle.bs_reach.specs.Search.{fresh_over, IsBetween};
+ghost use Rattle.bs_reach.specs.Denials.{AreDenials};
 ghost use Rattle.bs_reach.specs.Reach.{IsReach};
 ghost use Rattle.bs_reach.specs.Sought.{HasSought, TellsEnd};
 
+use crate::denials::first_denials;
 use crate::reach::{Outcome, Reach};
 use crate::search::search;
 use crate::telling::{Told, tell};
 use bs_bits::{Bits, List};
-use bs_clause::NoMemory;
+use bs_clause::{Clauses, NoMemory};
 use bs_encode::Encoding;
 use bs_log::Log;
 use bs_net::Netlist;
 use bs_reach_unrolled::{netlists_unroll, unroll, unrolled_clauses_are_executions};
-use bs_solve::Solver;
+use bs_solve::{Denial, Solver};
 use std::alloc::Global;
+use std::collections::VecDeque;
 
-/// A solver over the unrolled clauses.
-fn solver_of(alloc: Global, encoding: &Encoding, reset: &Bits, k: u32) -> Result<Solver, NoMemory>
+/// A search that begins: a solver, and the lemmas of the first lengths.
+#[derive(Drop)]
+struct Start {
+    solver: Solver,
+    denials: VecDeque<Denial>,
+}
+
+/// A solver over the unrolled clauses, and what they alone say of the first lengths.
+fn start_over(
+    alloc: Global,
+    encoding: &Encoding,
+    reset: &Bits,
+    clauses: Clauses,
+    state: &Bits,
+    k: u32,
+) -> Result<Start, NoMemory>
+    requires unrollable { IsUnrollable encoding.now k }
+    requires width { length encoding.now.next ≡ length state.now }
+    requires clauses { clauses ≡ unrolled encoding.now reset.now k }
+    ensures solver { IfOk result (λ s. s.solver ≡ fresh_over (unrolled encoding.now reset.now k) encoding.now k) }
+    ensures denials { IfOk result (λ s. AreDenials s.solver.book.problem.clauses encoding.now k state.now 0 s.denials.items) }
+{
+    let denials = first_denials(alloc, encoding, reset, clauses.slice(), state, k)?;
+    let solver = Solver::new(alloc, k * encoding.vars(), clauses)?;
+    Ok(Start { solver, denials })
+}
+
+/// The same, with the clauses.
+fn start_of(
+    alloc: Global,
+    encoding: &Encoding,
+    reset: &Bits,
+    state: &Bits,
+    k: u32,
+) -> Result<Start, NoMemory>
     requires some { 1 ≤ k }
     requires unrollable { IsUnrollable encoding.now k }
-    requires width { length encoding.now.states ≡ length reset.now }
-    ensures { IfOk result (λ s. s ≡ fresh_over (unrolled encoding.now reset.now k) encoding.now k) }
+    requires starts { length encoding.now.states ≡ length reset.now }
+    requires width { length encoding.now.next ≡ length state.now }
+    ensures solver { IfOk result (λ s. s.solver ≡ fresh_over (unrolled encoding.now reset.now k) encoding.now k) }
+    ensures denials { IfOk result (λ s. AreDenials s.solver.book.problem.clauses encoding.now k state.now 0 s.denials.items) }
 {
     let clauses = unroll(alloc, encoding, reset, k)?;
-    let solver = Solver::new(alloc, k * encoding.vars(), clauses)?;
-    Ok(solver)
+    let start = start_over(alloc, encoding, reset, clauses, state, k)?;
+    Ok(start)
 }
 
 /// The answer where the state is the one at reset.
@@ -92,6 +130,7 @@ fn sought(
     alloc: Global,
     encoding: &Encoding,
     solver: &mut Solver,
+    denials: &mut VecDeque<Denial>,
     state: &Bits,
     k: u32,
     b: u64,
@@ -100,9 +139,10 @@ fn sought(
     requires width { length encoding.now.next ≡ length state.now }
     requires limit { 1 ≤ b }
     requires start { IsBetween solver.old.book.problem.clauses encoding.now k state.now b 0 solver.old }
+    requires denials { AreDenials solver.old.book.problem.clauses encoding.now k state.now 0 denials.old.items }
     ensures { IfOk result (TellsEnd solver.old.book.problem.clauses encoding.now k state.now b solver.new) }
 {
-    let end = search(alloc, encoding, solver, state, k, b)?;
+    let end = search(alloc, encoding, solver, denials, state, k, b)?;
     let told = tell(alloc, encoding, &end, k)?;
     Ok(told)
 }
@@ -123,9 +163,17 @@ fn seek(
     requires limit { 1 ≤ b }
     ensures { IfOk result (HasSought encoding.now reset.now state.now k b) }
 {
-    let mut solver = solver_of(alloc, encoding, reset, k)?;
-    let told = sought(alloc, encoding, &mut solver, state, k, b)?;
-    Ok(answered(k, b, told, solver.into_log()))
+    let mut start = start_of(alloc, encoding, reset, state, k)?;
+    let told = sought(
+        alloc,
+        encoding,
+        &mut start.solver,
+        &mut start.denials,
+        state,
+        k,
+        b,
+    )?;
+    Ok(answered(k, b, told, start.solver.into_log()))
 }
 
 /// The answer by the clauses of one cycle, for a bound of one cycle or more, where the state is another one than at reset.

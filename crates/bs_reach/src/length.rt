@@ -1,15 +1,19 @@
 //! One length: a step of the log, in which it is shown or refuted that the state is reached in so many cycles.
-ghost use Rattle.std.specs.Prelude.{◌≡◌, ◌<◌, ◌≤◌, length, IfOk};
+ghost use Rattle.std.specs.Prelude.{◌≡◌, ◌+◌, ◌<◌, ◌≤◌, length, IfOk, OnOk};
 ghost use Rattle.bs_reach_unrolled.specs.Room.{IsUnrollable};
+ghost use Rattle.bs_reach_unrolled.specs.Unrolled.{length_assumes};
+ghost use Rattle.bs_solve.specs.Denying.{Denies};
 ghost use Rattle.bs_reach.specs.Search.{IsBetween, TriesTo};
+ghost use Rattle.bs_reach.specs.Denials.{AreDenials};
 
 use bs_bits::Bits;
 use bs_clause::NoMemory;
 use bs_encode::Encoding;
 use bs_reach_unrolled::assume_length;
-use bs_solve::Solver;
+use bs_solve::{Denial, Solver};
 use bs_solve_recording::{Answer, Solution};
 use std::alloc::Global;
+use std::collections::VecDeque;
 
 /// What the trial of a length comes to.
 #[derive(Drop)]
@@ -23,7 +27,7 @@ pub(crate) enum Trial {
 }
 
 /// Tries the length `c + 1`, in which copy number `c` leads to the state.
-pub(crate) fn try_length(
+fn try_length(
     alloc: Global,
     encoding: &Encoding,
     solver: &mut Solver,
@@ -54,6 +58,64 @@ pub(crate) fn try_length(
         Answer::Spent => {
             solver.end_step(alloc, None)?;
             Ok(Trial::Spent)
+        }
+    }
+}
+
+/// Refutes the length `c + 1` by a lemma that what follows from reset alone gives, without a search.
+fn deny_length(
+    alloc: Global,
+    encoding: &Encoding,
+    solver: &mut Solver,
+    denial: Denial,
+    state: &Bits,
+    c: u32,
+    k: u32,
+    _b: u64,
+) -> Result<(), NoMemory>
+    requires unrollable { IsUnrollable encoding.now k }
+    requires within { c < k }
+    requires width { length encoding.now.next ≡ length state.now }
+    requires limit { 1 ≤ _b }
+    requires between { IsBetween solver.old.book.problem.clauses encoding.now k state.now _b c solver.old }
+    requires denial { Denies solver.old.book.problem.clauses (length_assumes encoding.now k state.now (c + 1)) denial }
+    ensures { OnOk result (IsBetween solver.old.book.problem.clauses encoding.now k state.now _b (c + 1) solver.new) }
+{
+    let guard = solver.begin_step()?;
+    let assumed = assume_length(alloc, encoding, guard, state, c, k)?;
+    let end = solver.solve_denied(alloc, &assumed, denial)?;
+    solver.end_step(alloc, Some(end))?;
+    Ok(())
+}
+
+/// Tries the length `c + 1`: by the first lemma of those that are left, or by a search where none is.
+pub(crate) fn next_length(
+    alloc: Global,
+    encoding: &Encoding,
+    solver: &mut Solver,
+    denials: &mut VecDeque<Denial>,
+    state: &Bits,
+    c: u32,
+    k: u32,
+    b: u64,
+) -> Result<Trial, NoMemory>
+    requires unrollable { IsUnrollable encoding.now k }
+    requires within { c < k }
+    requires width { length encoding.now.next ≡ length state.now }
+    requires limit { 1 ≤ b }
+    requires between { IsBetween solver.old.book.problem.clauses encoding.now k state.now b c solver.old }
+    requires denials { AreDenials solver.old.book.problem.clauses encoding.now k state.now c denials.old.items }
+    ensures tries { IfOk result (TriesTo solver.old.book.problem.clauses encoding.now k state.now b c solver.new) }
+    ensures left { IfOk result (λ _. AreDenials solver.new.book.problem.clauses encoding.now k state.now (c + 1) denials.new.items) }
+{
+    match denials.pop_front() {
+        Some(denial) => {
+            deny_length(alloc, encoding, solver, denial, state, c, k, b)?;
+            Ok(Trial::Refuted)
+        }
+        None => {
+            let trial = try_length(alloc, encoding, solver, state, c, k, b)?;
+            Ok(trial)
         }
     }
 }

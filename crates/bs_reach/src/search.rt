@@ -3,14 +3,16 @@ ghost use Rattle.std.specs.Prelude.{◌≡◌, ◌+◌, ◌<◌, ◌≤◌, leng
 ghost use Rattle.bs_reach_unrolled.specs.Room.{IsUnrollable};
 ghost use Rattle.bs_reach.specs.Search.{IsBetween};
 ghost use Rattle.bs_reach.specs.Ends.{EndsAs};
+ghost use Rattle.bs_reach.specs.Denials.{AreDenials};
 
-use crate::length::{Trial, try_length};
+use crate::length::{Trial, next_length};
 use bs_bits::Bits;
 use bs_clause::NoMemory;
 use bs_encode::Encoding;
-use bs_solve::Solver;
+use bs_solve::{Denial, Solver};
 use bs_solve_recording::Solution;
 use std::alloc::Global;
+use std::collections::VecDeque;
 
 /// How the search ends, with the copy that was to lead to the state.
 #[derive(Drop)]
@@ -23,11 +25,12 @@ pub(crate) enum End {
     Unknown(u32),
 }
 
-/// Tries the lengths from 1 to `k` until one is not refuted.
+/// Tries the lengths from 1 to `k` until one is not refuted, the first ones by these lemmas.
 pub(crate) fn search(
     alloc: Global,
     encoding: &Encoding,
     solver: &mut Solver,
+    denials: &mut VecDeque<Denial>,
     state: &Bits,
     k: u32,
     b: u64,
@@ -36,10 +39,11 @@ pub(crate) fn search(
     requires width { length encoding.now.next ≡ length state.now }
     requires limit { 1 ≤ b }
     requires start { IsBetween solver.old.book.problem.clauses encoding.now k state.now b 0 solver.old }
+    requires denials { AreDenials solver.old.book.problem.clauses encoding.now k state.now 0 denials.old.items }
     ensures { IfOk result (EndsAs solver.old.book.problem.clauses encoding.now k state.now b solver.new) }
 {
     'lengths: for c in 0..k {
-        match try_length(alloc, encoding, solver, state, c, k, b)? {
+        match next_length(alloc, encoding, solver, denials, state, c, k, b)? {
             Trial::Shown(values) => return Ok(End::Reached(c, values)),
             Trial::Refuted => {}
             Trial::Spent => return Ok(End::Unknown(c)),

@@ -6,12 +6,12 @@ pub returns : goal.returns
 returns c =
     subst (HasSought c.args.encoding.now c.args.reset.now c.args.state.now c.args.k c.args.b) (sym c.answered.ensures)
     (record {
-      start = c.in_ok-solver.solver;
+      start = c.in_ok-start.start.solver;
       solver = c.sought.new.solver;
       end = c.in_ok-told.ensures.end;
       told = c.in_ok-told.told;
       is = refl;
-      fresh = c.in_ok-solver.ensures;
+      fresh = c.in_ok-start.ensures.solver;
       ended = c.in_ok-told.ensures.ended;
       tells = c.in_ok-told.ensures.tells;
       lines = c.into_log.ensures.lines;

@@ -1,0 +1,47 @@
+-- Lemmas of lengths, one after another.
+use Rattle.std.proofs.Common.{◌≡◌, ℕ, ◌+◌, ◌-◌, ◌*◌, Bool, true, List, [], ◌∷◌, ◌++◌, length, drop, arith, ap, sym, subst, ◌∙◌, Option, Some, None}
+use Rattle.std.specs.Prelude.{option_to_list}
+use Rattle.bs_clause.specs.Literal.{Literal, Clause}
+use Rattle.bs_encode.specs.Tables.{lit}
+use Rattle.bs_encode.specs.Encoded.{Encoded}
+use Rattle.bs_encode.specs.Assuming.{signed}
+use Rattle.bs_reach_unrolled.specs.Unrolled.{next_at, length_assumes}
+use Rattle.bs_solve.specs.declared.denying.Denial.{Denial}
+use Rattle.bs_solve.specs.Denying.{Denies}
+use Rattle.bs_reach.specs.Denials.{AreDenials}
+
+-- what a guard and the state of a copy make
+pub due_of : (e : Encoded) (k c : ℕ) (p : List Bool) (guard : Literal) (a : Clause) → guard ≡ lit (k * e.variables + (c + 1)) true →
+    a ≡ guard ∷ signed (next_at e c) p → a ≡ length_assumes e k p (c + 1)
+due_of e k c p guard a is are =
+    let back : c ≡ (c + 1) - 1 = omega arith in
+    are ∙ (ap (λ (l : Literal). l ∷ signed (next_at e c) p) is ∙
+    ap (λ (m : ℕ). lit (k * e.variables + (c + 1)) true ∷ signed (next_at e m) p) back)
+
+-- one more at the end
+pub denials_push : (cs : List Clause) (e : Encoded) (k : ℕ) (p : List Bool) (c n : ℕ) (ds : List Denial) (d : Denial) → AreDenials cs e k p c ds →
+    c + length ds ≡ n → Denies cs (length_assumes e k p (n + 1)) d → AreDenials cs e k p c (ds ++ d ∷ [])
+denials_push cs e k p c n [] d all is one =
+    let same : n ≡ c = omega (arith, is) in
+    (subst (λ m. Denies cs (length_assumes e k p (m + 1)) d) same one, tt)
+denials_push cs e k p c n (x ∷ ds) d all is one = (all.0, denials_push cs e k p (c + 1) n ds d all.1 (omega (arith, is)) one)
+
+-- where none comes out of a queue, none was in it
+pub none_left : (old new : List Denial) → old ≡ [] ++ new → new ≡ drop 1 old → new ≡ []
+none_left [] new same rest = rest
+none_left (d ∷ ds) new same rest =
+    let n = ap length same in
+    let m = ap length rest in
+    absurd (omega (arith, n, m))
+
+-- the first of the lemmas, and those behind it
+pub denials_head : (cs : List Clause) (e : Encoded) (k : ℕ) (p : List Bool) (c : ℕ) (old new : List Denial) (d : Denial) (o : Option Denial) →
+    old ≡ option_to_list o ++ new → o ≡ Some d → AreDenials cs e k p c old →
+    Denies cs (length_assumes e k p (c + 1)) d × AreDenials cs e k p (c + 1) new
+denials_head cs e k p c old new d o items is all =
+    subst (AreDenials cs e k p c) (items ∙ ap (λ (x : Option Denial). option_to_list x ++ new) is) all
+
+pub denials_none : (cs : List Clause) (e : Encoded) (k : ℕ) (p : List Bool) (c : ℕ) (old new : List Denial) (o : Option Denial) →
+    old ≡ option_to_list o ++ new → new ≡ drop 1 old → o ≡ None → AreDenials cs e k p c new
+denials_none cs e k p c old new o items rest is =
+    subst (AreDenials cs e k p c) (sym (none_left old new (items ∙ ap (λ (x : Option Denial). option_to_list x ++ new) is) rest)) tt
