@@ -26,7 +26,7 @@ const SEARCHES: [Row<'static>; 12] = [
         [ZERO, "", "", "", ""],
         SOUND,
         Status::Unreached,
-        "reach 1\nasked 3 conflicts 100000\nresult unreached\nlog 12\ns\n27 -5 0 5 6 2 0\ne 27\nr 28\ns\n29 -10 0 12 13 9 0\ne 29\nr 30\ns\n31 -15 0 19 20 16 0\ne 31\nr 32\nend\n",
+        "reach 1\nasked 3 conflicts 100000\nresult unreached\nlog 12\ns\n27 -5 0 5 2 6 0\ne 27\nr 28\ns\n29 -10 0 12 9 13 0\ne 29\nr 30\ns\n31 -15 0 19 16 20 0\ne 31\nr 32\nend\n",
     ),
     (
         "reach n 0 0",
