@@ -13,7 +13,8 @@ range_more a (suc n) =
 pub range_push : (n : ℕ) → range_with_len 0 (n + 1) ≡ range_with_len 0 n ++ n ∷ []
 range_push n = rw add-one (range_more 0 n ∙ ap (λ x. range_with_len 0 n ++ x ∷ []) (zero-add n))
 
-flat_more : (f : ℕ → List ℕ) (a n : ℕ) → flat_map f (range_with_len a (suc n)) ≡ flat_map f (range_with_len a n) ++ f (a + n)
+-- one number more
+pub flat_more : (f : ℕ → List ℕ) (a n : ℕ) → flat_map f (range_with_len a (suc n)) ≡ flat_map f (range_with_len a n) ++ f (a + n)
 flat_more f a zero = append-nil (f a) ∙ ap f (let e : a ≡ a + 0 = omega arith in e)
 flat_more f a (suc n) =
     let place : a + 1 + n ≡ a + suc n = omega arith in

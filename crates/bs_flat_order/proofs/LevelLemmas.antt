@@ -17,7 +17,7 @@ use Rattle.bs_flat_meaning.specs.Rings.{instanced_by}
 use Rattle.bs_flat_meaning.proofs.RingLemmas.{any_place}
 use Rattle.bs_flat_order.specs.Ring.{place_in_order, IsChildrenFirst}
 use Rattle.bs_flat_order.specs.Gates.{gates_of, gate_for, nets_of, are_narrow}
-use Rattle.bs_flat_order.specs.declared.levels.TheConstants.{MOST}
+use Rattle.bs_flat_order.specs.declared.children_first.TheConstants.{MOST}
 use Rattle.std.specs.Prelude.{nat_le}
 
 any_range : (k a n : ℕ) → a ≤ k → k < a + n → list_any (nat_eq k) (range_with_len a n) ≡ true

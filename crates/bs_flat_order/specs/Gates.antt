@@ -5,7 +5,7 @@ use Rattle.bs_net.specs.declared.net.NetId.{NetId}
 use Rattle.bs_net.specs.declared.net.Gate.{Gate}
 use Rattle.bs_net.specs.declared.gate.Kind.TheVariants.{And}
 use Rattle.bs_net.specs.Names.{net}
-use Rattle.bs_flat_order.specs.declared.levels.TheConstants.{MOST}
+use Rattle.bs_flat_order.specs.declared.children_first.TheConstants.{MOST}
 use Rattle.bs_flat_meaning.specs.Rings.{instanced_by}
 
 abbrev pub nets_of : List ℕ → List NetId

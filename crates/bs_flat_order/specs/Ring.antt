@@ -2,8 +2,8 @@
 use Rattle.std.specs.Prelude.{◌≡◌, ℕ, ◌<◌, List, length, slice_index_or, All, nat_eq}
 use Rattle.std.specs.List.{position_or_len}
 use Rattle.bs_flat_meaning.specs.Rings.{instanced_by, IsRing}
-use Rattle.bs_flat_order.specs.declared.levels.Levels.{Levels}
-use Rattle.bs_flat_order.specs.declared.levels.Levels.TheVariants.{Ordered, Ringed}
+use Rattle.bs_flat_order.specs.declared.children_first.Levels.{Levels}
+use Rattle.bs_flat_order.specs.declared.children_first.Levels.TheVariants.{Ordered, Ringed}
 
 -- the place of a module in an order
 abbrev pub place_in_order : List ℕ → ℕ → ℕ

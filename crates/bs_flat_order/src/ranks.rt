@@ -3,7 +3,7 @@ ghost use Rattle.std.specs.Prelude.{◌≡◌, ◌<◌, ◌^◌, length, All, If
 ghost use Rattle.bs_flat_meaning.specs.Rings as rings;
 ghost use Rattle.bs_flat_order.specs.Hierarchy as spec;
 
-use crate::levels::{Levels, module_levels};
+use crate::children_first::{Levels, module_levels};
 use crate::marks::tops;
 use crate::numbers::module_numbers;
 use bs_bits::{List, NoMemory};

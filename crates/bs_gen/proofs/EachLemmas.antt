@@ -3,22 +3,15 @@ use Rattle.std.proofs.Common.{◌≡◌, ℕ, suc, zero, ◌+◌, List, ◌++◌
 use Rattle.std.specs.List.{flat_map, range_with_len}
 use Rattle.std.proofs.lemmas.List.{append-nil}
 use Rattle.rand_pcg.specs.Lcg.{Lcg}
+use Rattle.bs_bits.proofs.RangeLemmas.{flat_more}
 use Rattle.bs_gen.specs.Draws.{after}
 use Rattle.bs_gen.specs.Each.{each}
-
-range_more : (f : ℕ → List ℕ) (a n : ℕ) → flat_map f (range_with_len a (suc n)) ≡ flat_map f (range_with_len a n) ++ f (a + n)
-range_more f a zero = append-nil (f a) ∙ ap f (let e : a ≡ a + 0 = omega arith in e)
-range_more f a (suc n) =
-    let place : a + 1 + n ≡ a + suc n = omega arith in
-    ap (λ (rest : List ℕ). f a ++ rest) (range_more f (a + 1) n)
-    ∙ (sym (append_assoc (f a) (flat_map f (range_with_len (a + 1) n)) (f (a + 1 + n)))
-    ∙ ap (λ (k : ℕ). (f a ++ flat_map f (range_with_len (a + 1) n)) ++ f k) place)
 
 each_more : (f : ℕ → List ℕ) (a n i m : ℕ) → a + n ≡ i → suc n ≡ m → each f a m ≡ each f a n ++ f i
 unfolding each
 each_more f a n i m at more =
     ap (λ (k : ℕ). flat_map f (range_with_len a k)) (sym more)
-    ∙ (range_more f a n ∙ ap (λ (k : ℕ). flat_map f (range_with_len a n) ++ f k) at)
+    ∙ (flat_more f a n ∙ ap (λ (k : ℕ). flat_map f (range_with_len a n) ++ f k) at)
 
 -- nothing for no number
 pub each_none : (f : ℕ → List ℕ) (a : ℕ) (old : List ℕ) → old ≡ old ++ each f a 0

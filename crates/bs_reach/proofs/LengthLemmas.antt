@@ -7,6 +7,7 @@ use Rattle.std.specs.List.{AllByRecursion as Each, range_with_len}
 use Rattle.std.proofs.lemmas.Bool.{false≢true}
 use Rattle.std.proofs.lemmas.List.Elements.{All-contains, All-tail}
 use Rattle.std.proofs.lemmas.List.FromFn.{map-range_with_len_more}
+use Rattle.bs_bits.proofs.RangeLemmas.{range_more}
 use Rattle.bs_clause.specs.Literal.{Literal, Clause, negation, literal_value, Satisfies}
 use Rattle.bs_clause.specs.UnitRun.{IsUnitRun}
 use Rattle.bs_clause.specs.Range.{HasVariables}
@@ -74,15 +75,6 @@ deleted_same (id ∷ ids) h = record { step = refl; blocks = λ none. none; fini
 -- a retire line, and the line of what goes
 retired_step : (ids : List ℕ) (id : ℕ) (h : History) → step_of (delete_lines ids ++ Retire id ∷ h) ≡ step_of h + 1
 retired_step ids id h = (deleted_same ids (Retire id ∷ h)).step
-
-range_more : (a n : ℕ) → range_with_len a (n + 1) ≡ range_with_len a n ++ (a + n) ∷ []
-range_more a n = let one : n + 1 ≡ suc n = omega arith in ap (range_with_len a) one ∙ by a n
-  where
-    by : (a n : ℕ) → range_with_len a (suc n) ≡ range_with_len a n ++ (a + n) ∷ []
-    by a zero = let same : a ≡ a + 0 = omega arith in ap (λ (m : ℕ). m ∷ []) same
-    by a (suc n) =
-        let same : a + 1 + n ≡ a + suc n = omega arith in
-        ap (λ (xs : List ℕ). a ∷ xs) (by (a + 1) n ∙ ap (λ (m : ℕ). range_with_len (a + 1) n ++ m ∷ []) same)
 
 -- ---- a length
 
@@ -256,7 +248,7 @@ module _ (cs : List Clause) (e : Encoded) (k : ℕ) (p : List Bool) (limit c : �
               ap finished_in history
               ∙ (last.finished
               ∙ (ap (λ (ns : List ℕ). ns ++ step_of inner ∷ []) (same.finished ∙ between.tried.finished)
-              ∙ (ap (λ (m : ℕ). range_with_len 1 c ++ m ∷ []) (step ∙ one) ∙ sym (range_more 1 c))));
+              ∙ (ap (λ (m : ℕ). range_with_len 1 c ++ m ∷ []) (step ∙ one) ∙ sym (ap (range_with_len 1) (let more : c + 1 ≡ suc c = omega arith in more) ∙ range_more 1 c))));
           few = subst (HasFewLemmas limit) (sym history)
               (deleted_few limit ids (Retire rid ∷ Finish id ∷ inner) (few_then lines got.lemmas got.count));
         };

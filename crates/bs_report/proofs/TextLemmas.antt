@@ -33,26 +33,6 @@ steps_step d old before after steps i number step e f lt is n =
     ∙ (append_assoc old (steps_text d 1 (take i steps)) (step_text d number step)
     ∙ ap (λ (t : List ℕ). old ++ t) (sym (steps_text_more d steps i number step lt is n))))
 
-range_more : (f : ℕ → List ℕ) (a n : ℕ) → flat_map f (range_with_len a (suc n)) ≡ flat_map f (range_with_len a n) ++ f (a + n)
-range_more f a zero = append-nil (f a) ∙ ap f (let e : a ≡ a + 0 = omega arith in e)
-range_more f a (suc n) =
-    let place : a + 1 + n ≡ a + suc n = omega arith in
-    ap (λ (rest : List ℕ). f a ++ rest) (range_more f (a + 1) n)
-    ∙ (sym (append_assoc (f a) (flat_map f (range_with_len (a + 1) n)) (f (a + 1 + n)))
-    ∙ ap (λ (k : ℕ). (f a ++ flat_map f (range_with_len (a + 1) n)) ++ f k) place)
-
--- one place more
-pub places_more : (f : ℕ → List ℕ) (n : ℕ) → flat_map f (range_with_len 0 (n + 1)) ≡ flat_map f (range_with_len 0 n) ++ f n
-places_more f n =
-    ap (λ (k : ℕ). flat_map f (range_with_len 0 k)) (add-one n)
-    ∙ (range_more f 0 n ∙ ap (λ (k : ℕ). flat_map f (range_with_len 0 n) ++ f k) (let e : 0 + n ≡ n = omega arith in e))
-
--- what a place appends
-pub places_step : (f : ℕ → List ℕ) (old before after : List ℕ) (n : ℕ) → before ≡ old ++ flat_map f (range_with_len 0 n) → after ≡ before ++ f n →
-    after ≡ old ++ flat_map f (range_with_len 0 (n + 1))
-places_step f old before after n e g =
-    g ∙ (ap (λ (t : List ℕ). t ++ f n) e ∙ (append_assoc old (flat_map f (range_with_len 0 n)) (f n) ∙ ap (λ (t : List ℕ). old ++ t) (sym (places_more f n))))
-
 four : (old a b c new p q r s : List ℕ) → a ≡ old ++ p → b ≡ a ++ q → c ≡ b ++ r → new ≡ c ++ s → new ≡ old ++ (p ++ (q ++ (r ++ s)))
 four old a b c new p q r s e f g h =
     h ∙ (ap (λ (t : List ℕ). t ++ s) (g ∙ (ap (λ (t : List ℕ). t ++ r) (f ∙ ap (λ (t : List ℕ). t ++ q) e)))

@@ -1,5 +1,5 @@
 use Rattle.std.proofs.Common.{◌∙◌, ℕ, List, subst, sym}
-use Rattle.bs_flat_order.specs.declared.levels.Levels.{Levels}
+use Rattle.bs_flat_order.specs.declared.children_first.Levels.{Levels}
 use Rattle.bs_flat_meaning.specs.Rings.{IsRing}
 use Rattle.bs_flat_order.specs.Ring.{IsLevels, IsChildrenFirst}
 use Rattle.bs_flat_order.proofs.RankLemmas.{ring_is, ranked_is}

@@ -8,7 +8,7 @@ use Rattle.bs_flat_order.specs.Gates.{turned}
 use Rattle.bs_flat_meaning.specs.Rings.{IsRing}
 use Rattle.bs_flat_order.proofs.LevelLemmas.{gates_count, gates_outs, gates_ins, gates_narrow, gates_single, order_is}
 use Rattle.bs_flat_order.proofs.RingLemmas.{loop_is_ring, loop_is_some}
-use Rattle.bs_flat_order.proofs.levels.module_levels.Goals as goal
+use Rattle.bs_flat_order.proofs.children_first.module_levels.Goals as goal
 
 pub levelize-requires-clause-outs : goal.levelize-requires-clause-outs
 levelize-requires-clause-outs c =
