@@ -3,6 +3,5 @@ pub mod Taking
 pub mod BudgetLemmas
 pub mod SpellingLemmas
 pub mod JobLemmas
-pub mod SettingLemmas
 pub mod ValueLemmas
 pub mod FaultLemmas

@@ -5,7 +5,7 @@ use Rattle.std.specs.Str.{bytes_eq}
 use Rattle.bs_top_words.specs.declared.options.Kind.{Kind}
 use Rattle.bs_top_words.specs.declared.options.Kind.TheVariants.{Steps, Candidates, Conflicts}
 use Rattle.bs_top_words.specs.declared.flags.Flag.{Flag}
-use Rattle.bs_top_words.specs.declared.flags.Flag.TheVariants.{Budget, All, Only, Clock, Scope, Map, Bits}
+use Rattle.bs_top_words.specs.declared.flags.Flag.TheVariants.{Budget, All, Only, Clock, Scope, Map, Bits, From, Time, Cycle, Signature, Csv}
 use Rattle.bs_top_words.specs.declared.given.Awaited.{Awaited}
 use Rattle.bs_top_words.specs.declared.given.Awaited.TheVariants as A
 use Rattle.bs_top_words.specs.Options.{has_dash, is_option, rest_of, value_in}
@@ -140,6 +140,11 @@ set_behind (s ∷ ss) l word = by s.flag (λ k. set_behind ss k word)
     by Scope later = refl
     by Map later = refl
     by Bits later = refl
+    by From later = refl
+    by Time later = refl
+    by Cycle later = refl
+    by Signature later = refl
+    by Csv later = refl
 
 -- an option that comes last
 set_last : (ss : List Setting) (l : Line) (s : Setting) →

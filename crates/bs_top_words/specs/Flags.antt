@@ -7,7 +7,7 @@ use Rattle.bs_top_words.specs.Options.{rest_of}
 use Rattle.bs_top_words.specs.declared.options.Kind.{Kind}
 use Rattle.bs_top_words.specs.declared.options.Kind.TheVariants.{Steps, Candidates, Conflicts}
 use Rattle.bs_top_words.specs.declared.flags.Flag.{Flag}
-use Rattle.bs_top_words.specs.declared.flags.Flag.TheVariants.{Budget, All, Only, Clock, Scope, Map, Bits}
+use Rattle.bs_top_words.specs.declared.flags.Flag.TheVariants.{Budget, All, Only, Clock, Scope, Map, Bits, From, Time, Cycle, Signature, Csv}
 
 -- the name of a budget
 abbrev pub kind_name : Kind → List ℕ
@@ -24,10 +24,16 @@ name_of Clock = codes "--clock"
 name_of Scope = codes "--scope"
 name_of Map = codes "--map"
 name_of Bits = codes "--bits"
+name_of From = codes "--from"
+name_of Time = codes "--time"
+name_of Cycle = codes "--cycle"
+name_of Signature = codes "--signature"
+name_of Csv = codes "--csv"
 
--- every option has a value but `--all`
+-- every option has a value but `--all` and `--csv`
 abbrev pub has_value : Flag → Bool
 has_value All = false
+has_value Csv = false
 has_value _ = true
 
 -- whether two budgets, or options, are the same
@@ -45,6 +51,11 @@ is_flag Clock Clock = true
 is_flag Scope Scope = true
 is_flag Map Map = true
 is_flag Bits Bits = true
+is_flag From From = true
+is_flag Time Time = true
+is_flag Cycle Cycle = true
+is_flag Signature Signature = true
+is_flag Csv Csv = true
 is_flag _ _ = false
 
 -- ---- the tables
@@ -53,10 +64,6 @@ is_flag _ _ = false
 abbrev pub budgets_if : Bool → List Flag
 budgets_if true = Budget Steps ∷ Budget Candidates ∷ Budget Conflicts ∷ []
 budgets_if false = []
-
--- what the commands of `backspace_inspect` take
-abbrev pub shown_flags : List Flag
-shown_flags = All ∷ Only ∷ Clock ∷ Scope ∷ Map ∷ Bits ∷ []
 
 -- ---- words
 

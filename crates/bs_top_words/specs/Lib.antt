@@ -5,6 +5,5 @@ pub mod Line
 pub mod Job
 pub mod Spelling
 pub mod Shown
-pub mod Request
 pub mod Asked
 pub mod Faults

@@ -22,6 +22,16 @@ pub enum Flag {
     Map,
     /// A number of items.
     Bits,
+    /// The cycle at which a waveform begins.
+    From,
+    /// A time of a simulation.
+    Time,
+    /// A cycle of a simulation.
+    Cycle,
+    /// The name of a file with a signature.
+    Signature,
+    /// A table; it has no value.
+    Csv,
 }
 
 /// The name of a budget.
@@ -47,6 +57,11 @@ fn name_of(flag: Flag) -> &'static str
         Flag::Scope => "--scope",
         Flag::Map => "--map",
         Flag::Bits => "--bits",
+        Flag::From => "--from",
+        Flag::Time => "--time",
+        Flag::Cycle => "--cycle",
+        Flag::Signature => "--signature",
+        Flag::Csv => "--csv",
     }
 }
 
@@ -55,7 +70,7 @@ pub fn has_value(flag: Flag) -> bool
     ensures { result ≡ has_value flag }
 {
     match flag {
-        Flag::All => false,
+        Flag::All | Flag::Csv => false,
         _ => true,
     }
 }
@@ -84,6 +99,11 @@ pub fn is_flag(one: Flag, other: Flag) -> bool
         (Flag::Scope, Flag::Scope) => true,
         (Flag::Map, Flag::Map) => true,
         (Flag::Bits, Flag::Bits) => true,
+        (Flag::From, Flag::From) => true,
+        (Flag::Time, Flag::Time) => true,
+        (Flag::Cycle, Flag::Cycle) => true,
+        (Flag::Signature, Flag::Signature) => true,
+        (Flag::Csv, Flag::Csv) => true,
         _ => false,
     }
 }
