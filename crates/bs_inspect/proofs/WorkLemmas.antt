@@ -22,12 +22,11 @@ use Rattle.bs_top_answer.specs.Stops.{StopNoted}
 use Rattle.bs_top_answer.proofs.AnswerLemmas.{told_stopped, told_work}
 use Rattle.bs_top_files.specs.NoteCases.{NoteCase, NoteSays}
 use Rattle.bs_top_files.specs.Refusals.{Case, CheckSays}
-use Rattle.bs_top_words.specs.Request.{Request}
-use Rattle.bs_inspect.specs.Question.{Question}
-use Rattle.bs_inspect.specs.Said.{QuestionSaid, RequestSaid, silent, WordsSaid, WorkSaid}
+use Rattle.bs_inspect_words.specs.Request.{Request}
+use Rattle.bs_inspect.specs.Said.{RequestSaid, silent, WordsSaid, WorkSaid}
 use Rattle.bs_inspect.specs.Sources.{Sources, source_of}
 use Rattle.bs_inspect.specs.Work.{to_table, to_steps_table, to_keys, to_state}
-use Rattle.bs_inspect.specs.Work.{Work, plan_for, plan_of, to_help, to_version, to_flops, to_inputs, to_stats, to_steps, to_trace, to_run, to_wave, to_signature}
+use Rattle.bs_inspect.specs.Work.{Work, plan_of, to_help, to_version, to_flops, to_inputs, to_stats, to_steps, to_trace, to_run, to_wave, to_signature}
 use Rattle.bs_inspect.specs.Finishes.{finishes}
 
 work_status : (work : Work) (status : Status) (text : List ℕ) → finishes work status text → is_work_status status ≡ true
@@ -39,7 +38,7 @@ work_status (to_stats raw) status text done = ap is_work_status done.0 ∙ refl
 work_status (to_steps report) status text done = ap is_work_status done.0 ∙ refl
 work_status (to_trace all only traced) status text done = ap is_work_status done.0 ∙ refl
 work_status (to_run lines) status text done = ap is_work_status done.0 ∙ refl
-work_status (to_wave traced) status text done = ap is_work_status done.0 ∙ refl
+work_status (to_wave from all only traced) status text done = ap is_work_status done.0 ∙ refl
 work_status (to_signature items exercised) status text done = ap is_work_status done.0 ∙ refl
 work_status (to_table only traced) status text done = ap is_work_status done.0 ∙ refl
 work_status (to_steps_table report) status text done = ap is_work_status done.0 ∙ refl
@@ -108,24 +107,10 @@ pub noted_with : {A S : Type 0} {held : S → Tells} {faults : S → Counts} {le
     PreparedNoted CheckSays finishes (RequestSaid (request a)) held faults leads before now (Some (plan_of (request a))) r
 noted_with request a b r is h = noted_asked r (request a) (request b) (ap request is) h
 
--- the same of what words ask
-pub noted_question : {S : Type 0} {held : S → Tells} {faults : S → Counts} {leads : S → FetchCall → S → Type 0} {before now : S}
-    (r : Result Answer NoMemory) (asked question : Question) → asked ≡ question →
-    PreparedNoted CheckSays finishes (QuestionSaid question) held faults leads before now (Some (plan_for question)) r →
-    PreparedNoted CheckSays finishes (QuestionSaid asked) held faults leads before now (Some (plan_for asked)) r
-noted_question {held = held} {faults = faults} {leads = leads} {before = before} {now = now} r asked question e h =
-    subst (λ (q : Question). PreparedNoted CheckSays finishes (QuestionSaid q) held faults leads before now (Some (plan_for q)) r) (sym e) h
-
-pub noted_question_with : {A S : Type 0} {held : S → Tells} {faults : S → Counts} {leads : S → FetchCall → S → Type 0} {before now : S}
-    (question : A → Question) (a b : A) (r : Result Answer NoMemory) → a ≡ b →
-    PreparedNoted CheckSays finishes (QuestionSaid (question b)) held faults leads before now (Some (plan_for (question b))) r →
-    PreparedNoted CheckSays finishes (QuestionSaid (question a)) held faults leads before now (Some (plan_for (question a))) r
-noted_question_with question a b r is h = noted_question r (question a) (question b) (ap question is) h
-
 -- the answer to words that are this
 pub noted_words_as : {S : Type 0} {held : S → Tells} {faults : S → Counts} {leads : S → FetchCall → S → Type 0} {before now : S} (words : List (List ℕ))
-    (read asked : Option Question) (r : Result Answer NoMemory) → read ≡ asked →
-    PreparedNoted CheckSays finishes (WordsSaid words read) held faults leads before now (option_map plan_for read) r →
-    PreparedNoted CheckSays finishes (WordsSaid words asked) held faults leads before now (option_map plan_for asked) r
+    (read asked : Option Request) (r : Result Answer NoMemory) → read ≡ asked →
+    PreparedNoted CheckSays finishes (WordsSaid words read) held faults leads before now (option_map plan_of read) r →
+    PreparedNoted CheckSays finishes (WordsSaid words asked) held faults leads before now (option_map plan_of asked) r
 noted_words_as {held = held} {faults = faults} {leads = leads} {before = before} {now = now} words read asked r e h =
-    subst (λ (o : Option Question). PreparedNoted CheckSays finishes (WordsSaid words o) held faults leads before now (option_map plan_for o) r) e h
+    subst (λ (o : Option Request). PreparedNoted CheckSays finishes (WordsSaid words o) held faults leads before now (option_map plan_of o) r) e h

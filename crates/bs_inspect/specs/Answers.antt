@@ -9,13 +9,13 @@ use Rattle.bs_top_plan.specs.declared.status.Status.TheVariants.{ReadFault, Writ
 use Rattle.bs_top_plan.specs.Plan.{Tells, Counts, Plan}
 use Rattle.bs_top_plan.specs.Clauses.{Answered, AnsweredAsTold, AnsweredWhole, CallByCall, CallsWanting, IsCalm, IsWordsOnlyFor, ReadFaultOf, RefusesFirstOf}
 use Rattle.bs_top_files.specs.Refusals.{Case, CheckSays}
-use Rattle.bs_inspect.specs.Question.{question_of}
-use Rattle.bs_inspect.specs.Work.{Work, plan_for}
+use Rattle.bs_inspect_words.specs.Request.{request_of}
+use Rattle.bs_inspect.specs.Work.{Work, plan_of}
 use Rattle.bs_inspect.specs.Finishes.{finishes}
 
 -- the plan of what words ask, if they ask something
 abbrev pub planned : List (List ℕ) → Option (Plan Case Work)
-planned words = option_map plan_for (question_of words)
+planned words = option_map plan_of (request_of words)
 
 -- The answer to words, over a shelf and a sink: each part is the clause of `inspect_noted` of that name.
 pub record AnswersWords {S K : Type 0} (held : S → Tells) (faults : S → Counts) (fetch_leads : S → FetchCall → S → Type 0) (shelf_before shelf_now : S)
@@ -23,7 +23,7 @@ pub record AnswersWords {S K : Type 0} (held : S → Tells) (faults : S → Coun
     (answer : Result Status NoMemory) : Type 0 where
   pub answered : IfOk answer (λ status. Answered CheckSays finishes (held shelf_before) (faults shelf_before) (faults shelf_now) (planned words_of)
       (written sink_before) (written sink_now) status)
-  pub words : IfOk answer (λ status. status ≢ WriteFault → IsWordsOnlyFor (question_of words_of) status)
+  pub words : IfOk answer (λ status. status ≢ WriteFault → IsWordsOnlyFor (request_of words_of) status)
   pub told : IfOk answer (λ status. status ≢ ReadFault → status ≢ WriteFault →
       AnsweredAsTold CheckSays finishes (held shelf_before) (planned words_of) (written sink_before) (written sink_now) status)
   pub refusals : IfOk answer (λ status. status ≢ ReadFault → status ≢ WriteFault →

@@ -1,10 +1,10 @@
 -- The status and the text of work that is done.
-use Rattle.std.specs.Prelude.{◌≡◌, ℕ, false, List, [], length}
+use Rattle.std.specs.Prelude.{◌≡◌, ℕ, List, length}
 use Rattle.bs_top_plan.specs.declared.status.Status.{Status}
 use Rattle.bs_top_plan.specs.declared.status.Status.TheVariants.{Done}
 use Rattle.bs_inspect_files.specs.Run.{simulated}
 use Rattle.bs_stim.specs.StimulusText.{run_text}
-use Rattle.bs_inspect_view.specs.Drawn.{Asked}
+use Rattle.bs_inspect.specs.Asked.{drawing_of}
 use Rattle.bs_inspect_view.specs.View.{IsDrawing}
 use Rattle.bs_inspect_lists.specs.Signature.{TellsSignature}
 use Rattle.bs_inspect_netlist.specs.Called.{TellsKeys}
@@ -19,10 +19,6 @@ use Rattle.bs_inspect.specs.Usage.{usage_text, version_text}
 use Rattle.bs_inspect.specs.Work.{Work, to_help, to_version, to_flops, to_inputs, to_stats, to_steps, to_trace, to_run, to_wave, to_signature}
 use Rattle.bs_inspect.specs.Work.{to_table, to_steps_table, to_keys, to_state}
 
--- what is asked of a waveform: that it begins at time 0, with these comments
-abbrev pub commented : List ℕ → Asked
-commented lines = record { from = 0; all = false; only = []; remarks = lines }
-
 abbrev pub finishes : Work → Status → List ℕ → Type 0
 finishes to_help status text = (status ≡ Done) × (text ≡ usage_text)
 finishes to_version status text = (status ≡ Done) × (text ≡ version_text)
@@ -32,8 +28,9 @@ finishes (to_stats raw) status text = (status ≡ Done) × TellsSizes raw text
 finishes (to_steps report) status text = (status ≡ Done) × (text ≡ steps_text report)
 finishes (to_trace all only traced) status text = (status ≡ Done) × TellsTrace traced.raw traced.report all only text
 finishes (to_run lines) status text = (status ≡ Done) × (text ≡ run_text (simulated lines))
-finishes (to_wave traced) status text =
-    (status ≡ Done) × IsDrawing traced.raw (commented (remarks traced.report)) traced.report.states traced.report.inputs text
+finishes (to_wave from all only traced) status text =
+    (status ≡ Done)
+    × IsDrawing traced.raw (drawing_of from all only (remarks traced.report)) traced.report.states traced.report.inputs text
 finishes (to_signature items exercised) status text = (status ≡ Done) × TellsSignature exercised.raw exercised.runs items text
 finishes (to_table only traced) status text = (status ≡ Done) × TellsTable traced.raw traced.report only text
 finishes (to_steps_table report) status text = (status ≡ Done) × (text ≡ steps_table report)

@@ -1,6 +1,5 @@
 pub mod Usage
 pub mod Asked
-pub mod Question
 pub mod Work
 pub mod Sources
 pub mod Finishes

@@ -17,7 +17,7 @@ use Rattle.bs_top_files.specs.Refusals.{CheckSays}
 use Rattle.bs_inspect_notes.specs.Usages.{memory_text, unread_text}
 use Rattle.bs_inspect.specs.Answers.{AnswersWords, planned}
 use Rattle.bs_inspect.specs.Finishes.{finishes}
-use Rattle.bs_inspect.specs.Question.{question_of}
+use Rattle.bs_inspect_words.specs.Request.{request_of}
 use Rattle.bs_inspect.specs.Said.{WordsSaid}
 
 -- The exit code is that of an answer to the words, and what is said is the note on that answer: each further part is the clause of
@@ -27,7 +27,7 @@ pub record EndsBy {S K N : Type 0} (held : S → Tells) (faults : S → Counts) 
     (out : Output N) (notes_before notes_now : N) (words : List (List ℕ)) (code : ℕ) : Type 0 where
   pub answer : Result Status NoMemory
   pub answers : AnswersWords held faults fetch_leads shelf_before shelf_now written sink_faults put_leads sink_before sink_now words answer
-  pub noted : IfOk answer (λ status. CallNoted CheckSays finishes (WordsSaid words (question_of words)) fetch_leads shelf_before shelf_now
+  pub noted : IfOk answer (λ status. CallNoted CheckSays finishes (WordsSaid words (request_of words)) fetch_leads shelf_before shelf_now
       put_leads sink_before sink_now out notes_before notes_now (planned words) status)
   pub noted_wanting : OnErr answer (PutsText out notes_before notes_now memory_text)
   pub ended : code ≡ exit_code answer

@@ -12,13 +12,12 @@ use Rattle.bs_top_answer.specs.Note.{Due}
 use Rattle.bs_top_answer.specs.Prepared.{NoteAlong}
 use Rattle.bs_top_files.specs.Looking.{netlist_looked, report_looked}
 use Rattle.bs_top_files.specs.NoteCases.{NoteCase, NoteSays}
-use Rattle.bs_top_words.specs.Request.{Request, Help, Version, Flops, Inputs, Stats, Steps, Trace, Stimulus, Wave, Signature}
+use Rattle.bs_inspect_words.specs.Request.{Request, Help, Version, Flops, Inputs, Stats, Keys, Trace, TraceTable, Steps, StepsTable, Wave, Stimulus, Signature, Unscan}
 use Rattle.bs_inspect_files.specs.Simulated.{simulated_looked}
 use Rattle.bs_inspect_files.specs.Taken.{charted_looked, exercised_looked, picked_looked}
 use Rattle.bs_inspect_flops.specs.Taken.{named_looked, scanned_looked}
 use Rattle.bs_inspect_notes.specs.Usages.{words_text}
-use Rattle.bs_inspect.specs.Question.{Question, Plain, TraceTable, StepsTable, Keys, Unscan}
-use Rattle.bs_inspect.specs.Sources.{source_of, sources_for, sources_of}
+use Rattle.bs_inspect.specs.Sources.{source_of, sources_of}
 use Rattle.bs_inspect.specs.Work.{Work, to_help, to_version, to_flops, to_inputs, to_stats, to_steps, to_trace, to_run, to_wave, to_signature}
 use Rattle.bs_inspect.specs.Work.{to_table, to_steps_table, to_keys, to_state}
 
@@ -45,26 +44,22 @@ looked_of (Stimulus t) = do
   lines ← simulated_looked t.netlist t.names t.vcd t.clock t.scope
   end (to_run lines)
 looked_of (Wave t) = do
-  traced ← charted_looked t.netlist t.report
-  end (to_wave traced)
+  traced ← charted_looked t.netlist t.report t.only
+  end (to_wave t.from t.all t.only traced)
 looked_of (Signature t) = do
   exercised ← exercised_looked t.netlist t.runs
   end (to_signature t.items exercised)
-
--- the same of what words ask
-abbrev pub looked_for : Question → Plan NoteCase Work
-looked_for (Plain request) = looked_of request
-looked_for (TraceTable t) = do
+looked_of (TraceTable t) = do
   traced ← picked_looked t.netlist t.report t.only
   end (to_table t.only traced)
-looked_for (StepsTable report) = do
+looked_of (StepsTable report) = do
   told ← report_looked report
   end (to_steps_table told)
-looked_for (Keys k) = do
-  raw ← named_looked k.netlist k.names
-  end (to_keys k.names raw)
-looked_for (Unscan u) = do
-  scanned ← scanned_looked u.netlist u.order u.pattern
+looked_of (Keys t) = do
+  raw ← named_looked t.netlist t.names
+  end (to_keys t.names raw)
+looked_of (Unscan t) = do
+  scanned ← scanned_looked t.netlist t.order t.pattern
   end (to_state scanned)
 
 -- nothing is said of work that is done
@@ -75,14 +70,10 @@ WorkSaid work text note = note ≡ Silent
 abbrev pub RequestSaid : Request → List FetchCall → Status → List ℕ → Note → Type 0
 RequestSaid request = NoteAlong NoteSays WorkSaid (source_of (sources_of request)) (looked_of request)
 
--- the same of what words ask
-abbrev pub QuestionSaid : Question → List FetchCall → Status → List ℕ → Note → Type 0
-QuestionSaid question = NoteAlong NoteSays WorkSaid (source_of (sources_for question)) (looked_for question)
-
--- the same of words: those that ask nothing have a note on what is wrong with them
-abbrev pub WordsSaid : List (List ℕ) → Option Question → List FetchCall → Status → List ℕ → Note → Type 0
+-- the same of words: those that are no request have a note on what is wrong with them
+abbrev pub WordsSaid : List (List ℕ) → Option Request → List FetchCall → Status → List ℕ → Note → Type 0
 WordsSaid words None = λ fetches status text note. Due (λ said. said ≡ words_text words) note
-WordsSaid words (Some question) = QuestionSaid question
+WordsSaid words (Some request) = RequestSaid request
 
 -- a reply on which there is no note
 abbrev pub silent : Result Reply NoMemory → Result Answer NoMemory

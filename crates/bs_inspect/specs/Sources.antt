@@ -3,9 +3,9 @@ use Rattle.std.specs.Prelude.{ℕ, List, []}
 use Rattle.std.specs.Option.{unwrap_or}
 use Rattle.bs_top_plan.specs.declared.file.File.{File}
 use Rattle.bs_top_plan.specs.declared.file.File.TheVariants as files
-use Rattle.bs_top_words.specs.Request.{Request, SignatureRequest, StimulusRequest, Help, Version, Flops, Inputs, Stats, Steps, Trace, Stimulus, Wave, Signature}
+use Rattle.bs_inspect_words.specs.Request.{Request, SignatureRequest, StimulusRequest, Help, Version, Flops, Inputs, Stats, Keys, Trace, TraceTable, Steps}
+use Rattle.bs_inspect_words.specs.Request.{StepsTable, Wave, Stimulus, Signature, Unscan}
 use Rattle.bs_inspect.specs.declared.sources.Sources.{Sources as CodeSources}
-use Rattle.bs_inspect.specs.Question.{Question, Plain, TraceTable, StepsTable, Keys, Unscan}
 
 pub record Sources : Type 0 where
   pub netlist : List ℕ
@@ -44,6 +44,9 @@ runs_sources t = record { netlist = t.netlist; stimulus = t.runs; report = []; v
 abbrev pub values_sources : StimulusRequest → Sources
 values_sources t = record { netlist = t.netlist; stimulus = []; report = []; vcd = t.vcd; map = unwrap_or t.names [] }
 
+abbrev pub chain_sources : List ℕ → List ℕ → Sources
+chain_sources netlist order = record { netlist = netlist; stimulus = []; report = []; vcd = []; map = order }
+
 -- those of a request
 abbrev pub sources_of : Request → Sources
 sources_of Help = no_source
@@ -56,17 +59,10 @@ sources_of (Trace t) = traced_sources t.netlist t.report
 sources_of (Stimulus t) = values_sources t
 sources_of (Wave t) = traced_sources t.netlist t.report
 sources_of (Signature t) = runs_sources t
-
-abbrev pub chain_sources : List ℕ → List ℕ → Sources
-chain_sources netlist order = record { netlist = netlist; stimulus = []; report = []; vcd = []; map = order }
-
--- those of what words ask
-abbrev pub sources_for : Question → Sources
-sources_for (Plain request) = sources_of request
-sources_for (TraceTable t) = traced_sources t.netlist t.report
-sources_for (StepsTable report) = report_source report
-sources_for (Keys k) = netlist_source k.netlist
-sources_for (Unscan u) = chain_sources u.netlist u.order
+sources_of (TraceTable t) = traced_sources t.netlist t.report
+sources_of (StepsTable report) = report_source report
+sources_of (Keys t) = netlist_source t.netlist
+sources_of (Unscan t) = chain_sources t.netlist t.order
 
 abbrev pub sources_in : CodeSources → Sources
 sources_in n = record { netlist = n.netlist.now; stimulus = n.stimulus.now; report = n.report.now; vcd = n.vcd.now; map = n.map.now }

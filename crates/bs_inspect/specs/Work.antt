@@ -2,18 +2,17 @@
 use Rattle.std.specs.Prelude.{ℕ, Bool, List}
 use Rattle.bs_net.specs.Parts.{Parts}
 use Rattle.bs_report.specs.declared.report.Report.{Report}
-use Rattle.bs_top_words.specs.Request.{Request, Help, Version, Flops, Inputs, Stats, Steps, Trace, Stimulus, Wave, Signature}
+use Rattle.bs_inspect_words.specs.Request.{Request, Help, Version, Flops, Inputs, Stats, Keys, Trace, TraceTable, Steps, StepsTable, Wave, Stimulus, Signature, Unscan}
 use Rattle.bs_top_plan.specs.Plan.{Plan, end, ◌>>=◌}
 use Rattle.bs_top_files.specs.Entry.{netlist_of, report_of}
 use Rattle.bs_top_files.specs.Refusals.{Case}
 use Rattle.bs_inspect_files.specs.Taken.{Traced, Exercised, picked_of, charted_of, exercised_of}
 use Rattle.bs_inspect_files.specs.Simulated.{simulated_of}
 use Rattle.bs_inspect_flops.specs.Taken.{Scanned, named_of, scanned_of}
-use Rattle.bs_inspect.specs.Question.{Question, Plain, TraceTable, StepsTable, Keys, Unscan}
 
 -- how words stand, the version, the flip-flops, data inputs or sizes of a netlist, the steps of a report, its trace with the
--- names of a netlist, a run with these inputs, the waveform of a trace, or a signature of so many items is to be written; a trace or
--- steps as a table, the keys of the flip-flops that names stand for, or the state that a pattern of a scan chain is
+-- names of a netlist, a run with these inputs, the waveform of a trace from a cycle on, or a signature of so many items is to be
+-- written; a trace or steps as a table, the keys of the flip-flops that names stand for, or the state that a pattern of a scan chain is
 pub data Work : Type 0 where
   to_help : Work
   to_version : Work
@@ -23,7 +22,7 @@ pub data Work : Type 0 where
   to_steps : Report → Work
   to_trace : Bool → List (List ℕ) → Traced → Work
   to_run : List (List Bool) → Work
-  to_wave : Traced → Work
+  to_wave : (from : ℕ) → Bool → List (List ℕ) → Traced → Work
   to_signature : ℕ → Exercised → Work
   to_table : List (List ℕ) → Traced → Work
   to_steps_table : Report → Work
@@ -53,24 +52,20 @@ plan_of (Stimulus t) = do
   lines ← simulated_of t.netlist t.names t.vcd t.clock t.scope
   end (to_run lines)
 plan_of (Wave t) = do
-  traced ← charted_of t.netlist t.report
-  end (to_wave traced)
+  traced ← charted_of t.netlist t.report t.only
+  end (to_wave t.from t.all t.only traced)
 plan_of (Signature t) = do
   exercised ← exercised_of t.netlist t.runs
   end (to_signature t.items exercised)
-
--- the plan of what words ask
-abbrev pub plan_for : Question → Plan Case Work
-plan_for (Plain request) = plan_of request
-plan_for (TraceTable t) = do
+plan_of (TraceTable t) = do
   traced ← picked_of t.netlist t.report t.only
   end (to_table t.only traced)
-plan_for (StepsTable report) = do
+plan_of (StepsTable report) = do
   told ← report_of report
   end (to_steps_table told)
-plan_for (Keys k) = do
-  raw ← named_of k.netlist k.names
-  end (to_keys k.names raw)
-plan_for (Unscan u) = do
-  scanned ← scanned_of u.netlist u.order u.pattern
+plan_of (Keys t) = do
+  raw ← named_of t.netlist t.names
+  end (to_keys t.names raw)
+plan_of (Unscan t) = do
+  scanned ← scanned_of t.netlist t.order t.pattern
   end (to_state scanned)

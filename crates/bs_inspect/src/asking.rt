@@ -2,14 +2,12 @@
 ghost use Rattle.std.specs.Prelude.{◌≡◌, Some};
 ghost use Rattle.bs_top_answer.specs.Prepared.{PreparedNoted};
 ghost use Rattle.bs_top_files.specs.Refusals.{CheckSays};
-ghost use Rattle.bs_top_words.specs.Request.{Flops as FlopsOf, Inputs as InputsOf, Signature as SignatureOf, Stats as StatsOf, Steps as StepsOf, Stimulus as StimulusOf, Trace as TraceOf, Wave as WaveOf};
-ghost use Rattle.bs_top_words.specs.Asked.{request_in, signature_in, stimulus_in, trace_in, wave_in};
+ghost use Rattle.bs_inspect_words.specs.Request.{Flops as FlopsOf, Inputs as InputsOf, Keys as KeysOf, Signature as SignatureOf, Stats as StatsOf, Steps as StepsOf, StepsTable as StepsTableOf, Stimulus as StimulusOf, Trace as TraceOf, TraceTable as TraceTableOf, Unscan as UnscanOf, Wave as WaveOf};
+ghost use Rattle.bs_inspect_words.specs.Asked.{keys_in, request_in, signature_in, stimulus_in, trace_in, unscan_in, wave_in};
 ghost use Rattle.bs_inspect.specs.Finishes.{finishes};
-ghost use Rattle.bs_inspect.specs.Question.{Keys as KeysOf, StepsTable as StepsTableOf, TraceTable as TraceTableOf, Unscan as UnscanOf, keys_in, question_in, unscan_in};
-ghost use Rattle.bs_inspect.specs.Said.{QuestionSaid, RequestSaid, silent};
-ghost use Rattle.bs_inspect.specs.Work.{plan_for, plan_of};
+ghost use Rattle.bs_inspect.specs.Said.{RequestSaid, silent};
+ghost use Rattle.bs_inspect.specs.Work.{plan_of};
 
-use crate::question::{KeysQuestion, Question, UnscanQuestion};
 use crate::sources::{
     chain_sources, netlist_source, report_source, runs_sources, stop_at, traced_sources,
     values_sources,
@@ -20,11 +18,14 @@ use crate::telling::{
 };
 use bs_inspect_files::{Sampling, load_charted, load_exercised, load_picked, load_simulated};
 use bs_inspect_flops::{load_named, load_scanned};
+use bs_inspect_words::{
+    KeysRequest, Request, SignatureRequest, StimulusRequest, TraceRequest, UnscanRequest,
+    WaveRequest,
+};
 use bs_outside::{NoMemory, Shelf};
 use bs_top_answer::{Answer, Note};
 use bs_top_files::{load_netlist, load_report};
 use bs_top_plan::Reply;
-use bs_top_words::{Request, SignatureRequest, StimulusRequest, TraceRequest, WaveRequest};
 use std::alloc::Global;
 
 /// A reply on which there is no note.
@@ -123,8 +124,9 @@ fn stimulus<S: Shelf>(
 fn wave<S: Shelf>(alloc: Global, shelf: &mut S, asked: &WaveRequest<'_>) -> Result<Answer, NoMemory>
     ensures { PreparedNoted CheckSays finishes (RequestSaid (WaveOf (wave_in asked.now))) S.held S.faults S.leads shelf.old shelf.new (Some (plan_of (WaveOf (wave_in asked.now)))) result }
 {
-    match load_charted(alloc, shelf, asked.netlist, asked.report) {
-        Ok(traced) => silent(tell_wave(alloc, &traced)),
+    let only = asked.only.as_slice();
+    match load_charted(alloc, shelf, asked.netlist, asked.report, only) {
+        Ok(traced) => silent(tell_wave(alloc, &traced, asked.from, asked.all, only)),
         Err(stop) => stop_at(
             alloc,
             traced_sources(asked.netlist, asked.report),
@@ -148,36 +150,13 @@ fn signature<S: Shelf>(
     }
 }
 
-/// What is to be answered and written for a request, and what is to be said.
-fn request_answer<S: Shelf>(
-    alloc: Global,
-    request: &Request<'_>,
-    shelf: &mut S,
-) -> Result<Answer, NoMemory>
-    ensures { PreparedNoted CheckSays finishes (RequestSaid (request_in request.now)) S.held S.faults S.leads shelf.old shelf.new
-        (Some (plan_of (request_in request.now))) result }
-{
-    match request {
-        Request::Help => silent(tell_usage(alloc)),
-        Request::Version => silent(tell_version(alloc)),
-        Request::Flops(netlist) => flops(alloc, shelf, netlist),
-        Request::Inputs(netlist) => inputs(alloc, shelf, netlist),
-        Request::Stats(netlist) => stats(alloc, shelf, netlist),
-        Request::Steps(report) => steps(alloc, shelf, report),
-        Request::Trace(asked) => trace(alloc, shelf, asked),
-        Request::Stimulus(asked) => stimulus(alloc, shelf, asked),
-        Request::Wave(asked) => wave(alloc, shelf, asked),
-        Request::Signature(asked) => signature(alloc, shelf, asked),
-    }
-}
-
 /// The answer to `trace` as a table.
 fn trace_table<S: Shelf>(
     alloc: Global,
     shelf: &mut S,
     asked: &TraceRequest<'_>,
 ) -> Result<Answer, NoMemory>
-    ensures { PreparedNoted CheckSays finishes (QuestionSaid (TraceTableOf (trace_in asked.now))) S.held S.faults S.leads shelf.old shelf.new (Some (plan_for (TraceTableOf (trace_in asked.now)))) result }
+    ensures { PreparedNoted CheckSays finishes (RequestSaid (TraceTableOf (trace_in asked.now))) S.held S.faults S.leads shelf.old shelf.new (Some (plan_of (TraceTableOf (trace_in asked.now)))) result }
 {
     let only = asked.only.as_slice();
     match load_picked(alloc, shelf, asked.netlist, asked.report, only) {
@@ -193,7 +172,7 @@ fn trace_table<S: Shelf>(
 
 /// The answer to `steps` as a table.
 fn steps_table<S: Shelf>(alloc: Global, shelf: &mut S, report: &str) -> Result<Answer, NoMemory>
-    ensures { PreparedNoted CheckSays finishes (QuestionSaid (StepsTableOf report.now)) S.held S.faults S.leads shelf.old shelf.new (Some (plan_for (StepsTableOf report.now))) result }
+    ensures { PreparedNoted CheckSays finishes (RequestSaid (StepsTableOf report.now)) S.held S.faults S.leads shelf.old shelf.new (Some (plan_of (StepsTableOf report.now))) result }
 {
     match load_report(alloc, shelf, report) {
         Ok(told) => silent(tell_steps_table(alloc, &told)),
@@ -202,12 +181,8 @@ fn steps_table<S: Shelf>(alloc: Global, shelf: &mut S, report: &str) -> Result<A
 }
 
 /// The answer to `keys`.
-fn keys<S: Shelf>(
-    alloc: Global,
-    shelf: &mut S,
-    asked: &KeysQuestion<'_>,
-) -> Result<Answer, NoMemory>
-    ensures { PreparedNoted CheckSays finishes (QuestionSaid (KeysOf (keys_in asked.now))) S.held S.faults S.leads shelf.old shelf.new (Some (plan_for (KeysOf (keys_in asked.now)))) result }
+fn keys<S: Shelf>(alloc: Global, shelf: &mut S, asked: &KeysRequest<'_>) -> Result<Answer, NoMemory>
+    ensures { PreparedNoted CheckSays finishes (RequestSaid (KeysOf (keys_in asked.now))) S.held S.faults S.leads shelf.old shelf.new (Some (plan_of (KeysOf (keys_in asked.now)))) result }
 {
     let names = asked.names.as_slice();
     match load_named(alloc, shelf, asked.netlist, names) {
@@ -220,11 +195,17 @@ fn keys<S: Shelf>(
 fn unscan<S: Shelf>(
     alloc: Global,
     shelf: &mut S,
-    asked: &UnscanQuestion<'_>,
+    asked: &UnscanRequest<'_>,
 ) -> Result<Answer, NoMemory>
-    ensures { PreparedNoted CheckSays finishes (QuestionSaid (UnscanOf (unscan_in asked.now))) S.held S.faults S.leads shelf.old shelf.new (Some (plan_for (UnscanOf (unscan_in asked.now)))) result }
+    ensures { PreparedNoted CheckSays finishes (RequestSaid (UnscanOf (unscan_in asked.now))) S.held S.faults S.leads shelf.old shelf.new (Some (plan_of (UnscanOf (unscan_in asked.now)))) result }
 {
-    match load_scanned(alloc, shelf, asked.netlist, asked.order, asked.pattern) {
+    match load_scanned(
+        alloc,
+        shelf,
+        asked.netlist,
+        asked.order,
+        asked.pattern.as_bytes(),
+    ) {
         Ok(scanned) => silent(tell_state(alloc, &scanned)),
         Err(stop) => stop_at(
             alloc,
@@ -235,20 +216,29 @@ fn unscan<S: Shelf>(
     }
 }
 
-/// What is to be answered and written for what words ask, and what is to be said.
-pub(crate) fn question_answer<S: Shelf>(
+/// What is to be answered and written for a request, and what is to be said.
+pub(crate) fn request_answer<S: Shelf>(
     alloc: Global,
-    question: &Question<'_>,
+    request: &Request<'_>,
     shelf: &mut S,
 ) -> Result<Answer, NoMemory>
-    ensures { PreparedNoted CheckSays finishes (QuestionSaid (question_in question.now)) S.held S.faults S.leads shelf.old shelf.new
-        (Some (plan_for (question_in question.now))) result }
+    ensures { PreparedNoted CheckSays finishes (RequestSaid (request_in request.now)) S.held S.faults S.leads shelf.old shelf.new
+        (Some (plan_of (request_in request.now))) result }
 {
-    match question {
-        Question::Plain(request) => request_answer(alloc, request, shelf),
-        Question::TraceTable(asked) => trace_table(alloc, shelf, asked),
-        Question::StepsTable(report) => steps_table(alloc, shelf, report),
-        Question::Keys(asked) => keys(alloc, shelf, asked),
-        Question::Unscan(asked) => unscan(alloc, shelf, asked),
+    match request {
+        Request::Help => silent(tell_usage(alloc)),
+        Request::Version => silent(tell_version(alloc)),
+        Request::Flops(netlist) => flops(alloc, shelf, netlist),
+        Request::Inputs(netlist) => inputs(alloc, shelf, netlist),
+        Request::Stats(netlist) => stats(alloc, shelf, netlist),
+        Request::Steps(report) => steps(alloc, shelf, report),
+        Request::StepsTable(report) => steps_table(alloc, shelf, report),
+        Request::Trace(asked) => trace(alloc, shelf, asked),
+        Request::TraceTable(asked) => trace_table(alloc, shelf, asked),
+        Request::Stimulus(asked) => stimulus(alloc, shelf, asked),
+        Request::Wave(asked) => wave(alloc, shelf, asked),
+        Request::Signature(asked) => signature(alloc, shelf, asked),
+        Request::Keys(asked) => keys(alloc, shelf, asked),
+        Request::Unscan(asked) => unscan(alloc, shelf, asked),
     }
 }

@@ -3,13 +3,13 @@ ghost use Rattle.std.specs.Prelude.{◌≡◌, IfOk, IfSome};
 ghost use Rattle.bs_top_plan.specs.Prepared.{AnswersStop};
 ghost use Rattle.bs_top_plan.specs.Told.{line_stop, note_stop};
 ghost use Rattle.bs_top_answer.specs.Stops.{stop_file, StopNoted};
-ghost use Rattle.bs_top_words.specs.Asked.{signature_in, stimulus_in};
+ghost use Rattle.bs_inspect_words.specs.Asked.{signature_in, stimulus_in};
 ghost use Rattle.bs_inspect.specs.Sources.{chain_sources, netlist_source, report_source, runs_sources, source_of, sources_in, traced_sources, values_sources};
 
+use bs_inspect_words::{SignatureRequest, StimulusRequest};
 use bs_outside::NoMemory;
 use bs_top_answer::{Answer, stop_file, stopped_at};
 use bs_top_plan::{File, Stop};
-use bs_top_words::{SignatureRequest, StimulusRequest};
 use std::alloc::Global;
 use std::io::ErrorKind;
 

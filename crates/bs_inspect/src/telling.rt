@@ -4,7 +4,8 @@ ghost use Rattle.bs_inspect_files.specs.Taken.{exercised_in, traced_in};
 ghost use Rattle.bs_inspect_flops.specs.Taken.{scanned_in};
 ghost use Rattle.bs_inspect_netlist.specs.Order.{state_line};
 ghost use Rattle.bs_inspect_view.specs.View.{IsDrawing};
-ghost use Rattle.bs_inspect.specs.Finishes.{commented, finishes};
+ghost use Rattle.bs_inspect.specs.Asked.{drawing_of};
+ghost use Rattle.bs_inspect.specs.Finishes.{finishes};
 ghost use Rattle.bs_inspect.specs.Work.{to_flops, to_help, to_inputs, to_keys, to_run, to_signature, to_state, to_stats, to_steps, to_steps_table, to_table, to_trace, to_version, to_wave};
 
 use crate::usage::{usage_text, version_text};
@@ -115,13 +116,20 @@ pub(crate) fn tell_run(alloc: Global, lines: &List<Bits>) -> Result<Reply, NoMem
 }
 
 /// The text of the waveform of a report's trace, with these comments.
-fn drawn(alloc: Global, traced: &Traced, remarks: &[u8]) -> Result<Vec<u8>, NoMemory>
-    ensures { IfOk result (λ text. IsDrawing traced.now.net.raw (commented remarks.now) traced.now.report.states traced.now.report.inputs text.items) }
+fn drawn(
+    alloc: Global,
+    traced: &Traced,
+    from: u64,
+    all: bool,
+    only: &[&str],
+    remarks: &[u8],
+) -> Result<Vec<u8>, NoMemory>
+    ensures { IfOk result (λ text. IsDrawing traced.now.net.raw (drawing_of from all (map (λ s. s.now) only.now) remarks.now) traced.now.report.states traced.now.report.inputs text.items) }
 {
     let asked = Asked {
-        from: 0,
-        all: false,
-        only: &[],
+        from,
+        all,
+        only,
         remarks,
     };
     let text = drawing(
@@ -134,12 +142,18 @@ fn drawn(alloc: Global, traced: &Traced, remarks: &[u8]) -> Result<Vec<u8>, NoMe
     Ok(text)
 }
 
-/// The waveform of a report's trace, with where its states come from as comments.
-pub(crate) fn tell_wave(alloc: Global, traced: &Traced) -> Result<Reply, NoMemory>
-    ensures { IfOk result (λ answer. finishes (to_wave (traced_in traced.now)) answer.status answer.text.items) }
+/// The waveform of a report's trace from a cycle on, with where its states come from as comments.
+pub(crate) fn tell_wave(
+    alloc: Global,
+    traced: &Traced,
+    from: u64,
+    all: bool,
+    only: &[&str],
+) -> Result<Reply, NoMemory>
+    ensures { IfOk result (λ answer. finishes (to_wave from all (map (λ s. s.now) only.now) (traced_in traced.now)) answer.status answer.text.items) }
 {
     let remarks = remarks_text(alloc, &traced.report)?;
-    let text = drawn(alloc, traced, remarks.as_slice())?;
+    let text = drawn(alloc, traced, from, all, only, remarks.as_slice())?;
     Ok(Reply {
         status: Status::Done,
         text,

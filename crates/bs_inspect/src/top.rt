@@ -9,22 +9,23 @@ ghost use Rattle.bs_top_answer.specs.Note.{Due};
 ghost use Rattle.bs_top_answer.specs.Prepared.{PreparedNoted};
 ghost use Rattle.bs_top_answer.specs.Said.{CallNoted};
 ghost use Rattle.bs_top_files.specs.Refusals.{CheckSays};
+ghost use Rattle.bs_inspect_words.specs.Asked.{shown_request};
+ghost use Rattle.bs_inspect_words.specs.Request.{request_of};
 ghost use Rattle.bs_inspect_notes.specs.Usages.{memory_text, words_text};
 ghost use Rattle.bs_inspect.specs.Answers.{AnswersWords, planned};
 ghost use Rattle.bs_inspect.specs.Finishes.{finishes};
-ghost use Rattle.bs_inspect.specs.Question.{question_of, shown_question};
 ghost use Rattle.bs_inspect.specs.Said.{WordsSaid};
-ghost use Rattle.bs_inspect.specs.Work.{plan_for};
+ghost use Rattle.bs_inspect.specs.Work.{plan_of};
 
-use crate::asking::question_answer;
-use crate::question::{Question, read_question};
+use crate::asking::request_answer;
 use bs_inspect_notes::words_note;
+use bs_inspect_words::{Request, read_request};
 use bs_outside::{Deaf, NoMemory, Shelf, Sink, put_text};
 use bs_top_answer::{Answer, deliver_noted, note_made};
 use bs_top_plan::{Status, refused_words};
 use std::alloc::Global;
 
-/// The answer to words that ask nothing, and the note on what is wrong with them.
+/// The answer to words that are no request, and the note on what is wrong with them.
 fn words_answer(alloc: Global, words: &[String]) -> Result<Answer, NoMemory>
     ensures reply { IfOk result (λ answer. RefusesWords answer.reply.status answer.reply.text.items) }
     ensures note { IfOk result (λ answer. Due (λ said. said ≡ words_text (map string_bytes words.now)) answer.note) }
@@ -34,19 +35,19 @@ fn words_answer(alloc: Global, words: &[String]) -> Result<Answer, NoMemory>
     Ok(Answer { reply, note })
 }
 
-/// The answer to words, by what they ask.
+/// The answer to words, by the request that they are.
 fn asked_answer<S: Shelf>(
     alloc: Global,
     words: &[String],
-    asked: Option<Question<'_>>,
+    asked: Option<Request<'_>>,
     shelf: &mut S,
 ) -> Result<Answer, NoMemory>
-    ensures { PreparedNoted CheckSays finishes (WordsSaid (map string_bytes words.now) (shown_question asked.entry)) S.held S.faults S.leads
-        shelf.old shelf.new (option_map plan_for (shown_question asked.entry)) result }
+    ensures { PreparedNoted CheckSays finishes (WordsSaid (map string_bytes words.now) (shown_request asked.entry)) S.held S.faults S.leads
+        shelf.old shelf.new (option_map plan_of (shown_request asked.entry)) result }
 {
     match asked {
-        Some(question) => {
-            let answer = question_answer(alloc, &question, shelf);
+        Some(request) => {
+            let answer = request_answer(alloc, &request, shelf);
             answer
         }
         None => words_answer(alloc, words),
@@ -55,10 +56,10 @@ fn asked_answer<S: Shelf>(
 
 /// What is to be answered and written, and what is to be said.
 fn prepare<S: Shelf>(alloc: Global, words: &[String], shelf: &mut S) -> Result<Answer, NoMemory>
-    ensures { PreparedNoted CheckSays finishes (WordsSaid (map string_bytes words.now) (question_of (map string_bytes words.now))) S.held S.faults S.leads
+    ensures { PreparedNoted CheckSays finishes (WordsSaid (map string_bytes words.now) (request_of (map string_bytes words.now))) S.held S.faults S.leads
         shelf.old shelf.new (planned (map string_bytes words.now)) result }
 {
-    match read_question(alloc, words) {
+    match read_request(alloc, words) {
         Ok(asked) => asked_answer(alloc, words, asked, shelf),
         Err(want) => Err(want),
     }
@@ -86,7 +87,7 @@ pub fn inspect_noted<S: Shelf, K: Sink, N: Sink>(
     // Whatever the files were: what was written is what the request calls for, or its front where a put failed.
     ensures answered { IfOk result (λ status. Answered CheckSays finishes (S.held shelf.old) (S.faults shelf.old) (S.faults shelf.new)
         (planned (map string_bytes words.now)) (K.written out.old) (K.written out.new) status) }
-    ensures words { IfOk result (λ status. status ≢ Status.WriteFault → IsWordsOnlyFor (question_of (map string_bytes words.now)) status) }
+    ensures words { IfOk result (λ status. status ≢ Status.WriteFault → IsWordsOnlyFor (request_of (map string_bytes words.now)) status) }
 
     // Where the shelf tells the files, they settle the answer, but for a fault.
     ensures told { IfOk result (λ status. status ≢ Status.ReadFault → status ≢ Status.WriteFault →
@@ -128,7 +129,7 @@ pub fn inspect_noted<S: Shelf, K: Sink, N: Sink>(
     // What is said: nothing on work that is done, and else exactly one put, of a note on this answer, and on a file about the very
     // bytes that were fetched; or that the output failed; or that memory ran out.
     ensures noted { IfOk result (λ status. CallNoted CheckSays finishes
-        (WordsSaid (map string_bytes words.now) (question_of (map string_bytes words.now))) S.leads shelf.old shelf.new K.leads out.old out.new
+        (WordsSaid (map string_bytes words.now) (request_of (map string_bytes words.now))) S.leads shelf.old shelf.new K.leads out.old out.new
         (output N.written N.faults N.leads) notes.old notes.new (planned (map string_bytes words.now)) status) }
     ensures noted_wanting { OnErr result (PutsText (output N.written N.faults N.leads) notes.old notes.new memory_text) }
 {

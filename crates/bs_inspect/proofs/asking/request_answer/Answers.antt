@@ -1,6 +1,6 @@
 use Rattle.std.proofs.Common.{ap}
-use Rattle.bs_top_words.specs.Asked.{request_in}
-use Rattle.bs_top_words.specs.Request.{Help, Version}
+use Rattle.bs_inspect_words.specs.Asked.{request_in}
+use Rattle.bs_inspect_words.specs.Request.{Help, Version}
 use Rattle.bs_inspect.specs.Sources.{source_of, sources_of}
 use Rattle.bs_inspect.specs.Work.{to_help, to_version}
 use Rattle.bs_inspect.proofs.WorkLemmas.{noted_asked, told_alone}
@@ -37,3 +37,15 @@ returns-in-Stats g c = noted_asked _ _ _ (ap request_in c.in-Stats.is) c.stats.e
 
 pub returns-in-Steps : goal.returns-in-Steps
 returns-in-Steps g c = noted_asked _ _ _ (ap request_in c.in-Steps.is) c.steps.ensures
+
+pub returns-in-TraceTable : goal.returns-in-TraceTable
+returns-in-TraceTable g c = noted_asked _ _ _ (ap request_in c.in-TraceTable.is) c.trace_table.ensures
+
+pub returns-in-StepsTable : goal.returns-in-StepsTable
+returns-in-StepsTable g c = noted_asked _ _ _ (ap request_in c.in-StepsTable.is) c.steps_table.ensures
+
+pub returns-in-Keys : goal.returns-in-Keys
+returns-in-Keys g c = noted_asked _ _ _ (ap request_in c.in-Keys.is) c.keys.ensures
+
+pub returns-in-Unscan : goal.returns-in-Unscan
+returns-in-Unscan g c = noted_asked _ _ _ (ap request_in c.in-Unscan.is) c.unscan.ensures

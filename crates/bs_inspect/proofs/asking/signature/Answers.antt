@@ -1,6 +1,6 @@
 use Rattle.bs_top_answer.proofs.AnswerLemmas.{told_as}
-use Rattle.bs_top_words.specs.Asked.{signature_in}
-use Rattle.bs_top_words.specs.Request.{Signature as Asked}
+use Rattle.bs_inspect_words.specs.Asked.{signature_in}
+use Rattle.bs_inspect_words.specs.Request.{Signature as Asked}
 use Rattle.bs_inspect.specs.Sources.{source_of, sources_of}
 use Rattle.bs_inspect.specs.Work.{to_signature}
 use Rattle.bs_inspect.proofs.WorkLemmas.{told_done, told_stop_at}

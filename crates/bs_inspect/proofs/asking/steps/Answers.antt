@@ -2,7 +2,7 @@ use Rattle.bs_top_answer.proofs.AnswerLemmas.{told_as}
 use Rattle.bs_inspect.specs.Sources.{source_of, sources_of}
 use Rattle.bs_inspect.specs.Work.{to_steps}
 use Rattle.bs_inspect.proofs.WorkLemmas.{told_done, told_stop_at}
-use Rattle.bs_top_words.specs.Request.{Steps as Asked}
+use Rattle.bs_inspect_words.specs.Request.{Steps as Asked}
 use Rattle.bs_inspect.proofs.asking.steps.Goals as goal
 
 pub returns-in-Ok : goal.returns-in-Ok

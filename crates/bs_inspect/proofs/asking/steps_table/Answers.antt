@@ -1,15 +1,15 @@
 use Rattle.bs_top_answer.proofs.AnswerLemmas.{told_as}
-use Rattle.bs_inspect.specs.Question.{StepsTable as Asked}
-use Rattle.bs_inspect.specs.Sources.{source_of, sources_for}
+use Rattle.bs_inspect_words.specs.Request.{StepsTable as Asked}
+use Rattle.bs_inspect.specs.Sources.{source_of, sources_of}
 use Rattle.bs_inspect.specs.Work.{to_steps_table}
 use Rattle.bs_inspect.proofs.WorkLemmas.{told_done, told_stop_at}
 use Rattle.bs_inspect.proofs.asking.steps_table.Goals as goal
 
 pub returns-in-Ok : goal.returns-in-Ok
 returns-in-Ok g c =
-    told_done (source_of (sources_for (Asked c.args.report.now))) _ _ c.silent.ensures (told_as to_steps_table c.in-Ok.ensures.walks) c.tell_steps_table.ensures
+    told_done (source_of (sources_of (Asked c.args.report.now))) _ _ c.silent.ensures (told_as to_steps_table c.in-Ok.ensures.walks) c.tell_steps_table.ensures
 
 pub returns-in-Err : goal.returns-in-Err
 returns-in-Err g c =
-    told_stop_at _ (sources_for (Asked c.args.report.now)) _ c.report_source.ensures (told_as to_steps_table c.in-Err.ensures.walks)
+    told_stop_at _ (sources_of (Asked c.args.report.now)) _ c.report_source.ensures (told_as to_steps_table c.in-Err.ensures.walks)
     c.stop_at.ensures.reply c.stop_at.ensures.note

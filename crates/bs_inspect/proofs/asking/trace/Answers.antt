@@ -1,6 +1,6 @@
 use Rattle.bs_top_answer.proofs.AnswerLemmas.{told_as}
 use Rattle.std.proofs.Common.{ℕ, Bool, Bor, List, map, sym}
-use Rattle.bs_top_words.specs.Request.{Request, Trace}
+use Rattle.bs_inspect_words.specs.Request.{Request, Trace}
 use Rattle.bs_inspect.specs.Sources.{source_of, sources_of}
 use Rattle.bs_inspect.specs.Work.{to_trace}
 use Rattle.bs_inspect.proofs.WorkLemmas.{noted_with, told_done, told_stop_at}

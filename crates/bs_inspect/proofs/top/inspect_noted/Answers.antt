@@ -2,7 +2,7 @@ use Rattle.bs_top_plan.proofs.Clauses.{answered, answered_as_told, call_by_call,
 use Rattle.bs_top_plan.proofs.Clauses.{refuses_first_of, words_only}
 use Rattle.bs_top_plan.proofs.Clauses.{calls_wanting}
 use Rattle.bs_top_answer.proofs.AnswerLemmas.{call_noted}
-use Rattle.bs_inspect.specs.Work.{plan_for}
+use Rattle.bs_inspect.specs.Work.{plan_of}
 use Rattle.bs_inspect.proofs.WorkLemmas.{is_work}
 use Rattle.bs_inspect.proofs.top.inspect_noted.Goals as goal
 
@@ -10,7 +10,7 @@ pub returns-in-Ok-clause-answered : goal.returns-in-Ok-clause-answered
 returns-in-Ok-clause-answered g c = answered c.in-Ok.ensures.reply.answer c.deliver_noted.ensures.sent
 
 pub returns-in-Ok-clause-words : goal.returns-in-Ok-clause-words
-returns-in-Ok-clause-words g c = λ write. words_only plan_for _ is_work c.in-Ok.ensures.reply.answer c.deliver_noted.ensures.sent write
+returns-in-Ok-clause-words g c = λ write. words_only plan_of _ is_work c.in-Ok.ensures.reply.answer c.deliver_noted.ensures.sent write
 
 pub returns-in-Ok-clause-told : goal.returns-in-Ok-clause-told
 returns-in-Ok-clause-told g c = λ read write. answered_as_told c.in-Ok.ensures.reply.answer c.deliver_noted.ensures.sent read write

@@ -1,0 +1,66 @@
+-- What was read of the words behind a command, and the request that it is.
+use Rattle.std.proofs.Common.{◌≡◌, ◌∙◌, ℕ, ◌==◌, Bool, true, false, List, [], ◌∷◌, length, map, Option, Some, None, Result, Ok, Err, arith, refl, ap, sym, subst}
+use Rattle.std.specs.Prelude.{IfOk}
+use Rattle.std.specs.Borrow.{Bor}
+use Rattle.std.specs.Option.{option_and_then}
+use Rattle.std.proofs.lemmas.Bool.{eqb-true}
+use Rattle.bs_bits.specs.declared.memory.NoMemory.{NoMemory}
+use Rattle.bs_top_words.specs.declared.flags.Flag.TheVariants as F
+use Rattle.bs_top_words.specs.declared.given.Setting.{Setting as CodeSetting}
+use Rattle.bs_top_words.specs.Asked.{setting_of}
+use Rattle.bs_top_words.specs.Given.{Given}
+use Rattle.bs_inspect_words.specs.declared.request.Request.{Request as CodeRequest}
+use Rattle.bs_inspect_words.specs.Asked.{shown_request}
+use Rattle.bs_inspect_words.specs.Request.{Request, Keys, bare, from_of, keys_of, keys_request, name_of, only_name, trace_flags, trace_of, trace_words, unscan_of, unscan_request, wave_flags, wave_of, wave_words}
+use Rattle.bs_inspect_words.specs.Settings.{fit, is_given, value_of, values_of}
+
+abbrev Words : Type 0
+Words = List (List ℕ)
+
+-- ---- words by position alone
+
+pub name_there : (given : Given) (words : Words) (name : Option (List ℕ)) → Some words ≡ bare given → name ≡ name_of words → name ≡ only_name given
+name_there given words name e is = is ∙ ap (λ (o : Option Words). option_and_then name_of o) e
+
+pub name_none : (given : Given) → None ≡ bare given → None ≡ only_name given
+name_none given e = ap (λ (o : Option Words). option_and_then name_of o) e
+
+pub unscan_there : (given : Given) (words : Words) (r : Option Request) → Some words ≡ bare given → r ≡ unscan_of words → r ≡ unscan_request given
+unscan_there given words r e is = is ∙ ap (λ (o : Option Words). option_and_then unscan_of o) e
+
+pub unscan_bare : (given : Given) → None ≡ bare given → None ≡ unscan_request given
+unscan_bare given e = ap (λ (o : Option Words). option_and_then unscan_of o) e
+
+pub keys_there : (given : Given) (words : Words) (r : Result (Option CodeRequest) NoMemory) → Some words ≡ bare given →
+    IfOk r (λ q. shown_request q ≡ keys_of words) → IfOk r (λ q. shown_request q ≡ keys_request given)
+keys_there given words r e is = subst (λ (o : Option Words). IfOk r (λ q. shown_request q ≡ option_and_then keys_of o)) e is
+
+pub keys_bare : (given : Given) → None ≡ bare given → None ≡ keys_request given
+keys_bare given e = ap (λ (o : Option Words). option_and_then keys_of o) e
+
+pub keys_some : (netlist : List ℕ) (words : List (Bor (List ℕ))) (empty : Bool) (names : Words) → empty ≡ (length words == 0) → empty ≡ false →
+    names ≡ map (λ s. s.now) words → Some (Keys record { netlist = netlist; names = names }) ≡ keys_of (netlist ∷ map (λ s. s.now) words)
+keys_some netlist [] empty names e some is = let t : true ≡ false = sym e ∙ some in absurd cc
+keys_some netlist (w ∷ ws) empty names e some is = ap (λ (ns : Words). Some (Keys record { netlist = netlist; names = ns })) is
+
+pub keys_none : (netlist : List ℕ) (words : List (Bor (List ℕ))) (empty : Bool) → empty ≡ (length words == 0) → empty ≡ true →
+    None ≡ keys_of (netlist ∷ map (λ s. s.now) words)
+keys_none netlist [] empty e none = refl
+keys_none netlist (w ∷ ws) empty e none = let z : length (w ∷ ws) ≡ 0 = eqb-true (length (w ∷ ws)) 0 (sym e ∙ none) in absurd (omega (arith, z))
+
+-- ---- words by position and options
+
+-- what `trace` asks, from what was read of its options
+pub trace_told : (positions : Words) (settings : List CodeSetting) (csv all : Bool) (only : Words) (r : Option Request) →
+    fit trace_flags (map setting_of settings) ≡ true → csv ≡ is_given F.Csv (map setting_of settings) →
+    all ≡ is_given F.All (map setting_of settings) → only ≡ values_of F.Only (map setting_of settings) →
+    r ≡ trace_of positions csv all only → r ≡ trace_words positions (map setting_of settings)
+trace_told positions settings csv all only r are c e f is = is ∙ ((λ i. trace_of positions (c i) (e i) (f i)) ∙ sym (rw are refl))
+
+-- what `wave` asks, from what was read of its options
+pub wave_told : (positions : Words) (settings : List CodeSetting) (word : Option (List ℕ)) (from : Option ℕ) (all : Bool) (only : Words)
+    (r : Option Request) → fit wave_flags (map setting_of settings) ≡ true → word ≡ value_of F.From (map setting_of settings) →
+    from ≡ from_of word → all ≡ is_given F.All (map setting_of settings) → only ≡ values_of F.Only (map setting_of settings) →
+    r ≡ wave_of positions from all only → r ≡ wave_words positions (map setting_of settings)
+wave_told positions settings word from all only r are w c e f is =
+    is ∙ ((λ i. wave_of positions ((c ∙ ap from_of w) i) (e i) (f i)) ∙ sym (rw are refl))

@@ -1,0 +1,57 @@
+-- Requests of the code as the definitions see them.
+use Rattle.std.specs.Prelude.{map, Option, Some, None}
+use Rattle.std.specs.Option.{option_map}
+use Rattle.bs_inspect_words.specs.declared.request.KeysRequest.{KeysRequest as CodeKeysRequest}
+use Rattle.bs_inspect_words.specs.declared.request.TraceRequest.{TraceRequest as CodeTraceRequest}
+use Rattle.bs_inspect_words.specs.declared.request.WaveRequest.{WaveRequest as CodeWaveRequest}
+use Rattle.bs_inspect_words.specs.declared.request.StimulusRequest.{StimulusRequest as CodeStimulusRequest}
+use Rattle.bs_inspect_words.specs.declared.request.UnscanRequest.{UnscanRequest as CodeUnscanRequest}
+use Rattle.bs_inspect_words.specs.declared.proposed.SignatureRequest.{SignatureRequest as CodeSignatureRequest}
+use Rattle.bs_inspect_words.specs.declared.request.Request.{Request as CodeRequest}
+use Rattle.bs_inspect_words.specs.declared.request.Request.TheVariants as R
+use Rattle.bs_inspect_words.specs.Request.{KeysRequest, TraceRequest, WaveRequest, StimulusRequest, SignatureRequest, UnscanRequest, Request}
+use Rattle.bs_inspect_words.specs.Request.{Help, Version, Flops, Inputs, Stats, Keys, Trace, TraceTable, Steps, StepsTable, Wave, Stimulus, Signature, Unscan}
+
+abbrev pub keys_in : CodeKeysRequest → KeysRequest
+keys_in t = record { netlist = t.netlist.now; names = map (λ s. s.now) t.names.items }
+
+abbrev pub trace_in : CodeTraceRequest → TraceRequest
+trace_in t = record { netlist = t.netlist.now; report = t.report.now; all = t.all; only = map (λ s. s.now) t.only.items }
+
+abbrev pub wave_in : CodeWaveRequest → WaveRequest
+wave_in t = record { netlist = t.netlist.now; report = t.report.now; all = t.all; from = t.from; only = map (λ s. s.now) t.only.items }
+
+abbrev pub stimulus_in : CodeStimulusRequest → StimulusRequest
+stimulus_in t = record {
+  netlist = t.netlist.now;
+  vcd = t.vcd.now;
+  clock = t.clock.now;
+  scope = option_map (λ s. s.now) t.scope;
+  names = option_map (λ s. s.now) t.names;
+}
+
+abbrev pub signature_in : CodeSignatureRequest → SignatureRequest
+signature_in t = record { netlist = t.netlist.now; runs = t.runs.now; items = t.items }
+
+abbrev pub unscan_in : CodeUnscanRequest → UnscanRequest
+unscan_in t = record { netlist = t.netlist.now; order = t.order.now; pattern = t.pattern.now }
+
+abbrev pub request_in : CodeRequest → Request
+request_in R.Help = Help
+request_in R.Version = Version
+request_in (R.Flops netlist) = Flops netlist.now
+request_in (R.Inputs netlist) = Inputs netlist.now
+request_in (R.Stats netlist) = Stats netlist.now
+request_in (R.Keys t) = Keys (keys_in t)
+request_in (R.Trace t) = Trace (trace_in t)
+request_in (R.TraceTable t) = TraceTable (trace_in t)
+request_in (R.Steps report) = Steps report.now
+request_in (R.StepsTable report) = StepsTable report.now
+request_in (R.Wave t) = Wave (wave_in t)
+request_in (R.Stimulus t) = Stimulus (stimulus_in t)
+request_in (R.Signature t) = Signature (signature_in t)
+request_in (R.Unscan t) = Unscan (unscan_in t)
+
+abbrev pub shown_request : Option CodeRequest → Option Request
+shown_request None = None
+shown_request (Some r) = Some (request_in r)

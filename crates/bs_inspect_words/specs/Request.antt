@@ -1,0 +1,254 @@
+-- Which words are a request, and which request they are (docs/FORMATS.md, "Words of `backspace_inspect`").
+use Rattle.std.specs.Prelude.{ℕ, ◌==◌, Bool, true, false, ◌&&◌, ◌||◌, List, [], ◌∷◌, length, codes, Option, Some, None, if◌then◌else◌}
+use Rattle.std.specs.Option.{option_map, option_and_then}
+use Rattle.std.specs.Str.{bytes_eq}
+use Rattle.bs_stim.specs.declared.limits.TheConstants.{MAX_CYCLES}
+use Rattle.bs_top_words.specs.declared.flags.Flag.{Flag}
+use Rattle.bs_top_words.specs.declared.flags.Flag.TheVariants as F
+use Rattle.bs_top_words.specs.declared.limits.TheConstants.{MAX_BITS}
+use Rattle.bs_top_words.specs.Given.{Setting, Given, read_all, start}
+use Rattle.bs_top_words.specs.Options.{number_between}
+use Rattle.bs_inspect_words.specs.Settings.{fit, is_given, value_of, values_of}
+
+-- the file of `keys`, and one name or more
+pub record KeysRequest : Type 0 where
+  pub netlist : List ℕ
+  pub names : List (List ℕ)
+
+-- the files of `trace`, and what it shows: every flip-flop in each cycle, and these names alone, where there are any
+pub record TraceRequest : Type 0 where
+  pub netlist : List ℕ
+  pub report : List ℕ
+  pub all : Bool
+  pub only : List (List ℕ)
+
+-- the files of `wave`, the cycle at which it begins, and what it draws: every net, and these names alone, where there are any
+pub record WaveRequest : Type 0 where
+  pub netlist : List ℕ
+  pub report : List ℕ
+  pub all : Bool
+  pub from : ℕ
+  pub only : List (List ℕ)
+
+-- the files of `stimulus` with the file of names, where there is one; the name of the clock, and the path of a scope
+pub record StimulusRequest : Type 0 where
+  pub netlist : List ℕ
+  pub vcd : List ℕ
+  pub clock : List ℕ
+  pub scope : Option (List ℕ)
+  pub names : Option (List ℕ)
+
+-- the files of `signature`, and how many items it is to have
+pub record SignatureRequest : Type 0 where
+  pub netlist : List ℕ
+  pub runs : List ℕ
+  pub items : ℕ
+
+-- the files of `unscan`, and the bits of a pattern
+pub record UnscanRequest : Type 0 where
+  pub netlist : List ℕ
+  pub order : List ℕ
+  pub pattern : List ℕ
+
+pub data Request : Type 0 where
+  Help : Request
+  Version : Request
+  Flops : List ℕ → Request
+  Inputs : List ℕ → Request
+  Stats : List ℕ → Request
+  Keys : KeysRequest → Request
+  Trace : TraceRequest → Request
+  TraceTable : TraceRequest → Request
+  Steps : List ℕ → Request
+  StepsTable : List ℕ → Request
+  Wave : WaveRequest → Request
+  Stimulus : StimulusRequest → Request
+  Signature : SignatureRequest → Request
+  Unscan : UnscanRequest → Request
+
+-- ---- commands without options
+
+-- whether a command has neither words by position nor options
+abbrev pub is_alone : Given → Bool
+is_alone given = (length given.settings == 0) && (length given.positions == 0)
+
+abbrev pub alone : Request → Given → Option Request
+alone request given = if is_alone given then Some request else None
+
+-- the words by position of a command without options
+abbrev pub bare : Given → Option (List (List ℕ))
+bare given = if length given.settings == 0 then Some given.positions else None
+
+abbrev pub name_of : List (List ℕ) → Option (List ℕ)
+name_of (name ∷ []) = Some name
+name_of _ = None
+
+-- the one word by position of a command without options
+abbrev pub only_name : Given → Option (List ℕ)
+only_name given = option_and_then name_of (bare given)
+
+abbrev pub named : (List ℕ → Request) → Given → Option Request
+named request given = option_map request (only_name given)
+
+-- `keys` has a file name, and one name or more
+abbrev pub keys_of : List (List ℕ) → Option Request
+keys_of (netlist ∷ name ∷ names) = Some (Keys record { netlist = netlist; names = name ∷ names })
+keys_of _ = None
+
+abbrev pub keys_request : Given → Option Request
+keys_request given = option_and_then keys_of (bare given)
+
+-- `unscan` has two file names, and bits
+abbrev pub unscan_of : List (List ℕ) → Option Request
+unscan_of (netlist ∷ order ∷ pattern ∷ []) = Some (Unscan record { netlist = netlist; order = order; pattern = pattern })
+unscan_of _ = None
+
+abbrev pub unscan_request : Given → Option Request
+unscan_request given = option_and_then unscan_of (bare given)
+
+-- ---- a report
+
+abbrev pub trace_flags : List Flag
+trace_flags = F.All ∷ F.Only ∷ F.Csv ∷ []
+
+abbrev pub trace_for : Bool → TraceRequest → Request
+trace_for true t = TraceTable t
+trace_for false t = Trace t
+
+-- `trace` has two file names
+abbrev pub trace_of : List (List ℕ) → (csv all : Bool) → List (List ℕ) → Option Request
+trace_of (netlist ∷ report ∷ []) csv all only = Some (trace_for csv record { netlist = netlist; report = report; all = all; only = only })
+trace_of _ csv all only = None
+
+abbrev pub trace_words : List (List ℕ) → List Setting → Option Request
+trace_words positions settings =
+    if fit trace_flags settings
+    then trace_of positions (is_given F.Csv settings) (is_given F.All settings) (values_of F.Only settings)
+    else None
+
+abbrev pub trace_request : Given → Option Request
+trace_request given = trace_words given.positions given.settings
+
+abbrev pub steps_flags : List Flag
+steps_flags = F.Csv ∷ []
+
+abbrev pub steps_for : Bool → List ℕ → Request
+steps_for true report = StepsTable report
+steps_for false report = Steps report
+
+-- `steps` has one file name
+abbrev pub steps_of : List (List ℕ) → Bool → Option Request
+steps_of (report ∷ []) csv = Some (steps_for csv report)
+steps_of _ csv = None
+
+abbrev pub steps_words : List (List ℕ) → List Setting → Option Request
+steps_words positions settings = if fit steps_flags settings then steps_of positions (is_given F.Csv settings) else None
+
+abbrev pub steps_request : Given → Option Request
+steps_request given = steps_words given.positions given.settings
+
+abbrev pub wave_flags : List Flag
+wave_flags = F.All ∷ F.From ∷ F.Only ∷ []
+
+-- the cycle at which a waveform begins: 0 where none is given
+abbrev pub from_of : Option (List ℕ) → Option ℕ
+from_of None = Some 0
+from_of (Some word) = number_between 0 MAX_CYCLES word
+
+-- `wave` has two file names
+abbrev pub wave_of : List (List ℕ) → Option ℕ → Bool → List (List ℕ) → Option Request
+wave_of (netlist ∷ report ∷ []) (Some from) all only =
+    Some (Wave record { netlist = netlist; report = report; all = all; from = from; only = only })
+wave_of _ from all only = None
+
+abbrev pub wave_words : List (List ℕ) → List Setting → Option Request
+wave_words positions settings =
+    if fit wave_flags settings
+    then wave_of positions (from_of (value_of F.From settings)) (is_given F.All settings) (values_of F.Only settings)
+    else None
+
+abbrev pub wave_request : Given → Option Request
+wave_request given = wave_words given.positions given.settings
+
+-- ---- the values of a simulator
+
+abbrev pub stimulus_flags : List Flag
+stimulus_flags = F.Clock ∷ F.Scope ∷ F.Map ∷ []
+
+-- `stimulus` has two file names, and a clock
+abbrev pub stimulus_of : List (List ℕ) → (clock scope names : Option (List ℕ)) → Option Request
+stimulus_of (netlist ∷ vcd ∷ []) (Some clock) scope names =
+    Some (Stimulus record { netlist = netlist; vcd = vcd; clock = clock; scope = scope; names = names })
+stimulus_of _ clock scope names = None
+
+abbrev pub stimulus_words : List (List ℕ) → List Setting → Option Request
+stimulus_words positions settings =
+    if fit stimulus_flags settings
+    then stimulus_of positions (value_of F.Clock settings) (value_of F.Scope settings) (value_of F.Map settings)
+    else None
+
+abbrev pub stimulus_request : Given → Option Request
+stimulus_request given = stimulus_words given.positions given.settings
+
+-- ---- a signature
+
+abbrev pub signature_flags : List Flag
+signature_flags = F.Bits ∷ []
+
+-- `signature` has two file names, and a number of items from 1 to the most of a signature
+abbrev pub signature_of : List (List ℕ) → Option ℕ → Option Request
+signature_of (netlist ∷ runs ∷ []) (Some items) = Some (Signature record { netlist = netlist; runs = runs; items = items })
+signature_of _ items = None
+
+-- the number of items that a word is
+abbrev pub items_in : Option (List ℕ) → Option ℕ
+items_in word = option_and_then (number_between 1 MAX_BITS) word
+
+abbrev pub signature_words : List (List ℕ) → List Setting → Option Request
+signature_words positions settings =
+    if fit signature_flags settings then signature_of positions (items_in (value_of F.Bits settings)) else None
+
+abbrev pub signature_request : Given → Option Request
+signature_request given = signature_words given.positions given.settings
+
+-- ---- the command
+
+-- what the commands take
+abbrev pub all_flags : List Flag
+all_flags = F.All ∷ F.Only ∷ F.Clock ∷ F.Scope ∷ F.Map ∷ F.Bits ∷ F.From ∷ F.Csv ∷ []
+
+abbrev pub is_help : List ℕ → Bool
+is_help command = bytes_eq command (codes "help") || (bytes_eq command (codes "-h") || bytes_eq command (codes "--help"))
+
+abbrev pub is_version : List ℕ → Bool
+is_version command = bytes_eq command (codes "version") || (bytes_eq command (codes "-V") || bytes_eq command (codes "--version"))
+
+-- the request of a command and what stands behind it
+abbrev pub bare_request : List ℕ → Given → Option Request
+bare_request command given =
+    if is_help command then alone Help given
+    else (if is_version command then alone Version given
+    else (if bytes_eq command (codes "flops") then named (λ (n : List ℕ). Flops n) given
+    else (if bytes_eq command (codes "inputs") then named (λ (n : List ℕ). Inputs n) given
+    else (if bytes_eq command (codes "stats") then named (λ (n : List ℕ). Stats n) given
+    else None))))
+
+abbrev pub other_request : List ℕ → Given → Option Request
+other_request command given =
+    if bytes_eq command (codes "steps") then steps_request given
+    else (if bytes_eq command (codes "stimulus") then stimulus_request given
+    else (if bytes_eq command (codes "signature") then signature_request given
+    else (if bytes_eq command (codes "unscan") then unscan_request given
+    else bare_request command given)))
+
+abbrev pub command_request : List ℕ → Given → Option Request
+command_request command given =
+    if bytes_eq command (codes "trace") then trace_request given
+    else (if bytes_eq command (codes "wave") then wave_request given
+    else (if bytes_eq command (codes "keys") then keys_request given
+    else other_request command given))
+
+-- the request that words are: the first is the command
+abbrev pub request_of : List (List ℕ) → Option Request
+request_of [] = None
+request_of (command ∷ words) = option_and_then (command_request command) (read_all all_flags words start)

@@ -1,0 +1,126 @@
+//! The request that words are.
+ghost use Rattle.std.specs.Prelude.{◌≡◌, map, string_bytes, IfOk};
+ghost use Rattle.bs_top_words.specs.Asked.{given_in, shown};
+ghost use Rattle.bs_top_words.specs.Given.{read_all, start};
+ghost use Rattle.bs_inspect_words.specs.Asked.{shown_request};
+ghost use Rattle.bs_inspect_words.specs.Request.{all_flags, bare_request, command_request, is_help, is_version, other_request, request_of};
+
+use crate::named::{
+    flops_request, help_request, inputs_request, keys_request, stats_request, unscan_request,
+    version_request,
+};
+use crate::report::{steps_request, trace_request, wave_request};
+use crate::request::Request;
+use crate::signature::signature_request;
+use crate::simulation::stimulus_request;
+use bs_bits::NoMemory;
+use bs_top_words::{Flag, Given, read_given};
+use std::alloc::Global;
+
+/// Whether a command asks how words stand.
+fn is_help(command: &str) -> bool
+    ensures { result ≡ is_help command.now }
+{
+    command == "help" || (command == "-h" || command == "--help")
+}
+
+/// Whether a command asks for the version.
+fn is_version(command: &str) -> bool
+    ensures { result ≡ is_version command.now }
+{
+    command == "version" || (command == "-V" || command == "--version")
+}
+
+/// The request of a command without options.
+fn bare_request<'a>(command: &str, given: &Given<'a>) -> Option<Request<'a>>
+    ensures { shown_request result ≡ bare_request command.now (given_in given.now) }
+{
+    if is_help(command) {
+        return help_request(given);
+    }
+    if is_version(command) {
+        return version_request(given);
+    }
+    if command == "flops" {
+        return flops_request(given);
+    }
+    if command == "inputs" {
+        return inputs_request(given);
+    }
+    if command == "stats" {
+        return stats_request(given);
+    }
+    None
+}
+
+/// The request of a command that has no list of words.
+fn other_request<'a>(command: &str, given: &Given<'a>) -> Option<Request<'a>>
+    ensures { shown_request result ≡ other_request command.now (given_in given.now) }
+{
+    if command == "steps" {
+        return steps_request(given);
+    }
+    if command == "stimulus" {
+        return stimulus_request(given);
+    }
+    if command == "signature" {
+        return signature_request(given);
+    }
+    if command == "unscan" {
+        return unscan_request(given);
+    }
+    bare_request(command, given)
+}
+
+/// The request of a command and what stands behind it.
+fn command_request<'a>(
+    alloc: Global,
+    command: &str,
+    given: &Given<'a>,
+) -> Result<Option<Request<'a>>, NoMemory>
+    ensures { IfOk result (λ request. shown_request request ≡ command_request command.now (given_in given.now)) }
+{
+    if command == "trace" {
+        return trace_request(alloc, given);
+    }
+    if command == "wave" {
+        return wave_request(alloc, given);
+    }
+    if command == "keys" {
+        return keys_request(alloc, given);
+    }
+    Ok(other_request(command, given))
+}
+
+/// The words by position and the options.
+fn read_shown<'a>(alloc: Global, words: &'a [String]) -> Result<Option<Given<'a>>, NoMemory>
+    ensures { IfOk result (λ given. shown given ≡ read_all all_flags (map string_bytes words.now) start) }
+{
+    let flags = [
+        Flag::All,
+        Flag::Only,
+        Flag::Clock,
+        Flag::Scope,
+        Flag::Map,
+        Flag::Bits,
+        Flag::From,
+        Flag::Csv,
+    ];
+    let given = read_given(alloc, &flags, words)?;
+    Ok(given)
+}
+
+/// The request that the words of a command line are, without the program's name, if they are one. The first word is the
+/// command.
+pub fn read_request(alloc: Global, words: &[String]) -> Result<Option<Request<'_>>, NoMemory>
+    ensures { IfOk result (λ request. shown_request request ≡ request_of (map string_bytes words.now)) }
+{
+    let [command, rest @ ..] = words else {
+        return Ok(None);
+    };
+    let Some(given) = read_shown(alloc, rest)? else {
+        return Ok(None);
+    };
+    let request = command_request(alloc, command.as_str(), &given)?;
+    Ok(request)
+}

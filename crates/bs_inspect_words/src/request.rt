@@ -1,0 +1,82 @@
+//! The requests: a command, its files and its options.
+use crate::proposed::SignatureRequest;
+
+/// `keys`: the name of its file, and one name or more.
+#[derive(Drop)]
+pub struct KeysRequest<'a> {
+    pub netlist: &'a str,
+    pub names: Vec<&'a str>,
+}
+
+/// `trace`: the names of its files, whether it tells every flip-flop in each cycle, and the names that it tells alone,
+/// where there are any.
+#[derive(Drop)]
+pub struct TraceRequest<'a> {
+    pub netlist: &'a str,
+    pub report: &'a str,
+    pub all: bool,
+    pub only: Vec<&'a str>,
+}
+
+/// `wave`: the names of its files, whether it draws nets whose names nobody gave, the cycle at which it begins, and the names that it
+/// draws alone, where there are any.
+#[derive(Drop)]
+pub struct WaveRequest<'a> {
+    pub netlist: &'a str,
+    pub report: &'a str,
+    pub all: bool,
+    pub from: u64,
+    pub only: Vec<&'a str>,
+}
+
+/// `stimulus`: the names of its files, the name of the clock, the path of a scope and the file of the names that the inputs have
+/// in a simulation, where there are any.
+#[derive(Clone, Copy)]
+pub struct StimulusRequest<'a> {
+    pub netlist: &'a str,
+    pub vcd: &'a str,
+    pub clock: &'a str,
+    pub scope: Option<&'a str>,
+    pub names: Option<&'a str>,
+}
+
+/// `unscan`: the names of its files, and the bits of a pattern.
+#[derive(Clone, Copy)]
+pub struct UnscanRequest<'a> {
+    pub netlist: &'a str,
+    pub order: &'a str,
+    pub pattern: &'a str,
+}
+
+/// What a command line asks to be told.
+#[derive(Drop)]
+pub enum Request<'a> {
+    /// How the words stand.
+    Help,
+    /// The version.
+    Version,
+    /// The flip-flops of a netlist, in the order of a state's bits.
+    Flops(&'a str),
+    /// The data inputs of a netlist, in order.
+    Inputs(&'a str),
+    /// The sizes of a netlist.
+    Stats(&'a str),
+    /// The keys of the flip-flops that names stand for.
+    Keys(KeysRequest<'a>),
+    /// The trace of a report with the names of a netlist.
+    Trace(TraceRequest<'a>),
+    /// The same as a table.
+    TraceTable(TraceRequest<'a>),
+    /// The steps of a report.
+    Steps(&'a str),
+    /// The same as a table.
+    StepsTable(&'a str),
+    /// The waveform of a report's trace, as viewers take it.
+    Wave(WaveRequest<'a>),
+    /// A run of a stimulus out of the values of a simulator.
+    Stimulus(StimulusRequest<'a>),
+    /// A signature that recorded runs propose.
+    Signature(SignatureRequest<'a>),
+    /// The state that a pattern of a scan chain is.
+    Unscan(UnscanRequest<'a>),
+}
