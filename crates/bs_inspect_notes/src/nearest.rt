@@ -1,9 +1,10 @@
 //! How far two names are apart, and which of some names are nearest to one.
 ghost use Rattle.std.specs.Prelude.{◌≡◌, ◌++◌, map, min, fold, IfOk, OnOk};
 ghost use Rattle.std.specs.Str.{bytes_eq};
-ghost use Rattle.bs_inspect_notes.specs.Nearest.{at_distance, ends_behind, far, is_separator, kept, least, nearest};
+ghost use Rattle.bs_inspect_notes.specs.Nearest.{at_distance, bases_apart, ends_behind, far, is_separator, kept, least, nearest};
 
 use bs_bits::NoMemory;
+use bs_net_names::{key_parts, plain, same_bit};
 use bs_note_places::apart;
 use std::alloc::Global;
 
@@ -34,8 +35,8 @@ fn ends_behind(whole: &[u8], name: &[u8]) -> bool
 }
 
 /// How far two names are apart: not at all where one is a path to the other.
-fn far(name: &[u8], other: &[u8]) -> usize
-    ensures { result ≡ far name.now other.now }
+fn bases_apart(name: &[u8], other: &[u8]) -> usize
+    ensures { result ≡ bases_apart name.now other.now }
 {
     let within = ends_behind(name, other);
     let around = ends_behind(other, name);
@@ -43,6 +44,21 @@ fn far(name: &[u8], other: &[u8]) -> usize
         0
     } else {
         apart(name, other)
+    }
+}
+
+/// How far two names are apart as RTL writes them: the number of a bit counts one where it is another.
+#[tactic(auto, using(crate::proofs::NearLemmas::far_same, crate::proofs::NearLemmas::far_other))]
+fn far(name: &[u8], other: &[u8]) -> usize
+    ensures { result ≡ far name.now other.now }
+{
+    let one = key_parts(name);
+    let two = key_parts(other);
+    let distance = bases_apart(plain(one.base), plain(two.base));
+    if same_bit(one.bit, two.bit) {
+        distance
+    } else {
+        1.max(distance)
     }
 }
 
