@@ -1,5 +1,5 @@
 -- The least distance of names, and names in a note.
-use Rattle.std.proofs.Common.{◌≡◌, ◌≤◌, ◌<◌, ◌+◌, ◌==◌, ◌||◌, ℕ, suc, min, max, Bool, true, false, List, [], ◌∷◌, ◌++◌, codes, length, map, drop, take, get_or, fold, refl, ap, sym, ◌∙◌, subst}
+use Rattle.std.proofs.Common.{◌≡◌, ◌≤◌, ◌<◌, ◌+◌, ◌==◌, ◌||◌, ℕ, suc, min, Bool, true, false, List, [], ◌∷◌, ◌++◌, codes, length, map, drop, take, get_or, fold, refl, ap, sym, ◌∙◌, subst}
 use Rattle.std.specs.Prelude.{if◌then◌else◌}
 use Rattle.std.specs.List.{filter, flat_map, list_any}
 use Rattle.std.specs.Borrow.{Bor}
@@ -10,7 +10,7 @@ use Rattle.std.proofs.lemmas.List.Folds.{fold-map}
 use Rattle.bs_net_names.specs.Keys.{key_parts, parts_in}
 use Rattle.bs_net_names.specs.Signals.{plain, same_bit}
 use Rattle.bs_net_names.specs.declared.key.KeyParts.{KeyParts}
-use Rattle.bs_inspect_notes.specs.Nearest.{at_distance, bases_apart, far, kept, least, nearest}
+use Rattle.bs_inspect_notes.specs.Nearest.{at_distance, bases_apart, by_bits, far, kept, least, nearest}
 use Rattle.bs_inspect_notes.specs.Listings.{listed, listing, more_piece, name_piece, near_text, quoted, some_listing, some_near}
 use Rattle.bs_inspect_notes.specs.Simulations.{clock_piece, has_scope}
 use Rattle.bs_note_places.specs.declared.nearest.TheConstants.{NAMED}
@@ -24,30 +24,32 @@ texts names = map (λ n. n.now) names
 
 -- ---- names as RTL writes them
 
-abbrev apart_by : Bool → ℕ → ℕ
-apart_by same d = if same then d else max 1 d
+abbrev far_by : Bool → Bool → ℕ → ℕ
+far_by vector same d = if vector then 0 else by_bits same d
 
--- how far names with these parts are apart
-far_by : (name other p q : List ℕ) (one two : KeyParts) (d : ℕ) (b : Bool) → parts_in one ≡ key_parts name → parts_in two ≡ key_parts other →
-    p ≡ plain one.base.now → q ≡ plain two.base.now → d ≡ bases_apart p q → b ≡ same_bit one.bit two.bit → apart_by b d ≡ far name other
+-- one is the name of the other's vector
+pub far_vector : (name other p q : List ℕ) (two : KeyParts) (v : Bool) → parts_in two ≡ key_parts other → p ≡ plain name → q ≡ plain two.base.now →
+    v ≡ bytes_eq p q → v ≡ true → 0 ≡ far name other
 unfolding far
-far_by name other p q one two d b first second left right is same =
-    let front : p ≡ plain (key_parts name).base = left ∙ ap (λ k. plain k.base) first in
+far_vector name other p q two v second whole right is yes =
+    let test : bytes_eq (plain name) (plain (key_parts other).base) ≡ true =
+    sym (is ∙ (λ i. bytes_eq (whole i) ((right ∙ ap (λ k. plain k.base) second) i))) ∙ yes in
+    sym (ap (λ (b : Bool). far_by b (same_bit (key_parts name).bit (key_parts other).bit)
+    (bases_apart (plain (key_parts name).base) (plain (key_parts other).base))) test)
+
+pub far_bits : (name other p q w : List ℕ) (one two : KeyParts) (v b : Bool) (d m : ℕ) → parts_in one ≡ key_parts name → parts_in two ≡ key_parts other →
+    p ≡ plain name → q ≡ plain two.base.now → v ≡ bytes_eq p q → v ≡ false → w ≡ plain one.base.now → b ≡ same_bit one.bit two.bit →
+    d ≡ bases_apart w q → m ≡ by_bits b d → m ≡ far name other
+unfolding far
+far_bits name other p q w one two v b d m first second whole right is no left same apart e =
     let back : q ≡ plain (key_parts other).base = right ∙ ap (λ k. plain k.base) second in
-    let distance : d ≡ bases_apart (plain (key_parts name).base) (plain (key_parts other).base) = is ∙ (λ i. bases_apart (front i) (back i)) in
+    let front : w ≡ plain (key_parts name).base = left ∙ ap (λ k. plain k.base) first in
+    let test : bytes_eq (plain name) (plain (key_parts other).base) ≡ false = sym (is ∙ (λ i. bytes_eq (whole i) (back i))) ∙ no in
     let bit : b ≡ same_bit (key_parts name).bit (key_parts other).bit = same ∙ (λ i. same_bit (first i).bit (second i).bit) in
-    λ i. apart_by (bit i) (distance i)
-
-pub far_same : (name other p q : List ℕ) (one two : KeyParts) (d : ℕ) (b : Bool) → parts_in one ≡ key_parts name → parts_in two ≡ key_parts other →
-    p ≡ plain one.base.now → q ≡ plain two.base.now → d ≡ bases_apart p q → b ≡ same_bit one.bit two.bit → b ≡ true → d ≡ far name other
-far_same name other p q one two d b first second left right is same yes =
-    sym (ap (λ (s : Bool). apart_by s d) yes) ∙ far_by name other p q one two d b first second left right is same
-
-pub far_other : (name other p q : List ℕ) (one two : KeyParts) (d m : ℕ) (b : Bool) → parts_in one ≡ key_parts name → parts_in two ≡ key_parts other →
-    p ≡ plain one.base.now → q ≡ plain two.base.now → d ≡ bases_apart p q → b ≡ same_bit one.bit two.bit → b ≡ false → m ≡ max 1 d →
-    m ≡ far name other
-far_other name other p q one two d m b first second left right is same no e =
-    e ∙ (sym (ap (λ (s : Bool). apart_by s d) no) ∙ far_by name other p q one two d b first second left right is same)
+    let distance : d ≡ bases_apart (plain (key_parts name).base) (plain (key_parts other).base) = apart ∙ (λ i. bases_apart (front i) (back i)) in
+    e ∙ ((λ i. by_bits (bit i) (distance i))
+    ∙ sym (ap (λ (z : Bool). far_by z (same_bit (key_parts name).bit (key_parts other).bit)
+    (bases_apart (plain (key_parts name).base) (plain (key_parts other).base))) test))
 
 -- ---- the least
 

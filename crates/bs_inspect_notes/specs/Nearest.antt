@@ -21,12 +21,17 @@ ends_behind whole name =
 abbrev pub bases_apart : List ℕ → List ℕ → ℕ
 bases_apart name other = if ends_behind name other || ends_behind other name then 0 else apart name other
 
--- how far two names are apart as RTL writes them, `a[0]` and `[0]\a` not at all: by what stands before the number of a bit, and at
--- least 1 where that is another; a name without a number stands for all bits of its vector
+-- a distance, and at least 1 where a bit is another
+abbrev pub by_bits : Bool → ℕ → ℕ
+by_bits true d = d
+by_bits false d = max 1 d
+
+-- how far two names are apart as RTL writes them: not at all where one is that of the other's vector, `a[3]` for `[0]\a[3]` too, or
+-- `a[0]` and `[0]\a`; else by what stands before the number of a bit; a name without a number stands for all bits of its vector
 unfoldable pub far : List ℕ → List ℕ → ℕ
 far name other =
-    let d = bases_apart (plain (key_parts name).base) (plain (key_parts other).base) in
-    if same_bit (key_parts name).bit (key_parts other).bit then d else max 1 d
+    if bytes_eq (plain name) (plain (key_parts other).base) then 0
+    else by_bits (same_bit (key_parts name).bit (key_parts other).bit) (bases_apart (plain (key_parts name).base) (plain (key_parts other).base))
 
 -- the least distance of these names
 abbrev pub least : List ℕ → List (List ℕ) → ℕ
