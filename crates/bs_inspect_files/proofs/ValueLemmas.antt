@@ -9,6 +9,7 @@ use Rattle.bs_inspect_vcd.specs.Header.{Declared}
 use Rattle.bs_net_names.specs.Keys.{KeyParts, key_parts}
 use Rattle.bs_inspect_vcd.specs.Scopes.{declared_of, names_of, scopes_of}
 use Rattle.bs_note_files.specs.Notes.{Saying, file_text}
+use Rattle.bs_inspect_notes.specs.declared.name.Subject.TheVariants.{Inputs}
 use Rattle.bs_inspect_notes.specs.Simulations.{clock_text, cycles_text, input_text}
 use Rattle.bs_top_plan.specs.Plan.{Reason, exactly, Says}
 use Rattle.bs_top_files.specs.NoteCases.{HasNote, IsNoteAtLine, NoteCase, NoteSays}
@@ -130,9 +131,9 @@ clock_of_parts path clock scope given d scopes names paths all note same are the
 
 pub input_of_parts : (path key name clock bytes : List ℕ) (scope given found : Option (List ℕ)) (parts : KeyParts) (d : Declared) (names all : Texts)
     (note : List ℕ) → bytes ≡ clock → parts ≡ key_parts bytes → given ≡ scope → found ≡ scope_of given parts d → map (λ t. t.now) names ≡ names_of found d →
-    all ≡ names → note ≡ input_text path key name (map (λ t. t.now) all) → note ≡ input_said path key name scope clock d
+    all ≡ names → note ≡ input_text Inputs path key name (map (λ t. t.now) all) → note ≡ input_said path key name scope clock d
 input_of_parts path key name clock bytes scope given found parts d names all note read is same at these every e =
-    e ∙ ap (input_text path key name)
+    e ∙ ap (input_text Inputs path key name)
     (ap shown every ∙ (these ∙ ap (λ (o : Option (List ℕ)). names_of o d) (at ∙ (λ i. scope_of (same i) ((is ∙ ap key_parts read) i) d))))
 
 -- ---- at sight

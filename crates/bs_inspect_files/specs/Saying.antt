@@ -14,6 +14,7 @@ use Rattle.bs_inspect_vcd.specs.Sources.{scope_of, stimulus_in}
 use Rattle.bs_inspect_report.specs.Keys.{flop_keys, input_keys}
 use Rattle.bs_inspect_report.specs.Known.{first_unknown}
 use Rattle.bs_note_files.specs.Notes.{Saying, saying, file_text}
+use Rattle.bs_inspect_notes.specs.declared.name.Subject.TheVariants.{Inputs}
 use Rattle.bs_inspect_notes.specs.Names as N
 use Rattle.bs_inspect_notes.specs.Simulations as S
 use Rattle.bs_top_plan.specs.Plan.{Reason, exactly, any_of}
@@ -61,7 +62,7 @@ line_saying line = if list_any (λ b. b == 13) line then return_saying else N.fo
 
 abbrev pub map_note_reason : (path text : List ℕ) → List (List ℕ) → MapFault → Reason NoteCase
 map_note_reason path text keys (names.Line number) = any_of (at_line path text number (line_saying (N.numbered text number)))
-map_note_reason path text keys (names.Unknown number) = any_of (at_line path text number (N.key_saying keys (N.numbered text number)))
+map_note_reason path text keys (names.Unknown number) = any_of (at_line path text number (N.key_saying Inputs keys (N.numbered text number)))
 map_note_reason path text keys (names.Twice number) = any_of (at_line path text number N.twice_saying)
 map_note_reason path text keys names.NoMemory = exactly []
 
@@ -85,7 +86,7 @@ clock_said path scope clock d = S.clock_text path scope clock (scopes_of d) (nam
 
 -- an input that no variable is
 abbrev pub input_said : (path key name : List ℕ) → Option (List ℕ) → List ℕ → Declared → List ℕ
-input_said path key name scope clock d = S.input_text path key name (names_of (scope_of scope (key_parts clock) d) d)
+input_said path key name scope clock d = S.input_text Inputs path key name (names_of (scope_of scope (key_parts clock) d) d)
 
 abbrev pub fault_reason : (path text : List ℕ) → (keys names : List (List ℕ)) → Option (List ℕ) → List ℕ → VcdFault → Reason NoteCase
 fault_reason path text keys names scope clock (vcd.Line number) = any_of (at_line path text number S.word_saying)
@@ -93,7 +94,7 @@ fault_reason path text keys names scope clock vcd.Ended = exactly (S.ended_text 
 fault_reason path text keys names scope clock vcd.NoClock = exactly (clock_said path scope clock (declarations text))
 fault_reason path text keys names scope clock (vcd.NoInput i) =
     exactly (input_said path (key_at keys i) (key_at names i) scope clock (declarations text))
-fault_reason path text keys names scope clock (vcd.Unknown i time) = exactly (S.unknown_text path (key_at keys i) time)
+fault_reason path text keys names scope clock (vcd.Unknown i time) = exactly (S.unknown_text Inputs path (key_at keys i) time)
 fault_reason path text keys names scope clock vcd.NoMemory = exactly []
 
 -- a file that is no VCD at sight is told to be that

@@ -11,6 +11,7 @@ use Rattle.bs_top_files.specs.NoteCases.{NoteCase}
 use Rattle.bs_top_files.specs.Noting.{size_noted}
 use Rattle.bs_top_files.specs.Readings.{size_in}
 use Rattle.bs_top_files.specs.Refusals.{Case}
+use Rattle.bs_inspect_flops.specs.Readings.{called_in, called_noted}
 use Rattle.bs_inspect_files.specs.Fits.{fit_in, known_in}
 use Rattle.bs_inspect_files.specs.Saying.{fit_noted, known_noted}
 use Rattle.bs_inspect_files.specs.declared.ready.Traced.{Traced as CodeTraced}
@@ -39,11 +40,12 @@ picked_of netlist report only = do
   known ← read_as files.Name (known_in traced.raw only)
   end traced
 
--- the same, and last whether a waveform of the trace is not too large
-abbrev pub charted_of : (netlist report : List ℕ) → Plan Case Traced
-charted_of netlist report = do
+-- the same, then whether a waveform of the trace is not too large, and last whether nets have these names
+abbrev pub charted_of : (netlist report : List ℕ) → List (List ℕ) → Plan Case Traced
+charted_of netlist report only = do
   traced ← traced_of netlist report
   small ← read_as files.Report (size_in traced.raw traced.report)
+  known ← read_as files.Name (called_in traced.raw only)
   end traced
 
 -- a netlist's parts, and recorded runs
@@ -76,10 +78,11 @@ picked_looked netlist report only = do
   known ← read_as files.Name (known_noted traced.raw only)
   end traced
 
-abbrev pub charted_looked : (netlist report : List ℕ) → Plan NoteCase Traced
-charted_looked netlist report = do
+abbrev pub charted_looked : (netlist report : List ℕ) → List (List ℕ) → Plan NoteCase Traced
+charted_looked netlist report only = do
   traced ← traced_looked netlist report
   small ← read_as files.Report (size_noted report traced.raw traced.report)
+  known ← read_as files.Name (called_noted traced.raw only)
   end traced
 
 abbrev pub exercised_looked : (netlist stimulus : List ℕ) → Plan NoteCase Exercised
@@ -123,3 +126,27 @@ abbrev pub fit_step_looked : List ℕ → Parts → Report → Plan NoteCase Tra
 fit_step_looked path raw told = do
   fits ← read_as files.Report (fit_noted path raw told)
   end record { raw = raw; report = told }
+
+-- behind the trace that fits
+abbrev pub chart_step : List (List ℕ) → Traced → Plan Case Traced
+chart_step only traced = do
+  small ← read_as files.Report (size_in traced.raw traced.report)
+  known ← read_as files.Name (called_in traced.raw only)
+  end traced
+
+abbrev pub chart_step_looked : List ℕ → List (List ℕ) → Traced → Plan NoteCase Traced
+chart_step_looked path only traced = do
+  small ← read_as files.Report (size_noted path traced.raw traced.report)
+  known ← read_as files.Name (called_noted traced.raw only)
+  end traced
+
+-- behind that
+abbrev pub drawn_step : List (List ℕ) → Traced → Plan Case Traced
+drawn_step only traced = do
+  known ← read_as files.Name (called_in traced.raw only)
+  end traced
+
+abbrev pub drawn_step_looked : List (List ℕ) → Traced → Plan NoteCase Traced
+drawn_step_looked only traced = do
+  known ← read_as files.Name (called_noted traced.raw only)
+  end traced

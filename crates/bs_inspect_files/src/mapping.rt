@@ -8,6 +8,7 @@ ghost use Rattle.bs_top_plan.specs.Told.{note_refusal, noted, word_refusal, word
 ghost use Rattle.bs_top_plan.specs.Walks.{Reads};
 ghost use Rattle.bs_top_files.specs.NoteCases.{HasNote, IsNoteAtLine, NoteSays};
 ghost use Rattle.bs_top_files.specs.Refusals.{CheckSays, HasWords};
+ghost use Rattle.bs_inspect_notes.specs.declared.name.Subject.TheVariants.{Inputs};
 ghost use Rattle.bs_inspect_notes.specs.Names.{key_saying, numbered, twice_saying};
 ghost use Rattle.bs_inspect_files.specs.declared.fault.MapFault.TheVariants.{NoMemory as MapWant};
 ghost use Rattle.bs_inspect_files.specs.Saying.{line_saying, map_note_reason, names_noted};
@@ -19,7 +20,9 @@ use crate::lines::line_note;
 use crate::names::read_names;
 use crate::refusals::map_refusal;
 use bs_bits::NoMemory;
-use bs_inspect_notes::{first_word, form_saying, key_sentence, numbered, twice_saying};
+use bs_inspect_notes::{
+    Subject, first_word, form_saying, key_sentence, keys_label, numbered, twice_saying,
+};
 use bs_note_files::Message;
 use bs_top_plan::{Unread, both};
 use std::alloc::Global;
@@ -63,15 +66,15 @@ fn key_note(
     number: u64,
     keys: &[&[u8]],
 ) -> Result<Vec<u8>, NoMemory>
-    ensures { IfOk result (λ note. IsNoteAtLine path.now text.now number (key_saying (map (λ k. k.now) keys.now) (numbered text.now number)) note.items) }
+    ensures { IfOk result (λ note. IsNoteAtLine path.now text.now number (key_saying Inputs (map (λ k. k.now) keys.now) (numbered text.now number)) note.items) }
 {
     let line = numbered(text, number);
     let key = first_word(line);
-    let sentence = key_sentence(alloc, key, keys)?;
+    let sentence = key_sentence(alloc, Subject::Inputs, key, keys)?;
     let said = sentence.as_slice();
     let message = Message {
         sentence: said,
-        label: b"`inputs` tells the keys",
+        label: keys_label(Subject::Inputs),
     };
     let note = line_note(alloc, path, text, number, message)?;
     Ok(note)

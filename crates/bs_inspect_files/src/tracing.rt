@@ -3,11 +3,12 @@ ghost use Rattle.std.specs.Prelude.{◌≡◌, ◌+◌, length, map};
 ghost use Rattle.bs_top_plan.specs.Telling.{WalksTold};
 ghost use Rattle.bs_top_files.specs.NoteCases.{NoteSays};
 ghost use Rattle.bs_top_files.specs.Refusals.{CheckSays};
-ghost use Rattle.bs_inspect_files.specs.Taken.{charted_looked, charted_of, exercised_in, exercised_looked, exercised_of, picked_looked, picked_of};
+ghost use Rattle.bs_inspect_files.specs.Taken.{chart_step, chart_step_looked, charted_looked, charted_of, drawn_step, drawn_step_looked, exercised_in, exercised_looked, exercised_of, picked_looked, picked_of};
 ghost use Rattle.bs_inspect_files.specs.Taken.{fit_step, fit_step_looked, report_step, report_step_looked, runs_step, runs_step_looked, traced_in, traced_looked, traced_of};
 
 use crate::fits::{fit_or_told, known_or_told};
 use crate::ready::{Exercised, Traced};
+use bs_inspect_flops::called_or_told;
 use bs_net::Netlist;
 use bs_outside::Shelf;
 use bs_report::Report;
@@ -98,24 +99,61 @@ pub fn load_picked<S: Shelf>(
     }
 }
 
-/// The same, where a waveform of the report's trace is not too large.
-pub fn load_charted<S: Shelf>(
+/// A netlist and a report, where nets have these names.
+fn load_drawn<S: Shelf>(
     alloc: Global,
-    shelf: &mut S,
-    netlist: &str,
-    report: &str,
+    _shelf: &mut S,
+    traced: Traced,
+    only: &[&str],
 ) -> Result<Traced, Stop>
-    ensures { WalksTold CheckSays NoteSays S.held S.faults S.leads shelf.old shelf.new
-        (charted_of netlist.now report.now) (charted_looked netlist.now report.now) traced_in traced_in result }
+    ensures { WalksTold CheckSays NoteSays S.held S.faults S.leads _shelf.old _shelf.new
+        (drawn_step (map (λ s. s.now) only.now) (traced_in traced)) (drawn_step_looked (map (λ s. s.now) only.now) (traced_in traced)) traced_in traced_in result }
 {
-    let traced = load_traced(alloc, shelf, netlist, report)?;
-    let size = size_or_told(alloc, report, &traced.net, &traced.report);
-    match settle_told(File::Report, size) {
+    match settle_told(File::Name, called_or_told(alloc, &traced.net, only)) {
         Ok(()) => Ok(traced),
         Err(stop) => {
             let_go(traced);
             Err(stop)
         }
+    }
+}
+
+/// The same, where a waveform of the report's trace is not too large.
+fn load_small<S: Shelf>(
+    alloc: Global,
+    shelf: &mut S,
+    traced: Traced,
+    path: &str,
+    only: &[&str],
+) -> Result<Traced, Stop>
+    ensures { WalksTold CheckSays NoteSays S.held S.faults S.leads shelf.old shelf.new
+        (chart_step (map (λ s. s.now) only.now) (traced_in traced)) (chart_step_looked path.now (map (λ s. s.now) only.now) (traced_in traced)) traced_in traced_in result }
+{
+    let size = size_or_told(alloc, path, &traced.net, &traced.report);
+    match settle_told(File::Report, size) {
+        Ok(()) => load_drawn(alloc, shelf, traced, only),
+        Err(stop) => {
+            let_go(traced);
+            Err(stop)
+        }
+    }
+}
+
+/// A netlist, and a report whose trace fits it, where a waveform of the trace is not too large, and nets have these names.
+pub fn load_charted<S: Shelf>(
+    alloc: Global,
+    shelf: &mut S,
+    netlist: &str,
+    report: &str,
+    only: &[&str],
+) -> Result<Traced, Stop>
+    ensures { WalksTold CheckSays NoteSays S.held S.faults S.leads shelf.old shelf.new
+        (charted_of netlist.now report.now (map (λ s. s.now) only.now)) (charted_looked netlist.now report.now (map (λ s. s.now) only.now))
+        traced_in traced_in result }
+{
+    match load_traced(alloc, shelf, netlist, report) {
+        Ok(traced) => load_small(alloc, shelf, traced, report, only),
+        Err(stop) => Err(stop),
     }
 }
 

@@ -4,6 +4,7 @@ ghost use Rattle.bs_bits.specs.Reading.{Answers};
 ghost use Rattle.bs_inspect_vcd.specs.declared.fault.VcdFault.TheVariants.{NoMemory as VcdWant};
 ghost use Rattle.bs_inspect_vcd.specs.Header.{declared_in};
 ghost use Rattle.bs_inspect_vcd.specs.Sources.{stimulus_in};
+ghost use Rattle.bs_inspect_notes.specs.declared.name.Subject.TheVariants.{Inputs};
 ghost use Rattle.bs_inspect_notes.specs.Simulations.{word_saying};
 ghost use Rattle.bs_note_files.specs.Notes.{said};
 ghost use Rattle.bs_top_plan.specs.declared.limits.TheConstants.{MAX_VCD_BYTES};
@@ -22,7 +23,9 @@ use crate::keys::maybe_bytes;
 use crate::lines::line_note;
 use crate::refusals::{cycles_refusal, key_at, vcd_refusal};
 use bs_bits::{Bits, List, NoMemory};
-use bs_inspect_notes::{clock_note, cycles_note, ended_note, foreign, input_note, unknown_note};
+use bs_inspect_notes::{
+    Subject, clock_note, cycles_note, ended_note, foreign, input_note, unknown_note,
+};
 use bs_inspect_vcd::{Declared, VcdFault, declared, names_of, scope_of, scopes_of, stimulus};
 use bs_net_names::key_parts;
 use bs_note_files::{Message, file_note};
@@ -114,7 +117,7 @@ fn input_on(
     let scope = scope_of(given, clock, declared);
     let names = names_of(alloc, scope, declared)?;
     let all = names.as_slice();
-    let note = input_note(alloc, sampling.vcd, key, name, all)?;
+    let note = input_note(alloc, Subject::Inputs, sampling.vcd, key, name, all)?;
     Ok(note)
 }
 
@@ -149,10 +152,10 @@ fn unknown_in(
     input: u64,
     time: u64,
 ) -> Result<Vec<u8>, NoMemory>
-    ensures { IfOk result (λ note. note.items ≡ unknown_text path.now (key_at (map (λ k. k.now) keys.now) input) time) }
+    ensures { IfOk result (λ note. note.items ≡ unknown_text Inputs path.now (key_at (map (λ k. k.now) keys.now) input) time) }
 {
     let key = key_at(keys, input);
-    let note = unknown_note(alloc, path, key, time)?;
+    let note = unknown_note(alloc, Subject::Inputs, path, key, time)?;
     Ok(note)
 }
 

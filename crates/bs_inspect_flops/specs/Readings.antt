@@ -8,7 +8,7 @@ use Rattle.bs_inspect_netlist.specs.declared.fault.OrderFault.TheVariants as cha
 use Rattle.bs_inspect_netlist.specs.declared.fault.PatternFault.{PatternFault}
 use Rattle.bs_inspect_netlist.specs.declared.fault.PatternFault.TheVariants as pattern
 use Rattle.bs_note_files.specs.Notes.{Saying, saying, file_text, plain_text}
-use Rattle.bs_note_places.specs.Quotes.{shown_line}
+use Rattle.bs_inspect_notes.specs.Names.{net_text}
 use Rattle.bs_top_plan.specs.Plan.{Reason, exactly, any_of}
 use Rattle.bs_top_files.specs.NoteCases.{NoteCase, at_line}
 use Rattle.bs_top_files.specs.Noting.{noted_by}
@@ -25,17 +25,12 @@ called_of (Some name) = Err (exactly (unnamed_words name))
 abbrev pub called_in : Parts → List (List ℕ) → Result Bool (Reason Case)
 called_in r names = called_of (first_unnamed r names)
 
-abbrev pub unnamed_text : List ℕ → List ℕ
-unnamed_text name =
-    plain_text (codes "no net has the name `" ++ (shown_line name ++ codes "`")) ++
-    plain_text (codes "`flops` tells the keys; the name of a vector without an index names its bits")
-
-abbrev pub called_said : Option (List ℕ) → Result Bool (Reason NoteCase)
-called_said None = Ok true
-called_said (Some name) = Err (exactly (unnamed_text name))
+abbrev pub called_said : List (List ℕ) → Option (List ℕ) → Result Bool (Reason NoteCase)
+called_said keys None = Ok true
+called_said keys (Some name) = Err (exactly (net_text name keys))
 
 abbrev pub called_noted : Parts → List (List ℕ) → Result Bool (Reason NoteCase)
-called_noted r names = called_said (first_unnamed r names)
+called_noted r names = called_said r.names (first_unnamed r names)
 
 -- ---- the order of a scan chain
 

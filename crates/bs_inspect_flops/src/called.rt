@@ -5,41 +5,51 @@ ghost use Rattle.bs_top_plan.specs.Told.{note_refusal, noted, word_refusal, word
 ghost use Rattle.bs_top_plan.specs.Walks.{Reads};
 ghost use Rattle.bs_top_files.specs.NoteCases.{HasNote, NoteSays};
 ghost use Rattle.bs_top_files.specs.Refusals.{CheckSays, HasWords};
-ghost use Rattle.bs_inspect_flops.specs.Readings.{called_in, called_noted, unnamed_text};
+ghost use Rattle.bs_net.specs.Netlist.{parts_of};
+ghost use Rattle.bs_inspect_notes.specs.Names.{net_text};
+ghost use Rattle.bs_inspect_flops.specs.Readings.{called_in, called_noted};
 ghost use Rattle.bs_inspect_flops.specs.Words.{unnamed_words};
 
 use crate::refusals::unnamed_refusal;
-use bs_bits::{NoMemory, push_piece};
+use bs_bits::NoMemory;
 use bs_inspect_netlist::first_unnamed;
-use bs_net::Netlist;
-use bs_note_files::plain_note;
-use bs_note_places::push_quoted;
+use bs_inspect_notes::net_note;
+use bs_net::{NetId, Netlist, Raw};
 use bs_top_plan::{Unread, both};
 use std::alloc::Global;
 
-/// A note on a name that no net has.
-fn unnamed_note(alloc: Global, name: &str) -> Result<Vec<u8>, NoMemory>
-    ensures { IfOk result (λ note. note.items ≡ unnamed_text name.now) }
+/// The keys of the nets of a netlist's parts, as bytes.
+#[tactic(auto, using(crate::proofs::CalledLemmas::key_more))]
+fn key_bytes<'a>(alloc: Global, raw: &'a Raw) -> Result<Vec<&'a [u8]>, NoMemory>
+    ensures { IfOk result (λ keys. map (λ s. s.now) keys.items ≡ (parts_of raw.now).names) }
 {
-    let mut said = b"no net has the name `".to_vec(alloc)?;
-    push_quoted(&mut said, name.as_bytes())?;
-    push_piece(&mut said, b"`")?;
-    let mut note = plain_note(alloc, &said)?;
-    push_piece(
-        &mut note,
-        b"note: `flops` tells the keys; the name of a vector without an index names its bits\n",
-    )?;
+    let mut keys = Vec::new(alloc);
+    'nets: for n in 0..raw.names.len() {
+        let key = raw.names.key(NetId(n));
+        keys.push(key.as_bytes())?;
+    }
+    Ok(keys)
+}
+
+/// A note on a name that no net has.
+fn unnamed_note(alloc: Global, net: &Netlist, name: &str) -> Result<Vec<u8>, NoMemory>
+    ensures { IfOk result (λ note. note.items ≡ net_text name.now net.now.raw.names) }
+{
+    let keys = key_bytes(alloc, net.raw())?;
+    let all = keys.as_slice();
+    let bytes = name.as_bytes();
+    let note = net_note(alloc, bytes, all)?;
     Ok(note)
 }
 
 /// What is told of a name that no net has.
 #[tactic(auto, using(bs_top_files::proofs::NotingLemmas::both_words, bs_top_files::proofs::NotingLemmas::both_these))]
-fn unnamed_told(alloc: Global, name: &str) -> Unread
+fn unnamed_told(alloc: Global, net: &Netlist, name: &str) -> Unread
     ensures words { HasWords (unnamed_words name.now) (word_refusal result) }
-    ensures note { HasNote (exactly (unnamed_text name.now)) (note_refusal result) }
+    ensures note { HasNote (exactly (net_text name.now net.now.raw.names)) (note_refusal result) }
 {
     let words = unnamed_refusal(alloc, name);
-    let note = unnamed_note(alloc, name);
+    let note = unnamed_note(alloc, net, name);
     both(words, note)
 }
 
@@ -51,7 +61,7 @@ pub fn called_or_told(alloc: Global, net: &Netlist, names: &[&str]) -> Result<()
 {
     match first_unnamed(alloc, net, names) {
         Ok(None) => Ok(()),
-        Ok(Some(name)) => Err(unnamed_told(alloc, name)),
+        Ok(Some(name)) => Err(unnamed_told(alloc, net, name)),
         Err(_) => Err(Unread::NoMemory),
     }
 }

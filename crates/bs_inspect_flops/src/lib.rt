@@ -14,5 +14,6 @@ mod pattern;
 mod ready;
 mod refusals;
 
+pub use called::called_or_told;
 pub use loading::{load_named, load_scanned};
 pub use ready::Scanned;

@@ -7,7 +7,10 @@ use Rattle.std.specs.Str.{bytes_eq}
 use Rattle.std.proofs.lemmas.List.{append_assoc, append-nil, drop_more, drop_all, map-append, take_more, take-map}
 use Rattle.std.proofs.lemmas.List.Elements.{filter-append}
 use Rattle.std.proofs.lemmas.List.Folds.{fold-map}
-use Rattle.bs_inspect_notes.specs.Nearest.{at_distance, far, kept, least, nearest}
+use Rattle.bs_net_names.specs.Keys.{key_parts, parts_in}
+use Rattle.bs_net_names.specs.Signals.{plain, same_bit}
+use Rattle.bs_net_names.specs.declared.key.KeyParts.{KeyParts}
+use Rattle.bs_inspect_notes.specs.Nearest.{at_distance, bases_apart, by_bits, far, kept, least, nearest}
 use Rattle.bs_inspect_notes.specs.Listings.{listed, listing, more_piece, name_piece, near_text, quoted, some_listing, some_near}
 use Rattle.bs_inspect_notes.specs.Simulations.{clock_piece, has_scope}
 use Rattle.bs_note_places.specs.declared.nearest.TheConstants.{NAMED}
@@ -18,6 +21,35 @@ Names = List (Bor (List ℕ))
 
 abbrev texts : Names → List (List ℕ)
 texts names = map (λ n. n.now) names
+
+-- ---- names as RTL writes them
+
+abbrev far_by : Bool → Bool → ℕ → ℕ
+far_by vector same d = if vector then 0 else by_bits same d
+
+-- one is the name of the other's vector
+pub far_vector : (name other p q : List ℕ) (two : KeyParts) (v : Bool) → parts_in two ≡ key_parts other → p ≡ plain name → q ≡ plain two.base.now →
+    v ≡ bytes_eq p q → v ≡ true → 0 ≡ far name other
+unfolding far
+far_vector name other p q two v second whole right is yes =
+    let test : bytes_eq (plain name) (plain (key_parts other).base) ≡ true =
+    sym (is ∙ (λ i. bytes_eq (whole i) ((right ∙ ap (λ k. plain k.base) second) i))) ∙ yes in
+    sym (ap (λ (b : Bool). far_by b (same_bit (key_parts name).bit (key_parts other).bit)
+    (bases_apart (plain (key_parts name).base) (plain (key_parts other).base))) test)
+
+pub far_bits : (name other p q w : List ℕ) (one two : KeyParts) (v b : Bool) (d m : ℕ) → parts_in one ≡ key_parts name → parts_in two ≡ key_parts other →
+    p ≡ plain name → q ≡ plain two.base.now → v ≡ bytes_eq p q → v ≡ false → w ≡ plain one.base.now → b ≡ same_bit one.bit two.bit →
+    d ≡ bases_apart w q → m ≡ by_bits b d → m ≡ far name other
+unfolding far
+far_bits name other p q w one two v b d m first second whole right is no left same apart e =
+    let back : q ≡ plain (key_parts other).base = right ∙ ap (λ k. plain k.base) second in
+    let front : w ≡ plain (key_parts name).base = left ∙ ap (λ k. plain k.base) first in
+    let test : bytes_eq (plain name) (plain (key_parts other).base) ≡ false = sym (is ∙ (λ i. bytes_eq (whole i) (back i))) ∙ no in
+    let bit : b ≡ same_bit (key_parts name).bit (key_parts other).bit = same ∙ (λ i. same_bit (first i).bit (second i).bit) in
+    let distance : d ≡ bases_apart (plain (key_parts name).base) (plain (key_parts other).base) = apart ∙ (λ i. bases_apart (front i) (back i)) in
+    e ∙ ((λ i. by_bits (bit i) (distance i))
+    ∙ sym (ap (λ (z : Bool). far_by z (same_bit (key_parts name).bit (key_parts other).bit)
+    (bases_apart (plain (key_parts name).base) (plain (key_parts other).base))) test))
 
 -- ---- the least
 

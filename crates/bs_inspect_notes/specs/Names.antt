@@ -2,6 +2,8 @@
 use Rattle.std.specs.Prelude.{ℕ, ◌-◌, List, [], ◌++◌, codes, decimal, slice_index_or}
 use Rattle.bs_bits.specs.Lines.{lines_of, words_of}
 use Rattle.bs_note_files.specs.Notes.{Saying, saying, file_text, plain_text}
+use Rattle.bs_inspect_notes.specs.declared.name.Subject.{Subject}
+use Rattle.bs_inspect_notes.specs.declared.name.Subject.TheVariants.{Inputs, Flops}
 use Rattle.bs_inspect_notes.specs.Listings.{quoted, some_near}
 
 -- a name that is none of a netlist with these keys
@@ -10,7 +12,18 @@ name_text name keys =
     plain_text (codes "no flip-flop, data input or vector of these has the name " ++ (quoted name ++ some_near name keys)) ++
     plain_text (codes "`flops` and `inputs` tell the keys; the name of a vector without an index names its bits")
 
--- ---- the names of inputs in a simulation
+-- a name that no net with these keys has
+abbrev pub net_text : List ℕ → List (List ℕ) → List ℕ
+net_text name keys =
+    plain_text (codes "no net or vector of nets has the name " ++ (quoted name ++ some_near name keys)) ++
+    plain_text (codes "`flops` and `inputs` tell keys; the name of a vector without an index names its bits")
+
+-- ---- the names in a simulation
+
+-- what has a key
+abbrev pub subject_word : Subject → List ℕ
+subject_word Inputs = codes "data input"
+subject_word Flops = codes "flip-flop"
 
 -- the line with a number, from 1
 abbrev pub numbered : List ℕ → ℕ → List ℕ
@@ -20,14 +33,18 @@ abbrev pub first_word : List ℕ → List ℕ
 first_word line = slice_index_or (words_of line) 0 []
 
 abbrev pub form_saying : Saying
-form_saying = saying (codes "a line is `KEY NAME`, two words with one space between") (codes "the key of a data input, and its name in the simulation")
+form_saying = saying (codes "a line is `KEY NAME`, two words with one space between") (codes "a key of the netlist, and its name in the simulation")
 
--- a key that is that of no data input with these
-abbrev pub key_sentence : List ℕ → List (List ℕ) → List ℕ
-key_sentence key keys = codes "no data input has the key " ++ (quoted key ++ some_near key keys)
+-- a key that is none of these
+unfoldable pub key_sentence : Subject → List ℕ → List (List ℕ) → List ℕ
+key_sentence subject key keys = codes "no " ++ (subject_word subject ++ (codes " has the key " ++ (quoted key ++ some_near key keys)))
 
-abbrev pub key_saying : List (List ℕ) → List ℕ → Saying
-key_saying keys line = saying (key_sentence (first_word line) keys) (codes "`inputs` tells the keys")
+abbrev pub keys_label : Subject → List ℕ
+keys_label Inputs = codes "`inputs` tells the keys"
+keys_label Flops = codes "`flops` tells the keys"
+
+abbrev pub key_saying : Subject → List (List ℕ) → List ℕ → Saying
+key_saying subject keys line = saying (key_sentence subject (first_word line) keys) (keys_label subject)
 
 abbrev pub twice_saying : Saying
 twice_saying = saying (codes "the key of this line has a line already") (codes "take one of them out")

@@ -1,8 +1,10 @@
 -- Which of some names are nearest to a name. A path before a name counts as none apart.
-use Rattle.std.specs.Prelude.{ℕ, ◌-◌, ◌==◌, ◌&&◌, ◌||◌, min, nat_lt, Bool, true, false, List, [], ◌∷◌, length, drop, fold, slice_index, if◌then◌else◌}
+use Rattle.std.specs.Prelude.{ℕ, ◌-◌, ◌==◌, ◌&&◌, ◌||◌, min, max, nat_lt, Bool, true, false, List, [], ◌∷◌, length, drop, fold, slice_index, if◌then◌else◌}
 use Rattle.std.specs.List.{filter}
 use Rattle.std.specs.Str.{bytes_eq}
 use Rattle.bs_note_places.specs.Nearest.{apart}
+use Rattle.bs_net_names.specs.Keys.{key_parts}
+use Rattle.bs_net_names.specs.Signals.{plain, same_bit}
 
 -- the names of a path are parted by `.`, or by `/`
 abbrev pub is_separator : ℕ → Bool
@@ -15,9 +17,21 @@ ends_behind whole name =
     then is_separator (slice_index whole (length whole - length name - 1)) && bytes_eq (drop (length whole - length name) whole) name
     else false
 
--- how far two names are apart
-abbrev pub far : List ℕ → List ℕ → ℕ
-far name other = if ends_behind name other || ends_behind other name then 0 else apart name other
+-- how far two names are apart, where neither is the end of the other's path
+abbrev pub bases_apart : List ℕ → List ℕ → ℕ
+bases_apart name other = if ends_behind name other || ends_behind other name then 0 else apart name other
+
+-- a distance, and at least 1 where a bit is another
+abbrev pub by_bits : Bool → ℕ → ℕ
+by_bits true d = d
+by_bits false d = max 1 d
+
+-- how far two names are apart as RTL writes them: not at all where one is that of the other's vector, `a[3]` for `[0]\a[3]` too, or
+-- `a[0]` and `[0]\a`; else by what stands before the number of a bit; a name without a number stands for all bits of its vector
+unfoldable pub far : List ℕ → List ℕ → ℕ
+far name other =
+    if bytes_eq (plain name) (plain (key_parts other).base) then 0
+    else by_bits (same_bit (key_parts name).bit (key_parts other).bit) (bases_apart (plain (key_parts name).base) (plain (key_parts other).base))
 
 -- the least distance of these names
 abbrev pub least : List ℕ → List (List ℕ) → ℕ

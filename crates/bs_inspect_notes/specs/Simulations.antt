@@ -3,7 +3,10 @@ use Rattle.std.specs.Prelude.{ℕ, ◌==◌, nat_eq, Bool, false, not, List, [],
 use Rattle.std.specs.List.{list_any, position, starts_with}
 use Rattle.std.specs.Str.{bytes_eq}
 use Rattle.bs_inspect_vcd.specs.Tokens.{is_white}
-use Rattle.bs_note_files.specs.Notes.{Saying, saying, file_text, plain_text}
+use Rattle.bs_note_files.specs.Notes.{Saying, saying, file_text, pair_text, plain_text}
+use Rattle.bs_inspect_notes.specs.declared.name.Subject.{Subject}
+use Rattle.bs_inspect_notes.specs.declared.name.Subject.TheVariants.{Inputs, Flops}
+use Rattle.bs_inspect_notes.specs.Names.{subject_word}
 use Rattle.bs_inspect_notes.specs.Listings.{quoted, some_near, some_listing}
 
 -- ---- a file of another kind, by its first bytes
@@ -78,26 +81,59 @@ clock_text file scope clock paths names =
     (file_text file (clock_sentence scope clock paths names) ++ some_listing (codes "the scopes:") paths) ++
     some_listing (codes "the variables there:") names
 
--- ---- the inputs
+-- ---- the inputs, or the flip-flops
 
--- a data input with a key that no variable is, by its name in the simulation and the names of the scope's variables
-unfoldable pub input_sentence : (key name : List ℕ) → List (List ℕ) → List ℕ
-input_sentence key name names =
-    codes "no variable in the clock's scope is the data input " ++ (quoted key ++ (codes ", by the name " ++ (quoted name ++ some_near name names)))
+-- one with a key
+unfoldable pub subject_piece : Subject → List ℕ → List ℕ
+subject_piece subject key = subject_word subject ++ (codes " " ++ quoted key)
 
-abbrev pub input_text : List ℕ → (key name : List ℕ) → List (List ℕ) → List ℕ
-input_text file key name names =
-    file_text file (input_sentence key name names) ++
+-- one with a key that no variable is, by its name in the simulation and the names of the scope's variables
+unfoldable pub input_sentence : Subject → (key name : List ℕ) → List (List ℕ) → List ℕ
+input_sentence subject key name names =
+    codes "no variable in the clock's scope is the "
+    ++ (subject_piece subject key ++ (codes ", by the name " ++ (quoted name ++ some_near name names)))
+
+abbrev pub input_text : Subject → List ℕ → (key name : List ℕ) → List (List ℕ) → List ℕ
+input_text subject file key name names =
+    file_text file (input_sentence subject key name names) ++
     plain_text (codes "a name that is another in the simulation stands in a file of lines KEY NAME behind --map")
 
--- a data input whose bit is not known
-abbrev pub unknown_text : List ℕ → List ℕ → ℕ → List ℕ
-unknown_text file key time =
-    file_text file (codes "the data input " ++ (quoted key ++ (codes " is neither 0 nor 1 before the rising edge at time " ++ decimal time))) ++
-    plain_text (codes "drive each data input before the clock rises first, or begin to dump behind that")
+-- one whose bit is not known
+unfoldable pub unknown_sentence : Subject → List ℕ → ℕ → List ℕ
+unknown_sentence subject key time =
+    codes "the " ++ (subject_piece subject key ++ (codes " is neither 0 nor 1 before the rising edge at time " ++ decimal time))
+
+abbrev pub unknown_hint : Subject → List ℕ
+unknown_hint Inputs = plain_text (codes "drive each data input before the clock rises first, or begin to dump behind that")
+unknown_hint Flops = plain_text (codes "take a later cycle, or begin with an initial value; of the last cycle the time is that of the last change")
+
+abbrev pub unknown_text : Subject → List ℕ → List ℕ → ℕ → List ℕ
+unknown_text subject file key time = file_text file (unknown_sentence subject key time) ++ unknown_hint subject
+
+-- ---- the clock's edges
+
+-- fewer edges than a cycle has before it
+abbrev pub short_text : List ℕ → ℕ → List ℕ
+short_text file count =
+    file_text file (codes "so often does the clock rise: " ++ (decimal count ++ codes "; there is no such cycle")) ++
+    plain_text (codes "cycles count from 0, and each edge ends one; is this the netlist's clock?")
 
 -- more edges than a run may have cycles
 abbrev pub cycles_text : List ℕ → List ℕ
 cycles_text file =
     file_text file (codes "the clock rises more than 65536 times, the most cycles of a run") ++
     plain_text (codes "is this the netlist's clock? dump a shorter time")
+
+-- ---- a clock that is data
+
+-- a clock that is a data input as well
+unfoldable pub data_sentence : List ℕ → List ℕ
+data_sentence clock =
+    codes "the clock " ++ (quoted clock ++ codes " is a data input of the netlist, and each of its rising edges was taken for a cycle")
+
+unfoldable pub own_sentence : List ℕ → List ℕ
+own_sentence key = codes "the netlist's clock is " ++ quoted key
+
+-- such a clock, where that of the netlist has this key
+abbrev pub data_clock_text : (clock key : List ℕ) → List ℕ
+data_clock_text clock key = pair_text (data_sentence clock) (own_sentence key)

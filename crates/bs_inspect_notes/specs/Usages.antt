@@ -24,7 +24,7 @@ usages =
     ∷ stands (codes "stats") (codes "usage: backspace_inspect stats NETLIST")
     ∷ stands (codes "trace") (codes "usage: backspace_inspect trace NETLIST REPORT [--all] [--only NAME ..] [--csv]")
     ∷ stands (codes "steps") (codes "usage: backspace_inspect steps REPORT [--csv]")
-    ∷ stands (codes "wave") (codes "usage: backspace_inspect wave NETLIST REPORT")
+    ∷ stands (codes "wave") (codes "usage: backspace_inspect wave NETLIST REPORT [--all] [--from CYCLE] [--only NAME ..]")
     ∷ stands (codes "stimulus") (codes "usage: backspace_inspect stimulus NETLIST VCD --clock NAME [--scope PATH] [--map FILE]")
     ∷ stands (codes "signature") (codes "usage: backspace_inspect signature NETLIST STIMULUS --bits N")
     ∷ stands (codes "unscan") (codes "usage: backspace_inspect unscan NETLIST ORDER BITS")
@@ -47,7 +47,7 @@ commands = map (λ u. u.command) usages
 
 abbrev pub options : List (List ℕ)
 options =
-    codes "--all" ∷ codes "--only" ∷ codes "--clock" ∷ codes "--scope" ∷ codes "--map" ∷ codes "--bits" ∷ codes "--csv" ∷ []
+    codes "--all" ∷ codes "--only" ∷ codes "--clock" ∷ codes "--scope" ∷ codes "--map" ∷ codes "--bits" ∷ codes "--csv" ∷ codes "--from" ∷ []
 
 -- ---- wrong words
 
@@ -80,7 +80,7 @@ word_text number word name what known =
 
 abbrev pub stand_text : List ℕ → List ℕ
 stand_text line =
-    pair_text (codes "the words do not stand as this command takes them: its files in this order, and each option that it takes as often as it may stand")
+    pair_text (codes "the words do not stand as this command takes them: its files in this order, and each option that it takes as often as it may stand; --only takes every word up to the next option")
     line
 
 abbrev pub behind_text : List (List ℕ) → List ℕ → Option ℕ → List ℕ

@@ -16,8 +16,11 @@ mod usage;
 
 pub use listing::LISTED;
 pub use name::{
-    first_word, form_saying, key_sentence, name_note, numbered, state_note, trace_note,
-    twice_saying,
+    Subject, first_word, form_saying, key_sentence, keys_label, name_note, net_note, numbered,
+    state_note, trace_note, twice_saying,
 };
-pub use simulation::{clock_note, cycles_note, ended_note, foreign, input_note, unknown_note};
+pub use simulation::{
+    clock_note, cycles_note, data_clock_note, ended_note, foreign, input_note, short_note,
+    unknown_note,
+};
 pub use usage::{push_usages, unread_note, words_note};

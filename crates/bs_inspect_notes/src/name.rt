@@ -1,12 +1,29 @@
-//! Notes on names that are asked for, on the names of inputs in a simulation, and on a report of another netlist.
+//! Notes on names that are asked for, on the names in a simulation, and on a report of another netlist.
 ghost use Rattle.std.specs.Prelude.{◌≡◌, ◌-◌, map, IfOk};
 ghost use Rattle.bs_note_files.specs.Notes.{said};
-ghost use Rattle.bs_inspect_notes.specs.Names.{first_word, form_saying, key_sentence, name_text, numbered, state_text, trace_text, twice_saying};
+ghost use Rattle.bs_inspect_notes.specs.Names.{first_word, form_saying, key_sentence, keys_label, name_text, net_text, numbered, state_text, subject_word, trace_text, twice_saying};
 
 use crate::listing::{push_name, push_some_near};
 use bs_bits::{NoMemory, next_line, next_word, push_number, push_piece};
 use bs_note_files::{Message, file_note, plain_note};
 use std::alloc::Global;
+
+/// What has a key, and a name in a simulation.
+#[derive(Clone, Copy, Debug, PartialEq, Eq)]
+pub enum Subject {
+    Inputs,
+    Flops,
+}
+
+/// What has a key, in words.
+pub fn subject_word(subject: Subject) -> &'static [u8]
+    ensures { result.now ≡ subject_word subject }
+{
+    match subject {
+        Subject::Inputs => b"data input",
+        Subject::Flops => b"flip-flop",
+    }
+}
 
 /// A note on a name that is none of a netlist with these keys.
 pub fn name_note(alloc: Global, name: &[u8], keys: &[&[u8]]) -> Result<Vec<u8>, NoMemory>
@@ -19,6 +36,21 @@ pub fn name_note(alloc: Global, name: &[u8], keys: &[&[u8]]) -> Result<Vec<u8>, 
     push_piece(
         &mut note,
         b"note: `flops` and `inputs` tell the keys; the name of a vector without an index names its bits\n",
+    )?;
+    Ok(note)
+}
+
+/// A note on a name that no net with these keys has.
+pub fn net_note(alloc: Global, name: &[u8], keys: &[&[u8]]) -> Result<Vec<u8>, NoMemory>
+    ensures { IfOk result (λ note. note.items ≡ net_text name.now (map (λ k. k.now) keys.now)) }
+{
+    let mut said = b"no net or vector of nets has the name ".to_vec(alloc)?;
+    push_name(&mut said, name)?;
+    push_some_near(alloc, &mut said, name, keys)?;
+    let mut note = plain_note(alloc, &said)?;
+    push_piece(
+        &mut note,
+        b"note: `flops` and `inputs` tell keys; the name of a vector without an index names its bits\n",
     )?;
     Ok(note)
 }
@@ -58,7 +90,7 @@ pub fn form_saying() -> Message<'static>
 {
     Message {
         sentence: b"a line is `KEY NAME`, two words with one space between",
-        label: b"the key of a data input, and its name in the simulation",
+        label: b"a key of the netlist, and its name in the simulation",
     }
 }
 
@@ -72,11 +104,29 @@ pub fn twice_saying() -> Message<'static>
     }
 }
 
-/// What is said of a key that is that of no data input with these.
-pub fn key_sentence(alloc: Global, key: &[u8], keys: &[&[u8]]) -> Result<Vec<u8>, NoMemory>
-    ensures { IfOk result (λ said. said.items ≡ key_sentence key.now (map (λ k. k.now) keys.now)) }
+/// What tells the keys.
+pub fn keys_label(subject: Subject) -> &'static [u8]
+    ensures { result.now ≡ keys_label subject }
 {
-    let mut said = b"no data input has the key ".to_vec(alloc)?;
+    match subject {
+        Subject::Inputs => b"`inputs` tells the keys",
+        Subject::Flops => b"`flops` tells the keys",
+    }
+}
+
+/// What is said of a key that is none of these.
+#[tactic(auto, unfolding(crate::specs::Names::key_sentence))]
+pub fn key_sentence(
+    alloc: Global,
+    subject: Subject,
+    key: &[u8],
+    keys: &[&[u8]],
+) -> Result<Vec<u8>, NoMemory>
+    ensures { IfOk result (λ said. said.items ≡ key_sentence subject key.now (map (λ k. k.now) keys.now)) }
+{
+    let mut said = b"no ".to_vec(alloc)?;
+    push_piece(&mut said, subject_word(subject))?;
+    push_piece(&mut said, b" has the key ")?;
     push_name(&mut said, key)?;
     push_some_near(alloc, &mut said, key, keys)?;
     Ok(said)

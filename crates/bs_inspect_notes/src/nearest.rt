@@ -1,9 +1,10 @@
 //! How far two names are apart, and which of some names are nearest to one.
 ghost use Rattle.std.specs.Prelude.{◌≡◌, ◌++◌, map, min, fold, IfOk, OnOk};
 ghost use Rattle.std.specs.Str.{bytes_eq};
-ghost use Rattle.bs_inspect_notes.specs.Nearest.{at_distance, ends_behind, far, is_separator, kept, least, nearest};
+ghost use Rattle.bs_inspect_notes.specs.Nearest.{at_distance, bases_apart, by_bits, ends_behind, far, is_separator, kept, least, nearest};
 
 use bs_bits::NoMemory;
+use bs_net_names::{key_parts, plain, same_bit};
 use bs_note_places::apart;
 use std::alloc::Global;
 
@@ -34,8 +35,8 @@ fn ends_behind(whole: &[u8], name: &[u8]) -> bool
 }
 
 /// How far two names are apart: not at all where one is a path to the other.
-fn far(name: &[u8], other: &[u8]) -> usize
-    ensures { result ≡ far name.now other.now }
+fn bases_apart(name: &[u8], other: &[u8]) -> usize
+    ensures { result ≡ bases_apart name.now other.now }
 {
     let within = ends_behind(name, other);
     let around = ends_behind(other, name);
@@ -44,6 +45,30 @@ fn far(name: &[u8], other: &[u8]) -> usize
     } else {
         apart(name, other)
     }
+}
+
+/// A distance, and at least 1 where a bit is another.
+fn by_bits(same: bool, distance: usize) -> usize
+    ensures { result ≡ by_bits same distance }
+{
+    if same { distance } else { 1.max(distance) }
+}
+
+/// How far two names are apart as RTL writes them.
+#[tactic(auto, using(crate::proofs::NearLemmas::far_vector, crate::proofs::NearLemmas::far_bits))]
+fn far(name: &[u8], other: &[u8]) -> usize
+    ensures { result ≡ far name.now other.now }
+{
+    let one = key_parts(name);
+    let two = key_parts(other);
+    let base = plain(two.base);
+    if is_text(plain(name), base) {
+        return 0;
+    }
+    by_bits(
+        same_bit(one.bit, two.bit),
+        bases_apart(plain(one.base), base),
+    )
 }
 
 /// The least of a distance and those of these names.

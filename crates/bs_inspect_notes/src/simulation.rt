@@ -3,11 +3,13 @@ ghost use Rattle.std.specs.Prelude.{◌≡◌, ◌<◌, ◌++◌, length, map, n
 ghost use Rattle.std.specs.List.{list_any, position};
 ghost use Rattle.std.specs.Str.{bytes_eq};
 ghost use Rattle.bs_inspect_vcd.specs.Tokens.{is_white};
-ghost use Rattle.bs_inspect_notes.specs.Simulations.{any_sentence, begins, clock_piece, clock_sentence, clock_text, cycles_text, ended_text, foreign, has_scope, input_sentence, input_text, path_sentence, scope_sentence, scoped_sentence, unknown_text};
+ghost use Rattle.bs_inspect_notes.specs.Simulations.{any_sentence, begins, clock_piece, clock_sentence, clock_text, cycles_text, data_clock_text, data_sentence, ended_text, foreign, has_scope, input_sentence, input_text};
+ghost use Rattle.bs_inspect_notes.specs.Simulations.{own_sentence, path_sentence, scope_sentence, scoped_sentence, short_text, subject_piece, unknown_hint, unknown_sentence, unknown_text};
 
 use crate::listing::{push_name, push_some_listing, push_some_near};
+use crate::name::{Subject, subject_word};
 use bs_bits::{NoMemory, push_number, push_piece};
-use bs_note_files::file_note;
+use bs_note_files::{file_note, pair_note};
 use std::alloc::Global;
 
 // ---- a file of another kind
@@ -196,37 +198,49 @@ pub fn clock_note(
     Ok(note)
 }
 
-// ---- the inputs
+// ---- the inputs, or the flip-flops
 
-/// What is said of a data input that no variable is.
+/// Appends the word of a subject and a key.
+#[tactic(auto, unfolding(crate::specs::Simulations::subject_piece))]
+fn push_subject(said: &mut Vec<u8>, subject: Subject, key: &[u8]) -> Result<(), NoMemory>
+    ensures { OnOk result (said.new.items ≡ said.old.items ++ subject_piece subject key.now) }
+{
+    push_piece(said, subject_word(subject))?;
+    push_piece(said, b" ")?;
+    push_name(said, key)
+}
+
+/// What is said of a data input, or a flip-flop, that no variable is.
 #[tactic(auto, unfolding(crate::specs::Simulations::input_sentence))]
 fn input_sentence(
     alloc: Global,
+    subject: Subject,
     key: &[u8],
     name: &[u8],
     names: &[&[u8]],
 ) -> Result<Vec<u8>, NoMemory>
-    ensures { IfOk result (λ said. said.items ≡ input_sentence key.now name.now (map (λ n. n.now) names.now)) }
+    ensures { IfOk result (λ said. said.items ≡ input_sentence subject key.now name.now (map (λ n. n.now) names.now)) }
 {
-    let mut said = b"no variable in the clock's scope is the data input ".to_vec(alloc)?;
-    push_name(&mut said, key)?;
+    let mut said = b"no variable in the clock's scope is the ".to_vec(alloc)?;
+    push_subject(&mut said, subject, key)?;
     push_piece(&mut said, b", by the name ")?;
     push_name(&mut said, name)?;
     push_some_near(alloc, &mut said, name, names)?;
     Ok(said)
 }
 
-/// A note on a data input that no variable is.
+/// A note on a data input, or a flip-flop, that no variable is.
 pub fn input_note(
     alloc: Global,
+    subject: Subject,
     file: &str,
     key: &[u8],
     name: &[u8],
     names: &[&[u8]],
 ) -> Result<Vec<u8>, NoMemory>
-    ensures { IfOk result (λ note. note.items ≡ input_text file.now key.now name.now (map (λ n. n.now) names.now)) }
+    ensures { IfOk result (λ note. note.items ≡ input_text subject file.now key.now name.now (map (λ n. n.now) names.now)) }
 {
-    let said = input_sentence(alloc, key, name, names)?;
+    let said = input_sentence(alloc, subject, key, name, names)?;
     let mut note = file_note(alloc, file, &said)?;
     push_piece(
         &mut note,
@@ -235,21 +249,69 @@ pub fn input_note(
     Ok(note)
 }
 
-/// A note on a data input whose bit is not known.
-pub fn unknown_note(alloc: Global, file: &str, key: &[u8], time: u64) -> Result<Vec<u8>, NoMemory>
-    ensures { IfOk result (λ note. note.items ≡ unknown_text file.now key.now time) }
+/// What is said of a data input, or a flip-flop, whose bit is not known.
+#[tactic(auto, unfolding(crate::specs::Simulations::unknown_sentence))]
+fn unknown_sentence(
+    alloc: Global,
+    subject: Subject,
+    key: &[u8],
+    time: u64,
+) -> Result<Vec<u8>, NoMemory>
+    ensures { IfOk result (λ said. said.items ≡ unknown_sentence subject key.now time) }
 {
-    let mut said = b"the data input ".to_vec(alloc)?;
-    push_name(&mut said, key)?;
+    let mut said = b"the ".to_vec(alloc)?;
+    push_subject(&mut said, subject, key)?;
     push_piece(
         &mut said,
         b" is neither 0 nor 1 before the rising edge at time ",
     )?;
     push_number(&mut said, time)?;
+    Ok(said)
+}
+
+/// What to do about such a bit.
+fn unknown_hint(subject: Subject) -> &'static [u8]
+    ensures { result.now ≡ unknown_hint subject }
+{
+    match subject {
+        Subject::Inputs => {
+            b"note: drive each data input before the clock rises first, or begin to dump behind that\n"
+        }
+        Subject::Flops => {
+            b"note: take a later cycle, or begin with an initial value; of the last cycle the time is that of the last change\n"
+        }
+    }
+}
+
+/// A note on a data input, or a flip-flop, whose bit is not known.
+pub fn unknown_note(
+    alloc: Global,
+    subject: Subject,
+    file: &str,
+    key: &[u8],
+    time: u64,
+) -> Result<Vec<u8>, NoMemory>
+    ensures { IfOk result (λ note. note.items ≡ unknown_text subject file.now key.now time) }
+{
+    let said = unknown_sentence(alloc, subject, key, time)?;
+    let mut note = file_note(alloc, file, &said)?;
+    push_piece(&mut note, unknown_hint(subject))?;
+    Ok(note)
+}
+
+// ---- the clock's edges
+
+/// A note on values that have too few edges for a cycle.
+pub fn short_note(alloc: Global, file: &str, count: u64) -> Result<Vec<u8>, NoMemory>
+    ensures { IfOk result (λ note. note.items ≡ short_text file.now count) }
+{
+    let mut said = b"so often does the clock rise: ".to_vec(alloc)?;
+    push_number(&mut said, count)?;
+    push_piece(&mut said, b"; there is no such cycle")?;
     let mut note = file_note(alloc, file, &said)?;
     push_piece(
         &mut note,
-        b"note: drive each data input before the clock rises first, or begin to dump behind that\n",
+        b"note: cycles count from 0, and each edge ends one; is this the netlist's clock?\n",
     )?;
     Ok(note)
 }
@@ -267,5 +329,41 @@ pub fn cycles_note(alloc: Global, file: &str) -> Result<Vec<u8>, NoMemory>
         &mut note,
         b"note: is this the netlist's clock? dump a shorter time\n",
     )?;
+    Ok(note)
+}
+
+// ---- a clock that is data
+
+/// What is said of a clock that is a data input.
+#[tactic(auto, unfolding(crate::specs::Simulations::data_sentence))]
+fn data_sentence(alloc: Global, clock: &str) -> Result<Vec<u8>, NoMemory>
+    ensures { IfOk result (λ said. said.items ≡ data_sentence clock.now) }
+{
+    let mut said = b"the clock ".to_vec(alloc)?;
+    push_name(&mut said, clock.as_bytes())?;
+    push_piece(
+        &mut said,
+        b" is a data input of the netlist, and each of its rising edges was taken for a cycle",
+    )?;
+    Ok(said)
+}
+
+/// Which clock a netlist has.
+#[tactic(auto, unfolding(crate::specs::Simulations::own_sentence))]
+fn own_sentence(alloc: Global, key: &str) -> Result<Vec<u8>, NoMemory>
+    ensures { IfOk result (λ said. said.items ≡ own_sentence key.now) }
+{
+    let mut said = b"the netlist's clock is ".to_vec(alloc)?;
+    push_name(&mut said, key.as_bytes())?;
+    Ok(said)
+}
+
+/// A note on a clock that is a data input, where that of the netlist has this key.
+pub fn data_clock_note(alloc: Global, clock: &str, key: &str) -> Result<Vec<u8>, NoMemory>
+    ensures { IfOk result (λ note. note.items ≡ data_clock_text clock.now key.now) }
+{
+    let said = data_sentence(alloc, clock)?;
+    let own = own_sentence(alloc, key)?;
+    let note = pair_note(alloc, &said, &own)?;
     Ok(note)
 }

@@ -24,7 +24,10 @@ const USAGES: [(&str, &str); 12] = [
         "usage: backspace_inspect trace NETLIST REPORT [--all] [--only NAME ..] [--csv]",
     ),
     ("steps", "usage: backspace_inspect steps REPORT [--csv]"),
-    ("wave", "usage: backspace_inspect wave NETLIST REPORT"),
+    (
+        "wave",
+        "usage: backspace_inspect wave NETLIST REPORT [--all] [--from CYCLE] [--only NAME ..]",
+    ),
     (
         "stimulus",
         "usage: backspace_inspect stimulus NETLIST VCD --clock NAME [--scope PATH] [--map FILE]",
@@ -42,8 +45,8 @@ const USAGES: [(&str, &str); 12] = [
 ];
 
 /// The options of all commands.
-const OPTIONS: [&[u8]; 7] = [
-    b"--all", b"--only", b"--clock", b"--scope", b"--map", b"--bits", b"--csv",
+const OPTIONS: [&[u8]; 8] = [
+    b"--all", b"--only", b"--clock", b"--scope", b"--map", b"--bits", b"--csv", b"--from",
 ];
 
 /// The commands.
@@ -222,7 +225,7 @@ fn behind_note(alloc: Global, words: &[String], line: &str) -> Result<Vec<u8>, N
         Some(number) => option_note(alloc, number, word_at(words, number - 1), line),
         None => pair_note(
             alloc,
-            b"the words do not stand as this command takes them: its files in this order, and each option that it takes as often as it may stand",
+            b"the words do not stand as this command takes them: its files in this order, and each option that it takes as often as it may stand; --only takes every word up to the next option",
             line.as_bytes(),
         ),
     }

@@ -18,10 +18,6 @@ pub record Asked : Type 0 where
 abbrev pub asked_in : CodeAsked → Asked
 asked_in a = record { from = a.from; all = a.all; only = map (λ s. s.now) a.only.now; remarks = a.remarks.now }
 
--- nothing is asked
-abbrev pub plain_asked : Asked
-plain_asked = record { from = 0; all = false; only = []; remarks = [] }
-
 -- ---- names that nobody gave
 
 -- digits up to a `_` that ends a name

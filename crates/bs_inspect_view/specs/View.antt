@@ -6,7 +6,7 @@ use Rattle.std.specs.List.{flat_map, list_any, range_with_len}
 use Rattle.bs_bits.specs.Lines.{line}
 use Rattle.bs_net.specs.Parts.{Parts}
 use Rattle.bs_net_names.specs.Signals.{Signal, range_text}
-use Rattle.bs_inspect_view.specs.Drawn.{AreDrawn, Asked, plain_asked}
+use Rattle.bs_inspect_view.specs.Drawn.{AreDrawn, Asked}
 use Rattle.bs_inspect_view.specs.Scopes.{leaf_of, moves, path_of, scopes, word_of}
 use Rattle.bs_wave.specs.declared.value.Value.{Value}
 use Rattle.bs_wave.specs.declared.wave.Wave.{Wave}
@@ -115,7 +115,3 @@ pub record IsDrawing (raw : Parts) (asked : Asked) (states inputs : List (List B
   pub wave : Wave
   pub of : IsWaveOf raw states inputs wave
   pub views : Views raw asked wave text
-
--- the same where nothing is asked
-abbrev pub IsViewOf : Parts → (states inputs : List (List Bool)) → List ℕ → Type 0
-IsViewOf raw states inputs text = IsDrawing raw plain_asked states inputs text

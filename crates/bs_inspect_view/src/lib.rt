@@ -16,4 +16,4 @@ mod value;
 mod view;
 
 pub use asked::Asked;
-pub use view::{drawing, view_text};
+pub use view::drawing;

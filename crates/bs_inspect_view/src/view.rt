@@ -3,7 +3,7 @@ ghost use Rattle.std.specs.Prelude.{◌≡◌, ◌++◌, map, OnOk, IfOk};
 ghost use Rattle.bs_net_names.specs.Signals.{signal_in};
 ghost use Rattle.bs_net.specs.Netlist.{circuit};
 ghost use Rattle.bs_inspect_view.specs.Drawn.{asked_in};
-ghost use Rattle.bs_inspect_view.specs.View.{IsDrawing, IsViewOf, Views, view_told};
+ghost use Rattle.bs_inspect_view.specs.View.{IsDrawing, Views, view_told};
 ghost use Rattle.bs_wave.specs.Wave.{IsWayOf};
 
 use crate::asked::Asked;
@@ -63,23 +63,4 @@ pub fn drawing(
         Ok(wave) => text_over(alloc, net, asked, &wave),
         Err(refused) => Err(refused),
     }
-}
-
-/// The same where nothing is asked: the first moment stands at time 0, and nets whose names nobody gave are not drawn.
-pub fn view_text(
-    alloc: Global,
-    net: &Netlist,
-    states: &List<Bits>,
-    inputs: &List<Bits>,
-) -> Result<Vec<u8>, NoMemory>
-    requires { IsWayOf (circuit net.now) states.now inputs.now }
-    ensures { IfOk result (λ text. IsViewOf net.now.raw states.now inputs.now text.items) }
-{
-    let asked = Asked {
-        from: 0,
-        all: false,
-        only: &[],
-        remarks: b"",
-    };
-    drawing(alloc, net, states, inputs, &asked)
 }

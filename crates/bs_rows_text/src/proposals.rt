@@ -3,7 +3,7 @@ use crate::netlists::netlist;
 use crate::traces::{are_wide, bits_in};
 use bs_bits::{Bits, List, NoMemory};
 use bs_inspect_lists::signature_text;
-use bs_inspect_view::view_text;
+use bs_inspect_view::{Asked, drawing};
 use bs_net::Netlist;
 use bs_stim::{MAX_TEXT, Runs};
 use std::alloc::Global;
@@ -56,6 +56,7 @@ fn viewed(
     net: &Netlist,
     states: &List<Bits>,
     inputs: &List<Bits>,
+    asked: &Asked<'_>,
 ) -> Result<Vec<u8>, NoMemory> {
     if states.len() == 0 || states.len() - 1 != inputs.len() {
         return Ok(Vec::new(alloc));
@@ -66,7 +67,7 @@ fn viewed(
     if !are_wide(inputs.slice(), net.data_inputs().len()) {
         return Ok(Vec::new(alloc));
     }
-    view_text(alloc, net, states, inputs)
+    drawing(alloc, net, states, inputs, asked)
 }
 
 /// The same where the inputs are given as words.
@@ -75,9 +76,10 @@ fn viewed_from(
     net: &Netlist,
     states: &List<Bits>,
     inputs: &str,
+    asked: &Asked<'_>,
 ) -> Result<Vec<u8>, NoMemory> {
     let inputs = bits_in(alloc, inputs)?;
-    viewed(alloc, net, states, &inputs)
+    viewed(alloc, net, states, &inputs, asked)
 }
 
 /// The same where the states are given as words too.
@@ -86,15 +88,22 @@ fn viewed_of(
     net: &Netlist,
     states: &str,
     inputs: &str,
+    asked: &Asked<'_>,
 ) -> Result<Vec<u8>, NoMemory> {
     let states = bits_in(alloc, states)?;
-    viewed_from(alloc, net, &states, inputs)
+    viewed_from(alloc, net, &states, inputs, asked)
 }
 
-/// The waveform for viewers of states and inputs that are given as words.
-pub fn view(alloc: Global, circuit: &str, states: &str, inputs: &str) -> Result<Vec<u8>, NoMemory> {
+/// The waveform for viewers of states and inputs that are given as words, with what is asked.
+pub fn view(
+    alloc: Global,
+    circuit: &str,
+    states: &str,
+    inputs: &str,
+    asked: &Asked<'_>,
+) -> Result<Vec<u8>, NoMemory> {
     match netlist(alloc, circuit.as_bytes()) {
-        Some(net) => viewed_of(alloc, &net, states, inputs),
+        Some(net) => viewed_of(alloc, &net, states, inputs, asked),
         None => Ok(Vec::new(alloc)),
     }
 }
