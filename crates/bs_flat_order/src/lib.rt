@@ -8,16 +8,16 @@
 //! the order has each module after those that it instances (`specs/Ring`, `specs/Marks`).
 #![tactic(auto)]
 
-mod law;
 mod children_first;
+mod law;
 mod marks;
 mod numbers;
 mod places;
 mod ranks;
 mod refusals;
 
-pub use law::rings_have_no_order;
 pub use children_first::{Levels, module_levels};
+pub use law::rings_have_no_order;
 pub use marks::tops;
 pub use numbers::module_numbers;
 pub use ranks::{Hierarchy, Ranked, rank_modules};
