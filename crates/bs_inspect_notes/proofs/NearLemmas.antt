@@ -31,9 +31,9 @@ far_by vector same d = if vector then 0 else by_bits same d
 pub far_vector : (name other p q : List ℕ) (two : KeyParts) (v : Bool) → parts_in two ≡ key_parts other → p ≡ plain name → q ≡ plain two.base.now →
     v ≡ bytes_eq p q → v ≡ true → 0 ≡ far name other
 unfolding far
-far_vector name other p q two v second whole right is yes =
+far_vector name other p q two v second whole right is holds =
     let test : bytes_eq (plain name) (plain (key_parts other).base) ≡ true =
-    sym (is ∙ (λ i. bytes_eq (whole i) ((right ∙ ap (λ k. plain k.base) second) i))) ∙ yes in
+    sym (is ∙ (λ i. bytes_eq (whole i) ((right ∙ ap (λ k. plain k.base) second) i))) ∙ holds in
     sym (ap (λ (b : Bool). far_by b (same_bit (key_parts name).bit (key_parts other).bit)
     (bases_apart (plain (key_parts name).base) (plain (key_parts other).base))) test)
 
@@ -41,10 +41,10 @@ pub far_bits : (name other p q w : List ℕ) (one two : KeyParts) (v b : Bool) (
     p ≡ plain name → q ≡ plain two.base.now → v ≡ bytes_eq p q → v ≡ false → w ≡ plain one.base.now → b ≡ same_bit one.bit two.bit →
     d ≡ bases_apart w q → m ≡ by_bits b d → m ≡ far name other
 unfolding far
-far_bits name other p q w one two v b d m first second whole right is no left same apart e =
+far_bits name other p q w one two v b d m first second whole right is fails left same apart e =
     let back : q ≡ plain (key_parts other).base = right ∙ ap (λ k. plain k.base) second in
     let front : w ≡ plain (key_parts name).base = left ∙ ap (λ k. plain k.base) first in
-    let test : bytes_eq (plain name) (plain (key_parts other).base) ≡ false = sym (is ∙ (λ i. bytes_eq (whole i) (back i))) ∙ no in
+    let test : bytes_eq (plain name) (plain (key_parts other).base) ≡ false = sym (is ∙ (λ i. bytes_eq (whole i) (back i))) ∙ fails in
     let bit : b ≡ same_bit (key_parts name).bit (key_parts other).bit = same ∙ (λ i. same_bit (first i).bit (second i).bit) in
     let distance : d ≡ bases_apart (plain (key_parts name).base) (plain (key_parts other).base) = apart ∙ (λ i. bases_apart (front i) (back i)) in
     e ∙ ((λ i. by_bits (bit i) (distance i))

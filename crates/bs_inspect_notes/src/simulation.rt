@@ -1,5 +1,5 @@
 //! Notes on the values of a simulator.
-ghost use Rattle.std.specs.Prelude.{◌≡◌, ◌<◌, ◌++◌, length, map, not, option_map, IfOk, IfSome, OnOk};
+ghost use Rattle.std.specs.Prelude.{◌≡◌, ◌<◌, ◌++◌, length, map, not, option_map, IfOk, IfSome, OnOk, codes, decimal};
 ghost use Rattle.std.specs.List.{list_any, position};
 ghost use Rattle.std.specs.Str.{bytes_eq};
 ghost use Rattle.bs_inspect_vcd.specs.Tokens.{is_white};
@@ -249,6 +249,15 @@ pub fn input_note(
     Ok(note)
 }
 
+/// Appends that a bit is not known before an edge.
+fn push_edge(said: &mut Vec<u8>, time: u64) -> Result<(), NoMemory>
+    ensures { OnOk result (said.new.items ≡ said.old.items ++ (codes " is neither 0 nor 1 before the rising edge at time " ++ decimal time)) }
+{
+    push_piece(said, b" is neither 0 nor 1 before the rising edge at time ")?;
+    push_number(said, time)?;
+    Ok(())
+}
+
 /// What is said of a data input, or a flip-flop, whose bit is not known.
 #[tactic(auto, unfolding(crate::specs::Simulations::unknown_sentence))]
 fn unknown_sentence(
@@ -261,11 +270,7 @@ fn unknown_sentence(
 {
     let mut said = b"the ".to_vec(alloc)?;
     push_subject(&mut said, subject, key)?;
-    push_piece(
-        &mut said,
-        b" is neither 0 nor 1 before the rising edge at time ",
-    )?;
-    push_number(&mut said, time)?;
+    push_edge(&mut said, time)?;
     Ok(said)
 }
 
