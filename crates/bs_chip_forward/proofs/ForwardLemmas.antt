@@ -1,13 +1,16 @@
 -- Where all runs lead, cycle by cycle, and what a print that differs says.
-use Rattle.std.proofs.Common.{◌≡◌, ℕ, zero, suc, ◌<◌, ◌≤◌, ◌+◌, ◌-◌, ◌*◌, ◌/◌, ◌%◌, Bool, true, false, ◌&&◌, ◌||◌, List, [], ◌∷◌, ◌++◌, length, map, get_or, refl}
+use Rattle.std.proofs.Common.{◌≡◌, ℕ, zero, suc, ◌<◌, ◌≤◌, ◌+◌, ◌-◌, ◌*◌, ◌/◌, ◌%◌, Bool, true, false, ◌&&◌, ◌||◌, List, [], ◌∷◌, ◌++◌, length, map, take, get_or, refl}
 use Rattle.std.proofs.Common.{arith, ap, ap₂, sym, subst, ◌∙◌, ⊎_elim, length-append, Some, None, nat_eq}
 use Rattle.std.specs.Prelude.{◌==◌, slice_get, OnOk, OnErr, Result, Ok, Err}
-use Rattle.std.specs.List.{range_with_len}
+use Rattle.std.specs.Prelude.{All}
+use Rattle.std.specs.List.{range_with_len, AllByRecursion}
 use Rattle.std.proofs.lemmas.Bool.{cases_eq, cases_lt, eqb-false, true≢false}
 use Rattle.std.proofs.lemmas.Cmp.{nat_eq_equiv}
-use Rattle.std.proofs.lemmas.List.{get_or_past}
-use Rattle.std.proofs.lemmas.List.FromFn.{fill_by_all, get_or-map-range_with_len, length-map-range_with_len, map-range_with_len_more}
+use Rattle.std.proofs.lemmas.List.{get_or_past, map_more}
+use Rattle.std.proofs.lemmas.List.Elements.{All-weaker, recursion_from_All}
+use Rattle.std.proofs.lemmas.List.FromFn.{map-range_with_len_more}
 use Rattle.bs_net.specs.Circuit.{Circuit, next}
+use Rattle.bs_net.specs.Gate.{is_odd}
 use Rattle.bs_net.specs.Netlist.{circuit}
 use Rattle.bs_net_free.specs.Free.{IsFree}
 use Rattle.bs_stim.specs.Packing.{bit_in, HasPut}
@@ -17,46 +20,106 @@ use Rattle.bs_lanes_planes.proofs.PlaneLemmas.{lane_at, length_lane}
 use Rattle.bs_scan.specs.Moments.{Run, moment, IsMoment, run_of, state_at}
 use Rattle.bs_chip_forward.specs.declared.forward.Aim.{Aim}
 use Rattle.bs_chip_forward.specs.declared.forward.Row.{Row}
-use Rattle.bs_chip_forward.specs.Forward.{Holding, IsHeldIn, IsHolding, TellsLead, TellLeads, TellRuns, TellsRow, no_row, IsSide, IsForward, LeadsNowhere}
+use Rattle.bs_chip_forward.specs.Forward.{Holding, Holds, IsHeldIn, IsHolding, TellsLead, TellLeads, TellRuns, TellsRow, no_row, IsSide, IsForward, LeadsNowhere}
 use Rattle.bs_chip.specs.Lockstep.{wide_of, Passing, IsSamePass, ShowsCycle}
 use Rattle.bs_chip.specs.Prints.{print_more, print_of, ListsEach}
-use Rattle.bs_chip_forward.specs.Masks.{masked}
+use Rattle.bs_chip_forward.specs.Groups.{parities_of, AreFree}
+use Rattle.bs_chip.specs.Parities.{HaveParities}
+use Rattle.bs_scan.specs.Signature.{parity_of}
 use Rattle.bs_chip.proofs.IndexLemmas.{print_snoc}
+use Rattle.bs_chip.proofs.ParityLemmas.{signature_lane}
+use Rattle.bs_chip.proofs.TrackLemmas.{track_at}
 use Rattle.bs_chip.proofs.StepLemmas.{of_table}
 
--- ---- prints of some bits
+-- ---- prints of parities
 
-pub mask_next : (f : ℕ → Bool) (i print next : ℕ) (bit : Bool) → bit ≡ f i → print ≡ print_of (map f (range_with_len 0 i)) →
-    next ≡ print_more print bit → next ≡ print_of (map f (range_with_len 0 (i + 1)))
-mask_next f i print next bit e h n =
+pub lane_next : (wide i r print next : ℕ) (words : List ℕ) (bit : Bool) → bit ≡ bit_in words (bit_place wide i r) →
+    print ≡ print_of (lane wide i words r) → next ≡ print_more print bit → next ≡ print_of (lane wide (i + 1) words r)
+lane_next wide i r print next words bit e h n =
+    let f : ℕ → Bool = λ plane. bit_in words (bit_place wide plane r) in
     n
     ∙ (ap₂ print_more h e
-    ∙ (sym (print_snoc (map f (range_with_len 0 i)) (f i)) ∙ sym (ap print_of (map-range_with_len_more f 0 i i (omega arith)))))
+    ∙ (sym (print_snoc (lane wide i words r) (f i)) ∙ sym (ap print_of (map-range_with_len_more f 0 i i (omega arith)))))
 
-same_range : (f g : ℕ → Bool) (n : ℕ) → ((k : ℕ) → k < n → f k ≡ g k) → map f (range_with_len 0 n) ≡ map g (range_with_len 0 n)
-same_range f g n h =
-    fill_by_all g (map f (range_with_len 0 n)) n false (length-map-range_with_len f 0 n)
-    (λ k lt. get_or-map-range_with_len f 0 n k k false lt (omega arith) ∙ h k lt)
+pub parity_next : (groups : List (List ℕ)) (bits : List Bool) (i print next : ℕ) (group : List ℕ) (bit : Bool) → i < length groups →
+    slice_get groups i ≡ Some group → bit ≡ parity_of bits group → print ≡ print_of (map (parity_of bits) (take i groups)) →
+    next ≡ print_more print bit → next ≡ print_of (map (parity_of bits) (take (i + 1) groups))
+parity_next groups bits i print next group bit lt look e h n =
+    let here : bit ≡ parity_of bits (get_or groups i []) = e ∙ ap (parity_of bits) (sym (track_at groups i group look)) in
+    n
+    ∙ (ap₂ print_more h here
+    ∙ (sym (print_snoc (map (parity_of bits) (take i groups)) (parity_of bits (get_or groups i [])))
+    ∙ sym (ap print_of (map_more (parity_of bits) groups i [] lt))))
 
--- the flagged bits of a lane
-pub masked_lane : (flags : List Bool) (planes : List ℕ) (wide r : ℕ) →
-    map (λ k. get_or flags k false && bit_in planes (bit_place wide k r)) (range_with_len 0 (length flags))
-    ≡ masked flags (lane wide (length flags) planes r)
-masked_lane flags planes wide r =
-    same_range (λ k. get_or flags k false && bit_in planes (bit_place wide k r))
-    (λ k. get_or flags k false && get_or (lane wide (length flags) planes r) k false) (length flags)
-    (λ k lt. ap (λ b. get_or flags k false && b) (sym (lane_at wide (length flags) planes r k lt)))
+-- the lanes of the groups' planes tell the parities of the lanes
+pub parities_told : (groups : List (List ℕ)) (planes words prints : List ℕ) (wide width count lanes n : ℕ) →
+    All (λ group. All (λ place. place < width) group) groups → count ≡ length groups * wide → HaveParities groups planes wide count words →
+    lanes ≤ 64 * wide → n ≡ length groups → ListsEach (λ r. print_of (lane wide n words r)) prints lanes →
+    ListsEach (λ r. print_of (parities_of groups (lane wide width planes r))) prints lanes
+parities_told groups planes words prints wide width count lanes n range whole have few number list =
+    record {
+      size = list.size;
+      each = λ r lt.
+          list.each r lt
+          ∙ (ap (λ (m : ℕ). print_of (lane wide m words r)) number
+          ∙ ap print_of
+          (signature_lane (record { width = width; depth = 1; items = groups }) planes words wide count r range whole have (omega (arith, lt, few))));
+    }
 
--- lists that are the same at flagged places
-masked_same : (flags bits others : List Bool) → ((k : ℕ) → get_or flags k false ≡ true → get_or bits k false ≡ get_or others k false) →
-    masked flags bits ≡ masked flags others
-masked_same flags bits others h =
-    same_range (λ k. get_or flags k false && get_or bits k false) (λ k. get_or flags k false && get_or others k false) (length flags)
-    (λ k lt. by k (get_or flags k false) refl)
-  where
-    by : (k : ℕ) (flag : Bool) → get_or flags k false ≡ flag → (flag && get_or bits k false) ≡ (flag && get_or others k false)
-    by k true e = h k e
-    by k false e = refl
+-- ---- groups of flagged places
+
+same_map : {X Y : Type 0} (f g : X → Y) (xs : List X) → AllByRecursion (λ x. f x ≡ g x) xs → map f xs ≡ map g xs
+same_map f g [] h = refl
+same_map f g (x ∷ xs) h = ap (λ y. y ∷ map f xs) h.0 ∙ ap (λ ys. g x ∷ ys) (same_map f g xs h.1)
+
+flagged_below : (flags : List Bool) (k n : ℕ) → length flags ≡ n → get_or flags k false ≡ true → k < n
+flagged_below flags k n size on =
+    ⊎_elim (λ (there : k < length flags). omega (arith, there, size))
+    (λ (past : length flags ≤ k). absurd (true≢false (sym on ∙ get_or_past flags k false past)))
+    (cases_lt k (length flags))
+
+pub groups_free : (c : Circuit) (input : ℕ) (value : Bool) (flags : List Bool) (groups : List (List ℕ)) → IsFree c input value flags →
+    All (λ group. All (λ place. get_or flags place false ≡ true) group) groups → AreFree c input value groups
+groups_free c input value flags groups free flagged =
+    let On : List ℕ → Type 0 = λ group. All (λ place. get_or flags place false ≡ true) group in
+    record {
+      in_range =
+          All-weaker On (λ group. All (λ place. place < length c.flops) group)
+          (λ group h.
+          All-weaker (λ place. get_or flags place false ≡ true) (λ place. place < length c.flops)
+          (λ place on. flagged_below flags place (length c.flops) free.size on) group h)
+          groups flagged;
+      same = λ state a b ls la lb ha hb.
+          let s : List Bool = next c state a in
+          let t : List Bool = next c state b in
+          same_map (parity_of s) (parity_of t) groups
+          (recursion_from_All (λ group. parity_of s group ≡ parity_of t group) groups
+          (All-weaker On (λ group. parity_of s group ≡ parity_of t group)
+          (λ group h.
+          ap is_odd
+          (same_map (λ place. get_or s place false) (λ place. get_or t place false) group
+          (recursion_from_All (λ place. get_or s place false ≡ get_or t place false) group
+          (All-weaker (λ place. get_or flags place false ≡ true) (λ place. get_or s place false ≡ get_or t place false)
+          (λ place on. free.same place on state a b ls la lb ha hb) group h))))
+          groups flagged));
+    }
+
+pub holds_groups : (c d : Circuit) (wide w input : ℕ) (value : Bool) (groups : List (List ℕ)) (words : List ℕ) (width count : ℕ) → d ≡ c → w ≡ wide →
+    1 ≤ wide → wide ≤ 4 → width ≡ length c.flops → count ≡ length c.inputs → length words ≡ count * wide →
+    (input < count → IsHeldIn wide input value words (64 * wide)) → AreFree c input value groups →
+    IsHolding (record { circuit = d; wide = w; input = input; value = value; groups = groups }) words width
+holds_groups c d wide w input value groups words width count e f some few size inputs room held free =
+    let h : Circuit → ℕ → Holding = λ d w. record { circuit = d; wide = w; input = input; value = value; groups = groups } in
+    subst (λ (d : Circuit). IsHolding (h d w) words width) (sym e)
+    (subst (λ (w : ℕ). IsHolding (h c w) words width) (sym f)
+    (record {
+      some = some;
+      few = few;
+      width_is = size;
+      size = room ∙ ap (λ (n : ℕ). n * wide) inputs;
+      held = λ lt. held (omega (arith, lt, inputs));
+      free = free;
+    }))
 
 -- ---- an input held at a value
 
@@ -89,23 +152,20 @@ lane_holds wide count input value planes r x held lt size has =
     ∙ (sym (get_or_past x input false (omega (arith, past, size))) ∙ has))
     (cases_lt input count)
 
-lead_told : (h : Holding) (s a : List Bool) (print : ℕ) → IsFree h.circuit h.input h.value h.flags → length s ≡ length h.circuit.flops →
+lead_told : (h : Holding) (s a : List Bool) (print : ℕ) → AreFree h.circuit h.input h.value h.groups → length s ≡ length h.circuit.flops →
     length a ≡ length h.circuit.inputs →
     ((x : List Bool) → length x ≡ length h.circuit.inputs → get_or x h.input false ≡ h.value → get_or a h.input false ≡ h.value) →
-    print ≡ print_of (masked h.flags (next h.circuit s a)) → TellsLead h s print
+    print ≡ print_of (parities_of h.groups (next h.circuit s a)) → TellsLead h s print
 lead_told h s a print free ls la holds e =
     record {
-      each = λ x lx has.
-          e
-          ∙ ap print_of
-          (masked_same h.flags (next h.circuit s a) (next h.circuit s x) (λ k on. free.same k on s a x ls la lx (holds x lx has) has));
+      each = λ x lx has. e ∙ ap print_of (free.same s a x ls la lx (holds x lx has) has);
     }
 
-pub leads_told : (h : Holding) (loaded new : LaneTable) (inputs planes prints : List ℕ) (lanes wide : ℕ) → IsHolding h inputs →
+pub leads_told : (h : Holding) (loaded new : LaneTable) (inputs planes prints : List ℕ) (lanes wide width : ℕ) → IsHolding h inputs width →
     circuit loaded.net ≡ h.circuit → loaded.wide ≡ h.wide → loaded.flops ≡ planes → IsSameTable loaded new → AreStepped loaded new inputs →
     wide ≡ new.wide → lanes ≤ 64 * h.wide →
-    ListsEach (λ r. print_of (masked h.flags (lane wide (length h.flags) new.flops r))) prints lanes → TellLeads h planes prints lanes
-leads_told h loaded new inputs planes prints lanes wide hold net w flops same step width few list =
+    ListsEach (λ r. print_of (parities_of h.groups (lane wide width new.flops r))) prints lanes → TellLeads h planes prints lanes
+leads_told h loaded new inputs planes prints lanes wide size hold net w flops same step width few list =
     record {
       size = list.size;
       each = λ r lt.
@@ -116,12 +176,12 @@ leads_told h loaded new inputs planes prints lanes wide hold net w flops same st
           let led : lane h.wide (length c.flops) new.flops r ≡ next c (lane h.wide (length c.flops) loaded.flops r) a =
           of_table c (circuit loaded.net) (circuit new.net) h.wide loaded.wide new.wide loaded.flops new.flops inputs r net (ap circuit same.net ∙ net) w
           (same.wide ∙ w) (step.state r (omega (arith, small, w))) in
-          let is : lane wide (length h.flags) new.flops r ≡ next c s a =
-          ap₂ (λ (i j : ℕ). lane i j new.flops r) (width ∙ (same.wide ∙ w)) hold.free.size
+          let is : lane wide size new.flops r ≡ next c s a =
+          ap₂ (λ (i j : ℕ). lane i j new.flops r) (width ∙ (same.wide ∙ w)) hold.width_is
           ∙ (led ∙ ap (λ (ps : List ℕ). next c (lane h.wide (length c.flops) ps r) a) flops) in
           lead_told h s a (get_or prints r 0) hold.free (length_lane h.wide (length c.flops) planes r) (length_lane h.wide (length c.inputs) inputs r)
           (λ x lx has. lane_holds h.wide (length c.inputs) h.input h.value inputs r x hold.held small lx has)
-          (list.each r lt ∙ ap (λ (bits : List Bool). print_of (masked h.flags bits)) is);
+          (list.each r lt ∙ ap (λ (bits : List Bool). print_of (parities_of h.groups bits)) is);
     }
 
 -- ---- all runs at a cycle
@@ -184,17 +244,12 @@ nothing_ahead p low high one other same reset =
     }
 
 -- both sides of a split, and no row yet
-pub starts_ahead : (p : Passing) (low high : Holding) (c : Circuit) (wide input : ℕ) (flags others : List Bool) (rows : List Row) →
-    low ≡ record { circuit = c; wide = wide; input = input; value = false; flags = flags } →
-    high ≡ record { circuit = c; wide = wide; input = input; value = true; flags = others } → c ≡ p.circuit → wide ≡ wide_of (length p.runs) →
-    p.cycle ≡ 0 → rows ≡ [] → IsForward p low high rows
-starts_ahead p low high c wide input flags others rows one other e w reset none =
-    let first : IsSide p low false =
-    record { circuit = ap (λ (h : Holding). h.circuit) one ∙ e; wide = ap (λ (h : Holding). h.wide) one ∙ w; held = ap (λ (h : Holding). h.value) one } in
-    let second : IsSide p high true =
-    record { circuit = ap (λ (h : Holding). h.circuit) other ∙ e; wide = ap (λ (h : Holding). h.wide) other ∙ w; held = ap (λ (h : Holding). h.value) other } in
-    subst (λ (rs : List Row). IsForward p low high rs) (sym none)
-    (nothing_ahead p low high first second (ap (λ (h : Holding). h.input) other ∙ sym (ap (λ (h : Holding). h.input) one)) reset)
+pub starts_ahead : (p : Passing) (low high : Holding) (c : Circuit) (wide input : ℕ) (rows : List Row) → Holds c wide input false low →
+    Holds c wide input true high → c ≡ p.circuit → wide ≡ wide_of (length p.runs) → p.cycle ≡ 0 → rows ≡ [] → IsForward p low high rows
+starts_ahead p low high c wide input rows one other e w reset none =
+    let first : IsSide p low false = record { circuit = one.circuit_is ∙ e; wide = one.wide_is ∙ w; held = one.value_is } in
+    let second : IsSide p high true = record { circuit = other.circuit_is ∙ e; wide = other.wide_is ∙ w; held = other.value_is } in
+    subst (λ (rs : List Row). IsForward p low high rs) (sym none) (nothing_ahead p low high first second (other.input_is ∙ sym one.input_is) reset)
 
 -- a pass that stands at the cycle behind the rows
 pub still_ahead : (old p : Passing) (low high : Holding) (rows : List Row) → IsForward old low high rows → IsSamePass old p → p.cycle ≡ length rows →
@@ -246,17 +301,17 @@ neither false b e = (refl, e)
 
 -- a print that differs tells that the state leads nowhere, where the input has the value
 told_apart : (c : Circuit) (h : Holding) (s present x : List Bool) (print aim : ℕ) → h.circuit ≡ c → TellsLead h s print →
-    aim ≡ print_of (masked h.flags present) → nat_eq print aim ≡ false → length x ≡ length c.inputs → get_or x h.input false ≡ h.value →
+    aim ≡ print_of (parities_of h.groups present) → nat_eq print aim ≡ false → length x ≡ length c.inputs → get_or x h.input false ≡ h.value →
     next c s x ≡ present → ⊥
 told_apart c h s present x print aim is told e differ lx has leads =
     eqb-false print aim differ
     (told.each x (lx ∙ ap (λ (d : Circuit). length d.inputs) (sym is)) has
-    ∙ (ap (λ (d : Circuit). print_of (masked h.flags (next d s x))) is
-    ∙ (ap (λ (bits : List Bool). print_of (masked h.flags bits)) leads ∙ sym e)))
+    ∙ (ap (λ (d : Circuit). print_of (parities_of h.groups (next d s x))) is
+    ∙ (ap (λ (bits : List Bool). print_of (parities_of h.groups bits)) leads ∙ sym e)))
 
 pub nowhere : (p : Passing) (low high : Holding) (rows : List Row) (row : Row) (aim : Aim) (present : List Bool) (run cycle at : ℕ) (may : Bool) →
     IsForward p low high rows → cycle < length rows → slice_get rows cycle ≡ Some row → IsMoment p.runs (moment run cycle) → at ≡ run - 1 →
-    aim.low ≡ print_of (masked low.flags present) → aim.high ≡ print_of (masked high.flags present) →
+    aim.low ≡ print_of (parities_of low.groups present) → aim.high ≡ print_of (parities_of high.groups present) →
     may ≡ ((get_or row.low at 0 == aim.low) || (get_or row.high at 0 == aim.high)) → may ≡ false →
     LeadsNowhere p.circuit (state_at p.circuit (run_of p.runs run) cycle) present
 nowhere p low high rows row aim present run cycle at may f lt look m back one other is denied =

@@ -1,7 +1,6 @@
 -- Where recorded states lead: prints of the next bits that no data input but one moves, where that one is 0, and where it is 1.
 use Rattle.std.specs.Prelude.{◌≡◌, ◌≢◌, ℕ, ◌<◌, ◌≤◌, ◌+◌, ◌-◌, ◌*◌, Bool, true, false, List, [], length, slice_index_or}
 use Rattle.bs_net.specs.Circuit.{Circuit, next}
-use Rattle.bs_net_free.specs.Free.{IsFree}
 use Rattle.bs_stim.specs.Packing.{bit_in}
 use Rattle.bs_lanes_planes.specs.Planes.{bit_place, lane}
 use Rattle.bs_scan.specs.Moments.{Run, run_of, state_at}
@@ -9,21 +8,21 @@ use Rattle.bs_chip_forward.specs.declared.forward.Aim.{Aim}
 use Rattle.bs_chip_forward.specs.declared.forward.Row.{Row}
 use Rattle.bs_chip.specs.Lockstep.{wide_of, Passing}
 use Rattle.bs_chip.specs.Prints.{print_of}
-use Rattle.bs_chip_forward.specs.Masks.{masked}
+use Rattle.bs_chip_forward.specs.Groups.{parities_of, AreFree}
 
 -- ---- what callers see
 
--- a machine and its runs, and flags of the flip-flops that are looked at where the data input is 0, and where it is 1
+-- a machine and its runs, and groups of the flip-flops that are looked at where the data input is 0, and where it is 1
 pub record Ahead : Type 0 where
   pub circuit : Circuit
   pub runs : List Run
-  pub low : List Bool
-  pub high : List Bool
+  pub low : List (List ℕ)
+  pub high : List (List ℕ)
 
--- the prints of a state's bits that are looked at
+-- the prints of a state's parities that are looked at
 pub record IsAim (a : Ahead) (present : List Bool) (aim : Aim) : Type 0 where
-  pub low : aim.low ≡ print_of (masked a.low present)
-  pub high : aim.high ≡ print_of (masked a.high present)
+  pub low : aim.low ≡ print_of (parities_of a.low present)
+  pub high : aim.high ≡ print_of (parities_of a.high present)
 
 -- under no input of the netlist's width does a state lead to another
 pub record LeadsNowhere (c : Circuit) (s present : List Bool) : Type 0 where
@@ -31,29 +30,38 @@ pub record LeadsNowhere (c : Circuit) (s present : List Bool) : Type 0 where
 
 -- ---- one value of the input
 
--- a machine in which a data input is held at a value, the number of words of a plane, and flags of flip-flops
+-- a machine in which a data input is held at a value, the number of words of a plane, and groups of flip-flops
 pub record Holding : Type 0 where
   pub circuit : Circuit
   pub wide : ℕ
   pub input : ℕ
   pub value : Bool
-  pub flags : List Bool
+  pub groups : List (List ℕ)
+
+-- an input of a machine is held at a value
+pub record Holds (c : Circuit) (wide input : ℕ) (value : Bool) (h : Holding) : Type 0 where
+  pub circuit_is : h.circuit ≡ c
+  pub wide_is : h.wide ≡ wide
+  pub input_is : h.input ≡ input
+  pub value_is : h.value ≡ value
 
 -- in each of the first lanes the plane of an input has a bit
 pub record IsHeldIn (wide input : ℕ) (value : Bool) (planes : List ℕ) (lanes : ℕ) : Type 0 where
   pub each : (r : ℕ) → r < lanes → bit_in planes (bit_place wide input r) ≡ value
 
--- the input has the value in each lane, if it is there, and the flagged flip-flops are free then
-pub record IsHolding (h : Holding) (inputs : List ℕ) : Type 0 where
+-- the input has the value in each lane, if it is there, and the groups are free then
+pub record IsHolding (h : Holding) (inputs : List ℕ) (width : ℕ) : Type 0 where
+  pub some : 1 ≤ h.wide
   pub few : h.wide ≤ 4
+  pub width_is : width ≡ length h.circuit.flops
   pub size : length inputs ≡ length h.circuit.inputs * h.wide
   pub held : h.input < length h.circuit.inputs → IsHeldIn h.wide h.input h.value inputs (64 * h.wide)
-  pub free : IsFree h.circuit h.input h.value h.flags
+  pub free : AreFree h.circuit h.input h.value h.groups
 
--- a print is that of where a state leads under each input in which this one has the value, of the flagged flip-flops
+-- a print is that of where a state leads under each input in which this one has the value, of the groups
 pub record TellsLead (h : Holding) (s : List Bool) (print : ℕ) : Type 0 where
   pub each : (x : List Bool) → length x ≡ length h.circuit.inputs → slice_index_or x h.input false ≡ h.value →
-      print ≡ print_of (masked h.flags (next h.circuit s x))
+      print ≡ print_of (parities_of h.groups (next h.circuit s x))
 
 -- so many prints are those of where the lanes of planes lead
 pub record TellLeads (h : Holding) (planes prints : List ℕ) (lanes : ℕ) : Type 0 where

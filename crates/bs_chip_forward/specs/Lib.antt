@@ -1,3 +1,3 @@
 -- what public contracts rest on
-pub mod Masks
+pub mod Groups
 pub mod Forward

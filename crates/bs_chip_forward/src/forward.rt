@@ -5,11 +5,11 @@ ghost use Rattle.bs_net_free.specs.Free.{IsFree};
 ghost use Rattle.bs_stim.specs.declared.limits.TheConstants.{MAX_CYCLES};
 ghost use Rattle.bs_scan.specs.Moments.{moment, run_of, state_at, IsMoment};
 ghost use Rattle.bs_lanes.specs.Lanes.{is_wide};
-ghost use Rattle.bs_chip_forward.specs.Forward.{IsAim, IsForward, IsSide, LeadsNowhere, TellsRow};
+ghost use Rattle.bs_chip_forward.specs.Forward.{Holds, IsAim, IsForward, IsSide, LeadsNowhere, TellsRow};
 ghost use Rattle.bs_chip.specs.Lockstep.{IsSamePass};
 
+use crate::groups::parity_print;
 use crate::held::Held;
-use crate::masks::masked_print;
 use bs_bits::{Bits, List, NoMemory};
 use bs_chip::{Chip, Pass, step_to};
 use bs_net::Netlist;
@@ -63,22 +63,22 @@ struct Sides<'a> {
     high: Held<'a>,
 }
 
-/// The second of two sides beside the first.
+/// The second side of a split beside the first.
 fn beside<'a>(
     alloc: Global,
     net: &'a Netlist,
     wide: usize,
     low: Held<'a>,
-    input: u32,
-    flags: Bits,
+    split: &Split,
 ) -> Result<Sides<'a>, NoMemory>
     requires wide { IsTrue (is_wide wide) }
+    requires some { 1 ≤ wide }
     requires few { wide ≤ 4 }
-    requires free { IsFree (circuit net.now) input true flags }
+    requires free { IsFree (circuit net.now) split.now.input true split.now.high }
     ensures low { IfOk result (λ sides. sides.low ≡ low.entry) }
-    ensures high { IfOk result (λ sides. sides.high ≡ record { circuit = circuit net.now; wide = wide; input = input; value = true; flags = flags }) }
+    ensures high { IfOk result (λ sides. Holds (circuit net.now) wide split.now.input true sides.high) }
 {
-    let high = Held::new(alloc, net, wide, input as usize, true, flags)?;
+    let high = Held::new(alloc, net, wide, split.input as usize, true, &split.high)?;
     Ok(Sides { low, high })
 }
 
@@ -87,18 +87,18 @@ fn sides_of<'a>(
     alloc: Global,
     net: &'a Netlist,
     wide: usize,
-    split: Split,
+    split: &Split,
 ) -> Result<Sides<'a>, NoMemory>
     requires wide { IsTrue (is_wide wide) }
+    requires some { 1 ≤ wide }
     requires few { wide ≤ 4 }
-    requires low { IsFree (circuit net.now) split.input false split.low }
-    requires high { IsFree (circuit net.now) split.input true split.high }
-    ensures low { IfOk result (λ sides. sides.low ≡ record { circuit = circuit net.now; wide = wide; input = split.input; value = false; flags = split.low }) }
-    ensures high { IfOk result (λ sides. sides.high ≡ record { circuit = circuit net.now; wide = wide; input = split.input; value = true; flags = split.high }) }
+    requires low { IsFree (circuit net.now) split.now.input false split.now.low }
+    requires high { IsFree (circuit net.now) split.now.input true split.now.high }
+    ensures low { IfOk result (λ sides. Holds (circuit net.now) wide split.now.input false sides.low) }
+    ensures high { IfOk result (λ sides. Holds (circuit net.now) wide split.now.input true sides.high) }
 {
-    let Split { input, low, high } = split;
-    let side = Held::new(alloc, net, wide, input as usize, false, low)?;
-    let sides = beside(alloc, net, wide, side, input, high)?;
+    let side = Held::new(alloc, net, wide, split.input as usize, false, &split.low)?;
+    let sides = beside(alloc, net, wide, side, split)?;
     Ok(sides)
 }
 
@@ -180,7 +180,7 @@ fn is_aimed(row: &Row, lane: usize, aim: Aim) -> bool
 
 /// Where the recorded states lead, made cycle by cycle as it is asked for: 16 bytes for a run and a cycle. Next states are
 /// made where one data input is 0 and where it is 1, and are looked at in the flip-flops that no other data input moves
-/// then. Contracts see the machine, the runs, and these flip-flops' flags.
+/// then, by the parities of groups of them. Contracts see the machine, the runs, and these groups.
 #[derive(Drop)]
 pub struct Forward<'a> {
     pass: Pass<'a>,
@@ -194,7 +194,7 @@ impl<'a> Model for Forward<'a> {
 
     ghost Value = { Ahead };
 
-    ghost view = { λ f. record { circuit = f.pass.circuit; runs = f.pass.runs; low = f.low.flags; high = f.high.flags } };
+    ghost view = { λ f. record { circuit = f.pass.circuit; runs = f.pass.runs; low = f.low.groups; high = f.high.groups } };
 
     ghost invariant = { λ f. IsForward f.pass f.low f.high f.rows };
 }
@@ -203,13 +203,13 @@ impl<'a> Model for Forward<'a> {
 fn started<'a>(
     alloc: Global,
     net: &'a Netlist,
-    split: Split,
+    split: &Split,
     pass: Pass<'a>,
 ) -> Result<Forward<'a>, NoMemory>
     requires net { circuit net.now ≡ pass.circuit }
     requires reset { pass.cycle ≡ 0 }
-    requires low { IsFree (circuit net.now) split.input false split.low }
-    requires high { IsFree (circuit net.now) split.input true split.high }
+    requires low { IsFree (circuit net.now) split.now.input false split.now.low }
+    requires high { IsFree (circuit net.now) split.now.input true split.now.high }
     ensures circuit { IfOk result (λ f. f.circuit ≡ pass.entry.circuit) }
     ensures runs { IfOk result (λ f. f.runs ≡ pass.entry.runs) }
 {
@@ -231,7 +231,7 @@ impl<'a> Forward<'a> {
         let net = chip.net();
         let split = freeing(alloc, net)?;
         let pass = chip.pass(alloc)?;
-        let forward = started(alloc, net, split, pass)?;
+        let forward = started(alloc, net, &split, pass)?;
         Ok(forward)
     }
 
@@ -240,8 +240,8 @@ impl<'a> Forward<'a> {
         requires { length present.now ≡ length self.now.circuit.flops }
         ensures { IsAim self.now present.now result }
     {
-        let low = masked_print(self.low.flags(), present);
-        let high = masked_print(self.high.flags(), present);
+        let low = parity_print(self.low.groups(), present);
+        let high = parity_print(self.high.groups(), present);
         Aim { low, high }
     }
 

@@ -1,11 +1,12 @@
 //! Where all lanes lead while one data input is held at a value.
-ghost use Rattle.std.specs.Prelude.{◌≡◌, ◌<◌, ◌≤◌, ◌+◌, ◌*◌, ◌^◌, length, IfOk, IsTrue};
+ghost use Rattle.std.specs.Prelude.{◌≡◌, ◌<◌, ◌≤◌, ◌+◌, ◌*◌, ◌^◌, length, All, IfOk, IsTrue};
 ghost use Rattle.bs_net.specs.Netlist.{circuit};
 ghost use Rattle.bs_net_free.specs.Free.{IsFree};
 ghost use Rattle.bs_lanes.specs.Lanes.{is_wide};
-ghost use Rattle.bs_chip_forward.specs.Forward.{IsHeldIn, TellLeads};
+ghost use Rattle.bs_chip_forward.specs.Forward.{Holds, IsHeldIn, TellLeads};
+ghost use Rattle.bs_chip_forward.specs.Groups.{AreFree};
 
-use crate::masks::masked_prints;
+use crate::groups::{groups_of, parity_prints};
 use bs_bits::{Bits, List, NoMemory};
 use bs_lanes::Lanes;
 use bs_lanes_planes::Planes;
@@ -13,14 +14,15 @@ use bs_net::Netlist;
 use std::alloc::Global;
 use std::marker::Model;
 
-/// A netlist in which one data input is held at a value, and flags of the flip-flops that no other one moves then.
+/// A netlist in which one data input is held at a value, and groups of flip-flops that no other one moves then.
 #[derive(Drop)]
 pub struct Held<'a> {
     lanes: Lanes<'a>,
     inputs: Planes,
     input: usize,
     value: bool,
-    flags: Bits,
+    width: usize,
+    groups: List<List<u32>>,
 }
 
 impl<'a> Model for Held<'a> {
@@ -29,9 +31,9 @@ impl<'a> Model for Held<'a> {
 
     ghost Value = { Holding };
 
-    ghost view = { λ h. record { circuit = circuit h.lanes.net; wide = h.lanes.wide; input = h.input; value = h.value; flags = h.flags } };
+    ghost view = { λ h. record { circuit = circuit h.lanes.net; wide = h.lanes.wide; input = h.input; value = h.value; groups = h.groups } };
 
-    ghost invariant = { λ h. IsHolding (record { circuit = circuit h.lanes.net; wide = h.lanes.wide; input = h.input; value = h.value; flags = h.flags }) h.inputs.words };
+    ghost invariant = { λ h. IsHolding (record { circuit = circuit h.lanes.net; wide = h.lanes.wide; input = h.input; value = h.value; groups = h.groups }) h.inputs.words h.width };
 }
 
 /// Holds a data input at a value in all lanes.
@@ -68,22 +70,47 @@ fn held_inputs(
     Ok(planes)
 }
 
+/// How many flip-flops a netlist has.
+fn state_width(net: &Netlist) -> usize
+    ensures { result ≡ length (circuit net.now).flops }
+{
+    net.reset().len()
+}
+
+/// Groups of the flagged flip-flops, which no input but one moves.
+fn free_groups(
+    alloc: Global,
+    net: &Netlist,
+    input: usize,
+    value: bool,
+    flags: &Bits,
+) -> Result<List<List<u32>>, NoMemory>
+    requires { IsFree (circuit net.now) input value flags.now }
+    ensures { IfOk result (AreFree (circuit net.now) input value) }
+{
+    let groups = groups_of(alloc, flags)?;
+    Ok(groups)
+}
+
 impl<'a> Held<'a> {
-    /// A netlist whose data input of a number is held at a value, and the flip-flops that no other one moves then.
+    /// A netlist whose data input of a number is held at a value, with flags of flip-flops that no other one moves then.
     pub fn new(
         alloc: Global,
         net: &'a Netlist,
         wide: usize,
         input: usize,
         value: bool,
-        flags: Bits,
+        flags: &Bits,
     ) -> Result<Held<'a>, NoMemory>
         requires wide { IsTrue (is_wide wide) }
+        requires some { 1 ≤ wide }
         requires few { wide ≤ 4 }
-        requires free { IsFree (circuit net.now) input value flags }
-        ensures { IfOk result (λ h. h ≡ record { circuit = circuit net.now; wide = wide; input = input; value = value; flags = flags }) }
+        requires free { IsFree (circuit net.now) input value flags.now }
+        ensures { IfOk result (Holds (circuit net.now) wide input value) }
     {
         let _raw = net.raw();
+        let width = state_width(net);
+        let groups = free_groups(alloc, net, input, value, flags)?;
         let inputs = held_inputs(alloc, net.data_inputs().len(), wide, input, value)?;
         let lanes = Lanes::new(alloc, net, wide)?;
         Ok(Held {
@@ -91,19 +118,20 @@ impl<'a> Held<'a> {
             inputs,
             input,
             value,
-            flags,
+            width,
+            groups,
         })
     }
 
-    /// The flip-flops that no other data input moves.
-    pub fn flags(&self) -> &Bits
-        ensures flags { result.now ≡ self.now.flags }
-        ensures size { length self.now.flags ≡ length self.now.circuit.flops }
+    /// Groups of flip-flops that no other data input moves.
+    pub fn groups(&self) -> &List<List<u32>>
+        ensures groups { result.now ≡ self.now.groups }
+        ensures range { All (λ group. All (λ place. place < length self.now.circuit.flops) group) self.now.groups }
     {
-        &self.flags
+        &self.groups
     }
 
-    /// The prints of where the states of so many lanes lead, of the flagged flip-flops alone.
+    /// The prints of where the states of so many lanes lead: of the groups' parities.
     pub fn prints(
         &mut self,
         alloc: Global,
@@ -118,7 +146,8 @@ impl<'a> Held<'a> {
         self.lanes.load(planes);
         self.lanes.step(self.inputs.words());
         let wide = self.lanes.wide();
-        let prints = masked_prints(alloc, &self.flags, self.lanes.flops(), wide, lanes)?;
+        let flops = self.lanes.flops();
+        let prints = parity_prints(alloc, &self.groups, flops, self.width, wide, lanes)?;
         Ok(prints)
     }
 }

@@ -1,13 +1,13 @@
 //! Where the recorded states lead: most states that lead to no present one are passed over by a print.
 //!
-//! Modules: `masks` (prints of flagged bits), `held` (all runs' next states while one data input is held at a
+//! Modules: `groups` (parities of groups of bits), `held` (all runs' next states while one data input is held at a
 //! value), `forward` (`Forward`, `Aim`). Used above: where `Forward::may_lead` says no, the state of the moment
 //! leads to the present one under no input (`LeadsNowhere` in `specs/Forward`). Which flip-flops are looked at:
 //! bs_net_free.
 #![tactic(auto)]
 
 mod forward;
+mod groups;
 mod held;
-mod masks;
 
 pub use forward::{Aim, Forward};

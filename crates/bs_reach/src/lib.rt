@@ -1,6 +1,6 @@
 //! Whether a state is reached from reset in a bounded number of cycles.
 //!
-//! Modules: `bound` (`bounded`), `wider` (few copies first), `answer` (a search over so many
+//! Modules: `copies` (`bounded`, over how many copies), `wider` (few copies first), `answer` (a search over so many
 //! copies), `count` (`size`), `search` (one length after another, over one solver), `length` (a
 //! step of the log), `denials` (the first lengths, by what follows from the clauses alone),
 //! `telling` (the states and inputs of an assignment), `reach` (`Reach`, `Outcome`), `text`. Used
@@ -9,7 +9,7 @@
 #![tactic(auto)]
 
 mod answer;
-mod bound;
+mod copies;
 mod count;
 mod denials;
 mod length;
@@ -19,6 +19,6 @@ mod telling;
 mod text;
 mod wider;
 
-pub use bound::bounded;
+pub use copies::bounded;
 pub use count::size;
 pub use reach::{Outcome, Reach};

@@ -1,7 +1,0 @@
-use Rattle.std.proofs.Common.{◌≡◌, false, ◌&&◌, map, get_or}
-use Rattle.std.specs.List.{range_with_len}
-use Rattle.bs_chip.specs.Prints.{print_of}
-use Rattle.bs_chip_forward.proofs.masks.masked_print.Given as goal
-
-abbrev pub invariant-places : goal.invariant-places
-invariant-places l = l.print ≡ print_of (map (λ k. get_or l.flags k false && get_or l.bits k false) (range_with_len 0 l.i))
