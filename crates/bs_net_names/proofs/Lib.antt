@@ -3,3 +3,4 @@ pub mod SignalLemmas
 pub mod HexLemmas
 pub mod RtlLemmas
 pub mod SpaceLemmas
+pub mod NamingLemmas

@@ -1,6 +1,6 @@
 -- The bits of signals, put one after another.
 use Rattle.std.proofs.Common.{◌≡◌, ℕ, zero, suc, true, false, ◌+◌, ◌-◌, ◌<◌, ◌≤◌, ◌==◌, ◌⊎◌, inl, inr, drop, get_or, List, [], ◌∷◌, ◌++◌, length, map, Bool, ◌||◌, Option}
-use Rattle.std.proofs.Common.{Some, None, Result, Ok, Err, refl, ap, subst, sym, ◌∙◌, arith, append_assoc}
+use Rattle.std.proofs.Common.{Some, Result, Ok, Err, refl, ap, subst, sym, ◌∙◌, arith, append_assoc}
 use Rattle.std.specs.Prelude.{IfOk, Vec}
 use Rattle.std.specs.declared.alloc.Global.{Global}
 use Rattle.std.specs.List.Sorted.{IsPermutation, IsSorted, IsSortedBy}
@@ -10,12 +10,13 @@ use Rattle.std.proofs.lemmas.List.Sorted.{IsPermutation-map}
 use Rattle.std.proofs.lemmas.Bool.{cases_lt}
 use Rattle.bs_bits.specs.declared.memory.NoMemory.{NoMemory}
 use Rattle.std.specs.Borrow.{Bor}
-use Rattle.std.specs.List.{flat_map, list_any}
+use Rattle.std.specs.List.{list_any}
 use Rattle.bs_net_names.specs.Keys.{KeyParts, key_parts}
 use Rattle.std.proofs.lemmas.List.{append-nil, length-map, drop_more, get_or_append_left, get_or_push, length_push, get_or-map, map-append}
 use Rattle.bs_net_names.specs.declared.signal.Signal.{Signal as CodeSignal}
 use Rattle.bs_net_names.specs.declared.signal.Member.{Member as CodeMember}
-use Rattle.bs_net_names.specs.Signals.{Member, Signal, AreSignals, is_named, is_wanted, member_of, wanted, members_from, member_in, members_of, signal_in}
+use Rattle.bs_net_names.specs.Naming.{is_named}
+use Rattle.bs_net_names.specs.Signals.{Member, Signal, AreSignals, is_wanted, member_of, wanted, members_from, member_in, members_of, signal_in}
 use Rattle.bs_net_names.specs.Signals.{lower, bits_from, bits_of, all_bits, GoesOn, goes_on, first_of, height, member_cmp, AreWhole, AreWholeIn, EndsBefore, MayFollow}
 
 -- so many numbers lower

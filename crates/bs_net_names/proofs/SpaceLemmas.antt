@@ -1,7 +1,7 @@
 -- The space that may end a name.
-use Rattle.std.proofs.Common.{◌≡◌, ℕ, ◌==◌, ◌+◌, Bool, true, false, List, [], ◌∷◌, ◌++◌, length, arith, refl, ap, sym, ◌∙◌}
+use Rattle.std.proofs.Common.{◌≡◌, ℕ, ◌==◌, Bool, true, false, List, [], ◌∷◌, ◌++◌, length, arith, refl, ap, sym, ◌∙◌}
 use Rattle.std.specs.Prelude.{if◌then◌else◌}
-use Rattle.bs_net_names.specs.Signals.{unspaced}
+use Rattle.bs_net_names.specs.Naming.{unspaced}
 
 abbrev by_space : Bool → ℕ → List ℕ
 by_space b last = if b then [] else last ∷ []

@@ -1,5 +1,5 @@
 -- What a key says (docs/FORMATS.md, "Keys"): the bit of a vector, or a net by itself.
-use Rattle.std.specs.Prelude.{◌≡◌, ℕ, ◌==◌, List, [], ◌∷◌, Option, Some, None, if◌then◌else◌, length}
+use Rattle.std.specs.Prelude.{ℕ, ◌==◌, List, [], ◌∷◌, Option, Some, None, if◌then◌else◌, length}
 use Rattle.bs_bits.specs.Lines.{number_in}
 use Rattle.bs_net_names.specs.Splits.{Halves, first_split, last_split}
 use Rattle.bs_net_names.specs.declared.key.KeyParts.{KeyParts as CodeKeyParts}

@@ -2,7 +2,8 @@
 use Rattle.std.specs.Prelude.{ℕ, ◌==◌, ◌&&◌, Bool, true, false, List, ◌++◌, length, Option, Some, None}
 use Rattle.std.specs.Str.{bytes_eq}
 use Rattle.bs_net_names.specs.Keys.{KeyParts, key_parts}
-use Rattle.bs_net_names.specs.Signals.{Signal, plain, range_text}
+use Rattle.bs_net_names.specs.Naming.{plain}
+use Rattle.bs_net_names.specs.Signals.{Signal, range_text}
 
 abbrev pub equal_bit : Option ℕ → Option ℕ → Bool
 equal_bit None None = true

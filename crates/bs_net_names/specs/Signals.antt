@@ -1,13 +1,14 @@
 -- Bits that make a vector, by their keys.
-use Rattle.std.specs.Prelude.{◌≡◌, ◌≢◌, ℕ, ◌<◌, ◌+◌, ◌-◌, ◌==◌, ◌&&◌, ◌||◌, nat_le, Bool, true, false, List, [], ◌∷◌, ◌++◌, length, map, filter, decimal}
+use Rattle.std.specs.Prelude.{◌≡◌, ℕ, ◌<◌, ◌+◌, ◌-◌, ◌==◌, ◌&&◌, ◌||◌, nat_le, Bool, false, List, [], ◌∷◌, ◌++◌, length, map, decimal}
 use Rattle.std.specs.Prelude.{slice_index_or, All, Option, Some, None, if◌then◌else◌}
-use Rattle.std.specs.List.{AllAdjacentBelow, flat_map, list_any, range_with_len}
+use Rattle.std.specs.List.{AllAdjacentBelow, flat_map, list_any}
 use Rattle.std.specs.Str.{bytes_eq}
 use Rattle.std.specs.List.Sorted.{IsPermutation, IsSorted}
 use Rattle.std.specs.declared.cmp.Ordering.{Ordering}
 use Rattle.std.specs.Ordering.{nat_cmp, ordering_then}
 use Rattle.std.specs.Cmp.Lexicographic.{slice_cmp}
 use Rattle.bs_net_names.specs.Keys.{KeyParts, key_parts}
+use Rattle.bs_net_names.specs.Naming.{is_named}
 use Rattle.bs_net_names.specs.declared.signal.Member.{Member as CodeMember}
 use Rattle.bs_net_names.specs.declared.signal.Signal.{Signal as CodeSignal}
 
@@ -19,28 +20,6 @@ pub record Member : Type 0 where
 
 abbrev pub member_in : CodeMember → Member
 member_in s = record { base = s.base.now; bit = s.bit; place = s.place }
-
--- a name without the `\` that it may begin with
-abbrev pub plain : List ℕ → List ℕ
-plain [] = []
-plain (b ∷ bs) = if b == 92 then bs else b ∷ bs
-
--- a name without the space that may end it, as yosys writes one behind an escaped name
-abbrev pub unspaced : List ℕ → List ℕ
-unspaced [] = []
-unspaced (b ∷ []) = if b == 32 then [] else b ∷ []
-unspaced (b ∷ c ∷ cs) = b ∷ unspaced (c ∷ cs)
-
-abbrev pub same_bit : Option ℕ → Option ℕ → Bool
-same_bit None bit = true
-same_bit (Some n) None = false
-same_bit (Some n) (Some m) = n == m
-
--- whether a name is that of a bit, or of its vector; the space that may end it, or stand before its brackets, is passed over
-abbrev pub is_named : KeyParts → List ℕ → Bool
-is_named parts name =
-    let of_name = key_parts (unspaced name) in
-    bytes_eq (plain (unspaced of_name.base)) (plain parts.base) && same_bit of_name.bit parts.bit
 
 -- whether a bit is one of these names, or there are none
 abbrev pub is_wanted : List (List ℕ) → KeyParts → Bool

@@ -57,7 +57,7 @@ fn closed<'a>(base: &'a [u8], rest: &[u8]) -> Option<KeyParts<'a>>
 }
 
 /// A key of the form `a[3]`.
-fn back_bit(key: &[u8]) -> Option<KeyParts<'_>>
+pub fn back_bit(key: &[u8]) -> Option<KeyParts<'_>>
     ensures { maybe_in result ≡ back_bit key.now }
 {
     match last_split(b'[', key) {

@@ -5,7 +5,8 @@ ghost use Rattle.bs_net_names.specs.Rtl.{equal_bit, rtl_text, same_name};
 ghost use Rattle.bs_net_names.specs.Signals.{signal_in};
 
 use crate::key::KeyParts;
-use crate::signal::{Signal, plain, push_range};
+use crate::naming::plain;
+use crate::signal::{Signal, push_range};
 use bs_bits::{NoMemory, push_piece};
 
 /// Whether two numbers of bits are the same, or both are none.

@@ -2,9 +2,11 @@
 ghost use Rattle.std.specs.Prelude.{◌≡◌, ◌<◌, ◌^◌, ◌∷◌, [], ◌++◌, length, map, true, Some, IfOk, OnOk};
 ghost use Rattle.std.specs.List.{list_any};
 ghost use Rattle.bs_net_names.specs.Keys.{parts_in};
-ghost use Rattle.bs_net_names.specs.Signals.{all_bits, AreSignals, AreWholeIn, bits_of, EndsBefore, GoesOn, goes_on, is_named, is_wanted, member_in, MayFollow, members_of, name_text, plain, range_text, same_bit, signal_in, unspaced, wanted};
+ghost use Rattle.bs_net_names.specs.Naming.{is_named};
+ghost use Rattle.bs_net_names.specs.Signals.{all_bits, AreSignals, AreWholeIn, bits_of, EndsBefore, GoesOn, goes_on, is_wanted, member_in, MayFollow, members_of, name_text, range_text, signal_in, wanted};
 
 use crate::key::{KeyParts, key_parts};
+use crate::naming::is_named;
 use bs_bits::{List, NoMemory, push_number, push_piece};
 use std::alloc::Global;
 use std::cmp::Reverse;
@@ -25,47 +27,7 @@ pub struct Signal<'a> {
     pub places: List<u32>,
 }
 
-/// A name without the `\` that it may begin with.
-pub fn plain(name: &[u8]) -> &[u8]
-    ensures { result.now ≡ plain name.now }
-{
-    match name {
-        [b'\\', rest @ ..] => rest,
-        _ => name,
-    }
-}
-
-/// A name without the space that may end it, as yosys writes one behind an escaped name.
-#[tactic(auto, using(crate::proofs::SpaceLemmas::space_none, crate::proofs::SpaceLemmas::space_ends, crate::proofs::SpaceLemmas::space_else))]
-pub fn unspaced(name: &[u8]) -> &[u8]
-    ensures { result.now ≡ unspaced name.now }
-{
-    match name.split_last() {
-        None => name,
-        Some((last, front)) => { if *last == b' ' { front } else { name } }
-    }
-}
-
-/// Whether a number is wanted: any, where none is named.
-pub fn same_bit(wanted: Option<u64>, bit: Option<u64>) -> bool
-    ensures { result ≡ same_bit wanted bit }
-{
-    match (wanted, bit) {
-        (None, _) => true,
-        (Some(_), None) => false,
-        (Some(one), Some(other)) => one == other,
-    }
-}
-
-/// Whether a name is that of a bit, or of its vector. The space that may end it, or stand before its brackets, is passed over.
-pub fn is_named(parts: KeyParts<'_>, name: &[u8]) -> bool
-    ensures { result ≡ is_named (parts_in parts.entry) name.now }
-{
-    let of_name = key_parts(unspaced(name));
-    plain(unspaced(of_name.base)) == plain(parts.base) && same_bit(of_name.bit, parts.bit)
-}
-
-/// Whether one of these names is that of a bit, or of its vector.
+/// Whether one of these names is that of a bit.
 fn has_name(only: &[&str], parts: KeyParts<'_>) -> bool
     ensures { result ≡ list_any (λ s. is_named (parts_in parts.entry) s.now) only.now }
 {

@@ -1,4 +1,4 @@
-use Rattle.std.proofs.Common.{◌≡◌, List, ℕ, ap, ◌∙◌}
+use Rattle.std.proofs.Common.{List, ℕ, ap, ◌∙◌}
 use Rattle.bs_net_names.specs.Signals.{bits_from, signal_in, member_in}
 use Rattle.bs_net_names.proofs.SignalLemmas.{bits_extended}
 use Rattle.bs_net_names.proofs.signal.extended.Goals as goal

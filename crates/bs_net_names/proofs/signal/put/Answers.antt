@@ -1,4 +1,3 @@
-use Rattle.bs_net_names.specs.Signals.{signal_in}
 use Rattle.bs_net_names.proofs.SignalLemmas.{whole_put}
 use Rattle.bs_net_names.proofs.signal.put.Goals as goal
 

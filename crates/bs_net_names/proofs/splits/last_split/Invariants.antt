@@ -1,4 +1,4 @@
-use Rattle.std.proofs.Common.{◌≡◌, ◌≤◌, drop, length, None, ℕ}
+use Rattle.std.proofs.Common.{◌≡◌, ◌≤◌, drop, length, None}
 use Rattle.bs_net_names.specs.Splits.{last_split}
 use Rattle.bs_net_names.proofs.splits.last_split.Given as goal
 
