@@ -1,11 +1,12 @@
 -- What the lexemes of a text are answered with is what the text is answered with.
-use Rattle.std.proofs.Common.{◌≡◌, ◌⊎◌, inl, inr, ⊎_elim, ℕ, Bool, true, false, List, length, refl, subst, ap, sym, ◌∙◌, Result, Ok, Err}
+use Rattle.std.proofs.Common.{◌≡◌, ◌⊎◌, ◌≤◌, inl, inr, ⊎_elim, ℕ, Bool, true, false, List, length, refl, subst, ap, sym, ◌∙◌, Result, Ok, Err}
 use Rattle.std.specs.Prelude.{nat_lt}
 use Rattle.std.proofs.lemmas.Bool.{false≢true}
 use Rattle.bs_bits.specs.Reading.{◌>>=◌, Answers}
 use Rattle.bs_net.specs.Parts.{Parts}
 use Rattle.bs_net.specs.declared.raw.Raw.{Raw}
 use Rattle.bs_net.specs.Netlist.{parts_of}
+use Rattle.bs_lex.specs.declared.limits.TheConstants.{MAX_BYTES}
 use Rattle.bs_lex.specs.declared.token.Token.{Token}
 use Rattle.bs_lex.specs.Tokens.{tokens_of}
 use Rattle.bs_verilog_lexemes.specs.Packed.{Lexeme}
@@ -57,8 +58,8 @@ has_tokens source table ts e = by (tokens_of source) refl e
         record { tokens = tokens; are = same; lexemes = ap (λ r. (value_or (ts, table) r).0) q; names = ap (λ r. (value_or (ts, table) r).1) q }
     by (Err at) same q = absurd (false≢true (ap is_ok q))
 
-pub are_of_text : (source : List ℕ) (table : List (List ℕ)) (ts : List Lexeme) → lexed source ≡ Ok (ts, table) → AreOfText table ts
-are_of_text source table ts e = record { source = source; has = has_tokens source table ts e }
+pub are_of_text : (source : List ℕ) (table : List (List ℕ)) (ts : List Lexeme) → length source ≤ MAX_BYTES → lexed source ≡ Ok (ts, table) → AreOfText table ts
+are_of_text source table ts few e = record { source = source; short = few; has = has_tokens source table ts e }
 
 netlist_by : List ℕ → Result (List Token) VerilogFault → Result Parts VerilogFault
 netlist_by source r = r >>= λ tokens. single_of (names_of source tokens) (lexemes_of source tokens)

@@ -1,9 +1,10 @@
 -- What a text of one module is answered with, and one of several after its modules have been read.
-use Rattle.std.specs.Prelude.{◌≡◌, ◌⊎◌, ℕ, List, map, Option, Result, Ok, Err, MatchResult}
+use Rattle.std.specs.Prelude.{◌≡◌, ◌⊎◌, ◌≤◌, ℕ, List, length, map, Option, Result, Ok, Err, MatchResult}
 use Rattle.bs_bits.specs.Reading.{◌>>=◌, Answers}
 use Rattle.bs_net.specs.Parts.{Parts}
 use Rattle.bs_net.specs.declared.raw.Raw.{Raw}
 use Rattle.bs_net.specs.Netlist.{parts_of}
+use Rattle.bs_lex.specs.declared.limits.TheConstants.{MAX_BYTES}
 use Rattle.bs_lex.specs.declared.token.Token.{Token}
 use Rattle.bs_lex.specs.Tokens.{tokens_of}
 use Rattle.bs_verilog_lexemes.specs.Lexemes.{lexemes_of, names_of}
@@ -29,9 +30,10 @@ pub record HasTokens (source : List ℕ) (table : List (List ℕ)) (ts : Rest) :
   pub lexemes : lexemes_of source tokens ≡ ts
   pub names : names_of source tokens ≡ table
 
--- the lexemes and the names are those of some text
+-- the lexemes and the names are those of some text of at most 16 MiB
 pub record AreOfText (table : List (List ℕ)) (ts : Rest) : Type 0 where
   pub source : List ℕ
+  pub short : length source ≤ MAX_BYTES
   pub has : HasTokens source table ts
 
 -- the modules of some text have names with these numbers

@@ -17,9 +17,6 @@ use bs_verilog_lexemes::{LexFault, Lexeme, Table, lexemes};
 use bs_verilog_syntax::VerilogFault;
 use std::alloc::Global;
 
-/// How many modules can be told.
-const MOST: usize = 4_294_967_295;
-
 /// What the lexemes of a text are answered with: as one module where there are fewer than two, cells aside.
 fn read_lexemes(alloc: Global, table: &Table, ts: List<Lexeme>) -> Result<Raw, FlatFault>
     requires { AreOfText table.now ts }
@@ -29,9 +26,6 @@ fn read_lexemes(alloc: Global, table: &Table, ts: List<Lexeme>) -> Result<Raw, F
         Ok(ids) => ids,
         Err(_) => return Err(FlatFault::NoMemory),
     };
-    if ids.len() > MOST {
-        return Err(FlatFault::NoMemory);
-    }
     if ids.len() < 2 {
         read_single(alloc, table, ts)
     } else {

@@ -8,7 +8,7 @@ use Rattle.std.proofs.lemmas.List.Elements.{filter-append}
 use Rattle.bs_flat_meaning.specs.Design.{Design, Path, PathNet, on, own, paths, path_nets}
 use Rattle.bs_flat_meaning.specs.Meaning.{is_same}
 use Rattle.bs_flat_meaning.specs.Flat.{IsDesign, bit_of, is_root, is_bit, first_constant, home, flat_nets}
-use Rattle.bs_flat_meaning.proofs.MemberLemmas.{Member, flattened, ranged, mapped, filtered, filter_map_comm}
+use Rattle.bs_flat_meaning.proofs.MemberLemmas.{Member, flattened, ranged, mapped, filtered, member_filter, filter_map_comm}
 use Rattle.bs_flat_meaning.proofs.RootLemmas.{same_from, same_to, member_valid, root_bare}
 use Rattle.bs_flat_meaning.proofs.HomeLemmas.{home_is, home_none, home_some}
 use Rattle.bs_flat_meaning.proofs.NumberLemmas.{Apart, apart_append, paths_apart, filter_flat, flat_same}
@@ -70,6 +70,9 @@ roots_are d =
 
 pub root_member : (d : Design) (a : PathNet) → Member a (roots d) → Member a (path_nets d) × (is_root d a ≡ true)
 root_member d a m = filtered (is_root d) a (path_nets d) (subst (λ (l : List PathNet). Member a l) (sym (roots_are d)) m)
+
+pub root_there : (d : Design) (a : PathNet) → Member a (path_nets d) → is_root d a ≡ true → Member a (roots d)
+root_there d a m e = subst (λ (l : List PathNet). Member a l) (roots_are d) (member_filter (is_root d) a (path_nets d) m e)
 
 -- the flat nets are nets to which joins lead
 pub flat_in_roots : (d : Design) → IsDesign d → flat_nets d ≡ filter (is_home d) (roots d)

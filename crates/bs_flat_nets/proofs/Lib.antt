@@ -16,3 +16,5 @@ pub mod LeftLemmas
 pub mod TallyLemmas
 pub mod PlaceLemmas
 pub mod RowLemmas
+pub mod RiseLemmas
+pub mod FoundLemmas

@@ -26,7 +26,7 @@ use Rattle.bs_flat_nets.specs.declared.blocks.FlatModule.{FlatModule}
 use Rattle.bs_flat_nets.specs.declared.climbing.NetOnPath.{NetOnPath}
 use Rattle.bs_flat_nets.specs.declared.constants.Bit.{Bit}
 use Rattle.bs_flat_nets.specs.Free.{free_nets, free_on, free_of, roots, count_in, known_in, free_of_node}
-use Rattle.bs_flat_nets.specs.Numbering.{net_at, no_net, no_place, IsFirst, IsNumbering, IsNumberIn}
+use Rattle.bs_flat_nets.specs.Numbering.{net_at, no_net, no_place, IsFirst, IsNumbering, IsNumberIn, AreByNode}
 use Rattle.bs_flat_nets.specs.Rows.{AreRows}
 use Rattle.bs_flat_nets.specs.Tally.{bit_in, no_tally, with_nets, IsFound, IsTally}
 use Rattle.bs_flat_nets.specs.declared.numbers.Numbering.{Numbering}
@@ -77,7 +77,7 @@ bit_found f a (suc k) n le lt = by (nat_eq a n) refl (f a) refl (bit_found f (a 
         ∙ more (omega (arith, le, apart)) (omega (arith, lt))
 
 -- the bit of a net by the list of its module's constants
-bit_known : (parts : Parts) (n : ℕ) → n < length parts.names → bit_in (known_constants parts) n ≡ constant_bit parts n
+pub bit_known : (parts : Parts) (n : ℕ) → n < length parts.names → bit_in (known_constants parts) n ≡ constant_bit parts n
 bit_known parts n lt = bit_found (constant_bit parts) 0 (length parts.names) n (omega arith) (omega (arith, lt))
 
 -- ---- nodes
@@ -102,7 +102,7 @@ node_free blocks nodes top k a pos lt =
     (sym (a.each (node_at nodes k).parent (omega (arith, up, lt))).same))
 
 -- the own parts of a node's module
-node_own : (blocks : List FlatModule) (nodes : List Node) (top k : ℕ) → ArePaths (design_of blocks top) nodes (paths (design_of blocks top)) →
+pub node_own : (blocks : List FlatModule) (nodes : List Node) (top k : ℕ) → ArePaths (design_of blocks top) nodes (paths (design_of blocks top)) →
     k < length nodes → (module_in (map module_of blocks) (node_at nodes k).of).own ≡ own (design_of blocks top) (path_in (design_of blocks top) k)
 node_own blocks nodes top k a lt = ap (λ (m : Module). m.own) (a.each k lt).same
 
@@ -190,9 +190,9 @@ first_is d b places (Some n) e f =
 pub numbering_is : (blocks : List FlatModule) (nodes : List Node) (top k : ℕ) (t : Tally) (n : Numbering) → IsDesign (design_of blocks top) →
     ArePaths (design_of blocks top) nodes (paths (design_of blocks top)) → length nodes ≤ k →
     IsTally (design_of blocks top) (free_of (design_of blocks top) (take k (paths (design_of blocks top)))) t → Placed (length nodes) t →
-    n.places ≡ t.places → n.bits ≡ all_bits_of blocks → n.zero ≡ t.zero → n.one ≡ t.one → AreRows blocks n.rows →
+    n.places ≡ t.places → n.bits ≡ all_bits_of blocks → n.zero ≡ t.zero → n.one ≡ t.one → AreRows blocks n.rows → AreByNode n.places n.starts →
     IsNumbering blocks nodes top n
-numbering_is blocks nodes top k t n h a le it placed ep eb ez eo rows =
+numbering_is blocks nodes top k t n h a le it placed ep eb ez eo rows by_node =
     let d = design_of blocks top in
     let all : take k (paths d) ≡ paths d = take_all k (paths d) (omega (arith, le, a.count)) in
     let whole : IsTally d (roots d) t = subst (λ (ps : List Path). IsTally d (free_of d ps) t) all it in
@@ -203,6 +203,9 @@ numbering_is blocks nodes top k t n h a le it placed ep eb ez eo rows =
       known = eb;
       first_zero = subst (λ (o : Option ℕ). IfSome o (IsFirst d false)) (sym ez) (first_is d false t.places t.zero nets (whole.first false));
       first_one = subst (λ (o : Option ℕ). IfSome o (IsFirst d true)) (sym eo) (first_is d true t.places t.one nets (whole.first true));
+      no_zero = λ e. (whole.first false).none (sym ez ∙ e);
+      no_one = λ e. (whole.first true).none (sym eo ∙ e);
+      by_node = by_node;
       rows = rows;
     }
 

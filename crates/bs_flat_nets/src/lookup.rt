@@ -1,5 +1,5 @@
 //! The number of the flat net that stands for a net on a path.
-ghost use Rattle.std.specs.Prelude.{◌≡◌, ◌<◌, ◌≤◌, ◌==◌, ◌&&◌, length, IfSome, slice_index_or};
+ghost use Rattle.std.specs.Prelude.{◌≡◌, ◌⊎◌, ◌<◌, ◌≤◌, ◌^◌, ◌==◌, ◌&&◌, length, IfNone, IfSome, slice_index_or};
 ghost use Rattle.bs_flat_meaning.specs.Design.{on, paths};
 ghost use Rattle.bs_flat_meaning.specs.Flat.{IsDesign, flat_number};
 ghost use Rattle.bs_flat_meaning.specs.Paths.{ArePaths};
@@ -7,7 +7,8 @@ ghost use Rattle.bs_flat_nets.specs.Blocks.{design_of};
 ghost use Rattle.bs_flat_nets.specs.Climbing.{AreClimbable, path_in, node_at};
 ghost use Rattle.bs_flat_nets.specs.Sums.{all_bits_of};
 ghost use Rattle.bs_flat_nets.specs.Free.{count_in, known_in};
-ghost use Rattle.bs_flat_nets.specs.Numbering.{IsFirstFrom, IsNumberIn, IsNumbering, no_place};
+ghost use Rattle.bs_flat_nets.specs.Numbering.{AreByNode, IsFirstFrom, IsNoNumberIn, IsNowhere, IsNumberIn, IsNumbering, no_place};
+ghost use Rattle.bs_flat_nets.specs.Numbering as spec;
 ghost use Rattle.bs_flat_nets.specs.Tally as tally;
 
 use crate::blocks::FlatModule;
@@ -24,16 +25,23 @@ fn is_same(a: NetOnPath, b: NetOnPath) -> bool
     a.node == b.node && a.net == b.net
 }
 
-/// Where the first place stands whose net is no lower than one, of those from one place to another, if their nets rise.
-fn first_from(places: &[NetOnPath], from: usize, stop: usize, net: usize) -> usize
+/// Whether a place stands before another: by its node, and then by its net.
+fn is_before(a: NetOnPath, b: NetOnPath) -> bool
+    ensures { result ≡ spec.is_before a b }
+{
+    a.node < b.node || a.node == b.node && a.net < b.net
+}
+
+/// Where the first place stands that is not before one, of those from one place to another, if they rise.
+fn first_from(places: &[NetOnPath], from: usize, stop: usize, place: NetOnPath) -> usize
     requires { stop ≤ length places.now }
-    ensures { IsFirstFrom places.now from stop net result }
+    ensures { IsFirstFrom places.now from stop place result }
 {
     let mut low = from.min(stop);
     let mut high = stop;
     'search: while low < high {
         let middle = low + (high - low) / 2;
-        if places[middle].net < net {
+        if is_before(places[middle], place) {
             low = middle + 1;
         } else {
             high = middle;
@@ -44,15 +52,17 @@ fn first_from(places: &[NetOnPath], from: usize, stop: usize, net: usize) -> usi
 
 /// Where a place stands among those of its node, if it does.
 fn number_of_place(places: &[NetOnPath], starts: &[usize], place: NetOnPath) -> Option<usize>
+    requires by_node { AreByNode places.now starts.now }
     ensures within { IfSome result (λ i. i < length places.now) }
     ensures is { IfSome result (λ i. slice_index_or places.now i no_place ≡ place) }
+    ensures none { IfNone result (IsNowhere places.now place) }
 {
     let node = place.node as usize;
     if node + 1 >= starts.len() {
         return None;
     }
     let stop = starts[node + 1].min(places.len());
-    let at = first_from(places, starts[node], stop, place.net);
+    let at = first_from(places, starts[node], stop, place);
     if at >= places.len() {
         return None;
     }
@@ -65,7 +75,9 @@ fn number_of_place(places: &[NetOnPath], starts: &[usize], place: NetOnPath) -> 
 
 /// The number of the flat net that an uppermost net is, or whose constant it is.
 fn number_of(numbering: &Numbering, place: NetOnPath, bit: Option<bool>) -> Option<usize>
-    ensures { IfSome result (λ i. IsNumberIn numbering.now bit place i) }
+    requires by_node { AreByNode numbering.now.places numbering.now.starts }
+    ensures is { IfSome result (λ i. IsNumberIn numbering.now bit place i) }
+    ensures none { IfNone result (IsNoNumberIn numbering.now bit place) }
 {
     match bit {
         None => number_of_place(numbering.places.slice(), numbering.starts.slice(), place),
@@ -83,9 +95,12 @@ fn home_number(
 ) -> Option<usize>
     requires climb { AreClimbable blocks.now nodes.now }
     requires known { numbering.now.bits ≡ all_bits_of blocks.now }
+    requires by_node { AreByNode numbering.now.places numbering.now.starts }
     requires there { place.node < length nodes.now }
     ensures net { IfSome result (λ _. place.net < count_in blocks.now (node_at nodes.now place.node).of) }
     ensures is { IfSome result (λ i. IsNumberIn numbering.now (tally.bit_in (known_in blocks.now (node_at nodes.now place.node).of) place.net) place i) }
+    ensures none { IfNone result ((count_in blocks.now (node_at nodes.now place.node).of ≤ place.net)
+        ⊎ IsNoNumberIn numbering.now (tally.bit_in (known_in blocks.now (node_at nodes.now place.node).of) place.net) place) }
 {
     let of = nodes[place.node as usize].of;
     if place.net >= count_of(blocks, of) {
@@ -96,8 +111,8 @@ fn home_number(
     number_of(numbering, place, bit)
 }
 
-/// The flat net that stands for a net on a node's path. None is never met, where the net is one of the block there; a caller
-/// takes it for want of memory. It takes time by the path's length, and by the logarithms of the runs on it and of the flat nets.
+/// The flat net that stands for a net on a node's path. There is one for each net of the block there, where the flat nets have
+/// numbers. It takes time by the path's length, and by the logarithms of the runs on it and of the flat nets.
 pub fn flat_net(
     blocks: &[FlatModule],
     nodes: &[Node],
@@ -113,6 +128,7 @@ pub fn flat_net(
     requires there { node < length nodes.now }
     ensures is { IfSome result (λ n. n.0 ≡ flat_number (design_of blocks.now top) (on (path_in (design_of blocks.now top) node) net)) }
     ensures within { IfSome result (λ n. n.0 < length numbering.now.places) }
+    ensures none { IfNone result ((count_in blocks.now (node_at nodes.now node).of ≤ net) ⊎ (2 ^ 32 < length numbering.now.places)) }
 {
     let root = root_of(blocks, nodes, numbering.rows.slice(), node, net);
     let number = home_number(blocks, nodes, numbering, root)?;

@@ -1,8 +1,11 @@
 -- A ring, an order and the tops of numbers are those of the modules that were read.
 use Rattle.std.proofs.Common.{◌≡◌, ℕ, zero, suc, ◌+◌, ◌<◌, ◌≤◌, Bool, true, false, ◌||◌, cond, not, arith, List, [], ◌∷◌, map, length, get_or, refl, subst, ap, sym, ◌∙◌}
 use Rattle.std.proofs.Common.{Option, nat_eq}
+use Rattle.std.specs.Prelude.{filter}
 use Rattle.std.specs.List.{All, AllByRecursion, IsDistinct, list_any, range_with_len}
 use Rattle.std.proofs.lemmas.Bool.{eqb-true}
+use Rattle.std.proofs.lemmas.List.{length-map}
+use Rattle.std.proofs.lemmas.List.FromFn.{length-range_with_len}
 use Rattle.std.proofs.lemmas.List.Sums.{passes_at_first}
 use Rattle.std.proofs.lemmas.Map.Keys.{IsDistinct-cons}
 use Rattle.std.proofs.lemmas.Map.Steps.{length-le_from_distinct_below}
@@ -109,10 +112,23 @@ tops_same : (ms : List Piece) (ks : List ReadModule) → rings.tops (reading.bel
 unfolding reading.tops
 tops_same ms ks = refl
 
-pub ranked_is : (ids : List (Option ℕ)) (written : List (List Written)) (r : code.Ranked) → (below : List (List ℕ)) → below ≡ numbers_by ids written →
-    r.below ≡ below → All (λ ns. All (λ n. n < length ids) ns) below → IsChildrenFirst below r.order → r.tops ≡ rings.tops below →
+filter_few : (p : ℕ → Bool) (xs : List ℕ) → length (filter p xs) ≤ length xs
+filter_few p [] = omega arith
+filter_few p (x ∷ xs) = by (p x) (filter_few p xs)
+  where
+    by : (b : Bool) → length (filter p xs) ≤ length xs → length (cond b (x ∷ filter p xs) (filter p xs)) ≤ length (x ∷ xs)
+    by true h = omega (arith, h)
+    by false h = omega (arith, h)
+
+tops_few : (below : List (List ℕ)) → length (rings.tops below) ≤ length below
+tops_few below =
+    let few = filter_few (λ k. not (rings.is_instanced below k)) (range_with_len 0 (length below)) in
+    omega (arith, few, length-range_with_len 0 (length below))
+
+pub ranked_is : (ids : List (Option ℕ)) (written : List (List Written)) (r : code.Ranked) → (below : List (List ℕ)) → length written ≡ length ids →
+    below ≡ numbers_by ids written → r.below ≡ below → All (λ ns. All (λ n. n < length ids) ns) below → IsChildrenFirst below r.order → r.tops ≡ rings.tops below →
     IsRankedSo ids written r
-ranked_is ids written r below e b there o t =
+ranked_is ids written r below each e b there o t =
     record {
       no_ring =
           λ ms ks a.
@@ -123,4 +139,9 @@ ranked_is ids written r below e b there o t =
       order = subst (λ (l : List (List ℕ)). IsChildrenFirst l r.order) e o;
       below = b ∙ e;
       there = subst (λ (l : List (List ℕ)). All (λ ns. All (λ n. n < length ids) ns) l) (sym b) there;
+      few =
+          let many = tops_few below in
+          let same = ap (λ (ns : List ℕ). length ns) t in
+          let wide = ap (λ (l : List (List ℕ)). length l) e ∙ length-map written (numbers_of ids) in
+          omega (arith, many, same, wide, each);
     }

@@ -1,5 +1,5 @@
 -- What the modules of a text are to each other: a ring of them, or an order, children first, and those that none instances.
-use Rattle.std.specs.Prelude.{false, ◌≡◌, ◌<◌, ℕ, List, length, map, Option, All}
+use Rattle.std.specs.Prelude.{false, ◌≡◌, ◌<◌, ◌≤◌, ℕ, List, length, map, Option, All}
 use Rattle.bs_flat_meaning.specs.declared.statements.Written.{Written}
 use Rattle.bs_flat_meaning.specs.Pieces.{Piece, name_id}
 use Rattle.bs_flat_meaning.specs.Connecting.{ReadModule}
@@ -27,6 +27,7 @@ pub record IsRankedSo (ids : List (Option ℕ)) (written : List (List Written)) 
   pub order : IsChildrenFirst (numbers_by ids written) r.order
   pub below : r.below ≡ numbers_by ids written
   pub there : All (λ ns. All (λ n. n < length ids) ns) r.below
+  pub few : length r.tops ≤ length ids
 
 abbrev pub IsHierarchy : List (Option ℕ) → List (List Written) → Hierarchy → Type 0
 IsHierarchy ids written (kinds.Ringed ring) = IsRingOf ids written ring

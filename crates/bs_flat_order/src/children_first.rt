@@ -8,7 +8,7 @@ use bs_bits::{List, NoMemory};
 use bs_net::{Gate, Kind, Levelling, NetId, Terms, levelize};
 use std::alloc::Global;
 
-/// How many modules have a number, and how many instances a module may have.
+/// How many instances a module may have.
 const MOST: usize = 4_294_967_295;
 
 /// What a search of all modules finds, by their numbers.
@@ -87,13 +87,14 @@ fn are_narrow(below: &[List<u32>]) -> bool
 }
 
 /// An order of modules in which each stands after those that it instances; or a ring of them. For each module `below` has the
-/// modules that it instances, in file order. It takes time linear in the instances. More modules, or instances of one, than
-/// have a number are want of memory.
+/// modules that it instances, in file order. It takes time linear in the instances. More than `MOST`
+/// instances of one, as in no text, are want of memory.
 pub fn module_levels(alloc: Global, below: &[List<u32>]) -> Result<Levels, NoMemory>
+    requires few { length below.now < 2 ^ 32 }
     requires there { All (λ ns. All (λ n. n < length below.now) ns) below.now }
     ensures { IfOk result (λ levels. IsLevels below.now levels) }
 {
-    if below.len() > MOST || !are_narrow(below) {
+    if !are_narrow(below) {
         return Err(NoMemory);
     }
     let gates = gates_of(alloc, below)?;

@@ -16,9 +16,7 @@ mod places;
 mod ranks;
 mod refusals;
 
-pub use children_first::{Levels, module_levels};
 pub use law::rings_have_no_order;
-pub use marks::tops;
 pub use numbers::module_numbers;
 pub use ranks::{Hierarchy, Ranked, rank_modules};
 pub use refusals::expect_one_top;

@@ -1,13 +1,10 @@
 //! The modules that none instances.
-ghost use Rattle.std.specs.Prelude.{◌≡◌, ◌<◌, ◌++◌, ◌∷◌, [], if◌then◌else◌, length, All, IfOk, OnOk, replicate, false};
+ghost use Rattle.std.specs.Prelude.{◌≡◌, ◌<◌, ◌^◌, ◌++◌, ◌∷◌, [], if◌then◌else◌, length, All, IfOk, OnOk, replicate, false};
 ghost use Rattle.bs_flat_meaning.specs.Rings as rings;
 ghost use Rattle.bs_flat_order.specs.Marks as spec;
 
 use bs_bits::{List, NoMemory};
 use std::alloc::Global;
-
-/// How many modules have a number.
-const MOST: usize = 4_294_967_295;
 
 /// No marks.
 fn no_marks(alloc: Global, count: usize) -> Result<Vec<bool>, NoMemory>
@@ -52,13 +49,11 @@ fn push_unless(all: &mut List<u32>, number: u32, marked: bool) -> Result<(), NoM
 /// The modules without a mark.
 #[tactic(auto, using(crate::proofs::MarkLemmas::unmarked_more))]
 fn unmarked(alloc: Global, marks: &[bool]) -> Result<List<u32>, NoMemory>
+    requires few { length marks.now < 2 ^ 32 }
     ensures { IfOk result (λ ns. ns ≡ spec.unmarked marks.now) }
 {
     let mut all = List::new(alloc);
     'modules: for module in 0..marks.len() {
-        if module > MOST {
-            return Err(NoMemory);
-        }
         push_unless(&mut all, module as u32, marks[module])?;
     }
     Ok(all)
@@ -66,6 +61,7 @@ fn unmarked(alloc: Global, marks: &[bool]) -> Result<List<u32>, NoMemory>
 
 /// The modules that none instances, in file order. For each module `below` has the modules that it instances.
 pub fn tops(alloc: Global, below: &[List<u32>]) -> Result<List<u32>, NoMemory>
+    requires few { length below.now < 2 ^ 32 }
     requires there { All (λ ns. All (λ n. n < length below.now) ns) below.now }
     ensures { IfOk result (λ ns. ns ≡ rings.tops below.now) }
 {

@@ -30,6 +30,7 @@ pub enum Hierarchy {
 
 /// An order of modules with those that none instances. `below` has the modules that each instances.
 fn with_tops(alloc: Global, below: List<List<u32>>, order: List<u32>) -> Result<Ranked, NoMemory>
+    requires few { length below < 2 ^ 32 }
     requires there { All (λ ns. All (λ n. n < length below) ns) below }
     ensures { IfOk result (λ r. (r.below ≡ below) × (r.order ≡ order) × (r.tops ≡ rings.tops below)) }
 {

@@ -9,9 +9,6 @@ use bs_flat_meaning::{FlatFault, Written};
 use bs_verilog_lexemes::{Name, Table};
 use std::alloc::Global;
 
-/// How many tops can be told.
-const MOST: usize = 4_294_967_295;
-
 /// The text of a name.
 fn name_text(alloc: Global, table: &Table, id: u32) -> Result<List<u8>, NoMemory>
     ensures { IfOk result (λ text. text ≡ slice_index_or table.now id []) }
@@ -62,13 +59,12 @@ fn ring_fault(alloc: Global, table: &Table, ids: &[Option<u32>], ring: &[u32]) -
 
 /// The order of modules of which one at most is instanced by none.
 fn with_one_top(ranked: Ranked) -> Result<Ranked, FlatFault>
+    requires few { length ranked.tops < 2 ^ 32 }
     ensures { MatchResult result (λ r. (r ≡ ranked) × (length r.tops ≤ 1))
-        (λ fault. (fault ≡ faults.NoMemory) ⊎ ((fault ≡ faults.Tops (length ranked.tops)) × (1 < length ranked.tops))) }
+        (λ fault. (fault ≡ faults.Tops (length ranked.tops)) × (1 < length ranked.tops)) }
 {
     let count = ranked.tops.len();
-    if count > MOST {
-        Err(FlatFault::NoMemory)
-    } else if count > 1 {
+    if count > 1 {
         Err(FlatFault::Tops(count as u32))
     } else {
         Ok(ranked)

@@ -2,6 +2,7 @@
 use Rattle.std.proofs.Common.{◌≡◌, ℕ, ◌+◌, Bool, true, false, List, [], ◌∷◌, length, Option, Some, None, refl, sym, ap, ◌∙◌, subst, arith}
 use Rattle.std.specs.Prelude.{if◌then◌else◌}
 use Rattle.std.specs.Option.{option_map}
+use Rattle.std.proofs.lemmas.List.Elements.{All-weaker}
 use Rattle.bs_net.specs.declared.net.NetId.{NetId}
 use Rattle.bs_net.specs.Parts.{Parts}
 use Rattle.bs_net.specs.Names.{number_of, net}
@@ -21,7 +22,7 @@ use Rattle.bs_flat_modules.specs.declared.owns.Own.{Own}
 use Rattle.bs_flat_wiring.specs.declared.wiring.Wiring.{Wiring}
 use Rattle.bs_flat_wiring.specs.declared.terms.Stretch.{Stretch}
 use Rattle.bs_flat_wiring.specs.Growing.{bare_of, terms_in}
-use Rattle.bs_flat_wiring.specs.Wiring.{read_of, side_by_side, net_at, spanned, StandFrom, AreSpans, IsWiringOf, AreNets, IsStretch, TellsDeclared, StandsFor, TellsTerm}
+use Rattle.bs_flat_wiring.specs.Wiring.{read_of, side_by_side, net_at, spanned, StandFrom, AreSpans, HasSpan, HaveSpans, ids_of, IsWiringOf, AreNets, IsStretch, TellsDeclared, StandsFor, TellsTerm}
 use Rattle.bs_flat_wiring.proofs.PortLemmas.{length_keys}
 use Rattle.bs_flat_wiring.proofs.SpanLemmas.{found_net}
 
@@ -60,8 +61,9 @@ whole_bared table own ws = bared_terms table (said own.says.declared) (read_of o
 
 pub is_wiring : (table : List (List ℕ)) (own : Own) (ws : List Written) (w : Wiring) → looked w.scope ≡ said own.says.declared
     → bare_of w.keys w.consts ≡ with_terms table (looked w.scope) (bare_of own.parts.names own.parts.consts) (terms_in ws)
-    → AreSpans table w.keys (looked w.scope) w.spans → IsWiringOf table (read_of own ws) w
-is_wiring table own ws w scope made spans =
+    → AreSpans table w.keys (looked w.scope) w.spans → HaveSpans table w.keys (looked w.scope) (ids_of own.says.declared) w.spans
+    → IsWiringOf table (read_of own ws) w
+is_wiring table own ws w scope made spans turns =
     let all : bare_of w.keys w.consts ≡ bared (whole_parts table (read_of own ws)) =
     made ∙ ap (λ s. with_terms table s (bare_of own.parts.names own.parts.consts) (terms_in ws)) scope ∙ sym (whole_bared table own ws) in
     record {
@@ -69,6 +71,12 @@ is_wiring table own ws w scope made spans =
       consts = ap (λ (p : Parts). p.consts) all;
       scope = scope;
       spans = record { is = λ id first s found there. spans.is id first s (ap (λ (f : ℕ → Option Says). f id) scope ∙ found) there };
+      turns = record {
+        have =
+            All-weaker (HasSpan table w.keys (looked w.scope) w.spans) (HasSpan table w.keys (said own.says.declared) w.spans)
+            (λ id h. record { is = λ s first found t. h.is s first (ap (λ (f : ℕ → Option Says). f id) scope ∙ found) t })
+            (ids_of own.says.declared) turns.have;
+      };
     }
 
 -- ---- the nets of a term

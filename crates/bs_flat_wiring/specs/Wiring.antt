@@ -1,8 +1,10 @@
 -- The nets of a module with those of its connections, and those of a term.
-use Rattle.std.specs.Prelude.{◌≡◌, ℕ, ◌+◌, List, [], map, length, Option, Some, None, slice_index_or, nat_eq, if◌then◌else◌}
+use Rattle.std.specs.Prelude.{◌≡◌, ℕ, ◌+◌, ◌<◌, ◌==◌, Bool, false, List, [], map, length, All, Option, Some, None, slice_index_or, nat_eq, if◌then◌else◌}
 use Rattle.std.specs.Map.{lookup}
 use Rattle.std.specs.List.{range_with_len}
 use Rattle.bs_net.specs.declared.net.NetId.{NetId}
+use Rattle.bs_net.specs.Names.{number_of}
+use Rattle.bs_verilog_syntax.specs.declared.tree.Declared.{Declared}
 use Rattle.bs_verilog_syntax.specs.declared.tree.Range.{Range}
 use Rattle.bs_verilog_syntax.specs.declared.tree.Says.{Says}
 use Rattle.bs_verilog_syntax.specs.declared.tree.Term.{Term}
@@ -50,13 +52,42 @@ with_span spans id first k = if nat_eq id k then Some first else spans k
 abbrev pub StandFrom : List (List ℕ) → List (List ℕ) → ℕ → Type 0
 StandFrom names ks first = nets_of names ks ≡ side_by_side first (length ks)
 
+-- each key is there, and their numbers follow one another from one on
+pub record AreInTurn (names ks : List (List ℕ)) (first : ℕ) : Type 0 where
+  pub each : (k : ℕ) → k < length ks → number_of names (slice_index_or ks k []) ≡ Some (first + k)
+
+-- they do so from no number on
+pub record AreInNoTurn (names ks : List (List ℕ)) : Type 0 where
+  pub none : (first : ℕ) → AreInTurn names ks first → ⊥
+
+-- whether a number is the one that was found
+abbrev pub is_number : Option ℕ → ℕ → Bool
+is_number (Some m) n = m == n
+is_number None n = false
+
 -- what is said of the name with a number, if anything, has its nets side by side from one on
 abbrev pub IsSpan : List (List ℕ) → List (List ℕ) → Option Says → ℕ → ℕ → Type 0
 IsSpan table names says id first = (s : Says) → says ≡ Some s → StandFrom names (keys_by table id s) first
 
+-- a name of which something is said has no span: its keys are not in turn
+abbrev pub IsNoSpan : List (List ℕ) → List (List ℕ) → Option Says → ℕ → Type 0
+IsNoSpan table names says id = (s : Says) → says ≡ Some s → AreInNoTurn names (keys_by table id s)
+
 -- the nets of each name with a span stand side by side from there
 pub record AreSpans (table names : List (List ℕ)) (scope : ℕ → Option Says) (spans : List (ℕ × ℕ)) : Type 0 where
   pub is : (id first : ℕ) (s : Says) → scope id ≡ Some s → spanned spans id ≡ Some first → StandFrom names (keys_by table id s) first
+
+-- the name with a number has a span where its keys are in turn
+pub record HasSpan (table names : List (List ℕ)) (scope : ℕ → Option Says) (spans : List (ℕ × ℕ)) (id : ℕ) : Type 0 where
+  pub is : (s : Says) (first : ℕ) → scope id ≡ Some s → AreInTurn names (keys_by table id s) first → spanned spans id ≡ Some first
+
+-- each of these names has
+pub record HaveSpans (table names : List (List ℕ)) (scope : ℕ → Option Says) (ids : List ℕ) (spans : List (ℕ × ℕ)) : Type 0 where
+  pub have : All (HasSpan table names scope spans) ids
+
+-- the numbers of declared names
+abbrev pub ids_of : List Declared → List ℕ
+ids_of ds = map (λ d. d.name.id) ds
 
 -- the wiring is that of a module
 pub record IsWiringOf (table : List (List ℕ)) (m : ReadModule) (w : Wiring) : Type 0 where
@@ -64,6 +95,7 @@ pub record IsWiringOf (table : List (List ℕ)) (m : ReadModule) (w : Wiring) : 
   pub consts : w.consts ≡ (whole_parts table m).consts
   pub scope : looked w.scope ≡ scope_of m
   pub spans : AreSpans table w.keys (scope_of m) w.spans
+  pub turns : HaveSpans table w.keys (scope_of m) (ids_of m.says.declared) w.spans
 
 -- the nets of keys side by side; none where there are no keys
 abbrev pub AreNets : List (List ℕ) → Option (List (List ℕ)) → Option Stretch → Type 0

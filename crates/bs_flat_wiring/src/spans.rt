@@ -1,8 +1,8 @@
 //! The names whose nets stand side by side.
-ghost use Rattle.std.specs.Prelude.{◌≡◌, ◌+◌, ◌<◌, ◌≤◌, ℕ, [], length, Some, true, IfOk, IfSome, OnOk};
+ghost use Rattle.std.specs.Prelude.{◌≡◌, ◌+◌, ◌<◌, ◌≤◌, ◌==◌, ◌++◌, ◌∷◌, ℕ, List, [], length, Some, true, false, IfNone, IfOk, IfSome, OnOk};
+ghost use Rattle.bs_net.specs.Names.{number_of};
 ghost use Rattle.bs_verilog_scope.specs.Checking.{looked};
 ghost use Rattle.bs_verilog_scope.specs.Keys as keys_spec;
-ghost use Rattle.bs_verilog_scope.specs.Nets as nets_spec;
 ghost use Rattle.bs_flat_wiring.specs.Wiring as spec;
 
 use crate::naming::{scalar, vector_bit};
@@ -16,12 +16,19 @@ use indexmap::IndexMap;
 use std::alloc::Global;
 use std::marker::Model;
 
+/// Whether a net stands so far behind the first.
+fn is_behind(net: NetId, first: u32, bit: usize) -> bool
+    ensures { result ≡ (net.0 == first + bit) }
+{
+    first <= net.0 && (net.0 - first) as usize == bit
+}
+
 /// Whether a key has the net so far behind the first.
 fn is_net(keys: &Keys, key: &str, first: u32, bit: usize) -> bool
-    ensures { result ≡ true → nets_spec.net_of keys.now key.now ≡ spec.net_at first bit }
+    ensures { result ≡ spec.is_number (number_of keys.now key.now) (first + bit) }
 {
     match keys.number(key) {
-        Some(net) => first <= net.0 && (net.0 - first) as usize == bit,
+        Some(net) => is_behind(net, first, bit),
         None => false,
     }
 }
@@ -34,7 +41,8 @@ fn is_rising(
     range: Range,
     first: u32,
 ) -> Result<bool, NoMemory>
-    ensures { IfOk result (λ b. b ≡ true → spec.StandFrom keys.now (keys_spec.keys name.now (Some range)) first) }
+    ensures stand { IfOk result (λ b. b ≡ true → spec.StandFrom keys.now (keys_spec.keys name.now (Some range)) first) }
+    ensures apart { IfOk result (λ b. b ≡ false → spec.AreInTurn keys.now (keys_spec.keys name.now (Some range)) first → ⊥) }
 {
     let count = width(range);
     'bits: for bit in 0..count {
@@ -48,7 +56,8 @@ fn is_rising(
 
 /// The net of a name of one bit.
 fn scalar_span(alloc: Global, keys: &Keys, name: &str) -> Result<Option<u32>, NoMemory>
-    ensures { IfOk result (λ o. IfSome o (λ first. spec.StandFrom keys.now (keys_spec.keys name.now None) first)) }
+    ensures some { IfOk result (λ o. IfSome o (λ first. spec.StandFrom keys.now (keys_spec.keys name.now None) first)) }
+    ensures none { IfOk result (λ o. IfNone o (spec.AreInNoTurn keys.now (keys_spec.keys name.now None))) }
 {
     let key = scalar(alloc, name)?;
     match keys.number(&key) {
@@ -64,7 +73,8 @@ fn vector_span(
     name: &str,
     range: Range,
 ) -> Result<Option<u32>, NoMemory>
-    ensures { IfOk result (λ o. IfSome o (λ first. spec.StandFrom keys.now (keys_spec.keys name.now (Some range)) first)) }
+    ensures some { IfOk result (λ o. IfSome o (λ first. spec.StandFrom keys.now (keys_spec.keys name.now (Some range)) first)) }
+    ensures none { IfOk result (λ o. IfNone o (spec.AreInNoTurn keys.now (keys_spec.keys name.now (Some range)))) }
 {
     let key = vector_bit(alloc, name, index_at(range, 0))?;
     let first = keys.number(&key).unwrap_or(NetId(0)).0;
@@ -82,11 +92,18 @@ fn span(
     name: &str,
     range: Option<Range>,
 ) -> Result<Option<u32>, NoMemory>
-    ensures { IfOk result (λ o. IfSome o (λ first. spec.StandFrom keys.now (keys_spec.keys name.now range) first)) }
+    ensures some { IfOk result (λ o. IfSome o (λ first. spec.StandFrom keys.now (keys_spec.keys name.now range) first)) }
+    ensures none { IfOk result (λ o. IfNone o (spec.AreInNoTurn keys.now (keys_spec.keys name.now range))) }
 {
     match range {
-        None => scalar_span(alloc, keys, name),
-        Some(range) => vector_span(alloc, keys, name, range),
+        None => {
+            let span = scalar_span(alloc, keys, name)?;
+            Ok(span)
+        }
+        Some(range) => {
+            let span = vector_span(alloc, keys, name, range)?;
+            Ok(span)
+        }
     }
 }
 
@@ -98,11 +115,15 @@ fn span_of(
     says: Option<Says>,
     name: Name,
 ) -> Result<Option<u32>, NoMemory>
-    ensures { IfOk result (λ o. IfSome o (λ first. spec.IsSpan table.now keys.now says name.id first)) }
+    ensures some { IfOk result (λ o. IfSome o (λ first. spec.IsSpan table.now keys.now says name.id first)) }
+    ensures none { IfOk result (λ o. IfNone o (spec.IsNoSpan table.now keys.now says name.id)) }
 {
     match says {
         None => Ok(None),
-        Some(said) => span(alloc, keys, table.text(name), said.range),
+        Some(said) => {
+            let span = span(alloc, keys, table.text(name), said.range)?;
+            Ok(span)
+        }
     }
 }
 
@@ -155,7 +176,9 @@ fn add_span(
     scope: &Scope,
     name: Name,
 ) -> Result<(), NoMemory>
-    ensures { OnOk result (spec.AreSpans table.now keys.now (looked scope.now) spans.old → spec.AreSpans table.now keys.now (looked scope.now) spans.new) }
+    ensures stand { OnOk result (spec.AreSpans table.now keys.now (looked scope.now) spans.old → spec.AreSpans table.now keys.now (looked scope.now) spans.new) }
+    ensures turns { OnOk result ((ids : List ℕ) → spec.HaveSpans table.now keys.now (looked scope.now) ids spans.old
+        → spec.HaveSpans table.now keys.now (looked scope.now) (ids ++ name.id ∷ []) spans.new) }
 {
     let span = span_of(alloc, table, keys, entry(scope, name.id), name)?;
     match span {
@@ -175,7 +198,8 @@ pub fn spans_of(
     scope: &Scope,
     declared: &[Declared],
 ) -> Result<Spans, NoMemory>
-    ensures { IfOk result (λ s. spec.AreSpans table.now keys.now (looked scope.now) s) }
+    ensures stand { IfOk result (λ s. spec.AreSpans table.now keys.now (looked scope.now) s) }
+    ensures turns { IfOk result (λ s. spec.HaveSpans table.now keys.now (looked scope.now) (spec.ids_of declared.now) s) }
 {
     let mut spans = Spans::new(alloc);
     'names: for d in declared {

@@ -11,4 +11,4 @@ returns-in-Err c =
     subst (λ f. IsAnswered c.args.bytes.now (Err f)) (sym c.fault_of.ensures) (fault_answers c.args.bytes.now c.in-Err.fault c.in-Err.ensures)
 
 pub read_lexemes-requires : goal.read_lexemes-requires
-read_lexemes-requires c = are_of_text c.args.bytes.now _ _ c.in-Ok.ensures
+read_lexemes-requires c = are_of_text c.args.bytes.now _ _ c.requires c.in-Ok.ensures

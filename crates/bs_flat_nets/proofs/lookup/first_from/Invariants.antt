@@ -1,5 +1,5 @@
-use Rattle.std.proofs.Common.{◌≡◌, ◌≤◌, ◌<◌, ◌+◌, ◌-◌, ℕ, length, get_or}
-use Rattle.bs_flat_nets.specs.Numbering.{no_place}
+use Rattle.std.proofs.Common.{◌≡◌, ◌≤◌, ◌<◌, ◌+◌, ◌-◌, ℕ, true, false, length, get_or}
+use Rattle.bs_flat_nets.specs.Numbering.{no_place, is_before}
 use Rattle.bs_flat_nets.proofs.lookup.first_from.Given as goal
 
 abbrev pub decreases-search : goal.decreases-search
@@ -10,6 +10,7 @@ invariant-search l = record {
   order : l.low ≤ l.high;
   most : l.high ≤ l.stop;
   within : l.stop ≤ length l.places;
-  below : (i : ℕ) → l.low ≡ i + 1 → l.from ≤ i → (get_or l.places i no_place).net < l.net;
-  above : l.high < l.stop → l.net ≤ (get_or l.places l.high no_place).net;
+  least : l.from ≤ l.stop → l.from ≤ l.low;
+  below : (i : ℕ) → l.low ≡ i + 1 → l.from ≤ i → is_before (get_or l.places i no_place) l.place ≡ true;
+  above : l.high < l.stop → is_before (get_or l.places l.high no_place) l.place ≡ false;
 }

@@ -28,8 +28,7 @@ pub levelize-requires-clause-few : goal.levelize-requires-clause-few
 levelize-requires-clause-few c =
     let same = ap (λ (l : List Gate). length l) (c.slice.ensures ∙ c.in_ok-gates.ensures) in
     let wide = gates_count c.args.below.now in
-    let few = c.if-below-gt-MOST.false in
-    omega (arith, same, wide, few)
+    omega (arith, same, wide, c.requires.few)
 
 pub levelize-requires-clause-single : goal.levelize-requires-clause-single
 levelize-requires-clause-single c =

@@ -17,7 +17,7 @@ returns-in_ok-ranked-in-Ordered c =
     let P : Levels → Type 0 = λ l. IsLevels c.slice.result.now l in
     let order : IsChildrenFirst c.slice.result.now c.in-Ordered.order = subst P c.in-Ordered.is c.in_ok-ring.ensures in
     let made = c.in_ok-ranked-in-Ordered.ensures in
-    ranked_is c.args.ids.now c.args.written.now c.in_ok-ranked-in-Ordered.ranked c.in_ok-below.below c.in_ok-below.ensures.numbers made.0
+    ranked_is c.args.ids.now c.args.written.now c.in_ok-ranked-in-Ordered.ranked c.in_ok-below.below c.requires.each c.in_ok-below.ensures.numbers made.0
     c.in_ok-below.ensures.there
     (subst (λ (l : List ℕ). IsChildrenFirst c.in_ok-below.below l) (sym made.1)
     (subst (λ (b : List (List ℕ)). IsChildrenFirst b c.in-Ordered.order) c.slice.ensures order))

@@ -1,4 +1,4 @@
-use Rattle.std.proofs.Common.{◌≡◌, ◌∙◌, ◌⊎◌, ◌<◌, ◌≤◌, ℕ, List, Option, Result, Ok, Err, map, length, subst, sym, ap, inl, inr, ⊎_elim}
+use Rattle.std.proofs.Common.{arith, ◌≡◌, ◌∙◌, ◌⊎◌, ◌<◌, ◌≤◌, ℕ, List, Option, Result, Ok, Err, map, length, subst, sym, ap, inl, inr, ⊎_elim}
 use Rattle.std.specs.Prelude.{MatchResult}
 use Rattle.bs_flat_meaning.specs.declared.fault.FlatFault.{FlatFault}
 use Rattle.bs_flat_meaning.specs.declared.fault.FlatFault.TheVariants as faults
@@ -28,9 +28,14 @@ returns-in-Ok-Ranked c =
   where
     by : (table : List (List ℕ)) (ids : List (Option ℕ)) (written : _) (r : code.Ranked) → IsRankedSo ids written r → (result : Result code.Ranked FlatFault) →
         MatchResult result (λ q. (q ≡ r) × (length q.tops ≤ 1))
-        (λ fault. (fault ≡ faults.NoMemory) ⊎ ((fault ≡ faults.Tops (length r.tops)) × (1 < length r.tops))) →
+        (λ fault. (fault ≡ faults.Tops (length r.tops)) × (1 < length r.tops)) →
         MatchResult result (λ q. HasOneTop ids written q) (λ fault. (fault ≡ faults.NoMemory) ⊎ IsRefused table ids written fault)
     by table ids written r h (Ok q) m = record { ranked = subst (λ (x : code.Ranked). IsRankedSo ids written x) (sym m.0) h; one = m.1 }
-    by table ids written r h (Err fault) m =
-        ⊎_elim (λ (n : fault ≡ faults.NoMemory). inl n)
-        (λ (t : (fault ≡ faults.Tops (length r.tops)) × (1 < length r.tops)). inr (tops_refused table ids written r fault h t.0 t.1)) m
+    by table ids written r h (Err fault) m = inr (tops_refused table ids written r fault h m.0 m.1)
+
+pub with_one_top-requires : goal.with_one_top-requires
+with_one_top-requires c =
+    let P : Hierarchy → Type 0 = λ h. IsHierarchy c.args.ids.now c.args.written.now h in
+    let ranked : IsRankedSo c.args.ids.now c.args.written.now c.in-Ok-Ranked.ranked = subst P c.in-Ok-Ranked.field-0-is c.in-Ok-Ranked.ensures in
+    let few = ranked.few in
+    omega (arith, few, c.requires.few)
