@@ -1,5 +1,5 @@
 -- The parities of items in all lanes, word by word.
-use Rattle.std.proofs.Common.{◌≡◌, ℕ, ◌<◌, ◌≤◌, ◌+◌, ◌-◌, ◌*◌, ◌/◌, ◌%◌, Bool, true, false, not, List, [], ◌∷◌, ◌++◌, zero, suc, length, map, take, get_or, set, refl}
+use Rattle.std.proofs.Common.{◌≡◌, ℕ, ◌<◌, ◌≤◌, ◌+◌, ◌*◌, ◌/◌, ◌%◌, Bool, false, not, List, [], ◌∷◌, ◌++◌, zero, suc, length, map, take, get_or, set, refl}
 use Rattle.std.proofs.Common.{arith, ap, ap₂, sym, subst, ◌∙◌, ⊎_elim, get_or-set_same, get_or-set_other, length-append}
 use Rattle.std.specs.Prelude.{◌==◌, All}
 use Rattle.std.specs.Bool.{beq}

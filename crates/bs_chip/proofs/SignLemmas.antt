@@ -1,20 +1,20 @@
 -- The signs of the runs, run by run and cycle by cycle.
 use Rattle.std.proofs.Common.{◌≡◌, ◌≢◌, ℕ, suc, zero, ◌<◌, ◌≤◌, ◌+◌, ◌-◌, ◌*◌, Bool, List, [], ◌∷◌, ◌++◌, length, get_or, refl, arith}
-use Rattle.std.proofs.Common.{ap, ap₂, sym, subst, ◌∙◌, ⊎_elim, length-append, Option, Some, None}
+use Rattle.std.proofs.Common.{ap, ap₂, sym, subst, ◌∙◌, ◌⊎◌, ⊎_elim, length-append, Option, Some, None}
 use Rattle.std.specs.Prelude.{MatchOption, OnOk, OnErr, Result, Ok, Err, slice_get}
 use Rattle.std.proofs.lemmas.Bool.{cases_eq}
 use Rattle.bs_lanes_planes.specs.Planes.{lane}
 use Rattle.bs_net.specs.Circuit.{Circuit}
 use Rattle.bs_scan.specs.Choice.{Chosen, IsChoice}
 use Rattle.bs_scan.specs.Crash.{Recording, IsRecording}
-use Rattle.bs_scan.specs.Moments.{Run, moment, IsMoment, run_of, state_at}
+use Rattle.bs_scan.specs.Moments.{Run, run_of, state_at}
 use Rattle.bs_scan.specs.Signature.{signature}
 use Rattle.bs_chip.specs.Lockstep.{wide_of, Passing, IsSamePass, ShowsCycle}
 use Rattle.bs_chip.specs.Parities.{HaveParities}
 use Rattle.bs_chip.specs.Prints.{print_of, ListsEach}
 use Rattle.bs_chip.proofs.ParityLemmas.{signature_lane}
 use Rattle.bs_chip.proofs.TrackLemmas.{track_at}
-use Rattle.bs_chip.specs.Signs.{signature_at, recorded_by, HasSign, HaveSigns, SignsShow, IsSigned, NoneSigned, IsNextSigned, NoneAlike, IsNextAlike}
+use Rattle.bs_chip.specs.Signs.{recorded_by, HaveSigns, SignsShow, IsSigned, NoneSigned, IsNextSigned, NoneAlike, IsNextAlike}
 
 -- ---- the runs of a cycle
 
@@ -89,6 +89,25 @@ still_signed r old p signs s same there =
       near = omega (arith, there);
       show = s.show;
     }
+
+-- a pass that was brought to the cycle behind the signs, or has stayed
+pub brought_signed : (old p : Passing) (choice : Chosen) (signs : List (List ℕ)) (next : ℕ) → IsSigned (recorded_by old choice) old signs →
+    IsSamePass old p → next ≡ length signs → (p.cycle ≡ old.cycle) ⊎ (p.cycle ≡ next) → IsSigned (recorded_by p choice) p signs
+brought_signed old p choice signs next s same is moved =
+    record {
+      recording = subst IsRecording (λ i. record { circuit = sym same.circuit i; choice = choice; runs = sym same.runs i }) s.recording;
+      circuit = refl;
+      runs = refl;
+      noted = ⊎_elim (λ (e : p.cycle ≡ old.cycle). omega (arith, e, s.noted)) (λ (e : p.cycle ≡ next). omega (arith, e, is)) moved;
+      near = ⊎_elim (λ (e : p.cycle ≡ old.cycle). omega (arith, e, s.near)) (λ (e : p.cycle ≡ next). omega (arith, e, is)) moved;
+      show = subst (λ (r : Recording). SignsShow r signs) (λ i. record { circuit = sym same.circuit i; choice = choice; runs = sym same.runs i }) s.show;
+    }
+
+-- the same signs are of the pass that went on
+pub signed_back : (old mid p : Passing) (choice : Chosen) (signs : List (List ℕ)) → IsSamePass old mid → IsSigned (recorded_by mid choice) p signs →
+    IsSigned (recorded_by old choice) p signs
+signed_back old mid p choice signs same s =
+    subst (λ (r : Recording). IsSigned r p signs) (λ i. record { circuit = same.circuit i; choice = choice; runs = same.runs i }) s
 
 one_more_signed : (r : Recording) (p : Passing) (signs more : List (List ℕ)) (next : List ℕ) → IsSigned r p signs → p.cycle ≡ length signs →
     HaveSigns r next p.cycle (length r.runs) → more ≡ signs ++ next ∷ [] → IsSigned r p more

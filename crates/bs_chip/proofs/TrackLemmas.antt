@@ -16,7 +16,7 @@ use Rattle.bs_chip.specs.declared.index.Index.{Index}
 use Rattle.bs_chip.specs.Chip.{IsChip}
 use Rattle.std.specs.HashMap.{hash_map_len}
 use Rattle.bs_chip.proofs.IndexLemmas.{cycles_none, firsts_none}
-use Rattle.bs_chip.specs.Lockstep.{Passing, ShowsCycle, TrackShows, Extends, IsFirstIn, IsLongest, IsLowest, NoneAmong, NoneBefore, NoneReached}
+use Rattle.bs_chip.specs.Lockstep.{Passing, IsSamePass, ShowsCycle, TrackShows, Extends, IsFirstIn, IsLongest, IsLowest, NoneAmong, NoneBefore, NoneReached}
 
 pub ok_weaker : {A E : Type 0} (P Q : A → Type 0) (r : Result A E) → ((a : A) → P a → Q a) → IfOk r P → IfOk r Q
 ok_weaker P Q (Ok a) f h = f a h
@@ -74,6 +74,27 @@ still_shows c runs old new planes cycle few h here x = by x.either
     by : (new ≡ old) ⊎ ((length old ≡ cycle) × (new ≡ old ++ planes ∷ [])) → TrackShows c runs new
     by (inl e) = subst (λ (t : List (List ℕ)). TrackShows c runs t) (sym e) h
     by (inr e) = subst (λ (t : List (List ℕ)). TrackShows c runs t) (sym e.1) (longer e.0)
+
+-- a pass over the same runs goes on beside a track
+pub track_same : (old new : Passing) (track : List (List ℕ)) → IsSamePass old new → TrackShows old.circuit old.runs track →
+    TrackShows new.circuit new.runs track
+track_same old new track same h =
+    subst (λ (c : Circuit). TrackShows c new.runs track) (sym same.circuit)
+    (subst (λ (runs : List Run). TrackShows old.circuit runs track) (sym same.runs) h)
+
+-- what a pass showed before it went on
+pub shows_back : (old new : Passing) (planes words : List ℕ) (at : ℕ) → IsSamePass old new → at ≡ old.cycle → words ≡ planes →
+    ShowsCycle old.circuit old.runs planes old.cycle → ShowsCycle new.circuit new.runs words at
+shows_back old new planes words at same here is h =
+    subst (λ (ws : List ℕ). ShowsCycle new.circuit new.runs ws at) (sym is)
+    (subst (λ (n : ℕ). ShowsCycle new.circuit new.runs planes n) (sym here)
+    (subst (λ (c : Circuit). ShowsCycle c new.runs planes old.cycle) (sym same.circuit)
+    (subst (λ (runs : List Run). ShowsCycle old.circuit runs planes old.cycle) (sym same.runs) h)))
+
+-- it stands there again
+pub back_there : (old mid new : Passing) (at : ℕ) → IsSamePass old mid → at ≡ old.cycle →
+    new ≡ record { circuit = mid.circuit; runs = mid.runs; cycle = at } → new ≡ old
+back_there old mid new at same here is = is ∙ (λ i. record { circuit = same.circuit i; runs = same.runs i; cycle = here i })
 
 -- ---- the look behind the track
 

@@ -1,6 +1,5 @@
 -- The prints of the signatures of the states of all runs, cycle by cycle.
 use Rattle.std.specs.Prelude.{◌≡◌, ◌≢◌, ℕ, ◌<◌, ◌≤◌, ◌+◌, ◌-◌, Bool, List, [], length, slice_index_or}
-use Rattle.bs_net.specs.Circuit.{Circuit}
 use Rattle.bs_scan.specs.Choice.{Chosen}
 use Rattle.bs_scan.specs.Crash.{Recording, IsRecording}
 use Rattle.bs_scan.specs.Moments.{Run, moment, IsMoment, run_of, state_at}

@@ -4,7 +4,8 @@ ghost use Rattle.bs_net.specs.Netlist.{circuit};
 ghost use Rattle.bs_scan.specs.Crash.{dump_at, recording_of, IsRecording};
 ghost use Rattle.bs_scan.specs.Moments.{first_moment as first_moment_of, moment, run_of, state_of, IsMoment};
 ghost use Rattle.bs_scan.specs.Signature.{stored_at};
-ghost use Rattle.bs_chip.specs.Lockstep.{TrackShows};
+ghost use Rattle.bs_stim.specs.declared.limits.TheConstants.{MAX_CYCLES};
+ghost use Rattle.bs_chip.specs.Lockstep.{ShowsCycle, TrackShows};
 ghost use Rattle.bs_chip.specs.Replay.{dump_holding, in_state};
 ghost use Rattle.bs_chip.specs.Stepped.{StandsAt};
 
@@ -13,7 +14,7 @@ use crate::moments::{replay, unload};
 use crate::pass::Pass;
 use crate::player::Player;
 use crate::signs::Signs;
-use crate::track::{at_reset, first_moment, recall};
+use crate::track::{at_reset, first_moment, keep_ahead, recall};
 use bs_bits::{Bits, List, NoMemory};
 use bs_break::Bank;
 use bs_lanes::Lanes;
@@ -263,6 +264,43 @@ impl<'a> Chip<'a> {
     {
         let _state = self.player.state();
         Signs::new(alloc, self.player.net(), self.choice, self.player.runs())
+    }
+
+    /// Keeps the planes of the cycles up to one, and of some more, as far as the bound allows: the dump of a moment of a kept
+    /// cycle takes no replay.
+    pub fn keep_to(&mut self, alloc: Global, cycle: u32) -> Result<(), NoMemory>
+        ensures kept { self.new ≡ self.old }
+    {
+        let kept = self.track.len();
+        if (cycle as usize) < kept || self.most <= kept {
+            return Ok(());
+        }
+        keep_ahead(alloc, &mut self.pass, &mut self.track, self.most, cycle)
+    }
+
+    /// The planes of a cycle, if they are kept.
+    pub fn kept(&self, cycle: usize) -> Option<&[u64]>
+        ensures { IfSome result (λ planes. ShowsCycle self.now.recording.circuit self.now.recording.runs planes.now cycle) }
+    {
+        if cycle < self.track.len() {
+            Some(self.track.get(cycle).slice())
+        } else {
+            None
+        }
+    }
+
+    /// Makes the signatures of the cycles up to one, out of the kept planes where there are some.
+    pub fn lend_signs(
+        &self,
+        alloc: Global,
+        signs: &mut Signs<'_>,
+        cycle: u32,
+    ) -> Result<(), NoMemory>
+        requires recording { signs.old ≡ self.now.recording }
+        requires few { cycle ≤ MAX_CYCLES }
+        ensures kept { signs.new ≡ signs.old }
+    {
+        signs.follow(alloc, &self.track, cycle)
     }
 
     /// The netlist.

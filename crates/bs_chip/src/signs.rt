@@ -3,7 +3,7 @@ ghost use Rattle.std.specs.Prelude.{◌≡◌, ◌<◌, ◌≤◌, ◌+◌, ◌*
 ghost use Rattle.bs_net.specs.Netlist.{circuit};
 ghost use Rattle.bs_scan.specs.Crash.{recording_of};
 ghost use Rattle.bs_stim.specs.declared.limits.TheConstants.{MAX_CYCLES};
-ghost use Rattle.bs_chip.specs.Lockstep.{wide_of, IsLongest, IsSamePass};
+ghost use Rattle.bs_chip.specs.Lockstep.{wide_of, IsLongest, IsSamePass, TrackShows};
 ghost use Rattle.bs_chip.specs.Prints.{print_of};
 ghost use Rattle.bs_chip.specs.Signs.{recorded_by, HaveSigns, IsNextAlike, IsNextSigned, IsSigned, NoneAlike, NoneSigned};
 
@@ -11,6 +11,7 @@ use crate::lanes::wide_for;
 use crate::parities::put_parities;
 use crate::pass::{Pass, step_to, zero_planes};
 use crate::prints::{lane_prints, print_of};
+use crate::track::lend;
 use bs_bits::{Bits, List, NoMemory};
 use bs_net::Netlist;
 use bs_scan::Choice;
@@ -77,6 +78,52 @@ fn reach(
 {
     'cycles: for _ in signs.len()..cycle + 1 {
         advance(alloc, pass, choice, items, signs)?;
+    }
+    Ok(())
+}
+
+/// The signs of one more cycle, out of a track that has it, or else by a step.
+fn advance_by(
+    alloc: Global,
+    track: &List<List<u64>>,
+    pass: &mut Pass<'_>,
+    choice: &Choice,
+    items: &mut Vec<u64>,
+    signs: &mut List<List<u64>>,
+) -> Result<(), NoMemory>
+    requires shows { TrackShows pass.old.circuit pass.old.runs track.now }
+    requires signed { IsSigned (recorded_by pass.old choice.now) pass.old signs.old }
+    requires items { length items.old.items ≡ length choice.now.items * wide_of (length pass.old.runs) }
+    requires few { length signs.old ≤ MAX_CYCLES }
+    ensures same { IsSamePass pass.old pass.new }
+    ensures items { length items.new.items ≡ length items.old.items }
+    ensures signed { IsSigned (recorded_by pass.old choice.now) pass.new signs.new }
+    ensures more { OnOk result (length signs.new ≡ length signs.old + 1) }
+{
+    lend(track, pass, signs.len());
+    advance(alloc, pass, choice, items, signs)
+}
+
+/// The signs of all cycles up to one, out of a track as far as it has them.
+fn reach_by(
+    alloc: Global,
+    track: &List<List<u64>>,
+    pass: &mut Pass<'_>,
+    choice: &Choice,
+    items: &mut Vec<u64>,
+    signs: &mut List<List<u64>>,
+    cycle: usize,
+) -> Result<(), NoMemory>
+    requires shows { TrackShows pass.old.circuit pass.old.runs track.now }
+    requires signed { IsSigned (recorded_by pass.old choice.now) pass.old signs.old }
+    requires items { length items.old.items ≡ length choice.now.items * wide_of (length pass.old.runs) }
+    requires few { cycle ≤ MAX_CYCLES }
+    ensures same { IsSamePass pass.old pass.new }
+    ensures items { length items.new.items ≡ length items.old.items }
+    ensures signed { IsSigned (recorded_by pass.old choice.now) pass.new signs.new }
+{
+    'cycles: for _ in signs.len()..cycle + 1 {
+        advance_by(alloc, track, pass, choice, items, signs)?;
     }
     Ok(())
 }
@@ -155,6 +202,28 @@ impl<'a> Signs<'a> {
         ensures few { result ≤ MAX_CYCLES }
     {
         self.pass.longest()
+    }
+
+    /// Makes the signatures of the cycles up to one, out of a track as far as it has them.
+    pub(crate) fn follow(
+        &mut self,
+        alloc: Global,
+        track: &List<List<u64>>,
+        cycle: u32,
+    ) -> Result<(), NoMemory>
+        requires shows { TrackShows self.old.circuit self.old.runs track.now }
+        requires few { cycle ≤ MAX_CYCLES }
+        ensures kept { self.new ≡ self.old }
+    {
+        reach_by(
+            alloc,
+            track,
+            &mut self.pass,
+            self.choice,
+            &mut self.items,
+            &mut self.signs,
+            cycle as usize,
+        )
     }
 
     /// The first run behind a number that lasts to a cycle and whose state there may have a signature; none where no run

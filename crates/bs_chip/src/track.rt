@@ -1,7 +1,8 @@
 //! The track: the flip-flops' planes of the first cycles, which are stepped once and looked at many times.
-ghost use Rattle.std.specs.Prelude.{◌≡◌, ◌<◌, ◌≤◌, ◌+◌, ◌∷◌, [], length, IfOk, IfSome, MatchOption};
+ghost use Rattle.std.specs.Prelude.{◌≡◌, ◌⊎◌, ◌<◌, ◌≤◌, ◌+◌, ◌∷◌, [], length, IfOk, IfSome, MatchOption};
 ghost use Rattle.bs_net.specs.Netlist.{circuit};
 ghost use Rattle.bs_stim.specs.Runs.{inputs_of};
+ghost use Rattle.bs_stim.specs.declared.limits.TheConstants.{MAX_CYCLES};
 ghost use Rattle.bs_scan.specs.Moments.{IsMoment, first_moment as first_moment_of, run_of, state_of};
 ghost use Rattle.bs_scan.specs.Signature.{stored_at};
 ghost use Rattle.bs_chip.specs.Lockstep.{Extends, IsFirstIn, IsSamePass, NoneBefore, NoneReached, TrackShows};
@@ -15,6 +16,9 @@ use bs_net::Netlist;
 use bs_scan::{HasState, Moment, SigReg};
 use bs_stim::Runs;
 use std::alloc::Global;
+
+/// How many cycles are kept ahead of the one that is asked for.
+const CYCLES_AHEAD: u32 = 32;
 
 /// A track of one cycle.
 fn first_track(alloc: Global, planes: &[u64]) -> Result<List<List<u64>>, NoMemory>
@@ -147,6 +151,60 @@ pub fn first_moment<S: HasState>(
             Ok(Some(moment))
         }
         None => first_behind(alloc, pass, bank, track, most),
+    }
+}
+
+/// Puts the planes of the cycles up to one behind those of a track, up to so many in all.
+fn keep_up(
+    alloc: Global,
+    pass: &mut Pass<'_>,
+    track: &mut List<List<u64>>,
+    most: usize,
+    end: usize,
+) -> Result<(), NoMemory>
+    requires few { end ≤ MAX_CYCLES }
+    requires shows { TrackShows pass.old.circuit pass.old.runs track.old }
+    ensures same { IsSamePass pass.old pass.new }
+    ensures shows { TrackShows pass.old.circuit pass.old.runs track.new }
+{
+    let last = track.len() - 1;
+    pass.load(track.get(last).slice(), last as u32);
+    'cycles: for at in last..end {
+        pass.step();
+        keep(alloc, track, pass.planes(), at + 1, most)?;
+    }
+    Ok(())
+}
+
+/// Puts the planes of the cycles up to one, and of some more, behind those of a track, up to so many in all. The runs stand
+/// where they did.
+pub fn keep_ahead(
+    alloc: Global,
+    pass: &mut Pass<'_>,
+    track: &mut List<List<u64>>,
+    most: usize,
+    cycle: u32,
+) -> Result<(), NoMemory>
+    requires shows { TrackShows pass.old.circuit pass.old.runs track.old }
+    ensures pass { pass.new ≡ pass.old }
+    ensures shows { TrackShows pass.old.circuit pass.old.runs track.new }
+{
+    let at = pass.cycle();
+    let shown = Vec::from_slice(alloc, pass.planes())?;
+    let end = cycle.saturating_add(CYCLES_AHEAD).min(pass.longest()) as usize;
+    let kept = keep_up(alloc, pass, track, most, end.min(most));
+    pass.load(shown.as_slice(), at);
+    kept
+}
+
+/// Brings all runs to a cycle of a track. They stay where they are, if it is none of them.
+pub fn lend(track: &List<List<u64>>, pass: &mut Pass<'_>, number: usize)
+    requires shows { TrackShows pass.old.circuit pass.old.runs track.now }
+    ensures same { IsSamePass pass.old pass.new }
+    ensures there { (pass.new.cycle ≡ pass.old.cycle) ⊎ (pass.new.cycle ≡ number) }
+{
+    if number < track.len() {
+        pass.load(track.get(number).slice(), number as u32);
     }
 }
 

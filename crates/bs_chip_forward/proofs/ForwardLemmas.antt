@@ -1,11 +1,10 @@
 -- Where all runs lead, cycle by cycle, and what a print that differs says.
-use Rattle.std.proofs.Common.{◌≡◌, ℕ, zero, suc, ◌<◌, ◌≤◌, ◌+◌, ◌-◌, ◌*◌, ◌/◌, ◌%◌, Bool, true, false, ◌&&◌, ◌||◌, List, [], ◌∷◌, ◌++◌, length, map, take, get_or, refl}
-use Rattle.std.proofs.Common.{arith, ap, ap₂, sym, subst, ◌∙◌, ⊎_elim, length-append, Some, None, nat_eq}
+use Rattle.std.proofs.Common.{◌≡◌, ℕ, zero, suc, ◌<◌, ◌≤◌, ◌+◌, ◌-◌, ◌*◌, Bool, true, false, ◌||◌, List, [], ◌∷◌, ◌++◌, length, map, take, get_or, refl}
+use Rattle.std.proofs.Common.{arith, ap, ap₂, sym, subst, ◌∙◌, ◌⊎◌, ⊎_elim, length-append, Some, nat_eq}
 use Rattle.std.specs.Prelude.{◌==◌, slice_get, OnOk, OnErr, Result, Ok, Err}
 use Rattle.std.specs.Prelude.{All}
-use Rattle.std.specs.List.{range_with_len, AllByRecursion}
+use Rattle.std.specs.List.{AllByRecursion}
 use Rattle.std.proofs.lemmas.Bool.{cases_eq, cases_lt, eqb-false, true≢false}
-use Rattle.std.proofs.lemmas.Cmp.{nat_eq_equiv}
 use Rattle.std.proofs.lemmas.List.{get_or_past, map_more}
 use Rattle.std.proofs.lemmas.List.Elements.{All-weaker, recursion_from_All}
 use Rattle.std.proofs.lemmas.List.FromFn.{map-range_with_len_more}
@@ -13,6 +12,7 @@ use Rattle.bs_net.specs.Circuit.{Circuit, next}
 use Rattle.bs_net.specs.Gate.{is_odd}
 use Rattle.bs_net.specs.Netlist.{circuit}
 use Rattle.bs_net_free.specs.Free.{IsFree}
+use Rattle.bs_stim.specs.declared.limits.TheConstants.{MAX_CYCLES}
 use Rattle.bs_stim.specs.Packing.{bit_in, HasPut}
 use Rattle.bs_lanes.specs.Lanes.{LaneTable, IsSameTable, AreStepped}
 use Rattle.bs_lanes_planes.specs.Planes.{bit_place, lane}
@@ -20,7 +20,7 @@ use Rattle.bs_lanes_planes.proofs.PlaneLemmas.{lane_at, length_lane}
 use Rattle.bs_scan.specs.Moments.{Run, moment, IsMoment, run_of, state_at}
 use Rattle.bs_chip_forward.specs.declared.forward.Aim.{Aim}
 use Rattle.bs_chip_forward.specs.declared.forward.Row.{Row}
-use Rattle.bs_chip_forward.specs.Forward.{Holding, Holds, IsHeldIn, IsHolding, TellsLead, TellLeads, TellRuns, TellsRow, no_row, IsSide, IsForward, LeadsNowhere}
+use Rattle.bs_chip_forward.specs.Forward.{Holding, Holds, IsHeldIn, IsHolding, TellsLead, TellLeads, TellRuns, TellsRow, no_row, IsSide, IsForward, Extended, LeadsNowhere}
 use Rattle.bs_chip.specs.Lockstep.{wide_of, Passing, IsSamePass, ShowsCycle}
 use Rattle.bs_chip.specs.Prints.{print_more, print_of, ListsEach}
 use Rattle.bs_chip_forward.specs.Groups.{parities_of, AreFree}
@@ -240,6 +240,7 @@ nothing_ahead p low high one other same reset =
       input = same;
       noted = omega (arith, reset);
       near = omega arith;
+      few = omega arith;
       show = λ k lt. absurd (omega (arith, lt));
     }
 
@@ -261,12 +262,27 @@ still_ahead old p low high rows f same there =
       input = f.input;
       noted = omega (arith, there);
       near = omega (arith, there);
+      few = f.few;
+      show = λ k lt. row_same old p low high (get_or rows k no_row) k same (f.show k lt);
+    }
+
+-- a pass that was brought to the cycle behind the rows, or has stayed
+pub brought_ahead : (old p : Passing) (low high : Holding) (rows : List Row) (next : ℕ) → IsForward old low high rows → IsSamePass old p →
+    next ≡ length rows → (p.cycle ≡ old.cycle) ⊎ (p.cycle ≡ next) → IsForward p low high rows
+brought_ahead old p low high rows next f same is moved =
+    record {
+      low_side = side_same old p low false same f.low_side;
+      high_side = side_same old p high true same f.high_side;
+      input = f.input;
+      noted = ⊎_elim (λ (e : p.cycle ≡ old.cycle). omega (arith, e, f.noted)) (λ (e : p.cycle ≡ next). omega (arith, e, is)) moved;
+      near = ⊎_elim (λ (e : p.cycle ≡ old.cycle). omega (arith, e, f.near)) (λ (e : p.cycle ≡ next). omega (arith, e, is)) moved;
+      few = f.few;
       show = λ k lt. row_same old p low high (get_or rows k no_row) k same (f.show k lt);
     }
 
 one_more_ahead : (p : Passing) (low high : Holding) (rows : List Row) (row : Row) → IsForward p low high rows → p.cycle ≡ length rows →
-    TellsRow p low high row p.cycle → IsForward p low high (rows ++ row ∷ [])
-one_more_ahead p low high rows row f there told =
+    length rows ≤ MAX_CYCLES → TellsRow p low high row p.cycle → IsForward p low high (rows ++ row ∷ [])
+one_more_ahead p low high rows row f there few told =
     let longer : length (rows ++ row ∷ []) ≡ length rows + 1 = length-append rows (row ∷ []) in
     record {
       low_side = f.low_side;
@@ -274,6 +290,7 @@ one_more_ahead p low high rows row f there told =
       input = f.input;
       noted = omega (arith, there, longer);
       near = omega (arith, there, longer);
+      few = omega (arith, few, longer);
       show = λ k lt.
           ⊎_elim
           (λ (same : k ≡ length rows).
@@ -288,10 +305,30 @@ one_more_ahead p low high rows row f there told =
 
 -- a row is put to the others, or nothing has changed
 pub pushed_ahead : {A E : Type 0} (p : Passing) (low high : Holding) (rows more : List Row) (row : Row) (put : Result A E) → IsForward p low high rows →
-    p.cycle ≡ length rows → TellsRow p low high row p.cycle → OnOk put (more ≡ rows ++ row ∷ []) → OnErr put (more ≡ rows) → IsForward p low high more
-pushed_ahead p low high rows more row (Ok done) f there told is same =
-    subst (λ (rs : List Row). IsForward p low high rs) (sym is) (one_more_ahead p low high rows row f there told)
-pushed_ahead p low high rows more row (Err want) f there told is same = subst (λ (rs : List Row). IsForward p low high rs) (sym same) f
+    p.cycle ≡ length rows → length rows ≤ MAX_CYCLES → TellsRow p low high row p.cycle → OnOk put (more ≡ rows ++ row ∷ []) → OnErr put (more ≡ rows) → IsForward p low high more
+pushed_ahead p low high rows more row (Ok done) f there few told is same =
+    subst (λ (rs : List Row). IsForward p low high rs) (sym is) (one_more_ahead p low high rows row f there few told)
+pushed_ahead p low high rows more row (Err want) f there few told is same = subst (λ (rs : List Row). IsForward p low high rs) (sym same) f
+
+pub extended_same : (rows more : List Row) → more ≡ rows → Extended rows more
+extended_same rows more same =
+    record { longer = omega (arith, ap length same); each = λ k lt. ap (λ (rs : List Row). get_or rs k no_row) same }
+
+pub extended_put : {A E : Type 0} (rows more : List Row) (row : Row) (put : Result A E) → OnOk put (more ≡ rows ++ row ∷ []) →
+    OnErr put (more ≡ rows) → Extended rows more
+extended_put rows more row (Ok done) is same =
+    record {
+      longer = omega (arith, ap length is, length-append rows (row ∷ []));
+      each = λ k lt. ap (λ (rs : List Row). get_or rs k no_row) is ∙ row_at_front rows row no_row k lt;
+    }
+extended_put rows more row (Err want) is same = extended_same rows more same
+
+pub extended_more : (rows mid more : List Row) → Extended rows mid → Extended mid more → Extended rows more
+extended_more rows mid more a b =
+    record {
+      longer = omega (arith, a.longer, b.longer);
+      each = λ k lt. b.each k (omega (arith, lt, a.longer)) ∙ a.each k lt;
+    }
 
 -- ---- what a print says
 
@@ -301,13 +338,34 @@ neither false b e = (refl, e)
 
 -- a print that differs tells that the state leads nowhere, where the input has the value
 told_apart : (c : Circuit) (h : Holding) (s present x : List Bool) (print aim : ℕ) → h.circuit ≡ c → TellsLead h s print →
-    aim ≡ print_of (parities_of h.groups present) → nat_eq print aim ≡ false → length x ≡ length c.inputs → get_or x h.input false ≡ h.value →
+    aim ≡ print_of (parities_of h.groups present) → (print ≡ aim → ⊥) → length x ≡ length c.inputs → get_or x h.input false ≡ h.value →
     next c s x ≡ present → ⊥
 told_apart c h s present x print aim is told e differ lx has leads =
-    eqb-false print aim differ
+    differ
     (told.each x (lx ∙ ap (λ (d : Circuit). length d.inputs) (sym is)) has
     ∙ (ap (λ (d : Circuit). print_of (parities_of h.groups (next d s x))) is
     ∙ (ap (λ (bits : List Bool). print_of (parities_of h.groups bits)) leads ∙ sym e)))
+
+-- two prints that differ from an aim's tell that a state leads nowhere
+pub led_nowhere : (p : Passing) (low high : Holding) (row : Row) (aim : Aim) (present : List Bool) (run cycle : ℕ) → IsSide p low false →
+    IsSide p high true → high.input ≡ low.input → TellsRow p low high row cycle → IsMoment p.runs (moment run cycle) →
+    aim.low ≡ print_of (parities_of low.groups present) → aim.high ≡ print_of (parities_of high.groups present) →
+    (get_or row.low (run - 1) 0 ≡ aim.low → ⊥) → (get_or row.high (run - 1) 0 ≡ aim.high → ⊥) →
+    LeadsNowhere p.circuit (state_at p.circuit (run_of p.runs run) cycle) present
+led_nowhere p low high row aim present run cycle low_side high_side input told m one other low_apart high_apart =
+    record {
+      each = λ x lx leads. by x lx leads (get_or x low.input false) refl;
+    }
+  where
+    by : (x : List Bool) → length x ≡ length p.circuit.inputs → next p.circuit (state_at p.circuit (run_of p.runs run) cycle) x ≡ present →
+        (b : Bool) → get_or x low.input false ≡ b → ⊥
+    by x lx leads false has =
+        told_apart p.circuit low (state_at p.circuit (run_of p.runs run) cycle) present x (get_or row.low (run - 1) 0) aim.low low_side.circuit
+        (told.lows.each run m.from_one m.recorded m.lasts) one low_apart lx (has ∙ sym low_side.held) leads
+    by x lx leads true has =
+        told_apart p.circuit high (state_at p.circuit (run_of p.runs run) cycle) present x (get_or row.high (run - 1) 0) aim.high high_side.circuit
+        (told.highs.each run m.from_one m.recorded m.lasts) other high_apart lx
+        (ap (λ (n : ℕ). get_or x n false) input ∙ (has ∙ sym high_side.held)) leads
 
 pub nowhere : (p : Passing) (low high : Holding) (rows : List Row) (row : Row) (aim : Aim) (present : List Bool) (run cycle at : ℕ) (may : Bool) →
     IsForward p low high rows → cycle < length rows → slice_get rows cycle ≡ Some row → IsMoment p.runs (moment run cycle) → at ≡ run - 1 →
@@ -315,25 +373,8 @@ pub nowhere : (p : Passing) (low high : Holding) (rows : List Row) (row : Row) (
     may ≡ ((get_or row.low at 0 == aim.low) || (get_or row.high at 0 == aim.high)) → may ≡ false →
     LeadsNowhere p.circuit (state_at p.circuit (run_of p.runs run) cycle) present
 nowhere p low high rows row aim present run cycle at may f lt look m back one other is denied =
-    let s : List Bool = state_at p.circuit (run_of p.runs run) cycle in
     let told : TellsRow p low high row cycle = subst (λ (x : Row). TellsRow p low high x cycle) (row_there rows cycle row look) (f.show cycle lt) in
     let both : (nat_eq (get_or row.low at 0) aim.low ≡ false) × (nat_eq (get_or row.high at 0) aim.high ≡ false) = neither _ _ (sym is ∙ denied) in
-    let lows : TellsLead low s (get_or row.low at 0) =
-    subst (λ (n : ℕ). TellsLead low s (get_or row.low n 0)) (sym back) (told.lows.each run m.from_one m.recorded m.lasts) in
-    let highs : TellsLead high s (get_or row.high at 0) =
-    subst (λ (n : ℕ). TellsLead high s (get_or row.high n 0)) (sym back) (told.highs.each run m.from_one m.recorded m.lasts) in
-    record {
-      each = λ x lx leads.
-          by x lx leads lows highs both.0 both.1 (get_or x low.input false) refl;
-    }
-  where
-    by : (x : List Bool) → length x ≡ length p.circuit.inputs → next p.circuit (state_at p.circuit (run_of p.runs run) cycle) x ≡ present →
-        TellsLead low (state_at p.circuit (run_of p.runs run) cycle) (get_or row.low at 0) →
-        TellsLead high (state_at p.circuit (run_of p.runs run) cycle) (get_or row.high at 0) → nat_eq (get_or row.low at 0) aim.low ≡ false →
-        nat_eq (get_or row.high at 0) aim.high ≡ false → (b : Bool) → get_or x low.input false ≡ b → ⊥
-    by x lx leads lows highs a b false has =
-        told_apart p.circuit low (state_at p.circuit (run_of p.runs run) cycle) present x (get_or row.low at 0) aim.low f.low_side.circuit lows one a lx
-        (has ∙ sym f.low_side.held) leads
-    by x lx leads lows highs a b true has =
-        told_apart p.circuit high (state_at p.circuit (run_of p.runs run) cycle) present x (get_or row.high at 0) aim.high f.high_side.circuit highs other b lx
-        (ap (λ (n : ℕ). get_or x n false) f.input ∙ (has ∙ sym f.high_side.held)) leads
+    led_nowhere p low high row aim present run cycle f.low_side f.high_side f.input told m one other
+    (λ (e : get_or row.low (run - 1) 0 ≡ aim.low). eqb-false (get_or row.low at 0) aim.low both.0 (ap (λ (n : ℕ). get_or row.low n 0) back ∙ e))
+    (λ (e : get_or row.high (run - 1) 0 ≡ aim.high). eqb-false (get_or row.high at 0) aim.high both.1 (ap (λ (n : ℕ). get_or row.high n 0) back ∙ e))

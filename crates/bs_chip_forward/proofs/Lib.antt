@@ -1,1 +1,2 @@
 pub mod ForwardLemmas
+pub mod FirstLemmas

@@ -1,9 +1,10 @@
 -- Where recorded states lead: prints of the next bits that no data input but one moves, where that one is 0, and where it is 1.
 use Rattle.std.specs.Prelude.{◌≡◌, ◌≢◌, ℕ, ◌<◌, ◌≤◌, ◌+◌, ◌-◌, ◌*◌, Bool, true, false, List, [], length, slice_index_or}
 use Rattle.bs_net.specs.Circuit.{Circuit, next}
+use Rattle.bs_stim.specs.declared.limits.TheConstants.{MAX_CYCLES}
 use Rattle.bs_stim.specs.Packing.{bit_in}
 use Rattle.bs_lanes_planes.specs.Planes.{bit_place, lane}
-use Rattle.bs_scan.specs.Moments.{Run, run_of, state_at}
+use Rattle.bs_scan.specs.Moments.{Run, moment, IsMoment, run_of, state_at}
 use Rattle.bs_chip_forward.specs.declared.forward.Aim.{Aim}
 use Rattle.bs_chip_forward.specs.declared.forward.Row.{Row}
 use Rattle.bs_chip.specs.Lockstep.{wide_of, Passing}
@@ -27,6 +28,10 @@ pub record IsAim (a : Ahead) (present : List Bool) (aim : Aim) : Type 0 where
 -- under no input of the netlist's width does a state lead to another
 pub record LeadsNowhere (c : Circuit) (s present : List Bool) : Type 0 where
   pub each : (x : List Bool) → length x ≡ length c.inputs → next c s x ≢ present
+
+-- no state of a cycle before this one leads to a present
+pub record NoneLeadBefore (c : Circuit) (runs : List Run) (present : List Bool) (limit : ℕ) : Type 0 where
+  pub each : (run cycle : ℕ) → cycle < limit → IsMoment runs (moment run cycle) → LeadsNowhere c (state_at c (run_of runs run) cycle) present
 
 -- ---- one value of the input
 
@@ -98,4 +103,10 @@ pub record IsForward (p : Passing) (low high : Holding) (rows : List Row) : Type
   pub input : high.input ≡ low.input
   pub noted : p.cycle ≤ length rows
   pub near : length rows ≤ p.cycle + 1
+  pub few : length rows ≤ MAX_CYCLES + 1
   pub show : (k : ℕ) → k < length rows → TellsRow p low high (slice_index_or rows k no_row) k
+
+-- the same rows, and perhaps further ones
+pub record Extended (old new : List Row) : Type 0 where
+  pub longer : length old ≤ length new
+  pub each : (k : ℕ) → k < length old → slice_index_or new k no_row ≡ slice_index_or old k no_row

@@ -1,3 +1,4 @@
 -- what public contracts rest on
 pub mod Groups
 pub mod Forward
+pub mod Firsts

@@ -1,13 +1,14 @@
 //! Where the recorded states lead, as prints by cycle and run: states that lead elsewhere under every input are passed over.
-ghost use Rattle.std.specs.Prelude.{◌≡◌, ◌<◌, ◌≤◌, ◌+◌, ◌==◌, ◌||◌, false, true, length, slice_index_or, IfOk, IsTrue, OnOk};
+ghost use Rattle.std.specs.Prelude.{◌≡◌, ◌⊎◌, ◌<◌, ◌≤◌, ◌+◌, ◌==◌, ◌||◌, false, true, length, slice_index_or, IfOk, IsTrue, OnOk};
 ghost use Rattle.bs_net.specs.Netlist.{circuit};
 ghost use Rattle.bs_net_free.specs.Free.{IsFree};
 ghost use Rattle.bs_stim.specs.declared.limits.TheConstants.{MAX_CYCLES};
 ghost use Rattle.bs_scan.specs.Moments.{moment, run_of, state_at, IsMoment};
 ghost use Rattle.bs_lanes.specs.Lanes.{is_wide};
-ghost use Rattle.bs_chip_forward.specs.Forward.{Holds, IsAim, IsForward, IsSide, LeadsNowhere, TellsRow};
+ghost use Rattle.bs_chip_forward.specs.Forward.{Extended, Holds, IsAim, IsForward, IsSide, LeadsNowhere, NoneLeadBefore, TellsRow};
 ghost use Rattle.bs_chip.specs.Lockstep.{IsSamePass};
 
+use crate::firsts::{Firsts, first_of, note_rows};
 use crate::groups::parity_print;
 use crate::held::Held;
 use bs_bits::{Bits, List, NoMemory};
@@ -137,6 +138,7 @@ fn advance(
     ensures low { low.new ≡ low.old }
     ensures high { high.new ≡ high.old }
     ensures ahead { IsForward pass.new low.old high.old rows.new }
+    ensures grows { Extended rows.old rows.new }
     ensures more { OnOk result (length rows.new ≡ length rows.old + 1) }
 {
     step_to(pass, rows.len());
@@ -159,10 +161,75 @@ fn reach(
     ensures low { low.new ≡ low.old }
     ensures high { high.new ≡ high.old }
     ensures ahead { IsForward pass.new low.old high.old rows.new }
+    ensures grows { Extended rows.old rows.new }
     ensures there { OnOk result (cycle < length rows.new) }
 {
     'cycles: for _ in rows.len()..cycle + 1 {
         advance(alloc, pass, low, high, rows)?;
+    }
+    Ok(())
+}
+
+/// Brings a pass to a cycle that a chip keeps. It stays where it is, if the cycle is not kept.
+fn lend(chip: &Chip<'_>, pass: &mut Pass<'_>, cycle: usize)
+    requires circuit { pass.old.circuit ≡ chip.now.recording.circuit }
+    requires runs { pass.old.runs ≡ chip.now.recording.runs }
+    requires few { cycle ≤ MAX_CYCLES }
+    ensures same { IsSamePass pass.old pass.new }
+    ensures there { (pass.new.cycle ≡ pass.old.cycle) ⊎ (pass.new.cycle ≡ cycle) }
+{
+    match chip.kept(cycle) {
+        Some(planes) => pass.load(planes, cycle as u32),
+        None => {}
+    }
+}
+
+/// The row of one more cycle, out of the planes that a chip keeps, or else by a step.
+fn advance_by(
+    alloc: Global,
+    chip: &Chip<'_>,
+    pass: &mut Pass<'_>,
+    low: &mut Held<'_>,
+    high: &mut Held<'_>,
+    rows: &mut List<Row>,
+) -> Result<(), NoMemory>
+    requires circuit { pass.old.circuit ≡ chip.now.recording.circuit }
+    requires runs { pass.old.runs ≡ chip.now.recording.runs }
+    requires ahead { IsForward pass.old low.old high.old rows.old }
+    requires few { length rows.old ≤ MAX_CYCLES }
+    ensures same { IsSamePass pass.old pass.new }
+    ensures low { low.new ≡ low.old }
+    ensures high { high.new ≡ high.old }
+    ensures ahead { IsForward pass.new low.old high.old rows.new }
+    ensures grows { Extended rows.old rows.new }
+    ensures more { OnOk result (length rows.new ≡ length rows.old + 1) }
+{
+    lend(chip, pass, rows.len());
+    advance(alloc, pass, low, high, rows)
+}
+
+/// The rows of all cycles up to one, out of the planes that a chip keeps as far as it has them.
+fn reach_by(
+    alloc: Global,
+    chip: &Chip<'_>,
+    pass: &mut Pass<'_>,
+    low: &mut Held<'_>,
+    high: &mut Held<'_>,
+    rows: &mut List<Row>,
+    cycle: usize,
+) -> Result<(), NoMemory>
+    requires circuit { pass.old.circuit ≡ chip.now.recording.circuit }
+    requires runs { pass.old.runs ≡ chip.now.recording.runs }
+    requires ahead { IsForward pass.old low.old high.old rows.old }
+    requires few { cycle ≤ MAX_CYCLES }
+    ensures same { IsSamePass pass.old pass.new }
+    ensures low { low.new ≡ low.old }
+    ensures high { high.new ≡ high.old }
+    ensures ahead { IsForward pass.new low.old high.old rows.new }
+    ensures grows { Extended rows.old rows.new }
+{
+    'cycles: for _ in rows.len()..cycle + 1 {
+        advance_by(alloc, chip, pass, low, high, rows)?;
     }
     Ok(())
 }
@@ -187,16 +254,18 @@ pub struct Forward<'a> {
     low: Held<'a>,
     high: Held<'a>,
     rows: List<Row>,
+    firsts: Firsts,
 }
 
 impl<'a> Model for Forward<'a> {
+    ghost use Rattle.bs_chip_forward.specs.Firsts.{AreNoted};
     ghost use Rattle.bs_chip_forward.specs.Forward.{Ahead, IsForward};
 
     ghost Value = { Ahead };
 
     ghost view = { λ f. record { circuit = f.pass.circuit; runs = f.pass.runs; low = f.low.groups; high = f.high.groups } };
 
-    ghost invariant = { λ f. IsForward f.pass f.low f.high f.rows };
+    ghost invariant = { λ f. IsForward f.pass f.low f.high f.rows × AreNoted f.firsts.low f.firsts.high f.firsts.cycles f.rows };
 }
 
 /// Where the runs of a pass at reset lead, of no cycle yet.
@@ -219,6 +288,7 @@ fn started<'a>(
         low,
         high,
         rows: List::new(alloc),
+        firsts: Firsts::new(alloc),
     })
 }
 
@@ -243,6 +313,36 @@ impl<'a> Forward<'a> {
         let low = parity_print(self.low.groups(), present);
         let high = parity_print(self.high.groups(), present);
         Aim { low, high }
+    }
+
+    /// A cycle before which no recorded state leads to a present one, of which this is the aim, under any input.
+    pub fn start(&mut self, present: &Bits, aim: Aim) -> Result<u32, NoMemory>
+        requires { IsAim self.old present.now aim }
+        ensures none { IfOk result (NoneLeadBefore self.old.circuit self.old.runs present.now) }
+        ensures kept { self.new ≡ self.old }
+    {
+        let _width = present.len();
+        note_rows(&mut self.firsts, &self.rows)?;
+        Ok(first_of(&self.firsts, aim))
+    }
+
+    /// Sees where the recorded states of the cycles up to one lead, out of the planes that a chip of the same recording keeps
+    /// where there are some.
+    pub fn follow(&mut self, alloc: Global, chip: &Chip<'_>, cycle: u32) -> Result<(), NoMemory>
+        requires circuit { self.old.circuit ≡ chip.now.recording.circuit }
+        requires runs { self.old.runs ≡ chip.now.recording.runs }
+        requires few { cycle ≤ MAX_CYCLES }
+        ensures kept { self.new ≡ self.old }
+    {
+        reach_by(
+            alloc,
+            chip,
+            &mut self.pass,
+            &mut self.low,
+            &mut self.high,
+            &mut self.rows,
+            cycle as usize,
+        )
     }
 
     /// Whether the state of a moment may lead to a present one, of which this is the aim. Where it says no, it does so

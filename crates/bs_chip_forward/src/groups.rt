@@ -12,15 +12,15 @@ use bs_lanes_planes::lane_bit;
 use std::alloc::Global;
 
 /// How many groups there are.
-const GROUPS: u64 = 64;
+const GROUPS: u64 = 32;
 
 /// By what a place is multiplied, so that its groups look chosen at random.
 const GROUP_FACTOR: u64 = 11_400_714_819_323_198_485;
 
-/// Whether a place belongs to a group. It belongs to three at most.
+/// Whether a place belongs to a group. It belongs to two at most.
 fn belongs(place: u32, group: u64) -> bool {
     let mixed = u64::from(place).wrapping_mul(GROUP_FACTOR);
-    (mixed >> 58) == group || (mixed >> 40) % GROUPS == group || (mixed >> 22) % GROUPS == group
+    (mixed >> 59) == group || (mixed >> 40) % GROUPS == group
 }
 
 /// Whether a place is flagged and belongs to a group.

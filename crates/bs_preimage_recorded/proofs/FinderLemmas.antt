@@ -1,12 +1,12 @@
 -- Where recorded states lead, as far as it is known.
-use Rattle.std.proofs.Common.{◌≡◌, ℕ, Bool, false, List, length, subst, sym, Option, Some, None}
+use Rattle.std.proofs.Common.{◌≡◌, ℕ, arith, Bool, false, List, length, ap, subst, sym, ◌∙◌, Option, Some, None}
 use Rattle.std.specs.Prelude.{Result, Ok, Err, IfOk, IfSome}
 use Rattle.bs_net.specs.Circuit.{Circuit}
 use Rattle.bs_scan.specs.Crash.{Recording}
 use Rattle.bs_scan.specs.Moments.{Run, moment, IsMoment, run_of, state_at}
 use Rattle.bs_chip_forward.specs.declared.forward.Aim.{Aim}
-use Rattle.bs_chip_forward.specs.Forward.{Ahead, IsAim, LeadsNowhere}
-use Rattle.bs_preimage_recorded.specs.Finder.{IsAimed, LeadsAway}
+use Rattle.bs_chip_forward.specs.Forward.{Ahead, IsAim, LeadsNowhere, NoneLeadBefore}
+use Rattle.bs_preimage_recorded.specs.Finder.{IsAimed, LeadsAway, StartsBy}
 
 -- the present is as wide as the states
 pub aimed_wide : (r : Recording) (present other : List Bool) (aim : Aim) (forward : Option Ahead) → IfSome forward (IsAimed r present aim) →
@@ -23,6 +23,13 @@ pub aimed_at : (r : Recording) (present : List Bool) (aim : Aim) (forward : Opti
     IfSome forward (λ f. IsAim f present aim)
 aimed_at r present aim None is = tt
 aimed_at r present aim (Some f) is = is.aim_is
+
+-- it is where the states of a recording lead
+pub aimed_in : (r other : Recording) (present : List Bool) (aim : Aim) (forward : Option Ahead) → IfSome forward (IsAimed r present aim) → r ≡ other →
+    IfSome forward (λ f. (f.circuit ≡ other.circuit) × (f.runs ≡ other.runs))
+aimed_in r other present aim None is same = tt
+aimed_in r other present aim (Some f) is same =
+    (is.circuit ∙ ap (λ (r : Recording). r.circuit) same, is.runs ∙ ap (λ (r : Recording). r.runs) same)
 
 -- it is aimed at another present
 pub aimed_anew : (r : Recording) (present other : List Bool) (aim next : Aim) (forward : Option Ahead) → IfSome forward (IsAimed r present aim) →
@@ -42,3 +49,11 @@ pub leads_away : {E : Type 0} (r : Recording) (present : List Bool) (aim : Aim) 
     IfOk result (λ may. may ≡ false → LeadsNowhere r.circuit (state_at r.circuit (run_of r.runs run) cycle) present)
 leads_away r present aim forward run cycle (Ok may) is lead = λ no. away r present aim forward run cycle is (lead no)
 leads_away r present aim forward run cycle (Err want) is lead = tt
+
+pub starts_at : {E : Type 0} (r : Recording) (present : List Bool) (aim : Aim) (forward : Option Ahead) (result : Result ℕ E) →
+    IfSome forward (IsAimed r present aim) → IfOk result (StartsBy forward present) → IfOk result (NoneLeadBefore r.circuit r.runs present)
+starts_at r present aim None (Ok from) is none = record { each = λ run cycle lt there. absurd (omega (arith, none, lt)) }
+starts_at r present aim (Some f) (Ok from) is none =
+    subst (λ (c : Circuit). NoneLeadBefore c r.runs present from) is.circuit
+    (subst (λ (runs : List Run). NoneLeadBefore f.circuit runs present from) is.runs none)
+starts_at r present aim forward (Err want) is none = tt

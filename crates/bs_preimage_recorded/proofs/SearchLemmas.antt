@@ -17,7 +17,7 @@ use Rattle.bs_net.specs.Circuit.{next}
 use Rattle.bs_net.proofs.CallerLemmas.{all_bits_widths}
 use Rattle.bs_scan.proofs.MomentLemmas.{each_member}
 use Rattle.bs_report_good.proofs.GoodLemmas.{listed_member, filter_member, passing, Passing}
-use Rattle.bs_chip_forward.specs.Forward.{LeadsNowhere}
+use Rattle.bs_chip_forward.specs.Forward.{LeadsNowhere, NoneLeadBefore}
 use Rattle.bs_chip.specs.Lockstep.{IsLongest, IsLowest, NoneAmong, NoneBefore}
 use Rattle.bs_chip.specs.Replay.{lists}
 use Rattle.bs_chip.specs.Signs.{signature_at, NoneAlike, IsNextAlike}
@@ -91,6 +91,18 @@ leads_elsewhere r present stored older run cycle nowhere = by (lists r.circuit (
         absurd
         (led_by_none r.circuit (state_at r.circuit (run_of r.runs run) cycle) present nowhere
         (is_led r.circuit r.choice present (state_at r.circuit (run_of r.runs run) cycle) (stored ∷ option_to_list older) is))
+
+-- no state before a cycle is a predecessor, where none leads to the present
+pub none_led : (r : Recording) (present stored : List Bool) (older : Option (List Bool)) (from limit : ℕ) → NoneLeadBefore r.circuit r.runs present from →
+    limit ≤ from → NoneBefore r.circuit r.runs (asked_in r present stored older) limit
+none_led r present stored older from limit none within =
+    record {
+      each = λ cycle lt. record {
+        each = λ n lo hi there last.
+            leads_elsewhere r present stored older n cycle
+            (none.each n cycle (omega (arith, lt, within)) (record { from_one = omega (arith, lo); recorded = there; lasts = last }));
+      };
+    }
 
 -- ---- a run
 

@@ -5,7 +5,7 @@ use Rattle.bs_scan.specs.Crash.{Recording}
 use Rattle.bs_scan.specs.Moments.{run_of, state_at}
 use Rattle.bs_chip.specs.Prints.{print_of}
 use Rattle.bs_chip_forward.specs.declared.forward.Aim.{Aim}
-use Rattle.bs_chip_forward.specs.Forward.{Ahead, IsAim, LeadsNowhere}
+use Rattle.bs_chip_forward.specs.Forward.{Ahead, IsAim, LeadsNowhere, NoneLeadBefore}
 use Rattle.bs_preimage.specs.Probe.{Prober}
 
 -- a recording, and the present with a stored signature whose predecessors are looked for
@@ -31,6 +31,11 @@ pub record IsFinder (r : Recording) (p : Prober) (forward : Option Ahead) (prese
 abbrev pub LeadsAway : Option Ahead → ℕ → ℕ → List Bool → Type 0
 LeadsAway None run cycle present = ⊥
 LeadsAway (Some f) run cycle present = LeadsNowhere f.circuit (state_at f.circuit (run_of f.runs run) cycle) present
+
+-- no state before a cycle leads to the present, as far as it is known
+abbrev pub StartsBy : Option Ahead → List Bool → ℕ → Type 0
+StartsBy None present from = from ≡ 0
+StartsBy (Some f) present from = NoneLeadBefore f.circuit f.runs present from
 
 -- what is asked has the recording's widths
 pub record IsAsking (r : Recording) (present stored : List Bool) (older : Option (List Bool)) (b : ℕ) : Type 0 where

@@ -2,11 +2,11 @@
 ghost use Rattle.std.specs.Prelude.{◌≡◌, ◌≤◌, [], false, length, option_map, IfOk, IfSome, MatchOption};
 ghost use Rattle.bs_scan.specs.Moments.{IsMoment, moment, run_of, state_at};
 ghost use Rattle.bs_stim.specs.declared.limits.TheConstants.{MAX_CYCLES};
-ghost use Rattle.bs_chip_forward.specs.Forward.{IsAim, LeadsNowhere};
+ghost use Rattle.bs_chip_forward.specs.Forward.{IsAim, LeadsNowhere, NoneLeadBefore};
 ghost use Rattle.bs_chip.specs.Lockstep.{IsLongest};
 ghost use Rattle.bs_chip.specs.Signs.{IsNextAlike, NoneAlike};
 ghost use Rattle.bs_preimage.specs.Probe.{IsProbed};
-ghost use Rattle.bs_preimage_recorded.specs.Finder.{IsAsking, LeadsAway};
+ghost use Rattle.bs_preimage_recorded.specs.Finder.{IsAsking, LeadsAway, StartsBy};
 
 use bs_bits::{Bits, NoMemory};
 use bs_chip::{Chip, Signs, print_of};
@@ -64,15 +64,40 @@ fn aim_of(forward: &Option<Forward<'_>>, present: &Bits) -> Aim
     }
 }
 
+/// Whether the state of a moment may lead to a present. It is seen out of what the chip keeps, as far as that goes.
+fn may_lead_in(
+    alloc: Global,
+    chip: &Chip<'_>,
+    forward: &mut Forward<'_>,
+    present: &Bits,
+    aim: Aim,
+    run: u32,
+    cycle: u32,
+) -> Result<bool, NoMemory>
+    requires circuit { forward.old.circuit ≡ chip.now.recording.circuit }
+    requires runs { forward.old.runs ≡ chip.now.recording.runs }
+    requires few { cycle ≤ MAX_CYCLES }
+    requires there { IsMoment forward.old.runs (moment run cycle) }
+    requires aim { IsAim forward.old present.now aim }
+    ensures lead { IfOk result (λ may. may ≡ false → LeadsNowhere forward.old.circuit (state_at forward.old.circuit (run_of forward.old.runs run) cycle) present.now) }
+    ensures kept { forward.new ≡ forward.old }
+{
+    forward.follow(alloc, chip, cycle)?;
+    forward.may_lead(alloc, present, aim, run, cycle)
+}
+
 /// Whether the state of a moment may lead to a present, as far as it is known.
 fn may_lead_by(
     alloc: Global,
+    chip: &Chip<'_>,
     forward: &mut Option<Forward<'_>>,
     present: &Bits,
     aim: Aim,
     run: u32,
     cycle: u32,
 ) -> Result<bool, NoMemory>
+    requires recording { IfSome forward.old (λ f. (f.circuit ≡ chip.now.recording.circuit) × (f.runs ≡ chip.now.recording.runs)) }
+    requires few { cycle ≤ MAX_CYCLES }
     requires there { IfSome forward.old (λ f. IsMoment f.runs (moment run cycle)) }
     requires aim { IfSome forward.old (λ f. IsAim f present.now aim) }
     ensures lead { IfOk result (λ may. may ≡ false → LeadsAway forward.old run cycle present.now) }
@@ -80,7 +105,19 @@ fn may_lead_by(
 {
     match forward {
         None => Ok(true),
-        Some(forward) => forward.may_lead(alloc, present, aim, run, cycle),
+        Some(forward) => may_lead_in(alloc, chip, forward, present, aim, run, cycle),
+    }
+}
+
+/// A cycle before which no state leads to a present, as far as it is known.
+fn start_by(forward: &mut Option<Forward<'_>>, present: &Bits, aim: Aim) -> Result<u32, NoMemory>
+    requires { IfSome forward.old (λ f. IsAim f present.now aim) }
+    ensures none { IfOk result (StartsBy forward.old present.now) }
+    ensures kept { forward.new ≡ forward.old }
+{
+    match forward {
+        None => Ok(0),
+        Some(forward) => forward.start(present, aim),
     }
 }
 
@@ -163,13 +200,18 @@ impl<'a, 'p> Finder<'a, 'p> {
     pub(crate) fn next_alike(
         &mut self,
         alloc: Global,
+        chip: &mut Chip<'_>,
         cycle: u32,
         from: u32,
     ) -> Result<Option<u32>, NoMemory>
-        requires { cycle ≤ MAX_CYCLES }
+        requires recording { self.old.recording ≡ chip.old.recording }
+        requires few { cycle ≤ MAX_CYCLES }
+        ensures chip { chip.new ≡ chip.old }
         ensures alike { IfOk result (λ found. MatchOption found (NoneAlike self.old.recording self.old.stored cycle from (length self.old.recording.runs)) (IsNextAlike self.old.recording self.old.stored cycle from)) }
         ensures kept { self.new ≡ self.old }
     {
+        chip.keep_to(alloc, cycle)?;
+        chip.lend_signs(alloc, &mut self.signs, cycle)?;
         self.signs
             .next_printed(alloc, &self.stored, self.print, cycle, from)
     }
@@ -179,27 +221,57 @@ impl<'a, 'p> Finder<'a, 'p> {
         self.forward.is_some()
     }
 
+    /// Takes what sees where the recorded states lead.
+    fn see(&mut self, forward: Forward<'a>)
+        requires circuit { forward.circuit ≡ self.old.recording.circuit }
+        requires runs { forward.runs ≡ self.old.recording.runs }
+        requires width { length self.old.present ≡ length self.old.recording.circuit.flops }
+        ensures { self.new ≡ self.old }
+    {
+        self.aim = forward.aim(&self.present);
+        self.forward = Some(forward);
+    }
+
     /// Sees from now on where the recorded states lead.
     pub(crate) fn look_forward(&mut self, alloc: Global, chip: &Chip<'a>) -> Result<(), NoMemory>
         requires recording { self.old.recording ≡ chip.now.recording }
         requires width { length self.old.present ≡ length self.old.recording.circuit.flops }
         ensures kept { self.new ≡ self.old }
     {
-        let forward = Forward::new(alloc, chip)?;
-        let aim = forward.aim(&self.present);
-        self.forward = Some(forward);
-        self.aim = aim;
-        Ok(())
+        match Forward::new(alloc, chip) {
+            Ok(forward) => {
+                self.see(forward);
+                Ok(())
+            }
+            Err(want) => Err(want),
+        }
+    }
+
+    /// A cycle before which no recorded state leads to the present, under any input.
+    pub(crate) fn start(&mut self) -> Result<u32, NoMemory>
+        ensures none { IfOk result (NoneLeadBefore self.old.recording.circuit self.old.recording.runs self.old.present) }
+        ensures kept { self.new ≡ self.old }
+    {
+        start_by(&mut self.forward, &self.present, self.aim)
     }
 
     /// Whether the state of a moment may lead to the present. Where it says no, it does so under no input.
-    pub(crate) fn may_lead(&mut self, alloc: Global, run: u32, cycle: u32) -> Result<bool, NoMemory>
+    pub(crate) fn may_lead(
+        &mut self,
+        alloc: Global,
+        chip: &Chip<'_>,
+        run: u32,
+        cycle: u32,
+    ) -> Result<bool, NoMemory>
+        requires recording { self.old.recording ≡ chip.now.recording }
+        requires few { cycle ≤ MAX_CYCLES }
         requires there { IsMoment self.old.recording.runs (moment run cycle) }
         ensures lead { IfOk result (λ may. may ≡ false → LeadsNowhere self.old.recording.circuit (state_at self.old.recording.circuit (run_of self.old.recording.runs run) cycle) self.old.present) }
         ensures kept { self.new ≡ self.old }
     {
         may_lead_by(
             alloc,
+            chip,
             &mut self.forward,
             &self.present,
             self.aim,

@@ -3,9 +3,10 @@ ghost use Rattle.std.specs.Prelude.{◌≡◌, ◌≤◌, ◌+◌, ◌-◌, ◌*
 ghost use Rattle.bs_preimage_recorded.specs.declared.search.TheConstants.{MAX_ASKS};
 ghost use Rattle.bs_scan.specs.Moments.{IsMoment, moment};
 ghost use Rattle.bs_stim.specs.declared.limits.TheConstants.{MAX_CYCLES};
+ghost use Rattle.bs_chip.specs.Lockstep.{NoneBefore};
 ghost use Rattle.bs_chip.specs.Signs.{IsNextAlike};
 ghost use Rattle.bs_preimage_recorded.specs.Finder.{IsAsking};
-ghost use Rattle.bs_preimage_recorded.specs.Search.{place_of, turn_by, HasTried, HasTurned, IsCutAt, SoughtAt, SoughtBefore, SoughtOfAll, SoughtSooner, SoughtWithin, TurnsTo};
+ghost use Rattle.bs_preimage_recorded.specs.Search.{asked_in, place_of, turn_by, HasTried, HasTurned, IsCutAt, SoughtAt, SoughtBefore, SoughtOfAll, SoughtSooner, SoughtWithin, TurnsTo};
 
 use crate::finder::{Finder, Query};
 use bs_bits::NoMemory;
@@ -108,6 +109,7 @@ fn try_run(
     run: u32,
     tries: &mut u64,
 ) -> Result<Turn, NoMemory>
+    requires few { span.cycle ≤ MAX_CYCLES }
     requires next { IsNextAlike chip.old.recording query.now.stored.now span.cycle span.from run }
     requires order { span.from ≤ span.below }
     requires aimed { finder.old ≡ record { recording = chip.old.recording; present = query.now.present.now; stored = query.now.stored.now } }
@@ -120,7 +122,7 @@ fn try_run(
     if span.below < run {
         return Ok(Turn::End(Sought::NoMoment));
     }
-    if !finder.may_lead(alloc, run, span.cycle)? {
+    if !finder.may_lead(alloc, chip, run, span.cycle)? {
         return Ok(Turn::GoOn(run));
     }
     ask_run(alloc, chip, finder, query, span, run, tries)
@@ -144,7 +146,7 @@ fn next_turn(
     ensures chip { chip.new ≡ chip.old }
     ensures finder { finder.new ≡ finder.old }
 {
-    match finder.next_alike(alloc, span.cycle, span.from)? {
+    match finder.next_alike(alloc, chip, span.cycle, span.from)? {
         None => Ok(Turn::End(Sought::NoMoment)),
         Some(run) => try_run(alloc, chip, finder, query, span, run, tries),
     }
@@ -179,6 +181,26 @@ fn lowest_at(
     Ok(Sought::NoMoment)
 }
 
+/// A cycle, no later than a limit, before which no run is in a predecessor.
+fn start_of(
+    chip: &Chip<'_>,
+    finder: &mut Finder<'_, '_>,
+    query: &Query<'_>,
+    limit: u32,
+) -> Result<u32, NoMemory>
+    requires aimed { finder.old ≡ record { recording = chip.now.recording; present = query.now.present.now; stored = query.now.stored.now } }
+    ensures within { IfOk result (λ from. from ≤ limit) }
+    ensures none { IfOk result (NoneBefore chip.now.recording.circuit chip.now.recording.runs (asked_in chip.now.recording query.now.present.now query.now.stored.now (option_map (λ bits. bits.now) query.now.older))) }
+    ensures finder { finder.new ≡ finder.old }
+{
+    let _stored = query.stored.len();
+    let start = finder.start()?;
+    if start <= limit {
+        return Ok(start);
+    }
+    Ok(limit)
+}
+
 /// The first moment in a predecessor before a cycle.
 fn first_before(
     alloc: Global,
@@ -197,7 +219,8 @@ fn first_before(
     ensures finder { finder.new ≡ finder.old }
 {
     let runs = finder.runs();
-    'cycles: for cycle in 0..limit {
+    let from = start_of(chip, finder, query, limit)?;
+    'cycles: for cycle in from..limit {
         match lowest_at(alloc, chip, finder, query, cycle, runs, tries)? {
             Sought::NoMoment => {}
             Sought::Found(found) => return Ok(Sought::Found(found)),

@@ -10,5 +10,5 @@ returns-clause-ahead c =
     let high = c.args.high.now in
     let there : p.cycle ≡ length c.args.rows.now = c.step_to.ensures.there ∙ c.len.ensures in
     pushed_ahead p low high c.args.rows.now c.push.new.self c.in_ok-row.row c.push.result
-    (still_ahead old p low high c.args.rows.now c.requires.ahead c.step_to.ensures.same there) there c.in_ok-row.ensures.row c.push.ensures.ok
+    (still_ahead old p low high c.args.rows.now c.requires.ahead c.step_to.ensures.same there) there c.requires.few c.in_ok-row.ensures.row c.push.ensures.ok
     c.push.ensures.err

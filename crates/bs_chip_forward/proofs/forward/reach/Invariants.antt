@@ -1,5 +1,5 @@
 use Rattle.std.proofs.Common.{◌≡◌, length}
-use Rattle.bs_chip_forward.specs.Forward.{IsForward}
+use Rattle.bs_chip_forward.specs.Forward.{Extended, IsForward}
 use Rattle.bs_chip.specs.Lockstep.{IsSamePass}
 use Rattle.bs_chip_forward.proofs.forward.reach.Given as goal
 
@@ -9,5 +9,6 @@ invariant-cycles l = record {
   low : l.low ≡ l.fn.low;
   high : l.high ≡ l.fn.high;
   ahead : IsForward l.pass l.fn.low l.fn.high l.rows;
+  grows : Extended l.fn.rows l.rows;
   count : length l.rows ≡ l.counter;
 }

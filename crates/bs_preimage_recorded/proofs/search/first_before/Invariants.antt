@@ -8,6 +8,7 @@ abbrev pub invariant-cycles : goal.invariant-cycles
 invariant-cycles l = record {
   chip : l.chip ≡ l.fn.chip;
   finder : l.finder ≡ l.fn.finder;
+  within : l.cycle ≤ l.limit;
   tried : l.fn.tries ≤ l.tries + l.cycle * length l.fn.chip.recording.runs;
   none : NoneBefore l.fn.chip.recording.circuit l.fn.chip.recording.runs
       (asked_in l.fn.chip.recording l.query.present.now l.query.stored.now (option_map (λ bits. bits.now) l.query.older)) l.cycle;

@@ -1,4 +1,4 @@
-use Rattle.std.proofs.Common.{◌∙◌, ◌≡◌, ap, sym, subst}
+use Rattle.std.proofs.Common.{◌≡◌, ap, sym, subst}
 use Rattle.bs_scan.specs.Crash.{Recording, IsRecording, recording_of}
 use Rattle.bs_scan.specs.Register.{Register}
 use Rattle.bs_scan.proofs.CrashLemmas.{recording_is}

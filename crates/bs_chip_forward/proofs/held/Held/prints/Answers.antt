@@ -1,4 +1,4 @@
-use Rattle.std.proofs.Common.{◌≤◌, ◌*◌, ℕ, List, ap, length, subst, sym}
+use Rattle.std.proofs.Common.{◌≤◌, ◌*◌, ℕ, List, ap, subst, sym}
 use Rattle.bs_net.specs.Netlist.{circuit}
 use Rattle.bs_lanes.specs.Lanes.{AreStepped}
 use Rattle.bs_lanes_planes.specs.Planes.{lane}
