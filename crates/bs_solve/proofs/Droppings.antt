@@ -1,17 +1,20 @@
 -- The stock after clauses have gone, and after they have moved.
-use Rattle.std.proofs.Common.{◌≡◌, ℕ, zero, suc, ◌<◌, ◌≤◌, arith, Bool, true}
+use Rattle.std.proofs.Common.{◌≡◌, ℕ, zero, suc, ◌+◌, ◌<◌, ◌≤◌, arith, Bool, true}
 use Rattle.std.proofs.Common.{false, not, ◌||◌, cond, List, [], ◌∷◌, map, length, take}
 use Rattle.std.proofs.Common.{refl, sym, ap, subst, ◌∙◌, inl, inr, Option, Some, None, eqb, get_or}
 use Rattle.std.specs.Prelude.{AllPairs, Contains, slice_get, is_some, option_map, unwrap_or, IsPermutation}
-use Rattle.std.specs.List.{filter, list_any}
+use Rattle.std.specs.List.{filter, list_any, sum}
+use Rattle.std.specs.Cmp.{both_ways}
 use Rattle.std.proofs.lemmas.Bool.{cases_Bool, cases_lt, cases_eq, false≢true, true≢false, eqb-true, eq-eqb, ne_eqb}
 use Rattle.std.proofs.lemmas.List.Elements.{All-contains}
+use Rattle.std.proofs.lemmas.List.Sums.{sum-map}
+use Rattle.std.proofs.lemmas.Simd.{map-map}
 use Rattle.std.proofs.lemmas.List.Sorted.{IsPermutation-refl}
 use Rattle.std.proofs.lemmas.Option.{get_or_from_slice_get}
-use Rattle.bs_clause.specs.Literal.{Literal, code_of}
+use Rattle.bs_clause.specs.Literal.{Literal, Clause, code_of}
 use Rattle.bs_log.specs.History.{Entry}
 use Rattle.bs_log.specs.Refusal.{entry_of, is_lemma_or_block}
-use Rattle.bs_arena.specs.Arena.{Held, held_at, literals_at, meaning}
+use Rattle.bs_arena.specs.Arena.{Held, held_at, literals_at, live_words, meaning}
 use Rattle.bs_arena.specs.Renaming.{new_name, IsRenaming}
 use Rattle.bs_watch.specs.declared.lists.Watcher.{Watcher}
 use Rattle.bs_watch.specs.Places.{Place, TrailState, renamed_place}
@@ -192,11 +195,6 @@ live_stays lists es before after stock less start ids refs watched s l r live wa
     let id : id_of before x.clause ≡ Some x.id = id_from_row before stock x l.held in_rows in
     let one : x.clause ≡ r = s.once x.clause r (id_is_live before x.clause x.id id) was (ap (λ o. unwrap_or o 0) id ∙ is) in
     false≢true (sym (ap is_some (l.killed.gone r (subst (Contains refs) one in_refs))) ∙ live))
-
-both_ways : (a b : Bool) → (a ≡ true → b ≡ true) → (b ≡ true → a ≡ true) → a ≡ b
-both_ways true b on off = sym (on refl)
-both_ways false true on off = off refl
-both_ways false false on off = refl
 
 -- a row's clause is live after the kills just where its entry stays
 row_alike : (lists : List (List Watcher)) (es : List Entry) (before after : List Held) (stock less : Stock) (start : ℕ) (ids refs : List ℕ)
@@ -660,3 +658,15 @@ not_compacted w clauses stock serves = record {
   levels = refl;
   stocked = λ es s. s;
 }
+
+-- ---- words
+
+-- clauses of the same meaning take as many words
+pub same_words : (after before : List Held) → map meaning after ≡ map meaning before → live_words after ≡ live_words before
+same_words after before same = by_meaning after ∙ ap (λ ms. sum (map words ms)) same ∙ sym (by_meaning before)
+  where
+    words : ℕ × Clause → ℕ
+    words m = length m.1 + 4
+
+    by_meaning : (hs : List Held) → live_words hs ≡ sum (map words (map meaning hs))
+    by_meaning hs = sym (sum-map (λ (h : Held). length h.literals + 4) hs) ∙ ap sum (sym (map-map words meaning hs))

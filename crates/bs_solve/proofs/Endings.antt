@@ -1,10 +1,10 @@
 -- The end of a step.
-use Rattle.std.proofs.Common.{◌≡◌, ℕ, suc, ◌≤◌, arith, Bool, true, false}
-use Rattle.std.proofs.Common.{not, cond, List, [], ◌∷◌, ◌++◌, map, length, take, refl, sym, ap, subst}
+use Rattle.std.proofs.Common.{◌≡◌, ℕ, ◌≤◌, arith, Bool, true, false}
+use Rattle.std.proofs.Common.{not, List, [], ◌∷◌, ◌++◌, map, length, take, sym, ap, subst}
 use Rattle.std.proofs.Common.{◌∙◌, inl, inr, Some, None, eqb}
 use Rattle.std.specs.Prelude.{All, Contains, count_by}
 use Rattle.std.specs.List.{filter, list_any}
-use Rattle.std.proofs.lemmas.Bool.{cases_Bool, false≢true, eq-eqb, ne_eqb}
+use Rattle.std.proofs.lemmas.Bool.{cases_Bool, false≢true}
 use Rattle.std.proofs.lemmas.List.{append-nil}
 use Rattle.std.proofs.lemmas.List.Elements.{All-contains, filter-append}
 use Rattle.std.proofs.lemmas.List.Sorted.{All-permutation}
@@ -22,16 +22,15 @@ use Rattle.bs_solve_reduction.specs.declared.selection.Leaving.{Leaving}
 use Rattle.bs_solve_reduction.specs.Keeping.{Ascends, AreKnown, goes, is_long_row}
 use Rattle.bs_solve_reduction.specs.Notes.{IsNoted}
 use Rattle.bs_solve_reduction.specs.Rows.{AreInOrder, AreRowsOf, AreRowsAmong, going}
-use Rattle.bs_solve_reduction.proofs.Deletions.{leaving_ids}
+use Rattle.bs_solve_reduction.proofs.Deletions.{leaving_ids, named}
 use Rattle.bs_solve_recording.specs.Book.{Book, next_id}
-use Rattle.bs_watch.proofs.Gets.{same_some, get_from_Contains, Contains_from_get}
-use Rattle.bs_solve_analysis.proofs.Clauses.{all_from, nothing_in, contains_cases, filter_cases, map_cases, map_contains}
+use Rattle.bs_watch.proofs.Gets.{some_at, same_some, Contains_from_get}
+use Rattle.bs_solve_analysis.proofs.Clauses.{all_from, filter_cases, map_cases, map_contains}
 use Rattle.bs_solve_recording.proofs.Entries.{found_stands, found_still}
 use Rattle.bs_solve_search.specs.declared.stock.Stock.{Stock}
 use Rattle.bs_solve_search.specs.Stock.{entries, is_live, id_in, IsStocked}
 use Rattle.bs_solve_search.specs.Ground.{IsGround}
 use Rattle.bs_solve_search.specs.Retiring.{HasRetired}
-use Rattle.bs_solve_search.proofs.Begins.{some_at}
 use Rattle.bs_solve_search.proofs.Grounds.{ground_low}
 use Rattle.bs_solve.proofs.Droppings.{any_cases}
 use Rattle.bs_solve_search.specs.Teaching.{IsAtRest}
@@ -62,18 +61,6 @@ unit_stands b w new before after stock more id guard neg rest h is fresh is_neg 
     (λ i. entries b ++ record { id = is i; origin = Retired; literals = is_neg i ∷ [] } ∷ []) (h.ground (entries b) fresh rest.stocked rest.ground)
 
 -- ---- what stands for good stays
-
--- where ids ascend, each entry is the one of its id
-found_self : (es : List Entry) (e : Entry) → AreInOrder es → Contains es e → entry_of es e.id ≡ Some e
-found_self [] e order there = absurd (nothing_in e there)
-found_self (x ∷ xs) e order there = elim (contains_cases x xs e there) [
-  | inl is ↦ ap (λ b. cond b (Some x) (entry_of xs e.id)) (eq-eqb x.id e.id (ap (λ (y : Entry). y.id) is)) ∙ ap Some is
-  | inr later ↦
-      let (k, at) = get_from_Contains xs e later in
-      let less = order.below 0 (suc k) x e (omega arith) refl at in
-      ap (λ b. cond b (Some x) (entry_of xs e.id)) (ne_eqb x.id e.id (λ same. (let l = less in omega (arith, l, same)))) ∙
-      found_self xs e (record { below = λ i j a b less_ij at_i at_j. order.below (suc i) (suc j) a b (omega (arith, less_ij)) at_i at_j }) later
-]
 
 retired_is_other : (e : Entry) → e.origin ≡ Retired → is_lemma_or_block e ≡ true → ⊥
 retired_is_other e is on = by e.origin is on
@@ -115,7 +102,7 @@ unit_stays b w clauses stock guard steps ids order s g ids_are = record {
             let in_marked = (filter_cases (λ x. not (is_kept b.problem steps (entries b ++ unit_of b guard ∷ []) x))
             (filter is_lemma_or_block (entries b ++ unit_of b guard ∷ [])) e in_going).0 in
             let marked_e = filter_cases is_lemma_or_block (entries b) e (subst (λ xs. Contains xs e) (marked_unit (entries b) b guard) in_marked) in
-            let found = found_still (entries b) (unit_of b guard ∷ []) e.id e (found_self (entries b) e order marked_e.0) in
+            let found = found_still (entries b) (unit_of b guard ∷ []) e.id e (named (entries b) e order marked_e.0) in
             let same : e ≡ u.entry = same_some e u.entry (sym found ∙
             ap (entry_of (entries b ++ unit_of b guard ∷ [])) (is ∙ ap (id_in clauses) (sym one)) ∙ u.found) in
             retired_is_other e (ap (λ (x : Entry). x.origin) same ∙ u.retired) marked_e.1),

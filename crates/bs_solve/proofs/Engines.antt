@@ -36,7 +36,7 @@ use Rattle.bs_solve_recording.specs.Ending.{SomeLemmas}
 use Rattle.bs_solve_recording.specs.Search.{assumed}
 use Rattle.bs_solve_recording.specs.Stages.{is_begun, is_solved, stage_of, begun_book, IsIdle, IsInside, Fits}
 use Rattle.bs_solve_recording.specs.Solver.{SolverState, IsReady, MaySolve, finished, retired, leaving}
-use Rattle.bs_solve_recording.proofs.CallerLemmas.{begun_vars, begun_clauses}
+use Rattle.bs_solve_recording.proofs.CallerLemmas.{begun_vars, begun_clauses, finished_problem, without_problem}
 use Rattle.bs_solve_recording.proofs.Solving.{begun_stands, begun_assumptions, begun_inside, begun_phase}
 use Rattle.bs_solve_recording.proofs.Leavings.{leaves_begun}
 use Rattle.bs_watch.proofs.Gets.{get_from_Contains, get_map_cases, get_within}
@@ -249,10 +249,6 @@ finished_step : (b : Book) (end : Option ℕ) → step_of (finished b end).histo
 finished_step b None = refl
 finished_step b (Some id) = refl
 
-finished_problem : (b : Book) (end : Option ℕ) → (finished b end).problem ≡ b.problem
-finished_problem b None = refl
-finished_problem b (Some id) = refl
-
 finished_next : (b : Book) (end : Option ℕ) (guard : Literal) → unit_of (finished b end) guard ≡ unit_of b guard
 finished_next b None guard = refl
 finished_next b (Some id) guard = refl
@@ -311,10 +307,6 @@ left_last : (fin : Book) (ids : List ℕ) → StepsLeaveKept (without (retired f
 left_last fin [] leaves = leaves.0
 left_last fin (id ∷ ids) leaves = leaves.0
 
-without_vars : (b : Book) (ids : List ℕ) → (without b ids).problem ≡ b.problem
-without_vars b [] = refl
-without_vars b (id ∷ ids) = refl
-
 pub engine_ended : (old : SolverState) (fin ret new : Book) (end : Option ℕ) (guard : Literal) (ids : List ℕ) (steps : ℕ) (w empty mid now : WatchState)
     (a : Content) (between : List Held) (after : Content) (stock held less : Stock) (marks : MarkState) (own : ℕ) (known later : Known) →
     IsEngine old w a stock marks own known → old.failed ≡ false → IsInside old.book old.vars → is_solved old.stage ≡ true →
@@ -338,9 +330,9 @@ engine_ended old fin ret new end guard ids steps w empty mid now a between after
     let same_step : steps ≡ step_of fin.history = steps_is ∙ guards_are old.book old.vars own inside (e.own_is well) ∙
     sym (ap (λ (x : Book). step_of x.history) is_fin ∙ finished_step old.book end) in
     let kept = left_last fin ids (subst (λ (x : Book). StepsLeaveKept x.problem x.history) new_is (ready.leaves refl)) in
-    let problem : new.problem ≡ fin.problem = ap (λ (x : Book). x.problem) new_is ∙ without_vars (retired fin) ids in
+    let problem : new.problem ≡ fin.problem = ap (λ (x : Book). x.problem) new_is ∙ without_problem (retired fin) ids in
     let here : live fin.problem (without (retired fin) ids).history ≡ entries new =
-    ap (λ p. live p (without (retired fin) ids).history) (sym (without_vars (retired fin) ids)) ∙ ap entries (sym new_is) in
+    ap (λ p. live p (without (retired fin) ids).history) (sym (without_problem (retired fin) ids)) ∙ ap entries (sym new_is) in
     record {
       whole = record {
         ready = ready;

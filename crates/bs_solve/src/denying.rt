@@ -1,5 +1,6 @@
 //! A lemma that ends a step at once: what follows from clauses alone denies an assumption.
 ghost use Rattle.std.specs.Prelude.{◌≡◌, ◌+◌, IfOk, IfSome, Some, slice_get};
+ghost use Rattle.std.specs.Bool.{OnTrue};
 ghost use Rattle.bs_clause.specs.Literal.{negation};
 ghost use Rattle.bs_watch.specs.Places.{IsLiteralAt};
 ghost use Rattle.bs_solve_analysis.specs.Marks.{IsClear};
@@ -7,7 +8,7 @@ ghost use Rattle.bs_solve.specs.Denying.{AreRooted, IsDeniedBy, Denies};
 
 use crate::starting::Standing;
 use bs_bits::List;
-use bs_clause::{Lit, Lits, NoMemory};
+use bs_clause::{Lit, Lits, NoMemory, is_same};
 use bs_solve_analysis::{Marks, from_forced};
 use bs_solve_search::ids_of;
 use bs_watch::Watch;
@@ -27,19 +28,26 @@ pub struct Denied {
     pub at: usize,
 }
 
-// The last place of a literal on a trail.
-fn place_of(trail: &[Lit], l: Lit) -> Option<usize>
+// Whether a trail has the literal in this place.
+fn is_at(trail: &[Lit], at: usize, l: Lit) -> bool
+    ensures { OnTrue result (slice_get trail.now at ≡ Some l) }
+{
+    if at >= trail.len() {
+        return false;
+    }
+    is_same(trail[at], l)
+}
+
+// The place of a literal on a trail, where the places of variables have it.
+fn place_of(trail: &[Lit], places: &[u32], l: Lit) -> Option<usize>
     ensures { IfSome result (λ at. slice_get trail.now at ≡ Some l) }
 {
-    let mut left = trail.len();
-    'places: while left > 0 {
-        left -= 1;
-        let same = trail[left].code() == l.code();
-        if same {
-            return Some(left);
-        }
+    let variable = l.var().0 as usize;
+    if variable >= places.len() {
+        return None;
     }
-    None
+    let at = places[variable] as usize;
+    if is_at(trail, at, l) { Some(at) } else { None }
 }
 
 // Whether the literal is false.
@@ -54,24 +62,24 @@ fn is_false(watch: &Watch, l: Lit) -> bool {
 }
 
 // The place of the literal's negation, if the literal is false.
-fn denied_at(watch: &Watch, l: Lit) -> Option<usize>
+fn denied_at(watch: &Watch, places: &[u32], l: Lit) -> Option<usize>
     ensures { IfSome result (λ at. IsLiteralAt watch.now.trail.places at (negation l)) }
 {
     if !is_false(watch, l) {
         return None;
     }
-    place_of(watch.trail(), l.negate())
+    place_of(watch.trail(), places, l.negate())
 }
 
 // The last of the assumptions whose negation is true.
-fn last_denied(watch: &Watch, assumptions: &[Lit]) -> Option<Denied>
+fn last_denied(watch: &Watch, places: &[u32], assumptions: &[Lit]) -> Option<Denied>
     ensures { IfSome result (IsDeniedBy watch.now.trail.places assumptions.now) }
 {
     let mut left = assumptions.len();
     'assumptions: while left > 0 {
         left -= 1;
         let literal = assumptions[left];
-        match denied_at(watch, literal) {
+        match denied_at(watch, places, literal) {
             Some(at) => {
                 return Some(Denied {
                     literal: literal.negate(),
@@ -82,6 +90,11 @@ fn last_denied(watch: &Watch, assumptions: &[Lit]) -> Option<Denied>
         }
     }
     None
+}
+
+// The place of each variable.
+fn places_of(rooted: &Standing) -> &[u32] {
+    rooted.places.as_slice()
 }
 
 // The lemma of a literal that follows from the clauses alone.
@@ -129,7 +142,7 @@ pub fn find_denial(
     ensures denies { IfOk result (λ d. IfSome d (Denies clauses.now assumptions.now)) }
     ensures clear { IfOk result (λ _. IsClear (rooted.now.watch.trail.vars + 1) marks.new) }
 {
-    match last_denied(&rooted.watch, assumptions) {
+    match last_denied(&rooted.watch, places_of(rooted), assumptions) {
         None => Ok(None),
         Some(denied) => {
             let found = denial_by(alloc, clauses, rooted, marks, assumptions, denied)?;

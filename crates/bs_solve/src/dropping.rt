@@ -29,7 +29,8 @@ pub fn drop_leaving(watch: &mut Watch, arena: &mut Arena, stock: &mut Stock, lea
     requires range { All (λ row. HasVariables watch.old.trail.vars (literals_at arena.old.clauses row.clause)) stock.old.rows.items }
     requires short { All (λ r. is_some (held_at arena.old.clauses r) ≡ true) stock.old.shorts.items }
     requires gone { GoBy arena.old.clauses stock.old.rows.items leaving.now.start leaving.now.ids leaving.now.clauses.items leaving.now.watched.items }
-    ensures { HasDropped watch.old watch.new arena.old.clauses arena.new.clauses stock.old stock.new leaving.now.start leaving.now.ids }
+    ensures dropped { HasDropped watch.old watch.new arena.old.clauses arena.new.clauses stock.old stock.new leaving.now.start leaving.now.ids }
+    ensures words { arena.new.words ≡ arena.old.words }
 {
     arena.holds_clauses();
     let stand = watch.trail().len();
@@ -54,6 +55,8 @@ pub fn compact_where_due(
     requires room { length arena.old.clauses ≤ renaming.old.spare }
     ensures moved { HasCompacted watch.old watch.new arena.old.clauses arena.new.clauses stock.old stock.new }
     ensures words { arena.new.words ≤ 2 * live_words arena.new.clauses }
+    ensures live { live_words arena.new.clauses ≡ live_words arena.old.clauses }
+    ensures spared { arena.old.words ≤ 2 * live_words arena.old.clauses → arena.new ≡ arena.old }
 {
     arena.holds_clauses();
     let dead = arena.words() - arena.live();

@@ -53,8 +53,8 @@ pub fn prepare(
     Ok(leaving)
 }
 
-/// What is leaving goes, and the arena keeps at most twice the words of its live clauses. It takes no memory, and answers what
-/// is known of the lemmas that stay.
+/// What is leaving goes, and the arena keeps at most twice the words of its live clauses, which move only where it would have
+/// more. It takes no memory, and answers what is known of the lemmas that stay.
 pub fn settle(
     watch: &mut Watch,
     arena: &mut Arena,
@@ -72,6 +72,7 @@ pub fn settle(
     requires some { IsSomeSettling guards.own guards.steps known watch.old arena.old.clauses stock.old }
     ensures settled { HasSettled guards.own guards.steps watch.old watch.new arena.old.clauses arena.new.clauses stock.old stock.new leaving.now.ids result }
     ensures words { arena.new.words ≤ 2 * live_words arena.new.clauses }
+    ensures spared { arena.old.words ≤ 2 * live_words arena.new.clauses → arena.new.words ≡ arena.old.words }
 {
     arena.holds_clauses();
     drop_leaving(watch, arena, stock, leaving);

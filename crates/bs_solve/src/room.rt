@@ -1,4 +1,5 @@
-//! Room in the watch lists for the clauses that a solver is given, so that each list has its room at once and no more.
+//! What a solver counts of the clauses that it is given: room in the watch lists, so that each list has its room at once and no
+//! more, and how active each variable begins.
 ghost use Rattle.std.specs.Prelude.{◌≡◌, ◌^◌, ◌<◌, [], length, IfOk};
 ghost use Rattle.bs_watch.specs.Watch.{HasNone, ServesAll};
 
@@ -53,7 +54,29 @@ fn make_room(alloc: Global, watch: &mut Watch, clauses: &[Lits]) -> Result<(), N
     reserve_all(watch, &counts)
 }
 
-/// An empty trail over the variables 1 to `vars`, and no attached clause, with room in the watch lists for these ones.
+/// Bumps the variables of a clause, those that the watch has.
+fn rank_clause(watch: &mut Watch, lits: &[Lit])
+    ensures { watch.new ≡ watch.old }
+{
+    'literals: for l in lits {
+        let variable = l.var();
+        if variable.0 <= watch.vars() {
+            watch.bump(variable);
+        }
+    }
+}
+
+/// Variables begin as active as they have literals in the clauses: a search decides those first that most clauses have.
+fn rank_all(watch: &mut Watch, clauses: &[Lits])
+    ensures { watch.new ≡ watch.old }
+{
+    'clauses: for clause in clauses {
+        rank_clause(watch, clause.slice());
+    }
+}
+
+/// An empty trail over the variables 1 to `vars`, and no attached clause, with room in the watch lists for these ones, of whose
+/// variables those are decided first that most of them have.
 pub fn roomy_watch(alloc: Global, vars: u32, clauses: &[Lits]) -> Result<Watch, NoMemory>
     requires { vars < 2 ^ 30 }
     ensures vars { IfOk result (λ w. w.trail ≡ record { vars = vars; places = [] }) }
@@ -63,5 +86,6 @@ pub fn roomy_watch(alloc: Global, vars: u32, clauses: &[Lits]) -> Result<Watch, 
 {
     let mut watch = Watch::new(alloc, vars)?;
     make_room(alloc, &mut watch, clauses)?;
+    rank_all(&mut watch, clauses);
     Ok(watch)
 }

@@ -10,7 +10,7 @@ ghost use Rattle.bs_solve.specs.Denying.{AreRooted};
 
 use crate::starting::{Standing, filled};
 use bs_arena::Arena;
-use bs_clause::{Lits, NoMemory};
+use bs_clause::{Lit, Lits, NoMemory};
 use bs_solve_search::{Stock, lay, propagate};
 use bs_watch::Watch;
 use std::alloc::Global;
@@ -35,7 +35,25 @@ fn root(
     Ok(())
 }
 
-/// Clauses under the ids 1, 2, 3 and so on, over the variables 1 to `vars`, with what follows from them alone.
+// Notes the place of each literal of a trail under its variable.
+fn note_places(places: &mut Vec<u32>, trail: &[Lit]) {
+    for at in 0..trail.len() {
+        let variable = trail[at].var().0 as usize;
+        if variable < places.len() {
+            places[variable] = (at % 0x1_0000_0000) as u32;
+        }
+    }
+}
+
+// The place of each variable on a trail, and 0 for those that are not there.
+fn places_on(alloc: Global, trail: &[Lit], vars: u32) -> Result<Vec<u32>, NoMemory> {
+    let mut places = vec![in alloc; 0u32; vars as usize + 1]?;
+    note_places(&mut places, trail);
+    Ok(places)
+}
+
+/// Clauses under the ids 1, 2, 3 and so on, over the variables 1 to `vars`, with what follows from them alone, and the place
+/// of each variable on the trail.
 pub fn rooted(alloc: Global, vars: u32, clauses: &[Lits]) -> Result<Standing, NoMemory>
     requires vars { vars < 2 ^ 30 }
     requires range { All (HasVariables vars) clauses.now }
@@ -50,5 +68,6 @@ pub fn rooted(alloc: Global, vars: u32, clauses: &[Lits]) -> Result<Standing, No
         &mut standing.arena,
         &standing.stock,
     )?;
+    standing.places = places_on(alloc, standing.watch.trail(), vars)?;
     Ok(standing)
 }

@@ -56,7 +56,7 @@ reasoned_free clauses places p free w = reasoned_push clauses places p w (λ r i
 
 -- ---- the clauses change
 
-forces_permuted : (trail : List Literal) (c d : Clause) (l : Literal) → IsPermutation c d → Forces trail c l → Forces trail d l
+pub forces_permuted : (trail : List Literal) (c d : Clause) (l : Literal) → IsPermutation c d → Forces trail c l → Forces trail d l
 forces_permuted trail c d l same f = record {
   stands = Contains-permutation c d l same f.stands;
   unassigned = f.unassigned;

@@ -1,5 +1,5 @@
 -- Literals of clauses: filters, distinct variables, membership.
-use Rattle.std.proofs.Common.{◌≡◌, ◌≢◌, ℕ, zero, suc, ◌<◌, arith, Bool, true, false, not, ◌||◌, cond, List, [], ◌∷◌, ◌++◌, map, get_or, refl, sym, ap}
+use Rattle.std.proofs.Common.{◌≡◌, ◌≢◌, ℕ, zero, suc, arith, Bool, true, false, not, ◌||◌, cond, List, [], ◌∷◌, ◌++◌, get_or, refl, sym, ap}
 use Rattle.std.proofs.Common.{subst, ◌∙◌, inl, inr, ◌⊎◌, eqb}
 use Rattle.std.specs.Prelude.{All, Any, Contains}
 use Rattle.std.specs.List.{list_any, list_all, filter}
@@ -9,20 +9,8 @@ use Rattle.bs_clause.specs.Literal.{Literal, Clause, negation, same_literal, has
 use Rattle.bs_clause.specs.Resolvent.{resolvent, without, once, news}
 use Rattle.bs_clause.proofs.Literals.{same_literal-true}
 use Rattle.bs_log.specs.Refusal.{has_distinct_variables}
+pub use Rattle.bs_watch.proofs.Members.{nothing_in, contains_first, cons_contains, contains_cases, map_cases, map_contains, filter_cases, filter_from}
 use Rattle.bs_solve_analysis.proofs.Literals.{Contains-from_has, same_literal-refl}
-
-pub nothing_in : {X : Type 0} (x : X) → ¬ Contains [] x
-nothing_in x c = let h : c.0 < 0 = c.1 in omega arith
-
-pub cons_contains : {X : Type 0} (x : X) (xs : List X) (y : X) → Contains xs y → Contains (x ∷ xs) y
-cons_contains x xs y c = (suc c.0, omega (arith, c.1), c.2)
-
-pub contains_first : {X : Type 0} (x : X) (xs : List X) → Contains (x ∷ xs) x
-contains_first x xs = (0, omega arith, refl)
-
-pub contains_cases : {X : Type 0} (x : X) (xs : List X) (y : X) → Contains (x ∷ xs) y → (x ≡ y) ⊎ Contains xs y
-contains_cases x xs y (zero, h, e) = inl e
-contains_cases x xs y (suc k, h, e) = inr (k, omega (arith, h), e)
 
 pub all_from : {X : Type 0} (P : X → Type 0) (xs : List X) → ((x : X) → Contains xs x → P x) → All P xs
 all_from P xs f = λ k d h. f (get_or xs k d) (Contains-get_or xs k d h)
@@ -40,28 +28,6 @@ any_first P x xs p = (0, x, omega arith, refl, p)
 
 pub any_later : {X : Type 0} (P : X → Type 0) (x : X) (xs : List X) → Any P xs → Any P (x ∷ xs)
 any_later P x xs (k, y, h, e, p) = (suc k, y, omega (arith, h), e, p)
-
-pub filter_cases : {X : Type 0} (q : X → Bool) (xs : List X) (y : X) → Contains (filter q xs) y → Contains xs y × (q y ≡ true)
-filter_cases q [] y c = absurd (nothing_in y c)
-filter_cases q (x ∷ xs) y c = by (q x) refl c (filter_cases q xs y)
-  where
-    by : (b : Bool) → q x ≡ b → Contains (cond b (x ∷ filter q xs) (filter q xs)) y → (Contains (filter q xs) y → Contains xs y × (q y ≡ true)) →
-        Contains (x ∷ xs) y × (q y ≡ true)
-    by true e c rest = elim (contains_cases x (filter q xs) y c) [
-      | inl same ↦ (subst (Contains (x ∷ xs)) same (contains_first x xs), ap q (sym same) ∙ e)
-      | inr there ↦ let r = rest there in (cons_contains x xs y r.0, r.1)
-    ]
-    by false e c rest = let r = rest c in (cons_contains x xs y r.0, r.1)
-
-pub filter_from : {X : Type 0} (q : X → Bool) (xs : List X) (y : X) → Contains xs y → q y ≡ true → Contains (filter q xs) y
-filter_from q [] y c t = absurd (nothing_in y c)
-filter_from q (x ∷ xs) y c t = by (q x) refl (contains_cases x xs y c) (λ there. filter_from q xs y there t)
-  where
-    by : (b : Bool) → q x ≡ b → (x ≡ y) ⊎ Contains xs y → (Contains xs y → Contains (filter q xs) y) → Contains (cond b (x ∷ filter q xs) (filter q xs)) y
-    by true e (inl same) rest = subst (Contains (x ∷ filter q xs)) same (contains_first x (filter q xs))
-    by true e (inr there) rest = cons_contains x (filter q xs) y (rest there)
-    by false e (inl same) rest = absurd (false≢true (sym e ∙ ap q same ∙ t))
-    by false e (inr there) rest = rest there
 
 -- ---- equal literals
 
@@ -183,20 +149,6 @@ distinct_append (x ∷ xs) ys dx dy f =
 -- a literal of no variable of the list
 pub has_none : (xs : Clause) (l : Literal) → ((m : Literal) → Contains xs m → m.variable ≢ l.variable) → has_literal xs l ≡ false
 has_none xs l f = false_from_ne_true (has_literal xs l) (λ t. f l (Contains-from_has xs l t) refl)
-
-pub map_cases : {X Y : Type 0} (f : X → Y) (xs : List X) (y : Y) → Contains (map f xs) y → (x : X) × Contains xs x × (f x ≡ y)
-map_cases f [] y c = absurd (nothing_in y c)
-map_cases f (x ∷ xs) y c = elim (contains_cases (f x) (map f xs) y c) [
-  | inl same ↦ (x, contains_first x xs, same)
-  | inr there ↦ let r = map_cases f xs y there in (r.0, cons_contains x xs r.0 r.1, r.2)
-]
-
-pub map_contains : {X Y : Type 0} (f : X → Y) (xs : List X) (x : X) → Contains xs x → Contains (map f xs) (f x)
-map_contains f [] x c = absurd (nothing_in x c)
-map_contains f (y ∷ xs) x c = elim (contains_cases y xs x c) [
-  | inl same ↦ subst (λ z. Contains (f y ∷ map f xs) (f z)) same (contains_first (f y) (map f xs))
-  | inr there ↦ cons_contains (f y) (map f xs) (f x) (map_contains f xs x there)
-]
 
 pub distinct_once : (c : Clause) → has_distinct_variables c ≡ true → has_distinct_variables (once c) ≡ true
 distinct_once [] d = refl

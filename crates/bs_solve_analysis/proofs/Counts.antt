@@ -14,9 +14,6 @@ get_drop (suc n) (x ∷ xs) k = get_drop n xs k ∙ ap (slice_get (x ∷ xs)) (l
 abbrev digit : Bool → ℕ
 digit b = cond b 1 0
 
-count_cons : {X : Type 0} (f : X → Bool) (x : X) (xs : List X) → count_by f (x ∷ xs) ≡ digit (f x) + count_by f xs
-count_cons f x xs = sum_by-cons (λ y. cond (f y) 1 0) x xs
-
 at_most_one : (b : Bool) → digit b ≤ 1
 at_most_one true = omega arith
 at_most_one false = omega arith
@@ -26,14 +23,14 @@ count_same f g [] same = refl
 count_same f g (x ∷ xs) same =
     let here : digit (f x) ≡ digit (g x) = ap digit (same 0 x refl) in
     let rest : count_by f xs ≡ count_by g xs = count_same f g xs (λ k y at. same (suc k) y at) in
-    omega (arith, here, rest, count_cons f x xs, count_cons g x xs)
+    omega (arith, here, rest, sum_by-cons (λ z. digit (f z)) x xs, sum_by-cons (λ z. digit (g z)) x xs)
 
 pub count_none : {X : Type 0} (f : X → Bool) (xs : List X) → ((x : X) → f x ≡ false) → count_by f xs ≡ 0
 count_none f [] off = refl
 count_none f (x ∷ xs) off =
     let here : digit (f x) ≡ 0 = ap digit (off x) in
     let rest : count_by f xs ≡ 0 = count_none f xs off in
-    omega (arith, here, rest, count_cons f x xs)
+    omega (arith, here, rest, sum_by-cons (λ z. digit (f z)) x xs)
 
 -- one element is counted more
 pub count_one : {X : Type 0} (f g : X → Bool) (xs : List X) (k : ℕ) (x : X) → slice_get xs k ≡ Some x → f x ≡ false → g x ≡ true →
@@ -44,18 +41,18 @@ count_one f g (y ∷ xs) zero x e off on same =
     let rest : count_by f xs ≡ count_by g xs = count_same f g xs (λ j z at. same (suc j) z at (λ (c : suc j ≡ 0). omega (arith, c))) in
     let here : digit (g y) ≡ 1 = ap digit (ap g is ∙ on) in
     let before : digit (f y) ≡ 0 = ap digit (ap f is ∙ off) in
-    omega (arith, rest, here, before, count_cons f y xs, count_cons g y xs)
+    omega (arith, rest, here, before, sum_by-cons (λ z. digit (f z)) y xs, sum_by-cons (λ z. digit (g z)) y xs)
 count_one f g (y ∷ xs) (suc k) x e off on same =
     let rest : count_by g xs ≡ suc (count_by f xs) =
     count_one f g xs k x e off on (λ j z at d. same (suc j) z at (λ (c : suc j ≡ suc k). d (let r : j ≡ k = omega (arith, c) in r))) in
     let here : digit (f y) ≡ digit (g y) = ap digit (same 0 y refl (λ (c : 0 ≡ suc k). omega (arith, c))) in
-    omega (arith, rest, here, count_cons f y xs, count_cons g y xs)
+    omega (arith, rest, here, sum_by-cons (λ z. digit (f z)) y xs, sum_by-cons (λ z. digit (g z)) y xs)
 
 pub count_some : {X : Type 0} (f : X → Bool) (xs : List X) (k : ℕ) (x : X) → slice_get xs k ≡ Some x → f x ≡ true → 0 < count_by f xs
 count_some f [] k x e t = absurd (none_is_not_some x e)
 count_some f (y ∷ xs) zero x e t =
-    let here : digit (f y) ≡ 1 = ap digit (ap f (same_some y x e) ∙ t) in omega (arith, here, count_cons f y xs)
-count_some f (y ∷ xs) (suc k) x e t = let rest : 0 < count_by f xs = count_some f xs k x e t in omega (arith, rest, count_cons f y xs)
+    let here : digit (f y) ≡ 1 = ap digit (ap f (same_some y x e) ∙ t) in omega (arith, here, sum_by-cons (λ z. digit (f z)) y xs)
+count_some f (y ∷ xs) (suc k) x e t = let rest : 0 < count_by f xs = count_some f xs k x e t in omega (arith, rest, sum_by-cons (λ z. digit (f z)) y xs)
 
 -- an element that passes
 pub record Passing {X : Type 0} (f : X → Bool) (xs : List X) : Type 0 where
@@ -73,7 +70,7 @@ count_first f (y ∷ xs) h = elim (cases_Bool (f y)) [
   | inl t ↦ record { at = 0; value = y; there = refl; passes = t }
   | inr off ↦
       let here : digit (f y) ≡ 0 = ap digit off in
-      later f y xs (count_first f xs (omega (arith, h, here, count_cons f y xs)))
+      later f y xs (count_first f xs (omega (arith, h, here, sum_by-cons (λ z. digit (f z)) y xs)))
 ]
 
 -- another one than that at a place
@@ -84,13 +81,13 @@ pub record OtherPassing {X : Type 0} (f : X → Bool) (xs : List X) (i : ℕ) : 
 pub count_other : {X : Type 0} (f : X → Bool) (xs : List X) (i : ℕ) → 1 < count_by f xs → OtherPassing f xs i
 count_other f [] i h = absurd (omega (arith, h))
 count_other f (y ∷ xs) zero h =
-    let p : Passing f xs = count_first f xs (omega (arith, h, at_most_one (f y), count_cons f y xs)) in
+    let p : Passing f xs = count_first f xs (omega (arith, h, at_most_one (f y), sum_by-cons (λ z. digit (f z)) y xs)) in
     record { one = record { at = suc p.at; value = p.value; there = p.there; passes = p.passes }; apart = λ c. omega (arith, c) }
 count_other f (y ∷ xs) (suc i) h = elim (cases_Bool (f y)) [
   | inl t ↦ record { one = record { at = 0; value = y; there = refl; passes = t }; apart = λ c. omega (arith, c) }
   | inr off ↦
       let here : digit (f y) ≡ 0 = ap digit off in
-      let r : OtherPassing f xs i = count_other f xs i (omega (arith, h, here, count_cons f y xs)) in
+      let r : OtherPassing f xs i = count_other f xs i (omega (arith, h, here, sum_by-cons (λ z. digit (f z)) y xs)) in
       record {
         one = record { at = suc r.one.at; value = r.one.value; there = r.one.there; passes = r.one.passes };
         apart = λ c. r.apart (let e : r.one.at ≡ i = omega (arith, c) in e);
@@ -105,11 +102,11 @@ count_pair f (z ∷ xs) zero zero x y a b t u d = absurd (d refl)
 count_pair f (z ∷ xs) zero (suc j) x y a b t u d =
     let here : digit (f z) ≡ 1 = ap digit (ap f (same_some z x a) ∙ t) in
     let rest : 0 < count_by f xs = count_some f xs j y b u in
-    omega (arith, here, rest, count_cons f z xs)
+    omega (arith, here, rest, sum_by-cons (λ z. digit (f z)) z xs)
 count_pair f (z ∷ xs) (suc i) zero x y a b t u d =
     let here : digit (f z) ≡ 1 = ap digit (ap f (same_some z y b) ∙ u) in
     let rest : 0 < count_by f xs = count_some f xs i x a t in
-    omega (arith, here, rest, count_cons f z xs)
+    omega (arith, here, rest, sum_by-cons (λ z. digit (f z)) z xs)
 count_pair f (z ∷ xs) (suc i) (suc j) x y a b t u d =
     let rest : 1 < count_by f xs = count_pair f xs i j x y a b t u (λ e. d (ap suc e)) in
-    omega (arith, rest, count_cons f z xs)
+    omega (arith, rest, sum_by-cons (λ z. digit (f z)) z xs)

@@ -5,6 +5,7 @@ pub mod Others
 pub mod Derivations
 pub mod Chains
 pub mod Shuffles
+pub mod Fronts
 pub mod Walkable
 pub mod Walks
 pub mod Moving

@@ -23,7 +23,8 @@ use Rattle.bs_solve_analysis.proofs.Clauses.{nothing_in, cons_contains, contains
 use Rattle.bs_solve_analysis.proofs.Clauses.{resolvent_left, distinct_cons}
 use Rattle.bs_watch.proofs.Literals.{negation-negation}
 use Rattle.bs_solve_analysis.proofs.Counts.{get_drop, count_same, count_none, count_one}
-use Rattle.bs_solve_analysis.proofs.Walks.{true_at_end, place_of, false_same, walk_start, walk_past, walk_step, walk_end}
+use Rattle.bs_solve_analysis.proofs.Fronts.{true_at_end, place_of}
+use Rattle.bs_solve_analysis.proofs.Walks.{false_same, walk_start, walk_past, walk_step, walk_end}
 
 -- ---- the marks of a clause
 
@@ -118,7 +119,7 @@ record Behind (places : List Place) (start : ℕ) (m : Literal) : Type 0 where
 behind : (places : List Place) (start : ℕ) (m : Literal) → IsFalseOn (literals_of places) m →
     has_literal (literals_of (take start places)) (negation m) ≡ false → Behind places start m
 behind places start m f absent_yet =
-    let (k, p, at, is) = place_of places (negation m) f in
+    let (k, p, at, is) = place_of (λ (x : Place). x.literal) places (negation m) f in
     elim (cases_lt k start) [
       | inr past ↦ record { at = k; place = p; low = past; there = at; is = is }
       | inl before ↦ absurd (absent (literals_of (take start places)) (negation m) absent_yet
@@ -153,7 +154,7 @@ count_marked s m places start apart within known = by (is_marked s m) refl
 
     before : has_literal (literals_of (take start places)) (negation m) ≡ true → marks_in (added s m) (drop start places) ≡ marks_in s (drop start places)
     before has =
-        let (k, p, at, is) = place_of (take start places) (negation m) (Contains-from_has (literals_of (take start places)) (negation m) has) in
+        let (k, p, at, is) = place_of (λ (x : Place). x.literal) (take start places) (negation m) (Contains-from_has (literals_of (take start places)) (negation m) has) in
         let early = get_take start places k p at in
         sym (count_same (λ (x : Place). is_marked s x.literal) (λ (x : Place). is_marked (added s m) x.literal) (drop start places)
         (λ j q there. others q.literal (λ same.
@@ -184,7 +185,7 @@ pub count_unmarked : (s : MarkState) (pivot : Literal) (places : List Place) (st
     is_marked s pivot ≡ true →
     Contains (literals_of (drop start places)) pivot → marks_in s (drop start places) ≡ suc (marks_in (unmarked s pivot) (drop start places))
 count_unmarked s pivot places start apart within is_set there =
-    let (k, p, at, is) = place_of (drop start places) pivot there in
+    let (k, p, at, is) = place_of (λ (x : Place). x.literal) (drop start places) pivot there in
     flag_counts (unmarked s pivot) s places start (start + k) p pivot apart (omega arith) (sym (get_drop start places k) ∙ at)
     (ap (λ (x : Literal). x.variable) is)
     (get_or-set_same s.flags pivot.variable false false within) is_set (λ l other. get_or-set_other s.flags pivot.variable l.variable false false other)
@@ -374,7 +375,7 @@ mark_step clauses places i s now hints p r c vars sound w at is there distinct r
     reason_false : (l : Literal) → Contains c l → l ≢ p.literal → IsFalseOn (literals_of places) l
     reason_false l in_c other = elim (All-contains (λ x. (x ≡ p.literal) ⊎ IsFalseOn (literals_of (take i places)) x) c l forces.others in_c) [
       | inl same ↦ absurd (other same)
-      | inr f ↦ true_at_end places i (negation l) f
+      | inr f ↦ true_at_end (λ (x : Place). x.literal) places i (negation l) f
     ]
 
     apart : (l : Literal) → Contains next l → l.variable ≢ pivot.variable

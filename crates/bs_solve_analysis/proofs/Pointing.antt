@@ -19,11 +19,11 @@ use Rattle.bs_solve_analysis.specs.Point.{IsFirstPoint, IsLastDecision, IsUnforc
 use Rattle.bs_solve_analysis.specs.Marks.{MarkState, is_marked, marks_in, IsClear, HasMarked, HasTraded}
 use Rattle.bs_watch.proofs.Gets.{same_some, get_take, take_get, Contains_from_get, get_map}
 use Rattle.bs_solve_analysis.proofs.Literals.{absent, Contains-from_has}
-use Rattle.bs_solve_analysis.proofs.Walkable.{IsClauseAt, IsWalkable, one_place, live_contains}
+use Rattle.bs_solve_analysis.proofs.Walkable.{IsClauseAt, IsWalkable, live_contains}
 use Rattle.bs_solve_analysis.proofs.Clauses.{cons_contains, contains_first, all_from, resolvent_cases}
 use Rattle.bs_watch.proofs.Literals.{negation-negation}
 use Rattle.bs_solve_analysis.proofs.Counts.{get_drop, OtherPassing, count_some, count_first, count_other, count_pair}
-use Rattle.bs_solve_analysis.proofs.Walks.{place_of, true_at_end}
+use Rattle.bs_solve_analysis.proofs.Fronts.{place_of, true_at_end, one_place}
 use Rattle.bs_solve_analysis.proofs.Points.{true_split, false_before}
 use Rattle.bs_solve_analysis.proofs.Ways.{WayFrom, way_start, way_past, way_step, bypass}
 use Rattle.bs_solve_analysis.proofs.MarkWalks.{MarkWalk, denied_at, mark_start, mark_past, mark_step, at_drop, Taken}
@@ -45,9 +45,9 @@ pub marked_ahead : (clauses : List Held) (places : List Place) (down : ℕ) (s :
     is_marked s p.literal ≡ true → k < down
 marked_ahead clauses places down s hints k p sound w below at t =
     let (l, in_left, same) = w.known p.literal.variable t in
-    let (j, q, there, is) = place_of (take down places) (negation l) (All-contains (IsFalseOn (literals_of (take down places))) w.left l below in_left) in
+    let (j, q, there, is) = place_of (λ (x : Place). x.literal) (take down places) (negation l) (All-contains (IsFalseOn (literals_of (take down places))) w.left l below in_left) in
     let early = get_take down places j q there in
-    let one : j ≡ k = one_place clauses places sound j k q p early.1 at (ap (λ (x : Literal). x.variable) is ∙ same) in
+    let one : j ≡ k = one_place (λ (x : Place). x.literal) places (λ k p at. (sound.placed k p at).unassigned) j k q p early.1 at (ap (λ (x : Literal). x.variable) is ∙ same) in
     let before = early.0 in
     omega (arith, one, before)
 
@@ -119,7 +119,7 @@ point_start clauses places start vars at c s0 s hints ahead down sound there dis
       | inl all ↦ absurd (All-contains (λ x. ¬ IsConflict (literals_of (take start places)) x) (live_clauses clauses) c quiet.no_conflict
           (live_contains clauses at c there) all)
       | inr one ↦
-          let (k, p, at_k, is) = place_of places (negation one.0) (All-contains (IsFalseOn (literals_of places)) c one.0 conflict one.1) in
+          let (k, p, at_k, is) = place_of (λ (x : Place). x.literal) places (negation one.0) (All-contains (IsFalseOn (literals_of places)) c one.0 conflict one.1) in
           elim (cases_lt k start) [
             | inl before ↦ absurd (one.2 (Contains_from_get (literals_of (take start places)) k (negation one.0)
                 (get_map (λ (x : Place). x.literal) (take start places) k p (take_get start places k p before at_k) ∙ ap Some is)))
@@ -242,7 +242,7 @@ point_end clauses places conflict start down i vars s hints p lits sound e at on
     first = first;
     others = all_from (λ m. (m ≡ negation p.literal) ⊎ IsFalseOn (literals_of (take start places)) m) lits (λ m in_lits.
         let in_left = (t.same m).1 in_lits in
-        let (k, q, at_k, is) = place_of places (negation m) (All-contains (IsFalseOn (literals_of places)) w.walk.left m w.walk.walk.false_now in_left) in
+        let (k, q, at_k, is) = place_of (λ (x : Place). x.literal) places (negation m) (All-contains (IsFalseOn (literals_of places)) w.walk.left m w.walk.walk.false_now in_left) in
         elim (cases_lt k start) [
           | inl before ↦ inr (Contains_from_get (literals_of (take start places)) k (negation m)
               (get_map (λ (x : Place). x.literal) (take start places) k q (take_get start places k q before at_k) ∙ ap Some is))
@@ -392,7 +392,7 @@ reason_known clauses places i s p r sound at is on =
     elim (All-contains (λ x. (x ≡ p.literal) ⊎ IsFalseOn (literals_of (take i places)) x) f.0 m f.2.others in_c) as
     (λ _. (is_marked s m ≡ true) ⊎ IsFalseOn (literals_of places) m) [
       | inl same ↦ inl (ap (is_marked s) same ∙ on)
-      | inr false_m ↦ inr (true_at_end places i (negation m) false_m)
+      | inr false_m ↦ inr (true_at_end (λ (x : Place). x.literal) places i (negation m) false_m)
     ]))
 
 -- a place from a place on

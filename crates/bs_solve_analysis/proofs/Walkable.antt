@@ -1,15 +1,14 @@
 -- A trail whose reasons are right, as the walk reads it.
-use Rattle.std.proofs.Common.{◌≡◌, ◌≢◌, ℕ, ◌<◌, arith, Bool, true, false, cond, List, [], ◌∷◌, take, refl, sym, ap, subst, ◌∙◌, inl, inr, Some, eqb, ltb, ◌≤◌}
+use Rattle.std.proofs.Common.{◌≡◌, ℕ, ◌<◌, arith, Bool, true, false, cond, List, [], ◌∷◌, take, refl, ap, subst, ◌∙◌, inl, inr, Some, eqb, ltb, ◌≤◌}
 use Rattle.std.specs.Prelude.{Contains, slice_get, is_some, option_map, unwrap_or}
 use Rattle.std.specs.List.{find}
-use Rattle.std.proofs.lemmas.Bool.{false≢true, cases_lt, cases_eq, ltb-false}
+use Rattle.std.proofs.lemmas.Bool.{false≢true, cases_lt, ltb-false}
 use Rattle.bs_clause.specs.Literal.{Literal, Clause, negation}
 use Rattle.bs_arena.specs.Arena.{Held, held_at, literals_at}
 use Rattle.bs_watch.specs.Trail.{IsOpenOn, Forces}
 use Rattle.bs_watch.specs.Places.{Place, literals_of, AreApart, IsLevelOf}
 use Rattle.bs_watch.specs.Watch.{AreLevelled}
-use Rattle.bs_watch.proofs.Gets.{get_take, take_get, get_from_Contains, get_map_cases, get_map}
-use Rattle.bs_watch.proofs.TableLemmas.{open_apart as literal_apart}
+use Rattle.bs_watch.proofs.Gets.{get_take, get_from_Contains, get_map_cases}
 use Rattle.bs_watch.specs.declared.watch.Level.{Level}
 use Rattle.bs_solve_analysis.specs.Reasons.{live_clauses, IsReasoned, IsBelowLevels}
 use Rattle.bs_solve_analysis.proofs.Clauses.{contains_first, cons_contains}
@@ -57,24 +56,6 @@ live_at (h ∷ hs) r e = by (eqb h.ref r) e (live_at hs r)
 
 pub live_contains : (clauses : List Held) (r : ℕ) (c : Clause) → IsClauseAt clauses r c → Contains (live_clauses clauses) c
 live_contains clauses r c there = subst (Contains (live_clauses clauses)) there.is (live_at clauses r there.live)
-
--- the variable is not on the trail
-pub open_apart : (places : List Place) (l : Literal) → IsOpenOn (literals_of places) l → (k : ℕ) (p : Place) → slice_get places k ≡ Some p →
-    p.literal.variable ≢ l.variable
-open_apart places l o k p at = literal_apart (literals_of places) l o k p.literal (get_map (λ (x : Place). x.literal) places k p at)
-
--- no variable has two places
-pub one_place : (clauses : List Held) (places : List Place) → IsWalkable clauses places → (i j : ℕ) (p q : Place) →
-    slice_get places i ≡ Some p → slice_get places j ≡ Some q → p.literal.variable ≡ q.literal.variable → i ≡ j
-one_place clauses places s i j p q at_i at_j same = elim (cases_lt i j) [
-  | inl before ↦ absurd (open_apart (take j places) q.literal (s.placed j q at_j).unassigned i p (take_get j places i p before at_i) same)
-  | inr after ↦ elim (cases_eq i j) [
-    | inl equal ↦ equal
-    | inr different ↦
-        let later : j < i = omega (arith, after, λ (e : i ≡ j). different e) in
-        absurd (open_apart (take i places) p.literal (s.placed i p at_i).unassigned j q (take_get i places j q later at_j) (sym same))
-  ]
-]
 
 -- the place of a literal that has level 0 is below the first level
 pub below_levels : (places : List Place) (levels : List Level) (at level : ℕ) (p : Place) → AreLevelled places levels → slice_get places at ≡ Some p →

@@ -1,5 +1,5 @@
 -- Conflict analysis, step by step.
-use Rattle.std.proofs.Common.{◌≡◌, ◌≢◌, ℕ, zero, suc, ◌+◌, ◌<◌, ◌≤◌, arith, true, not, List, [], ◌∷◌, ◌++◌, map, length, take, drop, get_or}
+use Rattle.std.proofs.Common.{◌≡◌, ◌≢◌, ℕ, zero, suc, ◌+◌, ◌<◌, arith, true, not, List, [], ◌∷◌, ◌++◌, map, length, take, drop, get_or}
 use Rattle.std.proofs.Common.{refl, sym, ap, subst, ◌∙◌, inl, inr, ◌⊎◌, Some}
 use Rattle.std.specs.Prelude.{All, Any, Contains, slice_get, is_some, IsTrue}
 use Rattle.std.proofs.lemmas.Bool.{both_ways, not-true}
@@ -12,13 +12,14 @@ use Rattle.bs_log.specs.Propagation.{start_of, hints_are_unit, last_is_false}
 use Rattle.bs_log.specs.Lean.{IsResolventOf}
 use Rattle.bs_arena.specs.Arena.{Held, held_at, literals_at}
 use Rattle.bs_watch.specs.Places.{Place, literals_of}
-use Rattle.bs_watch.specs.Trail.{IsTrueOn, IsFalseOn, IsOpenOn, Forces, IsConflict}
+use Rattle.bs_watch.specs.Trail.{IsFalseOn, IsOpenOn, Forces, IsConflict}
 use Rattle.bs_solve_analysis.specs.Chain.{Link, hints_of, IsChain}
 use Rattle.bs_solve_analysis.specs.Derives.{AreFresh}
 use Rattle.bs_solve_analysis.specs.Walk.{clauses_at, IsLearnt, IsRightBy, AreUsed, IsWalk}
-use Rattle.bs_watch.proofs.Gets.{none_is_not_some, same_some, get_take, take_get, get_from_Contains, Contains_from_get, get_map_cases, get_map}
+use Rattle.bs_watch.proofs.Gets.{none_is_not_some, same_some, take_get, Contains_from_get, get_map}
 use Rattle.bs_solve_analysis.proofs.Literals.{has-from_Contains, negation-negation}
-use Rattle.bs_solve_analysis.proofs.Walkable.{IsClauseAt, IsWalkablePlace, IsWalkable, open_apart, one_place}
+use Rattle.bs_solve_analysis.proofs.Fronts.{true_later, true_at_end, open_earlier, place_of, open_apart, one_place}
+use Rattle.bs_solve_analysis.proofs.Walkable.{IsClauseAt, IsWalkablePlace, IsWalkable}
 use Rattle.bs_solve_analysis.proofs.Clauses.{cons_contains, contains_first, contains_cases, all_from, any_cases, any_first, any_later, filter_cases}
 use Rattle.bs_solve_analysis.proofs.Clauses.{same_or_not, not_same, resolvent_cases, news_cases, distinct_once, resolvent_reason, resolvent_left}
 use Rattle.bs_solve_analysis.proofs.Clauses.{distinct_cons, distinct_filter, distinct_append, distinct_parts, has_none, map_cases, map_contains}
@@ -26,44 +27,19 @@ use Rattle.bs_solve_analysis.proofs.Derivations.{derives_at_conflict, derives_ba
 use Rattle.bs_solve_analysis.proofs.Chains.{chains_are_right}
 use Rattle.bs_solve_analysis.proofs.Shuffles.{right_as_said}
 
--- what is true is true later
-pub true_later : (places : List Place) (i j : ℕ) (l : Literal) → i ≤ j → IsTrueOn (literals_of (take i places)) l → IsTrueOn (literals_of (take j places)) l
-true_later places i j l h there =
-    let (k, found) = get_from_Contains (literals_of (take i places)) l there in
-    let (p, at, same) = get_map_cases (λ (x : Place). x.literal) (take i places) k l found in
-    let (before, in_all) = get_take i places k p at in
-    Contains_from_get (literals_of (take j places)) k l
-    (get_map (λ (x : Place). x.literal) (take j places) k p (take_get j places k p (omega arith) in_all) ∙ ap Some same)
-
-pub true_at_end : (places : List Place) (i : ℕ) (l : Literal) → IsTrueOn (literals_of (take i places)) l → IsTrueOn (literals_of places) l
-true_at_end places i l there =
-    let (k, found) = get_from_Contains (literals_of (take i places)) l there in
-    let (p, at, same) = get_map_cases (λ (x : Place). x.literal) (take i places) k l found in
-    Contains_from_get (literals_of places) k l (get_map (λ (x : Place). x.literal) places k p (get_take i places k p at).1 ∙ ap Some same)
-
-pub open_earlier : (places : List Place) (i j : ℕ) (l : Literal) → i ≤ j → IsOpenOn (literals_of (take j places)) l → IsOpenOn (literals_of (take i places)) l
-open_earlier places i j l h o = ((λ t. o.0 (true_later places i j l h t)), (λ f. o.1 (true_later places i j (negation l) h f)))
-
--- a true literal has a place
-pub place_of : (places : List Place) (l : Literal) → IsTrueOn (literals_of places) l → (k : ℕ) × (p : Place) × (slice_get places k ≡ Some p) × (p.literal ≡ l)
-place_of places l there =
-    let (k, found) = get_from_Contains (literals_of places) l there in
-    let (p, at, same) = get_map_cases (λ (x : Place). x.literal) places k l found in
-    (k, p, at, same)
-
 -- where one is open and the other false, their variables differ
 pub open_false_apart : (places : List Place) (a b : Literal) → IsOpenOn (literals_of places) a → IsFalseOn (literals_of places) b → a.variable ≢ b.variable
 open_false_apart places a b o f same =
-    let (k, p, at, is) = place_of places (negation b) f in
-    open_apart places a o k p at (ap (λ (x : Literal). x.variable) is ∙ sym same)
+    let (k, p, at, is) = place_of (λ (x : Place). x.literal) places (negation b) f in
+    open_apart (λ (x : Place). x.literal) places a o k p at (ap (λ (x : Literal). x.variable) is ∙ sym same)
 
 -- two false literals of one variable are the same
 pub false_same : (clauses : List Held) (places : List Place) → IsWalkable clauses places → (x y : Literal) →
     IsFalseOn (literals_of places) x → IsFalseOn (literals_of places) y → x.variable ≡ y.variable → x ≡ y
 false_same clauses places s x y fx fy same =
-    let (i, p, at_i, is_p) = place_of places (negation x) fx in
-    let (j, q, at_j, is_q) = place_of places (negation y) fy in
-    let together : i ≡ j = one_place clauses places s i j p q at_i at_j
+    let (i, p, at_i, is_p) = place_of (λ (x : Place). x.literal) places (negation x) fx in
+    let (j, q, at_j, is_q) = place_of (λ (x : Place). x.literal) places (negation y) fy in
+    let together : i ≡ j = one_place (λ (x : Place). x.literal) places (λ k p at. (s.placed k p at).unassigned) i j p q at_i at_j
     (ap (λ (l : Literal). l.variable) is_p ∙ same ∙ sym (ap (λ (l : Literal). l.variable) is_q)) in
     let same_place : p ≡ q = same_some p q (sym at_i ∙ ap (slice_get places) together ∙ at_j) in
     let negations : negation x ≡ negation y = sym is_p ∙ ap (λ (r : Place). r.literal) same_place ∙ is_q in
@@ -101,7 +77,7 @@ walk_past clauses trail i left hints w = record {
   derives = w.derives;
   distinct = w.distinct;
   false_now = w.false_now;
-  ahead = λ k d h. open_earlier trail i (suc i) (get_or w.links k d).literal (omega arith) (w.ahead k d h);
+  ahead = λ k d h. open_earlier (λ (x : Place). x.literal) trail i (suc i) (get_or w.links k d).literal (omega arith) (w.ahead k d h);
   links_apart = w.links_apart;
   apart = w.apart;
   is_left = w.is_left;
@@ -136,23 +112,23 @@ walk_step clauses trail i left hints p r c s w at is there distinct_c denied = r
       let new_y = news_cases (without p.literal c) (without (negation p.literal) left) y in_y in
       let old_y = filter_cases (λ m. not (same_literal (negation p.literal) m)) left y new_y.0 in
       let false_x : IsFalseOn (literals_of trail) x =
-      true_at_end trail i (negation x) (reason_false x new_x.0 (λ e. not_same p.literal x (not-true (same_literal p.literal x) new_x.1) (sym e))) in
+      true_at_end (λ (x : Place). x.literal) trail i (negation x) (reason_false x new_x.0 (λ e. not_same p.literal x (not-true (same_literal p.literal x) new_x.1) (sym e))) in
       let false_y : IsFalseOn (literals_of trail) y = All-contains (IsFalseOn (literals_of trail)) left y w.false_now old_y.0 in
       let equal : y ≡ x = false_same clauses trail s y x false_y false_x same in
       both_ways (has_literal (without p.literal c) y) new_y.1
       (has-from_Contains (without p.literal c) y (subst (Contains (without p.literal c)) (sym equal) in_x)));
   false_now = all_from (IsFalseOn (literals_of trail)) next (λ m in_next. elim (resolvent_cases c left p.literal m in_next) [
-    | inl new ↦ true_at_end trail i (negation m) (reason_false m new.0 new.1)
+    | inl new ↦ true_at_end (λ (x : Place). x.literal) trail i (negation m) (reason_false m new.0 new.1)
     | inr old ↦ All-contains (IsFalseOn (literals_of trail)) left m w.false_now old.0
   ]);
   ahead = All-cons (λ (k : Link). IsOpenOn (literals_of (take i trail)) k.literal) link w.links placed.unassigned
-      (λ k d h. open_earlier trail i (suc i) (get_or w.links k d).literal (omega arith) (w.ahead k d h));
+      (λ k d h. open_earlier (λ (x : Place). x.literal) trail i (suc i) (get_or w.links k d).literal (omega arith) (w.ahead k d h));
   links_apart = distinct_cons p.literal (map (λ (k : Link). k.literal) w.links)
       (λ m in_links same.
       let (k, in_k, is_m) = map_cases (λ (x : Link). x.literal) w.links m in_links in
       let open_k : IsOpenOn (literals_of (take (suc i) trail)) k.literal =
       All-contains (λ (x : Link). IsOpenOn (literals_of (take (suc i) trail)) x.literal) w.links k w.ahead in_k in
-      open_apart (take (suc i) trail) k.literal open_k i p (take_get (suc i) trail i p (omega arith) at) (sym (ap (λ (x : Literal). x.variable) is_m ∙ same)))
+      open_apart (λ (x : Place). x.literal) (take (suc i) trail) k.literal open_k i p (take_get (suc i) trail i p (omega arith) at) (sym (ap (λ (x : Literal). x.variable) is_m ∙ same)))
       w.links_apart;
   apart = All-cons (λ (k : Link). All (λ l. k.literal.variable ≢ l.variable) next) link w.links
       (all_from (λ l. p.literal.variable ≢ l.variable) next pivot_apart)
@@ -214,7 +190,7 @@ walk_step clauses trail i left hints p r c s w at is there distinct_c denied = r
       | inl new ↦
           open_false_apart (take (suc i) trail) k.literal l
           (All-contains (λ (x : Link). IsOpenOn (literals_of (take (suc i) trail)) x.literal) w.links k w.ahead in_k)
-          (true_later trail i (suc i) (negation l) (omega arith) (reason_false l new.0 new.1))
+          (true_later (λ (x : Place). x.literal) trail i (suc i) (negation l) (omega arith) (reason_false l new.0 new.1))
       | inr old ↦ All-contains (λ l. k.literal.variable ≢ l.variable) left l
           (All-contains (λ (x : Link). All (λ l. x.literal.variable ≢ l.variable) left) w.links k w.apart in_k) old.0
     ]

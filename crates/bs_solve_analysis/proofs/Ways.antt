@@ -14,7 +14,7 @@ use Rattle.bs_watch.proofs.Gets.{get_take, take_get, Contains_from_get, get_map}
 use Rattle.bs_solve_analysis.proofs.Walkable.{IsWalkable, live_contains}
 use Rattle.bs_solve_analysis.proofs.Clauses.{contains_cases, all_from}
 use Rattle.bs_watch.proofs.Literals.{negation-negation}
-use Rattle.bs_solve_analysis.proofs.Walks.{place_of, open_earlier}
+use Rattle.bs_solve_analysis.proofs.Fronts.{place_of, open_earlier}
 use Rattle.bs_solve_analysis.proofs.Others.{alone_or_another}
 
 -- a way from a place, of which the walk has looked at the further places
@@ -68,7 +68,7 @@ step_back clauses places start at p sound last quiet there above =
           (live_contains clauses r c f.1) (record {
             literal = p.literal;
             stands = f.2.stands;
-            unassigned = open_earlier places start at p.literal (omega (arith, above)) f.2.unassigned;
+            unassigned = open_earlier (λ (x : Place). x.literal) places start at p.literal (omega (arith, above)) f.2.unassigned;
             others = all_from (λ m. (m ≡ p.literal) ⊎ IsFalseOn (literals_of (take start places)) m) c alone;
           }))
       | inr one ↦
@@ -77,7 +77,7 @@ step_back clauses places start at p sound last quiet there above =
             | inl same ↦ absurd (one.other (sym same))
             | inr false_m ↦ false_m
           ] in
-          let (j, q, at_j, is_q) = place_of (take at places) (negation one.literal) false_one in
+          let (j, q, at_j, is_q) = place_of (λ (x : Place). x.literal) (take at places) (negation one.literal) false_one in
           let early = get_take at places j q at_j in
           elim (cases_lt j start) [
             | inl under ↦ absurd (one.not_false (Contains_from_get (literals_of (take start places)) j (negation one.literal)

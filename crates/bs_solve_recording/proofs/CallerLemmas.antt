@@ -1,5 +1,5 @@
 -- What a caller of the solver asks of it: what still stands, which lines were logged, and the bound over its own clauses.
-use Rattle.std.proofs.Common.{◌≡◌, Bool, true, false, not, List, [], ◌∷◌, ◌++◌, map, refl, ap, subst, sym, ◌∙◌, ℕ}
+use Rattle.std.proofs.Common.{◌≡◌, Bool, true, false, not, List, [], ◌∷◌, ◌++◌, map, refl, ap, subst, sym, ◌∙◌, ℕ, Option, Some, None}
 use Rattle.std.specs.Prelude.{Contains}
 use Rattle.std.specs.List.{AllByRecursion as Each, filter}
 use Rattle.std.proofs.lemmas.Bool.{false≢true}
@@ -13,14 +13,34 @@ use Rattle.bs_log.specs.History.{Problem, History, Entry, added, is_deleted, liv
 use Rattle.bs_log.specs.Steps.{is_lemma_line}
 use Rattle.bs_solve_recording.specs.declared.answer.Answer.{Answer}
 use Rattle.bs_solve_recording.specs.declared.answer.Answer.TheVariants as answers
-use Rattle.bs_solve_recording.specs.Book.{Book, standing}
+use Rattle.bs_solve_recording.specs.Book.{Book, standing, without}
 use Rattle.bs_solve_recording.specs.Ending.{Ends, SomeLemmas, is_open_lemma}
 use Rattle.bs_solve_recording.specs.Stages.{is_begun, begun_book}
-use Rattle.bs_solve_recording.specs.Solver.{SolverState, HasSolved}
+use Rattle.bs_solve_recording.specs.Solver.{SolverState, HasSolved, finished}
 use Rattle.bs_solve_recording.proofs.Endings.{some_lemmas, some_and_last}
+pub use Rattle.bs_solve_recording.proofs.Endings.{open_are_lemmas}
 use Rattle.bs_solve_recording.proofs.Lines.{first_stands}
 pub use Rattle.bs_solve_recording.proofs.Standing.{axioms_stand_still, guards_stay_retired}
 pub use Rattle.bs_solve_recording.proofs.Guards.{runs_over, with_guards, run_with_guards, bound_is}
+
+-- ---- what a line leaves of a book
+
+-- the line of what goes at a step's end, if anything does
+abbrev pub delete_lines : List ℕ → List Line
+delete_lines [] = []
+delete_lines (id ∷ ids) = Delete (id ∷ ids) ∷ []
+
+pub without_history : (b : Book) (ids : List ℕ) → (without b ids).history ≡ delete_lines ids ++ b.history
+without_history b [] = refl
+without_history b (id ∷ ids) = refl
+
+pub without_problem : (b : Book) (ids : List ℕ) → (without b ids).problem ≡ b.problem
+without_problem b [] = refl
+without_problem b (id ∷ ids) = refl
+
+pub finished_problem : (b : Book) (end : Option ℕ) → (finished b end).problem ≡ b.problem
+finished_problem b None = refl
+finished_problem b (Some id) = refl
 
 -- ---- what stands
 
@@ -84,10 +104,6 @@ open_is_lemma a (Block id lits) e = e
 open_is_lemma a (Finish id) e = e
 open_is_lemma a (Retire id) e = e
 open_is_lemma a (Delete ids) e = e
-
-pub open_are_lemmas : (a : Clause) (lines : List Line) → Each (λ line. is_open_lemma a line ≡ true) lines → Each (λ line. is_lemma_line line ≡ true) lines
-open_are_lemmas a [] all = tt
-open_are_lemmas a (line ∷ lines) all = (open_is_lemma a line all.0, open_are_lemmas a lines all.1)
 
 -- a search logs lemmas alone, however it ends
 pub ends_by_lemmas : (old new : Book) (vars limit : ℕ) (answer : Answer) → Ends old new vars limit answer → SomeLemmas old new

@@ -31,12 +31,13 @@ use Rattle.bs_solve_recording.specs.Values.{positive, AreAssigned, HasValues, va
 use Rattle.bs_solve_recording.specs.Ending.{is_open_lemma, HasLemmas, SomeLemmas, IsSpent, IsFound}
 use Rattle.bs_solve_recording.specs.Turn.{InSearch}
 use Rattle.bs_watch.proofs.Gets.{none_is_not_some, Contains_from_get, get_map_cases, get_within}
-use Rattle.bs_solve_recording.proofs.Quiet.{has-from_Contains, Contains-from_has, unit_runs_are_on_quiet_trails}
+use Rattle.bs_clause.proofs.Literals.{has-from_Contains, Contains-from_has}
+use Rattle.bs_solve_recording.proofs.Quiet.{unit_runs_are_on_quiet_trails}
 use Rattle.bs_solve_recording.proofs.Numbers.{number_bounded}
 use Rattle.bs_solve_recording.proofs.Places.{sound_push, sound_grows}
 use Rattle.bs_solve_analysis.proofs.Clauses.{nothing_in, cons_contains, contains_first, contains_cases, all_from, distinct_parts}
 use Rattle.bs_solve_recording.proofs.Lessons.{consistent, growing_lowers_nothing}
-use Rattle.bs_solve_recording.proofs.Walks.{true_at_end}
+use Rattle.bs_solve_analysis.proofs.Fronts.{true_at_end}
 
 -- ---- the assumptions on the trail
 
@@ -199,25 +200,25 @@ one_more old middle new count id lemma l h is_open = record {
   open_yet = (ap not (ap (λ a. denies a lemma) (sym l.same_step) ∙ is_open), l.open_yet);
 }
 
-lemmas_only : (a : Clause) (lines : List Line) → AllByRecursion (λ line. is_open_lemma a line ≡ true) lines →
+pub open_are_lemmas : (a : Clause) (lines : List Line) → AllByRecursion (λ line. is_open_lemma a line ≡ true) lines →
     AllByRecursion (λ line. is_lemma_line line ≡ true) lines
-lemmas_only a [] h = tt
-lemmas_only a (Lemma id lits hints ∷ lines) h = (refl, lemmas_only a lines h.1)
-lemmas_only a (Solve ∷ lines) h = absurd (false≢true h.0)
-lemmas_only a (Block id lits ∷ lines) h = absurd (false≢true h.0)
-lemmas_only a (Finish id ∷ lines) h = absurd (false≢true h.0)
-lemmas_only a (Retire id ∷ lines) h = absurd (false≢true h.0)
-lemmas_only a (Delete ids ∷ lines) h = absurd (false≢true h.0)
+open_are_lemmas a [] h = tt
+open_are_lemmas a (Lemma id lits hints ∷ lines) h = (refl, open_are_lemmas a lines h.1)
+open_are_lemmas a (Solve ∷ lines) h = absurd (false≢true h.0)
+open_are_lemmas a (Block id lits ∷ lines) h = absurd (false≢true h.0)
+open_are_lemmas a (Finish id ∷ lines) h = absurd (false≢true h.0)
+open_are_lemmas a (Retire id ∷ lines) h = absurd (false≢true h.0)
+open_are_lemmas a (Delete ids ∷ lines) h = absurd (false≢true h.0)
 
 pub some_lemmas : (old new : Book) (count : ℕ) → HasLemmas old new count → SomeLemmas old new
-some_lemmas old new count l = record { lines = l.lines; history = l.history; problem = l.problem; lemmas = lemmas_only (assumed old) l.lines l.open_yet }
+some_lemmas old new count l = record { lines = l.lines; history = l.history; problem = l.problem; lemmas = open_are_lemmas (assumed old) l.lines l.open_yet }
 
 pub some_and_last : (old middle new : Book) (count id : ℕ) → HasLemmas old middle count → HasRefuted middle new id → SomeLemmas old new
 some_and_last old middle new count id l h = record {
   lines = Lemma id h.lemma h.logged.hints ∷ l.lines;
   history = ap (λ (b : Book). b.history) h.logged.book ∙ ap (λ hs. Lemma id h.lemma h.logged.hints ∷ hs) l.history;
   problem = ap (λ (b : Book). b.problem) h.logged.book ∙ l.problem;
-  lemmas = (refl, lemmas_only (assumed old) l.lines l.open_yet);
+  lemmas = (refl, open_are_lemmas (assumed old) l.lines l.open_yet);
 }
 
 -- ---- the bound
@@ -307,7 +308,7 @@ search_begins b vars limit a places distinct range_a is one range distinct_b pha
           (all_from (IsTrueOn (logged_literals places)) a (λ l there.
           let in_front : IsTrueOn (logged_literals (take (length (assumption_places a)) places)) l =
           subst (λ ps. IsTrueOn (logged_literals ps) l) (sym g.front) (subst (λ xs. Contains xs l) (sym (literals_assumed a)) there) in
-          true_at_end places (length (assumption_places a)) l in_front)));
+          true_at_end (λ (x : LoggedPlace). x.literal) places (length (assumption_places a)) l in_front)));
       start = subst (λ ps. IsQuiet (logged_literals ps) (standing b)) (sym whole) quiet;
       counted = omega arith;
       low = omega arith;
@@ -436,7 +437,7 @@ search_finds old vars base conflicts limit book places values s all has = record
       (λ c there l in_c. All-contains (IsWithin vars) c l (All-contains (HasVariables vars) (standing book) c s.range there) in_c)
       (λ l there. All-contains (IsWithin vars) (assumed book) l s.assumed_range there)
       (all_from (IsTrueOn (logged_literals places)) (assumed book)
-      (λ l there. true_at_end places base l (All-contains (IsTrueOn (logged_literals (take base places))) (assumed book) l s.given there)))
+      (λ l there. true_at_end (λ (x : LoggedPlace). x.literal) places base l (All-contains (IsTrueOn (logged_literals (take base places))) (assumed book) l s.given there)))
       has;
 }
 

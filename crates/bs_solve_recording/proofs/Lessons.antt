@@ -16,12 +16,14 @@ use Rattle.bs_solve_recording.specs.Places.{logged_literals, AreWarranted}
 use Rattle.bs_solve_recording.specs.Point.{is_alone_at, IsLoggedDecision, IsCut, IsLoggedUnforced, AreForced}
 use Rattle.bs_solve_recording.specs.Learning.{digits, after_learning}
 use Rattle.bs_watch.proofs.Gets.{none_is_not_some, same_some, get_take, get_within}
-use Rattle.bs_solve_recording.proofs.Quiet.{same_literal-refl, has-from_Contains, Contains-from_has, absent, learnt_clauses_are_new, learnt_clauses_keep_quiet}
+use Rattle.bs_clause.proofs.Literals.{same_literal-refl, has-from_Contains, Contains-from_has}
+use Rattle.bs_solve_analysis.proofs.Literals.{absent}
+use Rattle.bs_solve_recording.proofs.Quiet.{learnt_clauses_are_new, learnt_clauses_keep_quiet}
 use Rattle.bs_solve_recording.proofs.Numbers.{number_rises, number_grows}
-use Rattle.bs_solve_recording.proofs.Places.{one_place, sound_take, sound_clause, sound_push, placed_from_forced}
+use Rattle.bs_solve_recording.proofs.Places.{sound_take, sound_clause, sound_push, placed_from_forced}
 use Rattle.bs_solve_analysis.proofs.Clauses.{nothing_in, cons_contains, contains_first, contains_cases, all_from, not_same}
-use Rattle.bs_solve_recording.proofs.Walks.{negation-negation}
-use Rattle.bs_solve_recording.proofs.Walks.{true_later, true_at_end, open_earlier, place_of}
+use Rattle.bs_watch.proofs.Literals.{negation-negation}
+use Rattle.bs_solve_analysis.proofs.Fronts.{true_later, true_at_end, open_earlier, place_of, one_place}
 
 -- ---- all but one false
 
@@ -83,9 +85,9 @@ another places end u (x ∷ c) e =
 pub consistent : (clauses : List Clause) (base : ℕ) (a : List Literal) (places : List LoggedPlace) → AreWarranted clauses base a places → (l : Literal) →
     IsTrueOn (logged_literals places) l → ¬ IsFalseOn (logged_literals places) l
 consistent clauses base a places s l t f =
-    let (i, p, at_i, is_p) = place_of places l t in
-    let (j, q, at_j, is_q) = place_of places (negation l) f in
-    let together : i ≡ j = one_place clauses base a places s i j p q at_i at_j
+    let (i, p, at_i, is_p) = place_of (λ (x : LoggedPlace). x.literal) places l t in
+    let (j, q, at_j, is_q) = place_of (λ (x : LoggedPlace). x.literal) places (negation l) f in
+    let together : i ≡ j = one_place (λ (x : LoggedPlace). x.literal) places (λ k p at. (s.placed k p at).unassigned) i j p q at_i at_j
     (ap (λ (x : Literal). x.variable) is_p ∙ sym (ap (λ (x : Literal). x.variable) is_q)) in
     let same_place : p ≡ q = same_some p q (sym at_i ∙ ap (slice_get places) together ∙ at_j) in
     not_itself l.positive (ap (λ (x : Literal). x.positive) (sym is_p ∙ ap (λ (r : LoggedPlace). r.literal) same_place ∙ is_q))
@@ -122,7 +124,7 @@ learns clauses base start at a places c p cut s there low denied k = record {
 
     free : IsOpenOn (logged_literals (take cut places)) (negation p.literal)
     free = open_negation (logged_literals (take cut places)) p.literal
-        (open_earlier places cut at p.literal (let h = k.high in omega (arith, h, low)) (s.placed at p there).unassigned)
+        (open_earlier (λ (x : LoggedPlace). x.literal) places cut at p.literal (let h = k.high in omega (arith, h, low)) (s.placed at p there).unassigned)
 
     forces : Forces (logged_literals (take cut places)) c (negation p.literal)
     forces = record {
@@ -154,11 +156,11 @@ learns clauses base start at a places c p cut s there low denied k = record {
           | inr f ↦ f
         ] in
         let open_m : IsOpenOn (logged_literals (take j places)) one.literal = (
-          (λ t. consistent clauses base a places s one.literal (true_at_end places j one.literal t)
-              (true_at_end places cut (negation one.literal) false_m)),
+          (λ t. consistent clauses base a places s one.literal (true_at_end (λ (x : LoggedPlace). x.literal) places j one.literal t)
+              (true_at_end (λ (x : LoggedPlace). x.literal) places cut (negation one.literal) false_m)),
           one.not_false,
         ) in
-        let open_u : IsOpenOn (logged_literals (take j places)) u = open_earlier places j cut u (omega (arith, before)) free in
+        let open_u : IsOpenOn (logged_literals (take j places)) u = open_earlier (λ (x : LoggedPlace). x.literal) places j cut u (omega (arith, before)) free in
         subst (λ xs. IsQuiet (logged_literals xs) (clauses ++ c ∷ [])) (sym (take-take j cut places (omega (arith, before))))
         (learnt_clauses_keep_quiet clauses (logged_literals (take j places)) c u one.literal old one.other denied open_u one.stands open_m)
 
@@ -175,7 +177,7 @@ not_denying clauses base start at a places c p s there low high denied given = e
       let has : has_literal a (negation (negation p.literal)) ≡ true = at_member c (negation p.literal) denied alike in
       let in_a : Contains a p.literal = subst (Contains a) (negation-negation p.literal) (Contains-from_has a (negation (negation p.literal)) has) in
       let early : IsTrueOn (logged_literals (take base places)) p.literal = All-contains (IsTrueOn (logged_literals (take base places))) a p.literal given in_a in
-      (s.placed at p there).unassigned.0 (true_later places base at p.literal (omega (arith, low, high)) early))
+      (s.placed at p there).unassigned.0 (true_later (λ (x : LoggedPlace). x.literal) places base at p.literal (omega (arith, low, high)) early))
 ]
   where
     at_member : (xs : Clause) (m : Literal) → Contains xs m → denies a xs ≡ true → has_literal a (negation m) ≡ true

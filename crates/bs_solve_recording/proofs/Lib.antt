@@ -1,4 +1,3 @@
-pub mod Walks
 pub mod Numbers
 pub mod Quiet
 pub mod Places

@@ -1,7 +1,7 @@
 -- Sound trails: what a push, a cut and one more clause leave of them.
 use Rattle.std.proofs.Common.{◌≡◌, ℕ, ◌<◌, ◌≤◌, arith, List, [], ◌∷◌, ◌++◌, length, take, sym, ap, subst, ◌∙◌, inl, inr, Some, false}
 use Rattle.std.specs.Prelude.{slice_get}
-use Rattle.std.proofs.lemmas.Bool.{cases_lt, cases_eq, false≢true}
+use Rattle.std.proofs.lemmas.Bool.{cases_lt, false≢true}
 use Rattle.std.proofs.lemmas.List.{take-append-le, take-take, take_all, length-take-le, length_push, take_at}
 use Rattle.std.proofs.lemmas.List.Elements.{Contains-append_left}
 use Rattle.bs_clause.specs.Literal.{Literal, Clause}
@@ -10,7 +10,6 @@ use Rattle.bs_watch.specs.Trail.{IsQuiet}
 use Rattle.bs_solve_recording.specs.Places.{logged_literals, IsWarranted, AreWarranted}
 use Rattle.bs_solve_recording.specs.Grown.{IsLoggedForced, LoggedGrows}
 use Rattle.bs_watch.proofs.Gets.{none_is_not_some, get_push_cases, get_take, take_get, get_within}
-use Rattle.bs_solve_recording.proofs.Walks.{open_apart}
 
 -- the empty trail
 pub sound_nil : (clauses : List Clause) (base : ℕ) (a : List Literal) → AreWarranted clauses base a []
@@ -54,19 +53,6 @@ sound_clause clauses c base a places s quiet = record {
         quiet = λ none above. quiet k p e none (omega (arith, above, length_k));
       };
 }
-
--- no variable has two places
-pub one_place : (clauses : List Clause) (base : ℕ) (a : List Literal) (places : List LoggedPlace) → AreWarranted clauses base a places → (i j : ℕ) (p q : LoggedPlace) →
-    slice_get places i ≡ Some p → slice_get places j ≡ Some q → p.literal.variable ≡ q.literal.variable → i ≡ j
-one_place clauses base a places s i j p q at_i at_j same = elim (cases_lt i j) [
-  | inl before ↦ absurd (open_apart (take j places) q.literal (s.placed j q at_j).unassigned i p (take_get j places i p before at_i) same)
-  | inr after ↦ elim (cases_eq i j) [
-    | inl equal ↦ equal
-    | inr different ↦
-        let later : j < i = omega (arith, after, λ (e : i ≡ j). different e) in
-        absurd (open_apart (take i places) p.literal (s.placed i p at_i).unassigned j q (take_get i places j q later at_j) (sym same))
-  ]
-]
 
 -- ---- propagation
 

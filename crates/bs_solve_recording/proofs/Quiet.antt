@@ -1,18 +1,16 @@
 -- Laws of quiet trails.
-use Rattle.std.proofs.Common.{◌≡◌, false, List, [], ◌∷◌, get_or, sym, subst, ◌∙◌, inl, inr, ◌⊎◌}
+use Rattle.std.proofs.Common.{◌≡◌, List, [], ◌∷◌, get_or, sym, subst, ◌∙◌, inl, inr, ◌⊎◌}
 use Rattle.std.specs.Prelude.{All, Contains}
 use Rattle.std.specs.List.{AllByRecursion}
-use Rattle.std.proofs.lemmas.Bool.{cases_Bool, false≢true}
+use Rattle.std.proofs.lemmas.Bool.{cases_Bool}
 use Rattle.std.proofs.lemmas.List.Elements.{All-contains, All-nil, All-cons, All-from_recursion, All-push, Contains-get_or}
 use Rattle.bs_clause.specs.Literal.{Literal, Clause, negation, has_literal}
 use Rattle.bs_clause.specs.UnitRun.{RunsFrom, IsImplied}
-pub use Rattle.bs_clause.proofs.Literals.{same_literal-refl, Contains-from_has, has-from_Contains}
+use Rattle.bs_clause.proofs.Literals.{Contains-from_has}
 use Rattle.bs_log.specs.Lean.{IsContained}
+use Rattle.bs_solve_analysis.proofs.Literals.{absent}
 use Rattle.bs_watch.specs.Trail.{IsTrueOn, IsFalseOn, IsOpenOn, IsConflict, IsUnit, IsQuiet}
 use Rattle.bs_solve_recording.specs.Laws.{UnitRunsAreOnQuietTrails, LearntClausesAreNew, LearntClausesKeepQuiet}
-
-pub absent : (c : Clause) (l : Literal) → has_literal c l ≡ false → ¬ Contains c l
-absent c l h k = false≢true (sym h ∙ has-from_Contains c l k)
 
 -- a literal that the clauses imply is true where they are quiet
 implied_is_true : (clauses : List Clause) (earlier trail : List Literal) (l : Literal) → IsQuiet trail clauses → All (IsTrueOn trail) earlier →

@@ -4,7 +4,6 @@ use Rattle.std.proofs.Common.{refl, sym, ap, subst, ◌∙◌, inl, inr, eqb, lt
 use Rattle.std.specs.Prelude.{slice_get, count_by, Contains, IsPermutation}
 use Rattle.std.specs.List.{filter, list_any, list_all}
 use Rattle.std.proofs.lemmas.Bool.{cases_Bool, cases_lt, cases_eq, false≢true, eqb-true, eq-eqb, and_from, lt-ltb}
-use Rattle.std.proofs.lemmas.List.Sums.{sum_by-cons}
 use Rattle.std.proofs.lemmas.List.Sorted.{list_any-IsPermutation, length_permutation}
 use Rattle.bs_clause.specs.Literal.{Literal, Clause}
 use Rattle.bs_arena.specs.Arena.{Held, literals_at}
@@ -17,11 +16,11 @@ use Rattle.bs_log.specs.Refusal.{is_lemma, is_lemma_or_block, is_ascending, in_o
 use Rattle.bs_log.specs.Kept.{has_retired_guard, is_free_lemma, is_long, newer_long, is_kept}
 use Rattle.bs_log.specs.Lean.{is_block, LeavesKept}
 use Rattle.bs_watch.proofs.Gets.{same_some, get_from_Contains}
+use Rattle.bs_watch.proofs.Members.{nothing_in, contains_first, cons_contains, contains_cases, map_cases, map_contains, filter_cases, filter_from}
 use Rattle.bs_solve_reduction.specs.declared.row.Row.{Row}
 use Rattle.bs_solve_reduction.specs.Keeping.{over, entry_in, goes}
 use Rattle.bs_solve_reduction.specs.Rows.{IsRowOf, AreRowsOf, AreRowsAmong, AreInOrder, going}
-use Rattle.bs_solve_reduction.proofs.Rules.{digit, lemma_back}
-use Rattle.bs_solve_reduction.proofs.Removals.{nothing_in, contains_first, cons_contains, contains_cases, map_cases, filter_cases, filter_from}
+use Rattle.bs_solve_reduction.proofs.Rules.{digit, count_cons, lemma_back}
 
 -- ---- lists
 
@@ -65,17 +64,7 @@ any_cases f (x ∷ xs) on = by (f x) refl on (any_cases f xs)
     by true is t rest = (x, contains_first x xs, is)
     by false is t rest = let r = rest t in (r.0, cons_contains x xs r.0 r.1, r.2)
 
-map_contains : {X Y : Type 0} (f : X → Y) (xs : List X) (x : X) → Contains xs x → Contains (map f xs) (f x)
-map_contains f [] x c = absurd (nothing_in x c)
-map_contains f (y ∷ xs) x c = elim (contains_cases y xs x c) [
-  | inl same ↦ subst (λ z. Contains (f y ∷ map f xs) (f z)) same (contains_first (f y) (map f xs))
-  | inr there ↦ cons_contains (f y) (map f xs) (f x) (map_contains f xs x there)
-]
-
 -- ---- an entry and its row pass the rule alike
-
-count_cons : {X : Type 0} (f : X → Bool) (x : X) (xs : List X) → count_by f (x ∷ xs) ≡ digit (f x) + count_by f xs
-count_cons f x xs = sum_by-cons (λ y. cond (f y) 1 0) x xs
 
 count_filter : {X : Type 0} (f g : X → Bool) (xs : List X) → ((x : X) → g x ≡ false → f x ≡ false) → count_by f (filter g xs) ≡ count_by f xs
 count_filter f g [] off = refl

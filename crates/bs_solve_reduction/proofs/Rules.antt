@@ -3,7 +3,7 @@ use Rattle.std.proofs.Common.{◌≡◌, ℕ, zero, suc, ◌+◌, ◌-◌, ◌<�
 use Rattle.std.proofs.Common.{length, take, get_or, refl, sym, ap, ◌∙◌, inl, inr, Some, ltb, leb}
 use Rattle.std.specs.Prelude.{slice_get, count_by, All}
 use Rattle.std.specs.List.{filter, list_any}
-use Rattle.std.proofs.lemmas.Bool.{cases_lt, lt-ltb, lt-leb, le-leb}
+use Rattle.std.proofs.lemmas.Bool.{cases_lt, lt-ltb, lt-leb, le-leb, and_from}
 use Rattle.std.proofs.lemmas.List.{map-append, append_assoc, append-nil}
 use Rattle.std.proofs.lemmas.List.Sums.{sum_by-cons}
 use Rattle.std.proofs.lemmas.Option.{get_or_from_slice_get, slice_get_read}
@@ -24,7 +24,7 @@ use Rattle.bs_solve_reduction.specs.Notes.{IsNoted}
 abbrev pub digit : Bool → ℕ
 digit b = cond b 1 0
 
-count_cons : {X : Type 0} (f : X → Bool) (x : X) (xs : List X) → count_by f (x ∷ xs) ≡ digit (f x) + count_by f xs
+pub count_cons : {X : Type 0} (f : X → Bool) (x : X) (xs : List X) → count_by f (x ∷ xs) ≡ digit (f x) + count_by f xs
 count_cons f x xs = sum_by-cons (λ y. cond (f y) 1 0) x xs
 
 count_map : {X Y : Type 0} (f : Y → Bool) (h : X → Y) (xs : List X) → count_by f (map h xs) ≡ count_by (λ x. f (h x)) xs
@@ -121,11 +121,6 @@ by_rule true true x y same = same refl refl
 by_rule true false x y same = refl
 by_rule false b x y same = refl
 
-both_on : (a b : Bool) → a ≡ true → b ≡ true → (a && b) ≡ true
-both_on true true x y = refl
-both_on true false x y = y
-both_on false b x y = x
-
 -- whether a row stays, by the long lemmas before it and those that have to go
 pub stays_by_place : (own steps : ℕ) (clauses : List Held) (rows : List Row) (k : ℕ) (row : Row) (many seen : ℕ) → Ascends rows →
     slice_get rows k ≡ Some row → many ≡ count_by (is_long_row own steps clauses) rows - 20000 →
@@ -136,7 +131,7 @@ stays_by_place own steps clauses rows k row many seen ascends at is_many is_seen
     let one : count_by (is_long_row own steps clauses) (take (suc k) rows) ≡ 1 + seen =
     count_push (is_long_row own steps clauses) rows k row at ∙
     ap (λ b. digit b + count_by (is_long_row own steps clauses) (take k rows))
-    (both_on (is_free_row own steps clauses row) (is_long (entry_in clauses row)) free long) ∙
+    (and_from (is_free_row own steps clauses row) (is_long (entry_in clauses row)) free long) ∙
     ap (λ n. 1 + n) (sym is_seen) in
     let total = newer_by_place own steps clauses rows k row ascends at in
     elim (cases_lt newer 20000) as (λ _. ltb newer 20000 ≡ leb many seen) [

@@ -13,7 +13,7 @@ use Rattle.bs_watch.specs.Places.{Place, literals_of, AreApart, IsOnLevel}
 use Rattle.bs_watch.specs.Scene.{IsWatchable}
 use Rattle.bs_watch.specs.Choice.{AreHighest}
 use Rattle.bs_watch.specs.Watch.{WatchState, AreLevelled, MayAttach}
-use Rattle.bs_watch.proofs.Gets.{same_some, get_from_Contains, Contains_from_get, get_map_cases, get_map, get_take, take_get}
+use Rattle.bs_watch.proofs.Gets.{some_at, same_some, get_from_Contains, Contains_from_get, get_map_cases, get_map, get_take, take_get}
 use Rattle.bs_watch.proofs.Gets.{get_within, get_left, get_last}
 use Rattle.bs_watch.proofs.TableLemmas.{one_level}
 use Rattle.bs_watch.proofs.Advancing.{true_in_front}
@@ -23,7 +23,7 @@ use Rattle.bs_solve_analysis.proofs.Clauses.{all_from, contains_cases, nothing_i
 use Rattle.bs_solve_analysis.specs.Reasons.{last_start}
 use Rattle.bs_solve_search.specs.Begun.{AreBegun}
 use Rattle.bs_solve_search.specs.Lesson.{IsBackLevel, IsLesson, IsOpenYet}
-use Rattle.bs_solve_search.proofs.Begins.{some_at, last_level}
+use Rattle.bs_solve_search.proofs.Begins.{last_level}
 use Rattle.bs_solve_search.proofs.Layings.{sole}
 
 -- what was false when a level began is on a lower level

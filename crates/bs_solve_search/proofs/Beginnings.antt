@@ -24,13 +24,13 @@ use Rattle.bs_watch.specs.Look.{HasTrue}
 use Rattle.bs_watch.specs.Watch.{WatchState, Serves, KeepsService, HasGoneBack, decided}
 use Rattle.bs_watch.proofs.Advancing.{shuffled_refl, take_front}
 use Rattle.bs_solve_analysis.specs.Reasons.{IsReasoned, IsConflictAt}
-use Rattle.bs_solve_analysis.proofs.CallerLemmas.{reasoned_grows, reasoned_free}
+use Rattle.bs_solve_analysis.proofs.CallerLemmas.{forces_permuted, reasoned_grows, reasoned_free}
 use Rattle.bs_solve_recording.specs.Place.{LoggedPlace}
 use Rattle.bs_solve_recording.specs.Places.{AreWarranted, logged_literals}
 use Rattle.bs_solve_recording.specs.Walk.{IsLoggedLearnt}
 use Rattle.bs_solve_recording.specs.Book.{Book, standing, next_id, with_lemma}
 use Rattle.bs_solve_recording.specs.Search.{assumed}
-use Rattle.bs_watch.proofs.Gets.{none_is_not_some, same_some, get_map_cases, get_map, get_within}
+use Rattle.bs_watch.proofs.Gets.{some_at, none_is_not_some, same_some, get_map_cases, get_map, get_within}
 use Rattle.bs_watch.proofs.Gets.{get_take, get_from_Contains, Contains_from_get}
 use Rattle.bs_solve_analysis.proofs.Clauses.{contains_first, map_contains, any_first, any_cases}
 use Rattle.bs_solve_recording.proofs.Entries.{found_stands}
@@ -48,10 +48,10 @@ use Rattle.bs_solve_search.specs.Searching.{IsSomeFirstConflict, IsDenial, HasEn
 use Rattle.bs_solve_search.proofs.Entries.{clauses_in, stands_grown}
 use Rattle.bs_solve_search.specs.declared.laying.Start.{Start}
 use Rattle.bs_solve_recording.proofs.Searching.{learnt_range}
-use Rattle.bs_solve_recording.proofs.Walks.{negation-negation}
-use Rattle.bs_solve_search.proofs.Seens.{literals_seen_take, length_seen, grows_seen, forces_spelled}
+use Rattle.bs_watch.proofs.Literals.{negation-negation}
+use Rattle.bs_solve_search.proofs.Seens.{literals_seen_take, length_seen, grows_seen}
 use Rattle.bs_solve_search.proofs.Stocks.{distinct_gets}
-use Rattle.bs_solve_search.proofs.Begins.{some_at, begun_first}
+use Rattle.bs_solve_search.proofs.Begins.{begun_first}
 use Rattle.bs_log.specs.Propagation.{hints_are_unit, last_is_false}
 use Rattle.bs_solve_search.proofs.Grounds.{sole_permuted, ground_reasoned, open_in_front}
 
@@ -129,7 +129,7 @@ sound_assumed st lists clauses stock es a ps more is_st s apart reasoned stand f
           subst (λ cs. Contains cs e.literals) is_st (map_contains (λ (x : Entry). x.literals) es e (found_stands es (id_in clauses r) e found)),
           subst (λ l. Forces (logged_literals (take k (seen (ps ++ more)))) e.literals l) (ap (λ (x : LoggedPlace). x.literal) is)
               (subst (λ ls. Forces ls e.literals p.literal) (sym (literals_seen_take k (ps ++ more)))
-              (forces_spelled (literals_of (take k (ps ++ more))) (literals_at clauses r) e.literals p.literal
+              (forces_permuted (literals_of (take k (ps ++ more))) (literals_at clauses r) e.literals p.literal
               (IsPermutation-sym e.literals (literals_at clauses r) same) f.1)),
         )
 

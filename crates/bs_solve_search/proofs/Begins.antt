@@ -1,5 +1,5 @@
 -- The levels of a search, from one turn to the next.
-use Rattle.std.proofs.Common.{◌≡◌, ℕ, zero, suc, ◌-◌, ◌<◌, ◌≤◌, arith, true, List, [], ◌∷◌, ◌++◌, length, take, refl, sym, ap, subst, ◌∙◌}
+use Rattle.std.proofs.Common.{◌≡◌, ℕ, ◌-◌, ◌<◌, ◌≤◌, arith, true, List, [], ◌∷◌, ◌++◌, length, take, refl, sym, ap, subst, ◌∙◌}
 use Rattle.std.proofs.Common.{inl, inr, Option, Some, None}
 use Rattle.std.specs.Prelude.{Contains, slice_get, is_some, option_map, unwrap_or}
 use Rattle.std.proofs.lemmas.Bool.{cases_lt, cases_eq, false≢true}
@@ -12,18 +12,12 @@ use Rattle.bs_watch.specs.Places.{Place, literals_of}
 use Rattle.bs_watch.specs.Look.{HasTrue}
 use Rattle.bs_watch.specs.Scene.{AreShuffled, Grows}
 use Rattle.bs_watch.proofs.Advancing.{true_in_front, stays_true, true_carries, take_front}
-use Rattle.bs_watch.proofs.Gets.{same_some, get_left, get_last, get_push_cases, get_take, take_get, get_within}
+use Rattle.bs_watch.proofs.Gets.{some_at, same_some, get_left, get_last, get_push_cases, get_take, take_get, get_within}
 use Rattle.bs_solve_analysis.specs.Reasons.{last_start}
 use Rattle.bs_solve_analysis.specs.Point.{IsDecisionAt, IsLastDecision}
 use Rattle.bs_solve_search.specs.Begun.{AreBegun, AreLaid}
 
 -- ---- lists
-
--- the element at a place that is within
-pub some_at : {X : Type 0} (xs : List X) (k : ℕ) → k < length xs → (x : X) × (slice_get xs k ≡ Some x)
-some_at [] k h = absurd (omega (arith, h))
-some_at (x ∷ xs) zero h = (x, refl)
-some_at (x ∷ xs) (suc k) h = some_at xs k (omega (arith, h))
 
 decision_left : (places more : List Place) (at : ℕ) → IsDecisionAt places at → IsDecisionAt (places ++ more) at
 decision_left places more at d = record { place = d.place; there = get_left places more at d.place d.there; decision = d.decision }

@@ -16,7 +16,7 @@ use Rattle.bs_watch.specs.Look.{HasTrue}
 use Rattle.bs_watch.specs.Scene.{IsWatchable}
 use Rattle.bs_watch.specs.Choice.{AreHighest}
 use Rattle.bs_watch.specs.Watch.{WatchState, Serves, AreLevelled, MayAttach, HasGoneBack, assigned}
-use Rattle.bs_watch.proofs.Gets.{get_from_Contains, Contains_from_get}
+use Rattle.bs_watch.proofs.Gets.{some_at, get_from_Contains, Contains_from_get}
 use Rattle.bs_watch.proofs.TableLemmas.{one_level}
 use Rattle.bs_watch.proofs.CallerLemmas.{cancelled_open, cancelled_keeps, highest_unit, may_attach_open}
 use Rattle.bs_solve_analysis.specs.Reasons.{IsReasoned}
@@ -29,7 +29,8 @@ use Rattle.bs_solve_recording.specs.Search.{assumed}
 use Rattle.bs_watch.proofs.Gets.{same_some, get_within, get_take, take_get, get_map}
 use Rattle.bs_solve_recording.proofs.Places.{sound_take, sound_clause}
 use Rattle.bs_solve_recording.proofs.Quiet.{learnt_clauses_keep_quiet}
-use Rattle.bs_solve_recording.proofs.Walks.{negation-negation, place_of, open_earlier}
+use Rattle.bs_watch.proofs.Literals.{negation-negation}
+use Rattle.bs_solve_analysis.proofs.Fronts.{place_of, open_earlier}
 use Rattle.bs_solve_recording.proofs.Lessons.{learns}
 use Rattle.bs_solve_recording.proofs.Endings.{given_after}
 use Rattle.bs_solve_search.specs.declared.blocking.Retreat.{Retreat}
@@ -48,9 +49,9 @@ use Rattle.bs_solve_search.specs.Blocking.{AreLast, IsBetween, IsRetreat, HasFor
 use Rattle.bs_solve_search.proofs.Entries.{stands_grown}
 use Rattle.bs_solve_search.proofs.Stocks.{others_added, others_trans, stocked_joined}
 use Rattle.bs_solve_search.proofs.Seens.{literals_seen, literals_seen_take, take_seen, length_seen}
-use Rattle.bs_solve_search.proofs.Begins.{some_at, begun_cut, laid_cut}
+use Rattle.bs_solve_search.proofs.Begins.{begun_cut, laid_cut}
 use Rattle.bs_solve_search.proofs.Backs.{Back, false_below}
-use Rattle.bs_solve_search.proofs.Takings.{gone_back}
+use Rattle.bs_solve_search.proofs.Takings.{gone_back, levels_assigned}
 use Rattle.bs_solve_search.proofs.Teachings.{place_apart, cut_of, seen_after, running_after}
 
 -- ---- the retreat
@@ -149,10 +150,6 @@ first_is_open old mid c u l n v can b back at =
       unassigned = b.open_u;
     }))
 
-pub levels_forced : (old mid now : WatchState) (n r : ℕ) (l : Literal) → mid.levels ≡ take n old.levels → now ≡ assigned mid l (Some r) →
-    now.levels ≡ take n old.levels
-levels_forced old mid now n r l levels is = ap (λ (x : WatchState). x.levels) is ∙ levels
-
 pub places_forced : (old mid now : WatchState) (c : Clause) (u l : Literal) (n r : ℕ) (v : Level) → Back old c c u n v →
     IfSome (slice_get old.levels n) (HasGoneBack old mid) → slice_get c 0 ≡ Some l → mid.levels ≡ take n old.levels → now ≡ assigned mid l (Some r) →
     now.trail.places ≡ take v.start old.trail.places ++ record { literal = u; reason = Some r; level = length (take n old.levels) } ∷ []
@@ -180,7 +177,7 @@ has_forced old mid now new clauses shorts more u l n r v two lost b back at leve
   alone = b.alone;
   lowest = b.lowest;
   free = b.open_u;
-  levels = levels_forced old mid now n r l levels is;
+  levels = levels_assigned old mid now n r l levels is;
   places = places_forced old mid now (literals_at clauses r) u l n r v b back at levels is;
   vars = ap (λ (x : WatchState). x.trail.vars) is ∙ ap (λ (t : TrailState). t.vars) (gone_back old mid n v b.at back).trail;
   lists = ap (λ (x : WatchState). x.lists) is ∙ lists;
@@ -376,7 +373,7 @@ paused_taken base book other old new before after stock more id lits u p h u_in 
     let one = h.one in
     let (last, at_last) = some_at old.levels (length old.levels - 1) (omega (arith, inside, one)) in
     let k = cut_of base old new before after stock more id Blocked lits u last b at_last (omega (arith, inside, one)) h in
-    let (at, q, there, is) = place_of places (negation u)
+    let (at, q, there, is) = place_of (λ (x : LoggedPlace). x.literal) places (negation u)
     (subst (λ ls. Contains ls (negation u)) (sym (literals_seen old.trail.places)) lost) in
     let u_is : u ≡ negation q.literal = sym (negation-negation u) ∙ ap negation (sym is) in
     let late : cut ≤ at = elim (cases_lt at cut) as (λ _. cut ≤ at) [
@@ -424,7 +421,7 @@ sound_with_open st base a places lits l m s other l_in l_open m_in m_open = soun
   where
     earlier : (k : ℕ) (x : Literal) → k < length places → IsOpenOn (logged_literals places) x → IsOpenOn (logged_literals (take k places)) x
     earlier k x within o =
-        open_earlier places k (length places) x (omega (arith, within))
+        open_earlier (λ (y : LoggedPlace). y.literal) places k (length places) x (omega (arith, within))
         (subst (λ ps. IsOpenOn (logged_literals ps) x) (sym (take_all (length places) places (omega arith))) o)
 
 paused_opened : (base : ℕ) (book other : Book) (old new : WatchState) (before after : List Held) (stock more : Stock) (id r : ℕ) (lits : Clause) →

@@ -16,15 +16,14 @@ use Rattle.bs_watch.specs.Places.{Place, AreApart, literals_of}
 use Rattle.bs_watch.specs.Scene.{AreShuffled}
 use Rattle.bs_solve_analysis.specs.Reasons.{IsReasoned, IsSpared}
 use Rattle.bs_solve_recording.specs.Book.{Book}
-use Rattle.bs_watch.proofs.Gets.{same_some, get_take, get_map_cases, get_from_Contains, Contains_from_get, get_within}
-use Rattle.bs_solve_recording.proofs.Walks.{negation-negation}
+use Rattle.bs_watch.proofs.Gets.{some_at, same_some, get_take, get_map_cases, get_from_Contains, Contains_from_get, get_within}
+use Rattle.bs_watch.proofs.Literals.{negation-negation}
 use Rattle.bs_solve_analysis.proofs.Clauses.{all_from, nothing_in, contains_first, contains_cases}
 use Rattle.bs_solve_recording.proofs.Entries.{found_still, found_stands}
 use Rattle.bs_solve_search.specs.declared.stock.Stock.{Stock}
 use Rattle.bs_solve_search.specs.Stock.{entries, is_live, id_in, IsStocked}
 use Rattle.bs_solve_search.specs.Ground.{IsUnitAt, IsGround}
 use Rattle.bs_solve_search.proofs.Seens.{id_shuffled}
-use Rattle.bs_solve_search.proofs.Begins.{some_at}
 use Rattle.bs_solve_search.proofs.Plains.{IsPlain, retired_live}
 
 -- ---- clauses of one literal

@@ -21,10 +21,10 @@ use Rattle.bs_solve_recording.specs.Place.{LoggedPlace}
 use Rattle.bs_solve_recording.specs.Places.{AreWarranted, logged_literals}
 use Rattle.bs_solve_recording.specs.Book.{Book, standing}
 use Rattle.bs_solve_recording.specs.Search.{assumed}
-use Rattle.bs_watch.proofs.Gets.{same_some, get_map_cases, get_map, get_within}
+use Rattle.bs_watch.proofs.Gets.{some_at, same_some, get_map_cases, get_map, get_within}
 use Rattle.bs_solve_analysis.proofs.Clauses.{all_from}
 use Rattle.bs_solve_recording.proofs.Places.{sound_grows}
-use Rattle.bs_solve_recording.proofs.Walks.{true_later}
+use Rattle.bs_solve_analysis.proofs.Fronts.{true_later}
 use Rattle.bs_solve_recording.proofs.Endings.{given_after, front_after, no_lemmas}
 use Rattle.bs_solve_search.specs.declared.stock.Stock.{Stock}
 use Rattle.bs_solve_search.specs.Stock.{entries}
@@ -35,7 +35,6 @@ use Rattle.bs_solve_search.specs.Teaching.{IsAtRest}
 use Rattle.bs_solve_search.specs.Searching.{IsFirstConflict, IsSomeFirstConflict, IsSomeTurn, HasPropagated}
 use Rattle.bs_solve_search.specs.Pausing.{IsPaused, IsSomePause, IsKept, GoesToRest}
 use Rattle.bs_solve_search.proofs.Seens.{length_seen}
-use Rattle.bs_solve_search.proofs.Begins.{some_at}
 use Rattle.bs_solve_search.proofs.Turns.{running_propagated, logged_grows, logged_outcome, clashes_from}
 use Rattle.bs_solve_search.proofs.Refutings.{at_rest}
 
@@ -109,7 +108,7 @@ given_from : (base past : ℕ) (a : Clause) (places : List LoggedPlace) → base
     All (IsTrueOn (logged_literals (take past places))) a
 given_from base past a places low given =
     all_from (IsTrueOn (logged_literals (take past places))) a
-    (λ l there. true_later places base past l low (All-contains (IsTrueOn (logged_literals (take base places))) a l given there))
+    (λ l there. true_later (λ (x : LoggedPlace). x.literal) places base past l low (All-contains (IsTrueOn (logged_literals (take base places))) a l given there))
 
 -- ---- the turns go on
 

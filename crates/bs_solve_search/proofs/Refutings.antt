@@ -18,8 +18,8 @@ use Rattle.bs_solve_search.specs.Laying.{AreShort}
 use Rattle.bs_watch.specs.declared.visit.Outcome.{Outcome}
 use Rattle.bs_watch.specs.declared.visit.Outcome.TheVariants.{Quiet, Conflict}
 use Rattle.bs_watch.specs.declared.watch.Level.{Level}
-use Rattle.bs_watch.specs.Trail.{IsTrueOn, IsOpenOn, AreAssignedBelow}
-use Rattle.bs_watch.specs.Places.{Place, TrailState, AreApart, literals_of}
+use Rattle.bs_watch.specs.Trail.{IsTrueOn, IsOpenOn, IsOpenVariable, AreAssignedBelow}
+use Rattle.bs_watch.specs.Places.{Place, TrailState, IsUnassigned, AreApart, literals_of}
 use Rattle.bs_watch.specs.Tables.{AreDistinct}
 use Rattle.bs_watch.specs.Watch.{WatchState, Serves, HasGoneBack}
 use Rattle.bs_watch.proofs.TableLemmas.{at_most, open_apart}
@@ -30,7 +30,7 @@ use Rattle.bs_solve_recording.specs.Book.{Book, standing, next_id, with_lemma}
 use Rattle.bs_solve_recording.specs.Values.{positive, AreAssigned, HasValues}
 use Rattle.bs_solve_recording.specs.Ending.{SomeLemmas}
 use Rattle.bs_solve_recording.specs.declared.answer.Answer.TheVariants.{Found, Refuted, Spent}
-use Rattle.bs_watch.proofs.Gets.{none_is_not_some, same_some, get_map_cases, get_map}
+use Rattle.bs_watch.proofs.Gets.{some_at, none_is_not_some, same_some, get_map_cases, get_map}
 use Rattle.bs_watch.proofs.Gets.{get_take, get_push_cases, get_from_Contains}
 use Rattle.bs_solve_analysis.proofs.Clauses.{all_from, map_contains}
 use Rattle.bs_solve_recording.proofs.Searching.{learnt_range, ending_lemma}
@@ -47,7 +47,6 @@ use Rattle.bs_solve_search.specs.Teaching.{IsAtRest, Teaches}
 use Rattle.bs_solve_search.specs.Searching.{IsFirstConflict, IsOver, HasEndedBy}
 use Rattle.bs_solve_search.specs.Pausing.{IsPaused}
 use Rattle.bs_solve_search.proofs.Seens.{literals_seen, length_seen}
-use Rattle.bs_solve_search.proofs.Begins.{some_at}
 use Rattle.bs_solve_search.proofs.Teachings.{logged_learnt}
 use Rattle.bs_solve_search.proofs.Turns.{conflict_in, learnt_in}
 
@@ -271,6 +270,10 @@ pub level_room : (w : WatchState) (l : Literal) → AreApart w.trail.places → 
     IsOpenOn (literals_of w.trail.places) l → 1 ≤ l.variable → l.variable ≤ w.trail.vars → length w.levels ≤ length w.trail.places + 1 →
     length w.levels ≤ w.trail.vars
 level_room w l apart range open_l low high few = let room = open_room w l apart range open_l low high in omega (arith, room, few)
+
+-- each literal of an open variable is open
+pub open_literal : (t : TrailState) (v : ℕ) (l : Literal) → IsOpenVariable (literals_of t.places) t.vars v → l.variable ≡ v → IsUnassigned t l
+open_literal t v l o same = record { in_range = subst (λ n. n ≤ t.vars) (sym same) o.in_range; unassigned = o.here l same }
 
 -- a full trail
 pub full_assigned : (w : WatchState) → AreApart w.trail.places → HasVariables w.trail.vars (literals_of w.trail.places) →

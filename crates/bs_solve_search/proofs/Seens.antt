@@ -23,6 +23,7 @@ use Rattle.bs_solve_recording.specs.Place.{LoggedPlace}
 use Rattle.bs_solve_recording.specs.Places.{logged_literals}
 use Rattle.bs_solve_recording.specs.Grown.{LoggedGrows}
 use Rattle.bs_watch.proofs.Gets.{get_map_cases}
+use Rattle.bs_solve_analysis.proofs.CallerLemmas.{forces_permuted}
 use Rattle.bs_solve_analysis.proofs.Clauses.{all_from, map_cases, map_contains}
 use Rattle.bs_solve_recording.proofs.Entries.{found_stands}
 use Rattle.bs_solve_search.specs.declared.stock.Stock.{Stock}
@@ -56,13 +57,6 @@ unit_spelled trail c d p x = record {
   stands = Contains-permutation c d x.literal p x.stands;
   unassigned = x.unassigned;
   others = All-permutation (λ m. (m ≡ x.literal) ⊎ IsFalseOn trail m) c d p x.others;
-}
-
-pub forces_spelled : (trail : List Literal) (c d : Clause) (l : Literal) → IsPermutation c d → Forces trail c l → Forces trail d l
-forces_spelled trail c d l p x = record {
-  stands = Contains-permutation c d l p x.stands;
-  unassigned = x.unassigned;
-  others = All-permutation (λ m. (m ≡ l) ⊎ IsFalseOn trail m) c d p x.others;
 }
 
 -- ---- shuffles
@@ -133,7 +127,7 @@ grows_seen lists clauses stock es level old new s g = record {
         there = map_contains (λ (x : Entry). x.literals) es d (found_stands es (id_in clauses f.by) d there);
         forces = subst (λ l. Forces (logged_literals (take k (seen new))) d.literals l) (ap (λ (x : LoggedPlace). x.literal) is)
             (subst (λ ls. Forces ls d.literals q.literal) (sym (literals_seen_take k new))
-            (forces_spelled (literals_of (take k new)) (literals_at clauses f.by) d.literals q.literal
+            (forces_permuted (literals_of (take k new)) (literals_at clauses f.by) d.literals q.literal
             (IsPermutation-sym d.literals (literals_at clauses f.by) same) f.forces));
       };
 }

@@ -47,7 +47,7 @@ use Rattle.bs_solve_search.specs.Begun.{AreBegun, AreLaid}
 use Rattle.bs_solve_search.specs.Running.{seen_trail, IsRunning}
 use Rattle.bs_solve_search.specs.Lesson.{IsLesson, HasTaken, TakesLesson}
 use Rattle.bs_solve_search.specs.Teaching.{IsInConflict, Teaches}
-use Rattle.bs_watch.proofs.Choices.{Stood, from_swap}
+use Rattle.bs_watch.proofs.Choices.{Stood, apart_stood, from_swap}
 use Rattle.bs_solve_search.proofs.Stocks.{stocked_joined, distinct_gets}
 use Rattle.bs_solve_search.proofs.Seens.{take_seen, length_seen, literals_seen_take, conflict_spelled, unit_spelled}
 use Rattle.bs_solve_search.specs.Ground.{IsGround, IsOwn}
@@ -133,34 +133,6 @@ live_quiet a lists stock es trail content s quiet = record {
 -- no variable stands in two places of the clause
 abbrev pub HasApart : Clause → Type 0
 HasApart c = (i j : ℕ) (l m : Literal) → slice_get c i ≡ Some l → slice_get c j ≡ Some m → l.variable ≡ m.variable → i ≡ j
-
--- no two places come from one
-apart_stood : (i j k n was : ℕ) → Stood i j k was → Stood i j n was → k ≡ n
-apart_stood i j k n was a b = elim a.is as (λ _. k ≡ n) [
-  | inl x ↦ elim b.is as (λ _. k ≡ n) [
-    | inl y ↦ x.0 ∙ sym y.0
-    | inr more ↦ elim more as (λ _. k ≡ n) [
-      | inl y ↦ x.0 ∙ sym y.1 ∙ x.1 ∙ sym y.0
-      | inr y ↦ absurd (y.1.0 (sym y.1.1 ∙ x.1))
-    ]
-  ]
-  | inr rest ↦ elim rest as (λ _. k ≡ n) [
-    | inl x ↦ elim b.is as (λ _. k ≡ n) [
-      | inl y ↦ x.0 ∙ sym y.1 ∙ x.1 ∙ sym y.0
-      | inr more ↦ elim more as (λ _. k ≡ n) [
-        | inl y ↦ x.0 ∙ sym y.0
-        | inr y ↦ absurd (y.0 (sym y.1.1 ∙ x.1))
-      ]
-    ]
-    | inr x ↦ elim b.is as (λ _. k ≡ n) [
-      | inl y ↦ absurd (x.1.0 (sym x.1.1 ∙ y.1))
-      | inr more ↦ elim more as (λ _. k ≡ n) [
-        | inl y ↦ absurd (x.0 (sym x.1.1 ∙ y.1))
-        | inr y ↦ sym x.1.1 ∙ y.1.1
-      ]
-    ]
-  ]
-]
 
 -- ---- two literals in turn come to the front
 

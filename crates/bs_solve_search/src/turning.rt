@@ -35,7 +35,8 @@ fn is_full(watch: &Watch) -> bool
     watch.trail().len() == watch.vars() as usize
 }
 
-// Assumes the negation of the open variable that comes first, on a new level. Whether there was one. A full trail is not searched.
+// Gives the open variable that comes first the value that it had last, on a new level. Whether there was one. A full trail is not
+// searched.
 fn decide(watch: &mut Watch) -> bool
     requires few { length watch.old.levels ≤ length watch.old.trail.places + 1 }
     requires bound { watch.old.trail.vars < 2 ^ 30 }
@@ -49,7 +50,8 @@ fn decide(watch: &mut Watch) -> bool
         None => false,
         Some(variable) => {
             watch.decide();
-            watch.assign(Lit::new(variable, false), None);
+            let phase = watch.phase(variable);
+            watch.assign(Lit::new(variable, phase), None);
             true
         }
     }

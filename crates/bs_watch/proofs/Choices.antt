@@ -1,5 +1,5 @@
 -- The literals that a clause is to watch come to its front.
-use Rattle.std.proofs.Common.{◌≡◌, ◌≢◌, ℕ, suc, zero, ◌+◌, ◌<◌, ◌≤◌, true, List, [], ◌∷◌, map, length, swap, refl, sym, ap, subst, ◌∙◌, inl, inr, ◌⊎◌}
+use Rattle.std.proofs.Common.{◌≡◌, ◌≢◌, ℕ, ◌+◌, ◌<◌, ◌≤◌, true, List, [], ◌∷◌, map, length, swap, refl, sym, ap, subst, ◌∙◌, inl, inr, ◌⊎◌}
 use Rattle.std.proofs.Common.{Option, Some, None, arith}
 use Rattle.std.specs.Prelude.{slice_get, option_map, IsPermutation}
 use Rattle.std.proofs.lemmas.Bool.{cases_eq, cases_lt}
@@ -12,7 +12,7 @@ use Rattle.bs_watch.specs.Trail.{IsFalseOn}
 use Rattle.bs_watch.specs.Places.{Place, AreApart, IsPlaceOf, IsOnLevel, literals_of}
 use Rattle.bs_watch.specs.Scene.{IsWatchable}
 use Rattle.bs_watch.specs.Choice.{IsNoLower, AreHighest, IsHighestOf, IsHigherOf, IsLifted}
-use Rattle.bs_watch.proofs.Gets.{get_within, get_from_Contains, get_map_cases, same_some}
+use Rattle.bs_watch.proofs.Gets.{some_at, get_within, get_from_Contains, get_map_cases, same_some}
 use Rattle.bs_watch.proofs.TableLemmas.{one_level}
 use Rattle.bs_watch.proofs.Removals.{get_swap_first, get_swap_second, get_swap_other}
 
@@ -54,16 +54,11 @@ highest_one places c start a = record {
 pub record Stood (i j k was : ℕ) : Type 0 where
   pub is : ((k ≡ i) × (was ≡ j)) ⊎ (((k ≡ j) × (was ≡ i)) ⊎ ((k ≢ i) × ((k ≢ j) × (was ≡ k))))
 
-some_there : {X : Type 0} (xs : List X) (k : ℕ) → k < length xs → (x : X) × (slice_get xs k ≡ Some x)
-some_there [] k h = absurd (omega (arith, h))
-some_there (x ∷ xs) zero h = (x, refl)
-some_there (x ∷ xs) (suc k) h = some_there xs k (omega (arith, h))
-
 pub from_swap : {X : Type 0} (xs : List X) (i j k : ℕ) (x : X) → i < length xs → j < length xs → slice_get (swap xs i j) k ≡ Some x →
     (was : ℕ) × (slice_get xs was ≡ Some x) × Stood i j k was
 from_swap {X} xs i j k x in_i in_j e =
-    let (y, at_i) = some_there xs i in_i in
-    let (z, at_j) = some_there xs j in_j in
+    let (y, at_i) = some_at xs i in_i in
+    let (z, at_j) = some_at xs j in_j in
     elim (cases_eq k j) as (λ _. (was : ℕ) × (slice_get xs was ≡ Some x) × Stood i j k was) [
       | inl is_j ↦ (i, at_i ∙ sym (sym e ∙ ap (slice_get (swap xs i j)) is_j ∙ get_swap_second xs i j y z at_i at_j), record { is = inr (inl (is_j, refl)) })
       | inr not_j ↦ elim (cases_eq k i) as (λ _. (was : ℕ) × (slice_get xs was ≡ Some x) × Stood i j k was) [
@@ -78,7 +73,7 @@ from_swap {X} xs i j k x in_i in_j e =
     ]
 
 -- no two places come from one
-apart_stood : (i j k n was : ℕ) → Stood i j k was → Stood i j n was → k ≡ n
+pub apart_stood : (i j k n was : ℕ) → Stood i j k was → Stood i j n was → k ≡ n
 apart_stood i j k n was a b = elim a.is as (λ _. k ≡ n) [
   | inl x ↦ elim b.is as (λ _. k ≡ n) [
     | inl y ↦ x.0 ∙ sym y.0
@@ -173,7 +168,7 @@ chosen places c d e long x y =
 pub higher_more : (places : List Place) (c : Clause) (start at best result : ℕ) → AreApart places → start < at → at ≤ length c →
     IsHighestOf places c start at best → IsHigherOf places c best at result → IsHighestOf places c start (at + 1) result
 higher_more places c start at best result a past inside h r =
-    let (b, at_b) = some_there c best (omega (arith, h.high, inside)) in
+    let (b, at_b) = some_at c best (omega (arith, h.high, inside)) in
     record {
       low = elim r.one [ inl same ↦ omega (arith, same, h.low) | inr same ↦ omega (arith, same, past) ];
       high = elim r.one [ inl same ↦ omega (arith, same, h.high) | inr same ↦ omega (arith, same) ];

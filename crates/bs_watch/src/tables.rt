@@ -27,6 +27,17 @@ pub fn no_causes(alloc: Global, count: usize) -> Result<Vec<Cause>, NoMemory>
     Ok(causes)
 }
 
+/// Notes the value under which a literal is true, by variable, if there is a place for it.
+pub fn note_phase(phases: &mut Vec<bool>, l: Lit)
+    ensures { l.variable < length phases.old.items →
+        phases.new.items ≡ slice_set phases.old.items l.variable l.positive }
+{
+    let at = l.var().0 as usize;
+    if at < phases.len() {
+        phases[at] = l.positive();
+    }
+}
+
 /// Notes whether the literal is true.
 pub fn set_value(values: &mut Vec<bool>, l: Lit, value: bool)
     requires { code_of l < length values.old.items }

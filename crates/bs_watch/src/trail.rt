@@ -11,7 +11,8 @@ use crate::cause::Cause;
 use crate::decision::{first_in, grow_order, new_order, put_back, stays_ordered};
 use crate::renaming::rename_causes;
 use crate::tables::{
-    make_room, no_causes, no_values, push_cause, push_literal, push_values, set_cause, set_value,
+    make_room, no_causes, no_values, note_phase, push_cause, push_literal, push_values, set_cause,
+    set_value,
 };
 use bs_arena::{Ref, Renaming};
 use bs_clause::{Lit, NoMemory, Var};
@@ -20,8 +21,9 @@ use std::alloc::Global;
 use std::marker::Model;
 
 /// The literals that are true, in the order in which they were assigned, over the variables 1 to
-/// `vars`. Values stand by literal code, causes by variable. From a search's first decision until its
-/// trail goes back below the first level, each variable without a value waits in the order of decisions.
+/// `vars`. Values stand by literal code, causes and last values by variable. From a search's first
+/// decision until its trail goes back below the first level, each variable without a value waits in
+/// the order of decisions.
 #[derive(Drop)]
 pub struct Trail {
     vars: u32,
@@ -30,6 +32,7 @@ pub struct Trail {
     literals: Vec<Lit>,
     order: Order,
     is_ordered: bool,
+    phases: Vec<bool>,
 }
 
 impl Model for Trail {
@@ -55,6 +58,7 @@ impl Trail {
         let mut literals = Vec::new(alloc);
         literals.reserve(vars as usize)?;
         let order = new_order(alloc, vars)?;
+        let phases = no_values(alloc, vars as usize + 1)?;
         Ok(Trail {
             vars,
             values,
@@ -62,6 +66,7 @@ impl Trail {
             literals,
             order,
             is_ordered: false,
+            phases,
         })
     }
 
@@ -177,6 +182,14 @@ impl Trail {
         first
     }
 
+    /// The last value of a variable that has none, or false. Nothing that a contract sees tells it.
+    pub fn phase(&self, variable: Var) -> bool {
+        match self.phases.get(variable.0 as usize) {
+            Some(phase) => *phase,
+            None => false,
+        }
+    }
+
     /// A variable is more active, and comes earlier in the order of decisions.
     pub fn bump(&mut self, variable: Var)
         requires { variable.0 ≤ self.old.vars }
@@ -230,6 +243,7 @@ impl Trail {
         let last = self.literals.len() - 1;
         let literal = self.literals[last];
         set_value(&mut self.values, literal, false);
+        note_phase(&mut self.phases, literal);
         self.literals.truncate(last);
         put_back(&mut self.order, self.is_ordered, literal.var());
     }

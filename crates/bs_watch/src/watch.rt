@@ -222,6 +222,11 @@ impl Watch {
         self.trail.first_open()
     }
 
+    /// The last value of a variable that has none, or false. Nothing that a contract sees tells it.
+    pub fn phase(&self, variable: Var) -> bool {
+        self.trail.phase(variable)
+    }
+
     /// A variable had a part in a conflict: it comes earlier in the order of decisions. Nothing that a contract sees changes.
     pub fn bump(&mut self, variable: Var)
         requires { variable.0 ≤ self.old.trail.vars }

@@ -13,8 +13,8 @@ take_out-requires-clause-placed c = record {
       (attached_is_live c.args.watch.now c.args.arena.now.clauses c.requires.serves r a);
 }
 
-pub returns : goal.returns
-returns c =
+pub returns-clause-dropped : goal.returns-clause-dropped
+returns-clause-dropped c =
     has_dropped c.args.watch.now c.take_out.new.watch c.args.arena.now.clauses c.take_out.new.arena.clauses c.args.stock.now _ c.args.leaving.now.start
     c.args.leaving.now.ids c.args.leaving.now.clauses.items c.args.leaving.now.watched.items (record {
       gone = c.requires.gone;

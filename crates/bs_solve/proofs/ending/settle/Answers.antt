@@ -1,4 +1,5 @@
-use Rattle.std.proofs.Common.{◌≡◌, ◌≤◌, length, take, arith, sym, subst}
+use Rattle.std.proofs.Common.{◌≡◌, ◌≤◌, length, take, arith, ap, ◌∙◌, sym, subst}
+use Rattle.bs_arena.specs.Arena.{Content}
 use Rattle.std.specs.Prelude.{count_by}
 use Rattle.bs_solve_reduction.specs.Keeping.{is_long_row}
 use Rattle.bs_solve.proofs.Droppings.{fewer}
@@ -13,7 +14,7 @@ drop_leaving-requires-clause-range c =
 pub compact_where_due-requires-clause-room : goal.compact_where_due-requires-clause-room
 compact_where_due-requires-clause-room c =
     let few = fewer c.drop_leaving.new.arena.clauses c.args.arena.now.clauses c.holds_clauses-2.ensures.ascends c.holds_clauses.ensures.ascends
-    c.drop_leaving.ensures.live in
+    c.drop_leaving.ensures.dropped.live in
     let room = c.requires.room in
     omega (arith, few, room)
 
@@ -23,7 +24,7 @@ known_after-requires-clause-low c =
     subst (λ rows. c.args.leaving.now.start ≤ length rows) (sym c.as_slice.ensures.value)
     (settled_low c.args.watch.now c.drop_leaving.new.watch c.compact_where_due.new.watch c.args.arena.now.clauses c.drop_leaving.new.arena.clauses
     c.compact_where_due.new.arena.clauses c.args.stock.now c.drop_leaving.new.stock c.compact_where_due.new.stock c.args.leaving.now.start
-    c.args.leaving.now.ids es c.drop_leaving.ensures c.compact_where_due.ensures.moved s)
+    c.args.leaving.now.ids es c.drop_leaving.ensures.dropped c.compact_where_due.ensures.moved s)
 
 pub known_after-requires-clause-long : goal.known_after-requires-clause-long
 known_after-requires-clause-long c = λ same.
@@ -33,14 +34,20 @@ known_after-requires-clause-long c = λ same.
     (sym c.as_slice.ensures.value)
     (settled_long c.args.guards.own c.args.guards.steps c.args.known c.args.watch.now c.drop_leaving.new.watch c.compact_where_due.new.watch
     c.args.arena.now.clauses c.drop_leaving.new.arena.clauses c.compact_where_due.new.arena.clauses c.args.stock.now c.drop_leaving.new.stock
-    c.compact_where_due.new.stock c.args.leaving.now.start c.args.leaving.now.ids es c.drop_leaving.ensures c.compact_where_due.ensures.moved s known same)
+    c.compact_where_due.new.stock c.args.leaving.now.start c.args.leaving.now.ids es c.drop_leaving.ensures.dropped c.compact_where_due.ensures.moved s known same)
 
 pub returns-clause-settled : goal.returns-clause-settled
 returns-clause-settled c =
     settled c.args.guards.own c.args.guards.steps c.known_after.result c.args.watch.now c.drop_leaving.new.watch c.compact_where_due.new.watch
     c.args.arena.now.clauses c.drop_leaving.new.arena.clauses c.compact_where_due.new.arena.clauses c.args.stock.now c.drop_leaving.new.stock
-    c.compact_where_due.new.stock c.args.leaving.now.start c.args.leaving.now.ids c.drop_leaving.ensures c.compact_where_due.ensures.moved
+    c.compact_where_due.new.stock c.args.leaving.now.start c.args.leaving.now.ids c.drop_leaving.ensures.dropped c.compact_where_due.ensures.moved
     (subst (λ rows. c.known_after.result.rows ≡ length rows) c.as_slice.ensures.value c.known_after.ensures.rows)
     (subst (λ rows. c.known_after.result.long ≡
     count_by (is_long_row c.args.guards.own c.args.guards.steps c.compact_where_due.new.arena.clauses) rows) c.as_slice.ensures.value
     c.known_after.ensures.long)
+
+pub returns-clause-spared : goal.returns-clause-spared
+returns-clause-spared c = λ few.
+    let same = c.drop_leaving.ensures.words in
+    let live = c.compact_where_due.ensures.live in
+    ap (λ (a : Content). a.words) (c.compact_where_due.ensures.spared (omega (arith, few, same, live))) ∙ same

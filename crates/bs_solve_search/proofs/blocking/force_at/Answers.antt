@@ -1,7 +1,8 @@
 use Rattle.std.proofs.Common.{arith}
 use Rattle.bs_arena.specs.Arena.{literals_at}
 use Rattle.bs_solve_search.proofs.Backs.{may_attach_back}
-use Rattle.bs_solve_search.proofs.Blockings.{back_forced, first_is_open, levels_forced, places_forced, has_forced}
+use Rattle.bs_solve_search.proofs.Blockings.{back_forced, first_is_open, places_forced, has_forced}
+use Rattle.bs_solve_search.proofs.Takings.{levels_assigned}
 use Rattle.bs_solve_search.proofs.blocking.force_at.Goals as goal
 
 pub cancel_to-requires : goal.cancel_to-requires
@@ -32,7 +33,7 @@ join-requires-clause-guarded c = λ two.
     c.holds_levels.ensures.apart can c.requires.retreat in
     may_attach_back c.args.watch.now c.assign.new.self (literals_at c.args.arena.now.clauses c.args.r) (literals_at c.args.arena.now.clauses c.args.r)
     c.requires.retreat.0.first c.args.level c.args.r v b can c.holds_levels-2.ensures.levels c.holds_levels-2.ensures.apart
-    (levels_forced c.args.watch.now c.cancel_to.new.self c.assign.new.self c.args.level c.args.r c.literal_in.result c.cancel_to.ensures.levels
+    (levels_assigned c.args.watch.now c.cancel_to.new.self c.assign.new.self c.args.level c.args.r c.literal_in.result c.cancel_to.ensures.levels
     c.assign.ensures.new)
     (places_forced c.args.watch.now c.cancel_to.new.self c.assign.new.self (literals_at c.args.arena.now.clauses c.args.r) c.requires.retreat.0.first
     c.literal_in.result c.args.level c.args.r v b c.cancel_to.ensures.back c.literal_in.ensures c.cancel_to.ensures.levels c.assign.ensures.new)

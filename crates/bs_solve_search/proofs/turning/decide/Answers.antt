@@ -1,7 +1,8 @@
 use Rattle.std.proofs.Common.{◌≡◌, ◌≤◌, false, length, None, refl, ap, ◌∙◌, sym, subst}
+use Rattle.bs_clause.specs.Literal.{Literal}
 use Rattle.bs_watch.specs.Places.{IsUnassigned}
 use Rattle.bs_watch.specs.Watch.{WatchState, Serves, decided, assigned}
-use Rattle.bs_solve_search.proofs.Refutings.{all_assigned, level_room}
+use Rattle.bs_solve_search.proofs.Refutings.{all_assigned, level_room, open_literal}
 use Rattle.bs_solve_search.proofs.turning.decide.Goals as goal
 
 pub decide-requires : goal.decide-requires
@@ -13,28 +14,25 @@ decide-requires c =
 
 pub assign-requires : goal.assign-requires
 assign-requires c =
-    let first = c.in-Some.ensures.some in
     let trail : c.decide.new.self.trail ≡ c.args.watch.now.trail =
     ap (λ (w : WatchState). w.trail) c.decide.ensures.new ∙ ap (λ (w : WatchState). w.trail) c.in-Some.ensures.same in
-    subst (λ t. IsUnassigned t c.new.result) (sym trail) (subst (IsUnassigned c.args.watch.now.trail) (sym c.new.ensures)
-    (record { in_range = first.in_range; unassigned = first.here (record { variable = c.in-Some.variable.0; positive = false }) refl }))
+    subst (λ t. IsUnassigned t c.new.result) (sym trail) (open_literal c.args.watch.now.trail c.in-Some.variable.0 c.new.result c.in-Some.ensures.some
+    (ap (λ (l : Literal). l.variable) c.new.ensures))
 
 pub returns-in-None : goal.returns-in-None
 returns-in-None c = (c.in-None.ensures.same, all_assigned c.args.watch.now c.in-None.ensures.none)
 
 pub returns-in-Some : goal.returns-in-Some
-returns-in-Some c =
-    let first = c.in-Some.ensures.some in
-    record {
-      literal = c.new.result;
-      free = subst (IsUnassigned c.args.watch.now.trail) (sym c.new.ensures)
-          (record { in_range = first.in_range; unassigned = first.here (record { variable = c.in-Some.variable.0; positive = false }) refl });
-      is = c.assign.ensures.new ∙ ap (λ w. assigned w c.new.result None) (c.decide.ensures.new ∙ ap decided c.in-Some.ensures.same);
-      serves = record {
-        keeps = λ clauses s. c.assign.ensures.serves.keeps clauses (c.decide.ensures.serves.keeps clauses
-            (subst (λ w. Serves w clauses) (sym c.in-Some.ensures.same) s));
-      };
-    }
+returns-in-Some c = record {
+  literal = c.new.result;
+  free = open_literal c.args.watch.now.trail c.in-Some.variable.0 c.new.result c.in-Some.ensures.some
+      (ap (λ (l : Literal). l.variable) c.new.ensures);
+  is = c.assign.ensures.new ∙ ap (λ w. assigned w c.new.result None) (c.decide.ensures.new ∙ ap decided c.in-Some.ensures.same);
+  serves = record {
+    keeps = λ clauses s. c.assign.ensures.serves.keeps clauses (c.decide.ensures.serves.keeps clauses
+        (subst (λ w. Serves w clauses) (sym c.in-Some.ensures.same) s));
+  };
+}
 
 pub returns-then-is_full : goal.returns-then-is_full
 returns-then-is_full c = (refl, c.is_full.ensures c.if-is_full.true)
