@@ -1,14 +1,37 @@
 -- Lemmas of lengths, one after another.
-use Rattle.std.proofs.Common.{◌≡◌, ℕ, ◌+◌, ◌-◌, ◌*◌, Bool, true, List, [], ◌∷◌, ◌++◌, length, drop, arith, ap, sym, subst, ◌∙◌, Option, Some, None}
-use Rattle.std.specs.Prelude.{option_to_list}
+use Rattle.std.proofs.Common.{◌≡◌, ℕ, ◌+◌, ◌-◌, ◌*◌, ◌<◌, Bool, true, List, [], ◌∷◌, ◌++◌, length, drop, arith, ap, sym, subst, ◌∙◌, Option, Some, None}
+use Rattle.std.specs.Prelude.{option_to_list, IsTrue}
 use Rattle.bs_clause.specs.Literal.{Literal, Clause}
 use Rattle.bs_encode.specs.Tables.{lit}
 use Rattle.bs_encode.specs.Encoded.{Encoded}
 use Rattle.bs_encode.specs.Assuming.{signed}
 use Rattle.bs_reach_unrolled.specs.Unrolled.{next_at, length_assumes}
+use Rattle.bs_log.specs.History.{axioms_from}
+use Rattle.bs_log.specs.Refusal.{has_distinct_variables}
+use Rattle.bs_log.specs.Propagation.{hints_are_unit, last_is_false}
+use Rattle.bs_log.specs.Lean.{IsResolventOf}
+use Rattle.bs_reach_forced.specs.declared.denying.Lemma.{Lemma}
+use Rattle.bs_reach_forced.specs.Rows.{Refutes}
+use Rattle.bs_reach_forced.proofs.NamedLemmas.{rows_named}
 use Rattle.bs_solve.specs.declared.denying.Denial.{Denial}
 use Rattle.bs_solve.specs.Denying.{Denies}
 use Rattle.bs_reach.specs.Denials.{AreDenials}
+
+-- a lemma by rows is one by the clauses of their ids
+pub denial_right : (all : List Clause) (a : Clause) (d : Lemma) → Refutes all a d → Denies all a (record { lits = d.lits; hints = d.hints })
+denial_right all a d r =
+    let (named, same) = rows_named all d.hints r.clauses r.rows in
+    record {
+      learnt = record {
+        named = named;
+        distinct = ap has_distinct_variables r.one;
+        unit = subst (λ cs. IsTrue (hints_are_unit d.lits cs)) (sym same) r.proved.unit;
+        last = subst (λ cs. IsTrue (last_is_false d.lits cs)) (sym same) r.proved.last;
+        resolvent = subst (IsResolventOf d.lits) (sym same) r.proved.resolvent;
+      };
+      ends = r.ends;
+      few = let n = ap length r.one in omega (arith, n);
+    }
 
 -- what a guard and the state of a copy make
 pub due_of : (e : Encoded) (k c : ℕ) (p : List Bool) (guard : Literal) (a : Clause) → guard ≡ lit (k * e.variables + (c + 1)) true →

@@ -1,4 +1,6 @@
 pub mod DenialLemmas
+pub mod RefutedLemmas
+pub mod SoughtLemmas
 pub mod LengthLemmas
 pub mod ReachLemmas
 pub mod ReadLemmas

@@ -3,6 +3,7 @@ pub mod Reach
 pub mod Text
 -- what inner functions promise each other
 pub mod Denials
+pub mod Refuted
 pub mod Search
 pub mod Ends
 pub mod Told

@@ -1,5 +1,5 @@
 //! Answers: of a search over so many copies, and those that want no search.
-ghost use Rattle.std.specs.Prelude.{◌≡◌, ◌≢◌, ◌*◌, ◌≤◌, [], length, IfOk};
+ghost use Rattle.std.specs.Prelude.{◌≡◌, ◌≢◌, ◌*◌, ◌≤◌, [], length, IfOk, IfSome};
 ghost use Rattle.bs_net.specs.Circuit.{reset_state};
 ghost use Rattle.bs_net.specs.Netlist.{circuit};
 ghost use Rattle.bs_encode.specs.Transition.{variables};
@@ -9,18 +9,21 @@ ghost use Rattle.bs_reach_unrolled.specs.Room.{IsUnrollable};
 ghost use Rattle.bs_reach_unrolled.specs.Unrolled.{unrolled};
 ghost use Rattle.bs_reach.specs.Search.{fresh_over, IsBetween};
 ghost use Rattle.bs_reach.specs.Denials.{AreDenials};
+ghost use Rattle.bs_reach.specs.Refuted.{IsLogOfRefuted};
 ghost use Rattle.bs_reach.specs.Reach.{IsReach};
 ghost use Rattle.bs_reach.specs.Sought.{HasSought, TellsEnd};
 
 use crate::denials::first_denials;
 use crate::reach::{Outcome, Reach};
+use crate::refuted::log_of;
 use crate::search::search;
-use crate::telling::{Told, tell};
+use crate::telling::{Told, tell, without_states};
 use bs_bits::{Bits, List};
-use bs_clause::{Clauses, NoMemory};
+use bs_clause::NoMemory;
 use bs_encode::Encoding;
 use bs_log::Log;
 use bs_net::Netlist;
+use bs_reach_forced::Forced;
 use bs_reach_unrolled::{netlists_unroll, unroll, unrolled_clauses_are_executions};
 use bs_solve::{Denial, Solver};
 use std::alloc::Global;
@@ -33,31 +36,24 @@ struct Start {
     denials: VecDeque<Denial>,
 }
 
-/// A solver over the unrolled clauses, and what they alone say of the first lengths.
-fn start_over(
-    alloc: Global,
-    encoding: &Encoding,
-    reset: &Bits,
-    clauses: Clauses,
-    state: &Bits,
-    k: u32,
-) -> Result<Start, NoMemory>
+/// A solver over the unrolled clauses.
+fn solver_over(alloc: Global, encoding: &Encoding, reset: &Bits, k: u32) -> Result<Solver, NoMemory>
+    requires some { 1 ≤ k }
     requires unrollable { IsUnrollable encoding.now k }
-    requires width { length encoding.now.next ≡ length state.now }
-    requires clauses { clauses ≡ unrolled encoding.now reset.now k }
-    ensures solver { IfOk result (λ s. s.solver ≡ fresh_over (unrolled encoding.now reset.now k) encoding.now k) }
-    ensures denials { IfOk result (λ s. AreDenials s.solver.book.problem.clauses encoding.now k state.now 0 s.denials.items) }
+    requires starts { length encoding.now.states ≡ length reset.now }
+    ensures { IfOk result (λ s. s ≡ fresh_over (unrolled encoding.now reset.now k) encoding.now k) }
 {
-    let denials = first_denials(alloc, encoding, reset, clauses.slice(), state, k)?;
+    let clauses = unroll(alloc, encoding, reset, k)?;
     let solver = Solver::new(alloc, k * encoding.vars(), clauses)?;
-    Ok(Start { solver, denials })
+    Ok(solver)
 }
 
-/// The same, with the clauses.
+/// The same, with what follows from reset of the first lengths.
 fn start_of(
     alloc: Global,
     encoding: &Encoding,
     reset: &Bits,
+    forced: &Forced,
     state: &Bits,
     k: u32,
 ) -> Result<Start, NoMemory>
@@ -68,9 +64,9 @@ fn start_of(
     ensures solver { IfOk result (λ s. s.solver ≡ fresh_over (unrolled encoding.now reset.now k) encoding.now k) }
     ensures denials { IfOk result (λ s. AreDenials s.solver.book.problem.clauses encoding.now k state.now 0 s.denials.items) }
 {
-    let clauses = unroll(alloc, encoding, reset, k)?;
-    let start = start_over(alloc, encoding, reset, clauses, state, k)?;
-    Ok(start)
+    let denials = first_denials(alloc, encoding, reset, forced, state, k)?;
+    let solver = solver_over(alloc, encoding, reset, k)?;
+    Ok(Start { solver, denials })
 }
 
 /// The answer where the state is the one at reset.
@@ -152,6 +148,7 @@ fn seek(
     alloc: Global,
     encoding: &Encoding,
     reset: &Bits,
+    forced: &Forced,
     state: &Bits,
     k: u32,
     b: u64,
@@ -163,7 +160,7 @@ fn seek(
     requires limit { 1 ≤ b }
     ensures { IfOk result (HasSought encoding.now reset.now state.now k b) }
 {
-    let mut start = start_of(alloc, encoding, reset, state, k)?;
+    let mut start = start_of(alloc, encoding, reset, forced, state, k)?;
     let told = sought(
         alloc,
         encoding,
@@ -176,11 +173,77 @@ fn seek(
     Ok(answered(k, b, told, start.solver.into_log()))
 }
 
+/// The answer with the log of lengths that are all refuted.
+fn as_refuted(
+    alloc: Global,
+    _encoding: &Encoding,
+    _reset: &Bits,
+    _state: &Bits,
+    k: u32,
+    b: u64,
+    log: Log,
+) -> Reach
+    requires { IsLogOfRefuted _encoding.now _reset.now _state.now k b log }
+    ensures { HasSought _encoding.now _reset.now _state.now k b result }
+{
+    answered(k, b, without_states(alloc, Outcome::Unreached), log)
+}
+
+/// The answer where what follows from reset denies each length.
+fn seek_refuted(
+    alloc: Global,
+    encoding: &Encoding,
+    reset: &Bits,
+    forced: &Forced,
+    state: &Bits,
+    k: u32,
+    b: u64,
+) -> Result<Option<Reach>, NoMemory>
+    requires some { 1 ≤ k }
+    requires unrollable { IsUnrollable encoding.now k }
+    requires starts { length encoding.now.states ≡ length reset.now }
+    requires width { length encoding.now.next ≡ length state.now }
+    requires limit { 1 ≤ b }
+    ensures { IfOk result (λ o. IfSome o (HasSought encoding.now reset.now state.now k b)) }
+{
+    let found = log_of(alloc, encoding, reset, forced, state, k, b)?;
+    match found {
+        None => Ok(None),
+        Some(log) => Ok(Some(as_refuted(alloc, encoding, reset, state, k, b, log))),
+    }
+}
+
+/// The same by the clauses of one cycle, for a bound of one cycle or more, where the state is another one than at reset.
+pub(crate) fn look_refuted(
+    alloc: Global,
+    net: &Netlist,
+    encoding: &Encoding,
+    forced: &Forced,
+    state: &Bits,
+    k: u32,
+    b: u64,
+) -> Result<Option<Reach>, NoMemory>
+    requires encoded { encoding.now ≡ encoding_of (circuit net.now) [] }
+    requires width { length state.now ≡ length (circuit net.now).flops }
+    requires some { 1 ≤ k }
+    requires cycles { k ≤ MAX_COPIES }
+    requires room { k * variables (circuit net.now) [] ≤ MAX_COPY_VARIABLES }
+    requires limit { 1 ≤ b }
+    requires other { reset_state (circuit net.now) ≢ state.now }
+    ensures { IfOk result (λ o. IfSome o (IsReach (circuit net.now) state.now k b)) }
+{
+    unrolled_clauses_are_executions(net);
+    netlists_unroll(net, k);
+    let found = seek_refuted(alloc, encoding, net.reset(), forced, state, k, b)?;
+    Ok(found)
+}
+
 /// The answer by the clauses of one cycle, for a bound of one cycle or more, where the state is another one than at reset.
 pub(crate) fn look_over(
     alloc: Global,
     net: &Netlist,
     encoding: &Encoding,
+    forced: &Forced,
     state: &Bits,
     k: u32,
     b: u64,
@@ -196,6 +259,6 @@ pub(crate) fn look_over(
 {
     unrolled_clauses_are_executions(net);
     netlists_unroll(net, k);
-    let reach = seek(alloc, encoding, net.reset(), state, k, b)?;
+    let reach = seek(alloc, encoding, net.reset(), forced, state, k, b)?;
     Ok(reach)
 }

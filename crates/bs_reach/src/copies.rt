@@ -3,20 +3,73 @@ ghost use Rattle.std.specs.Prelude.{◌≡◌, ◌≢◌, ◌*◌, ◌≤◌, []
 ghost use Rattle.bs_net.specs.Circuit.{reset_state};
 ghost use Rattle.bs_net.specs.Netlist.{circuit};
 ghost use Rattle.bs_encode.specs.Transition.{variables};
+ghost use Rattle.bs_encode.specs.Encoded.{encoding_of};
 ghost use Rattle.bs_reach_unrolled.specs.declared.limits.TheConstants.{MAX_COPIES, MAX_COPY_VARIABLES};
 ghost use Rattle.bs_reach.specs.Reach.{IsReach};
 
-use crate::answer::{at_reset, never};
+use crate::answer::{at_reset, look_refuted, never};
 use crate::reach::Reach;
 use crate::wider::look_wider;
 use bs_bits::Bits;
 use bs_clause::NoMemory;
 use bs_encode::Encoding;
 use bs_net::Netlist;
+use bs_reach_forced::{Forced, forced_from};
 use std::alloc::Global;
 
 /// Lets the clauses of a cycle go.
 fn let_go(_encoding: Encoding) {}
+
+/// The answer by what follows from reset where this denies each length, and else by a search.
+fn look_forced(
+    alloc: Global,
+    net: &Netlist,
+    encoding: &Encoding,
+    forced: &Forced,
+    state: &Bits,
+    k: u32,
+    b: u64,
+) -> Result<Reach, NoMemory>
+    requires encoded { encoding.now ≡ encoding_of (circuit net.now) [] }
+    requires width { length state.now ≡ length (circuit net.now).flops }
+    requires some { 1 ≤ k }
+    requires cycles { k ≤ MAX_COPIES }
+    requires room { k * variables (circuit net.now) [] ≤ MAX_COPY_VARIABLES }
+    requires limit { 1 ≤ b }
+    requires other { reset_state (circuit net.now) ≢ state.now }
+    ensures { IfOk result (IsReach (circuit net.now) state.now k b) }
+{
+    if forced.len() >= k as usize {
+        match look_refuted(alloc, net, encoding, forced, state, k, b)? {
+            Some(reach) => return Ok(reach),
+            None => {}
+        }
+    }
+    look_wider(alloc, net, encoding, forced, state, k, b)
+}
+
+/// The answer by the clauses of a cycle.
+fn look_by(
+    alloc: Global,
+    net: &Netlist,
+    encoding: &Encoding,
+    state: &Bits,
+    k: u32,
+    b: u64,
+) -> Result<Reach, NoMemory>
+    requires encoded { encoding.now ≡ encoding_of (circuit net.now) [] }
+    requires width { length state.now ≡ length (circuit net.now).flops }
+    requires some { 1 ≤ k }
+    requires cycles { k ≤ MAX_COPIES }
+    requires room { k * variables (circuit net.now) [] ≤ MAX_COPY_VARIABLES }
+    requires limit { 1 ≤ b }
+    requires other { reset_state (circuit net.now) ≢ state.now }
+    ensures { IfOk result (IsReach (circuit net.now) state.now k b) }
+{
+    let found = forced_from(alloc, encoding, net.reset(), state, k)?;
+    let reach = look_forced(alloc, net, encoding, &found, state, k, b)?;
+    Ok(reach)
+}
 
 /// The answer for a bound of one cycle or more, where the state is another one than at reset.
 fn look(alloc: Global, net: &Netlist, state: &Bits, k: u32, b: u64) -> Result<Reach, NoMemory>
@@ -29,7 +82,7 @@ fn look(alloc: Global, net: &Netlist, state: &Bits, k: u32, b: u64) -> Result<Re
     ensures { IfOk result (IsReach (circuit net.now) state.now k b) }
 {
     let encoding = Encoding::plain(alloc, net)?;
-    let reach = look_wider(alloc, net, &encoding, state, k, b);
+    let reach = look_by(alloc, net, &encoding, state, k, b);
     let_go(encoding);
     reach
 }

@@ -2,8 +2,8 @@
 //!
 //! Modules: `copies` (`bounded`, over how many copies), `wider` (few copies first), `answer` (a search over so many
 //! copies), `count` (`size`), `search` (one length after another, over one solver), `length` (a
-//! step of the log), `denials` (the first lengths, by what follows from the clauses alone),
-//! `telling` (the states and inputs of an assignment), `reach` (`Reach`, `Outcome`), `text`. Used
+//! step of the log), `denials` (the first lengths, by what follows from reset alone), `refuted` (the
+//! log where it denies all), `telling` (the states and inputs of an assignment), `reach` (`Reach`, `Outcome`), `text`. Used
 //! above: `IsReach` of `bounded`, and `reach_text` of `Reach::text`. A right answer: `specs/Reach`;
 //! how a length is tried: `length`; a line of the text: `specs/Text`.
 #![tactic(auto)]
@@ -14,6 +14,7 @@ mod count;
 mod denials;
 mod length;
 mod reach;
+mod refuted;
 mod search;
 mod telling;
 mod text;

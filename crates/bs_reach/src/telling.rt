@@ -176,7 +176,7 @@ fn inputs_of(
 }
 
 /// An outcome without an execution.
-fn without_states(alloc: Global, outcome: Outcome) -> Told
+pub(crate) fn without_states(alloc: Global, outcome: Outcome) -> Told
     ensures { result.outcome ≡ outcome }
 {
     Told {

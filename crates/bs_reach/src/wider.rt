@@ -18,12 +18,10 @@ use bs_clause::NoMemory;
 use bs_encode::Encoding;
 use bs_log::Log;
 use bs_net::Netlist;
+use bs_reach_forced::Forced;
 use bs_reach_renamed::{Shift, renamed, renamed_logs_stay_right};
 use bs_reach_unrolled::netlists_unroll;
 use std::alloc::Global;
-
-/// So many copies are looked over first, and then four times as many each time, while those asked for are four times as many.
-const FEW_COPIES: u32 = 8;
 
 /// The clauses and flip-flops of a copy and the lines of a log are at most so many where the log is renamed.
 pub(crate) const ID_ROOM: u64 = 1 << 40;
@@ -179,6 +177,7 @@ fn look_within(
     alloc: Global,
     net: &Netlist,
     encoding: &Encoding,
+    forced: &Forced,
     state: &Bits,
     j: u32,
     k: u32,
@@ -194,16 +193,32 @@ fn look_within(
     requires other { reset_state (circuit net.now) ≢ state.now }
     ensures { IfOk result (LookFits (circuit net.now) state.now k b) }
 {
-    let reach = look_over(alloc, net, encoding, state, j, b)?;
+    let reach = look_over(alloc, net, encoding, forced, state, j, b)?;
     let look = told_of(alloc, net, encoding, state, reach, j, k)?;
     Ok(look)
 }
 
-/// The answer by few copies where they tell it, and else by all that are asked for.
+/// The copies of the first length that what follows from reset does not deny, or all.
+fn first_copies(forced: &Forced, k: u32) -> u32
+    requires { 1 ≤ k }
+    ensures some { 1 ≤ result }
+    ensures few { result ≤ k }
+{
+    let denied = forced.len();
+    if denied < k as usize {
+        denied as u32 + 1
+    } else {
+        k
+    }
+}
+
+/// The answer by few copies where they tell it, and else by all that are asked for. Those of the first length that is not denied are
+/// looked over first, and then four times as many each time.
 pub(crate) fn look_wider(
     alloc: Global,
     net: &Netlist,
     encoding: &Encoding,
+    forced: &Forced,
     state: &Bits,
     k: u32,
     b: u64,
@@ -217,13 +232,13 @@ pub(crate) fn look_wider(
     requires other { reset_state (circuit net.now) ≢ state.now }
     ensures { IfOk result (IsReach (circuit net.now) state.now k b) }
 {
-    let mut j = FEW_COPIES;
-    'sizes: while 4 * j <= k {
-        match look_within(alloc, net, encoding, state, j, k, b)? {
+    let mut j = first_copies(forced, k);
+    'sizes: while j < k {
+        match look_within(alloc, net, encoding, forced, state, j, k, b)? {
             Look::Told(reach) => return Ok(reach),
             Look::More => j = 4 * j,
             Look::Whole => break,
         }
     }
-    look_over(alloc, net, encoding, state, k, b)
+    look_over(alloc, net, encoding, forced, state, k, b)
 }

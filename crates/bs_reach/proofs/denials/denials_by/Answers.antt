@@ -1,7 +1,7 @@
 use Rattle.std.proofs.Common.{◌+◌, ◌∙◌, arith, ap, length, sym, subst}
 use Rattle.std.specs.Prelude.{IfSome}
 use Rattle.std.proofs.lemmas.List.{length_push}
-use Rattle.bs_reach_unrolled.specs.Unrolled.{length_assumes}
+use Rattle.bs_reach_unrolled.specs.Unrolled.{length_assumes, unrolled}
 use Rattle.bs_solve.specs.Denying.{Denies}
 use Rattle.bs_reach.specs.Denials.{AreDenials}
 use Rattle.bs_reach.proofs.DenialLemmas.{denials_push}
@@ -10,15 +10,15 @@ use Rattle.bs_reach.proofs.denials.denials_by.Goals as goal
 pub lengths-preserved : goal.lengths-preserved
 lengths-preserved c =
     let items = c.in_ok-push_back-in-Some.ensures.items in
+    let all = unrolled c.args.encoding.now c.args.reset.now c.args.k in
     record {
-      denials = subst (AreDenials c.args.clauses.now c.args.encoding.now c.args.k c.args.state.now 0) (sym items)
-          (denials_push c.args.clauses.now c.args.encoding.now c.args.k c.args.state.now 0 c.lengths.c c.lengths.found.items c.in-Some.one
+      denials = subst (AreDenials all c.args.encoding.now c.args.k c.args.state.now 0) (sym items)
+          (denials_push all c.args.encoding.now c.args.k c.args.state.now 0 c.lengths.c c.lengths.found.items c.in-Some.one
           c.lengths.invariant.denials c.lengths.invariant.count
-          (subst (λ o. IfSome o (Denies c.args.clauses.now (length_assumes c.args.encoding.now c.args.k c.args.state.now (c.lengths.c + 1))))
-          c.in-Some.is c.in_ok-next.ensures.denies));
+          (subst (λ o. IfSome o (Denies all (length_assumes c.args.encoding.now c.args.k c.args.state.now (c.lengths.c + 1))))
+          c.in-Some.is c.in_ok-next.ensures));
       count =
           let n = ap length items ∙ length_push c.lengths.found.items c.in-Some.one in
           let m = c.lengths.invariant.count in
           omega (arith, n, m);
-      clear = c.in_ok-next.ensures.clear;
     }

@@ -1,11 +1,10 @@
 use Rattle.std.proofs.Common.{◌≡◌, ◌+◌, length}
-use Rattle.bs_solve_analysis.specs.Marks.{IsClear}
+use Rattle.bs_reach_unrolled.specs.Unrolled.{unrolled}
 use Rattle.bs_reach.specs.Denials.{AreDenials}
 use Rattle.bs_reach.proofs.denials.denials_by.Given as goal
 
 abbrev pub invariant-lengths : goal.invariant-lengths
 invariant-lengths l = record {
-  denials : AreDenials l.clauses l.encoding l.k l.state 0 l.found.items;
+  denials : AreDenials (unrolled l.encoding l.reset l.k) l.encoding l.k l.state 0 l.found.items;
   count : 0 + length l.found.items ≡ l.c;
-  clear : IsClear (l.rooted.watch.trail.vars + 1) l.marks;
 }

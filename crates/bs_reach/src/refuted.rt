@@ -1,0 +1,237 @@
+//! The log where what follows from reset denies each length: no clause is unrolled, and no solver is made.
+ghost use Rattle.std.specs.Prelude.{◌≡◌, ◌+◌, ◌*◌, ◌^◌, ◌<◌, ◌≤◌, ◌++◌, [], length, reverse, IfOk, OnOk, IfSome};
+ghost use Rattle.std.specs.Bool.{OnTrue};
+ghost use Rattle.bs_reach_unrolled.specs.declared.limits.TheConstants.{MAX_COPIES};
+ghost use Rattle.bs_reach_unrolled.specs.Room.{IsUnrollable};
+ghost use Rattle.bs_reach_unrolled.specs.Unrolled.{length_assumes, unrolled};
+ghost use Rattle.bs_solve.specs.Denying.{Denies};
+ghost use Rattle.bs_reach.specs.declared.refuted.TheConstants.{COUNT_ROOM};
+ghost use Rattle.bs_reach.specs.Refuted.{step_lines, AreRefuted, IsLogOfRefuted};
+
+use crate::denials::denial_at;
+use bs_bits::Bits;
+use bs_clause::NoMemory;
+use bs_encode::Encoding;
+use bs_log::{Line, Log};
+use bs_reach_forced::{Forced, Places};
+use bs_solve::Denial;
+use std::alloc::Global;
+
+/// A copy's clauses and flip-flops are at most so many where those of all copies are counted.
+const COUNT_ROOM: u64 = 1 << 40;
+
+/// So many times a number.
+fn times(n: u32, size: u64) -> u64
+    requires few { n ≤ MAX_COPIES }
+    requires small { size ≤ 2 * COUNT_ROOM }
+    ensures product { result ≡ n * size }
+    ensures small { result ≤ MAX_COPIES * (2 * COUNT_ROOM) }
+{
+    u64::from(n) * size
+}
+
+/// Whether the unrolled clauses can be counted.
+fn is_counted(encoding: &Encoding) -> bool
+    ensures clauses { OnTrue result (length encoding.now.clauses ≤ COUNT_ROOM) }
+    ensures states { OnTrue result (length encoding.now.states ≤ COUNT_ROOM) }
+{
+    let clauses = encoding.clauses().len() as u64;
+    let states = encoding.states().len() as u64;
+    clauses <= COUNT_ROOM && states <= COUNT_ROOM
+}
+
+/// How many unrolled clauses there are.
+fn count(encoding: &Encoding, _reset: &Bits, k: u32) -> u64
+    requires some { 1 ≤ k }
+    requires unrollable { IsUnrollable encoding.now k }
+    requires starts { length encoding.now.states ≡ length _reset.now }
+    requires clauses { length encoding.now.clauses ≤ COUNT_ROOM }
+    requires states { length encoding.now.states ≤ COUNT_ROOM }
+    ensures { result ≡ length (unrolled encoding.now _reset.now k) }
+{
+    let states = encoding.states().len() as u64;
+    let copies = times(k, encoding.clauses().len() as u64);
+    let links = times(k - 1, 2 * states);
+    copies + (states + links)
+}
+
+/// The id behind another, where there is one.
+fn next_id(last: u64) -> Result<u64, NoMemory>
+    ensures { IfOk result (λ id. id ≡ last + 1) }
+{
+    match last.checked_add(1) {
+        Some(id) => Ok(id),
+        None => Err(NoMemory),
+    }
+}
+
+/// Logs a length that a lemma refutes, and answers the last id that is given then.
+fn log_length(log: &mut Log, last: u64, denial: Denial) -> Result<u64, NoMemory>
+    ensures id { IfOk result (λ id. id ≡ last + 2) }
+    ensures lines { IfOk result (λ _. log.new ≡ log.old ++ step_lines (last + 1) denial) }
+{
+    let lemma = next_id(last)?;
+    let end = next_id(lemma)?;
+    log.push_two(
+        Line::Solve,
+        Line::Lemma {
+            id: lemma,
+            lits: denial.lits,
+            hints: denial.hints,
+        },
+    )?;
+    log.push_two(Line::Finish { id: lemma }, Line::Retire { id: end })?;
+    Ok(end)
+}
+
+/// Logs the length `c + 1`, which the lemma refutes, and answers the last id that is given then.
+fn log_denied(
+    log: &mut Log,
+    last: u64,
+    denial: Denial,
+    _encoding: &Encoding,
+    _reset: &Bits,
+    _state: &Bits,
+    _c: u32,
+    _k: u32,
+    _b: u64,
+) -> Result<u64, NoMemory>
+    requires unrollable { IsUnrollable _encoding.now _k }
+    requires within { _c < _k }
+    requires limit { 1 ≤ _b }
+    requires so_far { AreRefuted _encoding.now _reset.now _state.now _k _b _c last (reverse log.old) }
+    requires denial { Denies (unrolled _encoding.now _reset.now _k) (length_assumes _encoding.now _k _state.now (_c + 1)) denial }
+    ensures { IfOk result (λ id. AreRefuted _encoding.now _reset.now _state.now _k _b (_c + 1) id (reverse log.new)) }
+{
+    let end = log_length(log, last, denial)?;
+    Ok(end)
+}
+
+/// Logs the length `c + 1`, where what follows from reset denies it, and answers the last id that is given then.
+fn add_length(
+    alloc: Global,
+    log: &mut Log,
+    last: u64,
+    encoding: &Encoding,
+    reset: &Bits,
+    forced: &Forced,
+    places: &mut Places,
+    state: &Bits,
+    c: u32,
+    k: u32,
+    b: u64,
+) -> Result<Option<u64>, NoMemory>
+    requires unrollable { IsUnrollable encoding.now k }
+    requires within { c < k }
+    requires starts { length encoding.now.states ≡ length reset.now }
+    requires width { length encoding.now.next ≡ length state.now }
+    requires limit { 1 ≤ b }
+    requires so_far { AreRefuted encoding.now reset.now state.now k b c last (reverse log.old) }
+    ensures { IfOk result (λ o. IfSome o (λ id. AreRefuted encoding.now reset.now state.now k b (c + 1) id (reverse log.new))) }
+{
+    let found = denial_at(alloc, encoding, reset, forced, places, state, c, k)?;
+    match found {
+        None => Ok(None),
+        Some(denial) => {
+            let id = log_denied(log, last, denial, encoding, reset, state, c, k, b)?;
+            Ok(Some(id))
+        }
+    }
+}
+
+/// Logs each length, where what follows from reset denies it. Whether all are logged.
+fn add_lengths(
+    alloc: Global,
+    log: &mut Log,
+    first: u64,
+    encoding: &Encoding,
+    reset: &Bits,
+    forced: &Forced,
+    places: &mut Places,
+    state: &Bits,
+    k: u32,
+    b: u64,
+) -> Result<Option<u64>, NoMemory>
+    requires unrollable { IsUnrollable encoding.now k }
+    requires starts { length encoding.now.states ≡ length reset.now }
+    requires width { length encoding.now.next ≡ length state.now }
+    requires limit { 1 ≤ b }
+    requires start { AreRefuted encoding.now reset.now state.now k b 0 first (reverse log.old) }
+    ensures { IfOk result (λ o. IfSome o (λ id. AreRefuted encoding.now reset.now state.now k b k id (reverse log.new))) }
+{
+    let mut last = first;
+    'lengths: for c in 0..k {
+        let next = add_length(
+            alloc, log, last, encoding, reset, forced, places, state, c, k, b,
+        )?;
+        match next {
+            None => return Ok(None),
+            Some(id) => last = id,
+        }
+    }
+    Ok(Some(last))
+}
+
+/// Logs each of `k` lengths, one or more, where what follows from reset denies it; into an empty log.
+fn fill(
+    alloc: Global,
+    log: &mut Log,
+    encoding: &Encoding,
+    reset: &Bits,
+    forced: &Forced,
+    state: &Bits,
+    k: u32,
+    b: u64,
+) -> Result<Option<u64>, NoMemory>
+    requires some { 1 ≤ k }
+    requires unrollable { IsUnrollable encoding.now k }
+    requires starts { length encoding.now.states ≡ length reset.now }
+    requires width { length encoding.now.next ≡ length state.now }
+    requires limit { 1 ≤ b }
+    requires empty { log.old ≡ [] }
+    ensures { IfOk result (λ o. IfSome o (λ id. AreRefuted encoding.now reset.now state.now k b k id (reverse log.new))) }
+{
+    if !is_counted(encoding) {
+        return Ok(None);
+    }
+    let mut places = Places::new(alloc, forced)?;
+    let first = count(encoding, reset, k);
+    let last = add_lengths(
+        alloc,
+        log,
+        first,
+        encoding,
+        reset,
+        forced,
+        &mut places,
+        state,
+        k,
+        b,
+    )?;
+    Ok(last)
+}
+
+/// The log of `k` lengths, one or more, where what follows from reset denies each.
+pub(crate) fn log_of(
+    alloc: Global,
+    encoding: &Encoding,
+    reset: &Bits,
+    forced: &Forced,
+    state: &Bits,
+    k: u32,
+    b: u64,
+) -> Result<Option<Log>, NoMemory>
+    requires some { 1 ≤ k }
+    requires unrollable { IsUnrollable encoding.now k }
+    requires starts { length encoding.now.states ≡ length reset.now }
+    requires width { length encoding.now.next ≡ length state.now }
+    requires limit { 1 ≤ b }
+    ensures { IfOk result (λ o. IfSome o (IsLogOfRefuted encoding.now reset.now state.now k b)) }
+{
+    let mut log = Log::new(alloc);
+    let last = fill(alloc, &mut log, encoding, reset, forced, state, k, b)?;
+    match last {
+        None => Ok(None),
+        Some(_id) => Ok(Some(log)),
+    }
+}

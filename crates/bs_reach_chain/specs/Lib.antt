@@ -1,0 +1,2 @@
+-- what the public contract rests on
+pub mod Chain

@@ -1,0 +1,336 @@
+//! What follows from reset in one copy after another, by the clauses of one copy.
+use crate::template::{Template, number_at, template_of, write, zeros};
+use bs_bits::Bits;
+use bs_clause::{Lit, Lits, NoMemory};
+use bs_encode::Encoding;
+use std::alloc::Global;
+
+/// What follows from reset in the first copies: for each variable of the unrolled clauses what forces it, and for each of the
+/// first lengths a flip-flop that does not get its bit of the state.
+///
+/// What forces a variable is 0 where nothing does, and else one more than the number of a clause of its copy, or of a flip-flop
+/// behind all of these.
+#[derive(Drop)]
+pub struct Forced {
+    pub(crate) reasons: Vec<u32>,
+    pub(crate) denied: Vec<u32>,
+}
+
+impl Forced {
+    /// How many of the first lengths are denied.
+    pub fn len(&self) -> usize {
+        self.denied.len()
+    }
+}
+
+/// The values in a copy: 1 of a variable that is true, and 2 of one that is false.
+#[derive(Drop)]
+struct Scene {
+    values: Vec<u32>,
+    falses: Vec<u32>,
+    trail: Vec<Lit>,
+    present: Vec<u32>,
+}
+
+/// The number of a sign.
+fn number_of(positive: bool) -> u32 {
+    if positive { 1 } else { 2 }
+}
+
+/// The number of the literal's value: 1 where it is true, 2 where it is false, 0 where it is open.
+fn value_of(values: &[u32], l: Lit) -> u32 {
+    let value = number_at(values, l.var().0 as usize);
+    if value == 0 || l.positive() {
+        return value;
+    }
+    3u32.wrapping_sub(value)
+}
+
+/// Makes a literal true for a reason.
+fn assign(
+    scene: &mut Scene,
+    reasons: &mut Vec<u32>,
+    base: usize,
+    l: Lit,
+    reason: usize,
+) -> Result<(), NoMemory> {
+    let variable = l.var().0 as usize;
+    write(&mut scene.values, variable, number_of(l.positive()));
+    write(
+        reasons,
+        base.wrapping_add(variable),
+        (reason.wrapping_add(1) % 0x1_0000_0000) as u32,
+    );
+    scene.trail.push(l)?;
+    Ok(())
+}
+
+/// The first literal of a clause that is not false, where it is open.
+fn open_in(values: &[u32], clause: &[Lit]) -> Option<Lit> {
+    for l in clause {
+        let value = value_of(values, *l);
+        if value == 0 {
+            return Some(*l);
+        }
+        if value == 1 {
+            return None;
+        }
+    }
+    None
+}
+
+/// Makes the one literal that a clause leaves open true.
+fn force(
+    scene: &mut Scene,
+    reasons: &mut Vec<u32>,
+    base: usize,
+    clause: &[Lit],
+    at: usize,
+) -> Result<(), NoMemory> {
+    match open_in(scene.values.as_slice(), clause) {
+        Some(l) => assign(scene, reasons, base, l, at),
+        None => Ok(()),
+    }
+}
+
+/// One more literal of a clause is false.
+fn touch(
+    scene: &mut Scene,
+    reasons: &mut Vec<u32>,
+    base: usize,
+    clauses: &[Lits],
+    at: usize,
+) -> Result<(), NoMemory> {
+    if at >= clauses.len() {
+        return Ok(());
+    }
+    let falses = number_at(scene.falses.as_slice(), at).wrapping_add(1);
+    write(&mut scene.falses, at, falses);
+    if falses as usize + 1 != clauses[at].len() {
+        return Ok(());
+    }
+    force(scene, reasons, base, clauses[at].slice(), at)
+}
+
+/// A literal is false.
+fn deny(
+    scene: &mut Scene,
+    reasons: &mut Vec<u32>,
+    base: usize,
+    clauses: &[Lits],
+    template: &Template,
+    l: Lit,
+) -> Result<(), NoMemory> {
+    let code = l.code() as usize;
+    let start = number_at(template.starts.as_slice(), code);
+    let end = number_at(template.starts.as_slice(), code + 1);
+    for place in start..end {
+        let at = number_at(template.clauses.as_slice(), place as usize) as usize;
+        touch(scene, reasons, base, clauses, at)?;
+    }
+    Ok(())
+}
+
+/// All that follows from what is true, where there are so many variables.
+fn follow(
+    scene: &mut Scene,
+    reasons: &mut Vec<u32>,
+    base: usize,
+    clauses: &[Lits],
+    template: &Template,
+    vars: u32,
+) -> Result<(), NoMemory> {
+    for head in 0..vars as usize {
+        if head >= scene.trail.len() {
+            return Ok(());
+        }
+        let l = scene.trail[head].negate();
+        deny(scene, reasons, base, clauses, template, l)?;
+    }
+    Ok(())
+}
+
+/// The clauses of one literal make it true.
+fn lay_units(
+    scene: &mut Scene,
+    reasons: &mut Vec<u32>,
+    base: usize,
+    clauses: &[Lits],
+    units: &[u32],
+) -> Result<(), NoMemory> {
+    for unit in units {
+        let at = *unit as usize;
+        if at < clauses.len() {
+            force(scene, reasons, base, clauses[at].slice(), at)?;
+        }
+    }
+    Ok(())
+}
+
+/// A flip-flop has the value that the copy before leads to.
+fn lay_state(
+    scene: &mut Scene,
+    reasons: &mut Vec<u32>,
+    base: usize,
+    state: Lit,
+    f: usize,
+    reason: usize,
+) -> Result<(), NoMemory> {
+    let value = number_at(scene.present.as_slice(), f);
+    if value == 0 || value_of(scene.values.as_slice(), state) != 0 {
+        return Ok(());
+    }
+    assign(
+        scene,
+        reasons,
+        base,
+        Lit::new(state.var(), value == 1),
+        reason,
+    )
+}
+
+/// All flip-flops have the values that the copy before leads to.
+fn lay_states(
+    scene: &mut Scene,
+    reasons: &mut Vec<u32>,
+    base: usize,
+    states: &[Lit],
+    rows: usize,
+) -> Result<(), NoMemory> {
+    for f in 0..states.len() {
+        lay_state(scene, reasons, base, states[f], f, rows.wrapping_add(f))?;
+    }
+    Ok(())
+}
+
+/// The variables of the copy before are open again.
+fn clear(scene: &mut Scene) {
+    for at in 0..scene.trail.len() {
+        let variable = scene.trail[at].var().0 as usize;
+        write(&mut scene.values, variable, 0);
+    }
+    scene.trail.truncate(0);
+    for at in 0..scene.falses.len() {
+        write(&mut scene.falses, at, 0);
+    }
+}
+
+/// What the copy leads to.
+fn lead(scene: &mut Scene, next: &[Lit]) {
+    for f in 0..next.len() {
+        let value = value_of(scene.values.as_slice(), next[f]);
+        write(&mut scene.present, f, value);
+    }
+}
+
+/// Nothing forces so many more variables yet.
+fn widen(reasons: &mut Vec<u32>, vars: u32) -> Result<(), NoMemory> {
+    reasons.reserve(vars as usize)?;
+    for _ in 0..vars {
+        reasons.push(0)?;
+    }
+    Ok(())
+}
+
+/// What follows in one copy more.
+fn add_copy(
+    scene: &mut Scene,
+    reasons: &mut Vec<u32>,
+    encoding: &Encoding,
+    template: &Template,
+    base: usize,
+) -> Result<(), NoMemory> {
+    let clauses = encoding.clauses().slice();
+    clear(scene);
+    widen(reasons, encoding.vars())?;
+    lay_units(scene, reasons, base, clauses, template.units.as_slice())?;
+    lay_states(scene, reasons, base, encoding.states(), clauses.len())?;
+    follow(scene, reasons, base, clauses, template, encoding.vars())?;
+    lead(scene, encoding.next());
+    Ok(())
+}
+
+/// The last flip-flop that has another value than its bit of the state.
+fn last_denied(present: &[u32], state: &Bits) -> Option<u32> {
+    let mut found = None;
+    for f in 0..state.len() {
+        let value = number_at(present, f);
+        if value != 0 && value != number_of(state.get(f)) {
+            found = Some((f % 0x1_0000_0000) as u32);
+        }
+    }
+    found
+}
+
+/// The bits of a state, as values.
+fn bits_of(alloc: Global, state: &Bits) -> Result<Vec<u32>, NoMemory> {
+    let mut values = Vec::new(alloc);
+    for f in 0..state.len() {
+        values.push(number_of(state.get(f)))?;
+    }
+    Ok(values)
+}
+
+/// A scene in which the flip-flops have the bits at reset and nothing else has a value.
+fn scene_at(alloc: Global, encoding: &Encoding, reset: &Bits) -> Result<Scene, NoMemory> {
+    let present = bits_of(alloc, reset)?;
+    let values = zeros(alloc, encoding.vars() as usize + 1)?;
+    let falses = zeros(alloc, encoding.clauses().len())?;
+    Ok(Scene {
+        values,
+        falses,
+        trail: Vec::new(alloc),
+        present,
+    })
+}
+
+/// What follows in the first copies, up to the first length that this does not deny.
+fn add_copies(
+    scene: &mut Scene,
+    into: &mut Forced,
+    encoding: &Encoding,
+    template: &Template,
+    state: &Bits,
+    k: u32,
+) -> Result<(), NoMemory> {
+    for c in 0..k {
+        let base = (c as usize).wrapping_mul(encoding.vars() as usize);
+        add_copy(scene, &mut into.reasons, encoding, template, base)?;
+        match last_denied(scene.present.as_slice(), state) {
+            Some(f) => into.denied.push(f)?,
+            None => return Ok(()),
+        }
+    }
+    Ok(())
+}
+
+/// The same with a template.
+fn forced_by(
+    alloc: Global,
+    encoding: &Encoding,
+    template: &Template,
+    reset: &Bits,
+    state: &Bits,
+    k: u32,
+) -> Result<Forced, NoMemory> {
+    let mut scene = scene_at(alloc, encoding, reset)?;
+    let mut found = Forced {
+        reasons: zeros(alloc, 1)?,
+        denied: Vec::new(alloc),
+    };
+    add_copies(&mut scene, &mut found, encoding, template, state, k)?;
+    Ok(found)
+}
+
+/// What follows from reset, up to the first of `k` lengths that this does not deny.
+pub fn forced_from(
+    alloc: Global,
+    encoding: &Encoding,
+    reset: &Bits,
+    state: &Bits,
+    k: u32,
+) -> Result<Forced, NoMemory> {
+    let template = template_of(alloc, encoding.clauses().slice(), encoding.vars())?;
+    let found = forced_by(alloc, encoding, &template, reset, state, k)?;
+    Ok(found)
+}
