@@ -1,7 +1,12 @@
 -- Work that is done has a status of its own kind; and the answers to requests, with what is said of them.
-use Rattle.std.proofs.Common.{◌≡◌, ℕ, true, List, Option, Some, Result, Ok, Err, refl, ap, sym, subst, ◌∙◌}
+use Rattle.std.proofs.Common.{◌≡◌, ℕ, ◌<◌, ◌+◌, true, false, Bor, List, [], ◌∷◌, ◌++◌, length, map, take, get_or, Option, Some, None, Result, Ok, Err, append-nil, refl, ap, sym, subst, ◌∙◌}
+use Rattle.std.specs.List.{flat_map}
+use Rattle.std.proofs.lemmas.Grind.{flat_map-append}
+use Rattle.std.proofs.lemmas.List.{append_assoc, map_more}
 use Rattle.std.specs.Prelude.{Bool, IfOk, option_map}
 use Rattle.bs_bits.specs.declared.memory.NoMemory.{NoMemory}
+use Rattle.bs_inspect_notes.specs.Simulations.{data_clock_text}
+use Rattle.bs_inspect_values.specs.Simulated.{Simulated, clock_key}
 use Rattle.bs_inspect_view.specs.Drawn.{Asked}
 use Rattle.bs_inspect_view.specs.View.{IsDrawing}
 use Rattle.bs_net.specs.Parts.{Parts}
@@ -10,6 +15,7 @@ use Rattle.bs_top_plan.specs.declared.file.File.{File}
 use Rattle.bs_top_plan.specs.declared.reply.Reply.{Reply}
 use Rattle.bs_top_plan.specs.declared.status.Status.{Status}
 use Rattle.bs_top_plan.specs.declared.told.Stop.{Stop}
+use Rattle.bs_top_plan.specs.declared.walk.JobFault.{JobFault}
 use Rattle.bs_top_plan.specs.Files.{is_work_status}
 use Rattle.bs_top_plan.specs.Plan.{Tells, Counts, Plan, end}
 use Rattle.bs_top_plan.specs.Prepared.{AnswersStop, IsWork}
@@ -17,16 +23,19 @@ use Rattle.bs_top_plan.specs.Telling.{WalksTold}
 use Rattle.bs_top_plan.specs.Told.{line_stop, note_stop}
 use Rattle.bs_top_plan.proofs.TellingLemmas.{told_end}
 use Rattle.bs_top_answer.specs.declared.note.Answer.{Answer}
+use Rattle.bs_top_answer.specs.declared.note.Note.{Note}
+use Rattle.bs_top_answer.specs.declared.note.Note.TheVariants.{Silent}
+use Rattle.bs_top_answer.specs.Note.{Due, DueText}
 use Rattle.bs_top_answer.specs.Prepared.{NoteAlong, PreparedNoted}
 use Rattle.bs_top_answer.specs.Stops.{StopNoted}
 use Rattle.bs_top_answer.proofs.AnswerLemmas.{told_stopped, told_work}
 use Rattle.bs_top_files.specs.NoteCases.{NoteCase, NoteSays}
 use Rattle.bs_top_files.specs.Refusals.{Case, CheckSays}
 use Rattle.bs_inspect_words.specs.Request.{Request}
-use Rattle.bs_inspect.specs.Said.{RequestSaid, silent, WordsSaid, WorkSaid}
-use Rattle.bs_inspect.specs.Sources.{Sources, source_of}
+use Rattle.bs_inspect.specs.Said.{clock_doubt, RequestSaid, silent, WordsSaid, WorkSaid, work_note}
+use Rattle.bs_inspect.specs.Sources.{Sources, behind_piece, joined, named_values, source_of}
 use Rattle.bs_inspect.specs.Work.{to_table, to_steps_table, to_keys, to_state}
-use Rattle.bs_inspect.specs.Work.{Work, plan_of, to_help, to_version, to_flops, to_inputs, to_stats, to_steps, to_trace, to_run, to_wave, to_signature}
+use Rattle.bs_inspect.specs.Work.{Work, plan_of, to_help, to_version, to_flops, to_inputs, to_stats, to_steps, to_trace, to_runs, to_dump, to_wave, to_signature}
 use Rattle.bs_inspect.specs.Finishes.{finishes}
 
 work_status : (work : Work) (status : Status) (text : List ℕ) → finishes work status text → is_work_status status ≡ true
@@ -37,7 +46,8 @@ work_status (to_inputs raw) status text done = ap is_work_status done.0 ∙ refl
 work_status (to_stats raw) status text done = ap is_work_status done.0 ∙ refl
 work_status (to_steps report) status text done = ap is_work_status done.0 ∙ refl
 work_status (to_trace all only traced) status text done = ap is_work_status done.0 ∙ refl
-work_status (to_run lines) status text done = ap is_work_status done.0 ∙ refl
+work_status (to_runs clock simulated) status text done = ap is_work_status done.0 ∙ refl
+work_status (to_dump dumped) status text done = ap is_work_status done.0 ∙ refl
 work_status (to_wave from all only traced) status text done = ap is_work_status done.0 ∙ refl
 work_status (to_signature items exercised) status text done = ap is_work_status done.0 ∙ refl
 work_status (to_table only traced) status text done = ap is_work_status done.0 ∙ refl
@@ -59,20 +69,28 @@ silent_done : (finish : Status → List ℕ → Type 0) (r : Result Reply NoMemo
 silent_done finish (Ok reply) done = done
 silent_done finish (Err want) done = tt
 
-silent_said : (work : Work) (r : Result Reply NoMemory) → IfOk (silent r) (λ a. WorkSaid work a.reply.text.items a.note)
-silent_said work (Ok reply) = refl
-silent_said work (Err want) = tt
+silent_said : (work : Work) (r : Result Reply NoMemory) → work_note work ≡ None → IfOk (silent r) (λ a. WorkSaid work a.reply.text.items a.note)
+silent_said work (Ok reply) quiet = subst (λ (o : Option (List ℕ)). DueText o Silent) (sym quiet) refl
+silent_said work (Err want) quiet = tt
+
+-- what is said of a clock that is a data input, and of another
+pub clock_due : (clock key : List ℕ) (s : Simulated) (note : Note) → s.sampled.data_clock ≡ true → key ≡ clock_key s.raw →
+    Due (λ said. said ≡ data_clock_text clock key) note → DueText (clock_doubt clock s) note
+clock_due clock key s note is e h = rw is (subst (λ (k : List ℕ). Due (λ said. said ≡ data_clock_text clock k) note) e h)
+
+pub clock_quiet : (clock : List ℕ) (s : Simulated) → s.sampled.data_clock ≡ false → DueText (clock_doubt clock s) Silent
+clock_quiet clock s not = rw not refl
 
 -- work that a walk made ready for, on which there is no note
 pub told_done : {S T : Type 0} {held : S → Tells} {faults : S → Counts} {leads : S → FetchCall → S → Type 0} {before now : S} {plan : Plan Case Work}
     {looked : Plan NoteCase Work} {view : T → Work} {t : T} (path_of : File → List ℕ) (r : Result Reply NoMemory) (answer : Result Answer NoMemory) →
-    answer ≡ silent r → WalksTold CheckSays NoteSays held faults leads before now plan looked view view (Ok t) →
+    answer ≡ silent r → work_note (view t) ≡ None → WalksTold CheckSays NoteSays held faults leads before now plan looked view view (Ok t) →
     IfOk r (λ a. finishes (view t) a.status a.text.items) →
     PreparedNoted CheckSays finishes (NoteAlong NoteSays WorkSaid path_of looked) held faults leads before now (Some plan) answer
 told_done {held = held} {faults = faults} {leads = leads} {before = before} {now = now} {plan = plan} {looked = looked} {view = view} {t = t} path_of r answer
-    same walks done =
+    same quiet walks done =
     subst (PreparedNoted CheckSays finishes (NoteAlong NoteSays WorkSaid path_of looked) held faults leads before now (Some plan)) (sym same)
-    (told_work WorkSaid path_of (silent r) is_work walks (silent_done (finishes (view t)) r done) (silent_said (view t) r))
+    (told_work WorkSaid path_of (silent r) is_work walks (silent_done (finishes (view t)) r done) (silent_said (view t) r quiet))
 
 -- a walk that stopped, with the names of these files
 pub told_stop_at : {S T : Type 0} {held : S → Tells} {faults : S → Counts} {leads : S → FetchCall → S → Type 0} {before now : S} {plan : Plan Case Work}
@@ -84,13 +102,37 @@ told_stop_at {stop = stop} given sources r same walks line says =
     told_stopped finishes WorkSaid (source_of sources) r walks line
     (subst (λ (n : Sources). IfOk r (λ a. StopNoted (source_of n) (note_stop stop) a.note)) same says)
 
+piece_more : (names : List (Bor (List ℕ))) (i : ℕ) (d : Bor (List ℕ)) → i < length names →
+    flat_map behind_piece (map (λ s. s.now) (take i names)) ++ behind_piece (get_or names i d).now
+    ≡ flat_map behind_piece (map (λ s. s.now) (take (i + 1) names))
+piece_more names i d lt =
+    ap (λ (t : List ℕ). flat_map behind_piece (map (λ s. s.now) (take i names)) ++ t) (sym (append-nil (behind_piece (get_or names i d).now)))
+    ∙ (sym (flat_map-append behind_piece (map (λ s. s.now) (take i names)) ((get_or names i d).now ∷ []))
+    ∙ ap (flat_map behind_piece) (sym (map_more (λ s. s.now) names i d lt)))
+
+-- names behind another, one after the other
+pub names_more : (before now : List ℕ) (names : List (Bor (List ℕ))) (i : ℕ) (d : Bor (List ℕ)) (start : List ℕ) → i < length names →
+    before ≡ start ++ flat_map behind_piece (map (λ s. s.now) (take i names)) → now ≡ before ++ behind_piece (get_or names i d).now →
+    now ≡ start ++ flat_map behind_piece (map (λ s. s.now) (take (i + 1) names))
+names_more before now names i d start lt e is =
+    is ∙ (ap (λ (t : List ℕ). t ++ behind_piece (get_or names i d).now) e
+    ∙ (append_assoc start (flat_map behind_piece (map (λ s. s.now) (take i names))) (behind_piece (get_or names i d).now)
+    ∙ ap (λ (t : List ℕ). start ++ t) (piece_more names i d lt)))
+
+-- a stop among files of values, by all their names
+pub values_noted : (netlist : List ℕ) (names : Option (List ℕ)) (vcd : List ℕ) (vcds : List (List ℕ)) (given : Sources) (fault : JobFault) (note : Note) →
+    given ≡ named_values netlist names vcd → vcd ≡ joined vcds → StopNoted (source_of given) fault note →
+    StopNoted (source_of (named_values netlist names (joined vcds))) fault note
+values_noted netlist names vcd vcds given fault note e is h =
+    subst (λ (n : Sources). StopNoted (source_of n) fault note) (e ∙ ap (named_values netlist names) is) h
+
 -- the answer to a request of no file
 pub told_alone : {S : Type 0} {held : S → Tells} {faults : S → Counts} {leads : S → FetchCall → S → Type 0} {before : S} (work : Work)
     (path_of : File → List ℕ) (r : Result Reply NoMemory) (answer : Result Answer NoMemory) → answer ≡ silent r →
-    IfOk r (λ a. finishes work a.status a.text.items) →
+    work_note work ≡ None → IfOk r (λ a. finishes work a.status a.text.items) →
     PreparedNoted CheckSays finishes (NoteAlong NoteSays WorkSaid path_of (end work)) held faults leads before before (Some (end work)) answer
-told_alone {held = held} {faults = faults} {leads = leads} {before = before} work path_of r answer same done =
-    told_done {T = Work} {view = λ w. w} {t = work} path_of r answer same told_end done
+told_alone {held = held} {faults = faults} {leads = leads} {before = before} work path_of r answer same quiet done =
+    told_done {T = Work} {view = λ w. w} {t = work} path_of r answer same quiet told_end done
 
 -- the answer to a request, where it is this one
 pub noted_asked : {S : Type 0} {held : S → Tells} {faults : S → Counts} {leads : S → FetchCall → S → Type 0} {before now : S} (r : Result Answer NoMemory)

@@ -1,6 +1,23 @@
--- What a request asks of a waveform.
+-- What a request asks of the values of a simulator and of a waveform.
 use Rattle.std.specs.Prelude.{ℕ, Bool, List}
 use Rattle.bs_inspect_view.specs.Drawn.{Asked}
+use Rattle.bs_inspect_words.specs.Request.{DumpRequest, StimulusRequest}
+use Rattle.bs_inspect_values.specs.Dumped.{DumpFiles}
+use Rattle.bs_inspect_values.specs.Simulated.{Clocked}
+
+abbrev pub clocked_of : StimulusRequest → Clocked
+clocked_of t = record { clock = t.clock; scope = t.scope }
+
+abbrev pub dump_files : DumpRequest → DumpFiles
+dump_files t = record {
+  netlist = t.netlist;
+  vcd = t.vcd;
+  at = t.at;
+  clock = t.clock;
+  scope = t.scope;
+  names = t.names;
+  signature = t.signature;
+}
 
 -- what is asked of a waveform, with these comments
 abbrev pub drawing_of : (from : ℕ) → Bool → List (List ℕ) → List ℕ → Asked

@@ -2,8 +2,8 @@
 use Rattle.std.specs.Prelude.{◌≡◌, ℕ, List, length}
 use Rattle.bs_top_plan.specs.declared.status.Status.{Status}
 use Rattle.bs_top_plan.specs.declared.status.Status.TheVariants.{Done}
-use Rattle.bs_inspect_files.specs.Run.{simulated}
-use Rattle.bs_stim.specs.StimulusText.{run_text}
+use Rattle.bs_inspect_values.specs.Run.{runs_text}
+use Rattle.bs_inspect_netlist.specs.Dumped.{dump_told}
 use Rattle.bs_inspect.specs.Asked.{drawing_of}
 use Rattle.bs_inspect_view.specs.View.{IsDrawing}
 use Rattle.bs_inspect_lists.specs.Signature.{TellsSignature}
@@ -16,7 +16,7 @@ use Rattle.bs_inspect_report.specs.Steps.{steps_text}
 use Rattle.bs_inspect_report.specs.Table.{TellsTable, steps_table}
 use Rattle.bs_inspect_report.specs.Trace.{TellsTrace}
 use Rattle.bs_inspect.specs.Usage.{usage_text, version_text}
-use Rattle.bs_inspect.specs.Work.{Work, to_help, to_version, to_flops, to_inputs, to_stats, to_steps, to_trace, to_run, to_wave, to_signature}
+use Rattle.bs_inspect.specs.Work.{Work, to_help, to_version, to_flops, to_inputs, to_stats, to_steps, to_trace, to_runs, to_dump, to_wave, to_signature}
 use Rattle.bs_inspect.specs.Work.{to_table, to_steps_table, to_keys, to_state}
 
 abbrev pub finishes : Work → Status → List ℕ → Type 0
@@ -27,7 +27,8 @@ finishes (to_inputs raw) status text = (status ≡ Done) × TellsInputs raw text
 finishes (to_stats raw) status text = (status ≡ Done) × TellsSizes raw text
 finishes (to_steps report) status text = (status ≡ Done) × (text ≡ steps_text report)
 finishes (to_trace all only traced) status text = (status ≡ Done) × TellsTrace traced.raw traced.report all only text
-finishes (to_run lines) status text = (status ≡ Done) × (text ≡ run_text (simulated lines))
+finishes (to_runs clock simulated) status text = (status ≡ Done) × (text ≡ runs_text simulated.sampled.runs)
+finishes (to_dump dumped) status text = (status ≡ Done) × (text ≡ dump_told dumped.choice dumped.states)
 finishes (to_wave from all only traced) status text =
     (status ≡ Done)
     × IsDrawing traced.raw (drawing_of from all only (remarks traced.report)) traced.report.states traced.report.inputs text

@@ -1,5 +1,5 @@
 -- What is said of an answer, besides.
-use Rattle.std.specs.Prelude.{◌≡◌, ℕ, List, Option, Some, None, Result, Ok, Err}
+use Rattle.std.specs.Prelude.{◌≡◌, ℕ, List, Option, Some, None, Result, Ok, Err, if◌then◌else◌}
 use Rattle.bs_bits.specs.declared.memory.NoMemory.{NoMemory}
 use Rattle.bs_outside.specs.Calls.{FetchCall}
 use Rattle.bs_top_plan.specs.declared.reply.Reply.{Reply}
@@ -8,17 +8,20 @@ use Rattle.bs_top_plan.specs.Plan.{Plan, end, ◌>>=◌}
 use Rattle.bs_top_answer.specs.declared.note.Answer.{Answer}
 use Rattle.bs_top_answer.specs.declared.note.Note.{Note}
 use Rattle.bs_top_answer.specs.declared.note.Note.TheVariants.{Silent}
-use Rattle.bs_top_answer.specs.Note.{Due}
+use Rattle.bs_top_answer.specs.Note.{Due, DueText}
 use Rattle.bs_top_answer.specs.Prepared.{NoteAlong}
 use Rattle.bs_top_files.specs.Looking.{netlist_looked, report_looked}
 use Rattle.bs_top_files.specs.NoteCases.{NoteCase, NoteSays}
-use Rattle.bs_inspect_words.specs.Request.{Request, Help, Version, Flops, Inputs, Stats, Keys, Trace, TraceTable, Steps, StepsTable, Wave, Stimulus, Signature, Unscan}
-use Rattle.bs_inspect_files.specs.Simulated.{simulated_looked}
+use Rattle.bs_inspect_words.specs.Request.{Request, Help, Version, Flops, Inputs, Stats, Keys, Trace, TraceTable, Steps, StepsTable, Wave, Stimulus, Dump, Signature, Unscan}
+use Rattle.bs_inspect_values.specs.Dumped.{dumped_looked}
+use Rattle.bs_inspect_values.specs.Simulated.{Simulated, clock_key, simulated_looked}
 use Rattle.bs_inspect_files.specs.Taken.{charted_looked, exercised_looked, picked_looked}
 use Rattle.bs_inspect_flops.specs.Taken.{named_looked, scanned_looked}
 use Rattle.bs_inspect_notes.specs.Usages.{words_text}
+use Rattle.bs_inspect_notes.specs.Simulations.{data_clock_text}
+use Rattle.bs_inspect.specs.Asked.{clocked_of, dump_files}
 use Rattle.bs_inspect.specs.Sources.{source_of, sources_of}
-use Rattle.bs_inspect.specs.Work.{Work, to_help, to_version, to_flops, to_inputs, to_stats, to_steps, to_trace, to_run, to_wave, to_signature}
+use Rattle.bs_inspect.specs.Work.{Work, to_help, to_version, to_flops, to_inputs, to_stats, to_steps, to_trace, to_runs, to_dump, to_wave, to_signature}
 use Rattle.bs_inspect.specs.Work.{to_table, to_steps_table, to_keys, to_state}
 
 -- the plan of a request as the notes see it: the same files and the same work, and the notes on what is refused
@@ -41,8 +44,11 @@ looked_of (Trace t) = do
   traced ← picked_looked t.netlist t.report t.only
   end (to_trace t.all t.only traced)
 looked_of (Stimulus t) = do
-  lines ← simulated_looked t.netlist t.names t.vcd t.clock t.scope
-  end (to_run lines)
+  simulated ← simulated_looked t.netlist t.names (clocked_of t) t.vcds
+  end (to_runs t.clock simulated)
+looked_of (Dump t) = do
+  dumped ← dumped_looked (dump_files t)
+  end (to_dump dumped)
 looked_of (Wave t) = do
   traced ← charted_looked t.netlist t.report t.only
   end (to_wave t.from t.all t.only traced)
@@ -62,9 +68,17 @@ looked_of (Unscan t) = do
   scanned ← scanned_looked t.netlist t.order t.pattern
   end (to_state scanned)
 
--- nothing is said of work that is done
+-- a clock that is a data input
+abbrev pub clock_doubt : List ℕ → Simulated → Option (List ℕ)
+clock_doubt clock s = if s.sampled.data_clock then Some (data_clock_text clock (clock_key s.raw)) else None
+
+-- what is said of work that is done: of runs that their clock is a data input, where it is one; and nothing of other work
+abbrev pub work_note : Work → Option (List ℕ)
+work_note (to_runs clock simulated) = clock_doubt clock simulated
+work_note _ = None
+
 abbrev pub WorkSaid : Work → List ℕ → Note → Type 0
-WorkSaid work text note = note ≡ Silent
+WorkSaid work text note = DueText (work_note work) note
 
 -- what is said of the answer to a request, after these fetches
 abbrev pub RequestSaid : Request → List FetchCall → Status → List ℕ → Note → Type 0

@@ -1,14 +1,16 @@
 -- The names of the files of a request, for the notes on them.
-use Rattle.std.specs.Prelude.{ℕ, List, []}
+use Rattle.std.specs.Prelude.{ℕ, List, [], ◌∷◌, ◌++◌, codes, Option}
+use Rattle.std.specs.List.{flat_map}
 use Rattle.std.specs.Option.{unwrap_or}
 use Rattle.bs_top_plan.specs.declared.file.File.{File}
 use Rattle.bs_top_plan.specs.declared.file.File.TheVariants as files
-use Rattle.bs_inspect_words.specs.Request.{Request, SignatureRequest, StimulusRequest, Help, Version, Flops, Inputs, Stats, Keys, Trace, TraceTable, Steps}
-use Rattle.bs_inspect_words.specs.Request.{StepsTable, Wave, Stimulus, Signature, Unscan}
+use Rattle.bs_inspect_words.specs.Request.{Request, DumpRequest, SignatureRequest, StimulusRequest, Help, Version, Flops, Inputs, Stats, Keys, Trace, TraceTable, Steps}
+use Rattle.bs_inspect_words.specs.Request.{StepsTable, Wave, Stimulus, Dump, Signature, Unscan}
 use Rattle.bs_inspect.specs.declared.sources.Sources.{Sources as CodeSources}
 
 pub record Sources : Type 0 where
   pub netlist : List ℕ
+  pub signature : List ℕ
   pub stimulus : List ℕ
   pub report : List ℕ
   pub vcd : List ℕ
@@ -17,7 +19,7 @@ pub record Sources : Type 0 where
 -- the name of a file of a request; what no request has has none
 abbrev pub source_of : Sources → File → List ℕ
 source_of n files.Netlist = n.netlist
-source_of n files.Signature = []
+source_of n files.Signature = n.signature
 source_of n files.Stimulus = n.stimulus
 source_of n files.Dump = []
 source_of n files.Report = n.report
@@ -27,25 +29,49 @@ source_of n files.Map = n.map
 source_of n files.Name = []
 
 abbrev pub no_source : Sources
-no_source = record { netlist = []; stimulus = []; report = []; vcd = []; map = [] }
+no_source = record { netlist = []; signature = []; stimulus = []; report = []; vcd = []; map = [] }
 
 abbrev pub netlist_source : List ℕ → Sources
-netlist_source netlist = record { netlist = netlist; stimulus = []; report = []; vcd = []; map = [] }
+netlist_source netlist = record { netlist = netlist; signature = []; stimulus = []; report = []; vcd = []; map = [] }
 
 abbrev pub report_source : List ℕ → Sources
-report_source report = record { netlist = []; stimulus = []; report = report; vcd = []; map = [] }
+report_source report = record { netlist = []; signature = []; stimulus = []; report = report; vcd = []; map = [] }
 
 abbrev pub traced_sources : List ℕ → List ℕ → Sources
-traced_sources netlist report = record { netlist = netlist; stimulus = []; report = report; vcd = []; map = [] }
+traced_sources netlist report = record { netlist = netlist; signature = []; stimulus = []; report = report; vcd = []; map = [] }
 
 abbrev pub runs_sources : SignatureRequest → Sources
-runs_sources t = record { netlist = t.netlist; stimulus = t.runs; report = []; vcd = []; map = [] }
+runs_sources t = record { netlist = t.netlist; signature = []; stimulus = t.runs; report = []; vcd = []; map = [] }
+
+-- a name behind others
+abbrev pub behind_piece : List ℕ → List ℕ
+behind_piece name = codes ", " ++ name
+
+-- names, one behind another
+abbrev pub joined : List (List ℕ) → List ℕ
+joined [] = []
+joined (name ∷ names) = name ++ flat_map behind_piece names
+
+-- a netlist, values under this name, and a file of names, where there is one
+abbrev pub named_values : List ℕ → Option (List ℕ) → List ℕ → Sources
+named_values netlist names vcd = record { netlist = netlist; signature = []; stimulus = []; report = []; vcd = vcd; map = unwrap_or names [] }
 
 abbrev pub values_sources : StimulusRequest → Sources
-values_sources t = record { netlist = t.netlist; stimulus = []; report = []; vcd = t.vcd; map = unwrap_or t.names [] }
+values_sources t = named_values t.netlist t.names (joined t.vcds)
+
+abbrev pub dump_sources : DumpRequest → Sources
+dump_sources t =
+    record {
+      netlist = t.netlist;
+      signature = unwrap_or t.signature [];
+      stimulus = [];
+      report = [];
+      vcd = t.vcd;
+      map = unwrap_or t.names [];
+    }
 
 abbrev pub chain_sources : List ℕ → List ℕ → Sources
-chain_sources netlist order = record { netlist = netlist; stimulus = []; report = []; vcd = []; map = order }
+chain_sources netlist order = record { netlist = netlist; signature = []; stimulus = []; report = []; vcd = []; map = order }
 
 -- those of a request
 abbrev pub sources_of : Request → Sources
@@ -59,10 +85,19 @@ sources_of (Trace t) = traced_sources t.netlist t.report
 sources_of (Stimulus t) = values_sources t
 sources_of (Wave t) = traced_sources t.netlist t.report
 sources_of (Signature t) = runs_sources t
+sources_of (Dump t) = dump_sources t
 sources_of (TraceTable t) = traced_sources t.netlist t.report
 sources_of (StepsTable report) = report_source report
 sources_of (Keys t) = netlist_source t.netlist
 sources_of (Unscan t) = chain_sources t.netlist t.order
 
 abbrev pub sources_in : CodeSources → Sources
-sources_in n = record { netlist = n.netlist.now; stimulus = n.stimulus.now; report = n.report.now; vcd = n.vcd.now; map = n.map.now }
+sources_in n =
+    record {
+      netlist = n.netlist.now;
+      signature = n.signature.now;
+      stimulus = n.stimulus.now;
+      report = n.report.now;
+      vcd = n.vcd.now;
+      map = n.map.now;
+    }

@@ -2,17 +2,20 @@
 use Rattle.std.specs.Prelude.{ℕ, Bool, List}
 use Rattle.bs_net.specs.Parts.{Parts}
 use Rattle.bs_report.specs.declared.report.Report.{Report}
-use Rattle.bs_inspect_words.specs.Request.{Request, Help, Version, Flops, Inputs, Stats, Keys, Trace, TraceTable, Steps, StepsTable, Wave, Stimulus, Signature, Unscan}
+use Rattle.bs_inspect_words.specs.Request.{Request, Help, Version, Flops, Inputs, Stats, Keys, Trace, TraceTable, Steps, StepsTable, Wave, Stimulus, Dump, Signature, Unscan}
 use Rattle.bs_top_plan.specs.Plan.{Plan, end, ◌>>=◌}
 use Rattle.bs_top_files.specs.Entry.{netlist_of, report_of}
 use Rattle.bs_top_files.specs.Refusals.{Case}
 use Rattle.bs_inspect_files.specs.Taken.{Traced, Exercised, picked_of, charted_of, exercised_of}
-use Rattle.bs_inspect_files.specs.Simulated.{simulated_of}
+use Rattle.bs_inspect_values.specs.Dumped.{Dumped, dumped_of}
+use Rattle.bs_inspect_values.specs.Simulated.{Simulated, simulated_of}
 use Rattle.bs_inspect_flops.specs.Taken.{Scanned, named_of, scanned_of}
+use Rattle.bs_inspect.specs.Asked.{clocked_of, dump_files}
 
 -- how words stand, the version, the flip-flops, data inputs or sizes of a netlist, the steps of a report, its trace with the
--- names of a netlist, a run with these inputs, the waveform of a trace from a cycle on, or a signature of so many items is to be
--- written; a trace or steps as a table, the keys of the flip-flops that names stand for, or the state that a pattern of a scan chain is
+-- names of a netlist, simulated runs (by a clock with this name), a dump, the waveform of a trace from a cycle on, or a signature of so
+-- many items is to be written; a trace or steps as a table, the keys of the flip-flops that names stand for, or the state that a
+-- pattern of a scan chain is
 pub data Work : Type 0 where
   to_help : Work
   to_version : Work
@@ -21,7 +24,8 @@ pub data Work : Type 0 where
   to_stats : Parts → Work
   to_steps : Report → Work
   to_trace : Bool → List (List ℕ) → Traced → Work
-  to_run : List (List Bool) → Work
+  to_runs : List ℕ → Simulated → Work
+  to_dump : Dumped → Work
   to_wave : (from : ℕ) → Bool → List (List ℕ) → Traced → Work
   to_signature : ℕ → Exercised → Work
   to_table : List (List ℕ) → Traced → Work
@@ -49,8 +53,11 @@ plan_of (Trace t) = do
   traced ← picked_of t.netlist t.report t.only
   end (to_trace t.all t.only traced)
 plan_of (Stimulus t) = do
-  lines ← simulated_of t.netlist t.names t.vcd t.clock t.scope
-  end (to_run lines)
+  simulated ← simulated_of t.netlist t.names (clocked_of t) t.vcds
+  end (to_runs t.clock simulated)
+plan_of (Dump t) = do
+  dumped ← dumped_of (dump_files t)
+  end (to_dump dumped)
 plan_of (Wave t) = do
   traced ← charted_of t.netlist t.report t.only
   end (to_wave t.from t.all t.only traced)

@@ -1,29 +1,35 @@
 //! The answer to each request: its files are taken, and what they tell is told.
-ghost use Rattle.std.specs.Prelude.{◌≡◌, Some};
+ghost use Rattle.std.specs.Prelude.{◌≡◌, Some, IfOk};
+ghost use Rattle.bs_top_answer.specs.Note.{Due, DueText};
 ghost use Rattle.bs_top_answer.specs.Prepared.{PreparedNoted};
 ghost use Rattle.bs_top_files.specs.Refusals.{CheckSays};
-ghost use Rattle.bs_inspect_words.specs.Request.{Flops as FlopsOf, Inputs as InputsOf, Keys as KeysOf, Signature as SignatureOf, Stats as StatsOf, Steps as StepsOf, StepsTable as StepsTableOf, Stimulus as StimulusOf, Trace as TraceOf, TraceTable as TraceTableOf, Unscan as UnscanOf, Wave as WaveOf};
-ghost use Rattle.bs_inspect_words.specs.Asked.{keys_in, request_in, signature_in, stimulus_in, trace_in, unscan_in, wave_in};
+ghost use Rattle.bs_inspect_words.specs.Request.{Dump as DumpOf, Flops as FlopsOf, Inputs as InputsOf, Keys as KeysOf, Signature as SignatureOf, Stats as StatsOf, Steps as StepsOf, StepsTable as StepsTableOf, Stimulus as StimulusOf, Trace as TraceOf, TraceTable as TraceTableOf, Unscan as UnscanOf, Wave as WaveOf};
+ghost use Rattle.bs_inspect_words.specs.Asked.{dump_in, keys_in, request_in, signature_in, stimulus_in, trace_in, unscan_in, wave_in};
 ghost use Rattle.bs_inspect.specs.Finishes.{finishes};
-ghost use Rattle.bs_inspect.specs.Said.{RequestSaid, silent};
-ghost use Rattle.bs_inspect.specs.Work.{plan_of};
+ghost use Rattle.bs_inspect.specs.Said.{clock_doubt, RequestSaid, silent};
+ghost use Rattle.bs_inspect.specs.Work.{plan_of, to_runs};
+ghost use Rattle.bs_inspect_notes.specs.Simulations.{data_clock_text};
+ghost use Rattle.bs_inspect_values.specs.Simulated.{simulated_in};
 
 use crate::sources::{
-    chain_sources, netlist_source, report_source, runs_sources, stop_at, traced_sources,
-    values_sources,
+    chain_sources, dump_sources, netlist_source, report_source, runs_sources, stop_at, stop_values,
+    traced_sources,
 };
 use crate::telling::{
-    tell_flops, tell_inputs, tell_keys, tell_run, tell_signature, tell_state, tell_stats,
-    tell_steps, tell_steps_table, tell_table, tell_trace, tell_usage, tell_version, tell_wave,
+    tell_dump, tell_flops, tell_inputs, tell_keys, tell_runs, tell_signature, tell_state,
+    tell_stats, tell_steps, tell_steps_table, tell_table, tell_trace, tell_usage, tell_version,
+    tell_wave,
 };
-use bs_inspect_files::{Sampling, load_charted, load_exercised, load_picked, load_simulated};
+use bs_inspect_files::{load_charted, load_exercised, load_picked};
 use bs_inspect_flops::{load_named, load_scanned};
+use bs_inspect_notes::data_clock_note;
+use bs_inspect_values::{Clocked, DumpFiles, Simulated, clock_key, load_dumped, load_simulated};
 use bs_inspect_words::{
-    KeysRequest, Request, SignatureRequest, StimulusRequest, TraceRequest, UnscanRequest,
-    WaveRequest,
+    DumpRequest, KeysRequest, Request, SignatureRequest, StimulusRequest, TraceRequest,
+    UnscanRequest, WaveRequest,
 };
 use bs_outside::{NoMemory, Shelf};
-use bs_top_answer::{Answer, Note};
+use bs_top_answer::{Answer, Note, note_made};
 use bs_top_files::{load_netlist, load_report};
 use bs_top_plan::Reply;
 use std::alloc::Global;
@@ -101,6 +107,35 @@ fn trace<S: Shelf>(
     }
 }
 
+/// The note on a clock that is a data input, where the netlist's own has this key.
+fn clock_said(alloc: Global, clock: &str, key: &str) -> Note
+    ensures { Due (λ said. said ≡ data_clock_text clock.now key.now) result }
+{
+    note_made(data_clock_note(alloc, clock, key))
+}
+
+/// The note on runs whose clock is a data input.
+#[tactic(auto, using(crate::proofs::WorkLemmas::clock_due, crate::proofs::WorkLemmas::clock_quiet))]
+fn clock_note(alloc: Global, clock: &str, simulated: &Simulated) -> Note
+    ensures { DueText (clock_doubt clock.now (simulated_in simulated.now)) result }
+{
+    if simulated.sampled.data_clock {
+        clock_said(alloc, clock, clock_key(&simulated.net))
+    } else {
+        Note::Silent
+    }
+}
+
+/// Runs, and what is said of their clock.
+fn runs_answer(alloc: Global, clock: &str, simulated: &Simulated) -> Result<Answer, NoMemory>
+    ensures reply { IfOk result (λ answer. finishes (to_runs clock.now (simulated_in simulated.now)) answer.reply.status answer.reply.text.items) }
+    ensures note { IfOk result (λ answer. DueText (clock_doubt clock.now (simulated_in simulated.now)) answer.note) }
+{
+    let reply = tell_runs(alloc, clock, simulated)?;
+    let note = clock_note(alloc, clock, simulated);
+    Ok(Answer { reply, note })
+}
+
 /// The answer to `stimulus`.
 fn stimulus<S: Shelf>(
     alloc: Global,
@@ -109,14 +144,40 @@ fn stimulus<S: Shelf>(
 ) -> Result<Answer, NoMemory>
     ensures { PreparedNoted CheckSays finishes (RequestSaid (StimulusOf (stimulus_in asked.now))) S.held S.faults S.leads shelf.old shelf.new (Some (plan_of (StimulusOf (stimulus_in asked.now)))) result }
 {
-    let sampling = Sampling {
-        vcd: asked.vcd,
+    let vcds = asked.vcds.as_slice();
+    let at = Clocked {
         clock: asked.clock,
         scope: asked.scope,
     };
-    match load_simulated(alloc, shelf, asked.netlist, asked.names, sampling) {
-        Ok(lines) => silent(tell_run(alloc, &lines)),
-        Err(stop) => stop_at(alloc, values_sources(asked), shelf.reason(), stop),
+    match load_simulated(alloc, shelf, asked.netlist, asked.names, at, vcds) {
+        Ok(simulated) => runs_answer(alloc, asked.clock, &simulated),
+        Err(stop) => stop_values(
+            alloc,
+            asked.netlist,
+            asked.names,
+            vcds,
+            shelf.reason(),
+            stop,
+        ),
+    }
+}
+
+/// The answer to `dump`.
+fn dump<S: Shelf>(alloc: Global, shelf: &mut S, asked: &DumpRequest<'_>) -> Result<Answer, NoMemory>
+    ensures { PreparedNoted CheckSays finishes (RequestSaid (DumpOf (dump_in asked.now))) S.held S.faults S.leads shelf.old shelf.new (Some (plan_of (DumpOf (dump_in asked.now)))) result }
+{
+    let files = DumpFiles {
+        netlist: asked.netlist,
+        vcd: asked.vcd,
+        at: asked.at,
+        clock: asked.clock,
+        scope: asked.scope,
+        names: asked.names,
+        signature: asked.signature,
+    };
+    match load_dumped(alloc, shelf, files) {
+        Ok(dumped) => silent(tell_dump(alloc, &dumped)),
+        Err(stop) => stop_at(alloc, dump_sources(asked), shelf.reason(), stop),
     }
 }
 
@@ -236,6 +297,7 @@ pub(crate) fn request_answer<S: Shelf>(
         Request::Trace(asked) => trace(alloc, shelf, asked),
         Request::TraceTable(asked) => trace_table(alloc, shelf, asked),
         Request::Stimulus(asked) => stimulus(alloc, shelf, asked),
+        Request::Dump(asked) => dump(alloc, shelf, asked),
         Request::Wave(asked) => wave(alloc, shelf, asked),
         Request::Signature(asked) => signature(alloc, shelf, asked),
         Request::Keys(asked) => keys(alloc, shelf, asked),

@@ -1,12 +1,14 @@
 //! The names of the files of a request, for the notes on them.
-ghost use Rattle.std.specs.Prelude.{◌≡◌, IfOk, IfSome};
+ghost use Rattle.std.specs.Prelude.{◌≡◌, ◌++◌, [], map, option_map, string_bytes, IfOk, IfSome, OnOk};
+ghost use Rattle.std.specs.List.{flat_map};
+ghost use Rattle.std.specs.Option.{unwrap_or};
 ghost use Rattle.bs_top_plan.specs.Prepared.{AnswersStop};
 ghost use Rattle.bs_top_plan.specs.Told.{line_stop, note_stop};
 ghost use Rattle.bs_top_answer.specs.Stops.{stop_file, StopNoted};
-ghost use Rattle.bs_inspect_words.specs.Asked.{signature_in, stimulus_in};
-ghost use Rattle.bs_inspect.specs.Sources.{chain_sources, netlist_source, report_source, runs_sources, source_of, sources_in, traced_sources, values_sources};
+ghost use Rattle.bs_inspect_words.specs.Asked.{dump_in, signature_in};
+ghost use Rattle.bs_inspect.specs.Sources.{behind_piece, chain_sources, dump_sources, joined, named_values, netlist_source, report_source, runs_sources, source_of, sources_in, traced_sources};
 
-use bs_inspect_words::{SignatureRequest, StimulusRequest};
+use bs_inspect_words::{DumpRequest, SignatureRequest};
 use bs_outside::NoMemory;
 use bs_top_answer::{Answer, stop_file, stopped_at};
 use bs_top_plan::{File, Stop};
@@ -17,6 +19,7 @@ use std::io::ErrorKind;
 #[derive(Clone, Copy)]
 pub struct Sources<'a> {
     pub netlist: &'a str,
+    pub signature: &'a str,
     pub stimulus: &'a str,
     pub report: &'a str,
     pub vcd: &'a str,
@@ -29,11 +32,12 @@ fn source_of<'a>(sources: &Sources<'a>, file: File) -> &'a str
 {
     match file {
         File::Netlist => sources.netlist,
+        File::Signature => sources.signature,
         File::Stimulus => sources.stimulus,
         File::Report => sources.report,
         File::Vcd => sources.vcd,
         File::Map => sources.map,
-        File::Signature | File::Dump | File::State | File::Name => "",
+        File::Dump | File::State | File::Name => "",
     }
 }
 
@@ -43,6 +47,7 @@ pub fn netlist_source<'a>(netlist: &'a str) -> Sources<'a>
 {
     Sources {
         netlist,
+        signature: "",
         stimulus: "",
         report: "",
         vcd: "",
@@ -56,6 +61,7 @@ pub fn report_source<'a>(report: &'a str) -> Sources<'a>
 {
     Sources {
         netlist: "",
+        signature: "",
         stimulus: "",
         report,
         vcd: "",
@@ -69,6 +75,7 @@ pub fn traced_sources<'a>(netlist: &'a str, report: &'a str) -> Sources<'a>
 {
     Sources {
         netlist,
+        signature: "",
         stimulus: "",
         report,
         vcd: "",
@@ -82,6 +89,7 @@ pub fn chain_sources<'a>(netlist: &'a str, order: &'a str) -> Sources<'a>
 {
     Sources {
         netlist,
+        signature: "",
         stimulus: "",
         report: "",
         vcd: "",
@@ -95,6 +103,7 @@ pub fn runs_sources<'a>(asked: &SignatureRequest<'a>) -> Sources<'a>
 {
     Sources {
         netlist: asked.netlist,
+        signature: "",
         stimulus: asked.runs,
         report: "",
         vcd: "",
@@ -102,26 +111,74 @@ pub fn runs_sources<'a>(asked: &SignatureRequest<'a>) -> Sources<'a>
     }
 }
 
-/// A netlist, the values of a simulator, and the names of inputs, where there is a file of them.
-pub fn values_sources<'a>(asked: &StimulusRequest<'a>) -> Sources<'a>
-    ensures { sources_in result ≡ values_sources (stimulus_in asked.now) }
+/// A name, or nothing where there is none.
+fn or_none<'a>(name: Option<&'a str>) -> &'a str
+    ensures { result.now ≡ unwrap_or (option_map (λ s. s.now) name.entry) [] }
 {
-    match asked.names {
-        Some(map) => Sources {
-            netlist: asked.netlist,
-            stimulus: "",
-            report: "",
-            vcd: asked.vcd,
-            map,
-        },
-        None => Sources {
-            netlist: asked.netlist,
-            stimulus: "",
-            report: "",
-            vcd: asked.vcd,
-            map: "",
-        },
+    match name {
+        Some(name) => name,
+        None => "",
     }
+}
+
+/// A netlist, the values of a simulator under this name, and the names of inputs, where there is a file of them.
+fn named_values<'a>(netlist: &'a str, names: Option<&'a str>, vcd: &'a str) -> Sources<'a>
+    ensures { sources_in result ≡ named_values netlist.now (option_map (λ s. s.now) names.entry) vcd.now }
+{
+    Sources {
+        netlist,
+        signature: "",
+        stimulus: "",
+        report: "",
+        vcd,
+        map: or_none(names),
+    }
+}
+
+/// A netlist, the values of a simulator, and the names of flip-flops and a signature, where there are files of them.
+pub fn dump_sources<'a>(asked: &DumpRequest<'a>) -> Sources<'a>
+    ensures { sources_in result ≡ dump_sources (dump_in asked.now) }
+{
+    Sources {
+        netlist: asked.netlist,
+        signature: or_none(asked.signature),
+        stimulus: "",
+        report: "",
+        vcd: asked.vcd,
+        map: or_none(asked.names),
+    }
+}
+
+/// Appends a name behind others.
+fn push_behind(text: &mut String, name: &str) -> Result<(), NoMemory>
+    ensures { OnOk result (string_bytes text.new ≡ string_bytes text.old ++ behind_piece name.now) }
+{
+    text.push_str(", ")?;
+    text.push_str(name)?;
+    Ok(())
+}
+
+/// Appends names behind another.
+#[tactic(auto, using(crate::proofs::WorkLemmas::names_more))]
+fn push_names(text: &mut String, names: &[&str]) -> Result<(), NoMemory>
+    ensures { OnOk result (string_bytes text.new ≡ string_bytes text.old ++ flat_map behind_piece (map (λ s. s.now) names.now)) }
+{
+    'names: for name in names {
+        push_behind(text, name)?;
+    }
+    Ok(())
+}
+
+/// Names, one behind another.
+fn joined(alloc: Global, names: &[&str]) -> Result<String, NoMemory>
+    ensures { IfOk result (λ text. string_bytes text ≡ joined (map (λ s. s.now) names.now)) }
+{
+    let mut text = String::new(alloc);
+    if let [name, rest @ ..] = names {
+        text.push_str(name)?;
+        push_names(&mut text, rest)?;
+    }
+    Ok(text)
 }
 
 /// The name of the file at which a walk stopped.
@@ -147,5 +204,27 @@ pub fn stop_at(
 {
     let path = stop_source(&sources, &stop);
     let answer = stopped_at(alloc, path, kind, stop)?;
+    Ok(answer)
+}
+
+/// The answer to a stop among the files of `stimulus`, by their names.
+pub fn stop_values(
+    alloc: Global,
+    netlist: &str,
+    names: Option<&str>,
+    vcds: &[&str],
+    kind: Option<ErrorKind>,
+    stop: Stop,
+) -> Result<Answer, NoMemory>
+    ensures reply { IfOk result (λ answer. AnswersStop (line_stop stop) answer.reply.status answer.reply.text.items) }
+    ensures note { IfOk result (λ answer. StopNoted (source_of (named_values netlist.now (option_map (λ s. s.now) names.entry) (joined (map (λ s. s.now) vcds.now)))) (note_stop stop) answer.note) }
+{
+    let vcd = joined(alloc, vcds)?;
+    let answer = stop_at(
+        alloc,
+        named_values(netlist, names, vcd.as_str()),
+        kind,
+        stop,
+    )?;
     Ok(answer)
 }

@@ -1,20 +1,25 @@
 //! What is told, as an answer.
 ghost use Rattle.std.specs.Prelude.{◌≡◌, ◌<◌, map, IfOk};
 ghost use Rattle.bs_inspect_files.specs.Taken.{exercised_in, traced_in};
+ghost use Rattle.bs_inspect_values.specs.Dumped.{dumped_in};
+ghost use Rattle.bs_inspect_values.specs.Simulated.{simulated_in};
 ghost use Rattle.bs_inspect_flops.specs.Taken.{scanned_in};
+ghost use Rattle.bs_inspect_netlist.specs.Dumped.{dump_told};
 ghost use Rattle.bs_inspect_netlist.specs.Order.{state_line};
 ghost use Rattle.bs_inspect_view.specs.View.{IsDrawing};
 ghost use Rattle.bs_inspect.specs.Asked.{drawing_of};
 ghost use Rattle.bs_inspect.specs.Finishes.{finishes};
-ghost use Rattle.bs_inspect.specs.Work.{to_flops, to_help, to_inputs, to_keys, to_run, to_signature, to_state, to_stats, to_steps, to_steps_table, to_table, to_trace, to_version, to_wave};
+ghost use Rattle.bs_inspect.specs.Work.{to_dump, to_flops, to_help, to_inputs, to_keys, to_runs, to_signature, to_state, to_stats, to_steps, to_steps_table, to_table, to_trace, to_version, to_wave};
 
 use crate::usage::{usage_text, version_text};
-use bs_bits::{Bits, List};
-use bs_inspect_files::{Exercised, Traced, run_text};
+use bs_inspect_files::{Exercised, Traced};
 use bs_inspect_flops::Scanned;
 use bs_inspect_lists::signature_text;
-use bs_inspect_netlist::{flops_text, inputs_text, keys_text, state_text, stats_text};
+use bs_inspect_netlist::{
+    flops_text, inputs_text, keys_text, last_dump, last_state, state_text, stats_text,
+};
 use bs_inspect_report::{remarks_text, steps_table, steps_text, trace_table, trace_text};
+use bs_inspect_values::{Dumped, Simulated, runs_text};
 use bs_inspect_view::{Asked, drawing};
 use bs_net::Netlist;
 use bs_outside::NoMemory;
@@ -104,11 +109,36 @@ pub(crate) fn tell_trace(
     })
 }
 
-/// A run with these inputs.
-pub(crate) fn tell_run(alloc: Global, lines: &List<Bits>) -> Result<Reply, NoMemory>
-    ensures { IfOk result (λ answer. finishes (to_run lines.now) answer.status answer.text.items) }
+/// Simulated runs.
+pub(crate) fn tell_runs(
+    alloc: Global,
+    _clock: &str,
+    simulated: &Simulated,
+) -> Result<Reply, NoMemory>
+    ensures { IfOk result (λ answer. finishes (to_runs _clock.now (simulated_in simulated.now)) answer.status answer.text.items) }
 {
-    let text = run_text(alloc, lines.slice())?;
+    let text = runs_text(alloc, simulated.sampled.runs.as_slice())?;
+    Ok(Reply {
+        status: Status::Done,
+        text,
+    })
+}
+
+/// The state of a dump alone, or with a signature the whole dump.
+fn dump_told(alloc: Global, dumped: &Dumped) -> Result<Vec<u8>, NoMemory>
+    ensures { IfOk result (λ text. text.items ≡ dump_told (dumped_in dumped.now).choice (dumped_in dumped.now).states) }
+{
+    match dumped {
+        Dumped::Plain(taken) => last_state(alloc, &taken.states),
+        Dumped::Whole(taken) => last_dump(alloc, &taken.choice, &taken.states),
+    }
+}
+
+/// The dump of a simulation.
+pub(crate) fn tell_dump(alloc: Global, dumped: &Dumped) -> Result<Reply, NoMemory>
+    ensures { IfOk result (λ answer. finishes (to_dump (dumped_in dumped.now)) answer.status answer.text.items) }
+{
+    let text = dump_told(alloc, dumped)?;
     Ok(Reply {
         status: Status::Done,
         text,

@@ -9,14 +9,15 @@ ghost use Rattle.bs_top_files.specs.NoteCases.{HasNote, NoteSays};
 ghost use Rattle.bs_top_files.specs.Refusals.{CheckSays, HasWords};
 ghost use Rattle.bs_inspect_notes.specs.Names.{name_text, state_text, trace_text};
 ghost use Rattle.bs_inspect_files.specs.Fits.{fit_in, known_in, misfit};
-ghost use Rattle.bs_inspect_files.specs.Saying.{all_keys, fit_noted, known_noted};
+ghost use Rattle.bs_inspect_values.specs.Saying.{all_keys};
+ghost use Rattle.bs_inspect_files.specs.Saying.{fit_noted, known_noted};
 ghost use Rattle.bs_inspect_files.specs.Words.{name_words};
 
-use crate::keys::all_bytes;
-use crate::refusals::{name_refusal, numbered};
+use crate::refusals::name_refusal;
 use bs_bits::{Bits, NoMemory};
 use bs_inspect_notes::{name_note, state_note, trace_note};
 use bs_inspect_report::first_unknown;
+use bs_inspect_values::{all_bytes, numbered};
 use bs_net::Netlist;
 use bs_report::Report;
 use bs_top_plan::{Unread, both};

@@ -1,116 +1,13 @@
-//! The words of a refusal line, for each fault of the readers (docs/FORMATS.md, "Refusal lines").
-ghost use Rattle.std.specs.Prelude.{◌≡◌, ◌++◌, codes, decimal, map, IfOk, IfErr};
-ghost use Rattle.bs_inspect_files.specs.declared.fault.MapFault.TheVariants.{NoMemory as MapWant};
-ghost use Rattle.bs_inspect_vcd.specs.declared.fault.VcdFault.TheVariants.{NoMemory as VcdWant};
-ghost use Rattle.bs_top_plan.specs.declared.walk.Refusal.TheVariants.{NoMemory as Want};
+//! The words of the refusal of a name (docs/FORMATS.md, "Words of `backspace_inspect`").
+ghost use Rattle.std.specs.Prelude.{◌≡◌, IfOk};
 ghost use Rattle.bs_top_files.specs.Refusals.{HasWords};
-ghost use Rattle.bs_inspect_files.specs.Words.{cycles_words, key_at, map_words, name_words, vcd_words};
+ghost use Rattle.bs_inspect_files.specs.Words.{name_words};
 
-use crate::fault::MapFault;
-use bs_bits::{NoMemory, push_number, push_piece};
-use bs_inspect_vcd::VcdFault;
+use bs_bits::{NoMemory, push_piece};
+use bs_inspect_values::refusal;
 use bs_note_places::push_quoted;
-use bs_top_files::worded;
 use bs_top_plan::Refusal;
 use std::alloc::Global;
-
-// ---- words of one form
-
-/// The refusal with these words; want of memory stays that.
-fn refusal(words: Result<Vec<u8>, NoMemory>) -> Refusal
-    ensures why { IfOk words (λ why. HasWords why.items result) }
-    ensures want { IfErr words (λ _. result ≡ Want) }
-{
-    match words {
-        Ok(why) => Refusal::Why(why),
-        Err(_) => Refusal::NoMemory,
-    }
-}
-
-/// A word and a number.
-fn number_words(alloc: Global, word: &[u8], number: u64) -> Result<Vec<u8>, NoMemory>
-    ensures { IfOk result (λ why. why.items ≡ word.now ++ decimal number) }
-{
-    let mut why = Vec::new(alloc);
-    push_piece(&mut why, word)?;
-    push_number(&mut why, number)?;
-    Ok(why)
-}
-
-/// The refusal of a word and a number.
-pub fn numbered(alloc: Global, word: &[u8], number: u64) -> Refusal
-    ensures { HasWords (word.now ++ decimal number) result }
-{
-    refusal(number_words(alloc, word, number))
-}
-
-// ---- a simulation
-
-/// Why a text gives no names.
-pub fn map_refusal(alloc: Global, fault: MapFault) -> Refusal
-    ensures why { HasWords (map_words fault) result }
-    ensures want { fault ≡ MapWant → result ≡ Want }
-{
-    match fault {
-        MapFault::Line(line) => numbered(alloc, b"Line ", line),
-        MapFault::Unknown(line) => numbered(alloc, b"Unknown ", line),
-        MapFault::Twice(line) => numbered(alloc, b"Twice ", line),
-        MapFault::NoMemory => Refusal::NoMemory,
-    }
-}
-
-/// The key of the input with this number.
-#[tactic(auto, using(crate::proofs::KeyLemmas::key_there, crate::proofs::KeyLemmas::key_past))]
-pub fn key_at<'a>(keys: &[&'a [u8]], input: u64) -> &'a [u8]
-    ensures { result.now ≡ key_at (map (λ k. k.now) keys.now) input }
-{
-    let place = input as usize;
-    if place < keys.len() { keys[place] } else { b"" }
-}
-
-/// A word and the key of an input.
-fn input_words(alloc: Global, word: &[u8], key: &[u8]) -> Result<Vec<u8>, NoMemory>
-    ensures { IfOk result (λ why. why.items ≡ word.now ++ key.now) }
-{
-    let mut why = Vec::new(alloc);
-    push_piece(&mut why, word)?;
-    push_piece(&mut why, key)?;
-    Ok(why)
-}
-
-/// The key of an input, and a time at which it is not known.
-fn unknown_words(alloc: Global, key: &[u8], time: u64) -> Result<Vec<u8>, NoMemory>
-    ensures { IfOk result (λ why. why.items ≡ codes "Unknown " ++ (key.now ++ (codes " " ++ decimal time))) }
-{
-    let mut why = input_words(alloc, b"Unknown ", key)?;
-    push_piece(&mut why, b" ")?;
-    push_number(&mut why, time)?;
-    Ok(why)
-}
-
-/// Why values of a simulator give no run. An input is named by its key.
-pub fn vcd_refusal(alloc: Global, fault: VcdFault, keys: &[&[u8]]) -> Refusal
-    ensures why { HasWords (vcd_words (map (λ k. k.now) keys.now) fault) result }
-    ensures want { fault ≡ VcdWant → result ≡ Want }
-{
-    match fault {
-        VcdFault::Line(line) => numbered(alloc, b"Line ", line),
-        VcdFault::Ended => worded(alloc, b"Ended"),
-        VcdFault::NoClock => worded(alloc, b"NoClock"),
-        VcdFault::NoInput(i) => refusal(input_words(alloc, b"NoInput ", key_at(keys, i))),
-        VcdFault::Unknown(i, time) => refusal(unknown_words(alloc, key_at(keys, i), time)),
-        VcdFault::NoMemory => Refusal::NoMemory,
-    }
-}
-
-/// Why values have too many edges.
-pub fn cycles_refusal(alloc: Global) -> Refusal
-    ensures { HasWords cycles_words result }
-{
-    worded(alloc, b"TooManyCycles")
-}
-
-// ---- a name
 
 /// The words of a name that is none of a netlist.
 fn quoted_words(alloc: Global, name: &[u8]) -> Result<Vec<u8>, NoMemory>

@@ -1,12 +1,11 @@
 -- The dump at a cycle.
-use Rattle.std.proofs.Common.{◌≡◌, ◌≢◌, ℕ, ◌<◌, ◌≤◌, ◌-◌, ◌==◌, Bool, true, false, List, [], length, Option, Some, None, refl, ap, sym, ◌∙◌, arith, slice_get, get_or, subst}
+use Rattle.std.proofs.Common.{◌≡◌, ℕ, ◌<◌, ◌==◌, Bool, true, false, List, [], length, Option, Some, None, refl, ap, sym, ◌∙◌, arith, slice_get, subst}
 use Rattle.std.specs.Prelude.{nat_lt, slice_index_or, All, if◌then◌else◌}
 use Rattle.std.proofs.lemmas.Option.{get_or_from_slice_get, none-some}
 use Rattle.std.proofs.lemmas.Bool.{ltb-true, lt-ltb}
 use Rattle.bs_scan.specs.declared.dump.Dump.{Dump}
 use Rattle.bs_scan.specs.Choice.{Chosen, IsDepth, depth_of}
 use Rattle.bs_scan.specs.Dump.{IsDump}
-use Rattle.bs_scan.specs.Signature.{signature}
 use Rattle.bs_inspect_netlist.specs.Dumped.{dumped, kept_before, older_before}
 
 pub at_place : (states : List (List Bool)) (i : ℕ) (s : List Bool) → slice_get states i ≡ Some s → s ≡ slice_index_or states i []

@@ -1,7 +1,7 @@
 -- The numbers of gates' outputs, put in one after another in an order of the gates, are right.
-use Rattle.std.proofs.Common.{◌≡◌, ◌≢◌, ℕ, suc, zero, ◌<◌, ◌≤◌, ◌+◌, List, [], ◌∷◌, ◌++◌, map, length, get_or, set, drop, max, refl, ap, sym, subst, ◌∙◌}
-use Rattle.std.proofs.Common.{arith, ◌^◌, nat_eq, zero-add, length-set, get_or-set_same, get_or-set_other}
-use Rattle.std.specs.List.{All, AllByRecursion, range_with_len, IsDistinct, fold}
+use Rattle.std.proofs.Common.{◌≡◌, ◌≢◌, ℕ, ◌<◌, ◌≤◌, ◌+◌, List, [], ◌∷◌, ◌++◌, map, length, get_or, set, drop, max, refl, ap, sym, subst, ◌∙◌}
+use Rattle.std.proofs.Common.{arith, ◌^◌, zero-add, length-set, get_or-set_same, get_or-set_other}
+use Rattle.std.specs.List.{All, AllByRecursion, range_with_len, fold}
 use Rattle.std.proofs.lemmas.List.{drop_more}
 use Rattle.std.proofs.lemmas.List.Elements.{All-from_recursion, recursion_from_All, All-set, All-weaker}
 use Rattle.std.proofs.lemmas.List.Sorted.{All-permutation, IsPermutation-sym, length_permutation}
@@ -13,13 +13,13 @@ use Rattle.bs_net.specs.declared.gate.Kind.TheVariants as K
 use Rattle.bs_net.specs.Parts.{Parts, PartsArePlaced}
 use Rattle.bs_net.specs.Netlist.{circuit_of}
 use Rattle.bs_net.specs.Order.{IsOrder, IsLevelled, IsChecked, gates_in, no_gate}
-use Rattle.bs_net.specs.Steps.{Step, gate_write}
+use Rattle.bs_net.specs.Steps.{gate_write}
 use Rattle.bs_net.proofs.StepLemmas.{Misses, Apart, Placed}
 use Rattle.bs_net.proofs.LawLemmas.{gates_move, gates_apart, gates_placed}
 use Rattle.bs_net.proofs.NetlistLemmas.{without_placed}
 use Rattle.bs_inspect_netlist.specs.declared.mark.Measure.{Measure}
 use Rattle.bs_inspect_netlist.specs.declared.mark.Measure.TheVariants.{Source, Level}
-use Rattle.bs_inspect_netlist.specs.Marks.{mark_at, greatest_on, start_mark, first_mark, source_mark, gate_mark, AreMarks, starts, marked}
+use Rattle.bs_inspect_netlist.specs.Marks.{mark_at, start_mark, source_mark, gate_mark, AreMarks, starts, marked}
 
 -- one net more at the start
 pub start_more : (measure : Measure) (n : ℕ) → starts measure (n + 1) ≡ starts measure n ++ start_mark measure n ∷ []

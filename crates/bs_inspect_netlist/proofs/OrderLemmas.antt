@@ -1,6 +1,6 @@
 -- The flip-flops of an order, line by line, and the bits of a state, one by one.
-use Rattle.std.proofs.Common.{◌≡◌, ℕ, suc, ◌<◌, ◌≤◌, ◌+◌, ◌==◌, Bool, true, false, List, [], ◌∷◌, ◌++◌, length, map, take, drop, get_or}
-use Rattle.std.proofs.Common.{cond, Option, Some, None, Result, Ok, Err, refl, ap, sym, ◌∙◌, ◌⊎◌, inl, inr}
+use Rattle.std.proofs.Common.{◌≡◌, ℕ, ◌<◌, ◌+◌, Bool, List, [], ◌∷◌, ◌++◌, length, map, take, get_or}
+use Rattle.std.proofs.Common.{cond, Some, None, Result, Ok, Err, refl, ap, sym, ◌∙◌, ◌⊎◌, inl, inr}
 use Rattle.std.specs.Prelude.{nat_lt, not}
 use Rattle.std.specs.List.{position, position_or_len, range_with_len}
 use Rattle.std.proofs.lemmas.List.{length-map, take_more, map-append}
@@ -14,7 +14,7 @@ use Rattle.bs_net_names.specs.Rtl.{same_name}
 use Rattle.bs_net_names.specs.declared.key.KeyParts.{KeyParts as CodeKeyParts}
 use Rattle.bs_inspect_netlist.specs.declared.fault.OrderFault.{OrderFault}
 use Rattle.bs_inspect_netlist.specs.declared.fault.OrderFault.TheVariants.{NoMemory}
-use Rattle.bs_inspect_netlist.specs.Order.{flop_named, flop_parts, listed_at, listed_from, pattern_bit, unscanned}
+use Rattle.bs_inspect_netlist.specs.Order.{listed_at, listed_from, pattern_bit}
 
 -- a key more
 pub parts_more : (r : Parts) (keys : List CodeKeyParts) (key : CodeKeyParts) (fs : List Flop) (i : ℕ) (d : Flop) → i < length fs →

@@ -1,6 +1,6 @@
 -- A table of counts tells how often each net stands in a list.
-use Rattle.std.proofs.Common.{◌≡◌, ◌≤◌, ℕ, ◌<◌, ◌+◌, ◌==◌, ◌*◌, Bool, true, false, cond, List, [], ◌∷◌, ◌++◌, length, get_or, set, map, replicate, refl, arith}
-use Rattle.std.proofs.Common.{subst, ap, sym, ◌∙◌, ⊎_elim, nat_eq, eq-eqb, ne_eqb, length-set, get_or-set_same, get_or-set_other, zero-add, take, drop}
+use Rattle.std.proofs.Common.{◌≡◌, ◌≤◌, ℕ, ◌<◌, ◌+◌, ◌==◌, ◌*◌, cond, List, [], ◌∷◌, ◌++◌, length, get_or, set, map, replicate, refl, arith}
+use Rattle.std.proofs.Common.{subst, ap, sym, ◌∙◌, ⊎_elim, eq-eqb, ne_eqb, length-set, get_or-set_same, get_or-set_other, zero-add, take}
 use Rattle.std.specs.List.{All, flat_map, range_with_len, count_by}
 use Rattle.std.proofs.lemmas.Bool.{cases_eq}
 use Rattle.std.proofs.lemmas.List.{length-replicate, get_or-replicate, take_more, append-nil}

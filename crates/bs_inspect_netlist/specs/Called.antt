@@ -5,7 +5,7 @@ use Rattle.bs_bits.specs.Lines.{line}
 use Rattle.bs_net.specs.declared.net.Flop.{Flop}
 use Rattle.bs_net.specs.Parts.{Parts, key_at}
 use Rattle.bs_net_names.specs.Keys.{key_parts}
-use Rattle.bs_net_names.specs.Signals.{is_named}
+use Rattle.bs_net_names.specs.Naming.{is_named}
 use Rattle.bs_inspect_netlist.specs.declared.mark.Measure.TheVariants.{Source}
 use Rattle.bs_inspect_netlist.specs.Marks.{AreMarks, mark_at}
 use Rattle.bs_inspect_netlist.specs.Told.{no_flop}

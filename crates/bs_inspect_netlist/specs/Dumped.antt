@@ -1,8 +1,11 @@
 -- The dump at a cycle of a simulation, out of the states of its cycles, in the order of a state's bits.
-use Rattle.std.specs.Prelude.{◌≡◌, ℕ, ◌-◌, ◌==◌, nat_lt, Bool, List, [], slice_index_or, Option, Some, None, if◌then◌else◌}
+use Rattle.std.specs.Prelude.{ℕ, ◌-◌, ◌==◌, nat_lt, Bool, List, [], ◌++◌, codes, length, slice_index_or, Option, Some, None, if◌then◌else◌}
 use Rattle.bs_scan.specs.declared.dump.Dump.{Dump}
 use Rattle.bs_scan.specs.Choice.{Chosen, depth_of}
+use Rattle.bs_scan.specs.DumpText.{dump_text as text_of}
 use Rattle.bs_scan.specs.Signature.{signature}
+use Rattle.bs_bits.specs.Lines.{line}
+use Rattle.bs_bits.specs.Text.{bits_text}
 
 -- the signature of the state so many cycles before, if there is one
 abbrev pub kept_before : Chosen → List (List Bool) → (cycle back : ℕ) → Option (List Bool)
@@ -20,3 +23,8 @@ dumped choice states cycle = record {
   older = older_before choice states cycle;
   depth = depth_of choice;
 }
+
+-- the text of the last of these states: its line alone, or with a signature the whole dump
+abbrev pub dump_told : Option Chosen → List (List Bool) → List ℕ
+dump_told None states = line (codes "state " ++ bits_text (slice_index_or states (length states - 1) []))
+dump_told (Some choice) states = text_of (dumped choice states (length states - 1))

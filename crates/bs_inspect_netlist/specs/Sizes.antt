@@ -1,5 +1,5 @@
 -- The sizes of a netlist, line by line (docs/FORMATS.md, "Texts of `backspace_inspect`").
-use Rattle.std.specs.Prelude.{◌≡◌, ℕ, ◌==◌, not, ◌&&◌, Bool, true, false, List, [], ◌++◌, length, map, max, fold, codes, decimal, count_by}
+use Rattle.std.specs.Prelude.{◌≡◌, ℕ, ◌==◌, not, ◌&&◌, Bool, true, false, List, ◌++◌, length, map, max, fold, codes, decimal, count_by}
 use Rattle.std.specs.List.{flat_map, range_with_len}
 use Rattle.bs_bits.specs.Lines.{line}
 use Rattle.bs_net.specs.declared.net.NetId.{NetId}

@@ -1,12 +1,12 @@
 //! The dump at a cycle of a simulation.
-ghost use Rattle.std.specs.Prelude.{◌≡◌, ◌<◌, ◌≤◌, ◌-◌, [], length, slice_index_or, All, IfOk};
+ghost use Rattle.std.specs.Prelude.{◌≡◌, ◌<◌, ◌≤◌, ◌-◌, [], length, slice_index_or, All, None, Some, IfOk};
 ghost use Rattle.bs_scan.specs.Choice.{depth_of};
 ghost use Rattle.bs_scan.specs.Dump.{IsDump};
 ghost use Rattle.bs_scan.specs.DumpText.{dump_text as text_of};
 ghost use Rattle.bs_scan.specs.Signature.{signature};
-ghost use Rattle.bs_inspect_netlist.specs.Dumped.{dumped, kept_before, older_before};
+ghost use Rattle.bs_inspect_netlist.specs.Dumped.{dump_told, dumped, kept_before, older_before};
 
-use bs_bits::{Bits, List, NoMemory};
+use bs_bits::{Bits, List, NoMemory, end_line, push_piece};
 use bs_scan::{Choice, Dump};
 use std::alloc::Global;
 
@@ -108,4 +108,34 @@ pub fn dump_text(
         Ok(dump) => text_of(alloc, &dump),
         Err(refused) => Err(refused),
     }
+}
+
+/// The same at the last of these cycles.
+pub fn last_dump(alloc: Global, choice: &Choice, states: &List<Bits>) -> Result<Vec<u8>, NoMemory>
+    requires some { 0 < length states.now }
+    requires wide { All (λ s. length s ≡ choice.now.width) states.now }
+    ensures { IfOk result (λ text. text.items ≡ dump_told (Some choice.now) states.now) }
+{
+    dump_text(alloc, choice, states, states.len() - 1)
+}
+
+/// The last of these states.
+#[tactic(auto, using(crate::proofs::DumpedLemmas::at_place))]
+fn last_of(states: &List<Bits>) -> &Bits
+    requires { 0 < length states.now }
+    ensures { result.now ≡ slice_index_or states.now (length states.now - 1) [] }
+{
+    states.get(states.len() - 1)
+}
+
+/// The last of these states, as the line of a dump.
+pub fn last_state(alloc: Global, states: &List<Bits>) -> Result<Vec<u8>, NoMemory>
+    requires { 0 < length states.now }
+    ensures { IfOk result (λ text. text.items ≡ dump_told None states.now) }
+{
+    let mut text = Vec::new(alloc);
+    push_piece(&mut text, b"state ")?;
+    last_of(states).text(&mut text)?;
+    end_line(&mut text)?;
+    Ok(text)
 }

@@ -21,7 +21,7 @@ mod tally;
 
 pub use bits::{flops_text, inputs_text};
 pub use called::{first_uncalled, first_unnamed, keys_text};
-pub use dumped::dump_text;
+pub use dumped::{dump_text, last_dump, last_state};
 pub use fault::{OrderFault, PatternFault};
 pub use order::read_order;
 pub use pattern::{read_pattern, state_text, unscan};

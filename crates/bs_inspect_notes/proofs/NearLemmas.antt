@@ -8,7 +8,7 @@ use Rattle.std.proofs.lemmas.List.{append_assoc, append-nil, drop_more, drop_all
 use Rattle.std.proofs.lemmas.List.Elements.{filter-append}
 use Rattle.std.proofs.lemmas.List.Folds.{fold-map}
 use Rattle.bs_net_names.specs.Keys.{key_parts, parts_in}
-use Rattle.bs_net_names.specs.Signals.{plain, same_bit}
+use Rattle.bs_net_names.specs.Naming.{plain, same_bit}
 use Rattle.bs_net_names.specs.declared.key.KeyParts.{KeyParts}
 use Rattle.bs_inspect_notes.specs.Nearest.{at_distance, bases_apart, by_bits, far, kept, least, nearest}
 use Rattle.bs_inspect_notes.specs.Listings.{listed, listing, more_piece, name_piece, near_text, quoted, some_listing, some_near}

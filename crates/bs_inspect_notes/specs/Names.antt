@@ -10,7 +10,7 @@ use Rattle.bs_inspect_notes.specs.Listings.{quoted, some_near}
 abbrev pub name_text : List ℕ → List (List ℕ) → List ℕ
 name_text name keys =
     plain_text (codes "no flip-flop, data input or vector of these has the name " ++ (quoted name ++ some_near name keys)) ++
-    plain_text (codes "`flops` and `inputs` tell the keys; the name of a vector without an index names its bits")
+    plain_text (codes "`flops` and `inputs` tell the keys, and `keys` the flip-flops that a wire shows; the name of a vector or memory names its bits")
 
 -- a name that no net with these keys has
 abbrev pub net_text : List ℕ → List (List ℕ) → List ℕ

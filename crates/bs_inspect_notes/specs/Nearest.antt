@@ -4,7 +4,7 @@ use Rattle.std.specs.List.{filter}
 use Rattle.std.specs.Str.{bytes_eq}
 use Rattle.bs_note_places.specs.Nearest.{apart}
 use Rattle.bs_net_names.specs.Keys.{key_parts}
-use Rattle.bs_net_names.specs.Signals.{plain, same_bit}
+use Rattle.bs_net_names.specs.Naming.{plain, same_bit}
 
 -- the names of a path are parted by `.`, or by `/`
 abbrev pub is_separator : ℕ → Bool

@@ -2,7 +2,7 @@
 use Rattle.std.specs.Prelude.{ℕ, ◌==◌, nat_eq, Bool, false, not, List, [], ◌∷◌, ◌++◌, codes, decimal, slice_index, Option, Some, None, if◌then◌else◌}
 use Rattle.std.specs.List.{list_any, position, starts_with}
 use Rattle.std.specs.Str.{bytes_eq}
-use Rattle.bs_inspect_vcd.specs.Tokens.{is_white}
+use Rattle.bs_inspect_declared.specs.Tokens.{is_white}
 use Rattle.bs_note_files.specs.Notes.{Saying, saying, file_text, pair_text, plain_text}
 use Rattle.bs_inspect_notes.specs.declared.name.Subject.{Subject}
 use Rattle.bs_inspect_notes.specs.declared.name.Subject.TheVariants.{Inputs, Flops}
@@ -93,10 +93,14 @@ input_sentence subject key name names =
     codes "no variable in the clock's scope is the "
     ++ (subject_piece subject key ++ (codes ", by the name " ++ (quoted name ++ some_near name names)))
 
+abbrev pub input_hint : Subject → List ℕ
+input_hint Inputs =
+    plain_text (codes "the design's scope stands behind --scope; where names are others, a file of lines KEY NAME behind --map")
+input_hint Flops =
+    plain_text (codes "the design's scope stands behind --scope; where names are others, a file of lines KEY NAME behind --map; a memory's word is dumped where `$dumpvars` names it")
+
 abbrev pub input_text : Subject → List ℕ → (key name : List ℕ) → List (List ℕ) → List ℕ
-input_text subject file key name names =
-    file_text file (input_sentence subject key name names) ++
-    plain_text (codes "a name that is another in the simulation stands in a file of lines KEY NAME behind --map")
+input_text subject file key name names = file_text file (input_sentence subject key name names) ++ input_hint subject
 
 -- one whose bit is not known
 unfoldable pub unknown_sentence : Subject → List ℕ → ℕ → List ℕ

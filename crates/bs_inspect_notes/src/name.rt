@@ -35,7 +35,7 @@ pub fn name_note(alloc: Global, name: &[u8], keys: &[&[u8]]) -> Result<Vec<u8>, 
     let mut note = plain_note(alloc, &said)?;
     push_piece(
         &mut note,
-        b"note: `flops` and `inputs` tell the keys; the name of a vector without an index names its bits\n",
+        b"note: `flops` and `inputs` tell the keys, and `keys` the flip-flops that a wire shows; the name of a vector or memory names its bits\n",
     )?;
     Ok(note)
 }

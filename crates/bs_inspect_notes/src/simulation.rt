@@ -2,8 +2,8 @@
 ghost use Rattle.std.specs.Prelude.{◌≡◌, ◌<◌, ◌++◌, length, map, not, option_map, IfOk, IfSome, OnOk, codes, decimal};
 ghost use Rattle.std.specs.List.{list_any, position};
 ghost use Rattle.std.specs.Str.{bytes_eq};
-ghost use Rattle.bs_inspect_vcd.specs.Tokens.{is_white};
-ghost use Rattle.bs_inspect_notes.specs.Simulations.{any_sentence, begins, clock_piece, clock_sentence, clock_text, cycles_text, data_clock_text, data_sentence, ended_text, foreign, has_scope, input_sentence, input_text};
+ghost use Rattle.bs_inspect_declared.specs.Tokens.{is_white};
+ghost use Rattle.bs_inspect_notes.specs.Simulations.{any_sentence, begins, clock_piece, clock_sentence, clock_text, cycles_text, data_clock_text, data_sentence, ended_text, foreign, has_scope, input_hint, input_sentence, input_text};
 ghost use Rattle.bs_inspect_notes.specs.Simulations.{own_sentence, path_sentence, scope_sentence, scoped_sentence, short_text, subject_piece, unknown_hint, unknown_sentence, unknown_text};
 
 use crate::listing::{push_name, push_some_listing, push_some_near};
@@ -229,6 +229,20 @@ fn input_sentence(
     Ok(said)
 }
 
+/// What to do about one that no variable is.
+fn input_hint(subject: Subject) -> &'static [u8]
+    ensures { result.now ≡ input_hint subject }
+{
+    match subject {
+        Subject::Inputs => {
+            b"note: the design's scope stands behind --scope; where names are others, a file of lines KEY NAME behind --map\n"
+        }
+        Subject::Flops => {
+            b"note: the design's scope stands behind --scope; where names are others, a file of lines KEY NAME behind --map; a memory's word is dumped where `$dumpvars` names it\n"
+        }
+    }
+}
+
 /// A note on a data input, or a flip-flop, that no variable is.
 pub fn input_note(
     alloc: Global,
@@ -242,10 +256,7 @@ pub fn input_note(
 {
     let said = input_sentence(alloc, subject, key, name, names)?;
     let mut note = file_note(alloc, file, &said)?;
-    push_piece(
-        &mut note,
-        b"note: a name that is another in the simulation stands in a file of lines KEY NAME behind --map\n",
-    )?;
+    push_piece(&mut note, input_hint(subject))?;
     Ok(note)
 }
 

@@ -14,7 +14,7 @@ use bs_note_files::pair_note;
 use std::alloc::Global;
 
 /// The commands, and how the words of each stand.
-const USAGES: [(&str, &str); 12] = [
+const USAGES: [(&str, &str); 13] = [
     ("flops", "usage: backspace_inspect flops NETLIST"),
     ("keys", "usage: backspace_inspect keys NETLIST NAME .."),
     ("inputs", "usage: backspace_inspect inputs NETLIST"),
@@ -30,7 +30,11 @@ const USAGES: [(&str, &str); 12] = [
     ),
     (
         "stimulus",
-        "usage: backspace_inspect stimulus NETLIST VCD --clock NAME [--scope PATH] [--map FILE]",
+        "usage: backspace_inspect stimulus NETLIST VCD .. --clock NAME [--scope PATH] [--map FILE]",
+    ),
+    (
+        "dump",
+        "usage: backspace_inspect dump NETLIST VCD --cycle N|--time T [--clock NAME] [--scope PATH] [--map FILE] [--signature FILE]",
     ),
     (
         "signature",
@@ -45,12 +49,22 @@ const USAGES: [(&str, &str); 12] = [
 ];
 
 /// The options of all commands.
-const OPTIONS: [&[u8]; 8] = [
-    b"--all", b"--only", b"--clock", b"--scope", b"--map", b"--bits", b"--csv", b"--from",
+const OPTIONS: [&[u8]; 11] = [
+    b"--all",
+    b"--only",
+    b"--clock",
+    b"--scope",
+    b"--map",
+    b"--bits",
+    b"--csv",
+    b"--from",
+    b"--cycle",
+    b"--time",
+    b"--signature",
 ];
 
 /// The commands.
-const COMMANDS: [&[u8]; 12] = [
+const COMMANDS: [&[u8]; 13] = [
     b"flops",
     b"keys",
     b"inputs",
@@ -59,6 +73,7 @@ const COMMANDS: [&[u8]; 12] = [
     b"steps",
     b"wave",
     b"stimulus",
+    b"dump",
     b"signature",
     b"unscan",
     b"help",

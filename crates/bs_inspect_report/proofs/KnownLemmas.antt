@@ -7,7 +7,8 @@ use Rattle.std.specs.List.{find}
 use Rattle.std.proofs.lemmas.Bool.{ne_eqb}
 use Rattle.std.proofs.lemmas.List.{drop_more, drop_all, length-map}
 use Rattle.bs_net_names.specs.Keys.{key_parts}
-use Rattle.bs_net_names.specs.Signals.{Member, is_named, member_in, member_of, members_from, members_of}
+use Rattle.bs_net_names.specs.Naming.{is_named}
+use Rattle.bs_net_names.specs.Signals.{Member, member_in, member_of, members_from, members_of}
 use Rattle.bs_net_names.specs.declared.signal.Member.{Member as CodeMember}
 use Rattle.bs_inspect_report.specs.Known.{has_named}
 

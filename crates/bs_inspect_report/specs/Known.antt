@@ -2,7 +2,7 @@
 use Rattle.std.specs.Prelude.{ℕ, Bool, not, ◌||◌, List, Option}
 use Rattle.std.specs.List.{find, list_any}
 use Rattle.bs_net_names.specs.Keys.{key_parts}
-use Rattle.bs_net_names.specs.Signals.{is_named}
+use Rattle.bs_net_names.specs.Naming.{is_named}
 use Rattle.bs_net.specs.Parts.{Parts}
 use Rattle.bs_inspect_report.specs.Keys.{flop_keys, input_keys}
 

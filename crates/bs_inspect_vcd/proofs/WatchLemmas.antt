@@ -1,144 +1,185 @@
 -- What the code makes of the words is what their moments give.
-use Rattle.std.proofs.Common.{◌≡◌, ℕ, Bool, true, false, cond, nat_lt, List, [], ◌∷◌, ◌++◌, map, filter}
+use Rattle.std.proofs.Common.{◌≡◌, ℕ, ◌+◌, Bool, true, false, cond, nat_lt, List, [], ◌∷◌, ◌++◌, length, map, filter}
 use Rattle.std.proofs.Common.{Option, Some, None, Result, Ok, Err, refl, ap, sym, ◌∙◌, ◌⊎◌, inl, inr}
-use Rattle.std.specs.Prelude.{◌==◌}
-use Rattle.std.proofs.lemmas.List.{append_assoc, append-nil}
+use Rattle.std.specs.Prelude.{◌==◌, ◌&&◌}
+use Rattle.std.proofs.lemmas.List.{append_assoc, append-nil, length-append}
 use Rattle.bs_bits.specs.Reading.{◌>>=◌}
-use Rattle.bs_inspect_vcd.specs.declared.fault.VcdFault.{VcdFault}
-use Rattle.bs_inspect_vcd.specs.declared.fault.VcdFault.TheVariants.{Line, NoMemory}
-use Rattle.bs_inspect_vcd.specs.declared.levels.Source.{Source}
-use Rattle.bs_inspect_vcd.specs.Tokens.{Token}
+use Rattle.bs_inspect_declared.specs.declared.fault.VcdFault.{VcdFault}
+use Rattle.bs_inspect_declared.specs.declared.fault.VcdFault.TheVariants.{Line, NoMemory}
+use Rattle.bs_inspect_declared.specs.declared.sources.Source.{Source}
+use Rattle.bs_inspect_declared.specs.Tokens.{Token}
 use Rattle.bs_inspect_vcd.specs.History.{Change, Moment, History, Mode, Plain, Value, Skip, Remark}
 use Rattle.bs_inspect_vcd.specs.History.{Step, Goes, Changes, Begins, step, stepped, history_from, history_of}
 use Rattle.bs_inspect_vcd.specs.History.{before, stopped, moment}
 use Rattle.bs_inspect_vcd.specs.Levels.{Known, known_by}
-use Rattle.bs_inspect_vcd.specs.Sampled.{Cut, cuts_from, rises, is_edge, line_at, line_of, all_ok, or_fault, lines_of, sampled}
-use Rattle.bs_inspect_vcd.specs.Watching.{Watch, with_line, closed, next_watch, moved, took, watched_from, nothing_watched}
+use Rattle.bs_inspect_vcd.specs.Sampled.{Asked, Cut, all_edges, all_ok, cuts_from, is_edge, is_stop, is_until, line_at, line_of, lines_asked}
+use Rattle.bs_inspect_vcd.specs.Sampled.{numbered_lines, or_fault, rises, sampled, stops_of, tail_of, wanted}
+use Rattle.bs_inspect_vcd.specs.Watching.{Watch, with_line, closed, lined, tailed, next_watch, moved, took, watched_from, nothing_watched}
 use Rattle.bs_inspect_vcd.proofs.LevelLemmas.{known_append}
 
--- lines so far, and then those of a history
-abbrev pub goes_on : Source → List Source → List Change → List (List Bool) → History → Result (List (List Bool)) VcdFault
-goes_on clock inputs earlier lines h = lines_of clock inputs earlier h.moments >>= λ later. or_fault h.fault (lines ++ later)
+abbrev Lines : Type 0
+Lines = Result (List (List Bool)) VcdFault
+
+-- lines so far, and then those of a history, before which this time was
+abbrev pub goes_on : Asked → List Change → ℕ → List (List Bool) → History → Lines
+goes_on a earlier time lines h = numbered_lines a (length lines) (stops_of a earlier time h) >>= λ later. or_fault h.fault (lines ++ later)
 
 -- a line before the others
-line_first : (line : Result (List Bool) VcdFault) (rest : Result (List (List Bool)) VcdFault) (fault : Option VcdFault) (lines : List (List Bool)) →
-    ((line >>= λ x. rest >>= λ xs. Ok (x ∷ xs)) >>= λ later. or_fault fault (lines ++ later))
-    ≡ ((line >>= λ x. Ok (with_line lines x)) >>= λ more. rest >>= λ later. or_fault fault (more ++ later))
-line_first (Err f) rest fault lines = refl
-line_first (Ok x) (Err f) fault lines = refl
-line_first (Ok x) (Ok xs) fault lines = ap (or_fault fault) (sym (append_assoc lines (x ∷ []) xs))
+line_first : (a : Asked) (line : Result (List Bool) VcdFault) (cuts : List Cut) (fault : Option VcdFault) (lines : List (List Bool)) →
+    ((line >>= λ x. numbered_lines a (length lines + 1) cuts >>= λ xs. Ok (x ∷ xs)) >>= λ later. or_fault fault (lines ++ later))
+    ≡ ((line >>= λ x. Ok (with_line lines x)) >>= λ more. numbered_lines a (length more) cuts >>= λ later. or_fault fault (more ++ later))
+line_first a (Err f) cuts fault lines = refl
+line_first a (Ok x) cuts fault lines =
+    moved_in (numbered_lines a (length lines + 1) cuts)
+    ∙ ap (λ n. numbered_lines a n cuts >>= λ later. or_fault fault ((lines ++ x ∷ []) ++ later)) (sym (length-append lines (x ∷ [])))
+  where
+    moved_in : (rest : Lines) → ((rest >>= λ xs. Ok (x ∷ xs)) >>= λ later. or_fault fault (lines ++ later))
+        ≡ (rest >>= λ later. or_fault fault ((lines ++ x ∷ []) ++ later))
+    moved_in (Err f) = refl
+    moved_in (Ok xs) = ap (or_fault fault) (sym (append_assoc lines (x ∷ []) xs))
 
 abbrev cut : List Change → Moment → Cut
 cut earlier now = record { earlier = earlier; moment = now }
 
-abbrev edges : Source → List Change → List Moment → List Cut
-edges clock earlier moments = filter (is_edge clock) (cuts_from earlier moments)
+abbrev stops : Asked → List Change → List Moment → List Cut
+stops a earlier moments = filter (is_stop a) (cuts_from earlier moments)
 
--- the end of a moment, by whether the clock rises in it
-ends_by : (clock : Source) (inputs : List Source) (earlier : List Change) (now : Moment) (lines : List (List Bool)) (h : History) (b : Bool) →
-    (all_ok (map (line_at inputs) (cond b (cut earlier now ∷ edges clock (earlier ++ now.changes) h.moments) (edges clock (earlier ++ now.changes) h.moments)))
-    >>= λ all. or_fault h.fault (lines ++ all))
-    ≡ ((cond b (line_of now.time (known_by earlier) inputs >>= λ line. Ok (with_line lines line)) (Ok lines))
-    >>= λ more. goes_on clock inputs (earlier ++ now.changes) more h)
-ends_by clock inputs earlier now lines h false = refl
-ends_by clock inputs earlier now lines h true =
-    line_first (line_at inputs (cut earlier now)) (all_ok (map (line_at inputs) (edges clock (earlier ++ now.changes) h.moments))) h.fault lines
+-- the end of a moment, by whether its line is asked for
+ends_by : (a : Asked) (earlier : List Change) (now : Moment) (lines : List (List Bool)) (h : History) (b : Bool) →
+    (numbered_lines a (length lines)
+    (cond b (cut earlier now ∷ stops a (earlier ++ now.changes) h.moments) (stops a (earlier ++ now.changes) h.moments)
+    ++ tail_of a h.fault (earlier ++ now.changes) now.time h.moments)
+    >>= λ later. or_fault h.fault (lines ++ later))
+    ≡ ((cond b (lined a now.time (known_by earlier) lines) (Ok lines)) >>= λ more. goes_on a (earlier ++ now.changes) now.time more h)
+ends_by a earlier now lines h false = refl
+ends_by a earlier now lines h true =
+    line_first a (line_at (wanted a (length lines)) (cut earlier now)) (stops_of a (earlier ++ now.changes) now.time h) h.fault lines
 
 -- the end of a moment
-moment_ends : (clock : Source) (inputs : List Source) (earlier : List Change) (now : Moment) (lines : List (List Bool)) (h : History) →
-    goes_on clock inputs earlier lines (before now h)
-    ≡ (closed clock inputs now.time (known_by earlier) now.changes lines >>= λ more. goes_on clock inputs (earlier ++ now.changes) more h)
-moment_ends clock inputs earlier now lines h =
-    ends_by clock inputs earlier now lines h (rises clock (known_by earlier) (known_by (earlier ++ now.changes)))
+moment_ends : (a : Asked) (earlier : List Change) (now : Moment) (time : ℕ) (lines : List (List Bool)) (h : History) →
+    goes_on a earlier time lines (before now h)
+    ≡ (closed a now.time (known_by earlier) now.changes lines >>= λ more. goes_on a (earlier ++ now.changes) now.time more h)
+moment_ends a earlier now time lines h =
+    ends_by a earlier now lines h (is_until a.until now.time && rises a.clock (known_by earlier) (known_by (earlier ++ now.changes)))
     ∙ ap (λ (k : Known).
-    (cond (rises clock (known_by earlier) k) (line_of now.time (known_by earlier) inputs >>= λ line. Ok (with_line lines line)) (Ok lines))
-    >>= λ more. goes_on clock inputs (earlier ++ now.changes) more h) (sym (known_append earlier now.changes))
+    (cond (is_until a.until now.time && rises a.clock (known_by earlier) k) (lined a now.time (known_by earlier) lines) (Ok lines))
+    >>= λ more. goes_on a (earlier ++ now.changes) now.time more h) (sym (known_append earlier now.changes))
 
 -- what the code knows by a history
 abbrev here : List Change → Moment → List (List Bool) → Watch
 here earlier now lines = record { time = now.time; known = known_by earlier; changes = now.changes; lines = lines }
 
-nothing_more : (r : Result (List (List Bool)) VcdFault) → r ≡ (r >>= λ lines. Ok (lines ++ []))
-nothing_more (Err f) = refl
-nothing_more (Ok lines) = ap Ok (sym (append-nil lines))
+-- the line of the text's end
+tail_line : (lines : List (List Bool)) (r : Result (List Bool) VcdFault) →
+    (r >>= λ line. Ok (with_line lines line)) ≡ ((r >>= λ x. Ok (x ∷ [])) >>= λ later. Ok (lines ++ later))
+tail_line lines (Err f) = refl
+tail_line lines (Ok x) = refl
+
+tail_by : (a : Asked) (earlier : List Change) (time : ℕ) (lines : List (List Bool)) (b : Bool) →
+    (cond b (lined a time (known_by earlier) lines) (Ok lines))
+    ≡ (numbered_lines a (length lines) (cond b (cut earlier (moment time) ∷ []) []) >>= λ later. Ok (lines ++ later))
+tail_by a earlier time lines false = ap Ok (sym (append-nil lines))
+tail_by a earlier time lines true = tail_line lines (line_of time (known_by earlier) (wanted a (length lines)))
+
+tail_ends : (a : Asked) (earlier : List Change) (changes : List Change) (time : ℕ) (known : Known) (r : Lines) → known ≡ known_by (earlier ++ changes) →
+    (r >>= λ lines. tailed a time known lines) ≡ (r >>= λ more. goes_on a (earlier ++ changes) time more record { moments = []; fault = None })
+tail_ends a earlier changes time known (Err f) e = refl
+tail_ends a earlier changes time known (Ok lines) e =
+    ap (λ (k : Known). tailed a time k lines) e ∙ tail_by a (earlier ++ changes) time lines a.tail
 
 abbrev go : List Token → Mode → Moment → History
 go ts m n = history_from m n ts
 
 -- the code's words are those of a history, from any place on
-abbrev Same : Source → List Source → List Token → Type 0
-Same clock inputs ts =
-    (mode : Mode) (earlier : List Change) (now : Moment) (lines : List (List Bool)) →
-    watched_from clock inputs mode (here earlier now lines) ts ≡ goes_on clock inputs earlier lines (history_from mode now ts)
+abbrev Same : Asked → List Token → Type 0
+Same a ts =
+    (mode : Mode) (earlier : List Change) (now : Moment) (time : ℕ) (lines : List (List Bool)) →
+    watched_from a mode (here earlier now lines) ts ≡ goes_on a earlier time lines (history_from mode now ts)
 
 -- what comes behind a word
-abbrev behind : Source → List Source → List Token → Result (Mode × Watch) VcdFault → Result (List (List Bool)) VcdFault
-behind clock inputs ts r = r >>= λ next. watched_from clock inputs next.0 next.1 ts
+abbrev behind : Asked → List Token → Result (Mode × Watch) VcdFault → Lines
+behind a ts r = r >>= λ next. watched_from a next.0 next.1 ts
 
 abbrev plain : Result Watch VcdFault → Result (Mode × Watch) VcdFault
 plain r = r >>= λ next. Ok (Plain, next)
 
-next_moment : (clock : Source) (inputs : List Source) (earlier : List Change) (now : Moment) (lines : List (List Bool)) (ts : List Token) →
-    Same clock inputs ts → (time : ℕ) (r : Result (List (List Bool)) VcdFault) →
-    behind clock inputs ts (plain (r >>= λ more. Ok (next_watch time (here earlier now lines) more)))
-    ≡ (r >>= λ more. goes_on clock inputs (earlier ++ now.changes) more (go ts Plain (moment time)))
-next_moment clock inputs earlier now lines ts same time (Err f) = refl
-next_moment clock inputs earlier now lines ts same time (Ok more) =
-    ap (λ (k : Known). watched_from clock inputs Plain (record { time = time; known = k; changes = []; lines = more }) ts) (known_append earlier now.changes)
-    ∙ same Plain (earlier ++ now.changes) (moment time) more
+next_moment : (a : Asked) (earlier : List Change) (now : Moment) (lines : List (List Bool)) (ts : List Token) → Same a ts → (time : ℕ) (r : Lines) →
+    behind a ts (plain (r >>= λ more. Ok (next_watch time (here earlier now lines) more)))
+    ≡ (r >>= λ more. goes_on a (earlier ++ now.changes) now.time more (go ts Plain (moment time)))
+next_moment a earlier now lines ts same time (Err f) = refl
+next_moment a earlier now lines ts same time (Ok more) =
+    ap (λ (k : Known). watched_from a Plain (record { time = time; known = k; changes = []; lines = more }) ts) (known_append earlier now.changes)
+    ∙ same Plain (earlier ++ now.changes) (moment time) now.time more
 
-when_same : (clock : Source) (inputs : List Source) (earlier : List Change) (now : Moment) (lines : List (List Bool)) (ts : List Token) →
-    Same clock inputs ts → (time : ℕ) (b : Bool) →
-    behind clock inputs ts (plain (cond b (Ok (here earlier now lines)) (moved clock inputs time (here earlier now lines))))
-    ≡ goes_on clock inputs earlier lines (cond b (go ts Plain now) (before now (go ts Plain (moment time))))
-when_same clock inputs earlier now lines ts same time true = same Plain earlier now lines
-when_same clock inputs earlier now lines ts same time false =
-    next_moment clock inputs earlier now lines ts same time (closed clock inputs now.time (known_by earlier) now.changes lines)
-    ∙ sym (moment_ends clock inputs earlier now lines (go ts Plain (moment time)))
+when_same : (a : Asked) (earlier : List Change) (now : Moment) (at : ℕ) (lines : List (List Bool)) (ts : List Token) →
+    Same a ts → (time : ℕ) (b : Bool) →
+    behind a ts (plain (cond b (Ok (here earlier now lines)) (moved a time (here earlier now lines))))
+    ≡ goes_on a earlier at lines (cond b (go ts Plain now) (before now (go ts Plain (moment time))))
+when_same a earlier now at lines ts same time true = same Plain earlier now at lines
+when_same a earlier now at lines ts same time false =
+    next_moment a earlier now lines ts same time (closed a now.time (known_by earlier) now.changes lines)
+    ∙ sym (moment_ends a earlier now at lines (go ts Plain (moment time)))
 
-when_less : (clock : Source) (inputs : List Source) (earlier : List Change) (now : Moment) (lines : List (List Bool)) (line : ℕ) (ts : List Token) →
-    Same clock inputs ts → (time : ℕ) (b : Bool) →
-    behind clock inputs ts (plain (cond b (Err (Line line))
-    (cond (time == now.time) (Ok (here earlier now lines)) (moved clock inputs time (here earlier now lines)))))
-    ≡ goes_on clock inputs earlier lines (cond b (stopped (Line line)) (cond (time == now.time) (go ts Plain now) (before now (go ts Plain (moment time)))))
-when_less clock inputs earlier now lines line ts same time true = refl
-when_less clock inputs earlier now lines line ts same time false = when_same clock inputs earlier now lines ts same time (time == now.time)
+when_less : (a : Asked) (earlier : List Change) (now : Moment) (at : ℕ) (lines : List (List Bool)) (line : ℕ) (ts : List Token) →
+    Same a ts → (time : ℕ) (b : Bool) →
+    behind a ts (plain (cond b (Err (Line line))
+    (cond (time == now.time) (Ok (here earlier now lines)) (moved a time (here earlier now lines)))))
+    ≡ goes_on a earlier at lines (cond b (stopped (Line line)) (cond (time == now.time) (go ts Plain now) (before now (go ts Plain (moment time)))))
+when_less a earlier now at lines line ts same time true = refl
+when_less a earlier now at lines line ts same time false = when_same a earlier now at lines ts same time (time == now.time)
 
 -- one word
-by_step : (clock : Source) (inputs : List Source) (earlier : List Change) (now : Moment) (lines : List (List Bool)) (line : ℕ) (ts : List Token) →
-    Same clock inputs ts → (s : Option Step) →
-    behind clock inputs ts (took clock inputs line s (here earlier now lines)) ≡ goes_on clock inputs earlier lines (stepped s now line (go ts))
-by_step clock inputs earlier now lines line ts same None = refl
-by_step clock inputs earlier now lines line ts same (Some (Goes m)) = same m earlier now lines
-by_step clock inputs earlier now lines line ts same (Some (Changes c)) =
-    same Plain earlier (record { time = now.time; changes = now.changes ++ c ∷ [] }) lines
-by_step clock inputs earlier now lines line ts same (Some (Begins time)) =
-    when_less clock inputs earlier now lines line ts same time (nat_lt time now.time)
+by_step : (a : Asked) (earlier : List Change) (now : Moment) (at : ℕ) (lines : List (List Bool)) (line : ℕ) (ts : List Token) →
+    Same a ts → (s : Option Step) →
+    behind a ts (took a line s (here earlier now lines)) ≡ goes_on a earlier at lines (stepped s now line (go ts))
+by_step a earlier now at lines line ts same None = refl
+by_step a earlier now at lines line ts same (Some (Goes m)) = same m earlier now at lines
+by_step a earlier now at lines line ts same (Some (Changes c)) =
+    same Plain earlier (record { time = now.time; changes = now.changes ++ c ∷ [] }) at lines
+by_step a earlier now at lines line ts same (Some (Begins time)) =
+    when_less a earlier now at lines line ts same time (nat_lt time now.time)
 
-pub same_watch : (clock : Source) (inputs : List Source) (ts : List Token) → Same clock inputs ts
-same_watch clock inputs [] Plain earlier now lines =
-    nothing_more (closed clock inputs now.time (known_by earlier) now.changes lines)
-    ∙ sym (moment_ends clock inputs earlier now lines record { moments = []; fault = None })
-same_watch clock inputs [] (Value bits) earlier now lines = refl
-same_watch clock inputs [] Skip earlier now lines = refl
-same_watch clock inputs [] Remark earlier now lines = refl
-same_watch clock inputs (t ∷ ts) mode earlier now lines =
-    by_step clock inputs earlier now lines t.line ts (same_watch clock inputs ts) (step mode t.text)
+pub same_watch : (a : Asked) (ts : List Token) → Same a ts
+same_watch a [] Plain earlier now time lines =
+    tail_ends a earlier now.changes now.time _ (closed a now.time (known_by earlier) now.changes lines) (known_append earlier now.changes)
+    ∙ sym (moment_ends a earlier now time lines record { moments = []; fault = None })
+same_watch a [] (Value bits) earlier now time lines = refl
+same_watch a [] Skip earlier now time lines = refl
+same_watch a [] Remark earlier now time lines = refl
+same_watch a (t ∷ ts) mode earlier now time lines =
+    by_step a earlier now time lines t.line ts (same_watch a ts) (step mode t.text)
 
 -- the words behind the declarations, from the first
-pub watched_whole : (clock : Source) (inputs : List Source) (ts : List Token) →
-    watched_from clock inputs Plain nothing_watched ts ≡ sampled clock inputs (history_of ts)
-watched_whole clock inputs ts = same_watch clock inputs ts Plain [] (moment 0) []
+pub watched_whole : (a : Asked) (ts : List Token) → watched_from a Plain nothing_watched ts ≡ lines_asked a (history_of ts)
+watched_whole a ts = same_watch a ts Plain [] (moment 0) 0 []
 
 -- the answer of the code, whose words are those from the first
-pub sampled_whole : (clock : Source) (inputs : List Source) (ts : List Token) (w : Watch) (lines : List (List Bool)) → w ≡ nothing_watched →
-    watched_from clock inputs Plain w ts ≡ Ok lines → sampled clock inputs (history_of ts) ≡ Ok lines
-sampled_whole clock inputs ts w lines e f =
-    sym (watched_whole clock inputs ts) ∙ (ap (λ (w : Watch). watched_from clock inputs Plain w ts) (sym e) ∙ f)
+pub lines_whole : (a : Asked) (ts : List Token) (w : Watch) (lines : List (List Bool)) → w ≡ nothing_watched →
+    watched_from a Plain w ts ≡ Ok lines → lines_asked a (history_of ts) ≡ Ok lines
+lines_whole a ts w lines e f = sym (watched_whole a ts) ∙ (ap (λ (w : Watch). watched_from a Plain w ts) (sym e) ∙ f)
 
-pub sampled_faulty : (clock : Source) (inputs : List Source) (ts : List Token) (w : Watch) (fault : VcdFault) → w ≡ nothing_watched →
-    (fault ≡ NoMemory) ⊎ (watched_from clock inputs Plain w ts ≡ Err fault) →
-    (fault ≡ NoMemory) ⊎ (sampled clock inputs (history_of ts) ≡ Err fault)
-sampled_faulty clock inputs ts w fault e (inl want) = inl want
-sampled_faulty clock inputs ts w fault e (inr f) =
-    inr (sym (watched_whole clock inputs ts) ∙ (ap (λ (w : Watch). watched_from clock inputs Plain w ts) (sym e) ∙ f))
+pub lines_faulty : (a : Asked) (ts : List Token) (w : Watch) (fault : VcdFault) → w ≡ nothing_watched →
+    (fault ≡ NoMemory) ⊎ (watched_from a Plain w ts ≡ Err fault) → (fault ≡ NoMemory) ⊎ (lines_asked a (history_of ts) ≡ Err fault)
+lines_faulty a ts w fault e (inl want) = inl want
+lines_faulty a ts w fault e (inr f) = inr (sym (watched_whole a ts) ∙ (ap (λ (w : Watch). watched_from a Plain w ts) (sym e) ∙ f))
+
+-- ---- all edges
+
+no_tail : (clock : Source) (inputs : List Source) (fault : Option VcdFault) (earlier : List Change) (time : ℕ) (ms : List Moment) →
+    tail_of (all_edges clock inputs) fault earlier time ms ≡ []
+no_tail clock inputs None earlier time [] = refl
+no_tail clock inputs (Some fault) earlier time [] = refl
+no_tail clock inputs fault earlier time (m ∷ ms) = no_tail clock inputs fault (earlier ++ m.changes) m.time ms
+
+each_line : (clock : Source) (inputs : List Source) (n : ℕ) (cuts : List Cut) →
+    numbered_lines (all_edges clock inputs) n cuts ≡ all_ok (map (line_at inputs) cuts)
+each_line clock inputs n [] = refl
+each_line clock inputs n (c ∷ cs) = ap (λ r. line_at inputs c >>= λ x. r >>= λ xs. Ok (x ∷ xs)) (each_line clock inputs (n + 1) cs)
+
+pub all_sampled : (clock : Source) (inputs : List Source) (h : History) → lines_asked (all_edges clock inputs) h ≡ sampled clock inputs h
+all_sampled clock inputs h =
+    ap (λ (cs : List Cut). numbered_lines (all_edges clock inputs) 0 (filter (is_edge clock) (cuts_from [] h.moments) ++ cs) >>= λ lines. or_fault h.fault lines)
+    (no_tail clock inputs h.fault [] 0 h.moments)
+    ∙ (ap (λ (cs : List Cut). numbered_lines (all_edges clock inputs) 0 cs >>= λ lines. or_fault h.fault lines)
+    (append-nil (filter (is_edge clock) (cuts_from [] h.moments)))
+    ∙ ap (λ r. r >>= λ lines. or_fault h.fault lines) (each_line clock inputs 0 (filter (is_edge clock) (cuts_from [] h.moments))))

@@ -1,4 +1,4 @@
--- What the value changes of a VCD say: moments in time, each with its changes (docs/FORMATS.md, "VCD").
+-- What the value changes of a VCD say: moments in time, each with its changes (docs/FORMATS.md, "Value changes (VCD)").
 use Rattle.std.specs.Prelude.{ℕ, nat_lt, ◌==◌, List, [], ◌∷◌, ◌++◌, codes, Option, Some, None, if◌then◌else◌}
 use Rattle.std.specs.Str.{bytes_eq}
 use Rattle.bs_inspect_vcd.specs.declared.changes.Change.{Change as CodeChange}
@@ -6,10 +6,10 @@ use Rattle.bs_inspect_vcd.specs.declared.changes.Mode.{Mode as CodeMode}
 use Rattle.bs_inspect_vcd.specs.declared.changes.Mode.TheVariants as M
 use Rattle.bs_inspect_vcd.specs.declared.changes.Step.{Step as CodeStep}
 use Rattle.bs_inspect_vcd.specs.declared.changes.Step.TheVariants as T
-use Rattle.bs_inspect_vcd.specs.declared.fault.VcdFault.{VcdFault}
-use Rattle.bs_inspect_vcd.specs.declared.fault.VcdFault.TheVariants.{Line, Ended}
-use Rattle.bs_inspect_vcd.specs.Tokens.{Token}
-use Rattle.bs_inspect_vcd.specs.Words.{Said, Time, Scalar, Vector, Passed, Comment, Nothing, id_in, said_of}
+use Rattle.bs_inspect_declared.specs.declared.fault.VcdFault.{VcdFault}
+use Rattle.bs_inspect_declared.specs.declared.fault.VcdFault.TheVariants.{Line, Ended}
+use Rattle.bs_inspect_declared.specs.Tokens.{Token}
+use Rattle.bs_inspect_declared.specs.Words.{Said, Time, Scalar, Vector, Passed, Comment, Nothing, id_in, said_of}
 
 -- the new value of the variables with this code, a character a bit, the lowest last
 pub record Change : Type 0 where

@@ -1,11 +1,11 @@
--- The bit of a variable by its changes (docs/FORMATS.md, "VCD").
+-- The bit of a variable by its changes (docs/FORMATS.md, "Value changes (VCD)").
 use Rattle.std.specs.Prelude.{ℕ, ◌-◌, nat_lt, ◌==◌, Bool, true, false, not, List}
 use Rattle.std.specs.Prelude.{[], ◌∷◌, length, reverse, find, slice_index_or, Option, Some, None, if◌then◌else◌}
 use Rattle.std.specs.Option.{option_map}
 use Rattle.std.specs.Borrow.{Bor}
 use Rattle.std.specs.HashMap.{get, HashMap}
 use Rattle.std.specs.Prelude.{nat_eq, ◌&&◌}
-use Rattle.bs_inspect_vcd.specs.declared.levels.Source.{Source}
+use Rattle.bs_inspect_declared.specs.declared.sources.Source.{Source}
 use Rattle.bs_inspect_vcd.specs.History.{Change}
 
 -- what the variables with each code are known to be

@@ -1,9 +1,9 @@
 //! What comes of a word among the value changes.
 ghost use Rattle.std.specs.Prelude.{◌≡◌};
 ghost use Rattle.bs_inspect_vcd.specs.History.{maybe_step, mode_in, named_step, step, step_in, step_of, remark_step};
-ghost use Rattle.bs_inspect_vcd.specs.Words.{said_of, id_in};
+ghost use Rattle.bs_inspect_declared.specs.Words.{said_of, id_in};
 
-use crate::words::{Said, id_in, is_text, said_of};
+use bs_inspect_declared::{Said, id_in, is_text, said_of};
 
 /// The new value of the variables with a code: a character a bit, the lowest last.
 #[derive(Clone, Copy)]

@@ -2,19 +2,27 @@
 ghost use Rattle.std.specs.Prelude.{◌≡◌, ◌<◌, ◌+◌, ◌^◌, length, map, option_map};
 ghost use Rattle.bs_bits.specs.Reading.{Answers};
 ghost use Rattle.bs_net_names.specs.Keys.{parts_in};
-ghost use Rattle.bs_inspect_vcd.specs.declared.fault.VcdFault.TheVariants.{NoClock, NoMemory as Want};
-ghost use Rattle.bs_inspect_vcd.specs.Header.{begun_in, declared_in, header_from, header_in};
-ghost use Rattle.bs_inspect_vcd.specs.Tokens.{tokens_from};
-ghost use Rattle.bs_inspect_vcd.specs.Sources.{edges_of, inputs_from, or_fault, read_from, scope_of, source_in, stimulus_in};
+ghost use Rattle.bs_inspect_declared.specs.declared.fault.VcdFault.TheVariants.{NoClock, NoMemory as Want};
+ghost use Rattle.bs_inspect_declared.specs.Header.{begun_in, declared_in, header_from, header_in};
+ghost use Rattle.bs_inspect_declared.specs.Sources.{inputs_from, or_fault, scope_of, source_in};
+ghost use Rattle.bs_inspect_declared.specs.Tokens.{tokens_from};
+ghost use Rattle.bs_inspect_vcd.specs.Stimulus.{edges_of, read_from, sampling_in, sampling_of, stimulus_in};
 
-use crate::fault::VcdFault;
-use crate::header::{Begun, Behind, Declared, nothing, take_words};
-use crate::levels::Source;
-use crate::sources::{scope_of, source_in, take_inputs};
 use crate::watch::sample;
 use bs_bits::{Bits, List};
+use bs_inspect_declared::{
+    Begun, Behind, Declared, Source, VcdFault, nothing, scope_of, source_in, take_inputs,
+    take_words,
+};
 use bs_net_names::{KeyParts, key_parts};
 use std::alloc::Global;
+
+/// A clock, and the sources of names.
+#[derive(Drop)]
+pub struct Sampling {
+    pub clock: Source,
+    pub inputs: Vec<Source>,
+}
 
 /// The path of the clock's scope.
 fn clock_scope<'a>(
@@ -44,6 +52,27 @@ fn clock_source(
     }
 }
 
+/// The clock in its scope, and these names there.
+pub fn sampling_of(
+    alloc: Global,
+    declared: &Declared<'_>,
+    scope: Option<&[u8]>,
+    clock: &[u8],
+    keys: &[&[u8]],
+) -> Result<Sampling, VcdFault>
+    ensures { Answers Want sampling_in result (sampling_of (declared_in declared.now) (option_map (λ path. path.now) scope.entry) clock.now (map (λ key. key.now) keys.now)) }
+{
+    let clock = key_parts(clock);
+    let path = clock_scope(scope, clock, declared)?;
+    let source = clock_source(declared, path, clock)?;
+    let mut inputs = Vec::new(alloc);
+    take_inputs(declared, path, keys, &mut inputs)?;
+    Ok(Sampling {
+        clock: source,
+        inputs,
+    })
+}
+
 /// The lines of a clock's rising edges by what is declared and the text behind that.
 fn edges_of(
     alloc: Global,
@@ -56,12 +85,14 @@ fn edges_of(
     requires { behind.line + length behind.rest.now < 2 ^ 64 }
     ensures { Answers Want (λ lines. lines) result (edges_of (header_in behind.entry declared.now) (option_map (λ path. path.now) scope.entry) clock.now (map (λ key. key.now) keys.now)) }
 {
-    let clock = key_parts(clock);
-    let path = clock_scope(scope, clock, declared)?;
-    let source = clock_source(declared, path, clock)?;
-    let mut inputs = Vec::new(alloc);
-    take_inputs(declared, path, keys, &mut inputs)?;
-    let lines = sample(alloc, source, inputs.as_slice(), behind.line, behind.rest)?;
+    let sampling = sampling_of(alloc, declared, scope, clock, keys)?;
+    let lines = sample(
+        alloc,
+        sampling.clock,
+        sampling.inputs.as_slice(),
+        behind.line,
+        behind.rest,
+    )?;
     Ok(lines)
 }
 
@@ -83,7 +114,7 @@ fn read_from<'a>(
 }
 
 /// The line of each rising edge of a clock in the text of a VCD: the bits of these names just before it, in the scope with this
-/// path or else in that of the first variable that has the clock (docs/FORMATS.md, "VCD"). The names are keys.
+/// path or else in that of the first variable that has the clock (docs/FORMATS.md, "Value changes (VCD)"). The names are keys.
 pub fn stimulus(
     alloc: Global,
     text: &[u8],

@@ -9,15 +9,9 @@ ghost use Rattle.bs_inspect_vcd.specs.Sampled.{rises};
 
 use crate::changes::Change;
 use bs_bits::{Bits, NoMemory};
+use bs_inspect_declared::Source;
 use std::alloc::Global;
 use std::collections::HashMap;
-
-/// A bit of the variables with a code, by its place from the last character of their values.
-#[derive(Clone, Copy)]
-pub struct Source {
-    pub id: u64,
-    pub place: u64,
-}
 
 /// The bit of a character, where it is known.
 fn level_in(byte: u8) -> Option<bool>

@@ -3,7 +3,7 @@ use Rattle.std.specs.Prelude.{ℕ, ◌==◌, Bool, true, false, List, [], ◌∷
 use Rattle.std.specs.List.{flat_map}
 use Rattle.std.specs.Str.{bytes_eq}
 use Rattle.bs_bits.specs.Lines.{line, onto_first}
-use Rattle.bs_net_names.specs.Signals.{plain}
+use Rattle.bs_net_names.specs.Naming.{plain}
 use Rattle.bs_net_names.specs.Splits.{Halves, last_split}
 
 abbrev pub before_of : Option Halves → List ℕ

@@ -11,7 +11,8 @@ use Rattle.bs_top_words.specs.Asked.{setting_of}
 use Rattle.bs_top_words.specs.Given.{Given}
 use Rattle.bs_inspect_words.specs.declared.request.Request.{Request as CodeRequest}
 use Rattle.bs_inspect_words.specs.Asked.{shown_request}
-use Rattle.bs_inspect_words.specs.Request.{Request, Keys, bare, from_of, keys_of, keys_request, name_of, only_name, trace_flags, trace_of, trace_words, unscan_of, unscan_request, wave_flags, wave_of, wave_words}
+use Rattle.bs_inspect_words.specs.Request.{Request, Keys, Stimulus, are_runs, bare, from_of, keys_of, keys_request, name_of, only_name, stimulus_for, trace_flags, trace_of}
+use Rattle.bs_inspect_words.specs.Request.{trace_words, unscan_of, unscan_request, wave_flags, wave_of, wave_words}
 use Rattle.bs_inspect_words.specs.Settings.{fit, is_given, value_of, values_of}
 
 abbrev Words : Type 0
@@ -64,3 +65,13 @@ pub wave_told : (positions : Words) (settings : List CodeSetting) (word : Option
     r ≡ wave_of positions from all only → r ≡ wave_words positions (map setting_of settings)
 wave_told positions settings word from all only r are w c e f is =
     is ∙ ((λ i. wave_of positions ((c ∙ ap from_of w) i) (e i) (f i)) ∙ sym (rw are refl))
+
+-- what `stimulus` asks of files of values, where there are not too many
+pub runs_there : (netlist : List ℕ) (vcds copy : Words) (clock : List ℕ) (scope names : Option (List ℕ)) → are_runs vcds ≡ true → copy ≡ vcds →
+    Some (Stimulus record { netlist = netlist; vcds = copy; clock = clock; scope = scope; names = names }) ≡ stimulus_for netlist vcds clock scope names
+runs_there netlist vcds copy clock scope names are is =
+    ap (λ (vs : Words). Some (Stimulus record { netlist = netlist; vcds = vs; clock = clock; scope = scope; names = names })) is ∙ sym (rw are refl)
+
+pub runs_none : (netlist : List ℕ) (vcds : Words) (clock : List ℕ) (scope names : Option (List ℕ)) → are_runs vcds ≡ false →
+    None ≡ stimulus_for netlist vcds clock scope names
+runs_none netlist vcds clock scope names not = sym (rw not refl)

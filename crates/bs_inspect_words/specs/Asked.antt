@@ -5,12 +5,13 @@ use Rattle.bs_inspect_words.specs.declared.request.KeysRequest.{KeysRequest as C
 use Rattle.bs_inspect_words.specs.declared.request.TraceRequest.{TraceRequest as CodeTraceRequest}
 use Rattle.bs_inspect_words.specs.declared.request.WaveRequest.{WaveRequest as CodeWaveRequest}
 use Rattle.bs_inspect_words.specs.declared.request.StimulusRequest.{StimulusRequest as CodeStimulusRequest}
+use Rattle.bs_inspect_words.specs.declared.request.DumpRequest.{DumpRequest as CodeDumpRequest}
 use Rattle.bs_inspect_words.specs.declared.request.UnscanRequest.{UnscanRequest as CodeUnscanRequest}
 use Rattle.bs_inspect_words.specs.declared.proposed.SignatureRequest.{SignatureRequest as CodeSignatureRequest}
 use Rattle.bs_inspect_words.specs.declared.request.Request.{Request as CodeRequest}
 use Rattle.bs_inspect_words.specs.declared.request.Request.TheVariants as R
-use Rattle.bs_inspect_words.specs.Request.{KeysRequest, TraceRequest, WaveRequest, StimulusRequest, SignatureRequest, UnscanRequest, Request}
-use Rattle.bs_inspect_words.specs.Request.{Help, Version, Flops, Inputs, Stats, Keys, Trace, TraceTable, Steps, StepsTable, Wave, Stimulus, Signature, Unscan}
+use Rattle.bs_inspect_words.specs.Request.{KeysRequest, TraceRequest, WaveRequest, StimulusRequest, DumpRequest, SignatureRequest, UnscanRequest, Request}
+use Rattle.bs_inspect_words.specs.Request.{Help, Version, Flops, Inputs, Stats, Keys, Trace, TraceTable, Steps, StepsTable, Wave, Stimulus, Dump, Signature, Unscan}
 
 abbrev pub keys_in : CodeKeysRequest → KeysRequest
 keys_in t = record { netlist = t.netlist.now; names = map (λ s. s.now) t.names.items }
@@ -24,10 +25,21 @@ wave_in t = record { netlist = t.netlist.now; report = t.report.now; all = t.all
 abbrev pub stimulus_in : CodeStimulusRequest → StimulusRequest
 stimulus_in t = record {
   netlist = t.netlist.now;
-  vcd = t.vcd.now;
+  vcds = map (λ s. s.now) t.vcds.items;
   clock = t.clock.now;
   scope = option_map (λ s. s.now) t.scope;
   names = option_map (λ s. s.now) t.names;
+}
+
+abbrev pub dump_in : CodeDumpRequest → DumpRequest
+dump_in t = record {
+  netlist = t.netlist.now;
+  vcd = t.vcd.now;
+  at = t.at;
+  clock = option_map (λ s. s.now) t.clock;
+  scope = option_map (λ s. s.now) t.scope;
+  names = option_map (λ s. s.now) t.names;
+  signature = option_map (λ s. s.now) t.signature;
 }
 
 abbrev pub signature_in : CodeSignatureRequest → SignatureRequest
@@ -49,6 +61,7 @@ request_in (R.Steps report) = Steps report.now
 request_in (R.StepsTable report) = StepsTable report.now
 request_in (R.Wave t) = Wave (wave_in t)
 request_in (R.Stimulus t) = Stimulus (stimulus_in t)
+request_in (R.Dump t) = Dump (dump_in t)
 request_in (R.Signature t) = Signature (signature_in t)
 request_in (R.Unscan t) = Unscan (unscan_in t)
 

@@ -1,13 +1,16 @@
 -- Which words are a request, and which request they are (docs/FORMATS.md, "Words of `backspace_inspect`").
-use Rattle.std.specs.Prelude.{ℕ, ◌==◌, Bool, true, false, ◌&&◌, ◌||◌, List, [], ◌∷◌, length, codes, Option, Some, None, if◌then◌else◌}
+use Rattle.std.specs.Prelude.{ℕ, nat_lt, nat_le, ◌==◌, Bool, true, false, ◌&&◌, ◌||◌, List, [], ◌∷◌, length, codes, Option, Some, None, if◌then◌else◌}
 use Rattle.std.specs.Option.{option_map, option_and_then}
 use Rattle.std.specs.Str.{bytes_eq}
-use Rattle.bs_stim.specs.declared.limits.TheConstants.{MAX_CYCLES}
+use Rattle.bs_bits.specs.Lines.{number_in}
+use Rattle.bs_stim.specs.declared.limits.TheConstants.{MAX_CYCLES, MAX_RUNS}
 use Rattle.bs_top_words.specs.declared.flags.Flag.{Flag}
 use Rattle.bs_top_words.specs.declared.flags.Flag.TheVariants as F
 use Rattle.bs_top_words.specs.declared.limits.TheConstants.{MAX_BITS}
 use Rattle.bs_top_words.specs.Given.{Setting, Given, read_all, start}
 use Rattle.bs_top_words.specs.Options.{number_between}
+use Rattle.bs_inspect_vcd.specs.declared.cycles.When.{When}
+use Rattle.bs_inspect_vcd.specs.declared.cycles.When.TheVariants as W
 use Rattle.bs_inspect_words.specs.Settings.{fit, is_given, value_of, values_of}
 
 -- the file of `keys`, and one name or more
@@ -30,13 +33,24 @@ pub record WaveRequest : Type 0 where
   pub from : ℕ
   pub only : List (List ℕ)
 
--- the files of `stimulus` with the file of names, where there is one; the name of the clock, and the path of a scope
+-- the files of `stimulus`, one of values or more, with the file of names, where there is one; the name of the clock, and the path of
+-- a scope
 pub record StimulusRequest : Type 0 where
   pub netlist : List ℕ
-  pub vcd : List ℕ
+  pub vcds : List (List ℕ)
   pub clock : List ℕ
   pub scope : Option (List ℕ)
   pub names : Option (List ℕ)
+
+-- the files of `dump`, and when it is taken; the clock, the scope, the file of names and that of a signature, where they are given
+pub record DumpRequest : Type 0 where
+  pub netlist : List ℕ
+  pub vcd : List ℕ
+  pub at : When
+  pub clock : Option (List ℕ)
+  pub scope : Option (List ℕ)
+  pub names : Option (List ℕ)
+  pub signature : Option (List ℕ)
 
 -- the files of `signature`, and how many items it is to have
 pub record SignatureRequest : Type 0 where
@@ -63,6 +77,7 @@ pub data Request : Type 0 where
   StepsTable : List ℕ → Request
   Wave : WaveRequest → Request
   Stimulus : StimulusRequest → Request
+  Dump : DumpRequest → Request
   Signature : SignatureRequest → Request
   Unscan : UnscanRequest → Request
 
@@ -175,10 +190,19 @@ wave_request given = wave_words given.positions given.settings
 abbrev pub stimulus_flags : List Flag
 stimulus_flags = F.Clock ∷ F.Scope ∷ F.Map ∷ []
 
--- `stimulus` has two file names, and a clock
+-- a stimulus has a run or more, and no more than it may have
+abbrev pub are_runs : List (List ℕ) → Bool
+are_runs vcds = nat_lt 0 (length vcds) && nat_le (length vcds) MAX_RUNS
+
+abbrev pub stimulus_for : (netlist : List ℕ) → (vcds : List (List ℕ)) → (clock : List ℕ) → (scope names : Option (List ℕ)) → Option Request
+stimulus_for netlist vcds clock scope names =
+    if are_runs vcds
+    then Some (Stimulus record { netlist = netlist; vcds = vcds; clock = clock; scope = scope; names = names })
+    else None
+
+-- `stimulus` has the name of a netlist and those of values, and a clock
 abbrev pub stimulus_of : List (List ℕ) → (clock scope names : Option (List ℕ)) → Option Request
-stimulus_of (netlist ∷ vcd ∷ []) (Some clock) scope names =
-    Some (Stimulus record { netlist = netlist; vcd = vcd; clock = clock; scope = scope; names = names })
+stimulus_of (netlist ∷ vcds) (Some clock) scope names = stimulus_for netlist vcds clock scope names
 stimulus_of _ clock scope names = None
 
 abbrev pub stimulus_words : List (List ℕ) → List Setting → Option Request
@@ -189,6 +213,62 @@ stimulus_words positions settings =
 
 abbrev pub stimulus_request : Given → Option Request
 stimulus_request given = stimulus_words given.positions given.settings
+
+abbrev pub dump_flags : List Flag
+dump_flags = F.Time ∷ F.Cycle ∷ F.Clock ∷ F.Scope ∷ F.Map ∷ F.Signature ∷ []
+
+abbrev pub at_time : Option ℕ → Option When
+at_time None = None
+at_time (Some time) = Some (W.Time time)
+
+abbrev pub at_cycle : Option ℕ → Option When
+at_cycle None = None
+at_cycle (Some cycle) = Some (W.Cycle cycle)
+
+-- a time or a cycle
+abbrev pub when_of : (time cycle : Option (List ℕ)) → Option When
+when_of None None = None
+when_of (Some time) None = at_time (number_in time)
+when_of None (Some cycle) = at_cycle (number_between 0 MAX_CYCLES cycle)
+when_of (Some time) (Some cycle) = None
+
+-- what of a dump may be given, or not
+pub record DumpOptions : Type 0 where
+  pub clock : Option (List ℕ)
+  pub scope : Option (List ℕ)
+  pub names : Option (List ℕ)
+  pub signature : Option (List ℕ)
+
+abbrev pub dump_options : List Setting → DumpOptions
+dump_options settings = record {
+  clock = value_of F.Clock settings;
+  scope = value_of F.Scope settings;
+  names = value_of F.Map settings;
+  signature = value_of F.Signature settings;
+}
+
+-- `dump` has two file names, and a moment
+abbrev pub dump_of : List (List ℕ) → Option When → DumpOptions → Option Request
+dump_of (netlist ∷ vcd ∷ []) (Some at) o =
+    Some (Dump record {
+      netlist = netlist;
+      vcd = vcd;
+      at = at;
+      clock = o.clock;
+      scope = o.scope;
+      names = o.names;
+      signature = o.signature;
+    })
+dump_of _ at o = None
+
+abbrev pub dump_words : List (List ℕ) → List Setting → Option Request
+dump_words positions settings =
+    if fit dump_flags settings
+    then dump_of positions (when_of (value_of F.Time settings) (value_of F.Cycle settings)) (dump_options settings)
+    else None
+
+abbrev pub dump_request : Given → Option Request
+dump_request given = dump_words given.positions given.settings
 
 -- ---- a signature
 
@@ -215,7 +295,8 @@ signature_request given = signature_words given.positions given.settings
 
 -- what the commands take
 abbrev pub all_flags : List Flag
-all_flags = F.All ∷ F.Only ∷ F.Clock ∷ F.Scope ∷ F.Map ∷ F.Bits ∷ F.From ∷ F.Csv ∷ []
+all_flags =
+    F.All ∷ F.Only ∷ F.Clock ∷ F.Scope ∷ F.Map ∷ F.Bits ∷ F.From ∷ F.Time ∷ F.Cycle ∷ F.Signature ∷ F.Csv ∷ []
 
 abbrev pub is_help : List ℕ → Bool
 is_help command = bytes_eq command (codes "help") || (bytes_eq command (codes "-h") || bytes_eq command (codes "--help"))
@@ -236,7 +317,7 @@ bare_request command given =
 abbrev pub other_request : List ℕ → Given → Option Request
 other_request command given =
     if bytes_eq command (codes "steps") then steps_request given
-    else (if bytes_eq command (codes "stimulus") then stimulus_request given
+    else (if bytes_eq command (codes "dump") then dump_request given
     else (if bytes_eq command (codes "signature") then signature_request given
     else (if bytes_eq command (codes "unscan") then unscan_request given
     else bare_request command given)))
@@ -245,8 +326,9 @@ abbrev pub command_request : List ℕ → Given → Option Request
 command_request command given =
     if bytes_eq command (codes "trace") then trace_request given
     else (if bytes_eq command (codes "wave") then wave_request given
+    else (if bytes_eq command (codes "stimulus") then stimulus_request given
     else (if bytes_eq command (codes "keys") then keys_request given
-    else other_request command given))
+    else other_request command given)))
 
 -- the request that words are: the first is the command
 abbrev pub request_of : List (List ℕ) → Option Request

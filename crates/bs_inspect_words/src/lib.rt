@@ -19,5 +19,5 @@ mod simulation;
 pub use proposed::SignatureRequest;
 pub use reading::read_request;
 pub use request::{
-    KeysRequest, Request, StimulusRequest, TraceRequest, UnscanRequest, WaveRequest,
+    DumpRequest, KeysRequest, Request, StimulusRequest, TraceRequest, UnscanRequest, WaveRequest,
 };

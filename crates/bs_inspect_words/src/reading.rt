@@ -12,7 +12,7 @@ use crate::named::{
 use crate::report::{steps_request, trace_request, wave_request};
 use crate::request::Request;
 use crate::signature::signature_request;
-use crate::simulation::stimulus_request;
+use crate::simulation::{dump_request, stimulus_request};
 use bs_bits::NoMemory;
 use bs_top_words::{Flag, Given, read_given};
 use std::alloc::Global;
@@ -60,8 +60,8 @@ fn other_request<'a>(command: &str, given: &Given<'a>) -> Option<Request<'a>>
     if command == "steps" {
         return steps_request(given);
     }
-    if command == "stimulus" {
-        return stimulus_request(given);
+    if command == "dump" {
+        return dump_request(given);
     }
     if command == "signature" {
         return signature_request(given);
@@ -86,6 +86,9 @@ fn command_request<'a>(
     if command == "wave" {
         return wave_request(alloc, given);
     }
+    if command == "stimulus" {
+        return stimulus_request(alloc, given);
+    }
     if command == "keys" {
         return keys_request(alloc, given);
     }
@@ -104,6 +107,9 @@ fn read_shown<'a>(alloc: Global, words: &'a [String]) -> Result<Option<Given<'a>
         Flag::Map,
         Flag::Bits,
         Flag::From,
+        Flag::Time,
+        Flag::Cycle,
+        Flag::Signature,
         Flag::Csv,
     ];
     let given = read_given(alloc, &flags, words)?;

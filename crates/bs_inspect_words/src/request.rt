@@ -1,5 +1,6 @@
 //! The requests: a command, its files and its options.
 use crate::proposed::SignatureRequest;
+use bs_inspect_vcd::When;
 
 /// `keys`: the name of its file, and one name or more.
 #[derive(Drop)]
@@ -29,15 +30,28 @@ pub struct WaveRequest<'a> {
     pub only: Vec<&'a str>,
 }
 
-/// `stimulus`: the names of its files, the name of the clock, the path of a scope and the file of the names that the inputs have
-/// in a simulation, where there are any.
-#[derive(Clone, Copy)]
+/// `stimulus`: the names of its files, of which those of values are one or more, the name of the clock, the path of a scope and the
+/// file of the names that the inputs have in a simulation, where there are any.
+#[derive(Drop)]
 pub struct StimulusRequest<'a> {
     pub netlist: &'a str,
-    pub vcd: &'a str,
+    pub vcds: Vec<&'a str>,
     pub clock: &'a str,
     pub scope: Option<&'a str>,
     pub names: Option<&'a str>,
+}
+
+/// `dump`: the names of its files, and when it is taken; the name of the clock, the path of a scope, the file of the names that the
+/// flip-flops have in a simulation, and that of a signature, where they are given.
+#[derive(Clone, Copy)]
+pub struct DumpRequest<'a> {
+    pub netlist: &'a str,
+    pub vcd: &'a str,
+    pub at: When,
+    pub clock: Option<&'a str>,
+    pub scope: Option<&'a str>,
+    pub names: Option<&'a str>,
+    pub signature: Option<&'a str>,
 }
 
 /// `unscan`: the names of its files, and the bits of a pattern.
@@ -73,8 +87,10 @@ pub enum Request<'a> {
     StepsTable(&'a str),
     /// The waveform of a report's trace, as viewers take it.
     Wave(WaveRequest<'a>),
-    /// A run of a stimulus out of the values of a simulator.
+    /// A stimulus out of the values of a simulator, a run for each file.
     Stimulus(StimulusRequest<'a>),
+    /// A dump out of the values of a simulator.
+    Dump(DumpRequest<'a>),
     /// A signature that recorded runs propose.
     Signature(SignatureRequest<'a>),
     /// The state that a pattern of a scan chain is.

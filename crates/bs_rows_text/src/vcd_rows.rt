@@ -1,7 +1,8 @@
 //! Dumps of iverilog and verilator, and refusals.
 
 use bs_bits::{Bits, NoMemory};
-use bs_inspect_vcd::{VcdFault, stimulus};
+use bs_inspect_declared::VcdFault;
+use bs_inspect_vcd::{When, states, stimulus};
 use std::alloc::Global;
 use std::test::Fail;
 
@@ -140,6 +141,107 @@ const DUMPS: [Dump<'static>; 13] = [
 fn dumps_give_the_inputs_before_each_edge(rt: HostRuntime) -> Result<(), Fail> {
     for row in &DUMPS {
         assert!(rt; gives(rt.alloc(), row)?);
+    }
+    Ok(())
+}
+
+/// A dump's text, the scope, the keys of flip-flops in a line, when and how many cycles before it, and the states or the fault.
+type Taken<'a> = (
+    &'a str,
+    Option<&'a str>,
+    &'a str,
+    When,
+    u64,
+    Result<&'a str, VcdFault>,
+);
+
+/// Whether a dump has these states, or this fault.
+fn has_for(
+    alloc: Global,
+    (text, scope, _, at, back, want): &Taken<'_>,
+    keys: &[&[u8]],
+) -> Result<bool, NoMemory> {
+    let text = text.as_bytes();
+    if text.len() > MOST {
+        return Ok(false);
+    }
+    let scope = scope.map(str::as_bytes);
+    match (
+        states(alloc, text, scope, "ck".as_bytes(), keys, *at, *back),
+        *want,
+    ) {
+        (Ok(lines), Ok(want)) => are_told(alloc, lines.slice(), want),
+        (Err(fault), Err(want)) => Ok(fault == want),
+        _ => Ok(false),
+    }
+}
+
+/// Whether a dump has the states that it is to have.
+fn has(alloc: Global, taken: &Taken<'_>) -> Result<bool, NoMemory> {
+    let keys = keys_of(alloc, taken.2)?;
+    has_for(alloc, taken, &keys)
+}
+
+/// Cycles of dumps: each edge ends one, and the end of the text the last.
+const TAKEN: [Taken<'static>; 9] = [
+    (
+        VERILATED,
+        None,
+        "q[0] q[1]",
+        When::Cycle(1),
+        1,
+        Ok("00,01,"),
+    ),
+    (VERILATED, None, "q[0] q[1]", When::Cycle(2), 0, Ok("11,")),
+    (
+        VERILATED,
+        None,
+        "q[0] q[1]",
+        When::Time(12),
+        2,
+        Ok("00,01,"),
+    ),
+    (VERILATED, None, "q[0] q[1]", When::Time(15), 0, Ok("11,")),
+    (VERILATED, None, "q[0]", When::Time(4), 0, Ok("0,")),
+    (
+        VERILATED,
+        Some("TOP"),
+        "t.q[1] q[0]",
+        When::Cycle(1),
+        0,
+        Ok("10,"),
+    ),
+    (
+        VERILATED,
+        None,
+        "q[0]",
+        When::Cycle(3),
+        0,
+        Err(VcdFault::NoCycle(2)),
+    ),
+    (
+        ICARUS,
+        Some("tb.dut"),
+        "\\e[3]",
+        When::Cycle(1),
+        0,
+        Ok("0,"),
+    ),
+    (
+        ICARUS,
+        Some("tb.dut"),
+        "\\e[3]",
+        When::Cycle(1),
+        1,
+        Err(VcdFault::Unknown(0, 5)),
+    ),
+];
+
+#[test]
+fn cycles_have_the_states_before_their_edges(rt: HostRuntime) -> Result<(), Fail> {
+    let alloc = rt.alloc();
+    for taken in &TAKEN {
+        assert!(rt; has(alloc, taken)?);
     }
     Ok(())
 }

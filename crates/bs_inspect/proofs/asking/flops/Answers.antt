@@ -1,3 +1,4 @@
+use Rattle.std.proofs.Common.{refl}
 use Rattle.bs_top_answer.proofs.AnswerLemmas.{told_as}
 use Rattle.bs_inspect.specs.Sources.{source_of, sources_of}
 use Rattle.bs_inspect.specs.Work.{to_flops}
@@ -7,7 +8,7 @@ use Rattle.bs_inspect.proofs.asking.flops.Goals as goal
 
 pub returns-in-Ok : goal.returns-in-Ok
 returns-in-Ok g c =
-    told_done (source_of (sources_of (Asked c.args.netlist.now))) _ _ c.silent.ensures (told_as to_flops c.in-Ok.ensures) c.tell_flops.ensures
+    told_done (source_of (sources_of (Asked c.args.netlist.now))) _ _ c.silent.ensures refl (told_as to_flops c.in-Ok.ensures) c.tell_flops.ensures
 
 pub returns-in-Err : goal.returns-in-Err
 returns-in-Err g c =

@@ -1,4 +1,4 @@
-use Rattle.std.proofs.Common.{ap}
+use Rattle.std.proofs.Common.{ap, refl}
 use Rattle.bs_inspect_words.specs.Asked.{request_in}
 use Rattle.bs_inspect_words.specs.Request.{Help, Version}
 use Rattle.bs_inspect.specs.Sources.{source_of, sources_of}
@@ -8,11 +8,11 @@ use Rattle.bs_inspect.proofs.asking.request_answer.Goals as goal
 
 pub returns-in-Help : goal.returns-in-Help
 returns-in-Help g c =
-    noted_asked _ _ Help (ap request_in c.in-Help.is) (told_alone to_help (source_of (sources_of Help)) _ _ c.silent.ensures c.tell_usage.ensures)
+    noted_asked _ _ Help (ap request_in c.in-Help.is) (told_alone to_help (source_of (sources_of Help)) _ _ c.silent.ensures refl c.tell_usage.ensures)
 
 pub returns-in-Version : goal.returns-in-Version
 returns-in-Version g c =
-    noted_asked _ _ Version (ap request_in c.in-Version.is) (told_alone to_version (source_of (sources_of Version)) _ _ c.silent-in-Version.ensures c.tell_version.ensures)
+    noted_asked _ _ Version (ap request_in c.in-Version.is) (told_alone to_version (source_of (sources_of Version)) _ _ c.silent-in-Version.ensures refl c.tell_version.ensures)
 
 pub returns-in-Trace : goal.returns-in-Trace
 returns-in-Trace g c = noted_asked _ _ _ (ap request_in c.in-Trace.is) c.trace.ensures
@@ -49,3 +49,6 @@ returns-in-Keys g c = noted_asked _ _ _ (ap request_in c.in-Keys.is) c.keys.ensu
 
 pub returns-in-Unscan : goal.returns-in-Unscan
 returns-in-Unscan g c = noted_asked _ _ _ (ap request_in c.in-Unscan.is) c.unscan.ensures
+
+pub returns-in-Dump : goal.returns-in-Dump
+returns-in-Dump g c = noted_asked _ _ _ (ap request_in c.in-Dump.is) c.dump.ensures

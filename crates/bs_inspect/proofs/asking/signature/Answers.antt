@@ -1,3 +1,4 @@
+use Rattle.std.proofs.Common.{refl}
 use Rattle.bs_top_answer.proofs.AnswerLemmas.{told_as}
 use Rattle.bs_inspect_words.specs.Asked.{signature_in}
 use Rattle.bs_inspect_words.specs.Request.{Signature as Asked}
@@ -8,7 +9,7 @@ use Rattle.bs_inspect.proofs.asking.signature.Goals as goal
 
 pub returns-in-Ok : goal.returns-in-Ok
 returns-in-Ok g c =
-    told_done (source_of (sources_of (Asked (signature_in c.args.asked.now)))) _ _ c.silent.ensures (told_as (to_signature c.args.asked.now.items) c.in-Ok.ensures) c.tell_signature.ensures
+    told_done (source_of (sources_of (Asked (signature_in c.args.asked.now)))) _ _ c.silent.ensures refl (told_as (to_signature c.args.asked.now.items) c.in-Ok.ensures) c.tell_signature.ensures
 
 pub returns-in-Err : goal.returns-in-Err
 returns-in-Err g c =

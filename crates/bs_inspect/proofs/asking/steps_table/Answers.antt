@@ -1,3 +1,4 @@
+use Rattle.std.proofs.Common.{refl}
 use Rattle.bs_top_answer.proofs.AnswerLemmas.{told_as}
 use Rattle.bs_inspect_words.specs.Request.{StepsTable as Asked}
 use Rattle.bs_inspect.specs.Sources.{source_of, sources_of}
@@ -7,7 +8,7 @@ use Rattle.bs_inspect.proofs.asking.steps_table.Goals as goal
 
 pub returns-in-Ok : goal.returns-in-Ok
 returns-in-Ok g c =
-    told_done (source_of (sources_of (Asked c.args.report.now))) _ _ c.silent.ensures (told_as to_steps_table c.in-Ok.ensures.walks) c.tell_steps_table.ensures
+    told_done (source_of (sources_of (Asked c.args.report.now))) _ _ c.silent.ensures refl (told_as to_steps_table c.in-Ok.ensures.walks) c.tell_steps_table.ensures
 
 pub returns-in-Err : goal.returns-in-Err
 returns-in-Err g c =

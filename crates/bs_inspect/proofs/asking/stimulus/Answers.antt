@@ -1,16 +1,34 @@
-use Rattle.bs_top_answer.proofs.AnswerLemmas.{told_as}
-use Rattle.bs_inspect_words.specs.Asked.{stimulus_in}
-use Rattle.bs_inspect_words.specs.Request.{Stimulus as Asked}
+use Rattle.std.proofs.Common.{ℕ, Bor, List, Option, map, refl, sym}
+use Rattle.std.specs.Option.{option_map}
+use Rattle.bs_top_answer.proofs.AnswerLemmas.{told_as, told_stopped, told_work}
+use Rattle.bs_inspect_words.specs.Request.{Request, Stimulus}
+use Rattle.bs_inspect.specs.Finishes.{finishes}
+use Rattle.bs_inspect.specs.Said.{WorkSaid}
 use Rattle.bs_inspect.specs.Sources.{source_of, sources_of}
-use Rattle.bs_inspect.specs.Work.{to_run}
-use Rattle.bs_inspect.proofs.WorkLemmas.{told_done, told_stop_at}
+use Rattle.bs_inspect.specs.Work.{to_runs}
+use Rattle.bs_inspect.proofs.WorkLemmas.{is_work, noted_with}
 use Rattle.bs_inspect.proofs.asking.stimulus.Goals as goal
 
 pub returns-in-Ok : goal.returns-in-Ok
 returns-in-Ok g c =
-    told_done (source_of (sources_of (Asked (stimulus_in c.args.asked.now)))) _ _ c.silent.ensures (told_as to_run c.in-Ok.ensures) c.tell_run.ensures
+    let clock : List ℕ = c.args.asked.now.clock.now in
+    let scope : Option (List ℕ) = option_map (λ s. s.now) c.args.asked.now.scope in
+    let names : Option (List ℕ) = option_map (λ s. s.now) c.args.asked.now.names in
+    let request : List (Bor (List ℕ)) → Request =
+    λ xs. Stimulus (record { netlist = c.args.asked.now.netlist.now; vcds = map (λ s. s.now) xs; clock = clock; scope = scope; names = names }) in
+    let slice : List (Bor (List ℕ)) = c.as_slice-vcds.result.now in
+    noted_with request c.args.asked.now.vcds.items slice _ (sym c.as_slice-vcds.ensures.value)
+    (told_work WorkSaid (source_of (sources_of (request slice))) _ is_work (told_as (to_runs clock) c.in-Ok.ensures)
+    c.runs_answer.ensures.reply c.runs_answer.ensures.note)
 
 pub returns-in-Err : goal.returns-in-Err
 returns-in-Err g c =
-    told_stop_at _ (sources_of (Asked (stimulus_in c.args.asked.now))) _ c.values_sources.ensures (told_as to_run c.in-Err.ensures)
-    c.stop_at.ensures.reply c.stop_at.ensures.note
+    let clock : List ℕ = c.args.asked.now.clock.now in
+    let scope : Option (List ℕ) = option_map (λ s. s.now) c.args.asked.now.scope in
+    let names : Option (List ℕ) = option_map (λ s. s.now) c.args.asked.now.names in
+    let request : List (Bor (List ℕ)) → Request =
+    λ xs. Stimulus (record { netlist = c.args.asked.now.netlist.now; vcds = map (λ s. s.now) xs; clock = clock; scope = scope; names = names }) in
+    let slice : List (Bor (List ℕ)) = c.as_slice-vcds.result.now in
+    noted_with request c.args.asked.now.vcds.items slice _ (sym c.as_slice-vcds.ensures.value)
+    (told_stopped finishes WorkSaid (source_of (sources_of (request slice))) _ (told_as (to_runs clock) c.in-Err.ensures)
+    c.stop_values.ensures.reply c.stop_values.ensures.note)

@@ -1,4 +1,4 @@
-use Rattle.std.proofs.Common.{ℕ, List, sym}
+use Rattle.std.proofs.Common.{ℕ, List, refl, sym}
 use Rattle.bs_top_answer.proofs.AnswerLemmas.{told_as}
 use Rattle.bs_inspect_words.specs.Request.{Request, Unscan}
 use Rattle.bs_inspect.specs.Sources.{source_of, sources_of}
@@ -12,7 +12,7 @@ returns-in-Ok g c =
     λ p. Unscan (record { netlist = c.args.asked.now.netlist.now; order = c.args.asked.now.order.now; pattern = p }) in
     let pattern : List ℕ = c.as_bytes.result.now in
     noted_with request c.args.asked.now.pattern.now pattern _ (sym c.as_bytes.ensures.value)
-    (told_done (source_of (sources_of (request pattern))) _ _ c.silent.ensures (told_as to_state c.in-Ok.ensures) c.tell_state.ensures)
+    (told_done (source_of (sources_of (request pattern))) _ _ c.silent.ensures refl (told_as to_state c.in-Ok.ensures) c.tell_state.ensures)
 
 pub returns-in-Err : goal.returns-in-Err
 returns-in-Err g c =

@@ -1,5 +1,4 @@
 use Rattle.std.proofs.Common.{◌≡◌, ◌++◌}
-use Rattle.std.specs.Prelude.{slice_index_or}
 use Rattle.std.specs.List.{flat_map, range_with_len}
 use Rattle.bs_net.specs.Netlist.{parts_of}
 use Rattle.bs_inspect_netlist.specs.Told.{flop_at_line}

@@ -1,5 +1,4 @@
-use Rattle.std.proofs.Common.{◌≡◌, ◌∙◌, ap, List, ℕ, length}
-use Rattle.bs_net.specs.Netlist.{parts_of, circuit}
+use Rattle.std.proofs.Common.{◌∙◌, ap, List, ℕ, length}
 use Rattle.bs_net.specs.Order.{gates_in}
 use Rattle.bs_net.specs.Parts.{Parts}
 use Rattle.bs_inspect_netlist.specs.Marks.{marked, starts}

@@ -3,7 +3,6 @@ use Rattle.std.specs.List.{All}
 use Rattle.bs_net.specs.declared.net.Gate.{Gate}
 use Rattle.bs_net.specs.Netlist.{parts_of}
 use Rattle.bs_net.proofs.NetlistLemmas.{order_below}
-use Rattle.bs_inspect_netlist.specs.Marks.{starts}
 use Rattle.bs_inspect_netlist.proofs.MarkLemmas.{starts_small, starts_wide, outs_placed, ins_placed, order_few}
 use Rattle.bs_inspect_netlist.proofs.marking.marks_in.Goals as goal
 

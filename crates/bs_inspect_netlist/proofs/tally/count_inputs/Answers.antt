@@ -1,6 +1,5 @@
-use Rattle.std.proofs.Common.{◌≡◌, ◌≤◌, ◌∙◌, length, ap, arith, get_or, List, ℕ}
+use Rattle.std.proofs.Common.{◌≡◌, ◌∙◌, length, ap, arith, get_or, List}
 use Rattle.bs_net.specs.declared.net.NetId.{NetId}
-use Rattle.bs_net.specs.declared.net.Gate.{Gate}
 use Rattle.bs_inspect_netlist.specs.Tallies.{counted}
 use Rattle.bs_inspect_netlist.proofs.TallyLemmas.{ins_more, bound_gate}
 use Rattle.bs_inspect_netlist.proofs.tally.count_inputs.Goals as goal

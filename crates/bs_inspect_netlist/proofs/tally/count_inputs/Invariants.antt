@@ -1,4 +1,4 @@
-use Rattle.std.proofs.Common.{◌≡◌, ◌≤◌, ◌+◌, ◌*◌, length, take}
+use Rattle.std.proofs.Common.{◌≡◌, ◌≤◌, ◌*◌, length, take}
 use Rattle.std.specs.List.{All, flat_map}
 use Rattle.bs_net.specs.declared.limits.TheConstants.{MAX_TERMINALS}
 use Rattle.bs_inspect_netlist.specs.Tallies.{counted}

@@ -1,4 +1,4 @@
-use Rattle.std.proofs.Common.{◌≡◌, ◌∙◌, ap, List, ℕ, replicate}
+use Rattle.std.proofs.Common.{◌∙◌, ap, List, ℕ, replicate}
 use Rattle.std.specs.List.{flat_map}
 use Rattle.bs_net.specs.declared.net.Gate.{Gate}
 use Rattle.bs_net.specs.declared.net.Flop.{Flop}

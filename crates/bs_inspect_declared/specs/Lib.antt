@@ -1,0 +1,5 @@
+pub mod Tokens
+pub mod Words
+pub mod Header
+pub mod Sources
+pub mod Scopes

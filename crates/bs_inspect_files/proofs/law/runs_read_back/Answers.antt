@@ -1,5 +1,0 @@
-use Rattle.bs_inspect_files.proofs.RunLemmas.{runs_read_back}
-use Rattle.bs_inspect_files.proofs.law.runs_read_back.Goals as goal
-
-pub returns : goal.returns
-returns c = runs_read_back

@@ -1,9 +1,0 @@
-use Rattle.bs_inspect_files.proofs.ValueLemmas.{input_of_parts}
-use Rattle.bs_inspect_vcd.specs.Header.{declared_in}
-use Rattle.bs_inspect_files.proofs.values.input_on.Goals as goal
-
-pub returns : goal.returns
-returns c =
-    input_of_parts c.args.sampling.vcd.now c.args.key.now c.args.name.now c.args.sampling.clock.now _ _ _ _ _ (declared_in c.args.declared.now) _ _ _
-    c.as_bytes-bytes.ensures.value c.key_parts-clock.ensures c.maybe_bytes-given.ensures c.scope_of-scope.ensures c.in_ok-names.ensures
-    c.as_slice-all.ensures.value c.in_ok-note.ensures

@@ -1,5 +1,0 @@
-use Rattle.bs_inspect_files.proofs.ValueLemmas.{line_said}
-use Rattle.bs_inspect_files.proofs.values.word_note.Goals as goal
-
-pub returns : goal.returns
-returns c = line_said _ _ _ _ _ _ c.word_saying-message.ensures c.in_ok-note.ensures

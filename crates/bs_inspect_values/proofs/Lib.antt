@@ -1,0 +1,7 @@
+pub mod RunLemmas
+pub mod NameLemmas
+pub mod KeyLemmas
+pub mod ValueLemmas
+pub mod WalkLemmas
+pub mod SimulatedLemmas
+pub mod DumpedLemmas

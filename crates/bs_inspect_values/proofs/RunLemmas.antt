@@ -1,0 +1,96 @@
+-- The runs that were simulated, and their text.
+use Rattle.std.proofs.Common.{◌≡◌, ℕ, ◌<◌, ◌≤◌, ◌+◌, Bool, true, false, cond, nat_le, nat_lt, List, [], ◌∷◌, ◌++◌, length, map, take, get_or, codes, ap, sym, subst, ◌∙◌, refl, arith}
+use Rattle.std.specs.Prelude.{All, ◌==◌, ◌&&◌}
+use Rattle.std.specs.List.{AllByRecursion, flat_map}
+use Rattle.std.proofs.Math.Dec.{eqb-suc-zero}
+use Rattle.std.proofs.lemmas.Bool.{and_from, lt-ltb}
+use Rattle.std.proofs.lemmas.Grind.{flat_map-append}
+use Rattle.std.proofs.lemmas.List.{append-nil, length-map, length-take, map_more}
+use Rattle.std.proofs.lemmas.List.Elements.{All-cons, All-nil, recursion_from_All}
+use Rattle.bs_bits.specs.Lines.{is_name, is_visible}
+use Rattle.bs_stim.specs.declared.limits.TheConstants.{MAX_NAME}
+use Rattle.bs_stim.specs.Runs.{Stimulus, IsRecorded}
+use Rattle.bs_stim.specs.StimulusText.{run_text}
+use Rattle.bs_stim.proofs.ReadBackLemmas.{stimuli_read_back}
+use Rattle.bs_inspect_values.specs.declared.run.Run.{Run as CodeRun}
+use Rattle.bs_inspect_values.specs.Law.{Files, IsFile, RunsReadBack, runs_of}
+use Rattle.bs_inspect_values.specs.Run.{leaf_of, name_byte, or_vcd, run_in, runs_text, simulated, stem_of}
+
+-- ---- the name
+
+pub bytes_more : (name text : List ℕ) (b i d : ℕ) → i < length text → name ≡ map name_byte (take i text) → b ≡ name_byte (get_or text i d) →
+    name ++ b ∷ [] ≡ map name_byte (take (i + 1) text)
+bytes_more name text b i d lt e is = (λ j. e j ++ is j ∷ []) ∙ sym (map_more name_byte text i d lt)
+
+pub name_none : (name : List ℕ) → (length name == 0) ≡ true → codes "vcd" ≡ or_vcd name
+name_none name e = ap (λ (b : Bool). cond b (codes "vcd") name) (sym e)
+
+pub name_there : (name : List ℕ) → (length name == 0) ≡ false → name ≡ or_vcd name
+name_there name e = ap (λ (b : Bool). cond b (codes "vcd") name) (sym e)
+
+abbrev is_seen : ℕ → Bool
+is_seen b = nat_le 33 b && nat_le b 126
+
+byte_seen : (b : ℕ) → is_seen (name_byte b) ≡ true
+byte_seen b = by (is_seen b) refl
+  where
+    by : (t : Bool) → is_seen b ≡ t → is_seen (cond t b 95) ≡ true
+    by true e = e
+    by false e = refl
+
+bytes_seen : (bs : List ℕ) → is_visible (map name_byte bs) ≡ true
+bytes_seen [] = refl
+bytes_seen (b ∷ bs) = and_from (is_seen (name_byte b)) (is_visible (map name_byte bs)) (byte_seen b) (bytes_seen bs)
+
+-- a name that is not empty stays
+stays : (b : ℕ) (bs : List ℕ) → or_vcd (b ∷ bs) ≡ b ∷ bs
+stays b bs = ap (λ (t : Bool). cond t (codes "vcd") (b ∷ bs)) (eqb-suc-zero (length bs))
+
+name_is : (name : List ℕ) → is_visible name ≡ true → is_name (or_vcd name) ≡ true
+name_is [] e = refl
+name_is (b ∷ bs) e =
+    ap is_name (stays b bs) ∙ and_from (nat_lt 0 (length (b ∷ bs))) (is_visible (b ∷ bs)) (lt-ltb 0 (length (b ∷ bs)) (omega arith)) e
+
+short_vcd : (name : List ℕ) → length name ≤ MAX_NAME → length (or_vcd name) ≤ MAX_NAME
+short_vcd [] le = omega arith
+short_vcd (b ∷ bs) le = subst (λ (name : List ℕ). length name ≤ MAX_NAME) (sym (stays b bs)) le
+
+name_short : (s : List ℕ) → length (or_vcd (map name_byte (take MAX_NAME s))) ≤ MAX_NAME
+name_short s =
+    short_vcd (map name_byte (take MAX_NAME s)) (omega (arith, length-map (take MAX_NAME s) name_byte, length-take MAX_NAME s))
+
+-- ---- the text
+
+pub runs_more : (text : List ℕ) (runs : List CodeRun) (i : ℕ) (d : CodeRun) → i < length runs → text ≡ runs_text (map run_in (take i runs)) →
+    text ++ run_text (run_in (get_or runs i d)) ≡ runs_text (map run_in (take (i + 1) runs))
+runs_more text runs i d lt e =
+    ap (λ (t : List ℕ). t ++ run_text (run_in (get_or runs i d))) e
+    ∙ (ap (λ (t : List ℕ). runs_text (map run_in (take i runs)) ++ t) (sym (append-nil (run_text (run_in (get_or runs i d)))))
+    ∙ (sym (flat_map-append run_text (map run_in (take i runs)) (run_in (get_or runs i d) ∷ []))
+    ∙ ap runs_text (sym (map_more run_in runs i d lt))))
+
+-- ---- read back
+
+recorded : (width : ℕ) (path : List ℕ) (lines : List (List Bool)) → IsFile width path lines → IsRecorded width (simulated path lines)
+recorded width path lines h = record {
+  named = name_is (map name_byte (take MAX_NAME (stem_of (leaf_of path)))) (bytes_seen (take MAX_NAME (stem_of (leaf_of path))));
+  short_name = name_short (stem_of (leaf_of path));
+  few_cycles = h.few;
+  widths = h.widths;
+}
+
+all_recorded : (width : ℕ) (files : Files) → AllByRecursion (λ f. IsFile width f.0 f.1) files → All (IsRecorded width) (runs_of files)
+all_recorded width [] h = All-nil (IsRecorded width)
+all_recorded width (f ∷ fs) h =
+    All-cons (IsRecorded width) (simulated f.0 f.1) (runs_of fs) (recorded width f.0 f.1 h.0) (all_recorded width fs h.1)
+
+pub runs_read_back : RunsReadBack
+runs_read_back width files some few all =
+    let stimulus : Stimulus = record { width = width; runs = runs_of files } in
+    let each : length (runs_of files) ≡ length files = length-map files (λ (f : List ℕ × List (List Bool)). simulated f.0 f.1) in
+    stimuli_read_back stimulus
+    (record {
+      some_run = omega (arith, some, each);
+      few_runs = omega (arith, few, each);
+      recorded = all_recorded width files (recursion_from_All (λ f. IsFile width f.0 f.1) files all);
+    })

@@ -1,0 +1,27 @@
+use Rattle.std.proofs.Common.{ℕ, List, Bool, Option, Some, None, Bor, Vec, Ok, length, map, ap, refl, sym, subst, ◌∙◌}
+use Rattle.std.specs.Option.{option_map}
+use Rattle.bs_top_plan.specs.Plan.{Plan, end}
+use Rattle.bs_top_files.specs.NoteCases.{NoteCase}
+use Rattle.bs_top_files.specs.Refusals.{Case}
+use Rattle.bs_inspect_report.specs.Keys.{flop_keys}
+use Rattle.bs_top_plan.proofs.TellingLemmas.{told_end, told_stop, told_then}
+use Rattle.bs_inspect_values.specs.Dumped.{Dumped, Taking, files_in, taken_looked, taken_of}
+use Rattle.bs_inspect_values.proofs.WalkLemmas.{told_with}
+use Rattle.bs_inspect_values.proofs.dumping.load_plain.Goals as goal
+
+pub returns-in-Ok : goal.returns-in-Ok
+returns-in-Ok g c =
+    let f : List (List Bool) → Plan Case Dumped = λ states. end record { choice = None; states = states } in
+    let h : List (List Bool) → Plan NoteCase Dumped = λ states. end record { choice = None; states = states } in
+    let keys : List (List ℕ) = flop_keys c.args.net.now.raw in
+    let names : Option (List ℕ) = option_map (λ s. s.now) c.args.files.names in
+    told_then f h (told_with (λ (t : Taking). taken_of keys names t) (λ (t : Taking). taken_looked keys names t) _ _ c.taking_of-taking.ensures c.in-Ok.ensures.walks)
+    told_end
+
+pub returns-in-Err : goal.returns-in-Err
+returns-in-Err g c =
+    let f : List (List Bool) → Plan Case Dumped = λ states. end record { choice = None; states = states } in
+    let h : List (List Bool) → Plan NoteCase Dumped = λ states. end record { choice = None; states = states } in
+    let keys : List (List ℕ) = flop_keys c.args.net.now.raw in
+    let names : Option (List ℕ) = option_map (λ s. s.now) c.args.files.names in
+    told_stop f h (told_with (λ (t : Taking). taken_of keys names t) (λ (t : Taking). taken_looked keys names t) _ _ c.taking_of-taking.ensures c.in-Err.ensures.walks)

@@ -1,0 +1,132 @@
+-- The states of a dump out of the values of a simulator.
+use Rattle.std.specs.Prelude.{ℕ, Bool, List, Option, Some, None, Result}
+use Rattle.std.specs.Option.{option_map}
+use Rattle.bs_net.specs.Parts.{Parts}
+use Rattle.bs_scan.specs.Choice.{Chosen, depth_of}
+use Rattle.bs_inspect_notes.specs.declared.name.Subject.TheVariants.{Flops}
+use Rattle.bs_inspect_report.specs.Keys.{flop_keys}
+use Rattle.bs_inspect_vcd.specs.declared.cycles.When.{When}
+use Rattle.bs_inspect_vcd.specs.Cycles.{states_in}
+use Rattle.bs_top_plan.specs.declared.file.File.TheVariants as files
+use Rattle.bs_top_plan.specs.Plan.{Reason, Plan, ◌>>=◌, end, fetched, read_as}
+use Rattle.bs_top_files.specs.Entry.{netlist_of, signature_of}
+use Rattle.bs_top_files.specs.Looking.{netlist_looked, signature_looked}
+use Rattle.bs_top_files.specs.NoteCases.{NoteCase}
+use Rattle.bs_top_files.specs.Refusals.{Case, with_reason}
+use Rattle.bs_inspect_values.specs.declared.dumping.Taking.{Taking as CodeTaking}
+use Rattle.bs_inspect_values.specs.declared.dumping.DumpFiles.{DumpFiles as CodeDumpFiles}
+use Rattle.bs_inspect_values.specs.declared.ready.Dumped.{Dumped as CodeDumped}
+use Rattle.bs_inspect_values.specs.declared.ready.Dumped.TheVariants as D
+use Rattle.bs_inspect_values.specs.Saying.{names_noted, states_noted}
+use Rattle.bs_inspect_values.specs.Simulated.{clock_key, names_read}
+use Rattle.bs_inspect_values.specs.Words.{vcd_reason}
+
+-- the states of a cycle and of so many before it, where the flip-flops with these keys have those names
+abbrev pub states_read : (keys names : List (List ℕ)) (scope : Option (List ℕ)) (clock : List ℕ) → When → ℕ → List ℕ →
+    Result (List (List Bool)) (Reason Case)
+states_read keys names scope clock at back bytes = with_reason (vcd_reason keys) (states_in bytes scope clock names at back)
+
+-- the file of values with the clock and the scope, and the moment
+pub record Taking : Type 0 where
+  pub vcd : List ℕ
+  pub clock : List ℕ
+  pub scope : Option (List ℕ)
+  pub at : When
+  pub back : ℕ
+
+abbrev pub taking_in : CodeTaking → Taking
+taking_in t = record { vcd = t.vcd.now; clock = t.clock.now; scope = option_map (λ s. s.now) t.scope; at = t.at; back = t.back }
+
+abbrev pub states_of : (keys names : List (List ℕ)) → Taking → Plan Case (List (List Bool))
+states_of keys names t = do
+  bytes ← fetched files.Vcd t.vcd
+  read_as files.Vcd (states_read keys names t.scope t.clock t.at t.back bytes)
+
+abbrev pub states_looked : (keys names : List (List ℕ)) → Taking → Plan NoteCase (List (List Bool))
+states_looked keys names t = do
+  text ← fetched files.Vcd t.vcd
+  read_as files.Vcd (states_noted t.vcd keys names t.scope t.clock t.at t.back text)
+
+-- once the file of names is fetched
+abbrev pub states_step : List (List ℕ) → List ℕ → Taking → Plan Case (List (List Bool))
+states_step keys text t = read_as files.Map (names_read keys text) >>= λ names. states_of keys names t
+
+abbrev pub states_step_looked : List ℕ → List (List ℕ) → List ℕ → Taking → Plan NoteCase (List (List Bool))
+states_step_looked path keys text t = read_as files.Map (names_noted Flops path keys text) >>= λ names. states_looked keys names t
+
+-- a file of names, where there is one, and the values
+abbrev pub taken_of : List (List ℕ) → Option (List ℕ) → Taking → Plan Case (List (List Bool))
+taken_of keys None t = states_of keys keys t
+taken_of keys (Some file) t = fetched files.Map file >>= λ text. states_step keys text t
+
+abbrev pub taken_looked : List (List ℕ) → Option (List ℕ) → Taking → Plan NoteCase (List (List Bool))
+taken_looked keys None t = states_looked keys keys t
+taken_looked keys (Some file) t = fetched files.Map file >>= λ text. states_step_looked file keys text t
+
+-- what a signature is taken of, where one is asked for, and the last state behind as many as that tells of
+pub record Dumped : Type 0 where
+  pub choice : Option Chosen
+  pub states : List (List Bool)
+
+abbrev pub dumped_in : CodeDumped → Dumped
+dumped_in (D.Plain t) = record { choice = None; states = t.states }
+dumped_in (D.Whole t) = record { choice = Some t.choice; states = t.states }
+
+-- how many earlier states a dump tells of
+abbrev pub back_of : Option Chosen → ℕ
+back_of None = 0
+back_of (Some choice) = depth_of choice
+
+-- the files of a dump, the clock where one is asked for, the scope and the moment
+pub record DumpFiles : Type 0 where
+  pub netlist : List ℕ
+  pub vcd : List ℕ
+  pub at : When
+  pub clock : Option (List ℕ)
+  pub scope : Option (List ℕ)
+  pub names : Option (List ℕ)
+  pub signature : Option (List ℕ)
+
+abbrev pub files_in : CodeDumpFiles → DumpFiles
+files_in t = record {
+  netlist = t.netlist.now;
+  vcd = t.vcd.now;
+  at = t.at;
+  clock = option_map (λ s. s.now) t.clock;
+  scope = option_map (λ s. s.now) t.scope;
+  names = option_map (λ s. s.now) t.names;
+  signature = option_map (λ s. s.now) t.signature;
+}
+
+-- the clock that is asked for, or that of the netlist
+abbrev pub clock_or : Parts → Option (List ℕ) → List ℕ
+clock_or raw None = clock_key raw
+clock_or raw (Some clock) = clock
+
+abbrev pub taking_of : DumpFiles → Parts → ℕ → Taking
+taking_of f raw back = record { vcd = f.vcd; clock = clock_or raw f.clock; scope = f.scope; at = f.at; back = back }
+
+-- behind the signature
+abbrev pub dump_step : DumpFiles → Parts → Option Chosen → Plan Case Dumped
+dump_step f raw choice =
+    taken_of (flop_keys raw) f.names (taking_of f raw (back_of choice)) >>= λ states. end record { choice = choice; states = states }
+
+abbrev pub dump_step_looked : DumpFiles → Parts → Option Chosen → Plan NoteCase Dumped
+dump_step_looked f raw choice =
+    taken_looked (flop_keys raw) f.names (taking_of f raw (back_of choice)) >>= λ states. end record { choice = choice; states = states }
+
+-- behind the netlist: the signature, where there is one
+abbrev pub chosen_step : DumpFiles → Parts → Option (List ℕ) → Plan Case Dumped
+chosen_step f raw None = dump_step f raw None
+chosen_step f raw (Some file) = signature_of raw file >>= λ choice. dump_step f raw (Some choice)
+
+abbrev pub chosen_step_looked : DumpFiles → Parts → Option (List ℕ) → Plan NoteCase Dumped
+chosen_step_looked f raw None = dump_step_looked f raw None
+chosen_step_looked f raw (Some file) = signature_looked raw file >>= λ choice. dump_step_looked f raw (Some choice)
+
+-- the netlist, the signature and the file of names, where there are any, and the values
+abbrev pub dumped_of : DumpFiles → Plan Case Dumped
+dumped_of f = netlist_of f.netlist >>= λ raw. chosen_step f raw f.signature
+
+abbrev pub dumped_looked : DumpFiles → Plan NoteCase Dumped
+dumped_looked f = netlist_looked f.netlist >>= λ raw. chosen_step_looked f raw f.signature

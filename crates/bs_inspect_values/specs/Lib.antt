@@ -1,0 +1,7 @@
+pub mod Names
+pub mod Run
+pub mod Law
+pub mod Simulated
+pub mod Dumped
+pub mod Words
+pub mod Saying

@@ -1,0 +1,129 @@
+-- Runs of a stimulus out of the values of a simulator.
+use Rattle.std.specs.Prelude.{ℕ, nat_lt, Bool, List, [], ◌∷◌, ◌++◌, length, map, Option, Some, None, Result, Ok, Err, if◌then◌else◌}
+use Rattle.std.specs.Option.{option_map}
+use Rattle.bs_net.specs.Netlist.{circuit_of}
+use Rattle.bs_net.specs.Parts.{Parts, key_at}
+use Rattle.bs_stim.specs.Runs.{Recorded}
+use Rattle.bs_stim.specs.declared.limits.TheConstants.{MAX_CYCLES}
+use Rattle.bs_inspect_notes.specs.declared.name.Subject.TheVariants.{Inputs}
+use Rattle.bs_inspect_report.specs.Keys.{input_keys}
+use Rattle.bs_inspect_vcd.specs.Stimulus.{stimulus_in}
+use Rattle.bs_top_plan.specs.declared.file.File.TheVariants as files
+use Rattle.bs_top_plan.specs.Plan.{Reason, Plan, ◌>>=◌, end, fetched, read_as}
+use Rattle.bs_top_files.specs.Entry.{netlist_of}
+use Rattle.bs_top_files.specs.Looking.{netlist_looked}
+use Rattle.bs_top_files.specs.NoteCases.{NoteCase}
+use Rattle.bs_top_files.specs.Refusals.{Case, with_reason}
+use Rattle.bs_inspect_values.specs.declared.ready.Simulated.{Simulated as CodeSimulated}
+use Rattle.bs_inspect_values.specs.declared.ready.Sampled.{Sampled as CodeSampled}
+use Rattle.bs_inspect_values.specs.declared.simulated.Clocked.{Clocked as CodeClocked}
+use Rattle.bs_inspect_values.specs.Names.{map_in}
+use Rattle.bs_inspect_values.specs.Run.{is_data, run_in, simulated}
+use Rattle.bs_inspect_values.specs.Saying.{lines_noted, names_noted}
+use Rattle.bs_inspect_values.specs.Words.{map_reason, vcd_reason, cycles_reason}
+
+-- the names that inputs or flip-flops with these keys have in a simulation
+abbrev pub names_read : List (List ℕ) → List ℕ → Result (List (List ℕ)) (Reason Case)
+names_read keys bytes = with_reason map_reason (map_in keys bytes)
+
+-- no more lines than a run may have cycles
+abbrev pub few_lines : Result (List (List Bool)) (Reason Case) → Result (List (List Bool)) (Reason Case)
+few_lines (Err reason) = Err reason
+few_lines (Ok lines) = if nat_lt MAX_CYCLES (length lines) then Err cycles_reason else Ok lines
+
+-- the inputs just before each rising edge of a clock, where the inputs with these keys have those names
+abbrev pub lines_read : (keys names : List (List ℕ)) (scope : Option (List ℕ)) (clock bytes : List ℕ) → Result (List (List Bool)) (Reason Case)
+lines_read keys names scope clock bytes = few_lines (with_reason (vcd_reason keys) (stimulus_in bytes scope clock names))
+
+-- ---- runs
+
+-- the clock, and the scope where one is asked for
+pub record Clocked : Type 0 where
+  pub clock : List ℕ
+  pub scope : Option (List ℕ)
+
+abbrev pub clocked_in : CodeClocked → Clocked
+clocked_in t = record { clock = t.clock.now; scope = option_map (λ s. s.now) t.scope }
+
+abbrev pub lines_of : (keys names : List (List ℕ)) → Clocked → List ℕ → Plan Case (List (List Bool))
+lines_of keys names at vcd = do
+  bytes ← fetched files.Vcd vcd
+  read_as files.Vcd (lines_read keys names at.scope at.clock bytes)
+
+abbrev pub lines_looked : (keys names : List (List ℕ)) → Clocked → List ℕ → Plan NoteCase (List (List Bool))
+lines_looked keys names at vcd = do
+  text ← fetched files.Vcd vcd
+  read_as files.Vcd (lines_noted vcd keys names at.scope at.clock text)
+
+-- the run of a file, behind others
+abbrev pub run_behind : (keys names : List (List ℕ)) → Clocked → List Recorded → List ℕ → Plan Case (List Recorded)
+run_behind keys names at runs vcd = lines_of keys names at vcd >>= λ lines. end (runs ++ simulated vcd lines ∷ [])
+
+abbrev pub run_behind_looked : (keys names : List (List ℕ)) → Clocked → List Recorded → List ℕ → Plan NoteCase (List Recorded)
+run_behind_looked keys names at runs vcd = lines_looked keys names at vcd >>= λ lines. end (runs ++ simulated vcd lines ∷ [])
+
+-- a run for each of these files, behind others
+unfoldable pub runs_behind : (keys names : List (List ℕ)) → Clocked → List Recorded → List (List ℕ) → Plan Case (List Recorded)
+runs_behind keys names at runs [] = end runs
+runs_behind keys names at runs (vcd ∷ vcds) = run_behind keys names at runs vcd >>= λ more. runs_behind keys names at more vcds
+
+unfoldable pub runs_behind_looked : (keys names : List (List ℕ)) → Clocked → List Recorded → List (List ℕ) → Plan NoteCase (List Recorded)
+runs_behind_looked keys names at runs [] = end runs
+runs_behind_looked keys names at runs (vcd ∷ vcds) =
+    run_behind_looked keys names at runs vcd >>= λ more. runs_behind_looked keys names at more vcds
+
+-- whether the clock that is asked for is a data input as well, and the runs
+pub record Sampled : Type 0 where
+  pub data_clock : Bool
+  pub runs : List Recorded
+
+abbrev pub sampled_in : CodeSampled → Sampled
+sampled_in t = record { data_clock = t.data_clock; runs = map run_in t.runs.items }
+
+abbrev pub sampled_of : (keys names : List (List ℕ)) → Clocked → List (List ℕ) → Plan Case Sampled
+sampled_of keys names at vcds = runs_behind keys names at [] vcds >>= λ runs. end record { data_clock = is_data at.clock names; runs = runs }
+
+abbrev pub sampled_looked : (keys names : List (List ℕ)) → Clocked → List (List ℕ) → Plan NoteCase Sampled
+sampled_looked keys names at vcds =
+    runs_behind_looked keys names at [] vcds >>= λ runs. end record { data_clock = is_data at.clock names; runs = runs }
+
+-- once the file of names is fetched
+abbrev pub sampled_step : List (List ℕ) → List ℕ → Clocked → List (List ℕ) → Plan Case Sampled
+sampled_step keys text at vcds = read_as files.Map (names_read keys text) >>= λ names. sampled_of keys names at vcds
+
+abbrev pub sampled_step_looked : List ℕ → List (List ℕ) → List ℕ → Clocked → List (List ℕ) → Plan NoteCase Sampled
+sampled_step_looked path keys text at vcds = read_as files.Map (names_noted Inputs path keys text) >>= λ names. sampled_looked keys names at vcds
+
+-- a file of names, where there is one, and the values
+abbrev pub run_of : List (List ℕ) → Option (List ℕ) → Clocked → List (List ℕ) → Plan Case Sampled
+run_of keys None at vcds = sampled_of keys keys at vcds
+run_of keys (Some file) at vcds = fetched files.Map file >>= λ text. sampled_step keys text at vcds
+
+abbrev pub run_looked : List (List ℕ) → Option (List ℕ) → Clocked → List (List ℕ) → Plan NoteCase Sampled
+run_looked keys None at vcds = sampled_looked keys keys at vcds
+run_looked keys (Some file) at vcds = fetched files.Map file >>= λ text. sampled_step_looked file keys text at vcds
+
+-- the same with a netlist's parts
+pub record Simulated : Type 0 where
+  pub raw : Parts
+  pub sampled : Sampled
+
+abbrev pub simulated_in : CodeSimulated → Simulated
+simulated_in t = record { raw = t.net.raw; sampled = sampled_in t.sampled }
+
+abbrev pub run_step : Parts → Option (List ℕ) → Clocked → List (List ℕ) → Plan Case Simulated
+run_step raw names at vcds = run_of (input_keys raw) names at vcds >>= λ sampled. end record { raw = raw; sampled = sampled }
+
+abbrev pub run_step_looked : Parts → Option (List ℕ) → Clocked → List (List ℕ) → Plan NoteCase Simulated
+run_step_looked raw names at vcds = run_looked (input_keys raw) names at vcds >>= λ sampled. end record { raw = raw; sampled = sampled }
+
+-- the netlist, the file of names where there is one, and the values, file by file
+abbrev pub simulated_of : (netlist : List ℕ) (names : Option (List ℕ)) → Clocked → (vcds : List (List ℕ)) → Plan Case Simulated
+simulated_of netlist names at vcds = netlist_of netlist >>= λ raw. run_step raw names at vcds
+
+abbrev pub simulated_looked : (netlist : List ℕ) (names : Option (List ℕ)) → Clocked → (vcds : List (List ℕ)) → Plan NoteCase Simulated
+simulated_looked netlist names at vcds = netlist_looked netlist >>= λ raw. run_step_looked raw names at vcds
+
+-- the key of the netlist's clock
+abbrev pub clock_key : Parts → List ℕ
+clock_key raw = key_at raw (circuit_of raw).clock.0

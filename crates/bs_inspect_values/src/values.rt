@@ -1,0 +1,332 @@
+//! The values of a simulator, or what is told of their text.
+ghost use Rattle.std.specs.Prelude.{◌≡◌, ◌<◌, ◌≤◌, length, map, option_map, All, IfOk, Ok as TheOk};
+ghost use Rattle.bs_bits.specs.Reading.{Answers};
+ghost use Rattle.bs_inspect_declared.specs.declared.fault.VcdFault.TheVariants.{NoMemory as VcdWant};
+ghost use Rattle.bs_inspect_declared.specs.Header.{declared_in};
+ghost use Rattle.bs_inspect_vcd.specs.Cycles.{states_in};
+ghost use Rattle.bs_inspect_vcd.specs.Stimulus.{stimulus_in};
+ghost use Rattle.bs_inspect_notes.specs.Simulations.{word_saying};
+ghost use Rattle.bs_note_files.specs.Notes.{said};
+ghost use Rattle.bs_top_plan.specs.declared.limits.TheConstants.{MAX_VCD_BYTES};
+ghost use Rattle.bs_top_plan.specs.declared.walk.Refusal.TheVariants.{NoMemory as Want};
+ghost use Rattle.bs_top_plan.specs.Plan.{exactly, Says};
+ghost use Rattle.bs_top_plan.specs.Told.{note_refusal, noted, word_refusal, worded};
+ghost use Rattle.bs_top_plan.specs.Walks.{Reads};
+ghost use Rattle.bs_top_files.specs.NoteCases.{HasNote, IsNoteAtLine, NoteSays};
+ghost use Rattle.bs_top_files.specs.Refusals.{CheckSays, HasWords};
+ghost use Rattle.bs_inspect_notes.specs.Simulations.{cycles_text, unknown_text};
+ghost use Rattle.bs_inspect_values.specs.Saying.{clock_said, declarations, fault_reason, few_noted, input_said, lines_noted, states_noted, vcd_note_reason};
+ghost use Rattle.bs_inspect_values.specs.Dumped.{states_read};
+ghost use Rattle.bs_inspect_values.specs.Simulated.{few_lines, lines_read};
+ghost use Rattle.bs_inspect_values.specs.Words.{cycles_words, key_at, vcd_words};
+
+use crate::keys::maybe_bytes;
+use crate::lines::line_note;
+use crate::refusals::{cycles_refusal, key_at, vcd_refusal};
+use bs_bits::{Bits, List, NoMemory};
+use bs_inspect_declared::{Declared, VcdFault, declared, names_of, scope_of, scopes_of};
+use bs_inspect_notes::{
+    Subject, clock_note, cycles_note, ended_note, foreign, input_note, short_note, unknown_note,
+};
+use bs_inspect_vcd::{When, states, stimulus};
+use bs_net_names::key_parts;
+use bs_note_files::{Message, file_note};
+use bs_stim::MAX_CYCLES;
+use bs_top_plan::{Unread, both};
+use std::alloc::Global;
+
+/// The file of a simulator's values, the name of the clock in it, and the path of a scope, where one is asked for.
+#[derive(Clone, Copy)]
+pub struct Sampling<'a> {
+    pub vcd: &'a str,
+    pub clock: &'a str,
+    pub scope: Option<&'a str>,
+}
+
+// ---- the notes
+
+/// What is said of a line whose word cannot stand there.
+fn word_saying() -> Message<'static>
+    ensures { said result ≡ word_saying }
+{
+    Message {
+        sentence: b"a word of this line cannot stand there, or the command that ends here",
+        label: b"a value is `0ID`, `1ID`, `xID`, `zID` or `bBITS ID`, a time `#N`, and times rise",
+    }
+}
+
+/// A note on a line whose word cannot stand there.
+fn word_note(alloc: Global, path: &str, text: &[u8], number: u64) -> Result<Vec<u8>, NoMemory>
+    ensures { IfOk result (λ note. IsNoteAtLine path.now text.now number word_saying note.items) }
+{
+    let message = word_saying();
+    let note = line_note(alloc, path, text, number, message)?;
+    Ok(note)
+}
+
+/// A note on a clock that is none of what is declared.
+fn clock_on(
+    alloc: Global,
+    sampling: Sampling<'_>,
+    declared: &Declared<'_>,
+) -> Result<Vec<u8>, NoMemory>
+    ensures { IfOk result (λ note. note.items ≡ clock_said sampling.entry.vcd.now (option_map (λ s. s.now) sampling.entry.scope) sampling.entry.clock.now (declared_in declared.now)) }
+{
+    let given = maybe_bytes(sampling.scope);
+    let scopes = scopes_of(alloc, declared)?;
+    let names = names_of(alloc, given, declared)?;
+    let paths = scopes.as_slice();
+    let all = names.as_slice();
+    let note = clock_note(
+        alloc,
+        sampling.vcd,
+        sampling.scope,
+        sampling.clock,
+        paths,
+        all,
+    )?;
+    Ok(note)
+}
+
+/// A note on a clock that is none of the text's variables.
+#[tactic(auto, using(crate::proofs::ValueLemmas::clock_by_declared))]
+fn clock_in(alloc: Global, text: &[u8], sampling: Sampling<'_>) -> Result<Vec<u8>, NoMemory>
+    requires { length text.now ≤ MAX_VCD_BYTES }
+    ensures { IfOk result (λ note. note.items ≡ clock_said sampling.entry.vcd.now (option_map (λ s. s.now) sampling.entry.scope) sampling.entry.clock.now (declarations text.now)) }
+{
+    match declared(alloc, text) {
+        Ok(declared) => {
+            let note = clock_on(alloc, sampling, &declared);
+            note
+        }
+        Err(_) => Err(NoMemory),
+    }
+}
+
+/// A note on an input that is none of what is declared.
+fn input_on(
+    alloc: Global,
+    subject: Subject,
+    key: &[u8],
+    name: &[u8],
+    sampling: Sampling<'_>,
+    declared: &Declared<'_>,
+) -> Result<Vec<u8>, NoMemory>
+    ensures { IfOk result (λ note. note.items ≡ input_said subject sampling.entry.vcd.now key.now name.now (option_map (λ s. s.now) sampling.entry.scope) sampling.entry.clock.now (declared_in declared.now)) }
+{
+    let bytes = sampling.clock.as_bytes();
+    let clock = key_parts(bytes);
+    let given = maybe_bytes(sampling.scope);
+    let scope = scope_of(given, clock, declared);
+    let names = names_of(alloc, scope, declared)?;
+    let all = names.as_slice();
+    let note = input_note(alloc, subject, sampling.vcd, key, name, all)?;
+    Ok(note)
+}
+
+/// A note on an input that is none of the text's variables.
+fn input_in(
+    alloc: Global,
+    subject: Subject,
+    text: &[u8],
+    keys: &[&[u8]],
+    names: &[&[u8]],
+    sampling: Sampling<'_>,
+    input: u64,
+) -> Result<Vec<u8>, NoMemory>
+    requires { length text.now ≤ MAX_VCD_BYTES }
+    ensures { IfOk result (λ note. note.items ≡ input_said subject sampling.entry.vcd.now (key_at (map (λ k. k.now) keys.now) input) (key_at (map (λ n. n.now) names.now) input) (option_map (λ s. s.now) sampling.entry.scope) sampling.entry.clock.now (declarations text.now)) }
+{
+    let key = key_at(keys, input);
+    let name = key_at(names, input);
+    match declared(alloc, text) {
+        Ok(declared) => {
+            let note = input_on(alloc, subject, key, name, sampling, &declared);
+            note
+        }
+        Err(_) => Err(NoMemory),
+    }
+}
+
+/// A note on an input whose bit is not known.
+fn unknown_in(
+    alloc: Global,
+    subject: Subject,
+    path: &str,
+    keys: &[&[u8]],
+    input: u64,
+    time: u64,
+) -> Result<Vec<u8>, NoMemory>
+    ensures { IfOk result (λ note. note.items ≡ unknown_text subject path.now (key_at (map (λ k. k.now) keys.now) input) time) }
+{
+    let key = key_at(keys, input);
+    let note = unknown_note(alloc, subject, path, key, time)?;
+    Ok(note)
+}
+
+/// The note on a fault of the text of a VCD.
+fn fault_note(
+    alloc: Global,
+    subject: Subject,
+    text: &[u8],
+    keys: &[&[u8]],
+    names: &[&[u8]],
+    sampling: Sampling<'_>,
+    fault: VcdFault,
+) -> Result<Vec<u8>, NoMemory>
+    requires { length text.now ≤ MAX_VCD_BYTES }
+    ensures { IfOk result (λ note. Says NoteSays (fault_reason subject sampling.entry.vcd.now text.now (map (λ k. k.now) keys.now) (map (λ n. n.now) names.now) (option_map (λ s. s.now) sampling.entry.scope) sampling.entry.clock.now fault) note.items) }
+{
+    match fault {
+        VcdFault::Line(line) => word_note(alloc, sampling.vcd, text, line),
+        VcdFault::Ended => ended_note(alloc, sampling.vcd),
+        VcdFault::NoClock => clock_in(alloc, text, sampling),
+        VcdFault::NoInput(i) => input_in(alloc, subject, text, keys, names, sampling, i),
+        VcdFault::Unknown(i, time) => unknown_in(alloc, subject, sampling.vcd, keys, i, time),
+        VcdFault::NoCycle(count) => short_note(alloc, sampling.vcd, count),
+        VcdFault::NoMemory => Err(NoMemory),
+    }
+}
+
+/// The note on values that are refused: that the file is no VCD at sight, or on the fault.
+#[tactic(auto, using(crate::proofs::ValueLemmas::says_foreign, crate::proofs::ValueLemmas::says_fault))]
+fn vcd_note(
+    alloc: Global,
+    subject: Subject,
+    text: &[u8],
+    keys: &[&[u8]],
+    names: &[&[u8]],
+    sampling: Sampling<'_>,
+    fault: VcdFault,
+) -> Result<Vec<u8>, NoMemory>
+    requires { length text.now ≤ MAX_VCD_BYTES }
+    ensures { IfOk result (λ note. Says NoteSays (vcd_note_reason subject sampling.entry.vcd.now text.now (map (λ k. k.now) keys.now) (map (λ n. n.now) names.now) (option_map (λ s. s.now) sampling.entry.scope) sampling.entry.clock.now fault) note.items) }
+{
+    match foreign(text) {
+        Some(sentence) => file_note(alloc, sampling.vcd, sentence.as_bytes()),
+        None => fault_note(alloc, subject, text, keys, names, sampling, fault),
+    }
+}
+
+// ---- the readers
+
+/// What is told of values that are refused.
+#[tactic(auto, using(bs_top_files::proofs::NotingLemmas::both_words, bs_top_files::proofs::NotingLemmas::both_note, bs_top_files::proofs::NotingLemmas::both_want))]
+fn vcd_told(
+    alloc: Global,
+    subject: Subject,
+    text: &[u8],
+    keys: &[&[u8]],
+    names: &[&[u8]],
+    sampling: Sampling<'_>,
+    fault: VcdFault,
+) -> Unread
+    requires { length text.now ≤ MAX_VCD_BYTES }
+    ensures words { HasWords (vcd_words (map (λ k. k.now) keys.now) fault) (word_refusal result) }
+    ensures want { fault ≡ VcdWant → word_refusal result ≡ Want }
+    ensures note { HasNote (vcd_note_reason subject sampling.entry.vcd.now text.now (map (λ k. k.now) keys.now) (map (λ n. n.now) names.now) (option_map (λ s. s.now) sampling.entry.scope) sampling.entry.clock.now fault) (note_refusal result) }
+    ensures none { fault ≡ VcdWant → note_refusal result ≡ Want }
+{
+    let words = vcd_refusal(alloc, fault, keys);
+    let note = vcd_note(alloc, subject, text, keys, names, sampling, fault);
+    both(words, note)
+}
+
+/// What is told of values that have too many edges.
+#[tactic(auto, using(bs_top_files::proofs::NotingLemmas::both_words, bs_top_files::proofs::NotingLemmas::both_these))]
+fn cycles_told(alloc: Global, path: &str) -> Unread
+    ensures words { HasWords cycles_words (word_refusal result) }
+    ensures note { HasNote (exactly (cycles_text path.now)) (note_refusal result) }
+{
+    let words = cycles_refusal(alloc);
+    let note = cycles_note(alloc, path);
+    both(words, note)
+}
+
+/// Lines, where there are no more than a run may have, or what is told of them.
+#[tactic(auto, using(crate::proofs::ValueLemmas::few_worded, crate::proofs::ValueLemmas::few_said))]
+fn few_or_told(alloc: Global, path: &str, lines: List<Bits>) -> Result<List<Bits>, Unread>
+    ensures words { Reads CheckSays (λ lines. lines) (few_lines (TheOk lines)) (worded result) }
+    ensures note { Reads NoteSays (λ lines. lines) (few_noted path.now (TheOk lines)) (noted result) }
+{
+    if lines.len() > MAX_CYCLES as usize {
+        return Err(cycles_told(alloc, path));
+    }
+    Ok(lines)
+}
+
+/// The inputs just before each rising edge of a clock.
+fn sampled(
+    alloc: Global,
+    text: &[u8],
+    names: &[&[u8]],
+    sampling: Sampling<'_>,
+) -> Result<List<Bits>, VcdFault>
+    requires { length text.now ≤ MAX_VCD_BYTES }
+    ensures { Answers VcdWant (λ lines. lines) result (stimulus_in text.now (option_map (λ s. s.now) sampling.entry.scope) sampling.entry.clock.now (map (λ n. n.now) names.now)) }
+{
+    let scope = maybe_bytes(sampling.scope);
+    let clock = sampling.clock.as_bytes();
+    stimulus(alloc, text, scope, clock, names)
+}
+
+/// The inputs just before each rising edge of a clock, by the names of the inputs, which have these keys in the netlist; or what is
+/// told of their text.
+pub fn lines_or_told(
+    alloc: Global,
+    text: &[u8],
+    keys: &[&[u8]],
+    names: &[&[u8]],
+    sampling: Sampling<'_>,
+) -> Result<List<Bits>, Unread>
+    requires { length text.now ≤ MAX_VCD_BYTES }
+    ensures words { Reads CheckSays (λ lines. lines) (lines_read (map (λ k. k.now) keys.now) (map (λ n. n.now) names.now) (option_map (λ s. s.now) sampling.entry.scope) sampling.entry.clock.now text.now) (worded result) }
+    ensures note { Reads NoteSays (λ lines. lines) (lines_noted sampling.entry.vcd.now (map (λ k. k.now) keys.now) (map (λ n. n.now) names.now) (option_map (λ s. s.now) sampling.entry.scope) sampling.entry.clock.now text.now) (noted result) }
+{
+    match sampled(alloc, text, names, sampling) {
+        Ok(lines) => few_or_told(alloc, sampling.vcd, lines),
+        Err(fault) => Err(vcd_told(alloc, Subject::Inputs, text, keys, names, sampling, fault)),
+    }
+}
+
+/// The states of a cycle and of so many before it.
+fn taken(
+    alloc: Global,
+    text: &[u8],
+    names: &[&[u8]],
+    sampling: Sampling<'_>,
+    at: When,
+    back: u64,
+) -> Result<List<Bits>, VcdFault>
+    requires { length text.now ≤ MAX_VCD_BYTES }
+    ensures is { Answers VcdWant (λ states. states) result (states_in text.now (option_map (λ s. s.now) sampling.entry.scope) sampling.entry.clock.now (map (λ n. n.now) names.now) at back) }
+    ensures some { IfOk result (λ states. 0 < length states) }
+    ensures wide { IfOk result (λ states. All (λ s. length s ≡ length names.now) states) }
+{
+    let scope = maybe_bytes(sampling.scope);
+    let clock = sampling.clock.as_bytes();
+    states(alloc, text, scope, clock, names, at, back)
+}
+
+/// The states of a cycle and of so many before it, by the names of the flip-flops, which have these keys in the netlist; or what is
+/// told of their text.
+pub fn states_or_told(
+    alloc: Global,
+    text: &[u8],
+    keys: &[&[u8]],
+    names: &[&[u8]],
+    sampling: Sampling<'_>,
+    at: When,
+    back: u64,
+) -> Result<List<Bits>, Unread>
+    requires { length text.now ≤ MAX_VCD_BYTES }
+    ensures words { Reads CheckSays (λ states. states) (states_read (map (λ k. k.now) keys.now) (map (λ n. n.now) names.now) (option_map (λ s. s.now) sampling.entry.scope) sampling.entry.clock.now at back text.now) (worded result) }
+    ensures note { Reads NoteSays (λ states. states) (states_noted sampling.entry.vcd.now (map (λ k. k.now) keys.now) (map (λ n. n.now) names.now) (option_map (λ s. s.now) sampling.entry.scope) sampling.entry.clock.now at back text.now) (noted result) }
+    ensures some { IfOk result (λ states. 0 < length states) }
+    ensures wide { IfOk result (λ states. All (λ s. length s ≡ length names.now) states) }
+{
+    match taken(alloc, text, names, sampling, at, back) {
+        Ok(states) => Ok(states),
+        Err(fault) => Err(vcd_told(alloc, Subject::Flops, text, keys, names, sampling, fault)),
+    }
+}
