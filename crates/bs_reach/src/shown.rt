@@ -7,6 +7,7 @@ ghost use Rattle.bs_encode.specs.Encoded.{encoding_of};
 ghost use Rattle.bs_reach_unrolled.specs.declared.limits.TheConstants.{MAX_COPIES, MAX_COPY_VARIABLES};
 ghost use Rattle.bs_reach_unrolled.specs.Execution.{IsExecution};
 ghost use Rattle.bs_reach_unrolled.specs.Room.{IsUnrollable};
+ghost use Rattle.bs_reach.specs.declared.reach.Outcome.TheVariants.{Reached};
 ghost use Rattle.bs_reach.specs.Reach.{IsReach};
 ghost use Rattle.bs_reach.specs.Refuted.{AreTried, AreRefuted, IsLogOfLengths};
 
@@ -99,7 +100,21 @@ fn log_shown(
     }
 }
 
-/// The answer with an execution of `c + 1` cycles, and the log that refutes each shorter length.
+/// The answer that an execution of `c + 1` cycles and a log make.
+fn with_execution(c: u32, k: u32, b: u64, execution: Execution, log: Log) -> Reach
+    ensures { result ≡ record { asked = k; conflicts = b; outcome = Reached (c + 1); states = execution.states; inputs = execution.inputs; log = log } }
+{
+    Reach {
+        asked: u64::from(k),
+        conflicts: b,
+        outcome: Outcome::Reached(u64::from(c) + 1),
+        states: execution.states,
+        inputs: execution.inputs,
+        log,
+    }
+}
+
+/// The same where the log refutes each shorter length.
 fn as_shown(
     net: &Netlist,
     _encoding: &Encoding,
@@ -118,14 +133,7 @@ fn as_shown(
     ensures { IsReach (circuit net.now) _state.now k b result }
 {
     unrolled_clauses_are_executions(net);
-    Reach {
-        asked: u64::from(k),
-        conflicts: b,
-        outcome: Outcome::Reached(u64::from(c) + 1),
-        states: execution.states,
-        inputs: execution.inputs,
-        log,
-    }
+    with_execution(c, k, b, execution, log)
 }
 
 /// The same where what follows from reset denies each shorter length.

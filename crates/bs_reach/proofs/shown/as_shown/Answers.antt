@@ -7,5 +7,5 @@ use Rattle.bs_reach.proofs.shown.as_shown.Goals as goal
 pub returns : goal.returns
 returns c =
     shown_is (circuit c.args.net.now) c.args.k c.args.b c.args.c c.args._state.now (reset_state (circuit c.args.net.now)) c.args._encoding.now
-    c.args.execution.states c.args.execution.inputs c.args.log _ c.requires.encoded refl c.unrolled_clauses_are_executions.ensures.refuted
-    c.requires.other c.requires.within c.requires.log c.requires.run refl
+    c.args.execution.states c.args.execution.inputs c.args.log c.with_execution.result c.requires.encoded refl
+    c.unrolled_clauses_are_executions.ensures.refuted c.requires.other c.requires.within c.requires.log c.requires.run c.with_execution.ensures
