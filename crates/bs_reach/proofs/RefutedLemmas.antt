@@ -37,7 +37,7 @@ use Rattle.bs_reach_unrolled.specs.Room.{IsUnrollable}
 use Rattle.bs_reach_unrolled.proofs.UnrolledLemmas.{unrolled_range}
 use Rattle.bs_watch.proofs.Gets.{get_map, none_is_not_some}
 use Rattle.bs_reach.specs.Search.{problem_over}
-use Rattle.bs_reach.specs.Refuted.{step_lines, IsPlain, AreTried, AreRefuted, IsLogOfLengths}
+use Rattle.bs_reach.specs.Refuted.{step_lines, trial_lines, IsPlain, AreTried, AreRefuted, IsLogOfLengths}
 
 range_get : (a n i : ℕ) → i < n → slice_get (range_with_len a n) i ≡ Some (a + i)
 range_get a zero i low = absurd (omega (arith, low))
@@ -299,17 +299,8 @@ pub more_lines : (log : List Line) (id : ℕ) (d : Denial) →
 more_lines log id d = reverse-append log (step_lines id d)
 
 -- those of a length that no lemma refutes
-pub trial_lines : (log : List Line) (id : ℕ) → reverse (log ++ Solve ∷ Retire id ∷ []) ≡ Retire id ∷ Solve ∷ reverse log
-trial_lines log id = reverse-append log (Solve ∷ Retire id ∷ [])
-
--- a log with such a length at its end
-pub tried_at : (e : Encoded) (reset p : List Bool) (k b : ℕ) (u : IsUnrollable e k) (limit : 1 ≤ b) (c last id : ℕ) (log new : List Line) →
-    AreRefuted e reset p k b c last (reverse log) → id ≡ last + 1 → id < 2 ^ 64 → new ≡ log ++ Solve ∷ Retire id ∷ [] →
-    AreTried e reset p k b (c + 1) c id (reverse new)
-tried_at e reset p k b u limit c last id log new r is room same =
-    subst (λ (h : History). AreTried e reset p k b (c + 1) c id h) (sym (ap reverse same ∙ trial_lines log id))
-    (subst (λ n. AreTried e reset p k b (c + 1) c n (Retire n ∷ Solve ∷ reverse log)) (sym is)
-    (tried_more e reset p k b u limit c last (reverse log) r (omega (arith, is, room))))
+pub more_trial : (log : List Line) (id : ℕ) → reverse (log ++ trial_lines id) ≡ Retire id ∷ Solve ∷ reverse log
+more_trial log id = reverse-append log (trial_lines id)
 
 -- a log of refuted lengths
 pub logs_all : (e : Encoded) (reset p : List Bool) (k b c last : ℕ) (log : List Line) → AreRefuted e reset p k b c last (reverse log) →

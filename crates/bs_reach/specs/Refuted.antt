@@ -19,6 +19,10 @@ use Rattle.bs_reach.specs.Search.{problem_over}
 abbrev pub step_lines : ℕ → Denial → List Line
 step_lines id d = Solve ∷ Lemma id d.lits d.hints ∷ Finish id ∷ Retire (id + 1) ∷ []
 
+-- those of a length that no lemma refutes
+abbrev pub trial_lines : ℕ → List Line
+trial_lines id = Solve ∷ Retire id ∷ []
+
 -- it is kept at the end of a step, if it is a lemma or a block
 abbrev pub IsPlain : Problem → Entry → Type 0
 IsPlain q e = is_lemma_or_block e ≡ true → (step : ℕ) (entries : List Entry) → is_kept q step entries e ≡ true

@@ -1,5 +1,5 @@
 //! The first length that what follows from reset does not deny, where an execution of it is found: no clause is unrolled.
-ghost use Rattle.std.specs.Prelude.{◌≡◌, ◌≢◌, ◌+◌, ◌*◌, ◌<◌, ◌≤◌, [], length, reverse, IfOk, IfSome};
+ghost use Rattle.std.specs.Prelude.{◌≡◌, ◌≢◌, ◌+◌, ◌*◌, ◌<◌, ◌≤◌, ◌++◌, [], length, reverse, IfOk, IfSome};
 ghost use Rattle.bs_net.specs.Circuit.{reset_state};
 ghost use Rattle.bs_net.specs.Netlist.{circuit};
 ghost use Rattle.bs_encode.specs.Transition.{variables};
@@ -9,7 +9,7 @@ ghost use Rattle.bs_reach_unrolled.specs.Execution.{IsExecution};
 ghost use Rattle.bs_reach_unrolled.specs.Room.{IsUnrollable};
 ghost use Rattle.bs_reach.specs.declared.reach.Outcome.TheVariants.{Reached};
 ghost use Rattle.bs_reach.specs.Reach.{IsReach};
-ghost use Rattle.bs_reach.specs.Refuted.{AreTried, AreRefuted, IsLogOfLengths};
+ghost use Rattle.bs_reach.specs.Refuted.{trial_lines, AreTried, AreRefuted, IsLogOfLengths};
 
 use crate::reach::{Outcome, Reach};
 use crate::refuted::{fill, next_id};
@@ -23,8 +23,18 @@ use bs_reach_forced::Forced;
 use bs_reach_unrolled::{netlists_unroll, unrolled_clauses_are_executions};
 use std::alloc::Global;
 
-/// Logs the length `c + 1` without a lemma, and answers the last id that is given then.
-fn log_trial(
+/// Logs a length without a lemma, and answers the last id that is given then.
+fn log_trial(log: &mut Log, last: u64) -> Result<u64, NoMemory>
+    ensures id { IfOk result (λ id. id ≡ last + 1) }
+    ensures lines { IfOk result (λ _. log.new ≡ log.old ++ trial_lines (last + 1)) }
+{
+    let end = next_id(last)?;
+    log.push_two(Line::Solve, Line::Retire { id: end })?;
+    Ok(end)
+}
+
+/// Logs the length `c + 1`, which is tried and not refuted, and answers the last id that is given then.
+fn log_tried(
     log: &mut Log,
     last: u64,
     _encoding: &Encoding,
@@ -39,8 +49,7 @@ fn log_trial(
     requires so_far { AreRefuted _encoding.now _reset.now _state.now _k _b _c last (reverse log.old) }
     ensures { IfOk result (λ id. AreTried _encoding.now _reset.now _state.now _k _b (_c + 1) _c id (reverse log.new)) }
 {
-    let end = next_id(last)?;
-    log.push_two(Line::Solve, Line::Retire { id: end })?;
+    let end = log_trial(log, last)?;
     Ok(end)
 }
 
@@ -68,7 +77,7 @@ fn fill_shown(
     match found {
         None => Ok(None),
         Some(last) => {
-            let id = log_trial(log, last, encoding, reset, state, c, k, b)?;
+            let id = log_tried(log, last, encoding, reset, state, c, k, b)?;
             Ok(Some(id))
         }
     }

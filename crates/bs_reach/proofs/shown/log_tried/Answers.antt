@@ -1,0 +1,15 @@
+use Rattle.std.proofs.Common.{◌≡◌, ◌+◌, ◌^◌, ◌<◌, ◌∙◌, sym, ap, subst, arith, reverse}
+use Rattle.bs_log.specs.History.{History}
+use Rattle.bs_reach.specs.Refuted.{AreTried}
+use Rattle.bs_reach.proofs.RefutedLemmas.{tried_more, more_trial}
+use Rattle.bs_reach.proofs.shown.log_tried.Goals as goal
+
+pub returns : goal.returns
+returns c =
+    let is : c.in_ok-end.end ≡ c.args.last + 1 = c.in_ok-end.ensures.id in
+    let high : c.in_ok-end.end < 2 ^ 64 = omega arith in
+    subst (λ n. AreTried c.args._encoding.now c.args._reset.now c.args._state.now c.args._k c.args._b (c.args._c + 1) c.args._c n (reverse c.log_trial.new.log)) (sym is)
+    (subst (λ (h : History). AreTried c.args._encoding.now c.args._reset.now c.args._state.now c.args._k c.args._b (c.args._c + 1) c.args._c (c.args.last + 1) h)
+    (sym (ap reverse c.in_ok-end.ensures.lines ∙ more_trial c.args.log.now (c.args.last + 1)))
+    (tried_more c.args._encoding.now c.args._reset.now c.args._state.now c.args._k c.args._b c.requires.unrollable c.requires.limit c.args._c c.args.last
+    (reverse c.args.log.now) c.requires.so_far (omega (arith, is, high))))
