@@ -1,7 +1,7 @@
 use Rattle.std.proofs.Common.{◌≡◌, map, drop}
 use Rattle.bs_inspect_declared.specs.Header.{declared_in}
 use Rattle.bs_inspect_declared.specs.Sources.{inputs_behind}
-use Rattle.bs_inspect_declared.proofs.sources.take_inputs.Given as goal
+use Rattle.bs_inspect_declared.proofs.inputs.take_indexed.Given as goal
 
 abbrev pub invariant-keys : goal.invariant-keys
 invariant-keys l =
