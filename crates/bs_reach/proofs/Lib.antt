@@ -1,6 +1,7 @@
 pub mod DenialLemmas
 pub mod RefutedLemmas
 pub mod SoughtLemmas
+pub mod ShownLemmas
 pub mod LengthLemmas
 pub mod ReachLemmas
 pub mod ReadLemmas

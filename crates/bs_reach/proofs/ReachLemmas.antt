@@ -104,7 +104,7 @@ module _ (c : Circuit) (k : ℕ) (p : List Bool) (law : FinishedIsNotReached c (
   log_is : log ≡ reverse s.book.history
   log_is = sym (twice log) ∙ ap reverse lines
 
-  none_in : (b tried refuted : ℕ) → IsTried cs e k p b tried refuted s → HasNoBlock log
+  pub none_in : (b tried refuted : ℕ) → IsTried cs e k p b tried refuted s → HasNoBlock log
   none_in b tried refuted t = subst HasNoBlock (sym log_is) (no_block_reversed s.book.history t.no_block)
 
   not_reached : (b tried refuted : ℕ) → IsTried cs e k p b tried refuted s → tried ≤ k → IsAccepted (problem_over cs e k p tried) log → (j : ℕ) → 1 ≤ j →
@@ -121,7 +121,7 @@ module _ (c : Circuit) (k : ℕ) (p : List Bool) (law : FinishedIsNotReached c (
       law k tried p log before (reverse spot.newer) spot.id few ok (none_in b tried refuted t) parts
       (subst (λ (n : ℕ). ReachedIn c n p) (sym (ap step_of (twice spot.earlier) ∙ spot.step)) reached)
 
-  not_before : (b tried refuted n : ℕ) → IsTried cs e k p b tried refuted s → tried ≤ k → IsAccepted (problem_over cs e k p tried) log → reset_state c ≢ p →
+  pub not_before : (b tried refuted n : ℕ) → IsTried cs e k p b tried refuted s → tried ≤ k → IsAccepted (problem_over cs e k p tried) log → reset_state c ≢ p →
       n ≡ refuted + 1 → NotBefore c n p
   not_before b tried refuted n t few ok other is j lt reached = elim (cases_eq j 0) [
     | inl none ↦ other (no_inputs c p (subst (λ (m : ℕ). ReachedIn c m p) none reached))

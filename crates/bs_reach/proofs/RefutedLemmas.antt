@@ -4,7 +4,7 @@ use Rattle.std.proofs.Common.{refl, sym, ap, subst, ◌∙◌, inl, inr, ◌⊎�
 use Rattle.std.specs.Prelude.{All, Any, Contains, slice_get, IsTrue, option_map, nat_le, nat_lt}
 use Rattle.std.specs.List.{AllByRecursion, range_with_len, filter, cons_option, list_any}
 use Rattle.std.proofs.lemmas.Bool.{or_right, and_from, false≢true, le-leb, le-ltb}
-use Rattle.std.proofs.lemmas.List.{reverse-append, length-map}
+use Rattle.std.proofs.lemmas.List.{reverse-append, length-map, map-append}
 use Rattle.std.proofs.lemmas.List.Elements.{All-contains, recursion_from_All}
 use Rattle.bs_bits.proofs.RangeLemmas.{range_more}
 use Rattle.bs_clause.specs.Literal.{Literal, Clause, negation}
@@ -15,13 +15,17 @@ use Rattle.bs_log.specs.declared.origin.Origin.TheVariants.{Axiom, Learnt, Retir
 use Rattle.bs_log.specs.History.{Problem, History, Entry, axioms_from, is_deleted, live, state_of, phase_of, step_of, guard_of}
 use Rattle.bs_log.specs.Refusal.{assumptions_of, denies, entry_of, clauses_of, passes, is_lemma, is_lemma_or_block, in_order, is_between_steps, is_after_block}
 use Rattle.bs_log.specs.Kept.{is_kept, is_free_lemma, has_retired_guard, is_long, newer_long}
+use Rattle.bs_log.specs.Lean.{StepsLeaveKept}
 use Rattle.bs_log.specs.LineForms.{HasVariable}
+use Rattle.bs_log.proofs.Histories.{same_live, with_step}
 use Rattle.bs_solve_reduction.specs.Rows.{going}
 use Rattle.bs_solve_reduction.proofs.Deletions.{nothing_leaves_kept}
 use Rattle.bs_solve_analysis.proofs.Clauses.{nothing_in, contains_cases, contains_first, cons_contains, all_from, map_contains}
 use Rattle.bs_solve_recording.specs.Book.{Book, IsRecorded, lemma_ids, with_line, with_lemma}
 use Rattle.bs_solve_recording.proofs.Books.{recorded_solve, recorded_lemma, recorded_finish, recorded_retire, lemma_stands, retired_stands}
 use Rattle.bs_solve_recording.proofs.Entries.{found_last, found_stands}
+use Rattle.bs_solve_recording.proofs.Leavings.{leaves_begun}
+use Rattle.bs_solve_recording.proofs.Lines.{recorded_member}
 use Rattle.bs_solve_recording.proofs.Standing.{learnt_of_axioms}
 use Rattle.bs_solve.specs.declared.denying.Denial.{Denial}
 use Rattle.bs_solve.specs.Denying.{Denies}
@@ -33,7 +37,7 @@ use Rattle.bs_reach_unrolled.specs.Room.{IsUnrollable}
 use Rattle.bs_reach_unrolled.proofs.UnrolledLemmas.{unrolled_range}
 use Rattle.bs_watch.proofs.Gets.{get_map, none_is_not_some}
 use Rattle.bs_reach.specs.Search.{problem_over}
-use Rattle.bs_reach.specs.Refuted.{step_lines, IsPlain, AreRefuted}
+use Rattle.bs_reach.specs.Refuted.{step_lines, IsPlain, AreTried, AreRefuted, IsLogOfLengths}
 
 range_get : (a n i : ℕ) → i < n → slice_get (range_with_len a n) i ≡ Some (a + i)
 range_get a zero i low = absurd (omega (arith, low))
@@ -103,8 +107,9 @@ module _ (q : Problem) where
       by false is rest = rest
 
 module _ (e : Encoded) (reset p : List Bool) (k b : ℕ) (u : IsUnrollable e k) (limit : 1 ≤ b) where
-  abbrev q : Problem
-  q = problem_over (unrolled e reset k) e k p k
+  -- with a step for each of so many lengths
+  abbrev q : ℕ → Problem
+  q n = problem_over (unrolled e reset k) e k p n
 
   -- the literal of a lemma is of the clauses' own variables
   own : (a : Clause) (d : Denial) → Denies (unrolled e reset k) a d → HasVariables (k * e.variables) d.lits
@@ -117,41 +122,99 @@ module _ (e : Encoded) (reset p : List Bool) (k b : ℕ) (u : IsUnrollable e k) 
 
   pub refuted_none : AreRefuted e reset p k b 0 (length (unrolled e reset k)) []
   refuted_none = record {
-    ids = lemma_ids (record { problem = q; history = [] });
-    recorded = record { kept = record { right = tt; lean = tt; texts = tt }; last_is = refl; lemmas = refl };
-    phase = refl;
-    step = refl;
-    no_block = refl;
-    finished = refl;
-    few = tt;
-    leaves = tt;
-    plain = axioms_plain q 1 (unrolled e reset k);
+    tried = record {
+      ids = lemma_ids (record { problem = q 0; history = [] });
+      recorded = record { kept = record { right = tt; lean = tt; texts = tt }; last_is = refl; lemmas = refl };
+      phase = refl;
+      step = refl;
+      no_block = refl;
+      finished = refl;
+      few = tt;
+      leaves = tt;
+    };
+    plain = axioms_plain (q 0) 1 (unrolled e reset k);
   }
 
-  assumed_is : (c : ℕ) → c < k → assumptions_of q (c + 1) ≡ length_assumes e k p (c + 1)
-  assumed_is c low =
-      ap (λ o. unwrap_or o []) (ap (slice_get q.steps) (let z : c + 1 - 1 ≡ c = omega arith in z) ∙
-      get_map (length_assumes e k p) (range_with_len 1 k) c (1 + c) (range_get 1 k c low)) ∙
+  assumed_is : (n c : ℕ) → c < n → assumptions_of (q n) (c + 1) ≡ length_assumes e k p (c + 1)
+  assumed_is n c low =
+      ap (λ o. unwrap_or o []) (ap (slice_get (q n).steps) (let z : c + 1 - 1 ≡ c = omega arith in z) ∙
+      get_map (length_assumes e k p) (range_with_len 1 n) c (1 + c) (range_get 1 n c low)) ∙
       ap (length_assumes e k p) (let z : 1 + c ≡ c + 1 = omega arith in z)
 
-  pub refuted_more : (c last : ℕ) (h : History) (d : Denial) → AreRefuted e reset p k b c last h → c < k → last + 2 < 2 ^ 64 →
+  -- the assumptions of the length behind
+  next : ℕ → Clause
+  next c = length_assumes e k p (1 + c)
+
+  -- one more step to come
+  more_steps : (c : ℕ) → with_step (q c) (next c) ≡ q (c + 1)
+  more_steps c =
+      ap (λ (ss : List Clause). record { vars = k * e.variables; clauses = unrolled e reset k; steps = ss })
+      (sym (ap (map (length_assumes e k p)) (ap (range_with_len 1) (let z : c + 1 ≡ suc c = omega arith in z) ∙ range_more 1 c) ∙
+      map-append (length_assumes e k p) (range_with_len 1 c) ((1 + c) ∷ [])))
+
+  -- all that a further length stands on
+  record Ready (c last : ℕ) (ids : List ℕ) (h : History) : Type 0 where
+    recorded : IsRecorded last ids (record { problem = q (c + 1); history = h })
+    order : in_order (q (c + 1)) (state_of (q (c + 1)) h) Solve ≡ true
+    assumed : assumptions_of (q (c + 1)) (step_of h) ≡ length_assumes e k p (c + 1)
+    leaves : StepsLeaveKept (q (c + 1)) h
+    plain : AllByRecursion (IsPlain (q (c + 1))) (live (q (c + 1)) h)
+
+  ready : (c last : ℕ) (h : History) (r : AreRefuted e reset p k b c last h) → Ready c last r.tried.ids h
+  ready c last h r = record {
+    recorded = subst (λ (x : Problem). IsRecorded last r.tried.ids (record { problem = x; history = h })) (more_steps c)
+        (recorded_member last r.tried.ids (record { problem = q c; history = h }) (next c) r.tried.recorded);
+    order = or_right (is_after_block (phase_of h)) (is_between_steps (phase_of h) && nat_le (step_of h) (length (q (c + 1)).steps))
+        (and_from (is_between_steps (phase_of h)) (nat_le (step_of h) (length (q (c + 1)).steps)) r.tried.phase
+        (le-leb (step_of h) (length (q (c + 1)).steps)
+        (let n = length-map (range_with_len 1 (c + 1)) (length_assumes e k p) in let m = length_range 1 (c + 1) in let s = r.tried.step in omega (arith, n, m, s))));
+    assumed = ap (assumptions_of (q (c + 1))) r.tried.step ∙ assumed_is (c + 1) c (omega arith);
+    leaves = subst (λ (x : Problem). StepsLeaveKept x h) (more_steps c)
+        (leaves_begun true (record { problem = q c; history = h }) (next c) r.tried.leaves);
+    plain = subst (λ (x : Problem). AllByRecursion (IsPlain x) (live x h)) (more_steps c)
+        (subst (AllByRecursion (IsPlain (with_step (q c) (next c)))) (sym (same_live (q c) (next c) h)) r.plain);
+  }
+
+  -- the end of a step, behind which nothing goes
+  ended_plain : (n last id : ℕ) (ids : List ℕ) (h : History) → IsRecorded last ids (record { problem = q n; history = h }) → id ≡ last + 1 →
+      AllByRecursion (IsPlain (q n)) (live (q n) h) → AllByRecursion (IsPlain (q n)) (live (q n) (Retire id ∷ h))
+  ended_plain n last id ids h r is plain =
+      subst (AllByRecursion (IsPlain (q n))) (sym (retired_stands (record { problem = q n; history = h }) id r.kept (is ∙ ap (λ m. m + 1) r.last_is)))
+      (push_plain (q n) (live (q n) h) (record { id = id; origin = Retired; literals = negation (guard_of (q n) (step_of h)) ∷ [] }) plain
+      (λ other. absurd (false≢true other)))
+
+  ended_leaves : (n id : ℕ) (h : History) → AllByRecursion (IsPlain (q n)) (live (q n) (Retire id ∷ h)) → StepsLeaveKept (q n) h →
+      StepsLeaveKept (q n) (Retire id ∷ h)
+  ended_leaves n id h plain leaves = (
+    nothing_leaves_kept (q n) (step_of h) (Retire id ∷ h)
+        (ap (map (λ (x : Entry). x.id)) (none_goes (q n) (step_of h) (live (q n) (Retire id ∷ h)) (live (q n) (Retire id ∷ h)) plain)),
+    leaves,
+  )
+
+  pub refuted_more : (c last : ℕ) (h : History) (d : Denial) → AreRefuted e reset p k b c last h → last + 2 < 2 ^ 64 →
       Denies (unrolled e reset k) (length_assumes e k p (c + 1)) d →
       AreRefuted e reset p k b (c + 1) (last + 2) (Retire (last + 1 + 1) ∷ Finish (last + 1) ∷ Lemma (last + 1) d.lits d.hints ∷ Solve ∷ h)
-  refuted_more c last h d r low room denial = record {
-    ids = ids;
-    recorded = subst (λ n. IsRecorded n ids b4) (let z : last + 1 + 1 ≡ last + 2 = omega arith in z) r4;
-    phase = refl;
-    step = ap (λ n. n + 1) r.step;
-    no_block = r.no_block;
-    finished = ap (λ ns. ns ++ step_of h ∷ []) r.finished ∙ (ap (λ m. range_with_len 1 c ++ m ∷ []) (r.step ∙ (let z : c + 1 ≡ 1 + c = omega arith in z)) ∙
-        sym (ap (range_with_len 1) (let more : c + 1 ≡ suc c = omega arith in more) ∙ range_more 1 c));
-    few = (omega (arith, limit), r.few);
-    leaves = (nothing_leaves_kept q (step_of h) b4.history (ap (map (λ (x : Entry). x.id)) (none_goes q (step_of h) (live q b4.history) (live q b4.history) plain)), r.leaves);
+  refuted_more c last h d r room denial = record {
+    tried = record {
+      ids = ids;
+      recorded = subst (λ n. IsRecorded n ids b4) (let z : last + 1 + 1 ≡ last + 2 = omega arith in z) r4;
+      phase = refl;
+      step = ap (λ n. n + 1) r.tried.step;
+      no_block = r.tried.no_block;
+      finished = ap (λ ns. ns ++ step_of h ∷ []) r.tried.finished ∙
+          (ap (λ m. range_with_len 1 c ++ m ∷ []) (r.tried.step ∙ (let z : c + 1 ≡ 1 + c = omega arith in z)) ∙
+          sym (ap (range_with_len 1) (let more : c + 1 ≡ suc c = omega arith in more) ∙ range_more 1 c));
+      few = (omega (arith, limit), r.tried.few);
+      leaves = ended_leaves (c + 1) (last + 1 + 1) b3.history plain f.leaves;
+    };
     plain = plain;
   }
     where
+      f : Ready c last r.tried.ids h
+      f = ready c last h r
+
       b0 : Book
-      b0 = record { problem = q; history = h }
+      b0 = record { problem = q (c + 1); history = h }
 
       b1 : Book
       b1 = with_line b0 Solve
@@ -166,29 +229,20 @@ module _ (e : Encoded) (reset p : List Bool) (k b : ℕ) (u : IsUnrollable e k) 
       b4 = with_line b3 (Retire (last + 1 + 1))
 
       ids : List ℕ
-      ids = r.ids ++ (last + 1) ∷ []
+      ids = r.tried.ids ++ (last + 1) ∷ []
 
       range : HasVariables (k * e.variables) d.lits
       range = own (length_assumes e k p (c + 1)) d denial
 
-      order : in_order q (state_of q h) Solve ≡ true
-      order = or_right (is_after_block (phase_of h)) (is_between_steps (phase_of h) && nat_le (step_of h) (length q.steps))
-          (and_from (is_between_steps (phase_of h)) (nat_le (step_of h) (length q.steps)) r.phase
-          (le-leb (step_of h) (length q.steps)
-          (let n = length-map (range_with_len 1 k) (length_assumes e k p) in let m = length_range 1 k in let s = r.step in omega (arith, n, m, s, low))))
+      r1 : IsRecorded last r.tried.ids b1
+      r1 = recorded_solve last r.tried.ids b0 f.recorded f.order
 
-      r1 : IsRecorded last r.ids b1
-      r1 = recorded_solve last r.ids b0 r.recorded order
-
-      assumed : assumptions_of q (step_of h) ≡ length_assumes e k p (c + 1)
-      assumed = ap (assumptions_of q) r.step ∙ assumed_is c low
-
-      ends : denies (assumptions_of q (step_of h)) d.lits ≡ true
-      ends = ap (λ a. denies a d.lits) assumed ∙ denial.ends
+      ends : denies (assumptions_of (q (c + 1)) (step_of h)) d.lits ≡ true
+      ends = ap (λ a. denies a d.lits) f.assumed ∙ denial.ends
 
       r2 : IsRecorded (last + 1) ids b2
-      r2 = recorded_lemma last (last + 1) r.ids b1 d.lits d.hints r1 refl (omega (arith, room)) refl
-          (learnt_of_axioms q (Solve ∷ h) d.lits d.hints r1.kept.right denial.learnt)
+      r2 = recorded_lemma last (last + 1) r.tried.ids b1 d.lits d.hints r1 refl (omega (arith, room)) refl
+          (learnt_of_axioms (q (c + 1)) (Solve ∷ h) d.lits d.hints r1.kept.right denial.learnt)
           (all_from HasVariable d.lits (λ l there.
           let w = All-contains (IsWithin (k * e.variables)) d.lits l range there in
           let most = u.room in (w.0, let z = w.1 in omega (arith, z, most))))
@@ -197,30 +251,67 @@ module _ (e : Encoded) (reset p : List Bool) (k b : ℕ) (u : IsUnrollable e k) 
       entry : Entry
       entry = record { id = last + 1; origin = Learnt; literals = d.lits }
 
-      found : entry_of (live q b2.history) (last + 1) ≡ Some entry
-      found = found_last q b2.history (live q b1.history) entry r2.kept.right
-          (lemma_stands b1 (last + 1) d.lits d.hints r1.kept (ap (λ n. n + 1) r1.last_is))
+      stands : live (q (c + 1)) b2.history ≡ live (q (c + 1)) b1.history ++ entry ∷ []
+      stands = lemma_stands b1 (last + 1) d.lits d.hints r1.kept (ap (λ n. n + 1) r1.last_is)
+
+      found : entry_of (live (q (c + 1)) b2.history) (last + 1) ≡ Some entry
+      found = found_last (q (c + 1)) b2.history (live (q (c + 1)) b1.history) entry r2.kept.right stands
 
       r3 : IsRecorded (last + 1) ids b3
       r3 = recorded_finish (last + 1) (last + 1) ids b2 r2 (omega (arith, room)) refl (ap (passes is_lemma) found)
-          (ap (passes (λ x. denies (assumptions_of q (step_of h)) x.literals)) found ∙ ends)
+          (ap (passes (λ x. denies (assumptions_of (q (c + 1)) (step_of h)) x.literals)) found ∙ ends)
 
       r4 : IsRecorded (last + 1 + 1) ids b4
       r4 = recorded_retire (last + 1) (last + 1 + 1) ids b3 r3 refl (omega (arith, room)) refl
 
-      unit : Entry
-      unit = record { id = last + 1 + 1; origin = Retired; literals = negation (guard_of q (step_of h)) ∷ [] }
+      plain : AllByRecursion (IsPlain (q (c + 1))) (live (q (c + 1)) b4.history)
+      plain = ended_plain (c + 1) (last + 1) (last + 1 + 1) ids b3.history r3 refl
+          (subst (AllByRecursion (IsPlain (q (c + 1)))) (sym stands)
+          (push_plain (q (c + 1)) (live (q (c + 1)) b1.history) entry f.plain
+          (λ some. own_kept (q (c + 1)) entry refl denial.few (recursion_from_All (IsWithin (k * e.variables)) d.lits range))))
 
-      plain : AllByRecursion (IsPlain q) (live q b4.history)
-      plain =
-          subst (AllByRecursion (IsPlain q)) (sym (retired_stands b3 (last + 1 + 1) r3.kept (ap (λ n. n + 1) r3.last_is)))
-          (push_plain q (live q b3.history) unit
-          (subst (AllByRecursion (IsPlain q)) (sym (lemma_stands b1 (last + 1) d.lits d.hints r1.kept (ap (λ n. n + 1) r1.last_is)))
-          (push_plain q (live q b1.history) entry r.plain
-          (λ some. own_kept q entry refl denial.few (recursion_from_All (IsWithin (k * e.variables)) d.lits range))))
-          (λ other. absurd (false≢true other)))
+  -- a further length, which is tried and not refuted
+  pub tried_more : (c last : ℕ) (h : History) → AreRefuted e reset p k b c last h → last + 1 < 2 ^ 64 →
+      AreTried e reset p k b (c + 1) c (last + 1) (Retire (last + 1) ∷ Solve ∷ h)
+  tried_more c last h r room = record {
+    ids = r.tried.ids;
+    recorded = recorded_retire last (last + 1) r.tried.ids b1 r1 refl (omega (arith, room)) refl;
+    phase = refl;
+    step = ap (λ n. n + 1) r.tried.step;
+    no_block = r.tried.no_block;
+    finished = r.tried.finished;
+    few = r.tried.few;
+    leaves = ended_leaves (c + 1) (last + 1) (Solve ∷ h) (ended_plain (c + 1) last (last + 1) r.tried.ids (Solve ∷ h) r1 refl f.plain) f.leaves;
+  }
+    where
+      f : Ready c last r.tried.ids h
+      f = ready c last h r
+
+      b1 : Book
+      b1 = with_line (record { problem = q (c + 1); history = h }) Solve
+
+      r1 : IsRecorded last r.tried.ids b1
+      r1 = recorded_solve last r.tried.ids (record { problem = q (c + 1); history = h }) f.recorded f.order
 
 -- the lines of a length at the end of a log
 pub more_lines : (log : List Line) (id : ℕ) (d : Denial) →
     reverse (log ++ step_lines id d) ≡ Retire (id + 1) ∷ Finish id ∷ Lemma id d.lits d.hints ∷ Solve ∷ reverse log
 more_lines log id d = reverse-append log (step_lines id d)
+
+-- those of a length that no lemma refutes
+pub trial_lines : (log : List Line) (id : ℕ) → reverse (log ++ Solve ∷ Retire id ∷ []) ≡ Retire id ∷ Solve ∷ reverse log
+trial_lines log id = reverse-append log (Solve ∷ Retire id ∷ [])
+
+-- a log with such a length at its end
+pub tried_at : (e : Encoded) (reset p : List Bool) (k b : ℕ) (u : IsUnrollable e k) (limit : 1 ≤ b) (c last id : ℕ) (log new : List Line) →
+    AreRefuted e reset p k b c last (reverse log) → id ≡ last + 1 → id < 2 ^ 64 → new ≡ log ++ Solve ∷ Retire id ∷ [] →
+    AreTried e reset p k b (c + 1) c id (reverse new)
+tried_at e reset p k b u limit c last id log new r is room same =
+    subst (λ (h : History). AreTried e reset p k b (c + 1) c id h) (sym (ap reverse same ∙ trial_lines log id))
+    (subst (λ n. AreTried e reset p k b (c + 1) c n (Retire n ∷ Solve ∷ reverse log)) (sym is)
+    (tried_more e reset p k b u limit c last (reverse log) r (omega (arith, is, room))))
+
+-- a log of refuted lengths
+pub logs_all : (e : Encoded) (reset p : List Bool) (k b c last : ℕ) (log : List Line) → AreRefuted e reset p k b c last (reverse log) →
+    IsLogOfLengths e reset p k b c c log
+logs_all e reset p k b c last log r = record { last = last; tried = r.tried }

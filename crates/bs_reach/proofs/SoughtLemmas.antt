@@ -1,6 +1,6 @@
 -- A log of lengths that lemmas refute is an answer.
 use Rattle.std.proofs.Common.{◌≡◌, ◌≢◌, ℕ, ◌+◌, ◌*◌, ◌≤◌, arith, true, false, Bool, List, [], ◌∷◌, map, length, reverse, refl, sym, ap, subst, ◌∙◌, Option, Some, None}
-use Rattle.std.specs.Prelude.{IfSome, IsTrue, ◌&&◌, ◌==◌}
+use Rattle.std.specs.Prelude.{All, IfSome, IsTrue, ◌&&◌, ◌==◌}
 use Rattle.std.specs.List.{range_with_len}
 use Rattle.std.proofs.lemmas.Bool.{and_from, eq-eqb}
 use Rattle.std.proofs.lemmas.List.{length-map}
@@ -8,6 +8,8 @@ use Rattle.bs_net.specs.Circuit.{Circuit, reset_state}
 use Rattle.bs_log.specs.declared.line.Line.{Line}
 use Rattle.bs_log.specs.History.{state_of, phase_of, step_of}
 use Rattle.bs_log.specs.Refusal.{IsAccepted, is_complete, is_between_steps}
+use Rattle.bs_log.specs.Lean.{IsLean}
+use Rattle.bs_log.specs.LineForms.{HasText}
 use Rattle.bs_solve_recording.specs.declared.stage.Stage.TheVariants.{Idle}
 use Rattle.bs_solve_recording.specs.Solver.{SolverState}
 use Rattle.bs_solve_recording.proofs.Books.{texts_in_order}
@@ -19,34 +21,55 @@ use Rattle.bs_reach.specs.declared.reach.Outcome.TheVariants.{Unreached}
 use Rattle.bs_reach.specs.declared.search.End.TheVariants as ends
 use Rattle.bs_reach.specs.declared.telling.Told.{Told}
 use Rattle.bs_reach.specs.Reach.{IsReach}
-use Rattle.bs_reach.specs.Search.{problem_over, fresh_over, IsBetween}
+use Rattle.bs_reach.specs.Search.{problem_over, fresh_over, IsTried, IsBetween}
 use Rattle.bs_reach.specs.Sought.{HasSought}
-use Rattle.bs_reach.specs.Refuted.{AreRefuted, IsLogOfRefuted}
+use Rattle.bs_reach.specs.Refuted.{IsLogOfLengths}
 use Rattle.bs_reach.proofs.ReachLemmas.{look_is}
 use Rattle.bs_reach.proofs.RefutedLemmas.{length_range}
 
--- the state that a solver would be in behind the log
-abbrev state_behind : Encoded → List Bool → List Bool → ℕ → List Line → SolverState
-state_behind e reset p k log = record {
-  book = record { problem = problem_over (unrolled e reset k) e k p k; history = reverse log };
-  vars = k * e.variables + k;
+-- the state that a solver would be in behind a log of so many lengths
+abbrev pub state_behind : Encoded → List Bool → List Bool → ℕ → ℕ → List Line → SolverState
+state_behind e reset p k count log = record {
+  book = record { problem = problem_over (unrolled e reset k) e k p count; history = reverse log };
+  vars = k * e.variables + count;
   stage = Idle;
   failed = false;
 }
 
+-- what such a log gives
+pub record Behind (e : Encoded) (reset p : List Bool) (k b count refuted : ℕ) (log : List Line) : Type 0 where
+  pub tried : IsTried (unrolled e reset k) e k p b count refuted (state_behind e reset p k count log)
+  pub lean : IsLean (problem_over (unrolled e reset k) e k p count) (reverse log)
+  pub texts : All HasText log
+  pub accepted : IsAccepted (problem_over (unrolled e reset k) e k p count) log
+
+pub behind : (e : Encoded) (reset p : List Bool) (k b count refuted : ℕ) (log : List Line) → IsLogOfLengths e reset p k b count refuted log →
+    Behind e reset p k b count refuted log
+behind e reset p k b count refuted log l =
+    let h = l.tried in
+    record {
+      tried = record { well = refl; idle = refl; problem = refl; no_block = h.no_block; finished = h.finished; few = h.few };
+      lean = record { steps = h.leaves; lemmas = h.recorded.kept.lean };
+      texts = texts_in_order log h.recorded.kept.texts;
+      accepted = record {
+        lines = h.recorded.kept.right;
+        complete = and_from (is_between_steps (phase_of (reverse log)))
+            (step_of (reverse log) == length (map (length_assumes e k p) (range_with_len 1 count)) + 1) h.phase
+            (eq-eqb (step_of (reverse log)) (length (map (length_assumes e k p) (range_with_len 1 count)) + 1)
+            (h.step ∙ ap (λ n. n + 1) (sym (length-map (range_with_len 1 count) (length_assumes e k p) ∙ length_range 1 count))));
+      };
+    }
+
 pub refuted_sought : (e : Encoded) (reset p : List Bool) (k b : ℕ) (log : List Line) (told : Told) (r : Reach) → told.outcome ≡ Unreached →
     r ≡ record { asked = k; conflicts = b; outcome = told.outcome; states = told.states; inputs = told.inputs; log = log } →
-    IsLogOfRefuted e reset p k b log → HasSought e reset p k b r
+    IsLogOfLengths e reset p k b k k log → HasSought e reset p k b r
 refuted_sought e reset p k b log told r unreached is l =
-    let h = l.refuted in
-    let between : IsBetween (unrolled e reset k) e k p b k (state_behind e reset p k log) = record {
-      tried = record { well = refl; idle = refl; problem = refl; no_block = h.no_block; finished = h.finished; few = h.few };
-      guards = refl;
-      number = h.step;
-    } in
+    let known : Behind e reset p k b k k log = behind e reset p k b k k log l in
+    let between : IsBetween (unrolled e reset k) e k p b k (state_behind e reset p k k log) =
+    record { tried = known.tried; guards = refl; number = l.tried.step } in
     subst (HasSought e reset p k b) (sym is) (record {
       start = fresh_over (unrolled e reset k) e k;
-      solver = state_behind e reset p k log;
+      solver = state_behind e reset p k k log;
       end = ends.Unreached;
       told = told;
       is = refl;
@@ -54,14 +77,9 @@ refuted_sought e reset p k b log told r unreached is l =
       ended = between;
       tells = unreached;
       lines = refl;
-      lean = λ well. record { steps = h.leaves; lemmas = h.recorded.kept.lean };
-      texts = texts_in_order log h.recorded.kept.texts;
-      accepted = λ well idle. record {
-        lines = h.recorded.kept.right;
-        complete = and_from (is_between_steps (phase_of (reverse log))) (step_of (reverse log) == length (map (length_assumes e k p) (range_with_len 1 k)) + 1)
-            h.phase (eq-eqb (step_of (reverse log)) (length (map (length_assumes e k p) (range_with_len 1 k)) + 1)
-            (h.step ∙ ap (λ n. n + 1) (sym (length-map (range_with_len 1 k) (length_assumes e k p) ∙ length_range 1 k))));
-      };
+      lean = λ well. known.lean;
+      texts = known.texts;
+      accepted = λ well idle. known.accepted;
     })
 
 pub some_reach : (c : Circuit) (k b : ℕ) (p reset : List Bool) (e : Encoded) (o : Option Reach) → e ≡ encoding_of c [] → reset ≡ reset_state c →

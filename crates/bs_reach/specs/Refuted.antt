@@ -23,19 +23,23 @@ step_lines id d = Solve ∷ Lemma id d.lits d.hints ∷ Finish id ∷ Retire (id
 abbrev pub IsPlain : Problem → Entry → Type 0
 IsPlain q e = is_lemma_or_block e ≡ true → (step : ℕ) (entries : List Entry) → is_kept q step entries e ≡ true
 
--- of the log over k cycles, the steps of the first c lengths, each refuted; the last id that was given
-pub record AreRefuted (e : Encoded) (reset p : List Bool) (k b c last : ℕ) (h : History) : Type 0 where
+-- of the log over k cycles, the steps of the first `count` lengths, of which so many first ones are refuted; the last id that was given
+pub record AreTried (e : Encoded) (reset p : List Bool) (k b count refuted last : ℕ) (h : History) : Type 0 where
   pub ids : List ℕ
-  pub recorded : IsRecorded last ids (record { problem = problem_over (unrolled e reset k) e k p k; history = h })
+  pub recorded : IsRecorded last ids (record { problem = problem_over (unrolled e reset k) e k p count; history = h })
   pub phase : is_between_steps (phase_of h) ≡ true
-  pub step : step_of h ≡ c + 1
+  pub step : step_of h ≡ count + 1
   pub no_block : HasNoBlock h
-  pub finished : finished_in h ≡ range_with_len 1 c
+  pub finished : finished_in h ≡ range_with_len 1 refuted
   pub few : HasFewLemmas b h
-  pub leaves : StepsLeaveKept (problem_over (unrolled e reset k) e k p k) h
-  pub plain : AllByRecursion (IsPlain (problem_over (unrolled e reset k) e k p k)) (live (problem_over (unrolled e reset k) e k p k) h)
+  pub leaves : StepsLeaveKept (problem_over (unrolled e reset k) e k p count) h
 
--- the steps of all lengths
-pub record IsLogOfRefuted (e : Encoded) (reset p : List Bool) (k b : ℕ) (log : List Line) : Type 0 where
+-- the same where each is refuted
+pub record AreRefuted (e : Encoded) (reset p : List Bool) (k b c last : ℕ) (h : History) : Type 0 where
+  pub tried : AreTried e reset p k b c c last h
+  pub plain : AllByRecursion (IsPlain (problem_over (unrolled e reset k) e k p c)) (live (problem_over (unrolled e reset k) e k p c) h)
+
+-- a log of the first `count` lengths, of which so many first ones are refuted
+pub record IsLogOfLengths (e : Encoded) (reset p : List Bool) (k b count refuted : ℕ) (log : List Line) : Type 0 where
   pub last : ℕ
-  pub refuted : AreRefuted e reset p k b k last (reverse log)
+  pub tried : AreTried e reset p k b count refuted last (reverse log)

@@ -9,7 +9,7 @@ ghost use Rattle.bs_reach_unrolled.specs.Room.{IsUnrollable};
 ghost use Rattle.bs_reach_unrolled.specs.Unrolled.{unrolled};
 ghost use Rattle.bs_reach.specs.Search.{fresh_over, IsBetween};
 ghost use Rattle.bs_reach.specs.Denials.{AreDenials};
-ghost use Rattle.bs_reach.specs.Refuted.{IsLogOfRefuted};
+ghost use Rattle.bs_reach.specs.Refuted.{IsLogOfLengths};
 ghost use Rattle.bs_reach.specs.Reach.{IsReach};
 ghost use Rattle.bs_reach.specs.Sought.{HasSought, TellsEnd};
 
@@ -183,7 +183,7 @@ fn as_refuted(
     b: u64,
     log: Log,
 ) -> Reach
-    requires { IsLogOfRefuted _encoding.now _reset.now _state.now k b log }
+    requires { IsLogOfLengths _encoding.now _reset.now _state.now k b k k log }
     ensures { HasSought _encoding.now _reset.now _state.now k b result }
 {
     answered(k, b, without_states(alloc, Outcome::Unreached), log)

@@ -1,5 +1,5 @@
 //! The answer whether a state is reached from reset in a bounded number of cycles.
-ghost use Rattle.std.specs.Prelude.{◌≡◌, ◌≢◌, ◌*◌, ◌≤◌, [], length, IfOk};
+ghost use Rattle.std.specs.Prelude.{◌≡◌, ◌≢◌, ◌*◌, ◌≤◌, [], length, IfOk, IfSome};
 ghost use Rattle.bs_net.specs.Circuit.{reset_state};
 ghost use Rattle.bs_net.specs.Netlist.{circuit};
 ghost use Rattle.bs_encode.specs.Transition.{variables};
@@ -9,6 +9,7 @@ ghost use Rattle.bs_reach.specs.Reach.{IsReach};
 
 use crate::answer::{at_reset, look_refuted, never};
 use crate::reach::Reach;
+use crate::shown::look_shown;
 use crate::wider::look_wider;
 use bs_bits::Bits;
 use bs_clause::NoMemory;
@@ -20,7 +21,33 @@ use std::alloc::Global;
 /// Lets the clauses of a cycle go.
 fn let_go(_encoding: Encoding) {}
 
-/// The answer by what follows from reset where this denies each length, and else by a search.
+/// The answer where what follows from reset denies each length, or an execution of the first length is found that it does not deny.
+fn look_denied(
+    alloc: Global,
+    net: &Netlist,
+    encoding: &Encoding,
+    forced: &Forced,
+    state: &Bits,
+    k: u32,
+    b: u64,
+) -> Result<Option<Reach>, NoMemory>
+    requires encoded { encoding.now ≡ encoding_of (circuit net.now) [] }
+    requires width { length state.now ≡ length (circuit net.now).flops }
+    requires some { 1 ≤ k }
+    requires cycles { k ≤ MAX_COPIES }
+    requires room { k * variables (circuit net.now) [] ≤ MAX_COPY_VARIABLES }
+    requires limit { 1 ≤ b }
+    requires other { reset_state (circuit net.now) ≢ state.now }
+    ensures { IfOk result (λ o. IfSome o (IsReach (circuit net.now) state.now k b)) }
+{
+    let denied = forced.len();
+    if denied < k as usize {
+        return look_shown(alloc, net, encoding, forced, state, denied as u32, k, b);
+    }
+    look_refuted(alloc, net, encoding, forced, state, k, b)
+}
+
+/// The same, and else the answer by a search over copies.
 fn look_forced(
     alloc: Global,
     net: &Netlist,
@@ -39,13 +66,10 @@ fn look_forced(
     requires other { reset_state (circuit net.now) ≢ state.now }
     ensures { IfOk result (IsReach (circuit net.now) state.now k b) }
 {
-    if forced.len() >= k as usize {
-        match look_refuted(alloc, net, encoding, forced, state, k, b)? {
-            Some(reach) => return Ok(reach),
-            None => {}
-        }
+    match look_denied(alloc, net, encoding, forced, state, k, b)? {
+        Some(reach) => Ok(reach),
+        None => look_wider(alloc, net, encoding, forced, state, k, b),
     }
-    look_wider(alloc, net, encoding, forced, state, k, b)
 }
 
 /// The answer by the clauses of a cycle.

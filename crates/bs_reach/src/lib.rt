@@ -2,8 +2,9 @@
 //!
 //! Modules: `copies` (`bounded`, over how many copies), `wider` (few copies first), `answer` (a search over so many
 //! copies), `count` (`size`), `search` (one length after another, over one solver), `length` (a
-//! step of the log), `denials` (the first lengths, by what follows from reset alone), `refuted` (the
-//! log where it denies all), `telling` (the states and inputs of an assignment), `reach` (`Reach`, `Outcome`), `text`. Used
+//! step of the log), `denials` (the first lengths, by what follows from reset alone), `refuted` (their
+//! log), `shown` (an execution of the length behind them), `telling` (the states and inputs of an
+//! assignment), `reach` (`Reach`, `Outcome`), `text`. Used
 //! above: `IsReach` of `bounded`, and `reach_text` of `Reach::text`. A right answer: `specs/Reach`;
 //! how a length is tried: `length`; a line of the text: `specs/Text`.
 #![tactic(auto)]
@@ -16,6 +17,7 @@ mod length;
 mod reach;
 mod refuted;
 mod search;
+mod shown;
 mod telling;
 mod text;
 mod wider;

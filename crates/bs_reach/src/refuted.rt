@@ -1,4 +1,4 @@
-//! The log where what follows from reset denies each length: no clause is unrolled, and no solver is made.
+//! The log of lengths that what follows from reset denies: no clause is unrolled, and no solver is made.
 ghost use Rattle.std.specs.Prelude.{◌≡◌, ◌+◌, ◌*◌, ◌^◌, ◌<◌, ◌≤◌, ◌++◌, [], length, reverse, IfOk, OnOk, IfSome};
 ghost use Rattle.std.specs.Bool.{OnTrue};
 ghost use Rattle.bs_reach_unrolled.specs.declared.limits.TheConstants.{MAX_COPIES};
@@ -6,7 +6,7 @@ ghost use Rattle.bs_reach_unrolled.specs.Room.{IsUnrollable};
 ghost use Rattle.bs_reach_unrolled.specs.Unrolled.{length_assumes, unrolled};
 ghost use Rattle.bs_solve.specs.Denying.{Denies};
 ghost use Rattle.bs_reach.specs.declared.refuted.TheConstants.{COUNT_ROOM};
-ghost use Rattle.bs_reach.specs.Refuted.{step_lines, AreRefuted, IsLogOfRefuted};
+ghost use Rattle.bs_reach.specs.Refuted.{step_lines, AreRefuted, IsLogOfLengths};
 
 use crate::denials::denial_at;
 use bs_bits::Bits;
@@ -56,7 +56,7 @@ fn count(encoding: &Encoding, _reset: &Bits, k: u32) -> u64
 }
 
 /// The id behind another, where there is one.
-fn next_id(last: u64) -> Result<u64, NoMemory>
+pub(crate) fn next_id(last: u64) -> Result<u64, NoMemory>
     ensures { IfOk result (λ id. id ≡ last + 1) }
 {
     match last.checked_add(1) {
@@ -97,7 +97,6 @@ fn log_denied(
     _b: u64,
 ) -> Result<u64, NoMemory>
     requires unrollable { IsUnrollable _encoding.now _k }
-    requires within { _c < _k }
     requires limit { 1 ≤ _b }
     requires so_far { AreRefuted _encoding.now _reset.now _state.now _k _b _c last (reverse log.old) }
     requires denial { Denies (unrolled _encoding.now _reset.now _k) (length_assumes _encoding.now _k _state.now (_c + 1)) denial }
@@ -139,7 +138,7 @@ fn add_length(
     }
 }
 
-/// Logs each length, where what follows from reset denies it. Whether all are logged.
+/// Logs so many first lengths, where what follows from reset denies each, and answers the last id that is given then.
 fn add_lengths(
     alloc: Global,
     log: &mut Log,
@@ -149,18 +148,20 @@ fn add_lengths(
     forced: &Forced,
     places: &mut Places,
     state: &Bits,
+    denied: u32,
     k: u32,
     b: u64,
 ) -> Result<Option<u64>, NoMemory>
     requires unrollable { IsUnrollable encoding.now k }
+    requires within { denied ≤ k }
     requires starts { length encoding.now.states ≡ length reset.now }
     requires width { length encoding.now.next ≡ length state.now }
     requires limit { 1 ≤ b }
     requires start { AreRefuted encoding.now reset.now state.now k b 0 first (reverse log.old) }
-    ensures { IfOk result (λ o. IfSome o (λ id. AreRefuted encoding.now reset.now state.now k b k id (reverse log.new))) }
+    ensures { IfOk result (λ o. IfSome o (λ id. AreRefuted encoding.now reset.now state.now k b denied id (reverse log.new))) }
 {
     let mut last = first;
-    'lengths: for c in 0..k {
+    'lengths: for c in 0..denied {
         let next = add_length(
             alloc, log, last, encoding, reset, forced, places, state, c, k, b,
         )?;
@@ -172,24 +173,26 @@ fn add_lengths(
     Ok(Some(last))
 }
 
-/// Logs each of `k` lengths, one or more, where what follows from reset denies it; into an empty log.
-fn fill(
+/// The same into an empty log, over `k` cycles, one or more.
+pub(crate) fn fill(
     alloc: Global,
     log: &mut Log,
     encoding: &Encoding,
     reset: &Bits,
     forced: &Forced,
     state: &Bits,
+    denied: u32,
     k: u32,
     b: u64,
 ) -> Result<Option<u64>, NoMemory>
     requires some { 1 ≤ k }
     requires unrollable { IsUnrollable encoding.now k }
+    requires within { denied ≤ k }
     requires starts { length encoding.now.states ≡ length reset.now }
     requires width { length encoding.now.next ≡ length state.now }
     requires limit { 1 ≤ b }
     requires empty { log.old ≡ [] }
-    ensures { IfOk result (λ o. IfSome o (λ id. AreRefuted encoding.now reset.now state.now k b k id (reverse log.new))) }
+    ensures { IfOk result (λ o. IfSome o (λ id. AreRefuted encoding.now reset.now state.now k b denied id (reverse log.new))) }
 {
     if !is_counted(encoding) {
         return Ok(None);
@@ -205,6 +208,7 @@ fn fill(
         forced,
         &mut places,
         state,
+        denied,
         k,
         b,
     )?;
@@ -226,10 +230,10 @@ pub(crate) fn log_of(
     requires starts { length encoding.now.states ≡ length reset.now }
     requires width { length encoding.now.next ≡ length state.now }
     requires limit { 1 ≤ b }
-    ensures { IfOk result (λ o. IfSome o (IsLogOfRefuted encoding.now reset.now state.now k b)) }
+    ensures { IfOk result (λ o. IfSome o (IsLogOfLengths encoding.now reset.now state.now k b k k)) }
 {
     let mut log = Log::new(alloc);
-    let last = fill(alloc, &mut log, encoding, reset, forced, state, k, b)?;
+    let last = fill(alloc, &mut log, encoding, reset, forced, state, k, k, b)?;
     match last {
         None => Ok(None),
         Some(_id) => Ok(Some(log)),

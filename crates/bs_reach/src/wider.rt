@@ -198,22 +198,23 @@ fn look_within(
     Ok(look)
 }
 
-/// The copies of the first length that what follows from reset does not deny, or all.
+/// How many copies are looked over first. An execution of the first length that what follows from reset does not deny was sought
+/// alone before, so they are four times as many as that has, or all.
 fn first_copies(forced: &Forced, k: u32) -> u32
-    requires { 1 ≤ k }
+    requires some { 1 ≤ k }
+    requires cycles { k ≤ MAX_COPIES }
     ensures some { 1 ≤ result }
     ensures few { result ≤ k }
 {
     let denied = forced.len();
-    if denied < k as usize {
-        denied as u32 + 1
+    if denied < k as usize && 4 * (denied as u32 + 1) < k {
+        4 * (denied as u32 + 1)
     } else {
         k
     }
 }
 
-/// The answer by few copies where they tell it, and else by all that are asked for. Those of the first length that is not denied are
-/// looked over first, and then four times as many each time.
+/// The answer by few copies where they tell it, and else by all that are asked for: four times as many each time.
 pub(crate) fn look_wider(
     alloc: Global,
     net: &Netlist,
