@@ -257,7 +257,7 @@ fn lead(scene: &mut Scene, next: &[Lit]) {
 
 /// Nothing forces so many more variables yet.
 fn widen(reasons: &mut Vec<u32>, vars: u32) -> Result<(), NoMemory> {
-    reasons.resize(reasons.len() + vars as usize, 0)?;
+    reasons.resize(reasons.len().wrapping_add(vars as usize), 0)?;
     Ok(())
 }
 
