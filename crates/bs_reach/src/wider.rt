@@ -1,5 +1,5 @@
 //! Fewer copies first: where they reach the state, their answer is told of all that are asked for.
-ghost use Rattle.std.specs.Prelude.{◌≡◌, ◌≢◌, ◌*◌, ◌≤◌, true, [], length, map, All, IfOk, IfSome};
+ghost use Rattle.std.specs.Prelude.{◌≡◌, ◌≢◌, ◌*◌, ◌≤◌, true, [], length, map, All, IfOk};
 ghost use Rattle.bs_net.specs.Circuit.{reset_state};
 ghost use Rattle.bs_net.specs.Netlist.{circuit};
 ghost use Rattle.bs_encode.specs.Transition.{variables};
@@ -18,7 +18,6 @@ use bs_clause::NoMemory;
 use bs_encode::Encoding;
 use bs_log::Log;
 use bs_net::Netlist;
-use bs_reach_execution::execution_of;
 use bs_reach_forced::Forced;
 use bs_reach_renamed::{Shift, renamed, renamed_logs_stay_right};
 use bs_reach_unrolled::netlists_unroll;
@@ -26,12 +25,6 @@ use std::alloc::Global;
 
 /// The clauses and flip-flops of a copy and the lines of a log are at most so many where the log is renamed.
 pub(crate) const ID_ROOM: u64 = 1 << 40;
-
-/// In so many lengths less one behind the first an execution is searched for that tells how many copies are looked over.
-const MAX_TRIALS: u32 = 16;
-
-/// Each such search logs fewer lemmas than this.
-const TRIAL_CONFLICTS: u64 = 300;
 
 /// What fewer copies tell.
 #[derive(Drop)]
@@ -205,92 +198,19 @@ fn look_within(
     Ok(look)
 }
 
-/// Whether a private search finds an execution of this length.
-fn is_found(
-    alloc: Global,
-    net: &Netlist,
-    encoding: &Encoding,
-    state: &Bits,
-    j: u32,
-) -> Result<bool, NoMemory>
-    requires width { length state.now ≡ length (circuit net.now).flops }
-{
-    match execution_of(alloc, net, encoding, state, j, TRIAL_CONFLICTS)? {
-        Some(_) => Ok(true),
-        None => Ok(false),
-    }
-}
-
-/// The copies in which a private search finds an execution, if it does in one of the lengths behind this one.
-fn copies_found(
-    alloc: Global,
-    net: &Netlist,
-    encoding: &Encoding,
-    state: &Bits,
-    first: u32,
-    k: u32,
-) -> Result<Option<u32>, NoMemory>
-    requires width { length state.now ≡ length (circuit net.now).flops }
-    requires cycles { first ≤ MAX_COPIES }
-    ensures { IfOk result (λ o. IfSome o (λ j. (1 ≤ j) × (j ≤ k))) }
-{
-    'turns: for turn in 1..MAX_TRIALS {
-        let j = first + turn;
-        if j > k {
-            return Ok(None);
-        }
-        if is_found(alloc, net, encoding, state, j)? {
-            return Ok(Some(j));
-        }
-    }
-    Ok(None)
-}
-
-/// Four times so many copies, at most all.
-fn four_times(first: u32, k: u32) -> u32
-    requires some { 1 ≤ first }
-    requires cycles { first ≤ MAX_COPIES }
-    requires more { 1 ≤ k }
-    ensures some { 1 ≤ result }
-    ensures few { result ≤ k }
-{
-    if 4 * first < k { 4 * first } else { k }
-}
-
-/// The first length that what follows from reset does not deny, at most all.
-fn first_length(forced: &Forced, k: u32) -> u32
+/// How many copies are looked over first. An execution of the first length that what follows from reset does not deny was sought
+/// alone before, so they are four times as many as that has, or all.
+fn first_copies(forced: &Forced, k: u32) -> u32
     requires some { 1 ≤ k }
+    requires cycles { k ≤ MAX_COPIES }
     ensures some { 1 ≤ result }
     ensures few { result ≤ k }
 {
     let denied = forced.len();
-    if denied < k as usize {
-        denied as u32 + 1
+    if denied < k as usize && 4 * (denied as u32 + 1) < k {
+        4 * (denied as u32 + 1)
     } else {
         k
-    }
-}
-
-/// How many copies are looked over first: those in which a private search finds an execution, or four times those of the first
-/// length that what follows from reset does not deny.
-fn first_copies(
-    alloc: Global,
-    net: &Netlist,
-    encoding: &Encoding,
-    forced: &Forced,
-    state: &Bits,
-    k: u32,
-) -> Result<u32, NoMemory>
-    requires width { length state.now ≡ length (circuit net.now).flops }
-    requires some { 1 ≤ k }
-    requires cycles { k ≤ MAX_COPIES }
-    ensures some { IfOk result (λ j. 1 ≤ j) }
-    ensures few { IfOk result (λ j. j ≤ k) }
-{
-    let first = first_length(forced, k);
-    match copies_found(alloc, net, encoding, state, first, k)? {
-        Some(j) => Ok(j),
-        None => Ok(four_times(first, k)),
     }
 }
 
@@ -313,7 +233,7 @@ pub(crate) fn look_wider(
     requires other { reset_state (circuit net.now) ≢ state.now }
     ensures { IfOk result (IsReach (circuit net.now) state.now k b) }
 {
-    let mut j = first_copies(alloc, net, encoding, forced, state, k)?;
+    let mut j = first_copies(forced, k);
     'sizes: while j < k {
         match look_within(alloc, net, encoding, forced, state, j, k, b)? {
             Look::Told(reach) => return Ok(reach),
