@@ -24,7 +24,7 @@ use bs_reach_unrolled::{netlists_unroll, unrolled_clauses_are_executions};
 use std::alloc::Global;
 
 /// A search for an execution that is not logged has fewer lemmas than this.
-const MAX_LEMMAS: u64 = 10_000;
+const MAX_LEMMAS: u64 = 2_000;
 
 /// Logs the length `c + 1` without a lemma, and answers the last id that is given then.
 fn log_trial(
