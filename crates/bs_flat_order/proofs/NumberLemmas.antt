@@ -1,10 +1,9 @@
 -- Instances whose modules stand in a table of places.
 use Rattle.std.proofs.Common.{◌≡◌, ℕ, ◌<◌, ◌≤◌, Bool, true, false, cond, List, [], ◌∷◌, map, length, get_or, refl, arith, ap, sym, ◌∙◌}
-use Rattle.std.proofs.Common.{⊎_elim, Option, Some, None}
+use Rattle.std.proofs.Common.{Option, Some, None}
 use Rattle.std.specs.Prelude.{nat_lt, unwrap_or}
 use Rattle.std.specs.List.{All, AllByRecursion}
-use Rattle.std.proofs.lemmas.Bool.{ltb-true, cases_lt}
-use Rattle.std.proofs.lemmas.List.{get_or_past}
+use Rattle.std.proofs.lemmas.Bool.{ltb-true}
 use Rattle.std.proofs.lemmas.List.Elements.{All-from_recursion}
 use Rattle.bs_flat_meaning.specs.declared.statements.Written.{Written}
 use Rattle.bs_flat_order.specs.Places.{place_by_id, ArePlaces}
@@ -22,11 +21,7 @@ unfolding tail_of
 tail_same x y xs ys e = ap tail_of e
 
 found : (ids table : List (Option ℕ)) (id n : ℕ) → ArePlaces ids table → get_or table id None ≡ Some n → (n ≡ place_by_id ids id) × (n < length ids)
-found ids table id n a e =
-    ⊎_elim
-    (λ (lt : id < length table). by (nat_lt (place_by_id ids id) (length ids)) refl (sym (a.each id lt) ∙ e))
-    (λ (past : length table ≤ id). absurd (none (sym (get_or_past table id None past) ∙ e)))
-    (cases_lt id (length table))
+found ids table id n a e = by (nat_lt (place_by_id ids id) (length ids)) refl (sym (a.each id) ∙ e)
   where
     none : ◌≡◌ {A = Option ℕ} None (Some n) → ⊥
     none q = cc

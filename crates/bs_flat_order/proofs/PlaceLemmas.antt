@@ -3,7 +3,9 @@ use Rattle.std.proofs.Common.{◌≡◌, ℕ, ◌<◌, ◌≤◌, ◌+◌, Bool,
 use Rattle.std.proofs.Common.{arith, ap, sym, ◌∙◌, ⊎_elim, nat_eq, get_or-set_same, get_or-set_other, Option, Some, None, length-take}
 use Rattle.std.specs.Prelude.{unwrap_or, replicate}
 use Rattle.std.proofs.lemmas.Bool.{eqb-true, eqb-false, eq-eqb, ne_eqb, lt-ltb, le-ltb, cases_lt}
-use Rattle.std.proofs.lemmas.List.{length-set, take_more, get_or-replicate, length-replicate}
+use Rattle.std.proofs.lemmas.List.{length-set, take_more, get_or-replicate, get_or_past, length-replicate}
+use Rattle.std.proofs.lemmas.List.Elements.{recursion_from_All}
+use Rattle.std.specs.List.{All, AllByRecursion}
 use Rattle.std.proofs.lemmas.List.Folds.{position_or_len_push}
 use Rattle.bs_flat_meaning.specs.Reading.{is_id}
 use Rattle.bs_flat_order.specs.Places.{past, noted, place_by_id, within, ArePlaces}
@@ -105,15 +107,36 @@ places_more ids table after size k d lt low ea h =
             get_or-set_other table i id (Some (unwrap_or (get_or table i None) k)) None (λ s. eqb-false i id e (sym s))
             ∙ (h.each id li ∙ sym (place_other (take k ids) id k (Some i) count e))
 
-pub places_all : (ids table : List (Option ℕ)) (size count : ℕ) → length ids ≤ count → count ≤ length ids → ArePlacesOf ids table size count → ArePlaces ids table
-places_all ids table size count all few h =
+-- a number past those of all names has no place
+place_past : (ids : List (Option ℕ)) (size id : ℕ) → AllByRecursion (λ o. past o ≤ size) ids → size ≤ id → length ids ≤ place_by_id ids id
+place_past [] size id low le = omega arith
+place_past (o ∷ os) size id low le = by o low.0 (is_id id o) refl (place_past os size id low.1 le)
+  where
+    by : (o : Option ℕ) → past o ≤ size → (b : Bool) → is_id id o ≡ b → length os ≤ place_by_id os id →
+        length (o ∷ os) ≤ cond (not b) (1 + place_by_id os id) 0
+    by o l false e rest = omega (arith, rest)
+    by (Some i) l true e rest = let same = eqb-true i id e in absurd (omega (arith, same, l, le))
+    by None l true e rest = absurd (none e)
+      where
+        none : false ≡ true → ⊥
+        none q = cc
+
+pub places_all : (ids table : List (Option ℕ)) (size count : ℕ) → length ids ≤ count → count ≤ length ids → All (λ o. past o ≤ size) ids →
+    ArePlacesOf ids table size count → ArePlaces ids table
+places_all ids table size count all few low h =
     let same : count ≡ length ids = omega (arith, all, few) in
     let wide = h.wide in
     record {
       each =
-          λ id lt.
-          h.each id (omega (arith, lt, wide))
-          ∙ (ap (λ n. within n (place_by_id (take n ids) id)) same ∙ ap (λ os. within (length ids) (place_by_id os id)) (take_all_of ids));
+          λ id.
+          ⊎_elim
+          (λ (lt : id < size).
+          h.each id lt
+          ∙ (ap (λ n. within n (place_by_id (take n ids) id)) same ∙ ap (λ os. within (length ids) (place_by_id os id)) (take_all_of ids)))
+          (λ (le : size ≤ id).
+          get_or_past table id None (omega (arith, le, wide))
+          ∙ sym (within_not (length ids) (place_by_id ids id) (place_past ids size id (recursion_from_All (λ o. past o ≤ size) ids low) le)))
+          (cases_lt id size);
     }
   where
     take_all_of : (os : List (Option ℕ)) → take (length os) os ≡ os

@@ -1,5 +1,5 @@
 -- Where the module with a name stands among all.
-use Rattle.std.specs.Prelude.{◌≡◌, ℕ, ◌+◌, ◌<◌, nat_lt, if◌then◌else◌, List, length, Option, Some, None, unwrap_or, slice_index_or, slice_set}
+use Rattle.std.specs.Prelude.{◌≡◌, ℕ, ◌+◌, nat_lt, if◌then◌else◌, List, length, Option, Some, None, unwrap_or, slice_index_or, slice_set}
 use Rattle.std.specs.List.{position_or_len}
 use Rattle.bs_flat_meaning.specs.Reading.{is_id}
 
@@ -21,6 +21,6 @@ place_by_id ids id = position_or_len (is_id id) ids
 abbrev pub within : ℕ → ℕ → Option ℕ
 within count n = if nat_lt n count then Some n else None
 
--- a name that has a place in the table is that of the module there, and of none before
+-- a name has a place in the table where it is that of a module, and this is the first
 pub record ArePlaces (ids table : List (Option ℕ)) : Type 0 where
-  pub each : (id : ℕ) → id < length table → slice_index_or table id None ≡ within (length ids) (place_by_id ids id)
+  pub each : (id : ℕ) → slice_index_or table id None ≡ within (length ids) (place_by_id ids id)

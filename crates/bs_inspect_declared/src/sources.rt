@@ -1,17 +1,14 @@
-//! Which bits of which variables a clock and inputs are.
-ghost use Rattle.std.specs.Prelude.{◌≡◌, ◌++◌, ◌∷◌, [], map, option_map, slice_index_or, OnOk};
-ghost use Rattle.bs_bits.specs.Reading.{Answers};
-ghost use Rattle.bs_net_names.specs.Keys.{key_parts, parts_in};
-ghost use Rattle.bs_inspect_declared.specs.declared.fault.VcdFault.TheVariants.{NoMemory as Want};
+//! Which bit of which variable a name is, and the scope.
+ghost use Rattle.std.specs.Prelude.{◌≡◌, [], map, option_map, slice_index_or};
+ghost use Rattle.bs_net_names.specs.Keys.{parts_in};
 ghost use Rattle.bs_inspect_declared.specs.Header.{declared_in, shape_in, variable_in};
-ghost use Rattle.bs_inspect_declared.specs.Sources.{behind, first_path, input_at, inputs_behind, names_variable, is_local, lies_in, named_at, scope_of, source_at, source_named, source_here, source_if, source_in, source_of};
+ghost use Rattle.bs_inspect_declared.specs.Sources.{behind, first_path, names_variable, is_local, lies_in, named_at, scope_of, source_at, source_named, source_here, source_if, source_in, source_of};
 
-use crate::fault::VcdFault;
 use crate::header::{Declared, Variable};
 use crate::range::{Named, named_in};
 use crate::words::is_text;
-use bs_bits::{List, NoMemory};
-use bs_net_names::{KeyParts, key_parts, place_in, plain};
+use bs_bits::List;
+use bs_net_names::{KeyParts, place_in, plain};
 
 /// A bit of the variables with a code, by its place from the last character of their values.
 #[derive(Clone, Copy)]
@@ -60,7 +57,7 @@ pub fn path_of(paths: &List<List<u8>>, scope: usize) -> &[u8]
 }
 
 /// Whether a text begins with a path and a point, and goes on behind them.
-fn lies_in(outer: &[u8], text: &[u8]) -> bool
+pub fn lies_in(outer: &[u8], text: &[u8]) -> bool
     ensures { result ≡ lies_in outer.now text.now }
 {
     if outer.len() < text.len() {
@@ -71,7 +68,7 @@ fn lies_in(outer: &[u8], text: &[u8]) -> bool
 }
 
 /// What stands behind a path and a point.
-fn behind<'a>(outer: &[u8], text: &'a [u8]) -> &'a [u8]
+pub fn behind<'a>(outer: &[u8], text: &'a [u8]) -> &'a [u8]
     ensures { result.now ≡ behind outer.now text.now }
 {
     if outer.len() < text.len() {
@@ -119,7 +116,7 @@ fn source_named(
 }
 
 /// The bit of this name in the scope with a path, if it is one of the variable's.
-fn source_here(
+pub fn source_here(
     paths: &List<List<u8>>,
     path: &[u8],
     key: KeyParts<'_>,
@@ -183,49 +180,4 @@ pub fn scope_of<'a>(
         Some(path) => Some(path),
         None => first_path(&declared.paths, clock, declared.variables.as_slice()),
     }
-}
-
-/// The bit of an input.
-fn input_of(
-    declared: &Declared<'_>,
-    path: &[u8],
-    number: usize,
-    key: &[u8],
-) -> Result<Source, VcdFault>
-    ensures { Answers Want (λ source. source) result (input_at number (declared_in declared.now) path.now key.now) }
-{
-    match source_in(
-        &declared.paths,
-        path,
-        key_parts(key),
-        declared.variables.as_slice(),
-    ) {
-        Some(source) => Ok(source),
-        None => Err(VcdFault::NoInput(number as u64)),
-    }
-}
-
-/// Puts a source at the end.
-fn add_source(source: Source, into: &mut Vec<Source>) -> Result<(), NoMemory>
-    ensures { OnOk result (into.new.items ≡ into.old.items ++ source ∷ []) }
-{
-    into.push(source)?;
-    Ok(())
-}
-
-/// Puts the bit of each input behind others.
-#[tactic(auto, using(crate::proofs::SourceLemmas::input_more, crate::proofs::SourceLemmas::input_faulty, crate::proofs::SourceLemmas::inputs_none))]
-pub fn take_inputs(
-    declared: &Declared<'_>,
-    path: &[u8],
-    keys: &[&[u8]],
-    into: &mut Vec<Source>,
-) -> Result<(), VcdFault>
-    ensures { Answers Want (λ _. into.new.items) result (inputs_behind into.old.items 0 (declared_in declared.now) path.now (map (λ key. key.now) keys.now)) }
-{
-    'keys: for i in 0..keys.len() {
-        let source = input_of(declared, path, i, keys[i])?;
-        add_source(source, into)?;
-    }
-    Ok(())
 }

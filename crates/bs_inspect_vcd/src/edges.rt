@@ -66,7 +66,7 @@ pub fn sampling_of(
     let path = clock_scope(scope, clock, declared)?;
     let source = clock_source(declared, path, clock)?;
     let mut inputs = Vec::new(alloc);
-    take_inputs(declared, path, keys, &mut inputs)?;
+    take_inputs(alloc, declared, path, keys, &mut inputs)?;
     Ok(Sampling {
         clock: source,
         inputs,

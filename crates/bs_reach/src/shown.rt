@@ -23,6 +23,9 @@ use bs_reach_forced::Forced;
 use bs_reach_unrolled::{netlists_unroll, unrolled_clauses_are_executions};
 use std::alloc::Global;
 
+/// A search for an execution that is not logged has fewer lemmas than this.
+const MAX_LEMMAS: u64 = 2_000;
+
 /// Logs a length without a lemma, and answers the last id that is given then.
 fn log_trial(log: &mut Log, last: u64) -> Result<u64, NoMemory>
     ensures id { IfOk result (λ id. id ≡ last + 1) }
@@ -195,7 +198,8 @@ pub(crate) fn look_shown(
     requires other { reset_state (circuit net.now) ≢ state.now }
     ensures { IfOk result (λ o. IfSome o (IsReach (circuit net.now) state.now k b)) }
 {
-    let found = execution_of(alloc, net, encoding, state, c + 1, b)?;
+    let limit = if b < MAX_LEMMAS { b } else { MAX_LEMMAS };
+    let found = execution_of(alloc, net, encoding, state, c + 1, limit)?;
     match found {
         None => Ok(None),
         Some(execution) => tell_shown(alloc, net, encoding, forced, state, execution, c, k, b),

@@ -8,7 +8,7 @@ ghost use Rattle.bs_reach_forced.specs.Rows.{IsRow, AreRows, Adds};
 use crate::rows::{Row, copy_row, link_row, reset_row};
 use crate::template::{number_at, write};
 use bs_bits::{Bits, List};
-use bs_clause::{Clauses, Lit, NoMemory, is_same};
+use bs_clause::{Clauses, Lit, NoMemory};
 use bs_encode::Encoding;
 use std::alloc::Global;
 
@@ -60,75 +60,94 @@ fn row_by(
     Ok(Some(row))
 }
 
-/// The row that forces a literal.
-fn row_of(
-    alloc: Global,
-    encoding: &Encoding,
-    reset: &Bits,
-    reasons: &[u32],
-    k: u32,
-    l: Lit,
-) -> Result<Option<Row>, NoMemory>
-    requires unrollable { IsUnrollable encoding.now k }
-    requires width { length encoding.now.states ≡ length reset.now }
-    requires small { length encoding.now.clauses ≤ ROW_ROOM }
-    requires narrow { length encoding.now.states ≤ ROW_ROOM }
-    ensures { IfOk result (λ r. IfSome r (IsRow (unrolled encoding.now reset.now k))) }
-{
-    let variable = l.var().0;
-    let vars = encoding.vars();
-    let reason = number_at(reasons, variable as usize);
-    if vars == 0 || variable == 0 || reason == 0 {
-        return Ok(None);
-    }
-    let found = row_by(
-        alloc,
-        encoding,
-        reset,
-        k,
-        (variable - 1) / vars,
-        reason as usize - 1,
-        l.positive(),
-    )?;
-    Ok(found)
-}
-
-/// Whether the literal has its place.
-fn has(literals: &[Lit], places: &[u32], l: Lit) -> bool {
-    let at = number_at(places, l.var().0 as usize) as usize;
+/// Whether the literal of this code has its place.
+fn has(literals: &[Lit], places: &[u32], code: u32) -> bool {
+    let at = number_at(places, code as usize / 2) as usize;
     if at >= literals.len() {
         return false;
     }
-    is_same(literals[at], l)
+    literals[at].code() == code
 }
 
-/// Asks for what denies the other literals of a clause, where it has no place yet. Whether anything was asked for.
-fn ask(
+/// Asks for the literal of this code, where it has no place yet. Whether it was asked for.
+fn ask_for(
     literals: &[Lit],
     places: &[u32],
-    stack: &mut Vec<Lit>,
+    stack: &mut Vec<u32>,
+    code: u32,
+) -> Result<bool, NoMemory> {
+    if has(literals, places, code) {
+        return Ok(false);
+    }
+    stack.push(code)?;
+    Ok(true)
+}
+
+/// Asks for what denies the other literals of a clause whose codes are so much higher. Whether anything was asked for.
+fn ask_clause(
+    literals: &[Lit],
+    places: &[u32],
+    stack: &mut Vec<u32>,
     clause: &[Lit],
-    l: Lit,
+    by: u32,
+    code: u32,
 ) -> Result<bool, NoMemory> {
     let mut asked = false;
     for m in clause {
-        let other = m.negate();
-        if !is_same(*m, l) && !has(literals, places, other) {
-            stack.push(other)?;
+        let own = m.code().wrapping_add(by) == code;
+        let other = m.negate().code().wrapping_add(by);
+        if !own && ask_for(literals, places, stack, other)? {
             asked = true;
         }
     }
     Ok(asked)
 }
 
+/// Asks for what the reason of a literal in copy number `c` needs. Whether anything was asked for.
+fn ask(
+    encoding: &Encoding,
+    cone: &Cone,
+    places: &[u32],
+    stack: &mut Vec<u32>,
+    c: u32,
+    reason: usize,
+    code: u32,
+) -> Result<bool, NoMemory> {
+    let literals = cone.literals.as_slice();
+    let clauses = encoding.clauses().slice();
+    let step = encoding.vars().wrapping_mul(2);
+    if reason < clauses.len() {
+        let clause = clauses[reason].slice();
+        return ask_clause(literals, places, stack, clause, step.wrapping_mul(c), code);
+    }
+    let f = reason - clauses.len();
+    let next = encoding.next();
+    if c == 0 || f >= next.len() {
+        return Ok(false);
+    }
+    let positive = next[f].code() / 2 * 2;
+    let other = step.wrapping_mul(c - 1).wrapping_add(positive);
+    ask_for(literals, places, stack, other.wrapping_add(code % 2))
+}
+
 /// Notes for what denies the other literals of a clause that this clause needs it.
-fn note_later(later: &mut Vec<u32>, places: &[u32], clause: &[Lit], l: Lit, at: u32) {
+fn note_later(later: &mut Vec<u32>, places: &[u32], clause: &[Lit], code: u32, at: u32) {
     for m in clause {
-        if !is_same(*m, l) {
-            let place = number_at(places, m.var().0 as usize) as usize;
+        if m.code() != code {
+            let place = number_at(places, m.code() as usize / 2) as usize;
             write(later, place, at);
         }
     }
+}
+
+/// The literal of this code in a clause.
+fn literal_in(clause: &[Lit], code: u32) -> Option<Lit> {
+    for m in clause {
+        if m.code() == code {
+            return Some(*m);
+        }
+    }
+    None
 }
 
 /// Puts a row at the end.
@@ -142,70 +161,70 @@ fn add(cone: &mut Cone, l: Lit, row: Row, at: u32) -> Result<(), NoMemory>
     Ok(())
 }
 
-/// Gives a literal its place, with its row.
-fn place(cone: &mut Cone, places: &mut Vec<u32>, l: Lit, row: Row) -> Result<(), NoMemory>
+/// Gives the literal of this code its place, with its row.
+fn place(
+    cone: &mut Cone,
+    places: &mut Vec<u32>,
+    l: Lit,
+    code: u32,
+    row: Row,
+) -> Result<(), NoMemory>
     ensures { OnOk result (Adds cone.old cone.new row) }
 {
     let at = (cone.literals.len() % 0x1_0000_0000) as u32;
-    write(places, l.var().0 as usize, at);
+    write(places, code as usize / 2, at);
     note_later(
         &mut cone.later,
         places.as_slice(),
         row.clause.slice(),
-        l,
+        code,
         at,
     );
     add(cone, l, row, at)
 }
 
-/// Takes the last literal off.
-fn drop_last(stack: &mut Vec<Lit>) {
+/// Takes the last code off.
+fn drop_last(stack: &mut Vec<u32>) {
     let count = stack.len();
     if count > 0 {
         stack.truncate(count - 1);
     }
 }
 
-/// Asks for what a row needs, or gives its literal the place.
+/// Gives the literal of this code its place, where it stands in the row. Whether it does.
 fn settle(
     encoding: &Encoding,
     reset: &Bits,
     k: u32,
     cone: &mut Cone,
     places: &mut Vec<u32>,
-    stack: &mut Vec<Lit>,
-    l: Lit,
+    code: u32,
     row: Row,
-) -> Result<(), NoMemory>
+) -> Result<bool, NoMemory>
     requires row { IsRow (unrolled encoding.now reset.now k) row }
     requires rows { AreRows (unrolled encoding.now reset.now k) cone.old.ids cone.old.clauses }
-    ensures { OnOk result (AreRows (unrolled encoding.now reset.now k) cone.new.ids cone.new.clauses) }
+    ensures { IfOk result (λ _. AreRows (unrolled encoding.now reset.now k) cone.new.ids cone.new.clauses) }
 {
-    let asked = ask(
-        cone.literals.as_slice(),
-        places.as_slice(),
-        stack,
-        row.clause.slice(),
-        l,
-    )?;
-    if asked {
-        return Ok(());
+    match literal_in(row.clause.slice(), code) {
+        None => Ok(false),
+        Some(l) => {
+            place(cone, places, l, code, row)?;
+            Ok(true)
+        }
     }
-    drop_last(stack);
-    place(cone, places, l, row)
 }
 
-/// Looks at the literal that was asked for last. Whether there is a row for it.
-fn visit(
+/// Makes the row of a reason for a literal in copy number `c`. Whether there is one.
+fn take(
     alloc: Global,
     encoding: &Encoding,
     reset: &Bits,
-    reasons: &[u32],
     k: u32,
     cone: &mut Cone,
     places: &mut Vec<u32>,
-    stack: &mut Vec<Lit>,
-    l: Lit,
+    c: u32,
+    reason: usize,
+    code: u32,
 ) -> Result<bool, NoMemory>
     requires unrollable { IsUnrollable encoding.now k }
     requires width { length encoding.now.states ≡ length reset.now }
@@ -214,13 +233,51 @@ fn visit(
     requires rows { AreRows (unrolled encoding.now reset.now k) cone.old.ids cone.old.clauses }
     ensures { IfOk result (λ _. AreRows (unrolled encoding.now reset.now k) cone.new.ids cone.new.clauses) }
 {
-    match row_of(alloc, encoding, reset, reasons, k, l)? {
+    match row_by(alloc, encoding, reset, k, c, reason, code % 2 == 0)? {
         None => Ok(false),
-        Some(row) => {
-            settle(encoding, reset, k, cone, places, stack, l, row)?;
-            Ok(true)
-        }
+        Some(row) => settle(encoding, reset, k, cone, places, code, row),
     }
+}
+
+/// Looks at the literal of this code, which was asked for last. Whether there is a row for it.
+fn visit(
+    alloc: Global,
+    encoding: &Encoding,
+    reset: &Bits,
+    reasons: &[u32],
+    k: u32,
+    cone: &mut Cone,
+    places: &mut Vec<u32>,
+    stack: &mut Vec<u32>,
+    code: u32,
+) -> Result<bool, NoMemory>
+    requires unrollable { IsUnrollable encoding.now k }
+    requires width { length encoding.now.states ≡ length reset.now }
+    requires small { length encoding.now.clauses ≤ ROW_ROOM }
+    requires narrow { length encoding.now.states ≤ ROW_ROOM }
+    requires rows { AreRows (unrolled encoding.now reset.now k) cone.old.ids cone.old.clauses }
+    ensures { IfOk result (λ _. AreRows (unrolled encoding.now reset.now k) cone.new.ids cone.new.clauses) }
+{
+    let variable = code / 2;
+    let vars = encoding.vars();
+    let reason = number_at(reasons, variable as usize) as usize;
+    if vars == 0 || variable == 0 || reason == 0 {
+        return Ok(false);
+    }
+    let c = (variable - 1) / vars;
+    if ask(
+        encoding,
+        cone,
+        places.as_slice(),
+        stack,
+        c,
+        reason - 1,
+        code,
+    )? {
+        return Ok(true);
+    }
+    drop_last(stack);
+    take(alloc, encoding, reset, k, cone, places, c, reason - 1, code)
 }
 
 /// Looks at what is asked for until nothing is, or nothing forces it.
@@ -232,7 +289,7 @@ fn gather(
     k: u32,
     cone: &mut Cone,
     places: &mut Vec<u32>,
-    stack: &mut Vec<Lit>,
+    stack: &mut Vec<u32>,
 ) -> Result<(), NoMemory>
     requires unrollable { IsUnrollable encoding.now k }
     requires width { length encoding.now.states ≡ length reset.now }
@@ -246,20 +303,22 @@ fn gather(
         if count == 0 {
             return Ok(());
         }
-        let l = stack[count - 1];
-        if has(cone.literals.as_slice(), places.as_slice(), l) {
+        let code = stack[count - 1];
+        if has(cone.literals.as_slice(), places.as_slice(), code) {
             drop_last(stack);
-        } else if !visit(alloc, encoding, reset, reasons, k, cone, places, stack, l)? {
+        } else if !visit(
+            alloc, encoding, reset, reasons, k, cone, places, stack, code,
+        )? {
             return Ok(());
         }
     }
     Ok(())
 }
 
-/// A stack of one literal.
-fn stack_of(alloc: Global, l: Lit) -> Result<Vec<Lit>, NoMemory> {
+/// A stack of the code of one literal.
+fn stack_of(alloc: Global, l: Lit) -> Result<Vec<u32>, NoMemory> {
     let mut stack = Vec::new(alloc);
-    stack.push(l)?;
+    stack.push(l.code())?;
     Ok(stack)
 }
 

@@ -1,4 +1,6 @@
 //! What follows from reset in one copy after another, by the clauses of one copy.
+ghost use Rattle.std.specs.Prelude.{◌<◌, length};
+
 use crate::template::{Template, number_at, template_of, write, zeros};
 use bs_bits::Bits;
 use bs_clause::{Lit, Lits, NoMemory};
@@ -23,13 +25,19 @@ impl Forced {
     }
 }
 
-/// The values in a copy: 1 of a variable that is true, and 2 of one that is false.
+/// An estimate of a cone's size grows no further.
+const MOST_ROWS: u32 = 1 << 30;
+
+/// The values in a copy, 1 of a variable that is true and 2 of one that is false, each with an estimate of how many clauses it
+/// follows from; how many literals of each clause are false; and values with estimates of the state that the copy before leads to.
 #[derive(Drop)]
 struct Scene {
     values: Vec<u32>,
+    sizes: Vec<u32>,
     falses: Vec<u32>,
     trail: Vec<Lit>,
     present: Vec<u32>,
+    present_sizes: Vec<u32>,
 }
 
 /// The number of a sign.
@@ -46,6 +54,20 @@ fn value_of(values: &[u32], l: Lit) -> u32 {
     3u32.wrapping_sub(value)
 }
 
+/// The sum of two estimates.
+fn joined(size: u32, more: u32) -> u32 {
+    size.saturating_add(more).min(MOST_ROWS)
+}
+
+/// The estimate for a clause: what makes its literals false, each for itself, and the clause.
+fn size_of(sizes: &[u32], clause: &[Lit]) -> u32 {
+    let mut size = 1u32;
+    for l in clause {
+        size = joined(size, number_at(sizes, l.code() as usize / 2));
+    }
+    size
+}
+
 /// Makes a literal true for a reason.
 fn assign(
     scene: &mut Scene,
@@ -53,9 +75,11 @@ fn assign(
     base: usize,
     l: Lit,
     reason: usize,
+    size: u32,
 ) -> Result<(), NoMemory> {
     let variable = l.var().0 as usize;
     write(&mut scene.values, variable, number_of(l.positive()));
+    write(&mut scene.sizes, variable, size);
     write(
         reasons,
         base.wrapping_add(variable),
@@ -88,7 +112,10 @@ fn force(
     at: usize,
 ) -> Result<(), NoMemory> {
     match open_in(scene.values.as_slice(), clause) {
-        Some(l) => assign(scene, reasons, base, l, at),
+        Some(l) => {
+            let size = size_of(scene.sizes.as_slice(), clause);
+            assign(scene, reasons, base, l, at, size)
+        }
         None => Ok(()),
     }
 }
@@ -180,12 +207,14 @@ fn lay_state(
     if value == 0 || value_of(scene.values.as_slice(), state) != 0 {
         return Ok(());
     }
+    let size = joined(number_at(scene.present_sizes.as_slice(), f), 1);
     assign(
         scene,
         reasons,
         base,
         Lit::new(state.var(), value == 1),
         reason,
+        size,
     )
 }
 
@@ -208,6 +237,7 @@ fn clear(scene: &mut Scene) {
     for at in 0..scene.trail.len() {
         let variable = scene.trail[at].var().0 as usize;
         write(&mut scene.values, variable, 0);
+        write(&mut scene.sizes, variable, 0);
     }
     scene.trail.truncate(0);
     for at in 0..scene.falses.len() {
@@ -219,16 +249,15 @@ fn clear(scene: &mut Scene) {
 fn lead(scene: &mut Scene, next: &[Lit]) {
     for f in 0..next.len() {
         let value = value_of(scene.values.as_slice(), next[f]);
+        let size = number_at(scene.sizes.as_slice(), next[f].var().0 as usize);
         write(&mut scene.present, f, value);
+        write(&mut scene.present_sizes, f, size);
     }
 }
 
 /// Nothing forces so many more variables yet.
 fn widen(reasons: &mut Vec<u32>, vars: u32) -> Result<(), NoMemory> {
-    reasons.reserve(vars as usize)?;
-    for _ in 0..vars {
-        reasons.push(0)?;
-    }
+    reasons.resize(reasons.len().wrapping_add(vars as usize), 0)?;
     Ok(())
 }
 
@@ -250,12 +279,22 @@ fn add_copy(
     Ok(())
 }
 
-/// The last flip-flop that has another value than its bit of the state.
-fn last_denied(present: &[u32], state: &Bits) -> Option<u32> {
+/// Whether a flip-flop has another value than its bit of the state.
+fn is_denied(present: &[u32], state: &Bits, f: usize) -> bool
+    requires { f < length state.now }
+{
+    let value = number_at(present, f);
+    value != 0 && value != number_of(state.get(f))
+}
+
+/// The flip-flop that has another value than its bit of the state and follows from the fewest clauses, the last of these.
+fn best_denied(present: &[u32], sizes: &[u32], state: &Bits) -> Option<u32> {
     let mut found = None;
+    let mut least = MOST_ROWS;
     for f in 0..state.len() {
-        let value = number_at(present, f);
-        if value != 0 && value != number_of(state.get(f)) {
+        let size = number_at(sizes, f);
+        if size <= least && is_denied(present, state, f) {
+            least = size;
             found = Some((f % 0x1_0000_0000) as u32);
         }
     }
@@ -274,13 +313,17 @@ fn bits_of(alloc: Global, state: &Bits) -> Result<Vec<u32>, NoMemory> {
 /// A scene in which the flip-flops have the bits at reset and nothing else has a value.
 fn scene_at(alloc: Global, encoding: &Encoding, reset: &Bits) -> Result<Scene, NoMemory> {
     let present = bits_of(alloc, reset)?;
+    let present_sizes = zeros(alloc, reset.len())?;
     let values = zeros(alloc, encoding.vars() as usize + 1)?;
+    let sizes = zeros(alloc, encoding.vars() as usize + 1)?;
     let falses = zeros(alloc, encoding.clauses().len())?;
     Ok(Scene {
         values,
+        sizes,
         falses,
         trail: Vec::new(alloc),
         present,
+        present_sizes,
     })
 }
 
@@ -296,7 +339,11 @@ fn add_copies(
     for c in 0..k {
         let base = (c as usize).wrapping_mul(encoding.vars() as usize);
         add_copy(scene, &mut into.reasons, encoding, template, base)?;
-        match last_denied(scene.present.as_slice(), state) {
+        match best_denied(
+            scene.present.as_slice(),
+            scene.present_sizes.as_slice(),
+            state,
+        ) {
             Some(f) => into.denied.push(f)?,
             None => return Ok(()),
         }

@@ -4,4 +4,3 @@ pub mod Endings
 pub mod Startings
 pub mod Engines
 pub mod BudgetLemmas
-pub mod Rootings

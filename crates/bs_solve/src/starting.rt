@@ -52,13 +52,12 @@ fn add_all(
     Ok(())
 }
 
-/// Clauses in an arena, watched, and noted, and a place for each variable that stands on the trail, if that was looked for.
+/// Clauses in an arena, watched, and noted.
 #[derive(Drop)]
 pub struct Standing {
     pub watch: Watch,
     pub arena: Arena,
     pub stock: Stock,
-    pub places: Vec<u32>,
 }
 
 /// Clauses under the ids 1, 2, 3 and so on, over the variables 1 to `vars`, of which none has a value.
@@ -83,7 +82,6 @@ pub fn filled(alloc: Global, vars: u32, clauses: &[Lits]) -> Result<Standing, No
         watch,
         arena,
         stock,
-        places: Vec::new(alloc),
     })
 }
 

@@ -14,5 +14,4 @@ pub mod MarkWalks
 pub mod Ways
 pub mod Pointing
 pub mod Steps
-pub mod Forced
 pub mod CallerLemmas

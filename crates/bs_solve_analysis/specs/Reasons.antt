@@ -40,7 +40,3 @@ pub record AreSpared (clauses : List Held) (levels : List Level) (places : List 
 -- the place is below the first level
 pub record IsBelowLevels (levels : List Level) (at : ℕ) : Type 0 where
   pub below : (v : Level) → slice_get levels 0 ≡ Some v → at < v.start
-
--- a clause forced the literal in each place
-pub record AreAllForced (places : List Place) : Type 0 where
-  pub each : (k : ℕ) (p : Place) → slice_get places k ≡ Some p → is_some p.reason ≡ true

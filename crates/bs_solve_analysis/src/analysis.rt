@@ -1,11 +1,11 @@
 //! The walk from a false clause back along the trail, over the marks that are to come.
-ghost use Rattle.std.specs.Prelude.{◌≡◌, ◌⊎◌, ◌+◌, ◌-◌, ◌<◌, ◌≤◌, length, take, All, IfOk, Some, true, false};
+ghost use Rattle.std.specs.Prelude.{◌≡◌, ◌⊎◌, ◌+◌, ◌-◌, ◌<◌, ◌≤◌, length, take, All, IfOk, true, false};
 ghost use Rattle.bs_clause.specs.Literal.{negation};
 ghost use Rattle.bs_clause.specs.Range.{HasVariables};
 ghost use Rattle.bs_log.specs.Refusal.{has_distinct_variables};
 ghost use Rattle.bs_watch.specs.Trail.{IsQuiet};
 ghost use Rattle.bs_watch.specs.Places.{IsLiteralAt, literals_of};
-ghost use Rattle.bs_solve_analysis.specs.Reasons.{IsReasoned, IsConflictAt, AreSpared, AreAllForced, IsBelowLevels, live_clauses, last_start};
+ghost use Rattle.bs_solve_analysis.specs.Reasons.{IsReasoned, IsConflictAt, AreSpared, IsBelowLevels, live_clauses, last_start};
 ghost use Rattle.bs_solve_analysis.specs.Walk.{IsLearnt};
 ghost use Rattle.bs_solve_analysis.specs.Marks.{IsClear};
 ghost use Rattle.bs_solve_analysis.specs.Point.{IsLastDecision, IsFirstPoint, IsUnforced, IsReasonIn};
@@ -144,61 +144,6 @@ pub fn to_unforced(
     mark_clause(marks, watch, arena, conflict)?;
     let mut down = watch.trail().len();
     'walk: while goes_on(watch, down) {
-        down -= 1;
-        let pivot = literal_at(watch, down);
-        if marks.has(pivot) {
-            match reason_at(watch, down, pivot) {
-                Some(reason) => {
-                    trade(marks, watch, arena, &mut hints, reason, pivot)?;
-                }
-                None => {}
-            }
-        }
-    }
-    let lits = marked_lits(alloc, marks)?;
-    Ok(Learnt { lits, hints })
-}
-
-// The clause that forced the literal in a place of a trail where each has one.
-fn forced_by(watch: &Watch, at: usize, l: Lit) -> Ref
-    requires literal { IsLiteralAt watch.now.trail.places at l }
-    requires range { l.variable ≤ watch.now.trail.vars }
-    requires forced { AreAllForced watch.now.trail.places }
-    ensures { IsReasonIn watch.now.trail.places at (Some result) }
-{
-    reason_at(watch, at, l).unwrap()
-}
-
-/// Resolves the clause that forced the literal in a place of the trail with those that forced its others, down to the trail's
-/// first place: the lemma has no literal but this one, and follows from clauses alone.
-pub fn from_forced(
-    alloc: Global,
-    watch: &Watch,
-    arena: &Arena,
-    marks: &mut Marks,
-    at: usize,
-    l: Lit,
-) -> Result<Learnt, NoMemory>
-    requires reasoned { IsReasoned arena.now.clauses watch.now.trail.places }
-    requires forced { AreAllForced watch.now.trail.places }
-    requires range { All (HasVariables watch.now.trail.vars) (live_clauses arena.now.clauses) }
-    requires distinct { All (λ c. has_distinct_variables c ≡ true)
-        (live_clauses arena.now.clauses) }
-    requires literal { IsLiteralAt watch.now.trail.places at l }
-    requires within { l.variable ≤ watch.now.trail.vars }
-    requires clear { IsClear (watch.now.trail.vars + 1) marks.old }
-    ensures learnt { IfOk result (λ r. IsLearnt arena.now.clauses r.lits r.hints.items) }
-    ensures only { IfOk result (λ r. All (λ m. m ≡ l) r.lits) }
-    ensures clear { IfOk result (λ _. IsClear (watch.now.trail.vars + 1) marks.new) }
-{
-    watch.holds_levels();
-    let mut hints = Vec::new(alloc);
-    let first = forced_by(watch, at, l);
-    hints.push(first)?;
-    marks.add(l)?;
-    mark_clause(marks, watch, arena, first)?;
-    let mut down = at;
-    'walk: while down > 0 {
         down -= 1;
         let pivot = literal_at(watch, down);
         if marks.has(pivot) {

@@ -4,7 +4,7 @@
 //! place of its literal), `analysis` (the walks back along the trail), `law`. Used above:
 //! `first_point` and `to_unforced` answer a lemma that is the resolvent of its hints, right by them
 //! however their literals are ordered; the first stops at the first unique implication point of the
-//! last level. `from_forced` says why a literal follows from clauses alone. `proofs/CallerLemmas` says what keeps a trail's reasons right.
+//! last level. `proofs/CallerLemmas` says what keeps a trail's reasons right.
 #![tactic(auto)]
 
 mod analysis;
@@ -12,6 +12,6 @@ mod law;
 mod marking;
 mod marks;
 
-pub use analysis::{Learnt, first_point, from_forced, to_unforced};
+pub use analysis::{Learnt, first_point, to_unforced};
 pub use law::{analysis_makes_chains, reasons_make_hints};
 pub use marks::Marks;

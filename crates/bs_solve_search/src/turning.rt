@@ -35,8 +35,8 @@ fn is_full(watch: &Watch) -> bool
     watch.trail().len() == watch.vars() as usize
 }
 
-// Gives the open variable that comes first the value that it had last, on a new level. Whether there was one. A full trail is not
-// searched.
+// Makes the preferred literal of the open variable that comes first true, on a new level. Whether there was one. A full trail is
+// not searched.
 fn decide(watch: &mut Watch) -> bool
     requires few { length watch.old.levels ≤ length watch.old.trail.places + 1 }
     requires bound { watch.old.trail.vars < 2 ^ 30 }
@@ -50,8 +50,8 @@ fn decide(watch: &mut Watch) -> bool
         None => false,
         Some(variable) => {
             watch.decide();
-            let phase = watch.phase(variable);
-            watch.assign(Lit::new(variable, phase), None);
+            let literal = watch.preferred(variable);
+            watch.assign(literal, None);
             true
         }
     }

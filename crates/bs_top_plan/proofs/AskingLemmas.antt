@@ -192,7 +192,7 @@ file_goes {R} allows told told' before now file name call (Err (S.Refused other 
     long_of f = refused_in R (List ℕ) f (exactly (codes "TooLong"))
 
 -- why the bytes are refused
-reason_of : {R V : Type 0} (r : Result V (Reason R)) (P : Reason R → Type 0) → MatchResult r (λ _. ⊥) P → (reason : Reason R) × P reason × (r ≡ Err reason)
+pub reason_of : {R V : Type 0} (r : Result V (Reason R)) (P : Reason R → Type 0) → MatchResult r (λ _. ⊥) P → (reason : Reason R) × P reason × (r ≡ Err reason)
 reason_of (Ok v) P h = absurd h
 reason_of (Err reason) P h = (reason, h, refl)
 

@@ -137,7 +137,7 @@ next_some {R} {A} {B} w (Some bytes) go on a z h step = by (nat_lt (limit_of w.f
     by true e = absurd (wrong e)
     by false e = step bytes e
 
-some_same : (R A : Type 0) (x y : A) → Some (ready_in R A x) ≡ Some (ready_in R A y) → x ≡ y
+pub some_same : (R A : Type 0) (x y : A) → Some (ready_in R A x) ≡ Some (ready_in R A y) → x ≡ y
 some_same R A x y e = cc
 
 -- a part that comes to a value goes on from it

@@ -5,6 +5,7 @@ use Rattle.std.proofs.lemmas.List.{append-nil, length-append, length-take, lengt
 use Rattle.std.proofs.Math.Seq.{take-add}
 use Rattle.bs_outside.specs.Calls.{PutCall, put_call, InTurn}
 use Rattle.bs_outside.specs.Putting.{PutsAll, PutsSome}
+use Rattle.bs_outside.proofs.WriteLemmas.{appends_then}
 use Rattle.bs_outside.specs.declared.sink.Put.TheVariants.{Done, Failed}
 use Rattle.bs_top_plan.specs.declared.status.Status.{Status}
 use Rattle.bs_top_plan.specs.declared.status.Status.TheVariants.{WriteFault}
@@ -19,12 +20,6 @@ appends_none (Some xs) = sym (append-nil xs)
 pub keeps_same : (w : Option (List ℕ)) → Keeps w w
 keeps_same None = tt
 keeps_same (Some xs) = refl
-
-pub appends_then : (u v w : Option (List ℕ)) (xs ys : List ℕ) → Appends u v xs → Appends v w ys → Appends u w (xs ++ ys)
-appends_then None v w xs ys h k = tt
-appends_then (Some a) None w xs ys h k = absurd h
-appends_then (Some a) (Some b) None xs ys h k = absurd k
-appends_then (Some a) (Some b) (Some d) xs ys h k = k ∙ ap (λ (l : List ℕ). l ++ ys) h ∙ append_assoc a xs ys
 
 -- so far the front of the text went out, and no fault was counted
 pub record HasPut (text : List ℕ) (written_before written_now : Option (List ℕ)) (faults_before faults_now at : ℕ) : Type 0 where

@@ -3,7 +3,7 @@ use Rattle.std.proofs.Common.{◌≡◌, inl, inr, ℕ, ◌<◌, ◌≤◌, List
 use Rattle.std.proofs.Common.{◌∙◌, ap, subst, arith, Vec}
 use Rattle.std.proofs.lemmas.Bool.{le-ltb, lt-ltb, false≢true}
 use Rattle.std.proofs.lemmas.List.{length-take}
-use Rattle.std.specs.Prelude.{IfSome, IsSome, MatchResult}
+use Rattle.std.specs.Prelude.{IfSome, IsSome}
 use Rattle.std.specs.Io.{StartsWith, appended_bytes}
 use Rattle.std.specs.declared.alloc.Global.{Global}
 use Rattle.bs_outside.specs.Calls.{FetchCall}
@@ -25,7 +25,7 @@ use Rattle.bs_top_plan.specs.Plan.{AllTold, read_as, Outcome, ready, refused, fa
 use Rattle.bs_top_plan.specs.Asking.{AsksFor, CallTo}
 use Rattle.bs_top_plan.specs.Walks.{IsSame, IsLater, IsTooLong, ComesTo, FetchedTo, WalksTo, Walks, WalksAlone, Reads, settled}
 use Rattle.bs_top_plan.proofs.Plans.{ends_along, ends_then, ends_refused, ends_faulted}
-use Rattle.bs_top_plan.proofs.AskingLemmas.{in_turn_then, file_goes, read_goes, stop_goes, then_goes, goes_as, texts_ask_nothing, alone_goes}
+use Rattle.bs_top_plan.proofs.AskingLemmas.{in_turn_then, file_goes, read_goes, stop_goes, then_goes, goes_as, texts_ask_nothing, alone_goes, reason_of}
 
 if_some_weaker : (told : Option (List ℕ)) (P Q : List ℕ → Type 0) → ((all : List ℕ) → P all → Q all) → IfSome told P → IfSome told Q
 if_some_weaker None P Q step h = h
@@ -112,11 +112,6 @@ fetch_walks {R} {allows} {S} {held} {faults} {leads} {before} {now} {file} {name
 }
 
 -- ---- readers
-
--- why the bytes are refused
-reason_of : {R V : Type 0} (r : Result V (Reason R)) (P : Reason R → Type 0) → MatchResult r (λ _. ⊥) P → (reason : Reason R) × P reason × (r ≡ Err reason)
-reason_of (Ok v) P h = absurd h
-reason_of (Err reason) P h = (reason, h, refl)
 
 reads_to : {R T V : Type 0} (allows : R → List ℕ → Type 0) (told : Tells) (before : Counts) (file : File) (wanted : Result V (Reason R)) (view : T →
     V) (r : Result T Refusal) → Reads allows view wanted r → WalksTo allows told told before before (read_as file wanted) view (settled file r)

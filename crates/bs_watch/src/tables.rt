@@ -1,5 +1,5 @@
 //! The tables of a trail: values by literal code, causes by variable.
-ghost use Rattle.std.specs.Prelude.{◌≡◌, ◌-◌, ◌+◌, ◌<◌, ◌≤◌, [], ◌∷◌, ◌++◌, false, length, replicate, slice_set, vec_len, vec_capacity, IfOk, OnOk};
+ghost use Rattle.std.specs.Prelude.{◌≡◌, ◌-◌, ◌+◌, ◌<◌, ◌≤◌, [], ◌∷◌, ◌++◌, true, false, length, replicate, slice_set, vec_len, vec_capacity, IfOk, OnOk};
 ghost use Rattle.bs_clause.specs.Literal.{code_of};
 ghost use Rattle.bs_watch.specs.Tables.{no_cause};
 
@@ -27,13 +27,14 @@ pub fn no_causes(alloc: Global, count: usize) -> Result<Vec<Cause>, NoMemory>
     Ok(causes)
 }
 
-/// Notes the value under which a literal is true, by variable, if there is a place for it.
-pub fn note_phase(phases: &mut Vec<bool>, l: Lit)
-    ensures { l.variable < length phases.old.items →
+/// Notes the value under which a literal is true, by variable, if it is to be kept and there is a place for it.
+pub fn note_phase(phases: &mut Vec<bool>, l: Lit, is_kept: bool)
+    ensures kept { is_kept ≡ true → l.variable < length phases.old.items →
         phases.new.items ≡ slice_set phases.old.items l.variable l.positive }
+    ensures left { is_kept ≡ false → phases.new.items ≡ phases.old.items }
 {
     let at = l.var().0 as usize;
-    if at < phases.len() {
+    if is_kept && at < phases.len() {
         phases[at] = l.positive();
     }
 }

@@ -1,7 +1,7 @@
 //! The trail: the literals that are true, the oldest first, each with its reason and its level.
 ghost use Rattle.std.specs.Prelude.{◌≡◌, ◌↔◌, ◌-◌, ◌+◌, ◌*◌, ◌^◌, ◌<◌, ◌≤◌, [], ◌∷◌, ◌++◌, false, length, map, take, replicate, slice_get, slice_set};
 ghost use Rattle.std.specs.Prelude.{vec_len, vec_capacity, Option, Some, None, IfOk, IfSome, IfNone, IsTrue, OnOk, OnErr};
-ghost use Rattle.bs_clause.specs.Literal.{code_of};
+ghost use Rattle.bs_clause.specs.Literal.{IsVariable, code_of};
 ghost use Rattle.bs_clause.specs.Range.{HasVariables};
 ghost use Rattle.bs_watch.specs.Trail.{IsTrueOn, IsFalseOn, IsOpenOn, IsAssignedOn, IsValueOn, IsOpenVariable, AreAssignedBelow};
 ghost use Rattle.bs_watch.specs.Places.{IsUnassigned, IsLevelOf, IsForcedBy, HasNoReason, IsLiteralAt, AreApart, literals_of, renamed_place, with_place};
@@ -21,7 +21,7 @@ use std::alloc::Global;
 use std::marker::Model;
 
 /// The literals that are true, in the order in which they were assigned, over the variables 1 to
-/// `vars`. Values stand by literal code, causes and last values by variable. From a search's first
+/// `vars`. Values stand by literal code, causes and phases by variable. From a search's first
 /// decision until its trail goes back below the first level, each variable without a value waits in
 /// the order of decisions.
 #[derive(Drop)]
@@ -182,8 +182,17 @@ impl Trail {
         first
     }
 
-    /// The last value of a variable that has none, or false. Nothing that a contract sees tells it.
-    pub fn phase(&self, variable: Var) -> bool {
+    /// The literal of a variable that was true when a return to a level opened the variable last, or else the negative one.
+    /// Which of the two it is decides nothing that a contract sees.
+    pub fn preferred(&self, variable: Var) -> Lit
+        requires { IsVariable variable.0 }
+        ensures { result.variable ≡ variable.0 }
+    {
+        Lit::new(variable, self.phase(variable))
+    }
+
+    // The value that a return to a level took from a variable last, or false.
+    fn phase(&self, variable: Var) -> bool {
         match self.phases.get(variable.0 as usize) {
             Some(phase) => *phase,
             None => false,
@@ -243,7 +252,7 @@ impl Trail {
         let last = self.literals.len() - 1;
         let literal = self.literals[last];
         set_value(&mut self.values, literal, false);
-        note_phase(&mut self.phases, literal);
+        note_phase(&mut self.phases, literal, self.is_ordered);
         self.literals.truncate(last);
         put_back(&mut self.order, self.is_ordered, literal.var());
     }

@@ -3,6 +3,7 @@ ghost use Rattle.std.specs.Prelude.{◌≡◌, ◌+◌, ◌*◌, ◌^◌, ◌<�
 ghost use Rattle.bs_watch.specs.Trail.{IsAssignedOn, IsValueOn, IsOpenVariable, AreAssignedBelow};
 ghost use Rattle.bs_watch.specs.Places.{IsUnassigned, IsLevelOf, IsForcedBy, HasNoReason, AreApart, literals_of};
 ghost use Rattle.bs_watch.specs.Scene.{IsWatchable, Advances, Propagated, KeepsRoom};
+ghost use Rattle.bs_clause.specs.Literal.{IsVariable};
 ghost use Rattle.bs_clause.specs.Range.{HasVariables};
 ghost use Rattle.bs_watch.specs.Choice.{AreHighest};
 ghost use Rattle.bs_watch.specs.Passing.{ArePassed};
@@ -222,9 +223,13 @@ impl Watch {
         self.trail.first_open()
     }
 
-    /// The last value of a variable that has none, or false. Nothing that a contract sees tells it.
-    pub fn phase(&self, variable: Var) -> bool {
-        self.trail.phase(variable)
+    /// The literal of a variable that was true when a return to a level opened the variable last, or else the negative one. A
+    /// return to what stands for good is none to a level. Which of the two it is decides nothing that a contract sees.
+    pub fn preferred(&self, variable: Var) -> Lit
+        requires { IsVariable variable.0 }
+        ensures { result.variable ≡ variable.0 }
+    {
+        self.trail.preferred(variable)
     }
 
     /// A variable had a part in a conflict: it comes earlier in the order of decisions. Nothing that a contract sees changes.

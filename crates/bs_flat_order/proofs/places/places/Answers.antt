@@ -1,5 +1,7 @@
-use Rattle.std.proofs.Common.{◌≡◌, ◌∙◌, ℕ, List, Option, None, length, subst, sym, ap, arith}
+use Rattle.std.proofs.Common.{◌≡◌, ◌∙◌, ℕ, ◌≤◌, List, Option, None, length, subst, sym, ap, arith}
 use Rattle.std.proofs.lemmas.List.{length-replicate}
+use Rattle.std.specs.List.{All}
+use Rattle.bs_flat_order.specs.Places.{past}
 use Rattle.bs_flat_order.proofs.PlaceLemmas.{ArePlacesOf, places_none, places_more, places_all}
 use Rattle.bs_flat_order.proofs.places.places.Goals as goal
 
@@ -20,4 +22,7 @@ ids-preserved c =
 
 pub returns : goal.returns
 returns c =
-    places_all c.args.ids.now c.ids.table.items (length c.in_ok-table.table.items) c.ids.place (omega (arith, c.ids-test.false)) (omega arith) c.ids.invariant
+    let none : Option ℕ = None in
+    let wide : length c.in_ok-table.table.items ≡ c.bound.result = ap (λ (t : List (Option ℕ)). length t) c.in_ok-table.ensures ∙ length-replicate c.bound.result none in
+    places_all c.args.ids.now c.ids.table.items (length c.in_ok-table.table.items) c.ids.place (omega (arith, c.ids-test.false)) (omega arith)
+    (subst (λ n. All (λ o. past o ≤ n) c.args.ids.now) (sym wide) c.bound.ensures) c.ids.invariant

@@ -1,5 +1,4 @@
 use Rattle.std.proofs.Common.{◌≡◌, ◌≤◌, false, length, None, refl, ap, ◌∙◌, sym, subst}
-use Rattle.bs_clause.specs.Literal.{Literal}
 use Rattle.bs_watch.specs.Places.{IsUnassigned}
 use Rattle.bs_watch.specs.Watch.{WatchState, Serves, decided, assigned}
 use Rattle.bs_solve_search.proofs.Refutings.{all_assigned, level_room, open_literal}
@@ -16,18 +15,18 @@ pub assign-requires : goal.assign-requires
 assign-requires c =
     let trail : c.decide.new.self.trail ≡ c.args.watch.now.trail =
     ap (λ (w : WatchState). w.trail) c.decide.ensures.new ∙ ap (λ (w : WatchState). w.trail) c.in-Some.ensures.same in
-    subst (λ t. IsUnassigned t c.new.result) (sym trail) (open_literal c.args.watch.now.trail c.in-Some.variable.0 c.new.result c.in-Some.ensures.some
-    (ap (λ (l : Literal). l.variable) c.new.ensures))
+    subst (λ t. IsUnassigned t c.preferred-literal.result) (sym trail) (open_literal c.args.watch.now.trail c.in-Some.variable.0 c.preferred-literal.result c.in-Some.ensures.some
+    c.preferred-literal.ensures)
 
 pub returns-in-None : goal.returns-in-None
 returns-in-None c = (c.in-None.ensures.same, all_assigned c.args.watch.now c.in-None.ensures.none)
 
 pub returns-in-Some : goal.returns-in-Some
 returns-in-Some c = record {
-  literal = c.new.result;
-  free = open_literal c.args.watch.now.trail c.in-Some.variable.0 c.new.result c.in-Some.ensures.some
-      (ap (λ (l : Literal). l.variable) c.new.ensures);
-  is = c.assign.ensures.new ∙ ap (λ w. assigned w c.new.result None) (c.decide.ensures.new ∙ ap decided c.in-Some.ensures.same);
+  literal = c.preferred-literal.result;
+  free = open_literal c.args.watch.now.trail c.in-Some.variable.0 c.preferred-literal.result c.in-Some.ensures.some
+      c.preferred-literal.ensures;
+  is = c.assign.ensures.new ∙ ap (λ w. assigned w c.preferred-literal.result None) (c.decide.ensures.new ∙ ap decided c.in-Some.ensures.same);
   serves = record {
     keeps = λ clauses s. c.assign.ensures.serves.keeps clauses (c.decide.ensures.serves.keeps clauses
         (subst (λ w. Serves w clauses) (sym c.in-Some.ensures.same) s));

@@ -1,0 +1,2 @@
+-- what inner functions promise each other
+pub mod Search

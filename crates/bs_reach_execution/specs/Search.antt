@@ -1,0 +1,13 @@
+-- A solver that was just made.
+use Rattle.std.specs.Prelude.{◌≡◌, ◌<◌, ◌^◌, ◌+◌, ℕ, [], false}
+use Rattle.bs_solve_recording.specs.declared.stage.Stage.TheVariants.{Idle}
+use Rattle.bs_solve_recording.specs.Solver.{SolverState}
+
+-- it is over so many variables, and has no line yet
+pub record IsFresh (s : SolverState) (vars : ℕ) : Type 0 where
+  pub vars_are : s.vars ≡ vars
+  pub own : s.book.problem.vars ≡ vars
+  pub lines : s.book.history ≡ []
+  pub idle : s.stage ≡ Idle
+  pub well : s.failed ≡ false
+  pub room : vars + 1 < 2 ^ 30
