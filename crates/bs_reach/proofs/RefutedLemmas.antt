@@ -142,7 +142,7 @@ module _ (e : Encoded) (reset p : List Bool) (k b : ℕ) (u : IsUnrollable e k) 
       ap (length_assumes e k p) (let z : 1 + c ≡ c + 1 = omega arith in z)
 
   -- the assumptions of the length behind
-  next : ℕ → Clause
+  abbrev next : ℕ → Clause
   next c = length_assumes e k p (1 + c)
 
   -- one more step to come
