@@ -1,5 +1,5 @@
 -- The one solve of a solver that was just made.
-use Rattle.std.proofs.Common.{◌≡◌, ◌≤◌, ◌<◌, ◌+◌, ◌∷◌, ℕ, [], arith, ap, sym, subst, ◌∙◌, inl, inr, List, Bool, Option, true, false, length, refl}
+use Rattle.std.proofs.Common.{◌≡◌, ◌≤◌, ◌+◌, ◌∷◌, ℕ, [], arith, ap, sym, subst, ◌∙◌, List, Bool, Option, false, length}
 use Rattle.std.proofs.lemmas.List.Elements.{All-cons, All-nil}
 use Rattle.bs_clause.specs.Literal.{Clause, Literal}
 use Rattle.bs_clause.specs.Range.{HasVariables, IsWithin}
