@@ -1,5 +1,6 @@
 -- The one solve of a solver that was just made.
-use Rattle.std.proofs.Common.{◌≡◌, ◌≤◌, ◌<◌, ◌+◌, ◌∷◌, ℕ, [], arith, ap, sym, subst, ◌∙◌, inl, inr, List, Bool, Option, true, false, length, refl}
+use Rattle.std.proofs.Common.{◌≡◌, ◌≤◌, ◌+◌, ◌∷◌, ℕ, [], arith, ap, sym, subst, ◌∙◌, List, Bool, Option, false, length}
+use Rattle.std.proofs.lemmas.List.Elements.{All-cons, All-nil}
 use Rattle.bs_clause.specs.Literal.{Clause, Literal}
 use Rattle.bs_clause.specs.Range.{HasVariables, IsWithin}
 use Rattle.bs_log.specs.History.{guard_of, step_of, History, Problem}
@@ -20,8 +21,9 @@ pub guard_within : (s s1 : SolverState) (guard : Literal) (a : Clause) → IsFre
 guard_within s s1 guard a fresh start is are =
     subst (HasVariables s1.vars) (sym are) (subst (λ (l : Literal). HasVariables s1.vars (l ∷ [])) (sym is)
     (subst (λ (t : SolverState). HasVariables t.vars (guard_of s.book.problem (step_of s.book.history) ∷ [])) (sym start)
-    (All-one (IsWithin (s.vars + 1)) (guard_of s.book.problem (step_of s.book.history))
-    (let e = guard_variable s.book.problem s.vars s.book.history fresh.own fresh.lines in (omega (arith, e), omega (arith, e))))))
+    (All-cons (IsWithin (s.vars + 1)) (guard_of s.book.problem (step_of s.book.history)) []
+    (let e = guard_variable s.book.problem s.vars s.book.history fresh.own fresh.lines in (omega (arith, e), omega (arith, e)))
+    (All-nil (IsWithin (s.vars + 1))))))
 
 pub values_reach : (s s1 s2 : SolverState) (a : Clause) (limit : ℕ) (values : List (Option Bool)) → s1 ≡ begun s →
     HasSolved s1 s2 a limit (answers.Found values) → s.vars ≤ length values

@@ -1,5 +1,5 @@
 -- The states under some inputs.
-use Rattle.std.proofs.Common.{◌≡◌, ◌≤◌, ◌<◌, ◌+◌, ◌∷◌, ℕ, zero, suc, [], arith, ap, sym, subst, ◌∙◌, List, Bool, Option, Some, map, length, refl, get_or, unwrap_or, zero-add}
+use Rattle.std.proofs.Common.{◌≡◌, ◌<◌, ◌+◌, ℕ, zero, suc, [], arith, ap, sym, ◌∙◌, List, Bool, Option, Some, map, length, get_or, unwrap_or, zero-add}
 use Rattle.std.specs.Prelude.{slice_get, All}
 use Rattle.std.specs.List.{range_with_len}
 use Rattle.bs_watch.proofs.Gets.{get_map}

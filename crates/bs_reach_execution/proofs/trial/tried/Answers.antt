@@ -1,4 +1,4 @@
-use Rattle.std.proofs.Common.{◌≡◌, ◌≤◌, ◌<◌, List, Bool, length, subst, arith}
+use Rattle.std.proofs.Common.{◌≡◌, List, Bool, length, subst, arith}
 use Rattle.std.specs.Prelude.{All}
 use Rattle.bs_net.specs.Netlist.{circuit}
 use Rattle.bs_reach_execution.proofs.TrialLemmas.{is_execution}
