@@ -33,7 +33,7 @@ is_execution c n p states inputs count widths are last =
     let at : slice_get states n ≡ Some (state_at c inputs n) =
     ap (λ (ss : List (List Bool)). slice_get ss n) are_n
     ∙ get_map (state_at c inputs) (range_with_len 0 (n + 1)) n n
-        (range_get 0 (n + 1) n (omega arith) ∙ ap (λ m. Some m) (zero-add n)) in
+    (range_get 0 (n + 1) n (omega arith) ∙ ap (λ m. Some m) (zero-add n)) in
     record {
       count = count;
       widths = widths;
