@@ -232,17 +232,27 @@ fn lay_states(
     Ok(())
 }
 
+/// Variables are open again.
+fn open_all(literals: &[Lit], values: &mut Vec<u32>, sizes: &mut Vec<u32>) {
+    for l in literals {
+        let variable = l.var().0 as usize;
+        write(values, variable, 0);
+        write(sizes, variable, 0);
+    }
+}
+
+/// All numbers are 0 again.
+fn zero_all(numbers: &mut Vec<u32>) {
+    for at in 0..numbers.len() {
+        write(numbers, at, 0);
+    }
+}
+
 /// The variables of the copy before are open again.
 fn clear(scene: &mut Scene) {
-    for at in 0..scene.trail.len() {
-        let variable = scene.trail[at].var().0 as usize;
-        write(&mut scene.values, variable, 0);
-        write(&mut scene.sizes, variable, 0);
-    }
+    open_all(scene.trail.as_slice(), &mut scene.values, &mut scene.sizes);
     scene.trail.truncate(0);
-    for at in 0..scene.falses.len() {
-        write(&mut scene.falses, at, 0);
-    }
+    zero_all(&mut scene.falses);
 }
 
 /// What the copy leads to.
