@@ -1,24 +1,23 @@
 -- One more length that a lemma refutes.
 use Rattle.std.proofs.Common.{◌≡◌, ℕ, zero, suc, ◌+◌, ◌-◌, ◌*◌, ◌^◌, ◌<◌, ◌≤◌, arith, Bool, true, false, not, ◌||◌, ◌&&◌, List, [], ◌∷◌, ◌++◌, map, length, reverse}
-use Rattle.std.proofs.Common.{refl, sym, ap, subst, ◌∙◌, inl, inr, ◌⊎◌, Option, Some, None, unwrap_or, cond, leb}
-use Rattle.std.specs.Prelude.{All, Any, Contains, slice_get, IsTrue, option_map, nat_le, nat_lt}
-use Rattle.std.specs.List.{AllByRecursion, range_with_len, filter, cons_option, list_any}
+use Rattle.std.proofs.Common.{refl, sym, ap, subst, ◌∙◌, inl, inr, Option, Some, None, unwrap_or, cond, leb}
+use Rattle.std.specs.Prelude.{Any, Contains, slice_get, option_map, nat_le, nat_lt}
+use Rattle.std.specs.List.{AllByRecursion, range_with_len, filter, cons_option}
 use Rattle.std.proofs.lemmas.Bool.{or_right, and_from, false≢true, le-leb, le-ltb}
 use Rattle.std.proofs.lemmas.List.{reverse-append, length-map, map-append}
 use Rattle.std.proofs.lemmas.List.Elements.{All-contains, recursion_from_All}
 use Rattle.bs_bits.proofs.RangeLemmas.{range_more}
-use Rattle.bs_clause.specs.Literal.{Literal, Clause, negation}
+use Rattle.bs_clause.specs.Literal.{Clause, negation}
 use Rattle.bs_clause.specs.Range.{IsWithin, HasVariables}
 use Rattle.bs_log.specs.declared.line.Line.{Line}
 use Rattle.bs_log.specs.declared.line.Line.TheVariants.{Solve, Lemma, Finish, Retire}
-use Rattle.bs_log.specs.declared.origin.Origin.TheVariants.{Axiom, Learnt, Retired}
+use Rattle.bs_log.specs.declared.origin.Origin.TheVariants.{Learnt, Retired}
 use Rattle.bs_log.specs.History.{Problem, History, Entry, axioms_from, is_deleted, live, state_of, phase_of, step_of, guard_of}
 use Rattle.bs_log.specs.Refusal.{assumptions_of, denies, entry_of, clauses_of, passes, is_lemma, is_lemma_or_block, in_order, is_between_steps, is_after_block}
 use Rattle.bs_log.specs.Kept.{is_kept, is_free_lemma, has_retired_guard, is_long, newer_long}
 use Rattle.bs_log.specs.Lean.{StepsLeaveKept}
 use Rattle.bs_log.specs.LineForms.{HasVariable}
 use Rattle.bs_log.proofs.Histories.{same_live, with_step}
-use Rattle.bs_solve_reduction.specs.Rows.{going}
 use Rattle.bs_solve_reduction.proofs.Deletions.{nothing_leaves_kept}
 use Rattle.bs_solve_analysis.proofs.Clauses.{nothing_in, contains_cases, contains_first, cons_contains, all_from, map_contains}
 use Rattle.bs_solve_recording.specs.Book.{Book, IsRecorded, lemma_ids, with_line, with_lemma}
@@ -31,11 +30,10 @@ use Rattle.bs_solve.specs.declared.denying.Denial.{Denial}
 use Rattle.bs_solve.specs.Denying.{Denies}
 use Rattle.bs_solve.proofs.Startings.{axiom_clauses}
 use Rattle.bs_encode.specs.Encoded.{Encoded}
-use Rattle.bs_reach_unrolled.specs.declared.limits.TheConstants.{MAX_COPY_VARIABLES}
 use Rattle.bs_reach_unrolled.specs.Unrolled.{unrolled, length_assumes}
 use Rattle.bs_reach_unrolled.specs.Room.{IsUnrollable}
 use Rattle.bs_reach_unrolled.proofs.UnrolledLemmas.{unrolled_range}
-use Rattle.bs_watch.proofs.Gets.{get_map, none_is_not_some}
+use Rattle.bs_watch.proofs.Gets.{get_map}
 use Rattle.bs_reach.specs.Search.{problem_over}
 use Rattle.bs_reach.specs.Refuted.{step_lines, trial_lines, IsPlain, AreTried, AreRefuted, IsLogOfLengths}
 

@@ -1,13 +1,13 @@
 -- A log of lengths that lemmas refute is an answer.
-use Rattle.std.proofs.Common.{◌≡◌, ◌≢◌, ℕ, ◌+◌, ◌*◌, ◌≤◌, arith, true, false, Bool, List, [], ◌∷◌, map, length, reverse, refl, sym, ap, subst, ◌∙◌, Option, Some, None}
-use Rattle.std.specs.Prelude.{All, IfSome, IsTrue, ◌&&◌, ◌==◌}
+use Rattle.std.proofs.Common.{◌≡◌, ◌≢◌, ℕ, ◌+◌, ◌*◌, false, Bool, List, [], map, length, reverse, refl, sym, ap, subst, ◌∙◌, Option, Some, None}
+use Rattle.std.specs.Prelude.{All, IfSome, ◌==◌}
 use Rattle.std.specs.List.{range_with_len}
 use Rattle.std.proofs.lemmas.Bool.{and_from, eq-eqb}
 use Rattle.std.proofs.lemmas.List.{length-map}
 use Rattle.bs_net.specs.Circuit.{Circuit, reset_state}
 use Rattle.bs_log.specs.declared.line.Line.{Line}
-use Rattle.bs_log.specs.History.{state_of, phase_of, step_of}
-use Rattle.bs_log.specs.Refusal.{IsAccepted, is_complete, is_between_steps}
+use Rattle.bs_log.specs.History.{phase_of, step_of}
+use Rattle.bs_log.specs.Refusal.{IsAccepted, is_between_steps}
 use Rattle.bs_log.specs.Lean.{IsLean}
 use Rattle.bs_log.specs.LineForms.{HasText}
 use Rattle.bs_solve_recording.specs.declared.stage.Stage.TheVariants.{Idle}

@@ -1,7 +1,4 @@
-use Rattle.std.proofs.Common.{subst, sym}
 use Rattle.bs_net.specs.Netlist.{circuit}
-use Rattle.bs_reach.specs.Reach.{IsReach}
-use Rattle.bs_reach.proofs.ReachLemmas.{look_is}
 use Rattle.bs_reach.proofs.SoughtLemmas.{some_reach}
 use Rattle.bs_reach.proofs.answer.look_refuted.Goals as goal
 
