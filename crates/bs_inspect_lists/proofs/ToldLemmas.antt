@@ -1,7 +1,7 @@
 -- What a list counts.
-use Rattle.std.proofs.Common.{◌≡◌, inl, inr, ℕ, zero, suc, ◌<◌, ◌≤◌, ◌+◌, Bool, true, false, List, [], ◌∷◌, ◌++◌, length, map, take, get_or, refl, ap, sym, subst, ◌∙◌, arith, min, Option, None}
+use Rattle.std.proofs.Common.{◌≡◌, ◌≢◌, inl, inr, ℕ, zero, suc, ◌<◌, ◌≤◌, ◌+◌, Bool, true, false, List, [], ◌∷◌, ◌++◌, length, map, take, get_or, refl, ap, sym, subst, ◌∙◌, arith, min, Option, Some, None}
 use Rattle.std.specs.Prelude.{All, IfSome, nat_lt, slice_get}
-use Rattle.std.proofs.lemmas.Bool.{ltb-true, ltb-false}
+use Rattle.std.proofs.lemmas.Bool.{false≢true, ltb-true, ltb-false}
 use Rattle.std.specs.Option.{option_to_list}
 use Rattle.std.proofs.lemmas.List.{length-append, length-map, map-append, take-append-le, take_all}
 use Rattle.std.proofs.lemmas.List.Sums.{sum_by_push}
@@ -15,8 +15,8 @@ use Rattle.bs_scan.specs.Crash.{Recording, dump_at, recording_of}
 use Rattle.bs_net.specs.Netlist.{circuit_of}
 use Rattle.bs_net.specs.Parts.{Parts}
 use Rattle.bs_stim.specs.Runs.{Stimulus, inputs_of}
-use Rattle.bs_scan.specs.Moments.{IsMoment, Moment, Run, run_of, state_of}
-use Rattle.bs_scan.specs.Signature.{predecessors, signatures_before, stored_at}
+use Rattle.bs_scan.specs.Moments.{IsMoment, Moment, Run, run_of, state_at, state_of}
+use Rattle.bs_scan.specs.Signature.{predecessors, signature, signatures_before, stored_at}
 use Rattle.bs_scan.specs.declared.dump.Dump.{Dump}
 use Rattle.bs_scan.proofs.SignatureLemmas.{length_state}
 use Rattle.bs_report.specs.declared.report.Cand.{Cand}
@@ -24,14 +24,14 @@ use Rattle.bs_report.specs.declared.report.ListEnd.{ListEnd}
 use Rattle.bs_report.specs.declared.report.ListEnd.TheVariants.{Finished, Candidates, Conflicts}
 use Rattle.bs_report_good.specs.Step.{IsRightEnd}
 use Rattle.bs_preimage.specs.Listed.{HasListed}
-use Rattle.bs_preimage.specs.Preimage.{PreimageState}
+use Rattle.bs_preimage.specs.Preimage.{PreimageState, next_guard}
 use Rattle.bs_preimage.specs.declared.listing.Listing.{Listing}
 use Rattle.bs_inspect_lists.specs.Spread.{count_taken, later_moments, moment_taken}
 use Rattle.bs_inspect_lists.specs.Told.{AreTold, Counts, IsCountOf, IsTold, counted_as, room_of, weight_of, weights_of}
-use Rattle.bs_inspect_lists.specs.declared.counting.TheConstants.{MAX_LISTED}
+use Rattle.bs_inspect_lists.specs.declared.counting.TheConstants.{MAX_LEMMAS, MAX_LISTED}
 use Rattle.bs_inspect_lists.specs.declared.spread.TheConstants.{MAX_MOMENTS}
 use Rattle.bs_inspect_lists.specs.declared.counting.Count.{Count}
-use Rattle.bs_inspect_lists.specs.declared.counting.Count.TheVariants.{Spent}
+use Rattle.bs_inspect_lists.specs.declared.counting.Count.TheVariants.{Whole, More, Spent}
 use Rattle.bs_inspect_lists.specs.declared.lists.Told.{Told}
 
 ends_count : (asked : List (List Bool)) (b : ℕ) (lines : List Line) (cands : List Cand) (end : ListEnd) →
@@ -40,25 +40,33 @@ ends_count asked b lines cands (Finished id) h = (h.0, refl)
 ends_count asked b lines cands Candidates h = h
 ends_count asked b lines cands Conflicts h = (refl, omega (arith, h.0))
 
-pub is_count : (old new : PreimageState) (present stored : List Bool) (b : ℕ) (listing : Listing) (count : Count) →
-    HasListed old new present stored None None (MAX_LISTED + 1) b listing → count ≡ counted_as listing.cands listing.end →
+abbrev is_spent : Count → Bool
+is_spent (Whole n) = false
+is_spent More = false
+is_spent (Spent n) = true
+
+-- a list is counted as spent by its end
+ends_spent : (cands : List Cand) (end : ListEnd) (n : ℕ) → counted_as cands end ≡ Spent n → end ≡ Conflicts
+ends_spent cands (Finished id) n e = absurd (false≢true (ap is_spent e))
+ends_spent cands Candidates n e = absurd (false≢true (ap is_spent e))
+ends_spent cands Conflicts n e = refl
+
+pub is_count : (old new : PreimageState) (present stored : List Bool) (listing : Listing) (count : Count) →
+    HasListed old new present stored None None (MAX_LISTED + 1) MAX_LEMMAS listing → count ≡ counted_as listing.cands listing.end →
     IsCountOf old.circuit old.choice present (stored ∷ []) count
-is_count old new present stored b listing count h e =
+is_count old new present stored listing count h e =
     subst (IsCountOf old.circuit old.choice present (stored ∷ [])) (sym e)
     (record {
       cands = listing.cands;
       ascend = h.ascend;
       right = h.candidates;
-      is = ends_count (predecessors old.circuit old.choice present (stored ∷ [])) b h.lines listing.cands listing.end h.ends;
+      is = ends_count (predecessors old.circuit old.choice present (stored ∷ [])) MAX_LEMMAS h.lines listing.cands listing.end h.ends;
+      spent = λ n spent. record {
+        held = stored;
+        is = refl;
+        hard = record { guard = next_guard old.problem; many = h.bound (ends_spent listing.cands listing.end n spent) };
+      };
     })
-
-pub none_counted : (c : Circuit) (choice : Chosen) (present : List Bool) (stored : List (List Bool)) → IsCountOf c choice present stored (Spent 0)
-none_counted c choice present stored = record {
-  cands = [];
-  ascend = λ i j d less below. absurd (omega (arith, below));
-  right = λ k d lt. absurd (omega (arith, lt));
-  is = (refl, omega arith);
-}
 
 -- what a register of one signature holds
 held_by : (c : Circuit) (choice : Chosen) (run : Run) (d cycle : ℕ) → d ≡ 1 →
@@ -67,6 +75,21 @@ held_by c choice run zero cycle e = refl
 held_by c choice run (suc zero) zero e = refl
 held_by c choice run (suc zero) (suc cycle) e = refl
 held_by c choice run (suc (suc d)) cycle e = absurd (omega (arith, e))
+
+-- behind reset it holds one
+some_by : (c : Circuit) (choice : Chosen) (run : Run) (d cycle : ℕ) → d ≡ 1 → 1 ≤ cycle → slice_get (signatures_before c choice run d cycle) 0 ≢ None
+some_by c choice run zero cycle e later = absurd (omega (arith, e))
+some_by c choice run (suc d) zero e later = absurd (omega (arith, later))
+some_by c choice run (suc d) (suc cycle) e later = is_there (signature choice (state_at c run cycle))
+  where
+    is_there : (t : List Bool) → Some t ≢ None
+    is_there t h = cc
+
+pub held_there : (r : Recording) (raw : Parts) (choice : Chosen) (s : Stimulus) (m : Moment) (dump : Dump) → r ≡ recording_of raw choice s →
+    depth_of choice ≡ 1 → 1 ≤ m.cycle → dump ≡ dump_at r m → dump.stored ≢ None
+held_there r raw choice s m dump is one later e none =
+    some_by (circuit_of raw) choice (run_of (inputs_of s) m.run) (depth_of choice) m.cycle one later
+    (sym (ap (λ (d : Dump). d.stored) e ∙ ap (λ (q : Recording). (dump_at q m).stored) is) ∙ none)
 
 wide_by : (c : Circuit) (choice : Chosen) (run : Run) (d cycle : ℕ) →
     IfSome (slice_get (signatures_before c choice run d cycle) 0) (λ t. length t ≡ length choice.items)

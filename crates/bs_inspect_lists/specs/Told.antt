@@ -1,16 +1,23 @@
 -- What is told of the lists of predecessors at moments.
-use Rattle.std.specs.Prelude.{◌≡◌, ◌⊎◌, ℕ, ◌<◌, ◌≤◌, ◌+◌, ◌/◌, max, Bool, true, false, List, length, map, take, All, if◌then◌else◌}
+use Rattle.std.specs.Prelude.{◌≡◌, ◌⊎◌, ℕ, ◌<◌, ◌≤◌, ◌+◌, ◌-◌, ◌/◌, ◌^◌, max, Bool, true, false, List, [], ◌∷◌, length, map, take, All, None, if◌then◌else◌}
 use Rattle.std.specs.List.{range_with_len, sum_by}
+use Rattle.bs_clause.specs.Literal.{Literal}
+use Rattle.bs_clause.specs.Range.{HasVariables}
+use Rattle.bs_clause.specs.UnitRun.{IsUnitRun}
 use Rattle.bs_net.specs.Circuit.{Circuit}
 use Rattle.bs_scan.specs.Choice.{Chosen}
 use Rattle.bs_scan.specs.Moments.{Run, run_of, state_of}
 use Rattle.bs_scan.specs.Signature.{predecessors, stored_at}
+use Rattle.bs_scan.specs.Present.{Present}
+use Rattle.bs_encode.specs.Assuming.{assumptions_for, asking}
+use Rattle.bs_encode.specs.Depth.{encoding_by}
+use Rattle.bs_encode.specs.Encoded.{Encoded}
 use Rattle.bs_report.specs.declared.report.Cand.{Cand}
 use Rattle.bs_report.specs.declared.report.ListEnd.{ListEnd}
 use Rattle.bs_report.specs.declared.report.ListEnd.TheVariants.{Finished, Candidates, Conflicts}
 use Rattle.bs_report_good.specs.Step.{Ascend, IsCandidate, listed}
 use Rattle.bs_inspect_lists.specs.Spread.{count_taken, later_moments, moment_taken}
-use Rattle.bs_inspect_lists.specs.declared.counting.TheConstants.{MAX_LISTED}
+use Rattle.bs_inspect_lists.specs.declared.counting.TheConstants.{MAX_LEMMAS, MAX_LISTED}
 use Rattle.bs_inspect_lists.specs.declared.lists.TheConstants.{MAX_LISTED_BITS}
 use Rattle.bs_inspect_lists.specs.declared.counting.Count.{Count}
 use Rattle.bs_inspect_lists.specs.declared.counting.Count.TheVariants.{Whole, More, Spent}
@@ -28,12 +35,26 @@ Counts asked cands (Whole n) = (listed cands ≡ asked) × (n ≡ length cands)
 Counts asked cands More = length cands ≡ MAX_LISTED + 1
 Counts asked cands (Spent n) = (n ≡ length cands) × (length cands ≤ MAX_LISTED)
 
--- the number is that of a list of predecessors that agree with the stored signatures
+-- `MAX_LEMMAS` may be too few for a solve: the variables that a unit run over the clauses and what a step assumes leaves open have more
+-- values than that, whatever unit run it is
+pub record IsHard (e : Encoded) (asked : Present) : Type 0 where
+  pub guard : Literal
+  pub many : (run : List Literal) → HasVariables e.variables run → IsUnitRun e.clauses (assumptions_for e guard asked) run →
+      MAX_LEMMAS < 2 ^ (e.variables - length run)
+
+-- one signature is stored, and the search for what agrees with it is hard
+pub record IsHardFor (c : Circuit) (choice : Chosen) (present : List Bool) (stored : List (List Bool)) : Type 0 where
+  pub held : List Bool
+  pub is : stored ≡ held ∷ []
+  pub hard : IsHard (encoding_by c choice) (asking present held None)
+
+-- the number is that of a list of predecessors that agree with the stored signatures; the search was given up only where it is hard
 pub record IsCountOf (c : Circuit) (choice : Chosen) (present : List Bool) (stored : List (List Bool)) (count : Count) : Type 0 where
   pub cands : List Cand
   pub ascend : Ascend (listed cands)
   pub right : All (IsCandidate c choice present stored) cands
   pub is : Counts (predecessors c choice present stored) cands count
+  pub spent : (n : ℕ) → count ≡ Spent n → IsHardFor c choice present stored
 
 -- the same of a moment's state and of what the register holds there
 abbrev pub IsTold : Circuit → Chosen → List Run → Told → Type 0

@@ -1,5 +1,5 @@
 //! How many members a list of predecessors has.
-ghost use Rattle.std.specs.Prelude.{◌≡◌, ◌<◌, ◌≤◌, ◌+◌, ◌^◌, [], ◌∷◌, length, IfOk, IfSome};
+ghost use Rattle.std.specs.Prelude.{◌≡◌, ◌≢◌, ◌<◌, ◌≤◌, ◌+◌, ◌^◌, [], ◌∷◌, None, length, IfOk, IfSome};
 ghost use Rattle.std.specs.Option.{option_to_list};
 ghost use Rattle.bs_encode.specs.declared.encoding.TheConstants.{MAX_GUARDS};
 ghost use Rattle.bs_inspect_lists.specs.declared.counting.TheConstants.{MAX_LISTED};
@@ -69,8 +69,8 @@ fn count_in(
 }
 
 /// How many predecessors of a dump's state agree with what it holds, at a moment behind reset.
-#[tactic(auto, using(crate::proofs::ToldLemmas::none_counted))]
 fn count_of_dump(alloc: Global, preimage: &mut Preimage<'_>, dump: &Dump) -> Result<Count, NoMemory>
+    requires held { dump.now.stored ≢ None }
     requires state { length dump.now.state ≡ length preimage.old.circuit.flops }
     requires signature { IfSome dump.now.stored (λ stored. length stored ≡ length preimage.old.choice.items) }
     requires calls { preimage.old.calls < MAX_GUARDS }
@@ -81,7 +81,7 @@ fn count_of_dump(alloc: Global, preimage: &mut Preimage<'_>, dump: &Dump) -> Res
 {
     match &dump.stored {
         Some(stored) => count_in(alloc, preimage, &dump.state, stored),
-        None => Ok(Count::Spent(0)),
+        None => unreachable!(),
     }
 }
 
@@ -91,6 +91,7 @@ pub(crate) fn count_dump(
     preimage: &mut Preimage<'_>,
     dump: Dump,
 ) -> Result<Count, NoMemory>
+    requires held { dump.stored ≢ None }
     requires state { length dump.state ≡ length preimage.old.circuit.flops }
     requires signature { IfSome dump.stored (λ stored. length stored ≡ length preimage.old.choice.items) }
     requires calls { preimage.old.calls < MAX_GUARDS }

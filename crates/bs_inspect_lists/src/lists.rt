@@ -35,7 +35,7 @@ pub struct Told {
 }
 
 /// A moment with its count.
-#[tactic(auto, using(crate::proofs::ToldLemmas::told_as, crate::proofs::ToldLemmas::state_wide, crate::proofs::ToldLemmas::stored_wide, crate::proofs::ToldLemmas::moment_there))]
+#[tactic(auto, using(crate::proofs::ToldLemmas::told_as, crate::proofs::ToldLemmas::state_wide, crate::proofs::ToldLemmas::stored_wide, crate::proofs::ToldLemmas::held_there, crate::proofs::ToldLemmas::moment_there))]
 fn told_at(
     alloc: Global,
     chip: &mut Chip<'_>,
@@ -51,6 +51,7 @@ fn told_at(
     requires calls { preimage.old.calls < MAX_GUARDS }
     requires depth { depth_of choice.now ≡ 1 }
     requires moment { IsMoment (inputs_of runs.now) moment }
+    requires later { 1 ≤ moment.cycle }
     ensures told { IfOk result (IsTold (circuit net.now) choice.now (inputs_of runs.now)) }
     ensures moment { IfOk result (λ told. told.moment ≡ moment) }
     ensures chip { chip.new ≡ chip.old }

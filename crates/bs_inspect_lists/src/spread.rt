@@ -30,6 +30,7 @@ fn moment_at(runs: &Runs, place: usize) -> Moment
     requires { place < length (later_moments (inputs_of runs.now)) }
     ensures is { result ≡ slice_index_or (later_moments (inputs_of runs.now)) place (moment 0 0) }
     ensures moment { IsMoment (inputs_of runs.now) result }
+    ensures later { 1 ≤ result.cycle }
 {
     let mut left = place;
     'runs: for k in 0..runs.count() {
@@ -70,6 +71,7 @@ pub(crate) fn moment_taken(runs: &Runs, all: usize, taken: usize, k: usize) -> M
     requires there { k < taken }
     ensures is { result ≡ moment_taken (later_moments (inputs_of runs.now)) k }
     ensures moment { IsMoment (inputs_of runs.now) result }
+    ensures later { 1 ≤ result.cycle }
 {
     let part = part_of(taken, k);
     moment_at(runs, part * (taken + 1) * all / (taken * taken))
