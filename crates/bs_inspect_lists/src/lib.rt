@@ -4,8 +4,9 @@
 //! one signature), `sizes` (how many bits are tried), `rows` (the lists by each), `lines` (the text),
 //! `signature` (`signature_text`: a proposal, and the lists behind it). Used above: `TellsSignature`
 //! (`specs/Signature`), over `AreTold` (`specs/Told`): each number is that of a list of predecessors,
-//! all of them, or the list was cut. More moments: `MAX_MOMENTS`; longer lists: `MAX_LISTED`, and
-//! `MAX_LISTED_BITS` for all together; harder ones: `MAX_LEMMAS`; more bits: `MAX_FACTOR`.
+//! all of them, or the list was cut; `Spent` comes only where `MAX_LEMMAS` may be too few. More
+//! moments: `MAX_MOMENTS`; longer lists: `MAX_LISTED`, and `MAX_LISTED_BITS` for all together; harder
+//! ones: `MAX_LEMMAS`; more bits: `MAX_FACTOR`.
 #![tactic(auto)]
 
 mod counting;
