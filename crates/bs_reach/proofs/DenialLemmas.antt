@@ -1,12 +1,13 @@
 -- Lemmas of lengths, one after another.
-use Rattle.std.proofs.Common.{◌≡◌, ℕ, ◌+◌, ◌-◌, ◌*◌, Bool, true, List, [], ◌∷◌, ◌++◌, length, drop, arith, ap, sym, subst, ◌∙◌, Option, Some, None}
+use Rattle.std.proofs.Common.{◌≡◌, ℕ, ◌+◌, ◌-◌, ◌*◌, Bool, true, List, [], ◌∷◌, ◌++◌, length, drop, arith, refl, ap, sym, subst, ◌∙◌, Option, Some, None}
+use Rattle.std.proofs.lemmas.Bool.{and_parts, and_from, or_right}
 use Rattle.std.specs.Prelude.{option_to_list, IsTrue}
-use Rattle.bs_clause.specs.Literal.{Literal, Clause}
+use Rattle.bs_clause.specs.Literal.{Literal, Clause, negation, has_literal, same_literal}
 use Rattle.bs_encode.specs.Tables.{lit}
 use Rattle.bs_encode.specs.Encoded.{Encoded}
 use Rattle.bs_encode.specs.Assuming.{signed}
 use Rattle.bs_reach_unrolled.specs.Unrolled.{next_at, length_assumes}
-use Rattle.bs_log.specs.Refusal.{has_distinct_variables}
+use Rattle.bs_log.specs.Refusal.{has_distinct_variables, denies}
 use Rattle.bs_log.specs.Propagation.{hints_are_unit, last_is_false}
 use Rattle.bs_log.specs.Lean.{IsResolventOf}
 use Rattle.bs_reach_forced.specs.declared.denying.Lemma.{Lemma}
@@ -17,7 +18,7 @@ use Rattle.bs_solve.specs.Denying.{Denies}
 use Rattle.bs_reach.specs.Denials.{AreDenials}
 
 -- a lemma by rows is one by the clauses of their ids
-pub denial_right : (all : List Clause) (a : Clause) (d : Lemma) → Refutes all a d → Denies all a (record { lits = d.lits; hints = d.hints })
+denial_right : (all : List Clause) (a : Clause) (d : Lemma) → Refutes all a d → Denies all a (record { lits = d.lits; hints = d.hints })
 denial_right all a d r =
     let (named, same) = rows_named all d.hints r.clauses r.rows in
     record {
@@ -32,13 +33,28 @@ denial_right all a d r =
       few = let n = ap length r.one in omega (arith, n);
     }
 
--- what a guard and the state of a copy make
-pub due_of : (e : Encoded) (k c : ℕ) (p : List Bool) (guard : Literal) (a : Clause) → guard ≡ lit (k * e.variables + (c + 1)) true →
-    a ≡ guard ∷ signed (next_at e c) p → a ≡ length_assumes e k p (c + 1)
-due_of e k c p guard a is are =
+-- what denies the state behind a copy denies what the length assumes
+denies_more : (g : Literal) (a lits : Clause) → denies a lits ≡ true → denies (g ∷ a) lits ≡ true
+denies_more g a [] all = refl
+denies_more g a (l ∷ lits) all =
+    let parts = and_parts (has_literal a (negation l)) (denies a lits) all in
+    and_from (has_literal (g ∷ a) (negation l)) (denies (g ∷ a) lits) (or_right (same_literal (negation l) g) (has_literal a (negation l)) parts.0)
+    (denies_more g a lits parts.1)
+
+pub length_denied : (all : List Clause) (e : Encoded) (k c : ℕ) (p : List Bool) (d : Lemma) → Refutes all (signed (next_at e c) p) d →
+    Denies all (length_assumes e k p (c + 1)) (record { lits = d.lits; hints = d.hints })
+length_denied all e k c p d r =
     let back : c ≡ (c + 1) - 1 = omega arith in
-    are ∙ (ap (λ (l : Literal). l ∷ signed (next_at e c) p) is ∙
-    ap (λ (m : ℕ). lit (k * e.variables + (c + 1)) true ∷ signed (next_at e m) p) back)
+    let ends : denies (signed (next_at e ((c + 1) - 1)) p) d.lits ≡ true =
+    subst (λ (m : ℕ). denies (signed (next_at e m) p) d.lits ≡ true) back r.ends in
+    denial_right all (length_assumes e k p (c + 1)) d (record {
+      literal = r.literal;
+      one = r.one;
+      clauses = r.clauses;
+      rows = r.rows;
+      proved = r.proved;
+      ends = denies_more (lit (k * e.variables + (c + 1)) true) (signed (next_at e ((c + 1) - 1)) p) d.lits ends;
+    })
 
 -- one more at the end
 pub denials_push : (cs : List Clause) (e : Encoded) (k : ℕ) (p : List Bool) (c n : ℕ) (ds : List Denial) (d : Denial) → AreDenials cs e k p c ds →

@@ -1,39 +1,31 @@
 //! The first lengths, where what follows from the values at reset denies the state: lemmas without a search.
 ghost use Rattle.std.specs.Prelude.{◌≡◌, ◌+◌, ◌*◌, ◌<◌, length, true, IfOk, IfSome};
 ghost use Rattle.bs_reach_unrolled.specs.Room.{IsUnrollable};
-ghost use Rattle.bs_reach_unrolled.specs.Unrolled.{length_assumes, unrolled};
+ghost use Rattle.bs_encode.specs.Assuming.{signed};
+ghost use Rattle.bs_reach_unrolled.specs.Unrolled.{length_assumes, next_at, unrolled};
 ghost use Rattle.bs_reach_forced.specs.Rows.{Refutes};
 ghost use Rattle.bs_solve.specs.Denying.{Denies};
 ghost use Rattle.bs_reach.specs.Denials.{AreDenials};
 
 use bs_bits::Bits;
-use bs_clause::{Lit, NoMemory, Var};
+use bs_clause::NoMemory;
 use bs_encode::Encoding;
 use bs_reach_forced::{Forced, Lemma, Places, denial};
-use bs_reach_unrolled::assume_length;
 use bs_solve::Denial;
 use std::alloc::Global;
 use std::collections::VecDeque;
 
-/// The guard of the length `c + 1`.
-fn guard_of(encoding: &Encoding, c: u32, k: u32) -> Lit
-    requires unrollable { IsUnrollable encoding.now k }
-    requires within { c < k }
-    ensures { result ≡ record { variable = k * encoding.now.variables + (c + 1); positive = true } }
-{
-    Lit::new(Var(k * encoding.vars() + (c + 1)), true)
-}
-
-/// The lemma, as a solver takes it.
+/// The lemma, as a solver takes it: it denies what the length `c + 1` assumes.
 fn as_denial(
     _encoding: &Encoding,
     _reset: &Bits,
+    _state: &Bits,
+    _c: u32,
     _k: u32,
-    _assumptions: &[Lit],
     lemma: Lemma,
 ) -> Denial
-    requires { Refutes (unrolled _encoding.now _reset.now _k) _assumptions.now lemma }
-    ensures { Denies (unrolled _encoding.now _reset.now _k) _assumptions.now result }
+    requires { Refutes (unrolled _encoding.now _reset.now _k) (signed (next_at _encoding.now _c) _state.now) lemma }
+    ensures { Denies (unrolled _encoding.now _reset.now _k) (length_assumes _encoding.now _k _state.now (_c + 1)) result }
 {
     Denial {
         lits: lemma.lits,
@@ -58,13 +50,10 @@ pub(crate) fn denial_at(
     requires width { length encoding.now.next ≡ length state.now }
     ensures { IfOk result (λ d. IfSome d (Denies (unrolled encoding.now reset.now k) (length_assumes encoding.now k state.now (c + 1)))) }
 {
-    let guard = guard_of(encoding, c, k);
-    let assumptions = assume_length(alloc, encoding, guard, state, c, k)?;
-    let assumed = assumptions.slice();
-    let found = denial(alloc, encoding, reset, forced, places, assumed, c, k)?;
+    let found = denial(alloc, encoding, reset, forced, places, state, c, k)?;
     match found {
         None => Ok(None),
-        Some(lemma) => Ok(Some(as_denial(encoding, reset, k, assumed, lemma))),
+        Some(lemma) => Ok(Some(as_denial(encoding, reset, state, c, k, lemma))),
     }
 }
 

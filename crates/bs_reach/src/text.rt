@@ -1,5 +1,5 @@
 //! The one text of an answer.
-ghost use Rattle.std.specs.Prelude.{◌≡◌, ◌+◌, ◌<◌, ◌^◌, ◌++◌, length, codes, decimal, OnOk, OnErr};
+ghost use Rattle.std.specs.Prelude.{◌≡◌, ◌+◌, ◌<◌, ◌^◌, ◌++◌, [], length, codes, decimal, OnOk, OnErr};
 ghost use Rattle.std.specs.List.{flat_map};
 ghost use Rattle.bs_bits.specs.Lines.{line};
 ghost use Rattle.bs_bits.specs.Text.{bits_text};
@@ -117,6 +117,31 @@ fn push_reach(text: &mut Vec<u8>, reach: &Reach) -> Result<(), NoMemory>
     push_log(text, reach)
 }
 
+/// Writes the whole text in place, where nothing stands before it. The text is empty again where memory runs out.
+fn begin_reach(text: &mut Vec<u8>, reach: &Reach) -> Result<(), NoMemory>
+    requires empty { text.old.items ≡ [] }
+    requires states { HasStates reach.now.outcome reach.now }
+    ensures ok { OnOk result (text.new.items ≡ reach_text reach.now) }
+    ensures err { OnErr result (text.new.items ≡ []) }
+{
+    let whole = push_reach(text, reach);
+    if whole.is_err() {
+        text.clear();
+    }
+    whole
+}
+
+/// Appends the whole text behind what stands there.
+fn append_reach(text: &mut Vec<u8>, reach: &Reach) -> Result<(), NoMemory>
+    requires { HasStates reach.now.outcome reach.now }
+    ensures ok { OnOk result (text.new.items ≡ text.old.items ++ reach_text reach.now) }
+    ensures err { OnErr result (text.new.items ≡ text.old.items) }
+{
+    let mut whole = Vec::new(*text.allocator());
+    push_reach(&mut whole, reach)?;
+    push_piece(text, whole.as_slice())
+}
+
 impl Reach {
     /// Appends the text of the answer (docs/FORMATS.md, "The answer of reach"). Where the state is reached there is one state
     /// more than inputs.
@@ -125,8 +150,10 @@ impl Reach {
         ensures ok { OnOk result (into.new.items ≡ into.old.items ++ reach_text self.now) }
         ensures err { OnErr result (into.new.items ≡ into.old.items) }
     {
-        let mut text = Vec::new(*into.allocator());
-        push_reach(&mut text, self)?;
-        push_piece(into, text.as_slice())
+        if into.is_empty() {
+            begin_reach(into, self)
+        } else {
+            append_reach(into, self)
+        }
     }
 }

@@ -64,7 +64,7 @@ length_signed [] bits same = refl
 length_signed (l ∷ ls) [] same = absurd (omega (arith, same))
 length_signed (l ∷ ls) (b ∷ bits) same = let rest = length_signed ls bits (omega (arith, same)) in omega (arith, rest)
 
-signed_get : (ls : List Literal) (bits : List Bool) (i : ℕ) (l : Literal) (b : Bool) → slice_get ls i ≡ Some l → slice_get bits i ≡ Some b →
+pub signed_get : (ls : List Literal) (bits : List Bool) (i : ℕ) (l : Literal) (b : Bool) → slice_get ls i ≡ Some l → slice_get bits i ≡ Some b →
     slice_get (signed ls bits) i ≡ Some (lit l.variable b)
 signed_get [] bits i l b at bit = absurd (none_is_not_some l at)
 signed_get (x ∷ ls) [] i l b at bit = absurd (none_is_not_some b bit)

@@ -21,8 +21,8 @@ AreRows all ids clauses = map (clause_at all) ids ≡ map Some clauses
 
 -- a row more
 pub record Adds (old new : Cone) (r : Row) : Type 0 where
-  pub ids : new.ids ≡ old.ids ++ r.id ∷ []
-  pub clauses : new.clauses ≡ old.clauses ++ r.clause ∷ []
+  pub ids : new.ids.items ≡ old.ids.items ++ r.id ∷ []
+  pub clauses : new.clauses.items ≡ old.clauses.items ++ r.clause ∷ []
 
 -- the lemma has one literal, which denies an assumption, and is right by the clauses of its hints
 pub record Refutes (all : List Clause) (assumptions : Clause) (d : Lemma) : Type 0 where

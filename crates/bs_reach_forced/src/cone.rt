@@ -7,21 +7,41 @@ ghost use Rattle.bs_reach_forced.specs.Rows.{IsRow, AreRows, Adds};
 
 use crate::rows::{Row, copy_row, link_row, reset_row};
 use crate::template::{number_at, write};
-use bs_bits::{Bits, List};
-use bs_clause::{Clauses, Lit, NoMemory};
+use bs_bits::Bits;
+use bs_clause::{Lit, Lits, NoMemory};
 use bs_encode::Encoding;
 use std::alloc::Global;
 
 /// The search for a cone ends after so many steps.
 const MAX_STEPS: u64 = 1 << 40;
 
-/// Clauses with their ids, each with the literal that it forces and the place of a clause that needs this.
+/// What is looked at a second time, when what it needs has its place, is so much higher.
+const AGAIN: u64 = 1 << 63;
+
+/// Clauses with their ids, each with the literal that it forces and the place of a clause that needs this; and the literals that
+/// are asked for, the code of each with the copy of its variable above.
 #[derive(Drop)]
 pub(crate) struct Cone {
     pub(crate) literals: Vec<Lit>,
-    pub(crate) clauses: Clauses,
-    pub(crate) ids: List<u64>,
+    pub(crate) clauses: Vec<Lits>,
+    pub(crate) ids: Vec<u64>,
     pub(crate) later: Vec<u32>,
+    stack: Vec<u64>,
+}
+
+impl Cone {
+    /// A cone without a clause.
+    pub(crate) fn new(alloc: Global) -> Cone
+        ensures { (result.ids.items ≡ []) × (result.clauses.items ≡ []) }
+    {
+        Cone {
+            literals: Vec::new(alloc),
+            clauses: Vec::new(alloc),
+            ids: Vec::new(alloc),
+            later: Vec::new(alloc),
+            stack: Vec::new(alloc),
+        }
+    }
 }
 
 /// The row of a reason in copy number `c`.
@@ -69,56 +89,63 @@ fn has(literals: &[Lit], places: &[u32], code: u32) -> bool {
     literals[at].code() == code
 }
 
-/// Asks for the literal of this code, where it has no place yet. Whether it was asked for.
+/// The literal of this code with the copy of its variable.
+fn asked(code: u32, c: u32) -> u64 {
+    u64::from(c) * 0x1_0000_0000 + u64::from(code)
+}
+
+/// Asks for the literal of this code in a copy, where it has no place yet. Whether it was asked for.
 fn ask_for(
     literals: &[Lit],
     places: &[u32],
-    stack: &mut Vec<u32>,
+    stack: &mut Vec<u64>,
     code: u32,
+    c: u32,
 ) -> Result<bool, NoMemory> {
     if has(literals, places, code) {
         return Ok(false);
     }
-    stack.push(code)?;
+    stack.push(asked(code, c))?;
     Ok(true)
 }
 
-/// Asks for what denies the other literals of a clause whose codes are so much higher. Whether anything was asked for.
+/// Asks for what denies the other literals of a clause of a copy, whose codes are so much higher. Whether anything was asked for.
 fn ask_clause(
     literals: &[Lit],
     places: &[u32],
-    stack: &mut Vec<u32>,
+    stack: &mut Vec<u64>,
     clause: &[Lit],
     by: u32,
+    c: u32,
     code: u32,
 ) -> Result<bool, NoMemory> {
-    let mut asked = false;
+    let mut more = false;
     for m in clause {
         let own = m.code().wrapping_add(by) == code;
         let other = m.negate().code().wrapping_add(by);
-        if !own && ask_for(literals, places, stack, other)? {
-            asked = true;
+        if !own && ask_for(literals, places, stack, other, c)? {
+            more = true;
         }
     }
-    Ok(asked)
+    Ok(more)
 }
 
 /// Asks for what the reason of a literal in copy number `c` needs. Whether anything was asked for.
 fn ask(
     encoding: &Encoding,
-    cone: &Cone,
+    literals: &[Lit],
     places: &[u32],
-    stack: &mut Vec<u32>,
+    stack: &mut Vec<u64>,
     c: u32,
     reason: usize,
     code: u32,
 ) -> Result<bool, NoMemory> {
-    let literals = cone.literals.as_slice();
     let clauses = encoding.clauses().slice();
     let step = encoding.vars().wrapping_mul(2);
     if reason < clauses.len() {
         let clause = clauses[reason].slice();
-        return ask_clause(literals, places, stack, clause, step.wrapping_mul(c), code);
+        let by = step.wrapping_mul(c);
+        return ask_clause(literals, places, stack, clause, by, c, code);
     }
     let f = reason - clauses.len();
     let next = encoding.next();
@@ -127,7 +154,7 @@ fn ask(
     }
     let positive = next[f].code() / 2 * 2;
     let other = step.wrapping_mul(c - 1).wrapping_add(positive);
-    ask_for(literals, places, stack, other.wrapping_add(code % 2))
+    ask_for(literals, places, stack, other.wrapping_add(code % 2), c - 1)
 }
 
 /// Notes for what denies the other literals of a clause that this clause needs it.
@@ -183,11 +210,20 @@ fn place(
     add(cone, l, row, at)
 }
 
-/// Takes the last code off.
-fn drop_last(stack: &mut Vec<u32>) {
+/// Takes the last off.
+fn drop_last(stack: &mut Vec<u64>) {
     let count = stack.len();
     if count > 0 {
         stack.truncate(count - 1);
+    }
+}
+
+/// Notes that the last is looked at again.
+fn look_again(stack: &mut Vec<u64>) {
+    let count = stack.len();
+    if count > 0 {
+        let last = stack[count - 1];
+        stack[count - 1] = last | AGAIN;
     }
 }
 
@@ -202,8 +238,8 @@ fn settle(
     row: Row,
 ) -> Result<bool, NoMemory>
     requires row { IsRow (unrolled encoding.now reset.now k) row }
-    requires rows { AreRows (unrolled encoding.now reset.now k) cone.old.ids cone.old.clauses }
-    ensures { IfOk result (λ _. AreRows (unrolled encoding.now reset.now k) cone.new.ids cone.new.clauses) }
+    requires rows { AreRows (unrolled encoding.now reset.now k) cone.old.ids.items cone.old.clauses.items }
+    ensures { IfOk result (λ _. AreRows (unrolled encoding.now reset.now k) cone.new.ids.items cone.new.clauses.items) }
 {
     match literal_in(row.clause.slice(), code) {
         None => Ok(false),
@@ -230,8 +266,8 @@ fn take(
     requires width { length encoding.now.states ≡ length reset.now }
     requires small { length encoding.now.clauses ≤ ROW_ROOM }
     requires narrow { length encoding.now.states ≤ ROW_ROOM }
-    requires rows { AreRows (unrolled encoding.now reset.now k) cone.old.ids cone.old.clauses }
-    ensures { IfOk result (λ _. AreRows (unrolled encoding.now reset.now k) cone.new.ids cone.new.clauses) }
+    requires rows { AreRows (unrolled encoding.now reset.now k) cone.old.ids.items cone.old.clauses.items }
+    ensures { IfOk result (λ _. AreRows (unrolled encoding.now reset.now k) cone.new.ids.items cone.new.clauses.items) }
 {
     match row_by(alloc, encoding, reset, k, c, reason, code % 2 == 0)? {
         None => Ok(false),
@@ -239,7 +275,7 @@ fn take(
     }
 }
 
-/// Looks at the literal of this code, which was asked for last. Whether there is a row for it.
+/// Looks at the literal of this code in copy number `c`, which was asked for last. Whether there is a row for it.
 fn visit(
     alloc: Global,
     encoding: &Encoding,
@@ -248,35 +284,38 @@ fn visit(
     k: u32,
     cone: &mut Cone,
     places: &mut Vec<u32>,
-    stack: &mut Vec<u32>,
+    c: u32,
     code: u32,
+    again: bool,
 ) -> Result<bool, NoMemory>
     requires unrollable { IsUnrollable encoding.now k }
     requires width { length encoding.now.states ≡ length reset.now }
     requires small { length encoding.now.clauses ≤ ROW_ROOM }
     requires narrow { length encoding.now.states ≤ ROW_ROOM }
-    requires rows { AreRows (unrolled encoding.now reset.now k) cone.old.ids cone.old.clauses }
-    ensures { IfOk result (λ _. AreRows (unrolled encoding.now reset.now k) cone.new.ids cone.new.clauses) }
+    requires rows { AreRows (unrolled encoding.now reset.now k) cone.old.ids.items cone.old.clauses.items }
+    ensures { IfOk result (λ _. AreRows (unrolled encoding.now reset.now k) cone.new.ids.items cone.new.clauses.items) }
 {
-    let variable = code / 2;
-    let vars = encoding.vars();
-    let reason = number_at(reasons, variable as usize) as usize;
-    if vars == 0 || variable == 0 || reason == 0 {
+    let reason = number_at(reasons, code as usize / 2) as usize;
+    if reason == 0 {
         return Ok(false);
     }
-    let c = (variable - 1) / vars;
-    if ask(
-        encoding,
-        cone,
-        places.as_slice(),
-        stack,
-        c,
-        reason - 1,
-        code,
-    )? {
-        return Ok(true);
+    if !again {
+        look_again(&mut cone.stack);
+        let literals = cone.literals.as_slice();
+        let stack = &mut cone.stack;
+        if ask(
+            encoding,
+            literals,
+            places.as_slice(),
+            stack,
+            c,
+            reason - 1,
+            code,
+        )? {
+            return Ok(true);
+        }
     }
-    drop_last(stack);
+    drop_last(&mut cone.stack);
     take(alloc, encoding, reset, k, cone, places, c, reason - 1, code)
 }
 
@@ -289,25 +328,35 @@ fn gather(
     k: u32,
     cone: &mut Cone,
     places: &mut Vec<u32>,
-    stack: &mut Vec<u32>,
 ) -> Result<(), NoMemory>
     requires unrollable { IsUnrollable encoding.now k }
     requires width { length encoding.now.states ≡ length reset.now }
     requires small { length encoding.now.clauses ≤ ROW_ROOM }
     requires narrow { length encoding.now.states ≤ ROW_ROOM }
-    requires rows { AreRows (unrolled encoding.now reset.now k) cone.old.ids cone.old.clauses }
-    ensures { OnOk result (AreRows (unrolled encoding.now reset.now k) cone.new.ids cone.new.clauses) }
+    requires rows { AreRows (unrolled encoding.now reset.now k) cone.old.ids.items cone.old.clauses.items }
+    ensures { OnOk result (AreRows (unrolled encoding.now reset.now k) cone.new.ids.items cone.new.clauses.items) }
 {
     'steps: for _ in 0..MAX_STEPS {
-        let count = stack.len();
+        let count = cone.stack.len();
         if count == 0 {
             return Ok(());
         }
-        let code = stack[count - 1];
+        let last = cone.stack[count - 1];
+        let code = (last % 0x1_0000_0000) as u32;
+        let c = (last % AGAIN / 0x1_0000_0000) as u32;
         if has(cone.literals.as_slice(), places.as_slice(), code) {
-            drop_last(stack);
+            drop_last(&mut cone.stack);
         } else if !visit(
-            alloc, encoding, reset, reasons, k, cone, places, stack, code,
+            alloc,
+            encoding,
+            reset,
+            reasons,
+            k,
+            cone,
+            places,
+            c,
+            code,
+            last >= AGAIN,
         )? {
             return Ok(());
         }
@@ -315,38 +364,38 @@ fn gather(
     Ok(())
 }
 
-/// A stack of the code of one literal.
-fn stack_of(alloc: Global, l: Lit) -> Result<Vec<u32>, NoMemory> {
-    let mut stack = Vec::new(alloc);
-    stack.push(l.code())?;
-    Ok(stack)
+/// Lets the clauses of the cone before go, and asks for a literal in a copy.
+fn begin(cone: &mut Cone, l: Lit, c: u32) -> Result<(), NoMemory>
+    ensures ids { cone.new.ids.items ≡ [] }
+    ensures clauses { cone.new.clauses.items ≡ [] }
+{
+    cone.literals.truncate(0);
+    cone.clauses.truncate(0);
+    cone.ids.truncate(0);
+    cone.later.truncate(0);
+    cone.stack.truncate(0);
+    cone.stack.push(asked(l.code(), c))?;
+    Ok(())
 }
 
-/// The clauses from which a literal follows.
-pub(crate) fn cone_of(
+/// The cone becomes that of the clauses from which a literal of copy number `c` follows.
+pub(crate) fn find(
     alloc: Global,
     encoding: &Encoding,
     reset: &Bits,
     reasons: &[u32],
     k: u32,
+    cone: &mut Cone,
     places: &mut Vec<u32>,
     l: Lit,
-) -> Result<Cone, NoMemory>
+    c: u32,
+) -> Result<(), NoMemory>
     requires unrollable { IsUnrollable encoding.now k }
     requires width { length encoding.now.states ≡ length reset.now }
     requires small { length encoding.now.clauses ≤ ROW_ROOM }
     requires narrow { length encoding.now.states ≤ ROW_ROOM }
-    ensures { IfOk result (λ cone. AreRows (unrolled encoding.now reset.now k) cone.ids cone.clauses) }
+    ensures { OnOk result (AreRows (unrolled encoding.now reset.now k) cone.new.ids.items cone.new.clauses.items) }
 {
-    let mut stack = stack_of(alloc, l)?;
-    let mut cone = Cone {
-        literals: Vec::new(alloc),
-        clauses: Clauses::new(alloc),
-        ids: List::new(alloc),
-        later: Vec::new(alloc),
-    };
-    gather(
-        alloc, encoding, reset, reasons, k, &mut cone, places, &mut stack,
-    )?;
-    Ok(cone)
+    begin(cone, l, c)?;
+    gather(alloc, encoding, reset, reasons, k, cone, places)
 }

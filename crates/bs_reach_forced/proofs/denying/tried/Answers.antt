@@ -6,5 +6,5 @@ use Rattle.bs_reach_forced.proofs.denying.tried.Goals as goal
 
 pub literal_of_chain-found-requires : goal.literal_of_chain-found-requires
 literal_of_chain-found-requires c =
-    subst (All (λ d. has_distinct_variables d ≡ true)) (sym c.slice.ensures)
-    (rows_distinct c.args.encoding.now c.args.reset.now c.args.k c.requires.unrollable c.args.cone.ids c.args.cone.clauses c.requires.rows)
+    subst (All (λ d. has_distinct_variables d ≡ true)) (sym c.as_slice-2.ensures.value)
+    (rows_distinct c.args.encoding.now c.args.reset.now c.args.k c.requires.unrollable c.args.cone.now.ids.items c.args.cone.now.clauses.items c.requires.rows)
