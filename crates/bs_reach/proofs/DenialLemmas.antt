@@ -56,6 +56,14 @@ length_denied all e k c p d r =
       ends = denies_more (lit (k * e.variables + (c + 1)) true) (signed (next_at e ((c + 1) - 1)) p) d.lits ends;
     })
 
+-- what a guard and the state of a copy make
+pub due_of : (e : Encoded) (k c : ℕ) (p : List Bool) (guard : Literal) (a : Clause) → guard ≡ lit (k * e.variables + (c + 1)) true →
+    a ≡ guard ∷ signed (next_at e c) p → a ≡ length_assumes e k p (c + 1)
+due_of e k c p guard a is are =
+    let back : c ≡ (c + 1) - 1 = omega arith in
+    are ∙ (ap (λ (l : Literal). l ∷ signed (next_at e c) p) is ∙
+    ap (λ (m : ℕ). lit (k * e.variables + (c + 1)) true ∷ signed (next_at e m) p) back)
+
 -- one more at the end
 pub denials_push : (cs : List Clause) (e : Encoded) (k : ℕ) (p : List Bool) (c n : ℕ) (ds : List Denial) (d : Denial) → AreDenials cs e k p c ds →
     c + length ds ≡ n → Denies cs (length_assumes e k p (n + 1)) d → AreDenials cs e k p c (ds ++ d ∷ [])
