@@ -1,0 +1,3 @@
+pub mod LexemeCounts
+pub mod LexemeNumbers
+pub mod PieceLemmas

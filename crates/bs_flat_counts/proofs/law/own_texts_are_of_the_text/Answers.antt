@@ -1,0 +1,5 @@
+use Rattle.bs_flat_counts.proofs.PieceLemmas.{own_texts_are_of_the_text}
+use Rattle.bs_flat_counts.proofs.law.own_texts_are_of_the_text.Goals as goal
+
+pub returns : goal.returns
+returns c = own_texts_are_of_the_text
