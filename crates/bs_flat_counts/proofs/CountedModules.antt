@@ -34,7 +34,7 @@ use Rattle.bs_flat_meaning.proofs.MemberLemmas.{Member, all_member, contained, c
 use Rattle.bs_flat_meaning.proofs.MemberLemmas
 use Rattle.bs_flat_meaning.proofs.NameLemmas.{IsNumbered, all_append, lexemes_numbered}
 use Rattle.bs_flat_meaning.proofs.WholeLemmas.{read_modules_are_whole}
-use Rattle.bs_flat_counts.specs.Modules.{IsCounted, ModulesAreCounted}
+use Rattle.bs_flat_counts.specs.Modules.{HasFewNets, ModulesAreCounted}
 use Rattle.bs_flat_counts.specs.Texts.{IsOfText}
 use Rattle.bs_flat_counts.proofs.CountedLists.{Grows, all_fail, grows_key, grows_none, without}
 use Rattle.bs_flat_counts.proofs.CountedTerms.{TermSmall, WrittenSmall, statement_small}
@@ -248,7 +248,7 @@ statements_sound source tokens =
     all_member (IsNumbered count) ts t (lexemes_numbered source tokens)
     (contained ts t (all_members (Contains ts) s here.0 t k)))))
 
-counted : (table : List (List ℕ)) (m : ReadModule) → length table ≤ MAX_BYTES → IsLimited (length table) m → IsRead table m → IsCounted table m
+counted : (table : List (List ℕ)) (m : ReadModule) → length table ≤ MAX_BYTES → IsLimited (length table) m → IsRead table m → HasFewNets table m
 unfolding whole_parts
 counted table m few limited read =
     let count = length table in
