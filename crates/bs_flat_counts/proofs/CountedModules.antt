@@ -119,7 +119,7 @@ module _ (table : List (List ℕ)) (scope : ℕ → Option Says) where
   key_there (Constant place false) s = member_right _ (map scalar_key table) _ (inl refl)
   key_there (Constant place true) s = member_right _ (map scalar_key table) _ (inr (inl refl))
   key_there (Named n index) s =
-      member_left (scalar_key (text table n)) (map scalar_key table) _ (member_map scalar_key (text table n) table (member_at table n.id [] s))
+      member_left (scalar_key (text table n)) (map scalar_key table) _ (member_map scalar_key (text table n) table (member_at table n.id [] s.0))
 
   terms_add_few : (parts : Parts) (ts : List Term) → ((t : Term) → Member t ts → TermSmall (length table) t)
       → length (with_terms table scope parts ts).names ≤ length parts.names + (length table + 2)

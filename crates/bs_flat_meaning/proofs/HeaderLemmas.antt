@@ -47,7 +47,7 @@ module _ (count : ℕ) where
   rest_sound [] s = s
   rest_sound (t ∷ ts) s = s.1
 
-  pub name_small : (ts : Rest) → Sound ts → is_name (sort ts) ≡ true → IsSmall count (name ts)
+  name_small : (ts : Rest) → Sound ts → is_name (sort ts) ≡ true → IsSmall count (name ts)
   name_small [] s e = absurd (false≢true e)
   name_small (t ∷ ts) s e = s.0.below e
 
@@ -73,7 +73,7 @@ module _ (count : ℕ) where
       (λ e. gives_ok (With (IsSmall count)) (name ts, rest ts) (name_small ts s e, rest_sound ts s))
       (λ _. gives_err (With (IsSmall count)) (refused due.Nothing ts))
 
-  pub digits_sound : (ts : Rest) → Sound ts → Gives (With (Anything (ℕ))) (expect_digits ts)
+  digits_sound : (ts : Rest) → Sound ts → Gives (With (Anything (ℕ))) (expect_digits ts)
   digits_sound ts s = by (digits (sort ts))
     where
       by : (o : Option ℕ)
