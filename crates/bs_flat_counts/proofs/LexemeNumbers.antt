@@ -1,12 +1,10 @@
 -- The numbers of a text's lexemes, and of the connections that are read from them, take three bytes.
 use Rattle.std.proofs.Common.{◌≡◌, ℕ, ◌+◌, ◌-◌, ◌<◌, ◌≤◌, Bool, true, false, cond, ◌||◌, ◌&&◌, List, [], ◌∷◌, length, map}
-use Rattle.std.proofs.Common.{Option, Some, None, Ok, Err, All, Contains, nat_lt, refl, sym, ap, ◌∙◌, arith}
-use Rattle.std.specs.Prelude.{if◌then◌else◌, unwrap_or, ◌==◌}
+use Rattle.std.proofs.Common.{Option, Some, None, All, Contains, nat_lt, refl, sym, ap, ◌∙◌, arith}
+use Rattle.std.specs.Prelude.{unwrap_or, ◌==◌}
 use Rattle.std.specs.List.{AllByRecursion}
-use Prim.Native.String.{String}
 use Rattle.std.proofs.lemmas.Bool.{false≢true, lt-ltb, eq-eqb, ltb-false, and_from}
 use Rattle.std.proofs.lemmas.List.Elements.{All-contains, All-from_recursion, All-weaker, recursion_from_All}
-use Rattle.bs_bits.specs.Reading.{◌>>=◌}
 use Rattle.bs_net.specs.Names.{number_of}
 use Rattle.bs_net.proofs.NamesLemmas.{number_within}
 use Rattle.bs_lex.specs.declared.limits.TheConstants.{MAX_BYTES}
@@ -16,7 +14,6 @@ use Rattle.bs_verilog_lexemes.specs.declared.lexeme.Sort.{Sort}
 use Rattle.bs_verilog_lexemes.specs.declared.lexeme.Sort.TheVariants as sorts
 use Rattle.bs_verilog_lexemes.specs.Packed.{Lexeme}
 use Rattle.bs_verilog_lexemes.specs.Lexemes.{end_of, has_number, is_great, is_name, lexeme_of, lexemes_of, name_text, names_of, number_in, numbered_sort, spelling, token_sort, without_zeros}
-use Rattle.bs_verilog_syntax.specs.declared.reading.Due.{Due}
 use Rattle.bs_verilog_syntax.specs.declared.reading.Due.TheVariants as due
 use Rattle.bs_verilog_syntax.specs.declared.tree.Component.{Component}
 use Rattle.bs_verilog_syntax.specs.declared.tree.Connection.{Connection}
@@ -24,23 +21,24 @@ use Rattle.bs_verilog_syntax.specs.declared.tree.Connection.TheVariants.{Empty, 
 use Rattle.bs_verilog_syntax.specs.declared.tree.Shape.TheVariants as shapes
 use Rattle.bs_verilog_syntax.specs.declared.tree.Term.{Term}
 use Rattle.bs_verilog_syntax.specs.declared.tree.Term.TheVariants.{Constant, Named}
-use Rattle.bs_verilog_syntax.specs.Reading.{Rest, Read, at, sort, rest, name, bit, digits, is_at, refused, expect, expect_name, expect_digits}
-use Rattle.bs_verilog_syntax.specs.Terms.{index, term}
+use Rattle.bs_verilog_syntax.specs.Reading.{Rest, at, bit, digits, expect}
+use Rattle.bs_verilog_syntax.specs.Terms.{term}
 use Rattle.bs_verilog_syntax.specs.Parts as parts
-use Rattle.bs_flat_meaning.proofs.GivenLemmas.{Gives, gives_ok, gives_err, gives_on, gives_if}
+use Rattle.bs_flat_meaning.proofs.GivenLemmas.{Gives, gives_ok, gives_on}
 use Rattle.bs_flat_meaning.proofs.NameLemmas.{all_append}
 use Rattle.bs_flat_modules.specs.Copying.{is_numbered}
-use Rattle.bs_flat_counts.specs.Texts.{IsText, AreOf, IsSmallName, IsSmallIndex, IsSmallTerm, IsSmall, NumbersTakeThreeBytes, LexemesAreCopied}
+use Rattle.bs_flat_counts.specs.Texts.{IsText, StandIn, IsThreeByteName, IsThreeByteIndex, IsThreeByteTerm, IsThreeBytes, NumbersTakeThreeBytes, LexemesAreCopied}
+use Rattle.bs_flat_counts.proofs.CountedTerms.{Facts, Leaving, Left, OfConnection, OfTerm, by_place_fact, expect_left, pin_fact, place_fact, term_fact}
 use Rattle.bs_flat_counts.proofs.LexemeCounts.{few_names, text_in}
 
 -- ---- lexemes
 
 -- a lexeme of a text
-record IsCounted (t : Lexeme) : Type 0 where
+record HasSmallNumbers (t : Lexeme) : Type 0 where
   within : t.at ≤ MAX_BYTES
   named : is_name t.sort ≡ true → (t.at < MAX_BYTES) × (t.name < MAX_BYTES)
   one : (b : Bool) → bit t.sort ≡ Some b → t.at < MAX_BYTES
-  counts : IsSmallIndex (digits t.sort)
+  counts : IsThreeByteIndex (digits t.sort)
   numbered : is_numbered t.sort t.name ≡ true
 
 -- a number that is among so few names, and is 0 where none is told by it
@@ -49,7 +47,7 @@ record IsNumber (s : Sort) (number : ℕ) : Type 0 where
   none : has_number s ≡ false → number ≡ 0
 
 abbrev IsSorted : ℕ → Sort → Type 0
-IsSorted number s = IsSmallIndex (digits s) × (is_numbered s number ≡ true)
+IsSorted number s = IsThreeByteIndex (digits s) × (is_numbered s number ≡ true)
 
 no_number : (s : Sort) (number : ℕ) → IsNumber s number → has_number s ≡ false → (number == 0) ≡ true
 no_number s number n e = eq-eqb number 0 (n.none e)
@@ -99,7 +97,7 @@ number_none names source t = by (is_name (token_sort source t)) (is_great (token
     by false false e = refl
 
 token_counted : (names : List (List ℕ)) (source : List ℕ) (t : Token) → length names + GREAT < MAX_BYTES → t.start < MAX_BYTES
-    → IsCounted (lexeme_of names source t)
+    → HasSmallNumbers (lexeme_of names source t)
 token_counted names source t few begins =
     let number = number_in names (name_text source t) in
     let low = number_few names (name_text source t) in
@@ -114,12 +112,12 @@ token_counted names source t few begins =
     }
 
 tokens_counted : (names : List (List ℕ)) (source : List ℕ) (ts : List Token) → length names + GREAT < MAX_BYTES → length source ≤ MAX_BYTES
-    → AllByRecursion (λ (t : Token). t.start < length source) ts → AllByRecursion IsCounted (map (lexeme_of names source) ts)
+    → AllByRecursion (λ (t : Token). t.start < length source) ts → AllByRecursion HasSmallNumbers (map (lexeme_of names source) ts)
 tokens_counted names source [] few short b = tt
 tokens_counted names source (t ∷ ts) few short b =
     (token_counted names source t few (omega (arith, short, b.0)), tokens_counted names source ts few short b.1)
 
-end_counted : (source : List ℕ) → length source ≤ MAX_BYTES → IsCounted (end_of source)
+end_counted : (source : List ℕ) → length source ≤ MAX_BYTES → HasSmallNumbers (end_of source)
 end_counted source short = record {
   within = short;
   named = λ e. absurd (false≢true e);
@@ -128,153 +126,73 @@ end_counted source short = record {
   numbered = refl;
 }
 
-lexemes_counted : (source : List ℕ) (tokens : List Token) → IsText source tokens → AllByRecursion IsCounted (lexemes_of source tokens)
+lexemes_counted : (source : List ℕ) (tokens : List Token) → IsText source tokens → AllByRecursion HasSmallNumbers (lexemes_of source tokens)
 unfolding lexemes_of
 lexemes_counted source tokens text =
     let names = names_of source tokens in
-    all_append IsCounted (map (lexeme_of names source) tokens) (end_of source ∷ [])
+    all_append HasSmallNumbers (map (lexeme_of names source) tokens) (end_of source ∷ [])
     (tokens_counted names source tokens (few_names source tokens text) text.short (text_in source tokens text.are).begin)
     (end_counted source text.short, tt)
 
 pub lexemes_are_copied : LexemesAreCopied
 lexemes_are_copied source tokens text =
-    All-weaker IsCounted (λ t. (is_numbered t.sort t.name ≡ true) × (t.at ≤ MAX_BYTES)) (λ t c. (c.numbered, c.within)) (lexemes_of source tokens)
-    (All-from_recursion IsCounted (lexemes_of source tokens) (lexemes_counted source tokens text))
+    All-weaker HasSmallNumbers (λ t. (is_numbered t.sort t.name ≡ true) × (t.at ≤ MAX_BYTES)) (λ t c. (c.numbered, c.within)) (lexemes_of source tokens)
+    (All-from_recursion HasSmallNumbers (lexemes_of source tokens) (lexemes_counted source tokens text))
 
 -- ---- productions
 
--- the lexemes that are left
-abbrev Left : Rest → Type 0
-Left ts = AllByRecursion IsCounted ts
+-- each number takes three bytes
+abbrev numbers : Facts
+numbers = record {
+  OfLexeme = HasSmallNumbers;
+  OfName = IsThreeByteName;
+  OfIndex = IsThreeByteIndex;
+  OfPlace = λ place. place < MAX_BYTES;
+  named = λ t c. c.named;
+  counts = λ t c. c.counts;
+  one = λ t c. c.one;
+  none = tt;
+}
 
--- a value that is read, with what is left
-abbrev With : {A : Type 0} → (A → Type 0) → A × Rest → Type 0
-With Q x = Q x.0 × Left x.1
+term_small : (t : Term) → OfTerm numbers t → IsThreeByteTerm t
+term_small (Constant place b) h = h
+term_small (Named n index) h = h
 
-rest_left : (ts : Rest) → Left ts → Left (rest ts)
-rest_left [] l = l
-rest_left (t ∷ ts) l = l.1
+small : (c : Connection) → OfConnection numbers c → IsThreeBytes c
+small Empty h = tt
+small (Place t) h = term_small t h
+small (Pin n None) h = (h, tt)
+small (Pin n (Some t)) h = (h.0, term_small t h.1)
 
-name_small : (ts : Rest) → Left ts → is_name (sort ts) ≡ true → IsSmallName (name ts)
-name_small [] l e = absurd (false≢true e)
-name_small (t ∷ ts) l e = l.0.named e
+abbrev AreThreeBytes : Component → Type 0
+AreThreeBytes p = All IsThreeBytes p.connections
 
-bit_small : (ts : Rest) → Left ts → (b : Bool) → bit (sort ts) ≡ Some b → at ts < MAX_BYTES
-bit_small [] l b e = absurd cc
-bit_small (t ∷ ts) l b e = l.0.one b e
-
-digits_small : (ts : Rest) → Left ts → IsSmallIndex (digits (sort ts))
-digits_small [] l = tt
-digits_small (t ∷ ts) l = l.0.counts
-
-expect_left : (s : String) (d : Due) (ts : Rest) → Left ts → Gives Left (expect s d ts)
-expect_left s d ts l =
-    gives_if Left (is_at s ts) (Ok (rest ts)) (Err (refused d ts)) (λ _. gives_ok Left (rest ts) (rest_left ts l)) (λ _. gives_err Left (refused d ts))
-
-expect_name_small : (ts : Rest) → Left ts → Gives (With IsSmallName) (expect_name ts)
-expect_name_small ts l =
-    gives_if (With IsSmallName) (is_name (sort ts)) (Ok (name ts, rest ts)) (Err (refused due.Nothing ts))
-    (λ e. gives_ok (With IsSmallName) (name ts, rest ts) (name_small ts l e, rest_left ts l)) (λ _. gives_err (With IsSmallName) (refused due.Nothing ts))
-
-abbrev IsSmallNumber : ℕ → Type 0
-IsSmallNumber n = n < MAX_BYTES
-
-expect_digits_small : (ts : Rest) → Left ts → Gives (With IsSmallNumber) (expect_digits ts)
-expect_digits_small ts l = by (digits (sort ts)) (digits_small ts l)
-  where
-    by : (o : Option ℕ) → IsSmallIndex o
-        → Gives (With IsSmallNumber) (elim o as (λ _. Read ℕ) [ Some n ↦ Ok (n, rest ts) | None ↦ Err (refused due.Nothing ts) ])
-    by (Some n) h = gives_ok (With IsSmallNumber) (n, rest ts) (h, rest_left ts l)
-    by None h = gives_err (With IsSmallNumber) (refused due.Nothing ts)
-
-index_small : (ts : Rest) → Left ts → Gives (With IsSmallIndex) (index ts)
-unfolding index
-index_small ts l =
-    gives_if (With IsSmallIndex) (is_at "[" ts) _ _
-    (λ _.
-    gives_on (With IsSmallNumber) (With IsSmallIndex) (expect_digits (rest ts)) _ (expect_digits_small (rest ts) (rest_left ts l))
-    (λ number n.
-    gives_on Left (With IsSmallIndex) (expect "]" due.AfterIndex number.1) _ (expect_left "]" due.AfterIndex number.1 n.1)
-    (λ after a. gives_ok (With IsSmallIndex) (Some number.0, after) (n.0, a))))
-    (λ _. gives_ok (With IsSmallIndex) (None, ts) (tt, l))
-
-term_small : (ts : Rest) → Left ts → Gives (With IsSmallTerm) (term ts)
-unfolding term
-term_small ts l = by (bit (sort ts)) refl
-  where
-    by : (o : Option Bool) → bit (sort ts) ≡ o
-        → Gives (With IsSmallTerm)
-        (elim o as (λ _. Read Term) [
-          | Some b ↦ Ok (Constant (at ts) b, rest ts)
-          | None ↦
-              if is_name (sort ts) then (do
-                i ← index (rest ts)
-                Ok (Named (name ts) i.0, i.1))
-              else Err (refused due.Term ts)
-        ])
-    by (Some b) e = gives_ok (With IsSmallTerm) (Constant (at ts) b, rest ts) (bit_small ts l b e, rest_left ts l)
-    by None e =
-        gives_if (With IsSmallTerm) (is_name (sort ts)) _ _
-        (λ named.
-        gives_on (With IsSmallIndex) (With IsSmallTerm) (index (rest ts)) _ (index_small (rest ts) (rest_left ts l))
-        (λ i h. gives_ok (With IsSmallTerm) (Named (name ts) i.0, i.1) ((name_small ts l named, h.0), h.1)))
-        (λ _. gives_err (With IsSmallTerm) (refused due.Term ts))
-
-by_place_small : (ts : Rest) → Left ts → Gives (With IsSmall) (parts.by_place ts)
-unfolding parts.by_place
-by_place_small ts l =
-    gives_on (With IsSmallTerm) (With IsSmall) (term ts) _ (term_small ts l) (λ t h. gives_ok (With IsSmall) (Place t.0, t.1) h)
-
-place_small : (ts : Rest) → Left ts → Gives (With IsSmall) (parts.place ts)
-unfolding parts.place
-place_small ts l =
-    gives_if (With IsSmall) (is_at ",)" ts) _ _ (λ _. gives_ok (With IsSmall) (Empty, ts) (tt, l)) (λ _. by_place_small ts l)
-
-pin_small : (ts : Rest) → Left ts → Gives (With IsSmall) (parts.pin ts)
-unfolding parts.pin
-pin_small ts l =
-    gives_on Left (With IsSmall) (expect "." due.Nothing ts) _ (expect_left "." due.Nothing ts l)
-    (λ dot d.
-    gives_on (With IsSmallName) (With IsSmall) (expect_name dot) _ (expect_name_small dot d)
-    (λ n k.
-    gives_on Left (With IsSmall) (expect "(" due.Nothing n.1) _ (expect_left "(" due.Nothing n.1 k.1)
-    (λ inside i.
-    gives_if (With IsSmall) (is_at ")" inside) _ _ (λ _. gives_ok (With IsSmall) (Pin n.0 None, rest inside) ((k.0, tt), rest_left inside i))
-    (λ _.
-    gives_on (With IsSmallTerm) (With IsSmall) (term inside) _ (term_small inside i)
-    (λ t h.
-    gives_on Left (With IsSmall) (expect ")" due.AfterTerm t.1) _ (expect_left ")" due.AfterTerm t.1 h.1)
-    (λ after a. gives_ok (With IsSmall) (Pin n.0 (Some t.0), after) ((k.0, h.0), a)))))))
-
-abbrev AreSmall : Component → Type 0
-AreSmall p = All IsSmall p.connections
-
-assignment_small : (ts : Rest) → Left ts → Gives (With AreSmall) (parts.assignment ts)
+assignment_small : (ts : Rest) → Left numbers ts → Gives (Leaving numbers AreThreeBytes) (parts.assignment ts)
 unfolding parts.assignment
 assignment_small ts l =
-    gives_on (With IsSmallTerm) (With AreSmall) (term ts) _ (term_small ts l)
+    gives_on (Leaving numbers (OfTerm numbers)) (Leaving numbers AreThreeBytes) (term ts) _ (term_fact numbers ts l)
     (λ left h.
-    gives_on Left (With AreSmall) (expect "=" due.AfterTerm left.1) _ (expect_left "=" due.AfterTerm left.1 h.1)
+    gives_on (Left numbers) (Leaving numbers AreThreeBytes) (expect "=" due.AfterTerm left.1) _ (expect_left numbers "=" due.AfterTerm left.1 h.1)
     (λ equals e.
-    gives_on (With IsSmallTerm) (With AreSmall) (term equals) _ (term_small equals e)
+    gives_on (Leaving numbers (OfTerm numbers)) (Leaving numbers AreThreeBytes) (term equals) _ (term_fact numbers equals e)
     (λ right k.
     let both : List Connection = Place left.0 ∷ Place right.0 ∷ [] in
-    gives_ok (With AreSmall) (record { shape = shapes.Assign; at = at ts; connections = both }, right.1)
-    (All-from_recursion IsSmall both (h.0, (k.0, tt)), k.1))))
+    gives_ok (Leaving numbers AreThreeBytes) (record { shape = shapes.Assign; at = at ts; connections = both }, right.1)
+    (All-from_recursion IsThreeBytes both (term_small left.0 h.0, (term_small right.0 k.0, tt)), k.1))))
 
-text_left : (source : List ℕ) (tokens : List Token) (ts : Rest) → IsText source tokens → AreOf source tokens ts → Left ts
+text_left : (source : List ℕ) (tokens : List Token) (ts : Rest) → IsText source tokens → StandIn source tokens ts → Left numbers ts
 text_left source tokens ts text of =
     let all = lexemes_of source tokens in
-    let counted : All IsCounted all = All-from_recursion IsCounted all (lexemes_counted source tokens text) in
-    recursion_from_All IsCounted ts
-    (All-weaker (Contains all) IsCounted (λ t c. All-contains IsCounted all t counted c) ts of)
+    let counted : All HasSmallNumbers all = All-from_recursion HasSmallNumbers all (lexemes_counted source tokens text) in
+    recursion_from_All HasSmallNumbers ts
+    (All-weaker (Contains all) HasSmallNumbers (λ t c. All-contains HasSmallNumbers all t counted c) ts of)
 
 pub numbers_take_three_bytes : NumbersTakeThreeBytes
 numbers_take_three_bytes source tokens ts text of =
     let l = text_left source tokens ts text of in
     record {
-      by_place = λ c after e. ((by_place_small ts l).is (c, after) e).0;
-      place = λ c after e. ((place_small ts l).is (c, after) e).0;
-      pin = λ c after e. ((pin_small ts l).is (c, after) e).0;
+      by_place = λ c after e. small c (((by_place_fact numbers ts l).is (c, after) e).0);
+      place = λ c after e. small c (((place_fact numbers ts l).is (c, after) e).0);
+      pin = λ c after e. small c (((pin_fact numbers ts l).is (c, after) e).0);
       assignment = λ p after e. ((assignment_small ts l).is (p, after) e).0;
     }

@@ -12,7 +12,7 @@ use Rattle.bs_verilog.specs.Netlist.{meaning_of}
 use Rattle.bs_flat_meaning.specs.declared.limits.TheConstants.{MAX_OWN_NETS}
 use Rattle.bs_flat_meaning.specs.Connecting.{ReadModule, ports_of, whole_parts}
 use Rattle.bs_flat_meaning.specs.Reading.{read_modules}
-use Rattle.bs_flat_counts.specs.Texts.{IsText, AreOf}
+use Rattle.bs_flat_counts.specs.Texts.{IsText, StandIn}
 
 -- parts that are built from these lexemes
 pub record ArePartsOf (ts : Rest) (p : Parts) : Type 0 where
@@ -26,11 +26,11 @@ pub record ArePartsOf (ts : Rest) (p : Parts) : Type 0 where
 -- of a text of one module, and of the own text of one of several
 abbrev pub PartsAreCounted : Type 0
 PartsAreCounted =
-    (source : List ℕ) (tokens : List Token) (ts : Rest) (m : Module) (p : Parts) → IsText source tokens → AreOf source tokens ts
+    (source : List ℕ) (tokens : List Token) (ts : Rest) (m : Module) (p : Parts) → IsText source tokens → StandIn source tokens ts
     → syntax_of ts ≡ Ok m → meaning_of (names_of source tokens) m ≡ Ok p → ArePartsOf ts p
 
 -- a module of a text of several: its instances, its nets with those of its connections, and the bits of its ports
-pub record IsCounted (table : List (List ℕ)) (m : ReadModule) : Type 0 where
+pub record HasFewNets (table : List (List ℕ)) (m : ReadModule) : Type 0 where
   pub names : length m.own.names ≤ MAX_OWN_NETS
   pub instances : length m.written ≤ MAX_BYTES
   pub keys : length (whole_parts table m).names ≤ MAX_OWN_NETS + (MAX_BYTES + 2)
@@ -39,4 +39,4 @@ pub record IsCounted (table : List (List ℕ)) (m : ReadModule) : Type 0 where
 abbrev pub ModulesAreCounted : Type 0
 ModulesAreCounted =
     (source : List ℕ) (tokens : List Token) (ks : List ReadModule) → IsText source tokens
-    → read_modules (names_of source tokens) (lexemes_of source tokens) ≡ Ok ks → All (IsCounted (names_of source tokens)) ks
+    → read_modules (names_of source tokens) (lexemes_of source tokens) ≡ Ok ks → All (HasFewNets (names_of source tokens)) ks

@@ -5,7 +5,6 @@ use Rattle.bs_lex.specs.declared.limits.TheConstants.{MAX_BYTES}
 use Rattle.bs_lex.specs.declared.token.Token.{Token}
 use Rattle.bs_lex.specs.Tokens.{tokens_of}
 use Rattle.bs_verilog_lexemes.specs.declared.lexeme.Name.{Name}
-use Rattle.bs_verilog_lexemes.specs.Packed.{Lexeme}
 use Rattle.bs_verilog_lexemes.specs.Lexemes.{lexemes_of}
 use Rattle.bs_verilog_syntax.specs.declared.tree.Component.{Component}
 use Rattle.bs_verilog_syntax.specs.declared.tree.Connection.{Connection}
@@ -29,42 +28,42 @@ pub record IsText (source : List ℕ) (tokens : List Token) : Type 0 where
   pub are : tokens_of source ≡ Ok tokens
 
 -- lexemes of a text, in any order and number: own texts are put together from them
-abbrev pub AreOf : List ℕ → List Token → Rest → Type 0
-AreOf source tokens ts = All (Contains (lexemes_of source tokens)) ts
+abbrev pub StandIn : List ℕ → List Token → Rest → Type 0
+StandIn source tokens ts = All (Contains (lexemes_of source tokens)) ts
 
 -- ---- numbers
 
 -- the place and the number of a name take three bytes
-abbrev pub IsSmallName : Name → Type 0
-IsSmallName n = (n.at < MAX_BYTES) × (n.id < MAX_BYTES)
+abbrev pub IsThreeByteName : Name → Type 0
+IsThreeByteName n = (n.at < MAX_BYTES) × (n.id < MAX_BYTES)
 
-abbrev pub IsSmallIndex : Option ℕ → Type 0
-IsSmallIndex None = Unit {0}
-IsSmallIndex (Some i) = i < MAX_BYTES
+abbrev pub IsThreeByteIndex : Option ℕ → Type 0
+IsThreeByteIndex None = Unit {0}
+IsThreeByteIndex (Some i) = i < MAX_BYTES
 
-abbrev pub IsSmallTerm : Term → Type 0
-IsSmallTerm (Constant place bit) = place < MAX_BYTES
-IsSmallTerm (Named n index) = IsSmallName n × IsSmallIndex index
+abbrev pub IsThreeByteTerm : Term → Type 0
+IsThreeByteTerm (Constant place bit) = place < MAX_BYTES
+IsThreeByteTerm (Named n index) = IsThreeByteName n × IsThreeByteIndex index
 
-abbrev pub IsSmallGiven : Option Term → Type 0
-IsSmallGiven None = Unit {0}
-IsSmallGiven (Some t) = IsSmallTerm t
+abbrev pub IsThreeByteGiven : Option Term → Type 0
+IsThreeByteGiven None = Unit {0}
+IsThreeByteGiven (Some t) = IsThreeByteTerm t
 
 -- the places, numbers and indices of a connection take three bytes
-abbrev pub IsSmall : Connection → Type 0
-IsSmall Empty = Unit {0}
-IsSmall (Place t) = IsSmallTerm t
-IsSmall (Pin n given) = IsSmallName n × IsSmallGiven given
+abbrev pub IsThreeBytes : Connection → Type 0
+IsThreeBytes Empty = Unit {0}
+IsThreeBytes (Place t) = IsThreeByteTerm t
+IsThreeBytes (Pin n given) = IsThreeByteName n × IsThreeByteGiven given
 
 -- what each production of a connection reads from these lexemes, if it reads one
-pub record ReadsSmall (ts : Rest) : Type 0 where
-  pub by_place : (c : Connection) (after : Rest) → parts.by_place ts ≡ Ok (c, after) → IsSmall c
-  pub place : (c : Connection) (after : Rest) → parts.place ts ≡ Ok (c, after) → IsSmall c
-  pub pin : (c : Connection) (after : Rest) → parts.pin ts ≡ Ok (c, after) → IsSmall c
-  pub assignment : (p : Component) (after : Rest) → parts.assignment ts ≡ Ok (p, after) → All IsSmall p.connections
+pub record ReadsThreeBytes (ts : Rest) : Type 0 where
+  pub by_place : (c : Connection) (after : Rest) → parts.by_place ts ≡ Ok (c, after) → IsThreeBytes c
+  pub place : (c : Connection) (after : Rest) → parts.place ts ≡ Ok (c, after) → IsThreeBytes c
+  pub pin : (c : Connection) (after : Rest) → parts.pin ts ≡ Ok (c, after) → IsThreeBytes c
+  pub assignment : (p : Component) (after : Rest) → parts.assignment ts ≡ Ok (p, after) → All IsThreeBytes p.connections
 
 abbrev pub NumbersTakeThreeBytes : Type 0
-NumbersTakeThreeBytes = (source : List ℕ) (tokens : List Token) (ts : Rest) → IsText source tokens → AreOf source tokens ts → ReadsSmall ts
+NumbersTakeThreeBytes = (source : List ℕ) (tokens : List Token) (ts : Rest) → IsText source tokens → StandIn source tokens ts → ReadsThreeBytes ts
 
 -- each lexeme of a text has a number that its copy may have
 abbrev pub LexemesAreCopied : Type 0
@@ -75,7 +74,7 @@ LexemesAreCopied =
 -- ---- connections
 
 -- the connections of all parts together, the parts, and the names of a module are no more than the lexemes from which it is read
-pub record IsShort (ts : Rest) (m : Module) : Type 0 where
+pub record HasFewParts (ts : Rest) (m : Module) : Type 0 where
   pub connections : sum_by (λ p. length p.connections) m.parts ≤ length ts
   pub parts : length m.parts ≤ length ts
   pub header : length m.header ≤ length ts
@@ -83,7 +82,7 @@ pub record IsShort (ts : Rest) (m : Module) : Type 0 where
 
 -- a module, and the instances of a statement
 pub record ReadsShort (ts : Rest) : Type 0 where
-  pub whole : (m : Module) → syntax_of ts ≡ Ok m → IsShort ts m
+  pub whole : (m : Module) → syntax_of ts ≡ Ok m → HasFewParts ts m
   pub instances : (ws : List Written) (after : Rest) → instancing ts ≡ Ok (ws, after) →
       (length ws ≤ length ts) × (sum_by (λ w. length w.connections) ws ≤ length ts)
 

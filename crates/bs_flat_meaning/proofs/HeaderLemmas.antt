@@ -43,7 +43,7 @@ module _ (count : ℕ) where
   abbrev pub Anything : (A : Type 0) → A → Type 0
   Anything A x = Unit {0}
 
-  rest_sound : (ts : Rest) → Sound ts → Sound (rest ts)
+  pub rest_sound : (ts : Rest) → Sound ts → Sound (rest ts)
   rest_sound [] s = s
   rest_sound (t ∷ ts) s = s.1
 
@@ -62,12 +62,12 @@ module _ (count : ℕ) where
       by Over later = gives_ok Sound (t ∷ ts) s
       by Unclosed later = gives_err Sound (Syntax t.at)
 
-  expect_sound : (s : String) (d : Due) (ts : Rest) → Sound ts → Gives Sound (expect s d ts)
+  pub expect_sound : (s : String) (d : Due) (ts : Rest) → Sound ts → Gives Sound (expect s d ts)
   expect_sound s d ts sound =
       gives_if Sound (is_at s ts) (Ok (rest ts)) (Err (refused d ts)) (λ _. gives_ok Sound (rest ts) (rest_sound ts sound))
       (λ _. gives_err Sound (refused d ts))
 
-  expect_name_small : (ts : Rest) → Sound ts → Gives (With (IsSmall count)) (expect_name ts)
+  pub expect_name_small : (ts : Rest) → Sound ts → Gives (With (IsSmall count)) (expect_name ts)
   expect_name_small ts s =
       gives_if (With (IsSmall count)) (is_name (sort ts)) (Ok (name ts, rest ts)) (Err (refused due.Nothing ts))
       (λ e. gives_ok (With (IsSmall count)) (name ts, rest ts) (name_small ts s e, rest_sound ts s))
@@ -96,7 +96,7 @@ module _ (count : ℕ) where
       (λ after a. gives_ok (With (Anything (Option Range))) (Some (record { at = at ts; left = left.0; right = right.0 }), after) (tt, a))))))
       (λ _. gives_ok (With (Anything (Option Range))) (None, ts) (tt, s))
 
-  commas_sound : {A : Type 0} (Q : A → Type 0) (one : Rest → Read A) → ((ts : Rest) → Sound ts → Gives (With Q) (one ts)) → (n : ℕ) (ts : Rest) → Sound ts
+  pub commas_sound : {A : Type 0} (Q : A → Type 0) (one : Rest → Read A) → ((ts : Rest) → Sound ts → Gives (With Q) (one ts)) → (n : ℕ) (ts : Rest) → Sound ts
       → Gives (With (AllByRecursion Q)) (with_commas one n ts)
   unfolding with_commas
   commas_sound Q one g zero ts s = gives_err (With (AllByRecursion Q)) (refused due.Nothing ts)
