@@ -1,2 +1,4 @@
 pub mod ShortLemmas
 pub mod ShortModules
+pub mod BuiltLemmas
+pub mod BuiltNames
