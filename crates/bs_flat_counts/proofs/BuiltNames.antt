@@ -43,47 +43,25 @@ use Rattle.bs_flat_meaning.proofs.NumberLemmas.{Apart}
 use Rattle.bs_flat_meaning.proofs.NameLemmas.{IsSmall, AreSmall, IsNumbered, ids, names_apart, texts_apart, lexemes_numbered}
 use Rattle.bs_flat_meaning.proofs.RoomLemmas.{IsBounded, AreBounded, keys_on, header_apart}
 use Rattle.bs_flat_meaning.proofs.GivenLemmas.{Gives, gives_ok, gives_on}
-use Rattle.bs_flat_meaning.proofs.HeaderLemmas.{Sound, syntax_small}
+use Rattle.bs_flat_meaning.proofs.HeaderLemmas.{Sound, rest_sound, name_small, syntax_small}
+use Rattle.bs_flat_meaning.proofs.WholeLemmas.{both_none, none_found, bounded_range, said_bounded, all_bounded}
 use Rattle.bs_flat_counts.specs.Modules.{ArePartsOf, PartsAreCounted}
+use Rattle.bs_flat_counts.proofs.CountedLists.{without, all_fail}
 use Rattle.bs_flat_counts.proofs.ShortLemmas.{total, weight}
 use Rattle.bs_flat_counts.proofs.ShortModules.{module_within}
 use Rattle.bs_flat_counts.proofs.BuiltLemmas.{Builds, parts_add, numbered_few}
 
 -- ---- lists
 
--- what is left of a list without one member
-record Without {X : Type 0} (x : X) (ys : List X) : Type 0 where
-  others : List X
-  one_less : length ys ≡ suc (length others)
-  stay : (v : X) → Member v ys → (v ≡ x → ⊥) → Member v others
-
-without : {X : Type 0} (x : X) (ys : List X) → Member x ys → Without x ys
-without x [] m = absurd m
-without {X} x (y ∷ ys) m =
-    ⊎_elim
-    (λ (e : x ≡ y).
-    record {
-      others = ys;
-      one_less = refl;
-      stay = λ v k other. ⊎_elim (λ (same : v ≡ y). absurd (other (same ∙ sym e))) (λ (l : Member v ys). l) k;
-    })
-    (λ (later : Member x ys).
-    let r = without x ys later in
-    let less = r.one_less in
-    record {
-      others = y ∷ r.others;
-      one_less = omega (arith, less);
-      stay = λ v k other. ⊎_elim (λ (same : v ≡ y). inl same) (λ (l : Member v ys). inr (r.stay v l other)) k;
-    })
-    m
-
 -- members that differ are no more than the list
 no_more : {X : Type 0} (xs ys : List X) → Apart xs → ((v : X) → Member v xs → Member v ys) → length xs ≤ length ys
 no_more [] ys a h = omega arith
 no_more {X} (x ∷ xs) ys a h =
-    let r = without x ys (h x (inl refl)) in
-    let less = r.one_less in
-    let rest = no_more xs r.others a.1 (λ v m. r.stay v (h v (inr m)) (λ e. a.0 (subst (λ (u : X). Member u xs) e m))) in
+    let w = without x ys (h x (inl refl)) in
+    let less = w.fewer in
+    let rest =
+        no_more xs w.left a.1
+        (λ v m. ⊎_elim (λ (e : v ≡ x). absurd (a.0 (subst (λ (u : X). Member u xs) e m))) (λ (o : Member v w.left). o) (w.others v (h v (inr m)))) in
     omega (arith, less, rest)
 
 any_member : {X : Type 0} (p : X → Bool) (xs : List X) → list_any p xs ≡ true → (x : X) × Member x xs × (p x ≡ true)
@@ -94,12 +72,6 @@ any_member {X} p (x ∷ xs) e = by (p x) refl e (any_member p xs)
         → (y : X) × Member y (x ∷ xs) × (p y ≡ true)
     by true is t later = (x, inl refl, is)
     by false is t later = let r = later t in (r.0, inr r.1, r.2)
-
-none_member : {X : Type 0} (p : X → Bool) (xs : List X) (x : X) → list_any p xs ≡ false → Member x xs → p x ≡ false
-none_member p [] x e m = absurd m
-none_member {X} p (y ∷ ys) x e m =
-    let parts = or_parts (p y) (list_any p ys) e in
-    ⊎_elim (λ (same : x ≡ y). ap p same ∙ parts.0) (λ (l : Member x ys). none_member p ys x parts.1 l) m
 
 -- each stands in this relation to those after it
 abbrev Ordered : {X : Type 0} → (X → X → Type 0) → List X → Type 0
@@ -342,35 +314,6 @@ consts_count table names scope (d ∷ ds) h =
 
 -- ---- declarations without a fault
 
-both_none : (a b : Option VerilogFault) → (a or_else b) ≡ None → (a ≡ None) × (b ≡ None)
-both_none (Some fault) b e = absurd cc
-both_none None b e = (refl, e)
-
-none_found : {A B : Type 0} (f : A → B) (o : Option A) → option_map f o ≡ None → o ≡ None
-none_found f (Some x) e = absurd cc
-none_found f None e = refl
-
-bounded_range : (o : Option Range)
-    → elim o as (λ _. Bool) [ Some r ↦ nat_lt MAX_INDEX r.left || nat_lt MAX_INDEX r.right | None ↦ false ] ≡ false → IsBounded o
-bounded_range (Some r) e =
-    let parts = or_parts (nat_lt MAX_INDEX r.left) (nat_lt MAX_INDEX r.right) e in
-    (ltb-false MAX_INDEX r.left parts.0, ltb-false MAX_INDEX r.right parts.1)
-bounded_range None e = tt
-
-said_bounded : (ds : List Declared) (id : ℕ) → ((d : Declared) → Member d ds → IsBounded d.says.range) → IsBounded (range_of (said ds id))
-unfolding said
-said_bounded [] id h = tt
-said_bounded (d ∷ ds) id h = by (d.name.id == id) (said ds id) (said_bounded ds id (λ k m. h k (inr m)))
-  where
-    by : (b : Bool) (later : Option Says) → IsBounded (range_of later) → IsBounded (range_of (together (cond b (Some d.says) None) later))
-    by true None k = h d (inl refl)
-    by true (Some s) k = h d (inl refl)
-    by false later k = k
-
-all_bounded : (table : List (List ℕ)) (scope : ℕ → Option Says) (ns : List Name) → ((id : ℕ) → IsBounded (range_of (scope id))) → AreBounded table scope ns
-all_bounded table scope [] h = tt
-all_bounded table scope (n ∷ ns) h = (h n.id, all_bounded table scope ns h)
-
 -- another name than one before
 abbrev Differs : Name → Name → Type 0
 Differs y x = y.id ≡ x.id → ⊥
@@ -408,7 +351,7 @@ is_declared table m e =
       header =
           names_differ m.header
           (ordered stands_before Differs
-          (λ ys y x k f same. true≢false (sym (eq-eqb y.id x.id same) ∙ none_member (λ (n : Name). n.id == x.id) ys y f k)) [] m.header once).within;
+          (λ ys y x k f same. true≢false (sym (eq-eqb y.id x.id same) ∙ all_fail (λ (n : Name). n.id == x.id) ys y f k)) [] m.header once).within;
       declared = (ordered is_redeclared Precedes precedes [] m.declared new).within;
       bounded = λ id. said_bounded m.declared id (λ d l. bounded_range d.says.range (missed is_too_wide m.declared d narrow l));
       few = none_over table nets few.1;
@@ -464,14 +407,6 @@ built_count table ts m apart header declared short d =
     }))
 
 -- ---- a text
-
-rest_sound : (count : ℕ) (ts : Rest) → Sound count ts → Sound count (rest ts)
-rest_sound count [] s = s
-rest_sound count (t ∷ ts) s = s.1
-
-name_small : (count : ℕ) (ts : Rest) → Sound count ts → is_name (sort ts) ≡ true → IsSmall count (name ts)
-name_small count [] s e = absurd (false≢true e)
-name_small count (t ∷ ts) s e = s.0.below e
 
 of_text_sound : (source : List ℕ) (tokens : List Token) (ts : Rest) → AllByRecursion (Contains (lexemes_of source tokens)) ts
     → Sound (length (names_of source tokens)) ts
