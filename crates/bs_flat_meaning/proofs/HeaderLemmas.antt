@@ -47,7 +47,7 @@ module _ (count : ℕ) where
   rest_sound [] s = s
   rest_sound (t ∷ ts) s = s.1
 
-  name_small : (ts : Rest) → Sound ts → is_name (sort ts) ≡ true → IsSmall count (name ts)
+  pub name_small : (ts : Rest) → Sound ts → is_name (sort ts) ≡ true → IsSmall count (name ts)
   name_small [] s e = absurd (false≢true e)
   name_small (t ∷ ts) s e = s.0.below e
 

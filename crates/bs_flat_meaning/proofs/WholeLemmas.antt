@@ -45,11 +45,11 @@ use Rattle.bs_flat_meaning.proofs.OwnLemmas.{own_text_sound}
 
 -- ---- no fault in the declarations
 
-both_none : (a b : Option VerilogFault) → (a or_else b) ≡ None → (a ≡ None) × (b ≡ None)
+pub both_none : (a b : Option VerilogFault) → (a or_else b) ≡ None → (a ≡ None) × (b ≡ None)
 both_none (Some fault) b e = absurd cc
 both_none None b e = (refl, e)
 
-none_found : {A B : Type 0} (f : A → B) (o : Option A) → option_map f o ≡ None → o ≡ None
+pub none_found : {A B : Type 0} (f : A → B) (o : Option A) → option_map f o ≡ None → o ≡ None
 none_found f (Some x) e = absurd cc
 none_found f None e = refl
 
@@ -82,14 +82,14 @@ header_once before (x ∷ xs) e = by (is_in before x.id) refl e (header_once (be
           λ n m. ⊎_elim (λ (same : n ≡ x). ap (λ (k : Name). is_in before k.id) same ∙ is) (λ (l : Member n xs). (parts n l).0) m,
         )
 
-bounded_range : (o : Option Range)
+pub bounded_range : (o : Option Range)
     → elim o as (λ _. Bool) [ Some r ↦ nat_lt MAX_INDEX r.left || nat_lt MAX_INDEX r.right | None ↦ false ] ≡ false → IsBounded o
 bounded_range (Some r) e =
     let parts = or_parts (nat_lt MAX_INDEX r.left) (nat_lt MAX_INDEX r.right) e in
     (ltb-false MAX_INDEX r.left parts.0, ltb-false MAX_INDEX r.right parts.1)
 bounded_range None e = tt
 
-said_bounded : (ds : List Declared) (id : ℕ) → ((d : Declared) → Member d ds → IsBounded d.says.range) → IsBounded (range_of (said ds id))
+pub said_bounded : (ds : List Declared) (id : ℕ) → ((d : Declared) → Member d ds → IsBounded d.says.range) → IsBounded (range_of (said ds id))
 unfolding said
 said_bounded [] id h = tt
 said_bounded (d ∷ ds) id h = by (d.name.id == id) (said ds id) (said_bounded ds id (λ k m. h k (inr m)))
@@ -102,7 +102,7 @@ said_bounded (d ∷ ds) id h = by (d.name.id == id) (said ds id) (said_bounded d
     by true None k = here
     by false later k = k
 
-all_bounded : (table : List (List ℕ)) (scope : ℕ → Option Says) (ns : List Name) → ((id : ℕ) → IsBounded (range_of (scope id))) → AreBounded table scope ns
+pub all_bounded : (table : List (List ℕ)) (scope : ℕ → Option Says) (ns : List Name) → ((id : ℕ) → IsBounded (range_of (scope id))) → AreBounded table scope ns
 all_bounded table scope [] h = tt
 all_bounded table scope (n ∷ ns) h = (h n.id, all_bounded table scope ns h)
 
