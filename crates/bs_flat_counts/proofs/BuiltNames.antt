@@ -1,11 +1,11 @@
 -- The bits of the ports of a module, and those of its supplies, are no more than the declared names.
-use Rattle.std.proofs.Common.{◌≡◌, ℕ, suc, ◌≤◌, ◌+◌, Bool, true, false, cond, not, ◌||◌, List, [], ◌∷◌, ◌++◌, map, length, get_or, refl, arith, subst, ap, sym, ◌∙◌}
-use Rattle.std.proofs.Common.{◌⊎◌, inl, inr, ⊎_elim, Option, Some, None, Result, Ok, Err, nat_lt}
-use Rattle.std.specs.Prelude.{find, filter, option_map, slice_index_or, ◌==◌}
+use Rattle.std.proofs.Common.{◌≡◌, ℕ, ◌≤◌, ◌+◌, Bool, true, false, cond, not, ◌||◌, List, [], ◌∷◌, ◌++◌, map, length, get_or, refl, arith, subst, ap, sym, ◌∙◌}
+use Rattle.std.proofs.Common.{◌⊎◌, inl, inr, ⊎_elim, Option, Some, None, Result, Ok, Err}
+use Rattle.std.specs.Prelude.{find, filter, slice_index_or, ◌==◌}
 use Rattle.std.specs.List.{AllByRecursion, flat_map, list_any, Contains}
 use Rattle.std.specs.Str.{bytes_eq}
 use Rattle.std.specs.Cmp.Lexicographic.{bytes_decides}
-use Rattle.std.proofs.lemmas.Bool.{true≢false, false≢true, or_parts, ltb-false, eq-eqb, eqb-true}
+use Rattle.std.proofs.lemmas.Bool.{true≢false, false≢true, or_parts, eq-eqb, eqb-true}
 use Rattle.std.proofs.lemmas.List.{length-append, length-map}
 use Rattle.std.proofs.lemmas.List.Quantifiers.{position-Some}
 use Rattle.std.proofs.lemmas.List.Elements.{recursion_from_All}
@@ -14,12 +14,10 @@ use Rattle.bs_net.specs.declared.net.NetId.{NetId}
 use Rattle.bs_net.specs.Names.{with_key}
 use Rattle.bs_net.specs.Parts.{Parts}
 use Rattle.bs_lex.specs.declared.token.Token.{Token}
-use Rattle.bs_verilog_lexemes.specs.declared.limits.TheConstants.{MAX_INDEX}
 use Rattle.bs_verilog_lexemes.specs.declared.lexeme.Name.{Name}
-use Rattle.bs_verilog_lexemes.specs.Lexemes.{is_name, lexemes_of, names_of}
+use Rattle.bs_verilog_lexemes.specs.Lexemes.{lexemes_of, names_of}
 use Rattle.bs_verilog_lexemes.proofs.NamingLemmas.{numbered}
 use Rattle.bs_verilog_syntax.specs.declared.fault.VerilogFault.{VerilogFault}
-use Rattle.bs_verilog_syntax.specs.declared.tree.Range.{Range}
 use Rattle.bs_verilog_syntax.specs.declared.tree.Says.{Says}
 use Rattle.bs_verilog_syntax.specs.declared.tree.Declared.{Declared}
 use Rattle.bs_verilog_syntax.specs.declared.tree.Module.{Module}
@@ -27,7 +25,7 @@ use Rattle.bs_verilog_syntax.specs.declared.tree.Direction.TheVariants as direct
 use Rattle.bs_verilog_syntax.specs.declared.tree.Direction as code
 use Rattle.bs_verilog_syntax.specs.declared.tree.Net as code_net
 use Rattle.bs_verilog_syntax.specs.declared.tree.Net.TheVariants.{Wire, Supply0, Supply1}
-use Rattle.bs_verilog_syntax.specs.Reading.{Rest, sort, rest, name}
+use Rattle.bs_verilog_syntax.specs.Reading.{Rest, rest}
 use Rattle.bs_verilog_syntax.specs.Modules.{syntax_of}
 use Rattle.bs_verilog_scope.specs.Keys.{text, keys}
 use Rattle.bs_verilog_scope.specs.Nets.{with_keys, nets_of}
