@@ -58,8 +58,8 @@ no_more {X} (x ∷ xs) ys a h =
     let w = without x ys (h x (inl refl)) in
     let less = w.fewer in
     let rest =
-        no_more xs w.left a.1
-        (λ v m. ⊎_elim (λ (e : v ≡ x). absurd (a.0 (subst (λ (u : X). Member u xs) e m))) (λ (o : Member v w.left). o) (w.others v (h v (inr m)))) in
+    no_more xs w.left a.1
+    (λ v m. ⊎_elim (λ (e : v ≡ x). absurd (a.0 (subst (λ (u : X). Member u xs) e m))) (λ (o : Member v w.left). o) (w.others v (h v (inr m)))) in
     omega (arith, less, rest)
 
 any_member : {X : Type 0} (p : X → Bool) (xs : List X) → list_any p xs ≡ true → (x : X) × Member x xs × (p x ≡ true)

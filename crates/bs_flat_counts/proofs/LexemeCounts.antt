@@ -1,4 +1,4 @@
--- A text has so few names that the greatest index still takes three bytes.
+-- A text has no more lexemes than bytes but its end, and so few names that the greatest index still takes three bytes.
 use Rattle.std.proofs.Common.{◌≡◌, ℕ, zero, suc, ◌+◌, ◌-◌, ◌*◌, ◌<◌, ◌≤◌, min, Bool, true, false, cond, List, [], ◌∷◌, ◌++◌, length, take, drop, map, filter}
 use Rattle.std.proofs.Common.{Some, None, Result, Ok, Err, All, nat_lt, refl, sym, ap, ◌∙◌, subst, arith, inl, inr}
 use Rattle.std.proofs.Common.{◌&&◌, length-take, length-drop, drop-drop}
@@ -6,7 +6,7 @@ use Rattle.std.specs.Prelude.{IfOk, nat_le, ◌==◌}
 use Rattle.std.specs.List.{AllByRecursion, list_any}
 use Rattle.std.specs.Str.{bytes_eq}
 use Rattle.std.proofs.lemmas.Bool.{cond_both, and_parts, leb-true, ltb-true, ltb-false}
-use Rattle.std.proofs.lemmas.List.{length-map}
+use Rattle.std.proofs.lemmas.List.{length-append, length-map}
 use Rattle.std.proofs.lemmas.List.Elements.{recursion_from_All}
 use Rattle.bs_bits.specs.Lines.{is_visible}
 use Rattle.bs_lex.specs.declared.token.Token.{Token}
@@ -16,7 +16,7 @@ use Rattle.bs_lex.specs.Placing.{token_text}
 use Rattle.bs_lex.specs.Tokens.{first, piece_at, tokens_from, tokens_of, with_token}
 use Rattle.bs_lex.specs.declared.limits.TheConstants.{MAX_BYTES}
 use Rattle.bs_verilog_lexemes.specs.declared.limits.TheConstants.{GREAT}
-use Rattle.bs_verilog_lexemes.specs.Lexemes.{is_escaped, is_great, is_name, name_text, names_from, names_of, spelling, token_sort, with_name, without_zeros}
+use Rattle.bs_verilog_lexemes.specs.Lexemes.{end_of, is_escaped, is_great, is_name, lexeme_of, lexemes_of, name_text, names_from, names_of, spelling, token_sort, with_name, without_zeros}
 use Rattle.bs_verilog.proofs.SpellingLemmas.{IsVisible, IsVisibleToken, table_is_visible, text_is_visible}
 use Rattle.bs_flat_meaning.specs.Counts.{sum_of}
 use Rattle.bs_flat_meaning.proofs.CountLemmas.{sum_append}
@@ -24,34 +24,36 @@ use Rattle.bs_flat_meaning.proofs.HeaderLemmas.{all_mapped}
 use Rattle.bs_flat_meaning.proofs.MemberLemmas.{Member, all_member, all_of, filtered, mapped}
 use Rattle.bs_flat_meaning.proofs.NameLemmas.{names_apart}
 use Rattle.bs_flat_meaning.proofs.NumberLemmas.{Apart}
-use Rattle.bs_flat_counts.specs.Texts.{IsText}
+use Rattle.bs_flat_counts.specs.Texts.{IsText, TextsHaveFewLexemes}
 
 -- ---- tokens stand side by side
 
 abbrev token_size : List ℕ → Token → ℕ
 token_size source t = length (token_text source t)
 
--- tokens that begin in the source, and have no more than so many bytes together
+-- tokens that begin in the source, are no more than so many bytes, and have no more than these together
 pub record AreIn (source : List ℕ) (room : ℕ) (ts : List Token) : Type 0 where
+  pub few : length ts ≤ room
   pub begin : AllByRecursion (λ t. t.start < length source) ts
   pub fill : sum_of (token_size source) ts ≤ room
 
 none_in : (source : List ℕ) (room : ℕ) → AreIn source room []
 unfolding sum_of
-none_in source room = record { begin = tt; fill = omega arith }
+none_in source room = record { few = omega arith; begin = tt; fill = omega arith }
 
-one_in : (source : List ℕ) (room more : ℕ) (t : Token) (ts : List Token) → t.start < length source → token_size source t + room ≤ more
-    → AreIn source room ts → AreIn source more (t ∷ ts)
+one_in : (source : List ℕ) (room more : ℕ) (t : Token) (ts : List Token) → t.start < length source → room < more
+    → token_size source t + room ≤ more → AreIn source room ts → AreIn source more (t ∷ ts)
 unfolding sum_of
-one_in source room more t ts lt fits a = record { begin = (lt, a.begin); fill = omega (arith, fits, a.fill) }
+one_in source room more t ts lt one fits a =
+    record { few = omega (arith, one, a.few); begin = (lt, a.begin); fill = omega (arith, fits, a.fill) }
 
-if_one : (source : List ℕ) (room more : ℕ) (t : Token) (r : Result (List Token) ℕ) → t.start < length source → token_size source t + room ≤ more
-    → IfOk r (AreIn source room) → IfOk (with_token t r) (AreIn source more)
-if_one source room more t (Ok ts) lt fits h = one_in source room more t ts lt fits h
-if_one source room more t (Err at) lt fits h = tt
+if_one : (source : List ℕ) (room more : ℕ) (t : Token) (r : Result (List Token) ℕ) → t.start < length source → room < more
+    → token_size source t + room ≤ more → IfOk r (AreIn source room) → IfOk (with_token t r) (AreIn source more)
+if_one source room more t (Ok ts) lt one fits h = one_in source room more t ts lt one fits h
+if_one source room more t (Err at) lt one fits h = tt
 
 if_more : (source : List ℕ) (room more : ℕ) (r : Result (List Token) ℕ) → room ≤ more → IfOk r (AreIn source room) → IfOk r (AreIn source more)
-if_more source room more (Ok ts) le a = record { begin = a.begin; fill = omega (arith, le, a.fill) }
+if_more source room more (Ok ts) le a = record { few = omega (arith, le, a.few); begin = a.begin; fill = omega (arith, le, a.fill) }
 if_more source room more (Err at) le a = tt
 
 next : (source : List ℕ) (at c : ℕ) (text : List ℕ) → drop at source ≡ c ∷ text → drop (at + 1) source ≡ text
@@ -81,13 +83,25 @@ tokens_in source (c ∷ text) at zero d =
         let bytes : length (take (at + size - at) (drop at source)) ≡ min size (length (c ∷ text)) =
         length-take (at + size - at) (drop at source) ∙ (ap (λ n. min n (length (drop at source))) span ∙ ap (λ (l : List ℕ). min size (length l)) d) in
         if_one source (length text - (size - 1)) (length (c ∷ text) - 0) (record { kind = kind; start = at; stop = at + size })
-        (tokens_from (at + 1) (size - 1) text) (omega (arith, long)) (omega (arith, bytes)) (later (size - 1))
+        (tokens_from (at + 1) (size - 1) text) (omega (arith, long)) (omega arith) (omega (arith, bytes)) (later (size - 1))
     by (Bad ahead) later = tt
 
 pub text_in : (source : List ℕ) (tokens : List Token) → tokens_of source ≡ Ok tokens → AreIn source (length source) tokens
 text_in source tokens e =
     subst (λ (r : Result (List Token) ℕ). IfOk r (AreIn source (length source))) e
     (if_more source (length source - 0) (length source) (tokens_of source) (omega arith) (tokens_in source source 0 0 refl))
+
+-- ---- lexemes
+
+lexeme_count : (source : List ℕ) (tokens : List Token) → length (lexemes_of source tokens) ≡ length tokens + 1
+unfolding lexemes_of
+lexeme_count source tokens =
+    let lexeme = lexeme_of (names_of source tokens) source in
+    length-append (map lexeme tokens) (end_of source ∷ []) ∙ ap (λ n. n + 1) (length-map tokens lexeme)
+
+pub texts_have_few_lexemes : TextsHaveFewLexemes
+texts_have_few_lexemes source tokens text =
+    omega (arith, lexeme_count source tokens, (text_in source tokens text.are).few, text.short)
 
 -- ---- names are no longer than their tokens
 

@@ -11,3 +11,5 @@ pub mod CountedTerms
 pub mod CountedModules
 pub mod BuiltLemmas
 pub mod BuiltNames
+-- What designs count.
+pub mod DesignLemmas

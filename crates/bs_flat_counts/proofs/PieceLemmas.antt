@@ -1,9 +1,10 @@
--- The own text of a module, and each of its instance statements, is put together from the text.
-use Rattle.std.proofs.Common.{◌≡◌, ℕ, zero, suc, ◌+◌, ◌-◌, ◌≤◌, Bool, true, false, cond, not, ◌&&◌, ◌==◌, List, [], ◌∷◌, ◌++◌, length, take, filter}
+-- The own text of a module, also alone, and each of its instance statements, is put together from the text.
+use Rattle.std.proofs.Common.{◌≡◌, ℕ, zero, suc, ◌+◌, ◌-◌, ◌≤◌, Bool, true, false, cond, not, ◌&&◌, ◌==◌, List, [], ◌∷◌, ◌++◌, length, take, drop, filter}
 use Rattle.std.proofs.Common.{Option, Some, None, Ok, Err, All, Contains, refl, sym, ap, ◌∙◌, subst, arith, ⊎_elim, length-append, append-nil, append_assoc, take_at}
 use Rattle.std.specs.Prelude.{option_map, if◌then◌else◌}
 use Rattle.std.specs.List.{AllByRecursion, flat_map}
-use Rattle.std.proofs.lemmas.List.Elements.{All-from_recursion, All-filter, All-map, All-weaker}
+use Rattle.std.proofs.lemmas.List.{take-append-drop}
+use Rattle.std.proofs.lemmas.List.Elements.{All-append, All-from_recursion, All-filter, All-map, All-weaker}
 use Rattle.bs_verilog_lexemes.specs.Packed.{Lexeme}
 use Rattle.bs_verilog_lexemes.specs.declared.lexeme.Sort.TheVariants as sorts
 use Rattle.bs_verilog_syntax.specs.declared.fault.VerilogFault.TheVariants.{Syntax}
@@ -16,7 +17,10 @@ use Rattle.bs_flat_meaning.specs.Pieces.{Piece, to_endmodule, before, loose, fir
 use Rattle.bs_flat_meaning.specs.Pieces.{body_of, past_attributes, is_instancing, own_body, own_piece, own_text, statements_of}
 use Rattle.bs_flat_meaning.proofs.MemberLemmas.{Member, all_of, contains, member_left, member_right, member_split}
 use Rattle.bs_flat_meaning.proofs.GivenLemmas.{Gives, gives_ok, gives_err}
-use Rattle.bs_flat_counts.specs.Texts.{IsOfText, OwnTextsAreOfTheText}
+use Rattle.bs_flat_modules.specs.Copying.{part}
+use Rattle.bs_flat_modules.specs.Items.{is_statement, kept}
+use Rattle.bs_flat_modules.specs.Owns as owns
+use Rattle.bs_flat_counts.specs.Texts.{AloneTextsAreOfTheText, IsOfText, OwnTextsAreOfTheText}
 
 -- ---- lexemes that are put together from others
 
@@ -222,6 +226,14 @@ items_from_text f g (suc n) ts =
         (subst (λ (l : Rest). IsFrom (first.0 ++ first.1) l) (sym (append_assoc (f item) (flat_map f others.0) others.1))
         (from_both first.0 first.1 (f item) (together f others) (g item) h))
 
+-- a header, and what is put together from each item
+cut_from : (f : Item → Rest) → ((i : Item) → IsFrom i.lexemes (f i)) → (body : Rest)
+    → IsFrom body (let head = to_semicolon false body in head.0 ++ together f (items_from (length head.1) head.1))
+cut_from f g body =
+    let head = to_semicolon false body in
+    from_same body (head.0 ++ head.1) _ (semicolon_cut false body)
+    (from_both head.0 head.1 head.0 _ (from_self head.0) (items_from_text f g (length head.1) head.1))
+
 abbrev IsItem : Rest → Item → Type 0
 IsItem ts i = IsFrom ts i.from
 
@@ -244,23 +256,19 @@ each_item whole (suc n) ts f =
 
 -- ---- own texts
 
+unless_from : (b : Bool) (ts : Rest) → IsFrom ts (cond b [] ts)
+unless_from true ts = from_none ts
+unless_from false ts = from_self ts
+
 module _ (ms : List Piece) where
   abbrev own_item : Item → Rest
   own_item i = if is_instancing ms i then [] else i.lexemes
 
   item_from : (i : Item) → IsFrom i.lexemes (own_item i)
-  item_from i = by (is_instancing ms i)
-    where
-      by : (b : Bool) → IsFrom i.lexemes (cond b [] i.lexemes)
-      by true = from_none i.lexemes
-      by false = from_self i.lexemes
+  item_from i = unless_from (is_instancing ms i) i.lexemes
 
   body_from : (p : Piece) → IsFrom (lexemes p) (own_body ms p)
-  body_from p =
-      let head = to_semicolon false p.body in
-      from_both p.attributes p.body p.attributes _ (from_self p.attributes)
-      (from_same p.body (head.0 ++ head.1) _ (semicolon_cut false p.body)
-      (from_both head.0 head.1 head.0 _ (from_self head.0) (items_from_text own_item item_from (length head.1) head.1)))
+  body_from p = from_both p.attributes p.body p.attributes _ (from_self p.attributes) (cut_from own_item item_from p.body)
 
   piece_from : (place : ℕ) (p : Piece) → IsFrom (lexemes p) (own_piece ms place p)
   piece_from place p = by (not (is_design p)) (at p.body == place)
@@ -302,3 +310,21 @@ own_texts_are_of_the_text ts =
     All-weaker (IsPiece ts) (IsOfText ts) (of_text ts) (modules_of ts)
     (All-filter is_design (IsPiece ts) (pieces ts)
     (All-from_recursion (IsPiece ts) (pieces ts) (each_piece ts (length ts) ts (from_self ts))))
+
+-- ---- own texts alone
+
+part_from : (ts : Rest) (from stop : ℕ) → IsFrom ts (part ts from stop)
+part_from ts from stop =
+    let later = drop from ts in
+    from_further ts later (part ts from stop) (from_same ts (take from ts ++ later) later (sym (take-append-drop from ts)) (from_right (take from ts) later))
+    (from_same later (take (stop - from) later ++ drop (stop - from) later) _ (sym (take-append-drop (stop - from) later))
+    (from_left (take (stop - from) later) (drop (stop - from) later)))
+
+alone_from : (marks : ℕ → Bool) (body : Rest) → IsFrom body (owns.own_body marks body)
+alone_from marks body = cut_from (λ i. kept marks i.lexemes) (λ i. unless_from (is_statement marks i.lexemes) i.lexemes) body
+
+pub alone_texts_are_of_the_text : AloneTextsAreOfTheText
+alone_texts_are_of_the_text marks ts p =
+    let body = part ts p.body p.stop in
+    All-append (Contains ts) (part ts p.from p.body) (owns.own_body marks body) (all_from ts _ (part_from ts p.from p.body))
+    (all_from ts _ (from_further ts body _ (part_from ts p.body p.stop) (alone_from marks body)))

@@ -1,5 +1,5 @@
 -- What is read from the lexemes of a text: numbers that take three bytes, and no more connections than lexemes.
-use Rattle.std.specs.Prelude.{◌≡◌, ◌<◌, ◌≤◌, ℕ, true, List, length, All, Option, Some, None, Ok}
+use Rattle.std.specs.Prelude.{◌≡◌, ◌<◌, ◌≤◌, ◌+◌, ℕ, Bool, true, List, length, All, Option, Some, None, Ok}
 use Rattle.std.specs.List.{Contains, sum_by}
 use Rattle.bs_lex.specs.declared.limits.TheConstants.{MAX_BYTES}
 use Rattle.bs_lex.specs.declared.token.Token.{Token}
@@ -18,7 +18,9 @@ use Rattle.bs_verilog_syntax.specs.Modules.{syntax_of}
 use Rattle.bs_flat_meaning.specs.declared.statements.Written.{Written}
 use Rattle.bs_flat_meaning.specs.Instancing.{instancing}
 use Rattle.bs_flat_meaning.specs.Pieces.{Piece, modules_of, own_text, statements_of}
+use Rattle.bs_flat_modules.specs.Alone.{own_alone}
 use Rattle.bs_flat_modules.specs.Copying.{is_numbered}
+use Rattle.bs_flat_modules.specs.declared.dealing.ModuleSpan.{ModuleSpan}
 
 -- ---- texts
 
@@ -30,6 +32,10 @@ pub record IsText (source : List ℕ) (tokens : List Token) : Type 0 where
 -- lexemes of a text, in any order and number: own texts are put together from them
 abbrev pub StandIn : List ℕ → List Token → Rest → Type 0
 StandIn source tokens ts = All (Contains (lexemes_of source tokens)) ts
+
+-- a text has a byte for each lexeme but its end
+abbrev pub TextsHaveFewLexemes : Type 0
+TextsHaveFewLexemes = (source : List ℕ) (tokens : List Token) → IsText source tokens → length (lexemes_of source tokens) ≤ MAX_BYTES + 1
 
 -- ---- numbers
 
@@ -99,3 +105,7 @@ pub record IsOfText (ts : Rest) (p : Piece) : Type 0 where
 
 abbrev pub OwnTextsAreOfTheText : Type 0
 OwnTextsAreOfTheText = (ts : Rest) → All (IsOfText ts) (modules_of ts)
+
+-- the own text of a module without what stands outside the modules, by which it may be read, whatever span is taken for its own
+abbrev pub AloneTextsAreOfTheText : Type 0
+AloneTextsAreOfTheText = (marks : ℕ → Bool) (ts : Rest) (p : ModuleSpan) → All (Contains ts) (own_alone marks ts p)

@@ -1,11 +1,16 @@
 //! The laws of counts, as functions with empty bodies.
-ghost use Rattle.bs_flat_counts.specs.Designs.{DesignsHaveFewPaths};
+ghost use Rattle.bs_flat_counts.specs.Designs.{DesignsHaveFewNets, DesignsHaveFewPaths};
 ghost use Rattle.bs_flat_counts.specs.Modules.{ModulesAreCounted, PartsAreCounted};
-ghost use Rattle.bs_flat_counts.specs.Texts.{LexemesAreCopied, NumbersTakeThreeBytes, OwnTextsAreOfTheText, ReadingIsShort};
+ghost use Rattle.bs_flat_counts.specs.Texts.{AloneTextsAreOfTheText, LexemesAreCopied, NumbersTakeThreeBytes, OwnTextsAreOfTheText, ReadingIsShort, TextsHaveFewLexemes};
 
 /// The numbers of each connection that is read from lexemes of a text take three bytes.
 pub fn connections_take_three_bytes()
     ensures { NumbersTakeThreeBytes }
+{}
+
+/// A text has a byte for each lexeme but its end.
+pub fn texts_have_few_lexemes()
+    ensures { TextsHaveFewLexemes }
 {}
 
 /// The number of each lexeme of a text is one that a copy may have.
@@ -18,9 +23,11 @@ pub fn reading_is_short()
     ensures { ReadingIsShort }
 {}
 
-/// The own text of a module, and each of its instance statements, is put together from lexemes of the text, and is no longer.
+/// The own text of a module, and each of its instance statements, is put together from lexemes of the text, and is no longer; so is
+/// an own text that is read without what stands outside the modules.
 pub fn own_texts_are_of_the_text()
-    ensures { OwnTextsAreOfTheText }
+    ensures own { OwnTextsAreOfTheText }
+    ensures alone { AloneTextsAreOfTheText }
 {}
 
 /// The parts that are built from lexemes of a text have no more ports and constants than nets, and no more gates and flip-flops
@@ -37,4 +44,9 @@ pub fn modules_are_counted()
 /// A design of few parts has few paths.
 pub fn designs_have_few_paths()
     ensures { DesignsHaveFewPaths }
+{}
+
+/// A design of few names has few flat nets.
+pub fn designs_have_few_nets()
+    ensures { DesignsHaveFewNets }
 {}
