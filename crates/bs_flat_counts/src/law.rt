@@ -23,8 +23,8 @@ pub fn reading_is_short()
     ensures { ReadingIsShort }
 {}
 
-/// The own text of a module, and each of its instance statements, is put together from lexemes of the text, and is no longer; so is
-/// an own text that is read without what stands outside the modules.
+/// The own text of a module, and each of its instance statements, is put together from lexemes of the text, and is no longer. An
+/// own text that is read without what stands outside the modules is put together from them too.
 pub fn own_texts_are_of_the_text()
     ensures own { OwnTextsAreOfTheText }
     ensures alone { AloneTextsAreOfTheText }
