@@ -36,11 +36,11 @@ fn run_of(port: Port, term: Term, stretch: Stretch) -> Result<JoinedNets, Fault>
     ensures { result ≡ spec.run_of port term stretch }
 {
     let is_driven = is_constant(term) && port.is_output;
-    if stretch.width == port.width && !is_driven {
+    if stretch.width == port.width as usize && !is_driven {
         Ok(JoinedNets {
             inner: port.first,
             outer: stretch.first,
-            width: stretch.width,
+            width: stretch.width as u32,
         })
     } else {
         Err(Fault::At(term_place(term)))

@@ -1,27 +1,27 @@
--- The inputs of all gates, by sums over modules and over paths.
+-- The inputs of all gates, the constants and the ports of the top, by sums over modules and over paths.
 use Rattle.std.proofs.Common.{◌≡◌, ℕ, zero, suc, ◌+◌, ◌<◌, ◌≤◌, true, false, nat_lt, List, [], ◌∷◌, map, length, get_or, take, refl, sym, ap, ◌∙◌}
-use Rattle.std.proofs.Common.{arith, subst}
+use Rattle.std.proofs.Common.{arith}
 use Rattle.std.specs.List.{All, sum_by, flat_map}
-use Rattle.std.specs.Prelude.{◌^◌}
-use Rattle.std.proofs.lemmas.Bool.{lt-ltb, le-ltb, ltb-false}
-use Rattle.std.proofs.lemmas.List.{take_all, get_or-map, length-map}
+use Rattle.std.specs.Prelude.{◌^◌, Bool, filter, not}
+use Rattle.std.proofs.lemmas.Bool.{lt-ltb, ltb-false}
+use Rattle.std.proofs.lemmas.List.{length-map}
+use Rattle.std.proofs.lemmas.List.Concat.{length-flat_map}
 use Rattle.std.proofs.lemmas.List.Elements.{All-nil, All-cons, All-map, All-weaker}
-use Rattle.std.proofs.lemmas.List.Sums.{sum_by-append, sum_by-cons, sum_by-take-le}
+use Rattle.std.proofs.lemmas.List.Sums.{count_by-le-length, length-filter, sum_by-append, sum_by-cons, sum_by-take-le}
 use Rattle.bs_net.specs.declared.net.Gate.{Gate}
-use Rattle.bs_flat_meaning.specs.Design.{Design, Module, Path, At, on, PathNet, own, module_at, module_in, paths, flops, gates}
+use Rattle.bs_flat_meaning.specs.Design.{Design, Path, At, on, PathNet, own, module_at, module_in, paths, constants, flops, gates}
 use Rattle.bs_flat_meaning.specs.Reading.{part_count, terminal_count}
-use Rattle.bs_flat_meaning.specs.Flat.{flat_flop, flat_gate, flat_key, flat_net, flat_nets, flat_parts}
+use Rattle.bs_flat_meaning.specs.Flat.{flat_const, flat_flop, flat_gate, flat_key, flat_net, flat_nets, flat_parts, is_repeat}
 use Rattle.bs_flat_meaning.specs.Paths.{ArePaths, no_node}
 use Rattle.bs_flat_meaning.specs.declared.paths.Node.{Node}
 use Rattle.bs_flat_meaning.specs.declared.limits.TheConstants.{MAX_PARTS, MAX_TERMINALS}
 use Rattle.bs_net.specs.declared.limits.TheConstants.{MAX_NETS}
-use Rattle.bs_net.specs.declared.net.Flop.{Flop}
 use Rattle.bs_flat_nets.specs.Blocks.{design_of}
 use Rattle.bs_flat_nets.specs.declared.blocks.FlatModule.{FlatModule}
 use Rattle.bs_flat_nets.specs.Numbering.{net_at}
 use Rattle.bs_flat_nets.specs.declared.climbing.NetOnPath.{NetOnPath}
 use Rattle.bs_flat_elaborate.specs.Whole.{AreShort}
-use Rattle.bs_flat_elaborate.specs.Terminals.{gate_terminals, gates_at, terminals_at, terminals_of}
+use Rattle.bs_flat_elaborate.specs.Terminals.{gate_terminals, port_terminals, terminals_in, terminals_of}
 
 -- ---- a sum on the way
 
@@ -45,14 +45,8 @@ past f xs i left room d h so_far wide =
     let whole = sum_by-take-le f xs (i + 1) in
     omega (arith, more, whole, so_far, wide)
 
-pub whole : {A : Type 0} (f : A → ℕ) (xs : List A) (i left room : ℕ) → length xs ≤ i → left + sum_by f (take i xs) ≡ room → left + sum_by f xs ≡ room
-whole f xs i left room h so_far = ap (λ ys. left + sum_by f ys) (sym (take_all i xs h)) ∙ so_far
-
 pub many : (room count : ℕ) → room < count → true ≡ nat_lt room count
 many room count h = sym (lt-ltb room count h)
-
-pub few : (left room count : ℕ) → left + count ≡ room → false ≡ nat_lt room count
-few left room count e = sym (le-ltb room count (omega (arith, e)))
 
 -- ---- paths and nodes
 
@@ -81,33 +75,48 @@ sum_same f g (x ∷ xs) (y ∷ ys) a b e h =
     ∙ ap (λ n. g y + n) (sum_same f g xs ys a b (omega (arith, e)) (λ k lt. h (suc k) (omega (arith, lt))))
     ∙ sym (sum_by-cons g y ys)
 
--- how many inputs the gates of a module have
-abbrev terminals_in : Module → ℕ
-terminals_in m = sum_by gate_terminals m.own.gates
+sum_both : {A : Type 0} (f g : A → ℕ) (xs : List A) → sum_by (λ x. f x + g x) xs ≡ sum_by f xs + sum_by g xs
+sum_both f g [] = refl
+sum_both f g (x ∷ xs) =
+    let both = sum_by-cons (λ y. f y + g y) x xs in
+    let first = sum_by-cons f x xs in
+    let second = sum_by-cons g x xs in
+    let later = sum_both f g xs in
+    omega (arith, both, first, second, later)
 
-by_paths : (d : Design) → terminal_count d ≡ sum_by (λ p. terminals_in (module_at d p)) (paths d)
-by_paths d =
+-- what stands on all paths, path by path
+inputs_by_paths : (d : Design) → sum_by (λ (g : At Gate). length g.it.ins) (gates d) ≡ sum_by (λ p. sum_by gate_terminals (own d p).gates) (paths d)
+inputs_by_paths d =
     sum_flat (λ (g : At Gate). length g.it.ins) (λ p. map (on p) (own d p).gates) (paths d)
-    ∙ sum_each (λ p. sum_by (λ (g : At Gate). length g.it.ins) (map (on p) (own d p).gates)) (λ p. terminals_in (module_at d p)) (paths d)
+    ∙ sum_each (λ p. sum_by (λ (g : At Gate). length g.it.ins) (map (on p) (own d p).gates)) (λ p. sum_by gate_terminals (own d p).gates) (paths d)
     (λ p. sum_map (λ (g : At Gate). length g.it.ins) (on p) (own d p).gates)
 
-module_gates : (blocks : List FlatModule) (top k : ℕ) → (module_in (design_of blocks top) k).own.gates ≡ gates_at blocks k
-module_gates [] top k = by k
-  where
-    by : (k : ℕ) → (module_in (design_of [] top) k).own.gates ≡ gates_at [] k
-    by zero = refl
-    by (suc k) = refl
-module_gates (b ∷ blocks) top zero = refl
-module_gates (b ∷ blocks) top (suc k) = module_gates blocks top k
+constants_by_paths : (d : Design) → length (constants d) ≡ sum_by (λ p. length (own d p).consts) (paths d)
+constants_by_paths d =
+    length-flat_map (λ p. map (on p) (own d p).consts) (paths d)
+    ∙ sum_each (λ p. length (map (on p) (own d p).consts)) (λ p. length (own d p).consts) (paths d) (λ p. length-map (own d p).consts (on p))
 
--- the gates on all paths are those on the nodes
+by_paths : (d : Design) → terminal_count d ≡ sum_by (λ p. terminals_in (module_at d p)) (paths d) + port_terminals (module_at d [])
+by_paths d =
+    let inputs = inputs_by_paths d in
+    let consts = constants_by_paths d in
+    let both = sum_both (λ p. sum_by gate_terminals (own d p).gates) (λ p. length (own d p).consts) (paths d) in
+    omega (arith, inputs, consts, both)
+
+top_ports : (d : Design) → port_terminals (module_at d []) ≡ port_terminals (module_in d d.top)
+unfolding module_at
+top_ports d = refl
+
+-- what stands on all paths stands on the nodes
 pub terminals_are : (blocks : List FlatModule) (nodes : List Node) (top : ℕ) → ArePaths (design_of blocks top) nodes (paths (design_of blocks top))
-    → terminals_of blocks nodes ≡ terminal_count (design_of blocks top)
+    → terminals_of blocks nodes top ≡ terminal_count (design_of blocks top)
 terminals_are blocks nodes top stand =
     let d = design_of blocks top in
-    sum_same (λ (n : Node). terminals_at blocks n.of) (λ (p : Path). terminals_in (module_at d p)) nodes (paths d) no_node [] stand.count
-    (λ k lt. sym (ap (λ gs. sum_by gate_terminals gs) (module_gates blocks top (get_or nodes k no_node).of)) ∙ ap terminals_in (stand.each k lt).same)
-    ∙ sym (by_paths d)
+    let same =
+    sum_same (λ (n : Node). terminals_in (module_in d n.of)) (λ (p : Path). terminals_in (module_at d p)) nodes (paths d) no_node [] stand.count
+    (λ k lt. ap terminals_in (stand.each k lt).same) in
+    ap (λ n. n + port_terminals (module_in d top)) same
+    ∙ ap (λ n. sum_by (λ (p : Path). terminals_in (module_at d p)) (paths d) + n) (sym (top_ports d)) ∙ sym (by_paths d)
 
 -- ---- what the limits leave
 
@@ -118,22 +127,32 @@ all_within f (x ∷ xs) =
     All-cons (λ y. f y ≤ sum_by f (x ∷ xs)) x xs (omega (arith, whole))
     (All-weaker (λ y. f y ≤ sum_by f xs) (λ y. f y ≤ sum_by f (x ∷ xs)) (λ y h. omega (arith, whole, h)) xs (all_within f xs))
 
--- gates and flip-flops of a design that passes the limits
-pub flat_short : (d : Design) (gs : List Gate) (fs : List Flop) → nat_lt MAX_PARTS (part_count d) ≡ false
-    → nat_lt MAX_TERMINALS (terminal_count d) ≡ false → gs ≡ map (flat_gate d) (gates d) → fs ≡ map (flat_flop d) (flops d) → AreShort gs fs
-flat_short d gs fs parts narrow eg ef =
+filtered_few : {A : Type 0} (p : A → Bool) (xs : List A) → length (filter p xs) ≤ length xs
+filtered_few p xs = let count = length-filter p xs in let few = count_by-le-length p xs in omega (arith, count, few)
+
+-- the flat parts of a design that passes the limits
+pub flat_short : (d : Design) → nat_lt MAX_PARTS (part_count d) ≡ false → nat_lt MAX_TERMINALS (terminal_count d) ≡ false → AreShort (flat_parts d)
+unfolding flat_parts
+flat_short d parts narrow =
     let most = ltb-false MAX_PARTS (part_count d) parts in
     let wide = ltb-false MAX_TERMINALS (terminal_count d) narrow in
-    let gate_count : length gs ≡ length (gates d) = ap (λ (l : List Gate). length l) eg ∙ length-map (gates d) (flat_gate d) in
-    let flop_count : length fs ≡ length (flops d) = ap (λ (l : List Flop). length l) ef ∙ length-map (flops d) (flat_flop d) in
+    let inputs = length-map (own d []).inputs (flat_net d []) in
+    let outputs = length-map (own d []).outputs (flat_net d []) in
+    let kept = filtered_few (λ k. not (is_repeat d k)) (constants d) in
+    let consts = length-map (filter (λ k. not (is_repeat d k)) (constants d)) (flat_const d) in
+    let gate_count = length-map (gates d) (flat_gate d) in
+    let flop_count = length-map (flops d) (flat_flop d) in
     record {
+      inputs_few = omega (arith, inputs, wide);
+      outputs_few = omega (arith, outputs, wide);
+      consts_few = omega (arith, consts, kept, wide);
       gates_few = omega (arith, gate_count, most);
       narrow =
-          subst (λ (l : List Gate). All (λ g. length g.ins < 2 ^ 32) l) (sym eg)
-          (All-map (λ (g : Gate). length g.ins < 2 ^ 32) (flat_gate d) (gates d)
-          (All-weaker (λ (g : At Gate). length g.it.ins ≤ terminal_count d) (λ (g : At Gate). length (flat_gate d g).ins < 2 ^ 32)
+          All-map (λ (g : Gate). length g.ins < 2 ^ 32) (flat_gate d) (gates d)
+          (All-weaker (λ (g : At Gate). length g.it.ins ≤ sum_by (λ (k : At Gate). length k.it.ins) (gates d))
+          (λ (g : At Gate). length (flat_gate d g).ins < 2 ^ 32)
           (λ g h. let same = length-map g.it.ins (flat_net d g.path) in omega (arith, same, h, wide)) (gates d)
-          (all_within (λ (g : At Gate). length g.it.ins) (gates d))));
+          (all_within (λ (g : At Gate). length g.it.ins) (gates d)));
       flops_few = omega (arith, flop_count, most);
     }
 
@@ -155,6 +174,3 @@ places_few d places nets e =
     let placed = length-map places (net_at d) in
     let same = ap (λ (l : List PathNet). length l) e in
     omega (arith, most, named, placed, same)
-
-pub gates_there : (blocks : List FlatModule) (k : ℕ) (b : FlatModule) → k < length blocks → b ≡ get_or blocks k b → b.gates ≡ gates_at blocks k
-gates_there blocks k b h e = ap (λ (c : FlatModule). c.gates) e ∙ sym (get_or-map (λ (c : FlatModule). c.gates) blocks k b [] h)

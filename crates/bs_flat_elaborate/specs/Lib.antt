@@ -6,7 +6,7 @@ pub mod Keys
 pub mod Naming
 -- The flat parts, path by path.
 pub mod Parts
--- How many inputs gates have, node by node.
+-- How many inputs of gates, constants and ports there are, node by node.
 pub mod Terminals
 -- The flat parts together, and the answer for a design.
 pub mod Whole

@@ -3,7 +3,6 @@ use Rattle.std.specs.Prelude.{◌≡◌, ℕ, ◌<◌, ◌≤◌, ◌^◌, false
 use Rattle.bs_net.specs.Parts.{Parts, IsFlopPlaced}
 use Rattle.bs_net.specs.Gate.{takes}
 use Rattle.bs_net.specs.declared.net.Gate.{Gate}
-use Rattle.bs_net.specs.declared.net.Flop.{Flop}
 use Rattle.bs_net.specs.declared.limits.TheConstants.{MAX_NETS}
 use Rattle.bs_flat_meaning.specs.Design.{Design}
 use Rattle.bs_flat_meaning.specs.Flat.{flat_parts}
@@ -28,11 +27,14 @@ pub record AreNamed (p : Parts) : Type 0 where
   pub gates : All (IsGateNamed (length p.names)) p.gates
   pub flops : All (IsFlopPlaced (length p.names)) p.flops
 
--- there are fewer gates and flip-flops than 2^32, and each gate has fewer inputs
-pub record AreShort (gates : List Gate) (flops : List Flop) : Type 0 where
-  pub gates_few : length gates < 2 ^ 32
-  pub narrow : All (λ g. length g.ins < 2 ^ 32) gates
-  pub flops_few : length flops < 2 ^ 32
+-- there are fewer ports, constants, gates and flip-flops than 2^32, and each gate has fewer inputs
+pub record AreShort (p : Parts) : Type 0 where
+  pub inputs_few : length p.inputs < 2 ^ 32
+  pub outputs_few : length p.outputs < 2 ^ 32
+  pub consts_few : length p.consts < 2 ^ 32
+  pub gates_few : length p.gates < 2 ^ 32
+  pub narrow : All (λ g. length g.ins < 2 ^ 32) p.gates
+  pub flops_few : length p.flops < 2 ^ 32
 
 -- a design passes none of the limits but that of its keys
 pub record IsSmall (d : Design) : Type 0 where

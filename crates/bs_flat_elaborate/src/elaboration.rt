@@ -48,7 +48,8 @@ fn lay(alloc: Global, blocks: &[FlatModule], top: u32) -> Result<Laid, NoMemory>
     })
 }
 
-/// The flat parts of a small design whose keys are the names of its flat nets; or its gates have too many inputs.
+/// The flat parts of a small design whose keys are the names of its flat nets; or it has too many
+/// inputs of gates, constants and ports.
 fn whole(
     alloc: Global,
     blocks: &[FlatModule],
@@ -63,7 +64,7 @@ fn whole(
     requires small { spec.IsSmall (design_of blocks.now top) }
     ensures { Answers want parts_of result (elaborated (design_of blocks.now top)) }
 {
-    if has_many_terminals(blocks, nodes) {
+    if has_many_terminals(blocks, nodes, top) {
         return Err(FlatFault::FlatTerminals);
     }
     match flat(alloc, blocks, nodes, top, numbering, names) {

@@ -1,5 +1,5 @@
 //! The flat parts together.
-ghost use Rattle.std.specs.Prelude.{◌≡◌, ◌<◌, ◌≤◌, ◌+◌, ◌^◌, [], false, nat_lt, length, map, All, IfOk, IsTrue};
+ghost use Rattle.std.specs.Prelude.{◌≡◌, ◌≤◌, ◌+◌, [], false, nat_lt, length, map, All, IfOk, IsTrue};
 ghost use Rattle.bs_net.specs.Netlist.{parts_of};
 ghost use Rattle.bs_net.specs.Gate.{takes};
 ghost use Rattle.bs_flat_meaning.specs.Design as design;
@@ -20,29 +20,6 @@ use bs_flat_meaning::{MAX_PARTS, Node};
 use bs_flat_nets::{FlatModule, Numbering};
 use bs_net::{Const, Flop, Gate, MAX_NETS, Names, NetId, Raw};
 use std::alloc::Global;
-
-/// A list of 2^32 members and more is want of memory: a module's ports and constants in its own text have fewer.
-fn short(count: usize) -> Result<(), NoMemory>
-    ensures { IfOk result (λ _. count < 2 ^ 32) }
-{
-    if count <= 4294967295 {
-        Ok(())
-    } else {
-        Err(NoMemory)
-    }
-}
-
-/// So many inputs, outputs and constants are each fewer than 2^32.
-fn are_short(inputs: usize, outputs: usize, consts: usize) -> Result<(), NoMemory>
-    ensures inputs { IfOk result (λ _. inputs < 2 ^ 32) }
-    ensures outputs { IfOk result (λ _. outputs < 2 ^ 32) }
-    ensures consts { IfOk result (λ _. consts < 2 ^ 32) }
-{
-    short(inputs)?;
-    short(outputs)?;
-    short(consts)?;
-    Ok(())
-}
 
 /// The flat lists of a design.
 #[derive(Drop)]
@@ -85,20 +62,19 @@ fn lists_of(
 }
 
 /// The parts of a netlist, each of whose nets has a name.
-fn raw_of(names: Names, lists: Lists) -> Result<Raw, NoMemory>
+fn raw_of(names: Names, lists: Lists) -> Raw
     requires named { spec.AreNamed (record { names = names; inputs = lists.inputs; outputs = lists.outputs; consts = lists.consts; gates = lists.gates; flops = lists.flops }) }
-    requires short { spec.AreShort lists.gates lists.flops }
-    ensures { IfOk result (λ r. parts_of r ≡ record { names = names; inputs = lists.inputs; outputs = lists.outputs; consts = lists.consts; gates = lists.gates; flops = lists.flops }) }
+    requires short { spec.AreShort (record { names = names; inputs = lists.inputs; outputs = lists.outputs; consts = lists.consts; gates = lists.gates; flops = lists.flops }) }
+    ensures { parts_of result ≡ record { names = names; inputs = lists.inputs; outputs = lists.outputs; consts = lists.consts; gates = lists.gates; flops = lists.flops } }
 {
-    are_short(lists.inputs.len(), lists.outputs.len(), lists.consts.len())?;
-    Ok(Raw {
+    Raw {
         names,
         inputs: lists.inputs,
         outputs: lists.outputs,
         consts: lists.consts,
         gates: lists.gates,
         flops: lists.flops,
-    })
+    }
 }
 
 /// The flat parts of a design whose flat nets have these names.
@@ -120,6 +96,5 @@ pub fn flat(
     ensures { IfOk result (λ r. parts_of r ≡ flat_parts (design_of blocks.now top)) }
 {
     let lists = lists_of(alloc, blocks, nodes, top, numbering)?;
-    let raw = raw_of(names, lists)?;
-    Ok(raw)
+    Ok(raw_of(names, lists))
 }

@@ -1,8 +1,7 @@
 -- The executions of a design are those of its flat parts.
-use Rattle.std.proofs.Common.{◌≡◌, ℕ, zero, suc, ◌+◌, ◌<◌, Bool, List, [], map, length, get_or, refl, subst, ap, sym, ◌∙◌, zero-add, arith}
-use Rattle.std.specs.Prelude.{All, ◌↔◌}
+use Rattle.std.proofs.Common.{◌≡◌, ℕ, zero, suc, ◌+◌, ◌<◌, Bool, List, [], length, get_or, subst, ap, sym, ◌∙◌, zero-add, arith}
 use Rattle.std.specs.List.{range_with_len}
-use Rattle.std.proofs.lemmas.List.{length-map, get_or-map, get_or_default}
+use Rattle.std.proofs.lemmas.List.{length-map, get_or-map}
 use Rattle.std.proofs.lemmas.List.FromFn.{length-range_with_len, get_or-range_with_len, fill_by_all}
 use Rattle.std.proofs.lemmas.List.Elements.{All-from_get_or}
 use Rattle.bs_net.specs.declared.net.Flop.{Flop}
@@ -10,7 +9,7 @@ use Rattle.bs_net.specs.Parts.{PartsArePlaced}
 use Rattle.bs_net.specs.Check.{Passes}
 use Rattle.bs_net.specs.Circuit.{Circuit, next, reset_state, loaded, settled}
 use Rattle.bs_net.specs.Netlist.{circuit_of}
-use Rattle.bs_flat_meaning.specs.Design.{Design, At, net_on, flops}
+use Rattle.bs_flat_meaning.specs.Design.{Design, net_on, flops}
 use Rattle.bs_flat_meaning.specs.Meaning.{data_inputs, LeadsDesign}
 use Rattle.bs_flat_meaning.specs.Flat.{IsDesign, flat_flop, flat_parts}
 use Rattle.bs_flat_meaning.specs.Law.{FlatMeans}

@@ -1,8 +1,8 @@
 -- The flat parts of a text, or its first refusal.
-use Rattle.std.specs.Prelude.{◌≡◌, ℕ, zero, suc, ◌+◌, ◌-◌, Bool, true, false, not, nat_lt, IsTrue, if◌then◌else◌, List, [], ◌∷◌, length, map, filter, sum, zip, All}
+use Rattle.std.specs.Prelude.{◌≡◌, ℕ, ◌+◌, ◌-◌, Bool, true, false, nat_lt, if◌then◌else◌, List, [], ◌∷◌, length, map, sum, zip, All}
 use Rattle.std.specs.Prelude.{◌<◌, ◌≤◌}
 use Rattle.std.specs.Prelude.{◌==◌, unwrap_or, slice_index_or, Option, Some, None, Result, Ok, Err}
-use Rattle.std.specs.List.{flat_map, list_any, sum_by, range_with_len, IsDistinct, position_or_len}
+use Rattle.std.specs.List.{flat_map, list_any, sum_by, position_or_len}
 use Rattle.std.specs.Str.{bytes_eq}
 use Rattle.std.specs.Bool.{nat_eq}
 use Rattle.bs_net.specs.Parts.{Parts}
@@ -18,7 +18,7 @@ use Rattle.bs_flat_meaning.specs.declared.fault.FlatFault.{FlatFault}
 use Rattle.bs_flat_meaning.specs.declared.fault.FlatFault.TheVariants.{Verilog, Twice, OwnNets, Recursion, Tops, Connect, FlatDepth, FlatParts, FlatNets, FlatKeys, NameClash, FlatTerminals}
 use Rattle.bs_net.specs.declared.limits.TheConstants.{MAX_NETS}
 use Rattle.bs_flat_meaning.specs.declared.limits.TheConstants.{MAX_DEPTH, MAX_OWN_NETS, MAX_PARTS, MAX_TERMINALS, MAX_KEY_BYTES}
-use Rattle.bs_flat_meaning.specs.Design.{Design, Module, Instance, paths_from, paths, gates, flops}
+use Rattle.bs_flat_meaning.specs.Design.{Design, Module, Instance, own, paths_from, paths, constants, gates, flops}
 use Rattle.bs_verilog_scope.specs.Keys.{text}
 use Rattle.bs_verilog_syntax.specs.declared.tree.Says.{Says}
 use Rattle.bs_flat_meaning.specs.Flat.{flat_parts, HasNets, IsDesign}
@@ -179,9 +179,10 @@ is_deep d = list_any (λ p. nat_lt MAX_DEPTH (length p)) (paths_from (MAX_DEPTH 
 abbrev pub part_count : Design → ℕ
 part_count d = length (gates d) + (length (flops d) + (length (paths d) - 1))
 
--- how many inputs the gates have together
+-- how many inputs of gates, constants and ports of the top there are together
 abbrev pub terminal_count : Design → ℕ
-terminal_count d = sum_by (λ g. length g.it.ins) (gates d)
+terminal_count d =
+    sum_by (λ g. length g.it.ins) (gates d) + (length (constants d) + (length (own d []).inputs + length (own d []).outputs))
 
 -- the lowest net that shares its key
 unfoldable pub clash_in : List (List ℕ) → Option (List ℕ)

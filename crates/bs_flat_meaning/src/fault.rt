@@ -28,7 +28,7 @@ pub enum FlatFault {
     FlatKeys,
     /// The key of the lowest net that has another's key.
     NameClash(List<u8>),
-    /// Gates with more than `MAX_TERMINALS` inputs together.
+    /// More than `MAX_TERMINALS` inputs of gates, constants and ports of the top together.
     FlatTerminals,
     /// Want of memory.
     NoMemory,

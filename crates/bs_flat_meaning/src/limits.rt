@@ -13,7 +13,8 @@ pub const MAX_OWN_NETS: u32 = 4_194_304;
 /// How many gates, flip-flops and instances the flat parts may have together.
 pub const MAX_PARTS: usize = 400_000;
 
-/// How many inputs the gates of the flat parts may have together. `MAX_PARTS` gates that pass the check have not a tenth of them.
+/// How many inputs of gates, constants and ports of the top there may be together, on all paths. A netlist that passes the check
+/// has not a tenth of so many.
 pub const MAX_TERMINALS: usize = 268_435_456;
 
 /// How many bytes the keys of all flat nets may have together.

@@ -18,7 +18,7 @@ use std::alloc::Global;
 #[derive(Clone, Copy)]
 pub struct Stretch {
     pub first: u32,
-    pub width: u32,
+    pub width: usize,
 }
 
 /// The net of a key. A key that is not there, as no text has one, is want of memory.
@@ -78,17 +78,11 @@ fn indexed_net(
 fn whole_nets(range: Option<Range>, span: Option<u32>) -> Result<Option<Stretch>, NoMemory>
     ensures { IfOk result (λ s. spec.IsStretch range span s) }
 {
-    let bits = bit_count(range);
     match span {
-        Some(first) => {
-            if bits > 4294967295 {
-                return Err(NoMemory);
-            }
-            Ok(Some(Stretch {
-                first,
-                width: bits as u32,
-            }))
-        }
+        Some(first) => Ok(Some(Stretch {
+            first,
+            width: bit_count(range),
+        })),
         None => Err(NoMemory),
     }
 }

@@ -51,5 +51,5 @@ IsDesignNote path text flat.FlatKeys note =
 IsDesignNote path text (flat.NameClash key) note =
     note ≡ file_text path (clash_text key)
 IsDesignNote path text flat.FlatTerminals note =
-    note ≡ file_text path (codes "on all paths gates have more than 268435456 inputs together: give a gate 64 inputs at most")
+    note ≡ file_text path (codes "on all paths gates have more than 268435456 inputs together with constants and ports: give a gate 64 inputs at most")
 IsDesignNote path text flat.NoMemory note = note ≡ file_text path (codes "memory ran out")

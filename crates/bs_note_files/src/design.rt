@@ -188,7 +188,7 @@ pub fn design_note(
         FlatFault::FlatTerminals => file_note(
             alloc,
             path,
-            b"on all paths gates have more than 268435456 inputs together: give a gate 64 inputs at most",
+            b"on all paths gates have more than 268435456 inputs together with constants and ports: give a gate 64 inputs at most",
         ),
         FlatFault::NoMemory => file_note(alloc, path, b"memory ran out"),
     }

@@ -2,7 +2,7 @@ use Rattle.std.proofs.Common.{◌≤◌, ◌∙◌, sym, subst, length, List, �
 use Rattle.bs_net.specs.declared.limits.TheConstants.{MAX_NETS}
 use Rattle.bs_flat_nets.specs.Blocks.{design_of}
 use Rattle.bs_flat_elaborate.specs.Naming.{keys_of}
-use Rattle.bs_flat_elaborate.specs.Whole.{AreNamed}
+use Rattle.bs_flat_elaborate.specs.Whole.{AreNamed, AreShort}
 use Rattle.bs_flat_elaborate.proofs.TerminalLemmas.{flat_short}
 use Rattle.bs_flat_elaborate.proofs.WholeLemmas.{flat_named, whole_is}
 use Rattle.bs_flat_elaborate.proofs.flat.flat.Goals as goal
@@ -19,12 +19,16 @@ raw_of-requires-clause-named c =
 
 pub raw_of-requires-clause-short : goal.raw_of-requires-clause-short
 raw_of-requires-clause-short c =
-    flat_short (design_of c.args.blocks.now c.args.top) c.in_ok-lists.lists.gates c.in_ok-lists.lists.flops c.requires.small.parts c.requires.narrow
-    c.in_ok-lists.ensures.gates c.in_ok-lists.ensures.flops
+    let d = design_of c.args.blocks.now c.args.top in
+    subst AreShort
+    (sym
+    (whole_is d c.args.names c.in_ok-lists.lists.inputs c.in_ok-lists.lists.outputs c.in_ok-lists.lists.consts c.in_ok-lists.lists.gates c.in_ok-lists.lists.flops c.requires.named
+    c.in_ok-lists.ensures.inputs c.in_ok-lists.ensures.outputs c.in_ok-lists.ensures.consts c.in_ok-lists.ensures.gates c.in_ok-lists.ensures.flops))
+    (flat_short d c.requires.small.parts c.requires.narrow)
 
 pub returns : goal.returns
 returns c =
     let d = design_of c.args.blocks.now c.args.top in
-    c.in_ok-raw.ensures
+    c.raw_of.ensures
     ∙ whole_is d c.args.names c.in_ok-lists.lists.inputs c.in_ok-lists.lists.outputs c.in_ok-lists.lists.consts c.in_ok-lists.lists.gates c.in_ok-lists.lists.flops c.requires.named
     c.in_ok-lists.ensures.inputs c.in_ok-lists.ensures.outputs c.in_ok-lists.ensures.consts c.in_ok-lists.ensures.gates c.in_ok-lists.ensures.flops
