@@ -1,2 +1,1 @@
-pub mod MarkLemmas
 pub mod FreeLemmas

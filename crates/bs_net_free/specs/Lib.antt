@@ -1,4 +1,4 @@
 -- what public contracts rest on
 pub mod Free
 -- what inner functions promise each other
-pub mod Marks
+pub mod Marked

@@ -3,42 +3,13 @@ ghost use Rattle.std.specs.Prelude.{◌≡◌, length, map, All, IfOk};
 ghost use Rattle.bs_net.specs.Netlist.{circuit};
 ghost use Rattle.bs_net.specs.Parts.{IsFlopPlaced};
 ghost use Rattle.bs_net_free.specs.Free.{IsFree};
-ghost use Rattle.bs_net_free.specs.Marks.{flop_mark, is_known};
+ghost use Rattle.bs_net_marks.specs.Marks.{flop_mark, is_known};
 
-use crate::mark::{Mark, flipped, joined, met};
 use crate::nets::marks_of;
 use bs_bits::{Bits, NoMemory};
-use bs_net::{Flop, Mode, Netlist};
+use bs_net::{Flop, Netlist};
+use bs_net_marks::{Mark, flop_mark, is_known};
 use std::alloc::Global;
-
-/// Whether a bit is known to be the same under all inputs in which one has the value.
-fn is_known(mark: Mark) -> bool
-    ensures { result ≡ is_known mark }
-{
-    match mark {
-        Mark::Low => true,
-        Mark::High => true,
-        Mark::Still => true,
-        Mark::Moved => false,
-    }
-}
-
-/// What is known of the bit that a flip-flop loads.
-fn flop_mark(marks: &[Mark], flop: Flop) -> Mark
-    requires { IsFlopPlaced (length marks.now) flop }
-    ensures { result ≡ flop_mark marks.now flop }
-{
-    let input = marks[flop.d.0 as usize];
-    match flop.mode {
-        Mode::Plain => input,
-        Mode::Enable(enable) => {
-            let enabled = marks[enable.0 as usize];
-            let held = met(flipped(enabled), marks[flop.q.0 as usize]);
-            joined(met(enabled, input), held)
-        }
-        Mode::Clear(clear) => met(flipped(marks[clear.0 as usize]), input),
-    }
-}
 
 /// Whether each flip-flop's next bit is known to be the same.
 fn known_flops(alloc: Global, marks: &[Mark], flops: &[Flop]) -> Result<Bits, NoMemory>

@@ -1,13 +1,11 @@
 //! Which flip-flops load the same bit under all inputs in which one data input has a value.
 //!
-//! Modules: `mark` (what is known of a net's bit, and of a gate's of its inputs'), `nets` (the marks of
-//! all nets, in one pass over the gates), `flops` (`free_flops`), `split` (`Split`, `split_of`). Used
-//! above: `IsFree` and `IsSplit` (`specs/Free`). The flags are sound, and not all that could be: a net's
-//! mark is told of its driver's inputs' marks alone.
+//! Modules: `nets` (the marks of all nets, in one pass over the gates), `flops` (`free_flops`),
+//! `split` (`Split`, `split_of`). Used above: `IsFree` and `IsSplit` (`specs/Free`). The flags are
+//! sound, and not all that could be: marks (bs_net_marks) are told of gates' inputs' marks alone.
 #![tactic(auto)]
 
 mod flops;
-mod mark;
 mod nets;
 mod split;
 

@@ -1,8 +1,8 @@
 use Rattle.std.proofs.Common.{◌≡◌, ◌∙◌, ap, List, map}
 use Rattle.bs_net.specs.declared.net.Flop.{Flop}
 use Rattle.bs_net.specs.Netlist.{circuit}
-use Rattle.bs_net_free.specs.declared.mark.Mark.{Mark}
-use Rattle.bs_net_free.specs.Marks.{flop_mark, is_known}
+use Rattle.bs_net_marks.specs.declared.mark.Mark.{Mark}
+use Rattle.bs_net_marks.specs.Marks.{flop_mark, is_known}
 use Rattle.bs_net_free.proofs.FreeLemmas.{known_free}
 use Rattle.bs_net_free.proofs.flops.free_flops.Goals as goal
 
