@@ -39,11 +39,12 @@ pub data Said : Type 0 where
   -- the beginning or the end of a list of changes
   Nothing : Said
 
+-- Whether a word begins or ends a list of changes. `$dumpoff` is none: what changes behind it is not in the text, so the text is refused
+-- there.
 abbrev pub is_section : List ℕ → Bool
 is_section word =
     bytes_eq word (codes "$dumpvars")
-    || (bytes_eq word (codes "$end")
-    || (bytes_eq word (codes "$dumpall") || (bytes_eq word (codes "$dumpon") || bytes_eq word (codes "$dumpoff"))))
+    || (bytes_eq word (codes "$end") || (bytes_eq word (codes "$dumpall") || bytes_eq word (codes "$dumpon")))
 
 abbrev pub keyword : List ℕ → Option Said
 keyword word = if bytes_eq word (codes "$comment") then Some Comment else (if is_section word then Some Nothing else None)

@@ -71,7 +71,7 @@ fn are_levels(text: &[u8]) -> bool
     !text.is_empty() && each
 }
 
-/// Whether a word begins or ends a list of changes.
+/// Whether a word begins or ends a list of changes. `$dumpoff` is none: what changes behind it is not in the text.
 fn is_section(word: &[u8]) -> bool
     ensures { result ≡ is_section word.now }
 {
@@ -79,7 +79,6 @@ fn is_section(word: &[u8]) -> bool
         || is_text(word, b"$end")
         || is_text(word, b"$dumpall")
         || is_text(word, b"$dumpon")
-        || is_text(word, b"$dumpoff")
 }
 
 /// What a keyword says.
