@@ -1,0 +1,5 @@
+pub mod StepLemmas
+pub mod FitLemmas
+pub mod LogLemmas
+pub mod ListLemmas
+pub mod ProblemLemmas

@@ -1,0 +1,12 @@
+pub mod Found
+pub mod Raising
+pub mod Standing
+pub mod Units
+pub mod Lines
+pub mod Lemmas
+pub mod Laws
+pub mod Walking
+pub mod Texts
+pub mod Rooms
+pub mod Examples
+pub mod Behind
