@@ -1,21 +1,32 @@
 #!/bin/sh
-# synth.sh [--flat] TOP OUT.v FILE.v ..
+# synth.sh [--flat] [--names] TOP OUT.v FILE.v ..
 #
 # Makes a netlist that backspace reads out of Verilog files, with yosys (0.23 was tried). The modules stay as they are, unless
-# --flat makes one of them. A file whose name ends in .sv is read as SystemVerilog. docs/OWN_CHIP.md tells what each step is
-# for. What has no meaning in such a netlist is refused by its names in the sources.
+# --flat makes one of them. With --names, which makes one of them too, nets that the sources name keep their names. A file whose
+# name ends in .sv is read as SystemVerilog. docs/OWN_CHIP.md tells what each step is for. What has no meaning in such a netlist is refused by its names in the sources.
 set -eu
 
-if [ "${1-}" = --flat ]; then
+flatten=
+split='splitnets -ports'
+keep=
+release=
+while :; do
+    case ${1-} in
+        --flat) ;;
+        --names)
+            keep='flatten
+setattr -set keep 1 w:* w:$* %d'
+            release='setattr -unset keep w:*
+opt_clean'
+            ;;
+        *) break ;;
+    esac
     flatten=-flatten
     split=
     shift
-else
-    flatten=
-    split='splitnets -ports'
-fi
+done
 if [ $# -lt 3 ]; then
-    echo "usage: synth.sh [--flat] TOP OUT.v FILE.v .." >&2
+    echo "usage: synth.sh [--flat] [--names] TOP OUT.v FILE.v .." >&2
     exit 2
 fi
 top=$1
@@ -99,12 +110,14 @@ run << END
 hierarchy -check -top $top
 proc
 script $work/ties
+$keep
 memory -nordff
 setundef -undriven -zero
 synth -nordff -nofsm $flatten -top $top
 dffunmap -srst-only t:\$_SDFF*1*
 dfflegalize -cell \$_DFF_P_ 01 -cell \$_DFFE_PP_ 0 -cell \$_SDFF_PP0_ 0 -cell \$_DFF_P??_ 01
 abc -g AND,OR,XOR,NAND,NOR,XNOR
+$release
 setundef -undriven -zero
 splitnets w:\$*
 opt_clean

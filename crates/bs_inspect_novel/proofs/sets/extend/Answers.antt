@@ -1,0 +1,10 @@
+use Rattle.bs_net.specs.Netlist.{circuit}
+use Rattle.bs_stim.specs.Runs.{inputs_of}
+use Rattle.bs_inspect_novel.proofs.SetLemmas.{set_done}
+use Rattle.bs_inspect_novel.proofs.sets.extend.Goals as goal
+
+pub returns : goal.returns
+returns c =
+    set_done (circuit c.args.net.now) (inputs_of c.args.runs.now) c.args.first c.args.number c.args.cycle c.args.words.now c.args.places.now c.args.mask
+    c.args.values.now c.add_values.new.values c.requires.shows c.requires.mask c.requires.set c.in_ok-add_values.ensures.elsewhere
+    c.in_ok-add_values.ensures.grows c.in_ok-add_values.ensures.full

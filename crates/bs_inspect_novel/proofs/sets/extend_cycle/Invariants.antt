@@ -1,0 +1,11 @@
+use Rattle.std.proofs.Common.{◌≡◌, ◌*◌, length}
+use Rattle.bs_net.specs.Netlist.{circuit}
+use Rattle.bs_stim.specs.Runs.{inputs_of}
+use Rattle.bs_inspect_novel.specs.Shown.{AreSets, all_places}
+use Rattle.bs_inspect_novel.proofs.sets.extend_cycle.Given as goal
+
+abbrev pub invariant-words : goal.invariant-words
+invariant-words l = record {
+  size : length l.words.items ≡ length (circuit l.net).flops;
+  sets : AreSets (circuit l.net) (inputs_of l.runs) l.number (all_places l.signals) l.cycle 0 (l.word * 64) 0 l.sets.items;
+}

@@ -1,0 +1,15 @@
+use Rattle.std.proofs.Common.{◌≡◌, ◌≤◌, ◌+◌, length}
+use Rattle.bs_net.specs.Netlist.{circuit}
+use Rattle.bs_stim.specs.Runs.{inputs_of}
+use Rattle.bs_inspect_novel.specs.Shown.{AreSets, all_places}
+use Rattle.bs_inspect_novel.proofs.sets.extend_cycles.Given as goal
+
+abbrev pub invariant-cycles : goal.invariant-cycles
+invariant-cycles l = record {
+  machine : l.pass.circuit ≡ circuit l.net;
+  runs : l.pass.runs ≡ inputs_of l.runs;
+  behind : l.pass.cycle ≤ l.cycle;
+  near : l.cycle ≤ l.pass.cycle + 1;
+  size : length l.words.items ≡ length (circuit l.net).flops;
+  sets : AreSets (circuit l.net) (inputs_of l.runs) l.number (all_places l.signals) l.cycle 0 0 0 l.sets.items;
+}

@@ -1,0 +1,10 @@
+use Rattle.bs_net.specs.Netlist.{circuit}
+use Rattle.bs_stim.specs.Runs.{inputs_of}
+use Rattle.bs_inspect_novel.proofs.ValueLemmas.{set_more}
+use Rattle.bs_inspect_novel.proofs.values.add_values.Goals as goal
+
+pub values-preserved : goal.values-preserved
+values-preserved c =
+    set_more (circuit c.args.net.now) (inputs_of c.args.runs.now) c.args.first c.args.number c.args.cycle c.args.words.now c.args.places.now c.args.mask
+    c.misses-left.result c.lowest-lane.result c.values.counter c.args.values.now c.values.values c.add_value.new.values c.requires.shows c.requires.mask
+    c.values.invariant c.misses-left.ensures c.lowest-lane.ensures.small c.lowest-lane.ensures.one c.in_ok-add_value.ensures

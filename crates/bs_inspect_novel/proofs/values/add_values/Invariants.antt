@@ -1,0 +1,7 @@
+use Rattle.bs_net.specs.Netlist.{circuit}
+use Rattle.bs_stim.specs.Runs.{inputs_of}
+use Rattle.bs_inspect_novel.proofs.ValueLemmas.{SetSo}
+use Rattle.bs_inspect_novel.proofs.values.add_values.Given as goal
+
+abbrev pub invariant-values : goal.invariant-values
+invariant-values l = SetSo (circuit l.net) (inputs_of l.runs) l.number l.places l.initial.values l.counter l.values

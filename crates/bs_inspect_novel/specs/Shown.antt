@@ -1,0 +1,134 @@
+-- What words show of signals: a word a flip-flop, of which bit k belongs to the run with the number first + k + 1.
+use Rattle.std.specs.Prelude.{◌≡◌, ◌≢◌, ◌⊎◌, ℕ, ◌<◌, ◌≤◌, ◌+◌, ◌-◌, ◌*◌, ◌==◌, ◌&&◌, nat_lt, nat_le, not, Bool, true, false, List, [], ◌∷◌, ◌++◌, length, map, codes}
+use Rattle.std.specs.Prelude.{decimal, slice_index_or, Option, Some, None}
+use Rattle.bs_bits.specs.Bits.{bits_eq}
+use Rattle.bs_bits.specs.Lines.{line}
+use Rattle.bs_net.specs.Circuit.{Circuit}
+use Rattle.bs_net_names.specs.Rtl.{rtl_text}
+use Rattle.bs_net_names.specs.Signals.{Signal}
+use Rattle.bs_net_names.specs.Values.{value_text}
+use Rattle.bs_net_names.specs.declared.signal.Signal.{Signal as CodeSignal}
+use Rattle.bs_stim.specs.Runs.{Stimulus, inputs_of, run_at}
+use Rattle.bs_lanes_planes.specs.Planes.{lane}
+use Rattle.bs_break.specs.Masks.{has}
+use Rattle.bs_scan.specs.Moments.{IsMoment, Moment, Run, is_listed, moment, run_of, state_at}
+use Rattle.bs_inspect_novel.specs.Values.{AreElsewhere, value_at, value_in}
+use Rattle.bs_inspect_novel.specs.declared.novelty.Novelty.{Novelty}
+use Rattle.bs_inspect_novel.specs.declared.values.TheConstants.{MAX_VALUES}
+
+-- ---- lanes
+
+-- the run of a lane
+abbrev pub lane_run : List Run → ℕ → ℕ → Run
+lane_run runs first k = slice_index_or runs (first + k) []
+
+-- the words show the state of each run that lasts to a cycle
+pub record ShowsWords (c : Circuit) (runs : List Run) (first : ℕ) (words : List ℕ) (cycle : ℕ) : Type 0 where
+  pub size : length words ≡ length c.flops
+  pub each : (k : ℕ) → k < 64 → first + k < length runs → cycle ≤ length (lane_run runs first k) →
+      lane 1 (length c.flops) words k ≡ state_at c (lane_run runs first k) cycle
+
+-- whether a lane has a run that is not the one with a number, and lasts to a cycle
+abbrev pub is_viewed : List Run → (first number cycle k : ℕ) → Bool
+is_viewed runs first number cycle k =
+    nat_lt (first + k) (length runs) && (not (first + k + 1 == number) && nat_le cycle (length (lane_run runs first k)))
+
+-- the lanes that are looked at
+pub record IsMask (runs : List Run) (first number cycle mask : ℕ) : Type 0 where
+  pub each : (k : ℕ) → k < 64 → has mask k ≡ is_viewed runs first number cycle k
+
+-- ---- values
+
+-- what words show of a signal in a lane
+abbrev pub words_value : List ℕ → List ℕ → ℕ → List Bool
+words_value places words k = value_in (lane 1 (length words) words k) places
+
+-- the lanes of a mask that show a value
+pub record Agrees (words places : List ℕ) (value : List Bool) (mask result : ℕ) : Type 0 where
+  pub each : (b : ℕ) → b < 64 → has result b ≡ (has mask b && bits_eq (words_value places words b) value)
+
+-- the lanes of a mask that show none of some values
+pub record Misses (values : List (List Bool)) (words places : List ℕ) (mask result : ℕ) : Type 0 where
+  pub each : (b : ℕ) → b < 64 → has result b ≡ (has mask b && not (is_listed values (words_value places words b)))
+
+-- each lane of a mask shows one of these values
+pub record AllListed (words places : List ℕ) (mask : ℕ) (values : List (List Bool)) : Type 0 where
+  pub each : (k : ℕ) → k < 64 → has mask k ≡ true → is_listed values (words_value places words k) ≡ true
+
+-- what was listed stays so
+pub record Grows (old new : List (List Bool)) : Type 0 where
+  pub longer : length old ≤ length new
+  pub listed : (v : List Bool) → is_listed old v ≡ true → is_listed new v ≡ true
+
+-- all values that lanes show are listed, unless there are many
+pub record IsFull (words places : List ℕ) (mask : ℕ) (values : List (List Bool)) : Type 0 where
+  pub is : length values ≤ MAX_VALUES → AllListed words places mask values
+
+-- values of other runs; all those of the cycles before one, and at this one those of the first runs, unless there are many
+pub record IsSet (c : Circuit) (runs : List Run) (number : ℕ) (places : List ℕ) (cycle upto : ℕ) (values : List (List Bool)) : Type 0 where
+  pub elsewhere : AreElsewhere c runs number places values
+  pub all : length values ≤ MAX_VALUES → (m : Moment) → IsMoment runs m → (m.cycle < cycle) ⊎ ((m.cycle ≡ cycle) × (m.run ≤ upto)) → m.run ≢ number →
+      is_listed values (value_at c runs places m.run m.cycle) ≡ true
+
+-- the places of each signal
+abbrev pub all_places : List CodeSignal → List (List ℕ)
+all_places signals = map (λ s. s.places) signals
+
+-- the sets of all signals: with the values of the first runs at a cycle, and those of the first signals with the values of more runs
+pub record AreSets (c : Circuit) (runs : List Run) (number : ℕ) (places : List (List ℕ)) (cycle done upto more : ℕ) (sets : List (List (List Bool))) : Type 0 where
+  pub long : length sets ≡ length places
+  pub first : (i : ℕ) → i < length sets → i < done → IsSet c runs number (slice_index_or places i []) cycle (upto + more) (slice_index_or sets i [])
+  pub rest : (i : ℕ) → i < length sets → done ≤ i → IsSet c runs number (slice_index_or places i []) cycle upto (slice_index_or sets i [])
+
+-- no set has a value
+pub record AreEmpty (sets : List (List (List Bool))) : Type 0 where
+  pub each : (i : ℕ) → i < length sets → slice_index_or sets i [] ≡ []
+
+-- ---- the run itself
+
+-- its states, from reset to its end
+pub record AreOwn (c : Circuit) (runs : List Run) (number : ℕ) (own : List (List Bool)) : Type 0 where
+  pub from_one : 1 ≤ number
+  pub there : number ≤ length runs
+  pub long : length own ≡ length (run_of runs number) + 1
+  pub each : (t : ℕ) → t < length own → slice_index_or own t [] ≡ state_at c (run_of runs number) t
+
+-- the first cycle whose value is none of these
+pub record IsFirstNew (own : List (List Bool)) (places : List ℕ) (values : List (List Bool)) (cycle : ℕ) : Type 0 where
+  pub there : cycle < length own
+  pub new : is_listed values (value_in (slice_index_or own cycle []) places) ≡ false
+  pub before : (t : ℕ) → t < cycle → is_listed values (value_in (slice_index_or own t []) places) ≡ true
+
+-- there is none
+pub record NoneNew (own : List (List Bool)) (places : List ℕ) (values : List (List Bool)) (cycles : ℕ) : Type 0 where
+  pub each : (t : ℕ) → t < cycles → is_listed values (value_in (slice_index_or own t []) places) ≡ true
+
+abbrev pub found_at : (place count : ℕ) → Option ℕ → Option Novelty
+found_at place count None = None
+found_at place count (Some cycle) = Some record { place = place; cycle = cycle; count = count }
+
+-- what is found is of one of so many signals, and at a cycle of the run
+pub record IsShowable (runs : List Run) (number count : ℕ) (f : Novelty) : Type 0 where
+  pub place : f.place < count
+  pub lasts : IsMoment runs (moment number f.cycle)
+
+-- a cycle, a signal with its value in a state, and a number of values
+abbrev pub state_line : ℕ → Signal → List Bool → ℕ → List ℕ
+state_line cycle s state count =
+    line (decimal cycle ++ (codes " " ++ (rtl_text s ++ (codes " = " ++ (value_text (value_in state s.places) ++
+    (codes ", others " ++ decimal count))))))
+
+-- one word of each plane, behind one another
+pub record IsColumn (planes : List ℕ) (wide word : ℕ) (words : List ℕ) : Type 0 where
+  pub each : (i : ℕ) → i < length words → slice_index_or words i 0 ≡ slice_index_or planes (i * wide + word) 0
+
+-- values of other runs: all of them, unless there are many
+pub record IsWhole (c : Circuit) (runs : List Run) (number : ℕ) (places : List ℕ) (values : List (List Bool)) : Type 0 where
+  pub elsewhere : AreElsewhere c runs number places values
+  pub all : length values ≤ MAX_VALUES → (m : Moment) → IsMoment runs m → m.run ≢ number →
+      is_listed values (value_at c runs places m.run m.cycle) ≡ true
+
+-- the sets of all signals
+pub record AreWhole (c : Circuit) (runs : List Run) (number : ℕ) (places : List (List ℕ)) (sets : List (List (List Bool))) : Type 0 where
+  pub long : length sets ≡ length places
+  pub each : (i : ℕ) → i < length sets → IsWhole c runs number (slice_index_or places i []) (slice_index_or sets i [])

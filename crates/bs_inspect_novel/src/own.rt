@@ -1,0 +1,99 @@
+//! The states of one run, from reset to its end.
+ghost use Rattle.std.specs.Prelude.{◌≡◌, ◌<◌, ◌≤◌, ◌+◌, ◌-◌, ◌*◌, length, IfOk};
+ghost use Rattle.bs_lanes_planes.specs.Planes.{lane as lane_in};
+ghost use Rattle.bs_net.specs.Netlist.{circuit};
+ghost use Rattle.bs_scan.specs.Moments.{run_of, state_at};
+ghost use Rattle.bs_stim.specs.Runs.{inputs_of};
+ghost use Rattle.bs_inspect_novel.specs.Shown.{AreOwn};
+
+use bs_bits::{Bits, List, NoMemory};
+use bs_chip::{Pass, step_to};
+use bs_lanes_planes::lane_bit;
+use bs_net::Netlist;
+use bs_stim::Runs;
+use std::alloc::Global;
+
+/// The bits of a lane.
+#[tactic(auto, using(crate::proofs::OwnLemmas::lane_more, crate::proofs::OwnLemmas::plane_fits, crate::proofs::OwnLemmas::lane_none))]
+fn lane_state(
+    alloc: Global,
+    planes: &[u64],
+    wide: usize,
+    count: usize,
+    lane: usize,
+) -> Result<Bits, NoMemory>
+    requires lane { lane < 64 * wide }
+    requires size { length planes.now ≡ count * wide }
+    ensures { IfOk result (λ bits. bits ≡ lane_in wide count planes.now lane) }
+{
+    let mut bits = Bits::new(alloc);
+    'places: for i in 0..count {
+        bits.push(lane_bit(planes, wide, i, lane))?;
+    }
+    Ok(bits)
+}
+
+/// The state of the run with a number, where all runs stand.
+#[tactic(auto, using(crate::proofs::OwnLemmas::state_is, crate::proofs::OwnLemmas::state_room, crate::proofs::OwnLemmas::state_lane))]
+fn state_of(
+    alloc: Global,
+    net: &Netlist,
+    runs: &Runs,
+    pass: &Pass<'_>,
+    number: u32,
+) -> Result<Bits, NoMemory>
+    requires circuit { pass.now.circuit ≡ circuit net.now }
+    requires runs { pass.now.runs ≡ inputs_of runs.now }
+    requires from_one { 1 ≤ number }
+    requires there { number ≤ length (inputs_of runs.now) }
+    requires lasts { pass.now.cycle ≤ length (run_of (inputs_of runs.now) number) }
+    ensures { IfOk result (λ state. state ≡ state_at (circuit net.now) (run_of (inputs_of runs.now) number) pass.now.cycle) }
+{
+    let _runs = runs;
+    let _count = pass.count();
+    let wide = pass.wide();
+    let state = lane_state(alloc, pass.planes(), wide, net.width(), number as usize - 1)?;
+    Ok(state)
+}
+
+/// The states of the run with a number, by a pass that stands at reset.
+#[tactic(auto, using(crate::proofs::OwnLemmas::own_begin, crate::proofs::OwnLemmas::own_more, crate::proofs::OwnLemmas::own_all, crate::proofs::OwnLemmas::own_run))]
+fn own_by(
+    alloc: Global,
+    net: &Netlist,
+    runs: &Runs,
+    pass: &mut Pass<'_>,
+    number: u32,
+) -> Result<List<Bits>, NoMemory>
+    requires circuit { pass.old.circuit ≡ circuit net.now }
+    requires runs { pass.old.runs ≡ inputs_of runs.now }
+    requires reset { pass.old.cycle ≡ 0 }
+    requires from_one { 1 ≤ number }
+    requires there { number ≤ length (inputs_of runs.now) }
+    ensures { IfOk result (λ own. AreOwn (circuit net.now) (inputs_of runs.now) number own) }
+{
+    let cycles = pass.cycles(number);
+    let mut own = List::new(alloc);
+    'cycles: for cycle in 0..cycles + 1 {
+        step_to(pass, cycle as usize);
+        own.push(state_of(alloc, net, runs, pass, number)?)?;
+    }
+    Ok(own)
+}
+
+/// The states of the run with a number.
+pub(crate) fn own_states(
+    alloc: Global,
+    net: &Netlist,
+    runs: &Runs,
+    number: u32,
+) -> Result<List<Bits>, NoMemory>
+    requires inputs { runs.now.width ≡ length (circuit net.now).inputs }
+    requires from_one { 1 ≤ number }
+    requires there { number ≤ length (inputs_of runs.now) }
+    ensures { IfOk result (λ own. AreOwn (circuit net.now) (inputs_of runs.now) number own) }
+{
+    let mut pass = Pass::new(alloc, net, runs)?;
+    let own = own_by(alloc, net, runs, &mut pass, number)?;
+    Ok(own)
+}

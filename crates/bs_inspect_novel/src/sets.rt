@@ -1,0 +1,244 @@
+//! The values that other runs have, of each signal: all runs are moved in lock step.
+ghost use Rattle.std.specs.Prelude.{◌≡◌, ◌<◌, ◌≤◌, ◌+◌, ◌*◌, [], length, map, slice_index_or, IfOk, OnOk};
+ghost use Rattle.bs_net.specs.Netlist.{circuit};
+ghost use Rattle.bs_stim.specs.Runs.{inputs_of};
+ghost use Rattle.bs_chip.specs.Lockstep.{ShowsCycle, wide_of};
+ghost use Rattle.bs_inspect_novel.specs.Shown.{all_places, AreEmpty, AreSets, AreWhole, IsMask, IsSet, ShowsWords};
+
+use crate::masks::{mask_of, put_column, zeros};
+use crate::values::{MAX_VALUES, add_values};
+use bs_bits::{Bits, List, NoMemory};
+use bs_chip::{Pass, step_to};
+use bs_net::Netlist;
+use bs_net_names::Signal;
+use bs_stim::Runs;
+use std::alloc::Global;
+
+/// Puts the values that 64 lanes show of a signal to a set.
+#[tactic(auto, using(crate::proofs::SetLemmas::set_done, crate::proofs::SetLemmas::set_passed, crate::proofs::SetLemmas::set_parts))]
+fn extend(
+    alloc: Global,
+    net: &Netlist,
+    runs: &Runs,
+    first: u32,
+    number: u32,
+    cycle: u32,
+    words: &[u64],
+    mask: u64,
+    places: &[u32],
+    values: &mut List<Bits>,
+) -> Result<(), NoMemory>
+    requires shows { ShowsWords (circuit net.now) (inputs_of runs.now) first words.now cycle }
+    requires mask { IsMask (inputs_of runs.now) first number cycle mask }
+    requires set { IsSet (circuit net.now) (inputs_of runs.now) number places.now cycle first values.old }
+    ensures { OnOk result (IsSet (circuit net.now) (inputs_of runs.now) number places.now cycle (first + 64) values.new) }
+{
+    if values.len() > MAX_VALUES {
+        return Ok(());
+    }
+    add_values(
+        alloc, net, runs, first, number, cycle, words, mask, places, values,
+    )?;
+    Ok(())
+}
+
+/// Puts the values that 64 lanes show to the sets of all signals.
+#[tactic(auto, using(crate::proofs::SetLemmas::sets_begin, crate::proofs::SetLemmas::sets_here, crate::proofs::SetLemmas::sets_more, crate::proofs::SetLemmas::sets_done, crate::proofs::SetLemmas::signal_there))]
+fn extend_all(
+    alloc: Global,
+    net: &Netlist,
+    runs: &Runs,
+    first: u32,
+    number: u32,
+    cycle: u32,
+    words: &[u64],
+    mask: u64,
+    signals: &[Signal<'_>],
+    sets: &mut Vec<List<Bits>>,
+) -> Result<(), NoMemory>
+    requires shows { ShowsWords (circuit net.now) (inputs_of runs.now) first words.now cycle }
+    requires mask { IsMask (inputs_of runs.now) first number cycle mask }
+    requires sets { AreSets (circuit net.now) (inputs_of runs.now) number (all_places signals.now) cycle 0 first 0 sets.old.items }
+    ensures { OnOk result (AreSets (circuit net.now) (inputs_of runs.now) number (all_places signals.now) cycle 0 (first + 64) 0 sets.new.items) }
+{
+    'signals: for i in 0..sets.len() {
+        let places = signals[i].places.slice();
+        extend(
+            alloc,
+            net,
+            runs,
+            first,
+            number,
+            cycle,
+            words,
+            mask,
+            places,
+            &mut sets[i],
+        )?;
+    }
+    Ok(())
+}
+
+/// Puts the values that one word of the planes shows to the sets.
+#[tactic(auto, using(crate::proofs::SetLemmas::column_shows, crate::proofs::SetLemmas::planes_room, crate::proofs::SetLemmas::sets_first, crate::proofs::SetLemmas::sets_next))]
+fn extend_word(
+    alloc: Global,
+    net: &Netlist,
+    runs: &Runs,
+    number: u32,
+    cycle: u32,
+    planes: &[u64],
+    wide: usize,
+    word: usize,
+    words: &mut Vec<u64>,
+    signals: &[Signal<'_>],
+    sets: &mut Vec<List<Bits>>,
+) -> Result<(), NoMemory>
+    requires shows { ShowsCycle (circuit net.now) (inputs_of runs.now) planes.now cycle }
+    requires wide { wide ≡ wide_of (length (inputs_of runs.now)) }
+    requires few { wide ≤ 4 }
+    requires word { word < wide }
+    requires size { length words.old.items ≡ length (circuit net.now).flops }
+    requires sets { AreSets (circuit net.now) (inputs_of runs.now) number (all_places signals.now) cycle 0 (word * 64) 0 sets.old.items }
+    ensures size { length words.new.items ≡ length (circuit net.now).flops }
+    ensures sets { OnOk result (AreSets (circuit net.now) (inputs_of runs.now) number (all_places signals.now) cycle 0 ((word + 1) * 64) 0 sets.new.items) }
+{
+    put_column(planes, wide, word, words);
+    let first = word as u32 * 64;
+    let mask = mask_of(alloc, runs, first, number, cycle)?;
+    extend_all(
+        alloc,
+        net,
+        runs,
+        first,
+        number,
+        cycle,
+        words.as_slice(),
+        mask,
+        signals,
+        sets,
+    )?;
+    Ok(())
+}
+
+/// Puts the values of a cycle to the sets.
+#[tactic(auto, using(crate::proofs::SetLemmas::sets_zero, crate::proofs::SetLemmas::cycle_done))]
+fn extend_cycle(
+    alloc: Global,
+    net: &Netlist,
+    runs: &Runs,
+    number: u32,
+    cycle: u32,
+    planes: &[u64],
+    wide: usize,
+    words: &mut Vec<u64>,
+    signals: &[Signal<'_>],
+    sets: &mut Vec<List<Bits>>,
+) -> Result<(), NoMemory>
+    requires shows { ShowsCycle (circuit net.now) (inputs_of runs.now) planes.now cycle }
+    requires wide { wide ≡ wide_of (length (inputs_of runs.now)) }
+    requires few { wide ≤ 4 }
+    requires room { length (inputs_of runs.now) ≤ 64 * wide }
+    requires size { length words.old.items ≡ length (circuit net.now).flops }
+    requires sets { AreSets (circuit net.now) (inputs_of runs.now) number (all_places signals.now) cycle 0 0 0 sets.old.items }
+    ensures size { length words.new.items ≡ length (circuit net.now).flops }
+    ensures sets { OnOk result (AreSets (circuit net.now) (inputs_of runs.now) number (all_places signals.now) (cycle + 1) 0 0 0 sets.new.items) }
+{
+    'words: for word in 0..wide {
+        extend_word(
+            alloc, net, runs, number, cycle, planes, wide, word, words, signals, sets,
+        )?;
+    }
+    Ok(())
+}
+
+/// Puts the values of all cycles to the sets, from reset on.
+#[tactic(auto, using(crate::proofs::SetLemmas::sets_whole, crate::proofs::SetLemmas::pass_shows, crate::proofs::SetLemmas::pass_room, crate::proofs::SetLemmas::pass_wide))]
+fn extend_cycles(
+    alloc: Global,
+    net: &Netlist,
+    runs: &Runs,
+    number: u32,
+    pass: &mut Pass<'_>,
+    words: &mut Vec<u64>,
+    signals: &[Signal<'_>],
+    sets: &mut Vec<List<Bits>>,
+) -> Result<(), NoMemory>
+    requires circuit { pass.old.circuit ≡ circuit net.now }
+    requires runs { pass.old.runs ≡ inputs_of runs.now }
+    requires reset { pass.old.cycle ≡ 0 }
+    requires size { length words.old.items ≡ length (circuit net.now).flops }
+    requires sets { AreSets (circuit net.now) (inputs_of runs.now) number (all_places signals.now) 0 0 0 0 sets.old.items }
+    ensures { OnOk result (AreWhole (circuit net.now) (inputs_of runs.now) number (all_places signals.now) sets.new.items) }
+{
+    let most = pass.longest();
+    let wide = pass.wide();
+    let _count = pass.count();
+    'cycles: for cycle in 0..most + 1 {
+        step_to(pass, cycle as usize);
+        extend_cycle(
+            alloc,
+            net,
+            runs,
+            number,
+            cycle,
+            pass.planes(),
+            wide,
+            words,
+            signals,
+            sets,
+        )?;
+    }
+    Ok(())
+}
+
+/// So many empty sets.
+#[tactic(auto, using(crate::proofs::SetLemmas::empty_none, crate::proofs::SetLemmas::empty_more))]
+fn empty_sets(alloc: Global, count: usize) -> Result<Vec<List<Bits>>, NoMemory>
+    ensures long { IfOk result (λ sets. length sets.items ≡ count) }
+    ensures empty { IfOk result (λ sets. AreEmpty sets.items) }
+{
+    let mut sets = Vec::new(alloc);
+    'sets: for _ in 0..count {
+        sets.push(List::new(alloc))?;
+    }
+    Ok(sets)
+}
+
+/// Fills sets, by a pass over all runs that is let go.
+fn fill(
+    alloc: Global,
+    net: &Netlist,
+    runs: &Runs,
+    number: u32,
+    signals: &[Signal<'_>],
+    sets: &mut Vec<List<Bits>>,
+) -> Result<(), NoMemory>
+    requires inputs { runs.now.width ≡ length (circuit net.now).inputs }
+    requires sets { AreSets (circuit net.now) (inputs_of runs.now) number (all_places signals.now) 0 0 0 0 sets.old.items }
+    ensures { OnOk result (AreWhole (circuit net.now) (inputs_of runs.now) number (all_places signals.now) sets.new.items) }
+{
+    let mut words = zeros(alloc, net.width())?;
+    let mut pass = Pass::new(alloc, net, runs)?;
+    extend_cycles(
+        alloc, net, runs, number, &mut pass, &mut words, signals, sets,
+    )?;
+    Ok(())
+}
+
+/// For each signal the values that other runs have, each once, or more than `MAX_VALUES` of them.
+#[tactic(auto, using(crate::proofs::SetLemmas::sets_none))]
+pub(crate) fn sets_of(
+    alloc: Global,
+    net: &Netlist,
+    runs: &Runs,
+    number: u32,
+    signals: &[Signal<'_>],
+) -> Result<Vec<List<Bits>>, NoMemory>
+    requires inputs { runs.now.width ≡ length (circuit net.now).inputs }
+    ensures { IfOk result (λ sets. AreWhole (circuit net.now) (inputs_of runs.now) number (all_places signals.now) sets.items) }
+{
+    let mut sets = empty_sets(alloc, signals.len())?;
+    fill(alloc, net, runs, number, signals, &mut sets)?;
+    Ok(sets)
+}

@@ -1,0 +1,158 @@
+//! What is found, a line each.
+ghost use Rattle.std.specs.Prelude.{◌≡◌, ◌<◌, ◌≤◌, ◌+◌, ◌^◌, ◌++◌, length, map, take, All, IfOk, OnOk};
+ghost use Rattle.std.specs.List.{flat_map};
+ghost use Rattle.bs_net.specs.Netlist.{circuit};
+ghost use Rattle.bs_net_names.specs.Signals.{signal_in};
+ghost use Rattle.bs_net_names.specs.Values.{value_text};
+ghost use Rattle.bs_stim.specs.Runs.{inputs_of};
+ghost use Rattle.bs_inspect_novel.specs.Novel.{alone_text, novelty_line, novelties_text, nothing_text};
+ghost use Rattle.bs_inspect_novel.specs.Values.{value_in};
+ghost use Rattle.bs_inspect_novel.specs.Shown.{AreOwn, IsShowable, state_line};
+
+use crate::novelty::{Novelty, state_bit};
+use bs_bits::{Bits, List, NoMemory, end_line, push_line, push_number, push_piece};
+use bs_net::Netlist;
+use bs_net_names::{Signal, push_rtl_name, push_value};
+use bs_stim::Runs;
+use std::alloc::Global;
+
+/// The bits of a signal in a state, the greatest first.
+#[tactic(auto, using(crate::proofs::ValueLemmas::value_more))]
+fn bits_of(alloc: Global, state: &Bits, places: &[u32]) -> Result<Vec<bool>, NoMemory>
+    ensures { IfOk result (λ bits. bits.items ≡ value_in state.now places.now) }
+{
+    let mut bits = Vec::new(alloc);
+    'places: for place in places {
+        bits.push(state_bit(state, *place))?;
+    }
+    Ok(bits)
+}
+
+/// Appends the value of a signal in a state.
+#[tactic(auto, using(crate::proofs::TextLemmas::value_few))]
+fn push_state_value(text: &mut Vec<u8>, state: &Bits, places: &[u32]) -> Result<(), NoMemory>
+    requires { length places.now < 2 ^ 32 }
+    ensures { OnOk result (text.new.items ≡ text.old.items ++ value_text (value_in state.now places.now)) }
+{
+    let bits = bits_of(*text.allocator(), state, places)?;
+    push_value(text, bits.as_slice())
+}
+
+/// Appends a line: a cycle, a signal with its value in a state, and a number of values.
+fn push_state(
+    text: &mut Vec<u8>,
+    cycle: usize,
+    signal: &Signal<'_>,
+    state: &Bits,
+    count: usize,
+) -> Result<(), NoMemory>
+    requires { length signal.now.places < 2 ^ 32 }
+    ensures { OnOk result (text.new.items ≡ text.old.items ++ state_line cycle (signal_in signal.now) state.now count) }
+{
+    push_number(text, cycle as u64)?;
+    push_piece(text, b" ")?;
+    push_rtl_name(text, signal)?;
+    push_piece(text, b" = ")?;
+    push_state_value(text, state, signal.places.slice())?;
+    push_piece(text, b", others ")?;
+    push_number(text, count as u64)?;
+    end_line(text)
+}
+
+/// Appends the line of what is found.
+#[tactic(auto, using(crate::proofs::TextLemmas::line_is, crate::proofs::TextLemmas::cycle_there))]
+fn push_novelty(
+    text: &mut Vec<u8>,
+    net: &Netlist,
+    runs: &Runs,
+    number: u32,
+    own: &List<Bits>,
+    signals: &[Signal<'_>],
+    novelty: &Novelty,
+) -> Result<(), NoMemory>
+    requires own { AreOwn (circuit net.now) (inputs_of runs.now) number own.now }
+    requires few { All (λ s. length s.places < 2 ^ 32) signals.now }
+    requires showable { IsShowable (inputs_of runs.now) number (length signals.now) novelty.now }
+    ensures { OnOk result (text.new.items ≡ text.old.items ++ novelty_line (circuit net.now) (inputs_of runs.now) number (map signal_in signals.now) novelty.now) }
+{
+    let _net = net;
+    let _runs = runs;
+    let _number = number;
+    let signal = &signals[novelty.place];
+    push_state(
+        text,
+        novelty.cycle,
+        signal,
+        own.get(novelty.cycle),
+        novelty.count,
+    )?;
+    Ok(())
+}
+
+/// Appends the lines of what is found.
+#[tactic(auto, using(crate::proofs::TextLemmas::lines_more))]
+fn push_novelties(
+    text: &mut Vec<u8>,
+    net: &Netlist,
+    runs: &Runs,
+    number: u32,
+    own: &List<Bits>,
+    signals: &[Signal<'_>],
+    novelties: &[Novelty],
+) -> Result<(), NoMemory>
+    requires own { AreOwn (circuit net.now) (inputs_of runs.now) number own.now }
+    requires few { All (λ s. length s.places < 2 ^ 32) signals.now }
+    requires showable { All (λ f. IsShowable (inputs_of runs.now) number (length signals.now) f) novelties.now }
+    ensures { OnOk result (text.new.items ≡ text.old.items ++ flat_map (novelty_line (circuit net.now) (inputs_of runs.now) number (map signal_in signals.now)) novelties.now) }
+{
+    'novelties: for novelty in novelties {
+        push_novelty(text, net, runs, number, own, signals, novelty)?;
+    }
+    Ok(())
+}
+
+/// The first of what is found.
+#[tactic(auto, using(crate::proofs::TextLemmas::all_first))]
+pub(crate) fn first_of(novelties: &[Novelty], most: u64) -> &[Novelty]
+    ensures { result.now ≡ take most novelties.now }
+{
+    if most < novelties.len() as u64 {
+        &novelties[..most as usize]
+    } else {
+        novelties
+    }
+}
+
+/// The text of what is found: a line each, or that there is nothing.
+#[tactic(auto, using(crate::proofs::TextLemmas::text_none, crate::proofs::TextLemmas::text_some))]
+pub(crate) fn novelties_text(
+    alloc: Global,
+    net: &Netlist,
+    runs: &Runs,
+    number: u32,
+    own: &List<Bits>,
+    signals: &[Signal<'_>],
+    novelties: &[Novelty],
+) -> Result<Vec<u8>, NoMemory>
+    requires own { AreOwn (circuit net.now) (inputs_of runs.now) number own.now }
+    requires few { All (λ s. length s.places < 2 ^ 32) signals.now }
+    requires showable { All (λ f. IsShowable (inputs_of runs.now) number (length signals.now) f) novelties.now }
+    ensures { IfOk result (λ text. text.items ≡ novelties_text (circuit net.now) (inputs_of runs.now) number (map signal_in signals.now) novelties.now) }
+{
+    let mut text = Vec::new(alloc);
+    if novelties.is_empty() {
+        push_line(&mut text, b"nothing new")?;
+        return Ok(text);
+    }
+    push_novelties(&mut text, net, runs, number, own, signals, novelties)?;
+    Ok(text)
+}
+
+/// That there is no other run.
+pub(crate) fn alone_text(alloc: Global) -> Result<Vec<u8>, NoMemory>
+    ensures { IfOk result (λ text. text.items ≡ alone_text) }
+{
+    let mut text = Vec::new(alloc);
+    push_line(&mut text, b"no other run")?;
+    Ok(text)
+}

@@ -1,0 +1,104 @@
+//! The values of a signal that other runs have, each once.
+ghost use Rattle.std.specs.Prelude.{◌≡◌, ◌<◌, ◌≤◌, ◌+◌, true, [], ◌∷◌, ◌++◌, length, All, IfOk, OnOk};
+ghost use Rattle.bs_break.specs.Masks.{has};
+ghost use Rattle.bs_lanes_planes.specs.Planes.{lane as lane_in};
+ghost use Rattle.bs_net.specs.Netlist.{circuit};
+ghost use Rattle.bs_stim.specs.Runs.{inputs_of};
+ghost use Rattle.bs_inspect_novel.specs.Values.{AreElsewhere, state_bit};
+ghost use Rattle.bs_inspect_novel.specs.Shown.{Grows, IsFull, IsMask, ShowsWords, words_value};
+
+use crate::look::misses;
+use bs_bits::{Bits, List, NoMemory};
+use bs_lanes_planes::lane_bit;
+use bs_net::Netlist;
+use bs_stim::Runs;
+use std::alloc::Global;
+
+/// How many values other runs may have of a signal that is told.
+pub const MAX_VALUES: usize = 64;
+
+/// The bit of a lane at a place, and 0 past the end.
+#[tactic(auto, using(crate::proofs::ValueLemmas::bit_there, crate::proofs::ValueLemmas::bit_past))]
+fn bit_of(words: &[u64], place: u32, lane: u32) -> bool
+    requires { lane < 64 }
+    ensures { result ≡ state_bit (lane_in 1 (length words.now) words.now lane) place }
+{
+    if (place as usize) < words.len() {
+        lane_bit(words, 1, place as usize, lane as usize)
+    } else {
+        false
+    }
+}
+
+/// The value of a signal in a lane.
+#[tactic(auto, using(crate::proofs::ValueLemmas::value_more))]
+fn value_of(alloc: Global, words: &[u64], places: &[u32], lane: u32) -> Result<Bits, NoMemory>
+    requires { lane < 64 }
+    ensures { IfOk result (λ bits. bits ≡ words_value places.now words.now lane) }
+{
+    let mut bits = Bits::new(alloc);
+    'places: for place in places {
+        bits.push(bit_of(words, *place, lane))?;
+    }
+    Ok(bits)
+}
+
+/// The lowest lane of a mask.
+fn lowest(left: u64) -> u32
+    requires { 0 < left }
+    ensures small { result < 64 }
+    ensures one { has left result ≡ true }
+{
+    left.trailing_zeros()
+}
+
+/// Puts the value of a lane at the end.
+fn add_value(
+    alloc: Global,
+    words: &[u64],
+    places: &[u32],
+    values: &mut List<Bits>,
+    lane: u32,
+) -> Result<(), NoMemory>
+    requires { lane < 64 }
+    ensures { OnOk result (values.new ≡ values.old ++ words_value places.now words.now lane ∷ []) }
+{
+    let value = value_of(alloc, words, places, lane)?;
+    values.push(value)?;
+    Ok(())
+}
+
+/// Puts the values at the end that lanes show and that are not there, until there are more than `MAX_VALUES`.
+#[tactic(auto, using(crate::proofs::ValueLemmas::set_begin, crate::proofs::ValueLemmas::set_more, crate::proofs::ValueLemmas::set_full, crate::proofs::ValueLemmas::set_many, crate::proofs::ValueLemmas::set_wide, crate::proofs::ValueLemmas::set_elsewhere, crate::proofs::ValueLemmas::set_grows))]
+pub(crate) fn add_values(
+    alloc: Global,
+    net: &Netlist,
+    runs: &Runs,
+    first: u32,
+    number: u32,
+    cycle: u32,
+    words: &[u64],
+    mask: u64,
+    places: &[u32],
+    values: &mut List<Bits>,
+) -> Result<(), NoMemory>
+    requires shows { ShowsWords (circuit net.now) (inputs_of runs.now) first words.now cycle }
+    requires mask { IsMask (inputs_of runs.now) first number cycle mask }
+    requires elsewhere { AreElsewhere (circuit net.now) (inputs_of runs.now) number places.now values.old }
+    ensures elsewhere { OnOk result (AreElsewhere (circuit net.now) (inputs_of runs.now) number places.now values.new) }
+    ensures grows { OnOk result (Grows values.old values.new) }
+    ensures full { OnOk result (IsFull words.now places.now mask values.new) }
+{
+    let _net = net;
+    let _runs = runs;
+    let _lanes = (first, number, cycle);
+    'values: for _ in 0..MAX_VALUES + 1 {
+        let left = misses(words, places, values, mask);
+        if left == 0 {
+            return Ok(());
+        }
+        let lane = lowest(left);
+        add_value(alloc, words, places, values, lane)?;
+    }
+    Ok(())
+}
