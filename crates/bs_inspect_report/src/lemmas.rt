@@ -8,7 +8,7 @@ use std::alloc::Global;
 
 /// How many lemmas each step of a log has, up to its retire line.
 #[tactic(auto, using(crate::proofs::LemmaLemmas::all_counted, crate::proofs::LemmaLemmas::line_counted))]
-pub(crate) fn lemmas_logged(alloc: Global, log: &[Line]) -> Result<Vec<u64>, NoMemory>
+pub fn lemmas_logged(alloc: Global, log: &[Line]) -> Result<Vec<u64>, NoMemory>
     ensures { IfOk result (λ counts. counts.items ≡ lemmas_logged log.now) }
 {
     let mut counts = Vec::new(alloc);

@@ -22,8 +22,10 @@ mod trace;
 
 pub use keys::{flop_keys, input_keys};
 pub use known::first_unknown;
+pub use lemmas::lemmas_logged;
+pub use moment::member;
 pub use remarks::remarks_text;
 pub use step_table::steps_table;
-pub use steps::steps_text;
+pub use steps::{differing, differs_at, number_at, push_end, steps_text};
 pub use table::trace_table;
-pub use trace::trace_text;
+pub use trace::{flop_signals, input_signals, trace_text};

@@ -27,7 +27,7 @@ fn push_hit(text: &mut Vec<u8>, hit: &Option<HitLine>) -> Result<(), NoMemory>
 }
 
 /// The member at a place, if there is one.
-pub(crate) fn member<T>(list: &List<T>, place: usize) -> Option<&T>
+pub fn member<T>(list: &List<T>, place: usize) -> Option<&T>
     ensures { option_map (λ m. m.now) result ≡ slice_get list.now place }
 {
     list.slice().get(place)

@@ -12,7 +12,7 @@ use bs_report::{Cand, HitLine, ListEnd, Report, Step};
 use std::alloc::Global;
 
 /// Whether one of these candidates has another bit at a place than this state.
-fn differs_at(first: &Bits, cands: &[Cand], place: usize) -> bool
+pub fn differs_at(first: &Bits, cands: &[Cand], place: usize) -> bool
     ensures { result ≡ differs_at first.now cands.now place }
 {
     cands
@@ -41,7 +41,7 @@ fn count_differing(first: &Bits, cands: &[Cand]) -> usize
 }
 
 /// How many flip-flops differ among candidates.
-pub(crate) fn differing(cands: &[Cand]) -> usize
+pub fn differing(cands: &[Cand]) -> usize
     ensures { result ≡ differing cands.now }
 {
     match cands {
@@ -51,7 +51,7 @@ pub(crate) fn differing(cands: &[Cand]) -> usize
 }
 
 /// Appends the word for the end of a list.
-pub(crate) fn push_end(text: &mut Vec<u8>, end: ListEnd) -> Result<(), NoMemory>
+pub fn push_end(text: &mut Vec<u8>, end: ListEnd) -> Result<(), NoMemory>
     ensures { OnOk result (text.new.items ≡ text.old.items ++ list_word end) }
 {
     match end {
@@ -112,7 +112,7 @@ fn push_step(text: &mut Vec<u8>, number: u64, lemmas: u64, step: &Step) -> Resul
 }
 
 /// The number at a place, or 0 past the end.
-pub(crate) fn number_at(numbers: &[u64], place: usize) -> u64
+pub fn number_at(numbers: &[u64], place: usize) -> u64
     ensures { result ≡ slice_index_or numbers.now place 0 }
 {
     if place < numbers.len() {

@@ -30,7 +30,7 @@ fn named_signals<'a>(
 }
 
 /// The signals of a netlist's flip-flops.
-fn flop_signals<'a>(
+pub fn flop_signals<'a>(
     alloc: Global,
     net: &'a Netlist,
     only: &[&str],
@@ -44,7 +44,7 @@ fn flop_signals<'a>(
 }
 
 /// The signals of a netlist's data inputs.
-fn input_signals<'a>(
+pub fn input_signals<'a>(
     alloc: Global,
     net: &'a Netlist,
     only: &[&str],

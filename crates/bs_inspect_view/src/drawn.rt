@@ -58,7 +58,7 @@ fn is_constant(name: &[u8]) -> bool
 }
 
 /// Whether a key is that of a constant, or one that synthesis made.
-fn is_nameless(name: &[u8]) -> bool
+pub fn is_nameless(name: &[u8]) -> bool
     ensures { result ≡ is_nameless name.now }
 {
     let leaf = leaf_of(name);

@@ -16,4 +16,5 @@ mod value;
 mod view;
 
 pub use asked::Asked;
+pub use drawn::is_nameless;
 pub use view::drawing;

@@ -1,0 +1,4 @@
+pub mod PutLemmas
+pub mod RowLemmas
+pub mod CellLemmas
+pub mod EscapeLemmas

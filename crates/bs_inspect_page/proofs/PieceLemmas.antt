@@ -1,0 +1,96 @@
+-- Pieces of the page's parts, one after another.
+use Rattle.std.proofs.Common.{◌≡◌, ℕ, List, ◌+◌, ◌-◌, ◌++◌, length, ap, ◌∙◌, Option}
+use Rattle.std.specs.Prelude.{codes, decimal}
+use Rattle.bs_net.specs.Parts.{Parts}
+use Rattle.bs_net.specs.Netlist.{circuit_of}
+use Rattle.bs_report.specs.declared.report.Budgets.{Budgets}
+use Rattle.bs_report.specs.declared.report.Report.{Report}
+use Rattle.bs_report.specs.declared.report.Step.{Step}
+use Rattle.bs_inspect_report.specs.Steps.{list_word}
+use Rattle.bs_inspect_cells.proofs.PutLemmas.{five_put, four_put, three_put, two_put}
+use Rattle.bs_inspect_page.specs.Columns.{columns_text, far_column, moment_text, origin_text}
+use Rattle.bs_inspect_page.specs.Front.{audit_part, budgets_line, chip_line, head_text, lists_words, shown_path, title_text}
+use Rattle.bs_inspect_page.specs.Opens.{step_of}
+use Rattle.bs_inspect_page.specs.Page.{trace_front}
+use Rattle.bs_inspect_page.specs.Steps.{begin_cells, from_text, next_cell, step_end}
+use Rattle.bs_inspect_page.specs.Style.{style_text}
+
+seven_put : (old x y z w v u t a b c d e f g : List ℕ) → a ≡ old ++ x → b ≡ a ++ y → c ≡ b ++ z → d ≡ c ++ w → e ≡ d ++ v → f ≡ e ++ u →
+    g ≡ f ++ t → g ≡ old ++ (x ++ (y ++ (z ++ (w ++ (v ++ (u ++ t))))))
+seven_put old x y z w v u t a b c d e f g h i j k l m n =
+    three_put old x y (z ++ (w ++ (v ++ (u ++ t)))) a b g h i (five_put b z w v u t c d e f g j k l m n)
+
+-- a number that is appended
+number_put : (old : List ℕ) (n m : ℕ) (a : List ℕ) → n ≡ m → a ≡ old ++ decimal n → a ≡ old ++ decimal m
+number_put old n m a same e = e ∙ ap (λ (k : ℕ). old ++ decimal k) same
+
+pub chip_put : (raw : Parts) (n m : ℕ) (old a b c d e : List ℕ) → n ≡ length (circuit_of raw).flops → m ≡ length (circuit_of raw).inputs →
+    a ≡ old ++ codes "<ul><li>" → b ≡ a ++ decimal n → c ≡ b ++ codes " flip-flops, " → d ≡ c ++ decimal m → e ≡ d ++ codes " data inputs</li>\n" →
+    e ≡ old ++ chip_line raw
+unfolding chip_line
+chip_put raw n m old a b c d e flops inputs f g h i j =
+    five_put old (codes "<ul><li>") (decimal (length (circuit_of raw).flops)) (codes " flip-flops, ") (decimal (length (circuit_of raw).inputs))
+    (codes " data inputs</li>\n") a b c d e f (number_put a n (length (circuit_of raw).flops) b flops g) h
+    (number_put c m (length (circuit_of raw).inputs) d inputs i) j
+
+pub lists_put : (r : Report) (n : ℕ) (old a b c : List ℕ) → n ≡ length r.steps → a ≡ old ++ codes "<li>" → b ≡ a ++ decimal n →
+    c ≡ b ++ codes " lists; a finished one has all predecessors, each once</li>\n" → c ≡ old ++ lists_words r
+unfolding lists_words
+lists_put r n old a b c same e f g =
+    three_put old (codes "<li>") (decimal (length r.steps)) (codes " lists; a finished one has all predecessors, each once</li>\n") a b c e
+    (number_put a n (length r.steps) b same f) g
+
+pub budgets_put : (k : Budgets) (old a b c d e f g : List ℕ) → a ≡ old ++ codes "<li>asked for: " → b ≡ a ++ decimal k.steps →
+    c ≡ b ++ codes " steps, " → d ≡ c ++ decimal k.candidates → e ≡ d ++ codes " candidates a list, " → f ≡ e ++ decimal k.conflicts →
+    g ≡ f ++ codes " lemmas a search</li></ul>\n" → g ≡ old ++ budgets_line k
+unfolding budgets_line
+budgets_put k old a b c d e f g h i j l m n o =
+    seven_put old (codes "<li>asked for: ") (decimal k.steps) (codes " steps, ") (decimal k.candidates) (codes " candidates a list, ")
+    (decimal k.conflicts) (codes " lemmas a search</li></ul>\n") a b c d e f g h i j l m n o
+
+pub head_put : (r : Report) (old a b c d e : List ℕ) →
+    a ≡ old ++ codes "<!doctype html>\n<html lang='en'><head><meta charset='utf-8'><meta name='viewport' content='width=device-width'>\n<title>" →
+    b ≡ a ++ title_text r → c ≡ b ++ codes "</title>\n" → d ≡ c ++ style_text → e ≡ d ++ codes "</head><body>\n" → e ≡ old ++ head_text r
+unfolding head_text
+head_put r old a b c d e f g h i j =
+    five_put old (codes "<!doctype html>\n<html lang='en'><head><meta charset='utf-8'><meta name='viewport' content='width=device-width'>\n<title>")
+    (title_text r) (codes "</title>\n") style_text (codes "</head><body>\n") a b c d e f g h i j
+
+pub audit_put : (netlist report old a b c d e : List ℕ) →
+    a ≡ old ++ codes "<p class='d'>This page shows what the report says. Whether the report is right, this command tells, with the job's own files:</p>\n<pre>backspace audit " →
+    b ≡ a ++ shown_path netlist → c ≡ b ++ codes " SIGNATURE STIMULUS DUMP " → d ≡ c ++ shown_path report → e ≡ d ++ codes "</pre>\n" →
+    e ≡ old ++ audit_part netlist report
+unfolding audit_part
+audit_put netlist report old a b c d e f g h i j =
+    five_put old
+    (codes "<p class='d'>This page shows what the report says. Whether the report is right, this command tells, with the job's own files:</p>\n<pre>backspace audit ")
+    (shown_path netlist) (codes " SIGNATURE STIMULUS DUMP ") (shown_path report) (codes "</pre>\n") a b c d e f g h i j
+
+pub begin_put : (r : Report) (i n : ℕ) (old a b c d : List ℕ) → n ≡ i + 1 → a ≡ old ++ codes "<tr><th scope='row'>" → b ≡ a ++ decimal n →
+    c ≡ b ++ codes "</th><td>" → d ≡ c ++ from_text r i → d ≡ old ++ begin_cells r i
+unfolding begin_cells
+begin_put r i n old a b c d same e f g h =
+    four_put old (codes "<tr><th scope='row'>") (decimal (i + 1)) (codes "</th><td>") (from_text r i) a b c d e (number_put a n (i + 1) b same f) g h
+
+pub end_put : (lemmas : ℕ) (s : Step) (old a b c d e f g : List ℕ) → a ≡ old ++ codes "</td><td>" → b ≡ a ++ list_word s.end →
+    c ≡ b ++ codes "</td><td>" → d ≡ c ++ moment_text s.hit → e ≡ d ++ codes "</td><td>" → f ≡ e ++ decimal lemmas →
+    g ≡ f ++ codes "</td></tr>\n" → g ≡ old ++ step_end lemmas s
+unfolding step_end
+end_put lemmas s old a b c d e f g h i j k l m n =
+    seven_put old (codes "</td><td>") (list_word s.end) (codes "</td><td>") (moment_text s.hit) (codes "</td><td>") (decimal lemmas)
+    (codes "</td></tr>\n") a b c d e f g h i j k l m n
+
+pub far_put : (r : Report) (i n : ℕ) (step : Option Step) (old a b c : List ℕ) → n ≡ length r.states - (i + 1) → step ≡ step_of r i →
+    a ≡ old ++ codes "<th scope='col'>-" → b ≡ a ++ decimal n → c ≡ b ++ origin_text step → c ≡ old ++ far_column r i
+unfolding far_column
+far_put r i n step old a b c same own e f g =
+    three_put old (codes "<th scope='col'>-") (decimal (length r.states - (i + 1))) (origin_text (step_of r i)) a b c e
+    (number_put a n (length r.states - (i + 1)) b same f) (g ∙ ap (λ (s : Option Step). b ++ origin_text s) own)
+
+pub front_put : (r : Report) (old a b : List ℕ) →
+    a ≡ old ++ codes "<h2 id='t'>Trace</h2>\n<p class='d'>Where a cell is hatched, other candidates of that list differ. A vector is a number of base 16.</p>\n<div class='late' tabindex='0' role='region' aria-labelledby='t'><table class='w'>\n" →
+    b ≡ a ++ columns_text r → b ≡ old ++ trace_front r
+unfolding trace_front
+front_put r old a b e f =
+    two_put old (codes "<h2 id='t'>Trace</h2>\n<p class='d'>Where a cell is hatched, other candidates of that list differ. A vector is a number of base 16.</p>\n<div class='late' tabindex='0' role='region' aria-labelledby='t'><table class='w'>\n")
+    (columns_text r) a b e f

@@ -1,0 +1,10 @@
+use Rattle.std.proofs.Common.{map}
+use Rattle.bs_net_names.specs.Signals.{signal_in}
+use Rattle.bs_inspect_page.proofs.PageLemmas.{trace_put}
+use Rattle.bs_inspect_page.proofs.page.push_trace.Goals as goal
+
+pub returns : goal.returns
+returns c =
+    trace_put c.args.report.now c.args.opens.now (map signal_in c.args.flops.now) (map signal_in c.args.inputs.now) c.args.text.now.items
+    c.push_trace_front.new.text.items c.push_inputs.new.text.items c.push_flops.new.text.items c.push_end.new.text.items
+    c.in_ok-push_trace_front.ensures c.in_ok-push_inputs.ensures c.in_ok-push_flops.ensures c.in_ok-push_end.ensures

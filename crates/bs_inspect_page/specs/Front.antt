@@ -1,0 +1,57 @@
+-- What stands in front of the tables: the style, what was asked and how it ended.
+use Rattle.std.specs.Prelude.{ℕ, List, ◌++◌, length, codes, decimal}
+use Rattle.bs_net.specs.Parts.{Parts}
+use Rattle.bs_net.specs.Netlist.{circuit_of}
+use Rattle.bs_report.specs.declared.report.Budgets.{Budgets}
+use Rattle.bs_report.specs.declared.report.Report.{Report}
+use Rattle.bs_report.specs.declared.report.Stop.{Stop as StopCause}
+use Rattle.bs_report.specs.declared.report.Stop.TheVariants as stops
+use Rattle.bs_inspect_cells.specs.Escapes.{html_escaped}
+use Rattle.bs_inspect_page.specs.Style.{style_text}
+
+abbrev pub stop_text : StopCause → List ℕ
+stop_text stops.Reset = codes "Stop <b>reset</b>: the states below are a way from the reset state to the dump."
+stop_text stops.Length = codes "Stop <b>length</b>: as many steps were made as were asked for. The states below are a way from a recorded state to the dump."
+stop_text stops.Nohit = codes "Stop <b>nohit</b>: no recorded run comes into a state of the last list, though that list is complete."
+stop_text stops.Empty = codes "Stop <b>empty</b>: no state with the stored signature leads to the last state. The dump, the signature or the netlist is not the chip's."
+stop_text stops.Candidates = codes "Stop <b>candidates</b>: the last list was cut, and no recorded run comes into a state of it."
+stop_text stops.Conflicts = codes "Stop <b>conflicts</b>: the last search spent its budget, and no recorded run comes into a state of its list."
+
+unfoldable pub title_text : Report → List ℕ
+title_text r = codes "Steps back from the crash: " ++ decimal (length r.steps)
+
+unfoldable pub head_text : Report → List ℕ
+head_text r =
+    codes "<!doctype html>\n<html lang='en'><head><meta charset='utf-8'><meta name='viewport' content='width=device-width'>\n<title>"
+    ++ (title_text r ++ (codes "</title>\n" ++ (style_text ++ codes "</head><body>\n")))
+
+unfoldable pub stop_part : Report → List ℕ
+stop_part r = codes "<h1>" ++ (title_text r ++ (codes "</h1>\n<p>" ++ (stop_text r.stop ++ codes "</p>\n")))
+
+-- how large the chip is
+unfoldable pub chip_line : Parts → List ℕ
+chip_line raw =
+    codes "<ul><li>" ++ (decimal (length (circuit_of raw).flops) ++ (codes " flip-flops, " ++ (decimal (length (circuit_of raw).inputs) ++ codes " data inputs</li>\n")))
+
+-- how many lists there are
+unfoldable pub lists_words : Report → List ℕ
+lists_words r = codes "<li>" ++ (decimal (length r.steps) ++ codes " lists; a finished one has all predecessors, each once</li>\n")
+
+-- the budgets
+unfoldable pub budgets_line : Budgets → List ℕ
+budgets_line b =
+    codes "<li>asked for: " ++ (decimal b.steps ++ (codes " steps, " ++ (decimal b.candidates ++ (codes " candidates a list, " ++ (decimal b.conflicts ++ codes " lemmas a search</li></ul>\n")))))
+
+-- the name of a file, as HTML shows it
+unfoldable pub shown_path : List ℕ → List ℕ
+shown_path path = html_escaped path
+
+-- how the report is checked
+unfoldable pub audit_part : (netlist report : List ℕ) → List ℕ
+audit_part netlist report =
+    codes "<p class='d'>This page shows what the report says. Whether the report is right, this command tells, with the job's own files:</p>\n<pre>backspace audit "
+    ++ (shown_path netlist ++ (codes " SIGNATURE STIMULUS DUMP " ++ (shown_path report ++ codes "</pre>\n")))
+
+unfoldable pub front_text : Parts → Report → (netlist report : List ℕ) → List ℕ
+front_text raw r netlist report =
+    head_text r ++ (stop_part r ++ (chip_line raw ++ (lists_words r ++ (budgets_line r.budgets ++ audit_part netlist report))))

@@ -1,0 +1,90 @@
+-- The page of a report (docs/FORMATS.md, "The page").
+use Rattle.std.specs.Prelude.{◌≡◌, ℕ, ◌==◌, nat_lt, not, ◌&&◌, ◌||◌, Bool, List, [], ◌++◌, length, codes, filter, take, map}
+use Rattle.bs_net.specs.Parts.{Parts}
+use Rattle.bs_net_names.specs.Signals.{AreSignals, Signal}
+use Rattle.bs_report.specs.declared.report.Report.{Report}
+use Rattle.bs_inspect_cells.specs.Cells.{Figure, is_lively}
+use Rattle.bs_inspect_cells.specs.Rows.{group_text}
+use Rattle.bs_inspect_report.specs.Keys.{flop_keys, input_keys}
+use Rattle.bs_inspect_view.specs.Drawn.{is_nameless}
+use Rattle.bs_inspect_page.specs.Columns.{columns_text}
+use Rattle.bs_inspect_page.specs.Front.{front_text}
+use Rattle.bs_inspect_page.specs.Opens.{opens_of}
+use Rattle.bs_inspect_page.specs.Steps.{steps_part}
+use Rattle.bs_inspect_page.specs.declared.asked.PageAsked.{PageAsked as CodeAsked}
+
+-- the names of the two files, the names of the signals that are drawn alone, where there are any, and how many are drawn at most
+pub record PageAsked : Type 0 where
+  pub netlist : List ℕ
+  pub report : List ℕ
+  pub only : List (List ℕ)
+  pub most : ℕ
+
+abbrev pub asked_in : CodeAsked → PageAsked
+asked_in a = record { netlist = a.netlist.now; report = a.report.now; only = map (λ s. s.now) a.only.now; most = a.most }
+
+-- ---- the signals that are drawn
+
+-- the states of the trace, and the bits that are open in each
+abbrev pub state_figure : Report → List (List Bool) → Figure
+state_figure r opens = record { moments = r.states; opens = opens }
+
+abbrev pub input_figure : Report → Figure
+input_figure r = record { moments = r.inputs; opens = [] }
+
+-- one that is asked for; else one whose name somebody gave, where it is open or changes, or where there is but one state
+abbrev pub is_on_page : PageAsked → Figure → Signal → Bool
+is_on_page a f s = nat_lt 0 (length a.only) || (not (is_nameless s.base) && ((length f.moments == 1) || is_lively f s.places))
+
+-- the first of those that are drawn
+abbrev pub drawn_flops_of : PageAsked → Figure → List Signal → List Signal
+drawn_flops_of a f signals = take a.most (filter (is_on_page a f) signals)
+
+-- the flip-flops that are drawn, with the names of a netlist
+pub record AreDrawnFlops (raw : Parts) (r : Report) (a : PageAsked) (opens : List (List Bool)) (drawn : List Signal) : Type 0 where
+  pub signals : List Signal
+  pub are : AreSignals a.only (flop_keys raw) signals
+  pub kept : drawn ≡ drawn_flops_of a (state_figure r opens) signals
+
+-- the data inputs that are drawn: the first ones
+pub record AreDrawnInputs (raw : Parts) (a : PageAsked) (drawn : List Signal) : Type 0 where
+  pub signals : List Signal
+  pub are : AreSignals a.only (input_keys raw) signals
+  pub kept : drawn ≡ take a.most signals
+
+-- ---- the text
+
+unfoldable pub trace_front : Report → List ℕ
+trace_front r =
+    codes "<h2 id='t'>Trace</h2>\n<p class='d'>Where a cell is hatched, other candidates of that list differ. A vector is a number of base 16.</p>\n<div class='late' tabindex='0' role='region' aria-labelledby='t'><table class='w'>\n"
+    ++ columns_text r
+
+abbrev pub end_text : List ℕ
+end_text =
+    codes "</table></div>\n<p class='d'>A trace is a way from its first state to the dump, not surely the one that the chip took. The values of a cycle are those before its clock edge; the inputs of the dump's own cycle are not known.</p>\n</body></html>\n"
+
+abbrev pub inputs_heading : List ℕ
+inputs_heading = codes "data inputs, in the cycle behind the state"
+
+abbrev pub flops_heading : List ℕ
+flops_heading = codes "flip-flops"
+
+unfoldable pub trace_text : Report → List (List Bool) → (flops inputs : List Signal) → List ℕ
+trace_text r opens flops inputs =
+    trace_front r
+    ++ (group_text inputs_heading (input_figure r) inputs ++ (group_text flops_heading (state_figure r opens) flops ++ end_text))
+
+unfoldable pub page_text : PageAsked → Parts → Report → List (List Bool) → (flops inputs : List Signal) → List ℕ
+page_text a raw r opens flops inputs = front_text raw r a.netlist a.report ++ (steps_part r ++ trace_text r opens flops inputs)
+
+-- the text is the page of a report with the names of a netlist, where these bits are open; where names are given, these signals alone
+pub record ShowsOpen (raw : Parts) (r : Report) (a : PageAsked) (opens : List (List Bool)) (text : List ℕ) : Type 0 where
+  pub flops : List Signal
+  pub inputs : List Signal
+  pub are_flops : AreDrawnFlops raw r a opens flops
+  pub are_inputs : AreDrawnInputs raw a inputs
+  pub shown : text ≡ page_text a raw r opens flops inputs
+
+-- the same where those bits are open at which other candidates of a list differ
+abbrev pub ShowsReport : Parts → Report → PageAsked → List ℕ → Type 0
+ShowsReport raw r a text = ShowsOpen raw r a (opens_of r) text

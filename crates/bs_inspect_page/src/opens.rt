@@ -1,0 +1,77 @@
+//! Where other candidates of a list differ.
+ghost use Rattle.std.specs.Prelude.{◌≡◌, ◌<◌, ◌+◌, ◌^◌, length, map, IfOk, option_map};
+ghost use Rattle.std.specs.List.{range_with_len};
+ghost use Rattle.bs_inspect_report.specs.Steps.{differs_at};
+ghost use Rattle.bs_inspect_page.specs.Opens.{open_of, differing_bits, opens_of, step_of};
+
+use bs_bits::{Bits, List, NoMemory};
+use bs_inspect_report::{differs_at, member};
+use bs_report::{Cand, Report, Step};
+use std::alloc::Global;
+
+/// For each flip-flop, whether one of these candidates has another bit than this state.
+#[tactic(auto, using(crate::proofs::OpenLemmas::bits_more))]
+fn differing_from(alloc: Global, first: &Bits, cands: &[Cand]) -> Result<Bits, NoMemory>
+    ensures { IfOk result (λ bits. bits ≡ map (differs_at first.now cands.now) (range_with_len 0 (length first.now))) }
+{
+    let mut bits = Bits::new(alloc);
+    'places: for place in 0..first.len() {
+        bits.push(differs_at(first, cands, place))?;
+    }
+    Ok(bits)
+}
+
+/// For each flip-flop, whether candidates differ at it.
+fn differing_bits(alloc: Global, cands: &[Cand]) -> Result<Bits, NoMemory>
+    ensures { IfOk result (λ bits. bits ≡ differing_bits cands.now) }
+{
+    match cands {
+        [] => Ok(Bits::new(alloc)),
+        [first, rest @ ..] => differing_from(alloc, &first.state, rest),
+    }
+}
+
+/// The same of the list of a step, if there is one.
+fn open_of(alloc: Global, step: Option<&Step>) -> Result<Bits, NoMemory>
+    ensures { IfOk result (λ bits. bits ≡ open_of (option_map (λ s. s.now) step.entry)) }
+{
+    match step {
+        Some(step) => differing_bits(alloc, step.cands.slice()),
+        None => Ok(Bits::new(alloc)),
+    }
+}
+
+/// The step whose list has a state of the trace.
+pub(crate) fn step_of(report: &Report, i: usize) -> Option<&Step>
+    requires there { i < length report.now.states }
+    requires small { i + 1 < 2 ^ 64 }
+    ensures { option_map (λ s. s.now) result ≡ step_of report.now i }
+{
+    if i + 1 == report.states.len() {
+        return None;
+    }
+    member(&report.steps, report.states.len() - 2 - i)
+}
+
+/// The flip-flops that are open in a state of the trace.
+fn open_at(alloc: Global, report: &Report, i: usize) -> Result<Bits, NoMemory>
+    requires there { i < length report.now.states }
+    requires small { i + 1 < 2 ^ 64 }
+    ensures { IfOk result (λ bits. bits ≡ open_of (step_of report.now i)) }
+{
+    let bits = open_of(alloc, step_of(report, i))?;
+    Ok(bits)
+}
+
+/// The flip-flops that are open in each state of the trace.
+#[tactic(auto, using(crate::proofs::OpenLemmas::opens_more))]
+pub(crate) fn opens_of(alloc: Global, report: &Report) -> Result<List<Bits>, NoMemory>
+    ensures { IfOk result (λ opens. opens ≡ opens_of report.now) }
+{
+    let mut opens = List::new(alloc);
+    'states: for i in 0..report.states.len() {
+        let bits = open_at(alloc, report, i)?;
+        opens.push(bits)?;
+    }
+    Ok(opens)
+}

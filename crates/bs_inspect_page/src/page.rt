@@ -1,0 +1,221 @@
+//! The page of a report.
+ghost use Rattle.std.specs.Prelude.{◌≡◌, ◌<◌, ◌^◌, ◌++◌, length, map, All, IfOk, OnOk};
+ghost use Rattle.bs_net_names.specs.Signals.{signal_in};
+ghost use Rattle.bs_inspect_cells.specs.Rows.{group_text};
+ghost use Rattle.bs_inspect_page.specs.Page.{AreDrawnFlops, AreDrawnInputs, ShowsOpen, ShowsReport, asked_in, end_text, flops_heading, inputs_heading, input_figure, page_text, state_figure, trace_front, trace_text};
+
+use crate::asked::PageAsked;
+use crate::columns::push_columns;
+use crate::drawn::{keep_first, keep_first_drawn};
+use crate::front::push_front;
+use crate::opens::opens_of;
+use crate::step_table::push_step_table;
+use bs_bits::{Bits, List, NoMemory, push_piece};
+use bs_inspect_cells::{Figure, push_group};
+use bs_inspect_report::{flop_signals, input_signals};
+use bs_net::Netlist;
+use bs_net_names::Signal;
+use bs_report::Report;
+use std::alloc::Global;
+
+/// Appends what stands in front of the trace.
+fn push_trace_front(text: &mut Vec<u8>, report: &Report) -> Result<(), NoMemory>
+    ensures { OnOk result (text.new.items ≡ text.old.items ++ trace_front report.now) }
+{
+    push_piece(
+        text,
+        b"<h2 id='t'>Trace</h2>\n<p class='d'>Where a cell is hatched, other candidates of that list differ. A vector is a number of base 16.</p>\n<div class='late' tabindex='0' role='region' aria-labelledby='t'><table class='w'>\n",
+    )?;
+    push_columns(text, report)?;
+    Ok(())
+}
+
+/// Appends the end of the page.
+fn push_end(text: &mut Vec<u8>) -> Result<(), NoMemory>
+    ensures { OnOk result (text.new.items ≡ text.old.items ++ end_text) }
+{
+    push_piece(
+        text,
+        b"</table></div>\n<p class='d'>A trace is a way from its first state to the dump, not surely the one that the chip took. The values of a cycle are those before its clock edge; the inputs of the dump's own cycle are not known.</p>\n</body></html>\n",
+    )
+}
+
+/// Appends the rows of the data inputs.
+fn push_inputs(text: &mut Vec<u8>, report: &Report, inputs: &[Signal<'_>]) -> Result<(), NoMemory>
+    requires { All (λ s. length s.places < 2 ^ 32) inputs.now }
+    ensures { OnOk result (text.new.items ≡ text.old.items ++ group_text inputs_heading (input_figure report.now) (map signal_in inputs.now)) }
+{
+    let none = List::new(*text.allocator());
+    let figure = Figure {
+        moments: &report.inputs,
+        opens: &none,
+    };
+    push_group(
+        text,
+        b"data inputs, in the cycle behind the state",
+        figure,
+        inputs,
+    )
+}
+
+/// Appends the rows of the flip-flops.
+fn push_flops(
+    text: &mut Vec<u8>,
+    report: &Report,
+    opens: &List<Bits>,
+    flops: &[Signal<'_>],
+) -> Result<(), NoMemory>
+    requires { All (λ s. length s.places < 2 ^ 32) flops.now }
+    ensures { OnOk result (text.new.items ≡ text.old.items ++ group_text flops_heading (state_figure report.now opens.now) (map signal_in flops.now)) }
+{
+    let figure = Figure {
+        moments: &report.states,
+        opens,
+    };
+    push_group(text, b"flip-flops", figure, flops)
+}
+
+/// Appends the trace.
+fn push_trace(
+    text: &mut Vec<u8>,
+    report: &Report,
+    opens: &List<Bits>,
+    flops: &[Signal<'_>],
+    inputs: &[Signal<'_>],
+) -> Result<(), NoMemory>
+    requires few_flops { All (λ s. length s.places < 2 ^ 32) flops.now }
+    requires few_inputs { All (λ s. length s.places < 2 ^ 32) inputs.now }
+    ensures { OnOk result (text.new.items ≡ text.old.items ++ trace_text report.now opens.now (map signal_in flops.now) (map signal_in inputs.now)) }
+{
+    push_trace_front(text, report)?;
+    push_inputs(text, report, inputs)?;
+    push_flops(text, report, opens, flops)?;
+    push_end(text)?;
+    Ok(())
+}
+
+/// The flip-flops that are drawn.
+fn drawn_flops<'a>(
+    alloc: Global,
+    net: &'a Netlist,
+    report: &Report,
+    asked: &PageAsked<'_>,
+    opens: &List<Bits>,
+) -> Result<Vec<Signal<'a>>, NoMemory>
+    ensures are { IfOk result (λ signals. AreDrawnFlops net.now.raw report.now (asked_in asked.now) opens.now (map signal_in signals.items)) }
+    ensures few { IfOk result (λ signals. All (λ s. length s.places < 2 ^ 32) signals.items) }
+{
+    let mut signals = flop_signals(alloc, net, asked.only)?;
+    let figure = Figure {
+        moments: &report.states,
+        opens,
+    };
+    keep_first_drawn(asked, figure, &mut signals);
+    Ok(signals)
+}
+
+/// The data inputs that are drawn.
+fn drawn_inputs<'a>(
+    alloc: Global,
+    net: &'a Netlist,
+    asked: &PageAsked<'_>,
+) -> Result<Vec<Signal<'a>>, NoMemory>
+    ensures are { IfOk result (λ signals. AreDrawnInputs net.now.raw (asked_in asked.now) (map signal_in signals.items)) }
+    ensures few { IfOk result (λ signals. All (λ s. length s.places < 2 ^ 32) signals.items) }
+{
+    let mut signals = input_signals(alloc, net, asked.only)?;
+    keep_first(asked.most, &mut signals);
+    Ok(signals)
+}
+
+/// Appends the page with these signals.
+fn push_page(
+    text: &mut Vec<u8>,
+    net: &Netlist,
+    report: &Report,
+    asked: &PageAsked<'_>,
+    opens: &List<Bits>,
+    flops: &[Signal<'_>],
+    inputs: &[Signal<'_>],
+) -> Result<(), NoMemory>
+    requires few_flops { All (λ s. length s.places < 2 ^ 32) flops.now }
+    requires few_inputs { All (λ s. length s.places < 2 ^ 32) inputs.now }
+    ensures { OnOk result (text.new.items ≡ text.old.items ++ page_text (asked_in asked.now) net.now.raw report.now opens.now (map signal_in flops.now) (map signal_in inputs.now)) }
+{
+    push_front(text, net, report, asked.netlist, asked.report)?;
+    push_step_table(text, report)?;
+    push_trace(text, report, opens, flops, inputs)?;
+    Ok(())
+}
+
+/// The page with these signals.
+fn text_of(
+    alloc: Global,
+    net: &Netlist,
+    report: &Report,
+    asked: &PageAsked<'_>,
+    opens: &List<Bits>,
+    flops: &[Signal<'_>],
+    inputs: &[Signal<'_>],
+) -> Result<Vec<u8>, NoMemory>
+    requires few_flops { All (λ s. length s.places < 2 ^ 32) flops.now }
+    requires few_inputs { All (λ s. length s.places < 2 ^ 32) inputs.now }
+    ensures { IfOk result (λ text. text.items ≡ page_text (asked_in asked.now) net.now.raw report.now opens.now (map signal_in flops.now) (map signal_in inputs.now)) }
+{
+    let mut text = Vec::new(alloc);
+    push_page(&mut text, net, report, asked, opens, flops, inputs)?;
+    Ok(text)
+}
+
+/// The page with these flip-flops.
+fn with_inputs(
+    alloc: Global,
+    net: &Netlist,
+    report: &Report,
+    asked: &PageAsked<'_>,
+    opens: &List<Bits>,
+    flops: &[Signal<'_>],
+) -> Result<Vec<u8>, NoMemory>
+    requires are { AreDrawnFlops net.now.raw report.now (asked_in asked.now) opens.now (map signal_in flops.now) }
+    requires few { All (λ s. length s.places < 2 ^ 32) flops.now }
+    ensures { IfOk result (λ text. ShowsOpen net.now.raw report.now (asked_in asked.now) opens.now text.items) }
+{
+    match drawn_inputs(alloc, net, asked) {
+        Ok(inputs) => text_of(alloc, net, report, asked, opens, flops, inputs.as_slice()),
+        Err(refused) => Err(refused),
+    }
+}
+
+/// The page, where other candidates differ here.
+fn with_flops(
+    alloc: Global,
+    net: &Netlist,
+    report: &Report,
+    asked: &PageAsked<'_>,
+    opens: &List<Bits>,
+) -> Result<Vec<u8>, NoMemory>
+    ensures { IfOk result (λ text. ShowsOpen net.now.raw report.now (asked_in asked.now) opens.now text.items) }
+{
+    match drawn_flops(alloc, net, report, asked, opens) {
+        Ok(flops) => with_inputs(alloc, net, report, asked, opens, flops.as_slice()),
+        Err(refused) => Err(refused),
+    }
+}
+
+/// A report as one page of HTML, with the names of a netlist: why the backtrace stopped, a table of its steps, and its trace, where each
+/// signal has a cell for each run of cycles with one value, and a cell is marked in which other candidates of its list differ. Where
+/// names are given, these signals alone.
+#[tactic(auto, using(crate::proofs::PageLemmas::opens_there))]
+pub fn page_text(
+    alloc: Global,
+    net: &Netlist,
+    report: &Report,
+    asked: &PageAsked<'_>,
+) -> Result<Vec<u8>, NoMemory>
+    ensures { IfOk result (λ text. ShowsReport net.now.raw report.now (asked_in asked.now) text.items) }
+{
+    match opens_of(alloc, report) {
+        Ok(opens) => with_flops(alloc, net, report, asked, &opens),
+        Err(refused) => Err(refused),
+    }
+}
