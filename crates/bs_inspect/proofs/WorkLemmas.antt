@@ -1,8 +1,8 @@
 -- Work that is done has a status of its own kind; and the answers to requests, with what is said of them.
-use Rattle.std.proofs.Common.{◌≡◌, ℕ, ◌<◌, ◌+◌, true, false, Bor, List, [], ◌∷◌, ◌++◌, length, map, take, get_or, Option, Some, None, Result, Ok, Err, append-nil, refl, ap, sym, subst, ◌∙◌}
+use Rattle.std.proofs.Common.{◌≡◌, ℕ, ◌<◌, ◌≤◌, ◌+◌, arith, true, false, Bor, List, [], ◌∷◌, ◌++◌, length, map, take, get_or, Option, Some, None, Result, Ok, Err, append-nil, refl, ap, sym, subst, ◌∙◌}
 use Rattle.std.specs.List.{flat_map}
 use Rattle.std.proofs.lemmas.Grind.{flat_map-append}
-use Rattle.std.proofs.lemmas.List.{append_assoc, map_more}
+use Rattle.std.proofs.lemmas.List.{append_assoc, length-map, map_more}
 use Rattle.std.specs.Prelude.{Bool, IfOk, option_map}
 use Rattle.bs_bits.specs.declared.memory.NoMemory.{NoMemory}
 use Rattle.bs_inspect_notes.specs.Simulations.{data_clock_text}
@@ -10,6 +10,8 @@ use Rattle.bs_inspect_values.specs.Simulated.{Simulated, clock_key}
 use Rattle.bs_inspect_view.specs.Drawn.{Asked}
 use Rattle.bs_inspect_view.specs.View.{IsDrawing}
 use Rattle.bs_net.specs.Parts.{Parts}
+use Rattle.bs_scan.specs.Moments.{IsMoment, Moment}
+use Rattle.bs_stim.specs.Runs.{Recorded, Stimulus, inputs_of}
 use Rattle.bs_outside.specs.Calls.{FetchCall}
 use Rattle.bs_top_plan.specs.declared.file.File.{File}
 use Rattle.bs_top_plan.specs.declared.reply.Reply.{Reply}
@@ -34,9 +36,11 @@ use Rattle.bs_top_files.specs.Refusals.{Case, CheckSays}
 use Rattle.bs_inspect_words.specs.Request.{Request}
 use Rattle.bs_inspect.specs.Said.{clock_doubt, RequestSaid, silent, WordsSaid, WorkSaid, work_note}
 use Rattle.bs_inspect.specs.Sources.{Sources, behind_piece, joined, named_values, source_of}
-use Rattle.bs_inspect.specs.Work.{to_table, to_steps_table, to_keys, to_state}
+use Rattle.bs_evidence.specs.declared.flaw.Evidence.{Evidence}
+use Rattle.bs_evidence.specs.declared.flaw.Evidence.TheVariants.{Text, Flawed}
+use Rattle.bs_inspect.specs.Work.{to_table, to_steps_table, to_keys, to_state, to_evidence, to_page, to_novel}
 use Rattle.bs_inspect.specs.Work.{Work, plan_of, to_help, to_version, to_flops, to_inputs, to_stats, to_steps, to_trace, to_runs, to_dump, to_wave, to_signature}
-use Rattle.bs_inspect.specs.Finishes.{finishes}
+use Rattle.bs_inspect.specs.Finishes.{evidence_status, finishes}
 
 work_status : (work : Work) (status : Status) (text : List ℕ) → finishes work status text → is_work_status status ≡ true
 work_status to_help status text done = ap is_work_status done.0 ∙ refl
@@ -54,9 +58,23 @@ work_status (to_table only traced) status text done = ap is_work_status done.0 �
 work_status (to_steps_table report) status text done = ap is_work_status done.0 ∙ refl
 work_status (to_keys names raw) status text done = ap is_work_status done.0 ∙ refl
 work_status (to_state scanned) status text done = ap is_work_status done.0 ∙ refl
+work_status (to_evidence kind step listed) status text done = ap is_work_status done.answered ∙ by done.evidence
+  where
+    by : (e : Evidence) → is_work_status (evidence_status e) ≡ true
+    by (Text t) = refl
+    by (Flawed flaw) = refl
+work_status (to_page asked traced) status text done = ap is_work_status done.0 ∙ refl
+work_status (to_novel most one_run) status text done = ap is_work_status done.0 ∙ refl
 
 pub is_work : IsWork finishes
 is_work = record { status = work_status }
+
+-- a moment's run is one of the runs
+pub run_first : (s : Stimulus) (m : Moment) → IsMoment (inputs_of s) m → 1 ≤ m.run
+run_first s m there = there.from_one
+
+pub run_there : (s : Stimulus) (m : Moment) → IsMoment (inputs_of s) m → m.run ≤ length s.runs
+run_there s m there = omega (arith, there.recorded, length-map s.runs (λ (run : Recorded). run.inputs))
 
 -- a waveform with comments that are these
 pub drawn_as : (asked : List ℕ → Asked) (raw : Parts) (given lines : List ℕ) (states inputs : List (List Bool)) (text : List ℕ) → given ≡ lines →

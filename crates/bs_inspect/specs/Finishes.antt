@@ -1,23 +1,48 @@
 -- The status and the text of work that is done.
 use Rattle.std.specs.Prelude.{◌≡◌, ℕ, List, length}
 use Rattle.bs_top_plan.specs.declared.status.Status.{Status}
-use Rattle.bs_top_plan.specs.declared.status.Status.TheVariants.{Done}
+use Rattle.bs_top_plan.specs.declared.status.Status.TheVariants.{Done, Rejected}
 use Rattle.bs_inspect_values.specs.Run.{runs_text}
 use Rattle.bs_inspect_netlist.specs.Dumped.{dump_told}
 use Rattle.bs_inspect.specs.Asked.{drawing_of}
 use Rattle.bs_inspect_view.specs.View.{IsDrawing}
 use Rattle.bs_inspect_lists.specs.Signature.{TellsSignature}
+use Rattle.bs_inspect_novel.specs.Novel.{TellsNovel}
 use Rattle.bs_inspect_netlist.specs.Called.{TellsKeys}
 use Rattle.bs_inspect_netlist.specs.Order.{state_line}
 use Rattle.bs_inspect_netlist.specs.Told.{TellsFlops, TellsInputs}
 use Rattle.bs_inspect_netlist.specs.Sizes.{TellsSizes}
+use Rattle.bs_inspect_page.specs.Page.{ShowsReport}
 use Rattle.bs_inspect_report.specs.Remarks.{remarks}
 use Rattle.bs_inspect_report.specs.Steps.{steps_text}
 use Rattle.bs_inspect_report.specs.Table.{TellsTable, steps_table}
 use Rattle.bs_inspect_report.specs.Trace.{TellsTrace}
 use Rattle.bs_inspect.specs.Usage.{usage_text, version_text}
 use Rattle.bs_inspect.specs.Work.{Work, to_help, to_version, to_flops, to_inputs, to_stats, to_steps, to_trace, to_runs, to_dump, to_wave, to_signature}
-use Rattle.bs_inspect.specs.Work.{to_table, to_steps_table, to_keys, to_state}
+use Rattle.bs_net.specs.Netlist.{circuit_of}
+use Rattle.bs_evidence.specs.declared.evidence.Format.{Format}
+use Rattle.bs_evidence.specs.declared.flaw.Evidence.{Evidence}
+use Rattle.bs_evidence.specs.declared.flaw.Evidence.TheVariants.{Text, Flawed}
+use Rattle.bs_evidence.specs.Evidence.{IsEvidence}
+use Rattle.bs_evidence.specs.Words.{flaw_text}
+use Rattle.bs_inspect_files.specs.Taken.{Listed}
+use Rattle.bs_inspect.specs.Work.{to_table, to_steps_table, to_keys, to_state, to_evidence, to_page, to_novel}
+
+-- the status and the text of evidence: a flaw is answered as an audit answers a part that fails
+abbrev pub evidence_status : Evidence → Status
+evidence_status (Text text) = Done
+evidence_status (Flawed flaw) = Rejected
+
+abbrev pub evidence_text : Evidence → List ℕ
+evidence_text (Text text) = text.items
+evidence_text (Flawed flaw) = flaw_text flaw
+
+-- the evidence for the list of a step, or why there is none
+pub record TellsEvidence (kind : Format) (step : ℕ) (listed : Listed) (status : Status) (text : List ℕ) : Type 0 where
+  pub evidence : Evidence
+  pub right : IsEvidence kind (circuit_of listed.raw) listed.choice listed.report step evidence
+  pub answered : status ≡ evidence_status evidence
+  pub written : text ≡ evidence_text evidence
 
 abbrev pub finishes : Work → Status → List ℕ → Type 0
 finishes to_help status text = (status ≡ Done) × (text ≡ usage_text)
@@ -37,3 +62,6 @@ finishes (to_table only traced) status text = (status ≡ Done) × TellsTable tr
 finishes (to_steps_table report) status text = (status ≡ Done) × (text ≡ steps_table report)
 finishes (to_keys names raw) status text = (status ≡ Done) × TellsKeys raw names text
 finishes (to_state scanned) status text = (status ≡ Done) × (text ≡ state_line (length scanned.raw.flops) scanned.order scanned.pattern)
+finishes (to_evidence kind step listed) status text = TellsEvidence kind step listed status text
+finishes (to_page asked traced) status text = (status ≡ Done) × ShowsReport traced.raw traced.report asked text
+finishes (to_novel most one_run) status text = (status ≡ Done) × TellsNovel one_run.exercised.raw one_run.exercised.runs one_run.moment.run most text

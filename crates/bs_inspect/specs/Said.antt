@@ -12,17 +12,18 @@ use Rattle.bs_top_answer.specs.Note.{Due, DueText}
 use Rattle.bs_top_answer.specs.Prepared.{NoteAlong}
 use Rattle.bs_top_files.specs.Looking.{netlist_looked, report_looked}
 use Rattle.bs_top_files.specs.NoteCases.{NoteCase, NoteSays}
-use Rattle.bs_inspect_words.specs.Request.{Request, Help, Version, Flops, Inputs, Stats, Keys, Trace, TraceTable, Steps, StepsTable, Wave, Stimulus, Dump, Signature, Unscan}
+use Rattle.bs_inspect_words.specs.Request.{Request, Help, Version, Flops, Inputs, Stats, Keys, Trace, TraceTable, Steps, StepsTable, Wave, Stimulus, Dump, Signature, Unscan, Cnf, Lrat, Page, Novel}
 use Rattle.bs_inspect_values.specs.Dumped.{dumped_looked}
 use Rattle.bs_inspect_values.specs.Simulated.{Simulated, clock_key, simulated_looked}
-use Rattle.bs_inspect_files.specs.Taken.{charted_looked, exercised_looked, picked_looked}
+use Rattle.bs_evidence.specs.declared.evidence.Format.TheVariants.{Clauses, Proof}
+use Rattle.bs_inspect_files.specs.Taken.{charted_looked, one_run_looked, exercised_looked, listed_looked, picked_looked}
 use Rattle.bs_inspect_flops.specs.Taken.{named_looked, scanned_looked}
 use Rattle.bs_inspect_notes.specs.Usages.{words_text}
 use Rattle.bs_inspect_notes.specs.Simulations.{data_clock_text}
-use Rattle.bs_inspect.specs.Asked.{clocked_of, dump_files}
+use Rattle.bs_inspect.specs.Asked.{clocked_of, dump_files, page_asked}
 use Rattle.bs_inspect.specs.Sources.{source_of, sources_of}
 use Rattle.bs_inspect.specs.Work.{Work, to_help, to_version, to_flops, to_inputs, to_stats, to_steps, to_trace, to_runs, to_dump, to_wave, to_signature}
-use Rattle.bs_inspect.specs.Work.{to_table, to_steps_table, to_keys, to_state}
+use Rattle.bs_inspect.specs.Work.{to_table, to_steps_table, to_keys, to_state, to_evidence, to_page, to_novel}
 
 -- the plan of a request as the notes see it: the same files and the same work, and the notes on what is refused
 abbrev pub looked_of : Request → Plan NoteCase Work
@@ -67,6 +68,18 @@ looked_of (Keys t) = do
 looked_of (Unscan t) = do
   scanned ← scanned_looked t.netlist t.order t.pattern
   end (to_state scanned)
+looked_of (Cnf t) = do
+  listed ← listed_looked t.netlist t.signature t.report
+  end (to_evidence Clauses t.step listed)
+looked_of (Lrat t) = do
+  listed ← listed_looked t.netlist t.signature t.report
+  end (to_evidence Proof t.step listed)
+looked_of (Page t) = do
+  traced ← picked_looked t.netlist t.report t.only
+  end (to_page (page_asked t) traced)
+looked_of (Novel t) = do
+  one_run ← one_run_looked t.netlist t.runs t.run
+  end (to_novel t.most one_run)
 
 -- a clock that is a data input
 abbrev pub clock_doubt : List ℕ → Simulated → Option (List ℕ)

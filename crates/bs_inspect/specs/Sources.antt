@@ -4,8 +4,8 @@ use Rattle.std.specs.List.{flat_map}
 use Rattle.std.specs.Option.{unwrap_or}
 use Rattle.bs_top_plan.specs.declared.file.File.{File}
 use Rattle.bs_top_plan.specs.declared.file.File.TheVariants as files
-use Rattle.bs_inspect_words.specs.Request.{Request, DumpRequest, SignatureRequest, StimulusRequest, Help, Version, Flops, Inputs, Stats, Keys, Trace, TraceTable, Steps}
-use Rattle.bs_inspect_words.specs.Request.{StepsTable, Wave, Stimulus, Dump, Signature, Unscan}
+use Rattle.bs_inspect_words.specs.Request.{Request, DumpRequest, NovelRequest, SignatureRequest, StimulusRequest, Help, Version, Flops, Inputs, Stats, Keys, Trace, TraceTable, Steps}
+use Rattle.bs_inspect_words.specs.Request.{StepsTable, Wave, Stimulus, Dump, Signature, Unscan, Cnf, Lrat, EvidenceRequest, Page, Novel}
 use Rattle.bs_inspect.specs.declared.sources.Sources.{Sources as CodeSources}
 
 pub record Sources : Type 0 where
@@ -43,6 +43,9 @@ traced_sources netlist report = record { netlist = netlist; signature = []; stim
 abbrev pub runs_sources : SignatureRequest → Sources
 runs_sources t = record { netlist = t.netlist; signature = []; stimulus = t.runs; report = []; vcd = []; map = [] }
 
+abbrev pub novel_sources : NovelRequest → Sources
+novel_sources t = record { netlist = t.netlist; signature = []; stimulus = t.runs; report = []; vcd = []; map = [] }
+
 -- a name behind others
 abbrev pub behind_piece : List ℕ → List ℕ
 behind_piece name = codes ", " ++ name
@@ -73,6 +76,9 @@ dump_sources t =
 abbrev pub chain_sources : List ℕ → List ℕ → Sources
 chain_sources netlist order = record { netlist = netlist; signature = []; stimulus = []; report = []; vcd = []; map = order }
 
+abbrev pub evidence_sources : EvidenceRequest → Sources
+evidence_sources t = record { netlist = t.netlist; signature = t.signature; stimulus = []; report = t.report; vcd = []; map = [] }
+
 -- those of a request
 abbrev pub sources_of : Request → Sources
 sources_of Help = no_source
@@ -90,6 +96,10 @@ sources_of (TraceTable t) = traced_sources t.netlist t.report
 sources_of (StepsTable report) = report_source report
 sources_of (Keys t) = netlist_source t.netlist
 sources_of (Unscan t) = chain_sources t.netlist t.order
+sources_of (Cnf t) = evidence_sources t
+sources_of (Lrat t) = evidence_sources t
+sources_of (Page t) = traced_sources t.netlist t.report
+sources_of (Novel t) = novel_sources t
 
 abbrev pub sources_in : CodeSources → Sources
 sources_in n =

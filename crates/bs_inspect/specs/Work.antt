@@ -2,20 +2,23 @@
 use Rattle.std.specs.Prelude.{ℕ, Bool, List}
 use Rattle.bs_net.specs.Parts.{Parts}
 use Rattle.bs_report.specs.declared.report.Report.{Report}
-use Rattle.bs_inspect_words.specs.Request.{Request, Help, Version, Flops, Inputs, Stats, Keys, Trace, TraceTable, Steps, StepsTable, Wave, Stimulus, Dump, Signature, Unscan}
+use Rattle.bs_inspect_words.specs.Request.{Request, Help, Version, Flops, Inputs, Stats, Keys, Trace, TraceTable, Steps, StepsTable, Wave, Stimulus, Dump, Signature, Unscan, Cnf, Lrat, Page, Novel}
 use Rattle.bs_top_plan.specs.Plan.{Plan, end, ◌>>=◌}
 use Rattle.bs_top_files.specs.Entry.{netlist_of, report_of}
 use Rattle.bs_top_files.specs.Refusals.{Case}
-use Rattle.bs_inspect_files.specs.Taken.{Traced, Exercised, picked_of, charted_of, exercised_of}
+use Rattle.bs_evidence.specs.declared.evidence.Format.{Format}
+use Rattle.bs_evidence.specs.declared.evidence.Format.TheVariants.{Clauses, Proof}
+use Rattle.bs_inspect_files.specs.Taken.{OneRun, Traced, Exercised, Listed, picked_of, charted_of, one_run_of, exercised_of, listed_of}
 use Rattle.bs_inspect_values.specs.Dumped.{Dumped, dumped_of}
 use Rattle.bs_inspect_values.specs.Simulated.{Simulated, simulated_of}
 use Rattle.bs_inspect_flops.specs.Taken.{Scanned, named_of, scanned_of}
-use Rattle.bs_inspect.specs.Asked.{clocked_of, dump_files}
+use Rattle.bs_inspect_page.specs.Page.{PageAsked}
+use Rattle.bs_inspect.specs.Asked.{clocked_of, dump_files, page_asked}
 
 -- how words stand, the version, the flip-flops, data inputs or sizes of a netlist, the steps of a report, its trace with the
 -- names of a netlist, simulated runs (by a clock with this name), a dump, the waveform of a trace from a cycle on, or a signature of so
--- many items is to be written; a trace or steps as a table, the keys of the flip-flops that names stand for, or the state that a
--- pattern of a scan chain is
+-- many items is to be written; a trace or steps as a table, the keys of the flip-flops that names stand for, the state that a
+-- pattern of a scan chain is, or the evidence for the list of a step; or a report as a page, or in so many lines the values that a run alone has
 pub data Work : Type 0 where
   to_help : Work
   to_version : Work
@@ -32,6 +35,9 @@ pub data Work : Type 0 where
   to_steps_table : Report → Work
   to_keys : List (List ℕ) → Parts → Work
   to_state : Scanned → Work
+  to_evidence : Format → ℕ → Listed → Work
+  to_page : PageAsked → Traced → Work
+  to_novel : (most : ℕ) → OneRun → Work
 
 -- the plan of a request
 abbrev pub plan_of : Request → Plan Case Work
@@ -76,3 +82,15 @@ plan_of (Keys t) = do
 plan_of (Unscan t) = do
   scanned ← scanned_of t.netlist t.order t.pattern
   end (to_state scanned)
+plan_of (Cnf t) = do
+  listed ← listed_of t.netlist t.signature t.report
+  end (to_evidence Clauses t.step listed)
+plan_of (Lrat t) = do
+  listed ← listed_of t.netlist t.signature t.report
+  end (to_evidence Proof t.step listed)
+plan_of (Page t) = do
+  traced ← picked_of t.netlist t.report t.only
+  end (to_page (page_asked t) traced)
+plan_of (Novel t) = do
+  one_run ← one_run_of t.netlist t.runs t.run
+  end (to_novel t.most one_run)

@@ -3,8 +3,8 @@ ghost use Rattle.std.specs.Prelude.{◌≡◌, Some, IfOk};
 ghost use Rattle.bs_top_answer.specs.Note.{Due, DueText};
 ghost use Rattle.bs_top_answer.specs.Prepared.{PreparedNoted};
 ghost use Rattle.bs_top_files.specs.Refusals.{CheckSays};
-ghost use Rattle.bs_inspect_words.specs.Request.{Dump as DumpOf, Flops as FlopsOf, Inputs as InputsOf, Keys as KeysOf, Signature as SignatureOf, Stats as StatsOf, Steps as StepsOf, StepsTable as StepsTableOf, Stimulus as StimulusOf, Trace as TraceOf, TraceTable as TraceTableOf, Unscan as UnscanOf, Wave as WaveOf};
-ghost use Rattle.bs_inspect_words.specs.Asked.{dump_in, keys_in, request_in, signature_in, stimulus_in, trace_in, unscan_in, wave_in};
+ghost use Rattle.bs_inspect_words.specs.Request.{Cnf as CnfOf, Dump as DumpOf, Lrat as LratOf, Flops as FlopsOf, Inputs as InputsOf, Keys as KeysOf, Page as PageOf, Novel as NovelOf, Signature as SignatureOf, Stats as StatsOf, Steps as StepsOf, StepsTable as StepsTableOf, Stimulus as StimulusOf, Trace as TraceOf, TraceTable as TraceTableOf, Unscan as UnscanOf, Wave as WaveOf};
+ghost use Rattle.bs_inspect_words.specs.Asked.{dump_in, evidence_in, keys_in, page_in, novel_in, request_in, signature_in, stimulus_in, trace_in, unscan_in, wave_in};
 ghost use Rattle.bs_inspect.specs.Finishes.{finishes};
 ghost use Rattle.bs_inspect.specs.Said.{clock_doubt, RequestSaid, silent};
 ghost use Rattle.bs_inspect.specs.Work.{plan_of, to_runs};
@@ -12,21 +12,22 @@ ghost use Rattle.bs_inspect_notes.specs.Simulations.{data_clock_text};
 ghost use Rattle.bs_inspect_values.specs.Simulated.{simulated_in};
 
 use crate::sources::{
-    chain_sources, dump_sources, netlist_source, report_source, runs_sources, stop_at, stop_values,
-    traced_sources,
+    chain_sources, dump_sources, evidence_sources, netlist_source, novel_sources, report_source,
+    runs_sources, stop_at, stop_values, traced_sources,
 };
 use crate::telling::{
-    tell_dump, tell_flops, tell_inputs, tell_keys, tell_runs, tell_signature, tell_state,
-    tell_stats, tell_steps, tell_steps_table, tell_table, tell_trace, tell_usage, tell_version,
-    tell_wave,
+    tell_dump, tell_evidence, tell_flops, tell_inputs, tell_keys, tell_novel, tell_page, tell_runs,
+    tell_signature, tell_state, tell_stats, tell_steps, tell_steps_table, tell_table, tell_trace,
+    tell_usage, tell_version, tell_wave,
 };
-use bs_inspect_files::{load_charted, load_exercised, load_picked};
+use bs_evidence::Format;
+use bs_inspect_files::{load_charted, load_exercised, load_listed, load_one_run, load_picked};
 use bs_inspect_flops::{load_named, load_scanned};
 use bs_inspect_notes::data_clock_note;
 use bs_inspect_values::{Clocked, DumpFiles, Simulated, clock_key, load_dumped, load_simulated};
 use bs_inspect_words::{
-    DumpRequest, KeysRequest, Request, SignatureRequest, StimulusRequest, TraceRequest,
-    UnscanRequest, WaveRequest,
+    DumpRequest, EvidenceRequest, KeysRequest, NovelRequest, PageRequest, Request,
+    SignatureRequest, StimulusRequest, TraceRequest, UnscanRequest, WaveRequest,
 };
 use bs_outside::{NoMemory, Shelf};
 use bs_top_answer::{Answer, Note, note_made};
@@ -277,6 +278,71 @@ fn unscan<S: Shelf>(
     }
 }
 
+/// The answer to `cnf`.
+fn cnf<S: Shelf>(
+    alloc: Global,
+    shelf: &mut S,
+    asked: &EvidenceRequest<'_>,
+) -> Result<Answer, NoMemory>
+    ensures { PreparedNoted CheckSays finishes (RequestSaid (CnfOf (evidence_in asked.now))) S.held S.faults S.leads shelf.old shelf.new (Some (plan_of (CnfOf (evidence_in asked.now)))) result }
+{
+    match load_listed(alloc, shelf, asked.netlist, asked.signature, asked.report) {
+        Ok(listed) => silent(tell_evidence(alloc, Format::Clauses, &listed, asked.step)),
+        Err(stop) => stop_at(alloc, evidence_sources(asked), shelf.reason(), stop),
+    }
+}
+
+/// The answer to `lrat`.
+fn lrat<S: Shelf>(
+    alloc: Global,
+    shelf: &mut S,
+    asked: &EvidenceRequest<'_>,
+) -> Result<Answer, NoMemory>
+    ensures { PreparedNoted CheckSays finishes (RequestSaid (LratOf (evidence_in asked.now))) S.held S.faults S.leads shelf.old shelf.new (Some (plan_of (LratOf (evidence_in asked.now)))) result }
+{
+    match load_listed(alloc, shelf, asked.netlist, asked.signature, asked.report) {
+        Ok(listed) => silent(tell_evidence(alloc, Format::Proof, &listed, asked.step)),
+        Err(stop) => stop_at(alloc, evidence_sources(asked), shelf.reason(), stop),
+    }
+}
+
+/// The answer to `page`.
+fn page<S: Shelf>(alloc: Global, shelf: &mut S, asked: &PageRequest<'_>) -> Result<Answer, NoMemory>
+    ensures { PreparedNoted CheckSays finishes (RequestSaid (PageOf (page_in asked.now))) S.held S.faults S.leads shelf.old shelf.new (Some (plan_of (PageOf (page_in asked.now)))) result }
+{
+    let only = asked.only.as_slice();
+    match load_picked(alloc, shelf, asked.netlist, asked.report, only) {
+        Ok(traced) => silent(tell_page(
+            alloc,
+            &traced,
+            asked.netlist,
+            asked.report,
+            only,
+            asked.most,
+        )),
+        Err(stop) => stop_at(
+            alloc,
+            traced_sources(asked.netlist, asked.report),
+            shelf.reason(),
+            stop,
+        ),
+    }
+}
+
+/// The answer to `novel`.
+fn novel<S: Shelf>(
+    alloc: Global,
+    shelf: &mut S,
+    asked: &NovelRequest<'_>,
+) -> Result<Answer, NoMemory>
+    ensures { PreparedNoted CheckSays finishes (RequestSaid (NovelOf (novel_in asked.now))) S.held S.faults S.leads shelf.old shelf.new (Some (plan_of (NovelOf (novel_in asked.now)))) result }
+{
+    match load_one_run(alloc, shelf, asked.netlist, asked.runs, asked.run) {
+        Ok(one_run) => silent(tell_novel(alloc, &one_run, asked.most)),
+        Err(stop) => stop_at(alloc, novel_sources(asked), shelf.reason(), stop),
+    }
+}
+
 /// What is to be answered and written for a request, and what is to be said.
 pub(crate) fn request_answer<S: Shelf>(
     alloc: Global,
@@ -302,5 +368,9 @@ pub(crate) fn request_answer<S: Shelf>(
         Request::Signature(asked) => signature(alloc, shelf, asked),
         Request::Keys(asked) => keys(alloc, shelf, asked),
         Request::Unscan(asked) => unscan(alloc, shelf, asked),
+        Request::Cnf(asked) => cnf(alloc, shelf, asked),
+        Request::Lrat(asked) => lrat(alloc, shelf, asked),
+        Request::Page(asked) => page(alloc, shelf, asked),
+        Request::Novel(asked) => novel(alloc, shelf, asked),
     }
 }

@@ -5,10 +5,10 @@ ghost use Rattle.std.specs.Option.{unwrap_or};
 ghost use Rattle.bs_top_plan.specs.Prepared.{AnswersStop};
 ghost use Rattle.bs_top_plan.specs.Told.{line_stop, note_stop};
 ghost use Rattle.bs_top_answer.specs.Stops.{stop_file, StopNoted};
-ghost use Rattle.bs_inspect_words.specs.Asked.{dump_in, signature_in};
-ghost use Rattle.bs_inspect.specs.Sources.{behind_piece, chain_sources, dump_sources, joined, named_values, netlist_source, report_source, runs_sources, source_of, sources_in, traced_sources};
+ghost use Rattle.bs_inspect_words.specs.Asked.{dump_in, evidence_in, novel_in, signature_in};
+ghost use Rattle.bs_inspect.specs.Sources.{behind_piece, chain_sources, dump_sources, evidence_sources, joined, named_values, netlist_source, novel_sources, report_source, runs_sources, source_of, sources_in, traced_sources};
 
-use bs_inspect_words::{DumpRequest, SignatureRequest};
+use bs_inspect_words::{DumpRequest, EvidenceRequest, NovelRequest, SignatureRequest};
 use bs_outside::NoMemory;
 use bs_top_answer::{Answer, stop_file, stopped_at};
 use bs_top_plan::{File, Stop};
@@ -100,6 +100,34 @@ pub fn chain_sources<'a>(netlist: &'a str, order: &'a str) -> Sources<'a>
 /// A netlist and recorded runs.
 pub fn runs_sources<'a>(asked: &SignatureRequest<'a>) -> Sources<'a>
     ensures { sources_in result ≡ runs_sources (signature_in asked.now) }
+{
+    Sources {
+        netlist: asked.netlist,
+        signature: "",
+        stimulus: asked.runs,
+        report: "",
+        vcd: "",
+        map: "",
+    }
+}
+
+/// A netlist, a signature and a report.
+pub fn evidence_sources<'a>(asked: &EvidenceRequest<'a>) -> Sources<'a>
+    ensures { sources_in result ≡ evidence_sources (evidence_in asked.now) }
+{
+    Sources {
+        netlist: asked.netlist,
+        signature: asked.signature,
+        stimulus: "",
+        report: asked.report,
+        vcd: "",
+        map: "",
+    }
+}
+
+/// A netlist and recorded runs.
+pub fn novel_sources<'a>(asked: &NovelRequest<'a>) -> Sources<'a>
+    ensures { sources_in result ≡ novel_sources (novel_in asked.now) }
 {
     Sources {
         netlist: asked.netlist,

@@ -1,29 +1,37 @@
 //! What is told, as an answer.
 ghost use Rattle.std.specs.Prelude.{◌≡◌, ◌<◌, map, IfOk};
-ghost use Rattle.bs_inspect_files.specs.Taken.{exercised_in, traced_in};
+ghost use Rattle.bs_stim.specs.Runs.{inputs_of};
+ghost use Rattle.bs_scan.specs.Moments.{IsMoment};
+ghost use Rattle.bs_inspect_novel.specs.Novel.{TellsNovel};
+ghost use Rattle.bs_inspect_files.specs.Taken.{one_run_in, exercised_in, listed_in, traced_in};
 ghost use Rattle.bs_inspect_values.specs.Dumped.{dumped_in};
 ghost use Rattle.bs_inspect_values.specs.Simulated.{simulated_in};
 ghost use Rattle.bs_inspect_flops.specs.Taken.{scanned_in};
 ghost use Rattle.bs_inspect_netlist.specs.Dumped.{dump_told};
 ghost use Rattle.bs_inspect_netlist.specs.Order.{state_line};
 ghost use Rattle.bs_inspect_view.specs.View.{IsDrawing};
-ghost use Rattle.bs_inspect.specs.Asked.{drawing_of};
-ghost use Rattle.bs_inspect.specs.Finishes.{finishes};
-ghost use Rattle.bs_inspect.specs.Work.{to_dump, to_flops, to_help, to_inputs, to_keys, to_runs, to_signature, to_state, to_stats, to_steps, to_steps_table, to_table, to_trace, to_version, to_wave};
+ghost use Rattle.bs_evidence.specs.Words.{flaw_text};
+ghost use Rattle.bs_inspect.specs.Asked.{drawing_of, page_for};
+ghost use Rattle.bs_inspect.specs.Finishes.{evidence_status, evidence_text, finishes};
+ghost use Rattle.bs_inspect.specs.Work.{to_dump, to_evidence, to_flops, to_help, to_inputs, to_keys, to_page, to_novel, to_runs, to_signature, to_state, to_stats, to_steps, to_steps_table, to_table, to_trace, to_version, to_wave};
 
 use crate::usage::{usage_text, version_text};
-use bs_inspect_files::{Exercised, Traced};
+use bs_evidence::{Evidence, Flaw, Format, evidence_of, flaw_text};
+use bs_inspect_files::{Exercised, Listed, OneRun, Traced};
 use bs_inspect_flops::Scanned;
 use bs_inspect_lists::signature_text;
 use bs_inspect_netlist::{
     flops_text, inputs_text, keys_text, last_dump, last_state, state_text, stats_text,
 };
+use bs_inspect_novel::novel_text;
+use bs_inspect_page::{PageAsked, page_text};
 use bs_inspect_report::{remarks_text, steps_table, steps_text, trace_table, trace_text};
 use bs_inspect_values::{Dumped, Simulated, runs_text};
 use bs_inspect_view::{Asked, drawing};
 use bs_net::Netlist;
 use bs_outside::NoMemory;
 use bs_report::Report;
+use bs_scan::Moment;
 use bs_top_plan::{Reply, Status};
 use std::alloc::Global;
 
@@ -252,6 +260,103 @@ pub(crate) fn tell_state(alloc: Global, scanned: &Scanned) -> Result<Reply, NoMe
     ensures { IfOk result (λ answer. finishes (to_state (scanned_in scanned.now)) answer.status answer.text.items) }
 {
     let text = state_line(alloc, scanned, scanned.net.width())?;
+    Ok(Reply {
+        status: Status::Done,
+        text,
+    })
+}
+
+/// The line of a flaw, as a reply.
+fn tell_flaw(alloc: Global, flaw: Flaw) -> Result<Reply, NoMemory>
+    ensures status { IfOk result (λ answer. answer.status ≡ Status.Rejected) }
+    ensures text { IfOk result (λ answer. answer.text.items ≡ flaw_text flaw) }
+{
+    let text = flaw_text(alloc, flaw)?;
+    Ok(Reply {
+        status: Status::Rejected,
+        text,
+    })
+}
+
+/// Evidence, as a reply.
+fn tell_found(alloc: Global, evidence: Evidence) -> Result<Reply, NoMemory>
+    ensures status { IfOk result (λ answer. answer.status ≡ evidence_status evidence) }
+    ensures text { IfOk result (λ answer. answer.text.items ≡ evidence_text evidence) }
+{
+    match evidence {
+        Evidence::Text(text) => Ok(Reply {
+            status: Status::Done,
+            text,
+        }),
+        Evidence::Flawed(flaw) => tell_flaw(alloc, flaw),
+    }
+}
+
+/// The evidence for the list of a step, or why there is none.
+pub(crate) fn tell_evidence(
+    alloc: Global,
+    kind: Format,
+    listed: &Listed,
+    step: u64,
+) -> Result<Reply, NoMemory>
+    ensures { IfOk result (λ answer. finishes (to_evidence kind step (listed_in listed.now)) answer.status answer.text.items) }
+{
+    let found = evidence_of(
+        alloc,
+        kind,
+        &listed.net,
+        &listed.choice,
+        &listed.report,
+        step,
+    )?;
+    let reply = tell_found(alloc, found)?;
+    Ok(reply)
+}
+
+/// A report as a page.
+pub(crate) fn tell_page(
+    alloc: Global,
+    traced: &Traced,
+    netlist: &str,
+    report: &str,
+    only: &[&str],
+    most: u64,
+) -> Result<Reply, NoMemory>
+    ensures { IfOk result (λ answer. finishes (to_page (page_for netlist.now report.now (map (λ s. s.now) only.now) most) (traced_in traced.now)) answer.status answer.text.items) }
+{
+    let asked = PageAsked {
+        netlist,
+        report,
+        only,
+        most,
+    };
+    let text = page_text(alloc, &traced.net, &traced.report, &asked)?;
+    Ok(Reply {
+        status: Status::Done,
+        text,
+    })
+}
+
+/// The text of the values that the run of a moment alone has.
+#[tactic(auto, using(crate::proofs::WorkLemmas::run_first, crate::proofs::WorkLemmas::run_there))]
+fn novel_told(
+    alloc: Global,
+    exercised: &Exercised,
+    moment: Moment,
+    most: u64,
+) -> Result<Vec<u8>, NoMemory>
+    requires { IsMoment (inputs_of exercised.now.runs) moment }
+    ensures { IfOk result (λ text. TellsNovel exercised.now.net.raw exercised.now.runs moment.run most text.items) }
+{
+    let text = novel_text(alloc, &exercised.net, &exercised.runs, moment.run, most)?;
+    Ok(text)
+}
+
+/// The values that a run alone has, in so many lines at most.
+pub(crate) fn tell_novel(alloc: Global, one_run: &OneRun, most: u64) -> Result<Reply, NoMemory>
+    ensures { IfOk result (λ answer. finishes (to_novel most (one_run_in one_run.now)) answer.status answer.text.items) }
+{
+    let text = novel_told(alloc, &one_run.exercised, one_run.moment, most)?;
     Ok(Reply {
         status: Status::Done,
         text,

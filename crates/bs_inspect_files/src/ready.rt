@@ -1,9 +1,13 @@
 //! What the files of a request made ready.
-ghost use Rattle.std.specs.Prelude.{◌≡◌, ◌+◌, length, All};
+ghost use Rattle.std.specs.Prelude.{◌≡◌, ◌≤◌, ◌+◌, length, All};
+ghost use Rattle.bs_report.specs.declared.limits.TheConstants.{MAX_STEPS};
 ghost use Rattle.bs_net.specs.Netlist.{circuit};
+ghost use Rattle.bs_scan.specs.Moments.{IsMoment};
+ghost use Rattle.bs_stim.specs.Runs.{inputs_of};
 
 use bs_net::Netlist;
 use bs_report::Report;
+use bs_scan::{Choice, Moment};
 use bs_stim::Runs;
 
 /// A netlist, and a report whose trace has as many bits as it.
@@ -22,4 +26,22 @@ pub struct Exercised {
     pub net: Netlist,
     pub runs: Runs,
     ghost inputs: { runs.width ≡ length (circuit net).inputs },
+}
+
+/// A netlist, what its signature is taken of, and a report.
+#[derive(Drop)]
+pub struct Listed {
+    pub net: Netlist,
+    pub choice: Choice,
+    pub report: Report,
+    ghost width: { choice.width ≡ length (circuit net).flops },
+    ghost few: { report.budgets.steps ≤ MAX_STEPS },
+}
+
+/// A netlist, and recorded runs of which one has a moment.
+#[derive(Drop)]
+pub struct OneRun {
+    pub exercised: Exercised,
+    pub moment: Moment,
+    ghost recorded: { IsMoment (inputs_of exercised.runs) moment },
 }

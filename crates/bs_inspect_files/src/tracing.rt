@@ -1,18 +1,22 @@
 //! The walks over the files of a report and of recorded runs: each file is fetched and read once, up to the first that stops the walk.
 ghost use Rattle.std.specs.Prelude.{◌≡◌, ◌+◌, length, map};
+ghost use Rattle.bs_net.specs.Netlist.{circuit};
 ghost use Rattle.bs_top_plan.specs.Telling.{WalksTold};
 ghost use Rattle.bs_top_files.specs.NoteCases.{NoteSays};
 ghost use Rattle.bs_top_files.specs.Refusals.{CheckSays};
-ghost use Rattle.bs_inspect_files.specs.Taken.{chart_step, chart_step_looked, charted_looked, charted_of, drawn_step, drawn_step_looked, exercised_in, exercised_looked, exercised_of, picked_looked, picked_of};
-ghost use Rattle.bs_inspect_files.specs.Taken.{fit_step, fit_step_looked, report_step, report_step_looked, runs_step, runs_step_looked, traced_in, traced_looked, traced_of};
+ghost use Rattle.bs_inspect_files.specs.Taken.{chart_step, chart_step_looked, charted_looked, charted_of, one_run_in, one_run_looked, one_run_of, drawn_step, drawn_step_looked, exercised_in, exercised_looked, exercised_of, picked_looked, picked_of};
+ghost use Rattle.bs_inspect_files.specs.Taken.{choice_step, choice_step_looked, fit_step, fit_step_looked, listed_in, listed_looked, listed_of, listed_step, listed_step_looked, report_step, report_step_looked, runs_step, runs_step_looked, traced_in, traced_looked, traced_of};
 
 use crate::fits::{fit_or_told, known_or_told};
-use crate::ready::{Exercised, Traced};
+use crate::ready::{Exercised, Listed, OneRun, Traced};
 use bs_inspect_flops::called_or_told;
 use bs_net::Netlist;
 use bs_outside::Shelf;
 use bs_report::Report;
-use bs_top_files::{load_netlist, load_report, load_stimulus, size_or_told};
+use bs_scan::Choice;
+use bs_top_files::{
+    load_netlist, load_report, load_signature, load_stimulus, moment_or_told, size_or_told,
+};
 use bs_top_plan::{File, Stop, settle_told};
 use std::alloc::Global;
 
@@ -189,5 +193,89 @@ pub fn load_exercised<S: Shelf>(
     match load_netlist(alloc, shelf, netlist) {
         Ok(net) => load_runs(alloc, shelf, net, runs),
         Err(stop) => Err(stop),
+    }
+}
+
+/// A netlist and a signature, and the report of a file.
+fn load_list<S: Shelf>(
+    alloc: Global,
+    shelf: &mut S,
+    net: Netlist,
+    choice: Choice,
+    report: &str,
+) -> Result<Listed, Stop>
+    requires { choice.width ≡ length (circuit net).flops }
+    ensures { WalksTold CheckSays NoteSays S.held S.faults S.leads shelf.old shelf.new
+        (listed_step net.raw choice report.now) (listed_step_looked net.raw choice report.now) listed_in listed_in result }
+{
+    match load_report(alloc, shelf, report) {
+        Ok(report) => Ok(Listed {
+            net,
+            choice,
+            report,
+        }),
+        Err(stop) => {
+            let_go(net);
+            let_go(choice);
+            Err(stop)
+        }
+    }
+}
+
+/// A netlist, and the signature and the report of files.
+fn load_choice<S: Shelf>(
+    alloc: Global,
+    shelf: &mut S,
+    net: Netlist,
+    signature: &str,
+    report: &str,
+) -> Result<Listed, Stop>
+    ensures { WalksTold CheckSays NoteSays S.held S.faults S.leads shelf.old shelf.new
+        (choice_step net.raw signature.now report.now) (choice_step_looked net.raw signature.now report.now) listed_in listed_in result }
+{
+    match load_signature(alloc, shelf, signature, &net) {
+        Ok(choice) => load_list(alloc, shelf, net, choice, report),
+        Err(stop) => {
+            let_go(net);
+            Err(stop)
+        }
+    }
+}
+
+/// A netlist, a signature and a report.
+pub fn load_listed<S: Shelf>(
+    alloc: Global,
+    shelf: &mut S,
+    netlist: &str,
+    signature: &str,
+    report: &str,
+) -> Result<Listed, Stop>
+    ensures { WalksTold CheckSays NoteSays S.held S.faults S.leads shelf.old shelf.new
+        (listed_of netlist.now signature.now report.now) (listed_looked netlist.now signature.now report.now) listed_in listed_in result }
+{
+    match load_netlist(alloc, shelf, netlist) {
+        Ok(net) => load_choice(alloc, shelf, net, signature, report),
+        Err(stop) => Err(stop),
+    }
+}
+
+/// A netlist, and recorded runs that have a run of this number.
+pub fn load_one_run<S: Shelf>(
+    alloc: Global,
+    shelf: &mut S,
+    netlist: &str,
+    runs: &str,
+    run: u64,
+) -> Result<OneRun, Stop>
+    ensures { WalksTold CheckSays NoteSays S.held S.faults S.leads shelf.old shelf.new
+        (one_run_of netlist.now runs.now run) (one_run_looked netlist.now runs.now run) one_run_in one_run_in result }
+{
+    let exercised = load_exercised(alloc, shelf, netlist, runs)?;
+    match settle_told(File::Dump, moment_or_told(alloc, &exercised.runs, run, 0)) {
+        Ok(moment) => Ok(OneRun { exercised, moment }),
+        Err(stop) => {
+            let_go(exercised);
+            Err(stop)
+        }
     }
 }

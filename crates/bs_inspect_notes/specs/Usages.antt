@@ -25,11 +25,15 @@ usages =
     ∷ stands (codes "trace") (codes "usage: backspace_inspect trace NETLIST REPORT [--all] [--only NAME ..] [--csv]")
     ∷ stands (codes "steps") (codes "usage: backspace_inspect steps REPORT [--csv]")
     ∷ stands (codes "wave") (codes "usage: backspace_inspect wave NETLIST REPORT [--all] [--from CYCLE] [--only NAME ..]")
+    ∷ stands (codes "page") (codes "usage: backspace_inspect page NETLIST REPORT [--only NAME ..] [--most N]")
     ∷ stands (codes "stimulus") (codes "usage: backspace_inspect stimulus NETLIST VCD .. --clock NAME [--scope PATH] [--map FILE]")
     ∷ stands (codes "dump")
     (codes "usage: backspace_inspect dump NETLIST VCD --cycle N|--time T [--clock NAME] [--scope PATH] [--map FILE] [--signature FILE]")
     ∷ stands (codes "signature") (codes "usage: backspace_inspect signature NETLIST STIMULUS --bits N")
     ∷ stands (codes "unscan") (codes "usage: backspace_inspect unscan NETLIST ORDER BITS")
+    ∷ stands (codes "cnf") (codes "usage: backspace_inspect cnf NETLIST SIGNATURE REPORT --step K")
+    ∷ stands (codes "lrat") (codes "usage: backspace_inspect lrat NETLIST SIGNATURE REPORT --step K")
+    ∷ stands (codes "novel") (codes "usage: backspace_inspect novel NETLIST STIMULUS RUN [--most N]")
     ∷ stands (codes "help") (codes "usage: backspace_inspect help")
     ∷ stands (codes "version") (codes "usage: backspace_inspect version")
     ∷ []
@@ -50,7 +54,7 @@ commands = map (λ u. u.command) usages
 abbrev pub options : List (List ℕ)
 options =
     codes "--all" ∷ codes "--only" ∷ codes "--clock" ∷ codes "--scope" ∷ codes "--map" ∷ codes "--bits" ∷ codes "--csv" ∷ codes "--from" ∷ codes "--cycle"
-    ∷ codes "--time" ∷ codes "--signature" ∷ []
+    ∷ codes "--time" ∷ codes "--signature" ∷ codes "--step" ∷ codes "--most" ∷ []
 
 -- ---- wrong words
 

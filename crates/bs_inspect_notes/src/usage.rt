@@ -14,7 +14,7 @@ use bs_note_files::pair_note;
 use std::alloc::Global;
 
 /// The commands, and how the words of each stand.
-const USAGES: [(&str, &str); 13] = [
+const USAGES: [(&str, &str); 17] = [
     ("flops", "usage: backspace_inspect flops NETLIST"),
     ("keys", "usage: backspace_inspect keys NETLIST NAME .."),
     ("inputs", "usage: backspace_inspect inputs NETLIST"),
@@ -27,6 +27,10 @@ const USAGES: [(&str, &str); 13] = [
     (
         "wave",
         "usage: backspace_inspect wave NETLIST REPORT [--all] [--from CYCLE] [--only NAME ..]",
+    ),
+    (
+        "page",
+        "usage: backspace_inspect page NETLIST REPORT [--only NAME ..] [--most N]",
     ),
     (
         "stimulus",
@@ -44,12 +48,24 @@ const USAGES: [(&str, &str); 13] = [
         "unscan",
         "usage: backspace_inspect unscan NETLIST ORDER BITS",
     ),
+    (
+        "cnf",
+        "usage: backspace_inspect cnf NETLIST SIGNATURE REPORT --step K",
+    ),
+    (
+        "lrat",
+        "usage: backspace_inspect lrat NETLIST SIGNATURE REPORT --step K",
+    ),
+    (
+        "novel",
+        "usage: backspace_inspect novel NETLIST STIMULUS RUN [--most N]",
+    ),
     ("help", "usage: backspace_inspect help"),
     ("version", "usage: backspace_inspect version"),
 ];
 
 /// The options of all commands.
-const OPTIONS: [&[u8]; 11] = [
+const OPTIONS: [&[u8]; 13] = [
     b"--all",
     b"--only",
     b"--clock",
@@ -61,10 +77,12 @@ const OPTIONS: [&[u8]; 11] = [
     b"--cycle",
     b"--time",
     b"--signature",
+    b"--step",
+    b"--most",
 ];
 
 /// The commands.
-const COMMANDS: [&[u8]; 13] = [
+const COMMANDS: [&[u8]; 17] = [
     b"flops",
     b"keys",
     b"inputs",
@@ -72,10 +90,14 @@ const COMMANDS: [&[u8]; 13] = [
     b"trace",
     b"steps",
     b"wave",
+    b"page",
     b"stimulus",
     b"dump",
     b"signature",
     b"unscan",
+    b"cnf",
+    b"lrat",
+    b"novel",
     b"help",
     b"version",
 ];

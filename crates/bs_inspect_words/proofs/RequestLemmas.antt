@@ -2,8 +2,9 @@
 use Rattle.std.proofs.Common.{◌≡◌, ◌∙◌, ℕ, ◌==◌, Bool, true, false, List, [], ◌∷◌, length, map, Option, Some, None, Result, Ok, Err, arith, refl, ap, sym, subst}
 use Rattle.std.specs.Prelude.{IfOk}
 use Rattle.std.specs.Borrow.{Bor}
-use Rattle.std.specs.Option.{option_and_then}
+use Rattle.std.specs.Option.{option_and_then, option_map}
 use Rattle.std.proofs.lemmas.Bool.{eqb-true}
+use Rattle.std.proofs.lemmas.List.{length-map}
 use Rattle.bs_bits.specs.declared.memory.NoMemory.{NoMemory}
 use Rattle.bs_top_words.specs.declared.flags.Flag.TheVariants as F
 use Rattle.bs_top_words.specs.declared.given.Setting.{Setting as CodeSetting}
@@ -11,8 +12,9 @@ use Rattle.bs_top_words.specs.Asked.{setting_of}
 use Rattle.bs_top_words.specs.Given.{Given}
 use Rattle.bs_inspect_words.specs.declared.request.Request.{Request as CodeRequest}
 use Rattle.bs_inspect_words.specs.Asked.{shown_request}
+use Rattle.bs_inspect_words.specs.Request.{EvidenceRequest, Cnf, Lrat, cnf_request, evidence_words, lrat_request}
 use Rattle.bs_inspect_words.specs.Request.{Request, Keys, Stimulus, are_runs, bare, from_of, keys_of, keys_request, name_of, only_name, stimulus_for, trace_flags, trace_of}
-use Rattle.bs_inspect_words.specs.Request.{trace_words, unscan_of, unscan_request, wave_flags, wave_of, wave_words}
+use Rattle.bs_inspect_words.specs.Request.{trace_words, unscan_of, unscan_request, wave_flags, wave_of, wave_words, drawn_most, page_flags, page_of, page_words}
 use Rattle.bs_inspect_words.specs.Settings.{fit, is_given, value_of, values_of}
 
 abbrev Words : Type 0
@@ -31,6 +33,19 @@ unscan_there given words r e is = is ∙ ap (λ (o : Option Words). option_and_t
 
 pub unscan_bare : (given : Given) → None ≡ bare given → None ≡ unscan_request given
 unscan_bare given e = ap (λ (o : Option Words). option_and_then unscan_of o) e
+
+-- what is asked of a list, from what was read of the words
+pub cnf_there : (given : Given) (asked : EvidenceRequest) → Some asked ≡ evidence_words given.positions given.settings → Some (Cnf asked) ≡ cnf_request given
+cnf_there given asked e = ap (λ (o : Option EvidenceRequest). option_map (λ (t : EvidenceRequest). Cnf t) o) e
+
+pub cnf_none : (given : Given) → None ≡ evidence_words given.positions given.settings → None ≡ cnf_request given
+cnf_none given e = ap (λ (o : Option EvidenceRequest). option_map (λ (t : EvidenceRequest). Cnf t) o) e
+
+pub lrat_there : (given : Given) (asked : EvidenceRequest) → Some asked ≡ evidence_words given.positions given.settings → Some (Lrat asked) ≡ lrat_request given
+lrat_there given asked e = ap (λ (o : Option EvidenceRequest). option_map (λ (t : EvidenceRequest). Lrat t) o) e
+
+pub lrat_none : (given : Given) → None ≡ evidence_words given.positions given.settings → None ≡ lrat_request given
+lrat_none given e = ap (λ (o : Option EvidenceRequest). option_map (λ (t : EvidenceRequest). Lrat t) o) e
 
 pub keys_there : (given : Given) (words : Words) (r : Result (Option CodeRequest) NoMemory) → Some words ≡ bare given →
     IfOk r (λ q. shown_request q ≡ keys_of words) → IfOk r (λ q. shown_request q ≡ keys_request given)
@@ -65,6 +80,17 @@ pub wave_told : (positions : Words) (settings : List CodeSetting) (word : Option
     r ≡ wave_of positions from all only → r ≡ wave_words positions (map setting_of settings)
 wave_told positions settings word from all only r are w c e f is =
     is ∙ ((λ i. wave_of positions ((c ∙ ap from_of w) i) (e i) (f i)) ∙ sym (rw are refl))
+
+-- what `page` asks, from what was read of its options
+pub page_told : (positions : Words) (settings : List CodeSetting) (word : Option (List ℕ)) (names : List (Bor (List ℕ))) (count : ℕ)
+    (most : Option ℕ) (r : Option Request) → fit page_flags (map setting_of settings) ≡ true →
+    map (λ s. s.now) names ≡ values_of F.Only (map setting_of settings) → word ≡ value_of F.Most (map setting_of settings) →
+    count ≡ length names → most ≡ drawn_most word count → r ≡ page_of positions most (map (λ s. s.now) names) →
+    r ≡ page_words positions (map setting_of settings)
+page_told positions settings word names count most r are f w n c is =
+    let same : count ≡ length (values_of F.Only (map setting_of settings)) =
+    n ∙ (sym (length-map names (λ (s : Bor (List ℕ)). s.now)) ∙ ap length f) in
+    is ∙ ((λ i. page_of positions ((c ∙ (λ j. drawn_most (w j) (same j))) i) (f i)) ∙ sym (rw are refl))
 
 -- what `stimulus` asks of files of values, where there are not too many
 pub runs_there : (netlist : List ℕ) (vcds copy : Words) (clock : List ℕ) (scope names : Option (List ℕ)) → are_runs vcds ≡ true → copy ≡ vcds →

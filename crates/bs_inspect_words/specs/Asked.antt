@@ -7,11 +7,14 @@ use Rattle.bs_inspect_words.specs.declared.request.WaveRequest.{WaveRequest as C
 use Rattle.bs_inspect_words.specs.declared.request.StimulusRequest.{StimulusRequest as CodeStimulusRequest}
 use Rattle.bs_inspect_words.specs.declared.request.DumpRequest.{DumpRequest as CodeDumpRequest}
 use Rattle.bs_inspect_words.specs.declared.request.UnscanRequest.{UnscanRequest as CodeUnscanRequest}
+use Rattle.bs_inspect_words.specs.declared.paged.PageRequest.{PageRequest as CodePageRequest}
+use Rattle.bs_inspect_words.specs.declared.proposed.NovelRequest.{NovelRequest as CodeNovelRequest}
 use Rattle.bs_inspect_words.specs.declared.proposed.SignatureRequest.{SignatureRequest as CodeSignatureRequest}
+use Rattle.bs_inspect_words.specs.declared.request.EvidenceRequest.{EvidenceRequest as CodeEvidenceRequest}
 use Rattle.bs_inspect_words.specs.declared.request.Request.{Request as CodeRequest}
 use Rattle.bs_inspect_words.specs.declared.request.Request.TheVariants as R
-use Rattle.bs_inspect_words.specs.Request.{KeysRequest, TraceRequest, WaveRequest, StimulusRequest, DumpRequest, SignatureRequest, UnscanRequest, Request}
-use Rattle.bs_inspect_words.specs.Request.{Help, Version, Flops, Inputs, Stats, Keys, Trace, TraceTable, Steps, StepsTable, Wave, Stimulus, Dump, Signature, Unscan}
+use Rattle.bs_inspect_words.specs.Request.{KeysRequest, TraceRequest, WaveRequest, StimulusRequest, DumpRequest, SignatureRequest, UnscanRequest, EvidenceRequest, PageRequest, NovelRequest, Request}
+use Rattle.bs_inspect_words.specs.Request.{Help, Version, Flops, Inputs, Stats, Keys, Trace, TraceTable, Steps, StepsTable, Wave, Stimulus, Dump, Signature, Unscan, Cnf, Lrat, Page, Novel}
 
 abbrev pub keys_in : CodeKeysRequest → KeysRequest
 keys_in t = record { netlist = t.netlist.now; names = map (λ s. s.now) t.names.items }
@@ -48,6 +51,15 @@ signature_in t = record { netlist = t.netlist.now; runs = t.runs.now; items = t.
 abbrev pub unscan_in : CodeUnscanRequest → UnscanRequest
 unscan_in t = record { netlist = t.netlist.now; order = t.order.now; pattern = t.pattern.now }
 
+abbrev pub evidence_in : CodeEvidenceRequest → EvidenceRequest
+evidence_in t = record { netlist = t.netlist.now; signature = t.signature.now; report = t.report.now; step = t.step }
+
+abbrev pub page_in : CodePageRequest → PageRequest
+page_in t = record { netlist = t.netlist.now; report = t.report.now; most = t.most; only = map (λ s. s.now) t.only.items }
+
+abbrev pub novel_in : CodeNovelRequest → NovelRequest
+novel_in t = record { netlist = t.netlist.now; runs = t.runs.now; run = t.run; most = t.most }
+
 abbrev pub request_in : CodeRequest → Request
 request_in R.Help = Help
 request_in R.Version = Version
@@ -64,6 +76,10 @@ request_in (R.Stimulus t) = Stimulus (stimulus_in t)
 request_in (R.Dump t) = Dump (dump_in t)
 request_in (R.Signature t) = Signature (signature_in t)
 request_in (R.Unscan t) = Unscan (unscan_in t)
+request_in (R.Cnf t) = Cnf (evidence_in t)
+request_in (R.Lrat t) = Lrat (evidence_in t)
+request_in (R.Page t) = Page (page_in t)
+request_in (R.Novel t) = Novel (novel_in t)
 
 abbrev pub shown_request : Option CodeRequest → Option Request
 shown_request None = None

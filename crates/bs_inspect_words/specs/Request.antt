@@ -6,11 +6,14 @@ use Rattle.bs_bits.specs.Lines.{number_in}
 use Rattle.bs_stim.specs.declared.limits.TheConstants.{MAX_CYCLES, MAX_RUNS}
 use Rattle.bs_top_words.specs.declared.flags.Flag.{Flag}
 use Rattle.bs_top_words.specs.declared.flags.Flag.TheVariants as F
+use Rattle.bs_inspect_words.specs.declared.paged.TheConstants.{DEFAULT_DRAWN, MAX_DRAWN}
 use Rattle.bs_top_words.specs.declared.limits.TheConstants.{MAX_BITS}
 use Rattle.bs_top_words.specs.Given.{Setting, Given, read_all, start}
 use Rattle.bs_top_words.specs.Options.{number_between}
 use Rattle.bs_inspect_vcd.specs.declared.cycles.When.{When}
 use Rattle.bs_inspect_vcd.specs.declared.cycles.When.TheVariants as W
+use Rattle.bs_inspect_words.specs.declared.evidence.TheConstants.{MAX_STEP}
+use Rattle.bs_inspect_words.specs.declared.novel.TheConstants.{MAX_LINES}
 use Rattle.bs_inspect_words.specs.Settings.{fit, is_given, value_of, values_of}
 
 -- the file of `keys`, and one name or more
@@ -31,6 +34,13 @@ pub record WaveRequest : Type 0 where
   pub report : List ℕ
   pub all : Bool
   pub from : ℕ
+  pub only : List (List ℕ)
+
+-- the files of `page`, how many signals of a kind it draws at most, and the names of those that it draws alone, where there are any
+pub record PageRequest : Type 0 where
+  pub netlist : List ℕ
+  pub report : List ℕ
+  pub most : ℕ
   pub only : List (List ℕ)
 
 -- the files of `stimulus`, one of values or more, with the file of names, where there is one; the name of the clock, and the path of
@@ -64,6 +74,20 @@ pub record UnscanRequest : Type 0 where
   pub order : List ℕ
   pub pattern : List ℕ
 
+-- the files of `cnf` and `lrat`, and the number of a step
+pub record EvidenceRequest : Type 0 where
+  pub netlist : List ℕ
+  pub signature : List ℕ
+  pub report : List ℕ
+  pub step : ℕ
+
+-- the files of `novel`, the number of a run, and how many lines it tells at most
+pub record NovelRequest : Type 0 where
+  pub netlist : List ℕ
+  pub runs : List ℕ
+  pub run : ℕ
+  pub most : ℕ
+
 pub data Request : Type 0 where
   Help : Request
   Version : Request
@@ -80,6 +104,10 @@ pub data Request : Type 0 where
   Dump : DumpRequest → Request
   Signature : SignatureRequest → Request
   Unscan : UnscanRequest → Request
+  Cnf : EvidenceRequest → Request
+  Lrat : EvidenceRequest → Request
+  Page : PageRequest → Request
+  Novel : NovelRequest → Request
 
 -- ---- commands without options
 
@@ -184,6 +212,28 @@ wave_words positions settings =
 
 abbrev pub wave_request : Given → Option Request
 wave_request given = wave_words given.positions given.settings
+
+abbrev pub page_flags : List Flag
+page_flags = F.Only ∷ F.Most ∷ []
+
+-- how many signals of a kind a page draws at most, by how many are named
+abbrev pub drawn_most : Option (List ℕ) → ℕ → Option ℕ
+drawn_most None named = Some (if named == 0 then DEFAULT_DRAWN else MAX_DRAWN)
+drawn_most (Some word) named = number_between 1 MAX_DRAWN word
+
+-- `page` has two file names
+abbrev pub page_of : List (List ℕ) → Option ℕ → List (List ℕ) → Option Request
+page_of (netlist ∷ report ∷ []) (Some most) only = Some (Page record { netlist = netlist; report = report; most = most; only = only })
+page_of _ most only = None
+
+abbrev pub page_words : List (List ℕ) → List Setting → Option Request
+page_words positions settings =
+    if fit page_flags settings
+    then page_of positions (drawn_most (value_of F.Most settings) (length (values_of F.Only settings))) (values_of F.Only settings)
+    else None
+
+abbrev pub page_request : Given → Option Request
+page_request given = page_words given.positions given.settings
 
 -- ---- the values of a simulator
 
@@ -291,12 +341,61 @@ signature_words positions settings =
 abbrev pub signature_request : Given → Option Request
 signature_request given = signature_words given.positions given.settings
 
+-- ---- a list
+
+abbrev pub evidence_flags : List Flag
+evidence_flags = F.Step ∷ []
+
+-- the number of a step that a word is
+abbrev pub step_in : Option (List ℕ) → Option ℕ
+step_in word = option_and_then (number_between 1 MAX_STEP) word
+
+-- `cnf` and `lrat` have three file names, and the number of a step
+abbrev pub evidence_of : List (List ℕ) → Option ℕ → Option EvidenceRequest
+evidence_of (netlist ∷ signature ∷ report ∷ []) (Some step) = Some record { netlist = netlist; signature = signature; report = report; step = step }
+evidence_of _ step = None
+
+abbrev pub evidence_words : List (List ℕ) → List Setting → Option EvidenceRequest
+evidence_words positions settings =
+    if fit evidence_flags settings then evidence_of positions (step_in (value_of F.Step settings)) else None
+
+abbrev pub cnf_request : Given → Option Request
+cnf_request given = option_map (λ (t : EvidenceRequest). Cnf t) (evidence_words given.positions given.settings)
+
+abbrev pub lrat_request : Given → Option Request
+lrat_request given = option_map (λ (t : EvidenceRequest). Lrat t) (evidence_words given.positions given.settings)
+
+-- ---- the values that one run alone has
+
+abbrev pub novel_flags : List Flag
+novel_flags = F.Most ∷ []
+
+-- the number of lines that a word is: all where there is none
+abbrev pub most_lines : Option (List ℕ) → Option ℕ
+most_lines None = Some MAX_LINES
+most_lines (Some word) = number_between 1 MAX_LINES word
+
+abbrev pub novel_for : (netlist runs : List ℕ) → (run most : Option ℕ) → Option Request
+novel_for netlist runs (Some run) (Some most) = Some (Novel record { netlist = netlist; runs = runs; run = run; most = most })
+novel_for netlist runs run most = None
+
+-- `novel` has two file names, and a run's number from 1
+abbrev pub novel_of : List (List ℕ) → Option ℕ → Option Request
+novel_of (netlist ∷ runs ∷ run ∷ []) most = novel_for netlist runs (number_between 1 MAX_RUNS run) most
+novel_of _ most = None
+
+abbrev pub novel_words : List (List ℕ) → List Setting → Option Request
+novel_words positions settings = if fit novel_flags settings then novel_of positions (most_lines (value_of F.Most settings)) else None
+
+abbrev pub novel_request : Given → Option Request
+novel_request given = novel_words given.positions given.settings
+
 -- ---- the command
 
 -- what the commands take
 abbrev pub all_flags : List Flag
 all_flags =
-    F.All ∷ F.Only ∷ F.Clock ∷ F.Scope ∷ F.Map ∷ F.Bits ∷ F.From ∷ F.Time ∷ F.Cycle ∷ F.Signature ∷ F.Csv ∷ []
+    F.All ∷ F.Only ∷ F.Clock ∷ F.Scope ∷ F.Map ∷ F.Bits ∷ F.From ∷ F.Time ∷ F.Cycle ∷ F.Signature ∷ F.Csv ∷ F.Step ∷ F.Most ∷ []
 
 abbrev pub is_help : List ℕ → Bool
 is_help command = bytes_eq command (codes "help") || (bytes_eq command (codes "-h") || bytes_eq command (codes "--help"))
@@ -320,7 +419,10 @@ other_request command given =
     else (if bytes_eq command (codes "dump") then dump_request given
     else (if bytes_eq command (codes "signature") then signature_request given
     else (if bytes_eq command (codes "unscan") then unscan_request given
-    else bare_request command given)))
+    else (if bytes_eq command (codes "cnf") then cnf_request given
+    else (if bytes_eq command (codes "lrat") then lrat_request given
+    else (if bytes_eq command (codes "novel") then novel_request given
+    else bare_request command given))))))
 
 abbrev pub command_request : List ℕ → Given → Option Request
 command_request command given =
@@ -328,7 +430,8 @@ command_request command given =
     else (if bytes_eq command (codes "wave") then wave_request given
     else (if bytes_eq command (codes "stimulus") then stimulus_request given
     else (if bytes_eq command (codes "keys") then keys_request given
-    else other_request command given)))
+    else (if bytes_eq command (codes "page") then page_request given
+    else other_request command given))))
 
 -- the request that words are: the first is the command
 abbrev pub request_of : List (List ℕ) → Option Request

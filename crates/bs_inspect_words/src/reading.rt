@@ -5,10 +5,13 @@ ghost use Rattle.bs_top_words.specs.Given.{read_all, start};
 ghost use Rattle.bs_inspect_words.specs.Asked.{shown_request};
 ghost use Rattle.bs_inspect_words.specs.Request.{all_flags, bare_request, command_request, is_help, is_version, other_request, request_of};
 
+use crate::evidence::{cnf_request, lrat_request};
 use crate::named::{
     flops_request, help_request, inputs_request, keys_request, stats_request, unscan_request,
     version_request,
 };
+use crate::novel::novel_request;
+use crate::page::page_request;
 use crate::report::{steps_request, trace_request, wave_request};
 use crate::request::Request;
 use crate::signature::signature_request;
@@ -69,6 +72,15 @@ fn other_request<'a>(command: &str, given: &Given<'a>) -> Option<Request<'a>>
     if command == "unscan" {
         return unscan_request(given);
     }
+    if command == "cnf" {
+        return cnf_request(given);
+    }
+    if command == "lrat" {
+        return lrat_request(given);
+    }
+    if command == "novel" {
+        return novel_request(given);
+    }
     bare_request(command, given)
 }
 
@@ -92,6 +104,9 @@ fn command_request<'a>(
     if command == "keys" {
         return keys_request(alloc, given);
     }
+    if command == "page" {
+        return page_request(alloc, given);
+    }
     Ok(other_request(command, given))
 }
 
@@ -111,6 +126,8 @@ fn read_shown<'a>(alloc: Global, words: &'a [String]) -> Result<Option<Given<'a>
         Flag::Cycle,
         Flag::Signature,
         Flag::Csv,
+        Flag::Step,
+        Flag::Most,
     ];
     let given = read_given(alloc, &flags, words)?;
     Ok(given)

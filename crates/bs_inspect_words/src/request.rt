@@ -1,5 +1,6 @@
 //! The requests: a command, its files and its options.
-use crate::proposed::SignatureRequest;
+use crate::paged::PageRequest;
+use crate::proposed::{NovelRequest, SignatureRequest};
 use bs_inspect_vcd::When;
 
 /// `keys`: the name of its file, and one name or more.
@@ -62,6 +63,15 @@ pub struct UnscanRequest<'a> {
     pub pattern: &'a str,
 }
 
+/// `cnf` and `lrat`: the names of its files, and the number of a step.
+#[derive(Clone, Copy)]
+pub struct EvidenceRequest<'a> {
+    pub netlist: &'a str,
+    pub signature: &'a str,
+    pub report: &'a str,
+    pub step: u64,
+}
+
 /// What a command line asks to be told.
 #[derive(Drop)]
 pub enum Request<'a> {
@@ -95,4 +105,12 @@ pub enum Request<'a> {
     Signature(SignatureRequest<'a>),
     /// The state that a pattern of a scan chain is.
     Unscan(UnscanRequest<'a>),
+    /// The clauses on which a step's list stands.
+    Cnf(EvidenceRequest<'a>),
+    /// The proof that a step's list is complete.
+    Lrat(EvidenceRequest<'a>),
+    /// A report as a page.
+    Page(PageRequest<'a>),
+    /// The values that one recorded run alone has.
+    Novel(NovelRequest<'a>),
 }

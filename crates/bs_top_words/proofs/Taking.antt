@@ -5,7 +5,7 @@ use Rattle.std.specs.Str.{bytes_eq}
 use Rattle.bs_top_words.specs.declared.options.Kind.{Kind}
 use Rattle.bs_top_words.specs.declared.options.Kind.TheVariants.{Steps, Candidates, Conflicts}
 use Rattle.bs_top_words.specs.declared.flags.Flag.{Flag}
-use Rattle.bs_top_words.specs.declared.flags.Flag.TheVariants.{Budget, All, Only, Clock, Scope, Map, Bits, From, Time, Cycle, Signature, Csv}
+use Rattle.bs_top_words.specs.declared.flags.Flag.TheVariants.{Budget, All, Only, Clock, Scope, Map, Bits, From, Time, Cycle, Signature, Csv, Most, At, Depth, Flops, Step}
 use Rattle.bs_top_words.specs.declared.given.Awaited.{Awaited}
 use Rattle.bs_top_words.specs.declared.given.Awaited.TheVariants as A
 use Rattle.bs_top_words.specs.Options.{has_dash, is_option, rest_of, value_in}
@@ -145,6 +145,11 @@ set_behind (s ∷ ss) l word = by s.flag (λ k. set_behind ss k word)
     by Cycle later = refl
     by Signature later = refl
     by Csv later = refl
+    by Most later = refl
+    by At later = refl
+    by Depth later = refl
+    by Flops later = refl
+    by Step later = refl
 
 -- an option that comes last
 set_last : (ss : List Setting) (l : Line) (s : Setting) →

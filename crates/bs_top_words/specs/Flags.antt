@@ -7,7 +7,7 @@ use Rattle.bs_top_words.specs.Options.{rest_of}
 use Rattle.bs_top_words.specs.declared.options.Kind.{Kind}
 use Rattle.bs_top_words.specs.declared.options.Kind.TheVariants.{Steps, Candidates, Conflicts}
 use Rattle.bs_top_words.specs.declared.flags.Flag.{Flag}
-use Rattle.bs_top_words.specs.declared.flags.Flag.TheVariants.{Budget, All, Only, Clock, Scope, Map, Bits, From, Time, Cycle, Signature, Csv}
+use Rattle.bs_top_words.specs.declared.flags.Flag.TheVariants.{Budget, All, Only, Clock, Scope, Map, Bits, From, Time, Cycle, Signature, Csv, Most, At, Depth, Flops, Step}
 
 -- the name of a budget
 abbrev pub kind_name : Kind → List ℕ
@@ -29,11 +29,17 @@ name_of Time = codes "--time"
 name_of Cycle = codes "--cycle"
 name_of Signature = codes "--signature"
 name_of Csv = codes "--csv"
+name_of Most = codes "--most"
+name_of At = codes "--at"
+name_of Depth = codes "--depth"
+name_of Flops = codes "--flops"
+name_of Step = codes "--step"
 
--- every option has a value but `--all` and `--csv`
+-- every option has a value but `--all`, `--csv` and `--flops`
 abbrev pub has_value : Flag → Bool
 has_value All = false
 has_value Csv = false
+has_value Flops = false
 has_value _ = true
 
 -- whether two budgets, or options, are the same
@@ -56,6 +62,11 @@ is_flag Time Time = true
 is_flag Cycle Cycle = true
 is_flag Signature Signature = true
 is_flag Csv Csv = true
+is_flag Most Most = true
+is_flag At At = true
+is_flag Depth Depth = true
+is_flag Flops Flops = true
+is_flag Step Step = true
 is_flag _ _ = false
 
 -- ---- the tables

@@ -32,6 +32,16 @@ pub enum Flag {
     Signature,
     /// A table; it has no value.
     Csv,
+    /// A number of lines or of signals.
+    Most,
+    /// A cycle of a trace.
+    At,
+    /// A number of layers.
+    Depth,
+    /// Flip-flops alone; it has no value.
+    Flops,
+    /// The number of a step.
+    Step,
 }
 
 /// The name of a budget.
@@ -62,6 +72,11 @@ fn name_of(flag: Flag) -> &'static str
         Flag::Cycle => "--cycle",
         Flag::Signature => "--signature",
         Flag::Csv => "--csv",
+        Flag::Most => "--most",
+        Flag::At => "--at",
+        Flag::Depth => "--depth",
+        Flag::Flops => "--flops",
+        Flag::Step => "--step",
     }
 }
 
@@ -70,7 +85,7 @@ pub fn has_value(flag: Flag) -> bool
     ensures { result ≡ has_value flag }
 {
     match flag {
-        Flag::All | Flag::Csv => false,
+        Flag::All | Flag::Csv | Flag::Flops => false,
         _ => true,
     }
 }
@@ -104,6 +119,11 @@ pub fn is_flag(one: Flag, other: Flag) -> bool
         (Flag::Cycle, Flag::Cycle) => true,
         (Flag::Signature, Flag::Signature) => true,
         (Flag::Csv, Flag::Csv) => true,
+        (Flag::Most, Flag::Most) => true,
+        (Flag::At, Flag::At) => true,
+        (Flag::Depth, Flag::Depth) => true,
+        (Flag::Flops, Flag::Flops) => true,
+        (Flag::Step, Flag::Step) => true,
         _ => false,
     }
 }

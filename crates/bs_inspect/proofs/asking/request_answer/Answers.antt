@@ -50,5 +50,17 @@ returns-in-Keys g c = noted_asked _ _ _ (ap request_in c.in-Keys.is) c.keys.ensu
 pub returns-in-Unscan : goal.returns-in-Unscan
 returns-in-Unscan g c = noted_asked _ _ _ (ap request_in c.in-Unscan.is) c.unscan.ensures
 
+pub returns-in-Page : goal.returns-in-Page
+returns-in-Page g c = noted_asked _ _ _ (ap request_in c.in-Page.is) c.page.ensures
+
 pub returns-in-Dump : goal.returns-in-Dump
 returns-in-Dump g c = noted_asked _ _ _ (ap request_in c.in-Dump.is) c.dump.ensures
+
+pub returns-in-Cnf : goal.returns-in-Cnf
+returns-in-Cnf g c = noted_asked _ _ _ (ap request_in c.in-Cnf.is) c.cnf.ensures
+
+pub returns-in-Lrat : goal.returns-in-Lrat
+returns-in-Lrat g c = noted_asked _ _ _ (ap request_in c.in-Lrat.is) c.lrat.ensures
+
+pub returns-in-Novel : goal.returns-in-Novel
+returns-in-Novel g c = noted_asked _ _ _ (ap request_in c.in-Novel.is) c.novel.ensures

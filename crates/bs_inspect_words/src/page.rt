@@ -1,0 +1,69 @@
+//! The request of `page`.
+ghost use Rattle.std.specs.Prelude.{◌≡◌, map, option_map, IfOk};
+ghost use Rattle.bs_top_words.specs.Asked.{given_in, setting_of};
+ghost use Rattle.bs_inspect_words.specs.Asked.{shown_request};
+ghost use Rattle.bs_inspect_words.specs.Request.{drawn_most, page_of, page_request, page_words};
+
+use crate::paged::{DEFAULT_DRAWN, MAX_DRAWN, PageRequest};
+use crate::request::Request;
+use crate::settings::{fit, value_of, values_of};
+use bs_bits::NoMemory;
+use bs_top_words::{Flag, Given, Setting, number_between};
+use std::alloc::Global;
+
+/// How many signals of a kind a page draws at most, by how many are named.
+fn drawn_most(word: Option<&str>, named: usize) -> Option<u64>
+    ensures { result ≡ drawn_most (option_map (λ s. s.now) word.entry) named }
+{
+    match word {
+        Some(word) => number_between(1, MAX_DRAWN, word),
+        None => {
+            if named == 0 {
+                Some(DEFAULT_DRAWN)
+            } else {
+                Some(MAX_DRAWN)
+            }
+        }
+    }
+}
+
+/// The request of `page` by what its words say.
+fn page_at<'a>(positions: &[&'a str], most: Option<u64>, only: Vec<&'a str>) -> Option<Request<'a>>
+    ensures { shown_request result ≡ page_of (map (λ s. s.now) positions.now) most (map (λ s. s.now) only.entry.items) }
+{
+    match (positions, most) {
+        ([netlist, report], Some(most)) => Some(Request::Page(PageRequest {
+            netlist,
+            report,
+            most,
+            only,
+        })),
+        _ => None,
+    }
+}
+
+/// The request of `page` by its words by position and its options.
+#[tactic(auto, using(crate::proofs::RequestLemmas::page_told))]
+fn page_words<'a>(
+    alloc: Global,
+    positions: &[&'a str],
+    settings: &[Setting<'a>],
+) -> Result<Option<Request<'a>>, NoMemory>
+    ensures { IfOk result (λ request. shown_request request ≡ page_words (map (λ s. s.now) positions.now) (map setting_of settings.now)) }
+{
+    if !fit(&[Flag::Only, Flag::Most], settings) {
+        return Ok(None);
+    }
+    let only = values_of(alloc, Flag::Only, settings)?;
+    let most = drawn_most(value_of(Flag::Most, settings), only.len());
+    let request = page_at(positions, most, only);
+    Ok(request)
+}
+
+/// `page`.
+pub fn page_request<'a>(alloc: Global, given: &Given<'a>) -> Result<Option<Request<'a>>, NoMemory>
+    ensures { IfOk result (λ request. shown_request request ≡ page_request (given_in given.now)) }
+{
+    let request = page_words(alloc, &given.positions, &given.settings)?;
+    Ok(request)
+}
