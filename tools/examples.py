@@ -1,12 +1,17 @@
 #!/usr/bin/env python3
 """Runs the commands of examples/README.md with the built programs and compares what they write with the stored texts.
 
+The texts that `cnf` and `lrat` write for the lists of reports are checked by tools/lrat_check.py.
+
 At the top of the repository: python3 tools/examples.py [BACKSPACE INSPECT]. The programs are those that `rt run` built, unless
 others are given. Prints a line for each command and ends with 1 where a text or a status is another one.
 """
 import os
 import subprocess
 import sys
+
+sys.dont_write_bytecode = True
+import lrat_check
 
 # program, words, exit status, the file that standard output must equal (or None)
 ROWS = [
@@ -36,10 +41,35 @@ ROWS = [
     ("i", "trace yosys/netlist.v yosys/report.txt", 0, None),
     ("i", "trace yosys/netlist.v yosys/report.txt --only count[1:0] first[7:4]", 0, None),
     ("i", "wave yosys/netlist.v yosys/report.txt", 0, None),
+    ("i", "page yosys/netlist.v yosys/report.txt", 0, None),
     ("b", "run hierarchy/netlist.v hierarchy/signature.txt hierarchy/stimulus.txt hierarchy/dump.txt", 0, "hierarchy/report.txt"),
     ("b", "audit hierarchy/netlist.v hierarchy/signature.txt hierarchy/stimulus.txt hierarchy/dump.txt hierarchy/report.txt", 0, None),
     ("i", "flops hierarchy/netlist.v", 0, None),
 ]
+
+# netlist, signature, report, step: each list is finished
+LISTS = [
+    ("shift/netlist.v", "shift/signature.txt", "shift/report.txt", 1),
+    ("older/netlist.v", "older/signature.txt", "older/report.txt", 1),
+    ("toggle/netlist.v", "toggle/signature.txt", "toggle/report.txt", 1),
+    ("s27/netlist.v", "s27/signature.txt", "s27/report.txt", 1),
+    ("yosys/netlist.v", "yosys/signature.txt", "yosys/report.txt", 3),
+    ("hierarchy/netlist.v", "hierarchy/signature.txt", "hierarchy/report.txt", 1),
+]
+
+
+def checked(inspect, words):
+    """What the strict checker says of the texts of a list."""
+    texts = []
+    for command in ("cnf", "lrat"):
+        done = subprocess.run([inspect, command, *words.split()], cwd="examples", stdout=subprocess.PIPE, stderr=subprocess.PIPE)
+        if done.returncode:
+            return f"status {done.returncode} of {command}, not 0"
+        texts.append(done.stdout.decode("ascii").splitlines())
+    try:
+        return f"refuted in {lrat_check.refuted(*map(iter, texts))} clauses"
+    except lrat_check.Fault as fault:
+        return f"refused: {fault}"
 
 
 def main():
@@ -55,7 +85,12 @@ def main():
             said = f"not {stored}"
         wrong += said not in ("as stored", "not stored")
         print(f"{os.path.basename(of[program])} {words}: {said}")
-    print(f"{len(ROWS) - wrong} of {len(ROWS)} as they should be")
+    for *files, step in LISTS:
+        words = f"{' '.join(files)} --step {step}"
+        said = checked(of["i"], words)
+        wrong += not said.startswith("refuted")
+        print(f"{os.path.basename(of['i'])} cnf, lrat {words}: {said}")
+    print(f"{len(ROWS) + len(LISTS) - wrong} of {len(ROWS) + len(LISTS)} as they should be")
     sys.exit(1 if wrong else 0)
 
 

@@ -1,0 +1,1374 @@
+#!/usr/bin/env python3
+"""Whole runs of the two built programs: the last part of the gate, since no row of a test sees `main`, a real file or a great size.
+
+At the top of the repository: python3 tools/programs.py [--small] [--only PART ..] [BACKSPACE INSPECT]. The programs are those that `rt ci` and
+`rt run` leave in out/, unless others are given; where they stand nowhere, `rt run` builds them. Each run's whole output, exit code and
+note are compared with texts from docs/FORMATS.md and docs/MISTAKES.md, written here by hand or made by tools/models.py; the log of a
+report, which is the solver's choice, is judged by `audit`. The first difference is shown, and ends the script with 1.
+"""
+import os
+import random
+import re
+import resource
+import shutil
+import stat
+import subprocess
+import sys
+import tempfile
+import threading
+import time
+
+HERE = os.path.dirname(os.path.abspath(__file__))
+sys.dont_write_bytecode = True
+sys.path.insert(0, HERE)
+import models
+
+ROOT = os.path.dirname(HERE)
+NOBODY = 65534
+LIMIT = int(os.environ.get("PROGRAMS_SECONDS", "600"))
+MIB = 1_048_576
+
+
+class Different(Exception):
+    pass
+
+
+# ---- running
+
+
+class Programs:
+    """The programs in a folder of their own, with the files that they are given. Where this script runs as root, they run as nobody."""
+
+    def __init__(self, paths, room):
+        self.room, self.count, self.as_nobody = room, 0, {}
+        os.chmod(room, 0o755)
+        os.mkdir(f"{room}/bin")
+        self.of = {}
+        for name, path in zip(("backspace", "backspace_inspect"), paths):
+            shutil.copyfile(path, f"{room}/bin/{name}")
+            os.chmod(f"{room}/bin/{name}", 0o755)
+            self.of[name] = f"{room}/bin/{name}"
+        if os.geteuid() == 0:
+            self.as_nobody = {"user": NOBODY, "group": NOBODY, "extra_groups": []}
+            try:
+                subprocess.run(["true"], **self.as_nobody, check=True)
+            except (OSError, subprocess.SubprocessError):
+                self.as_nobody = {}
+                print("this is root and cannot become nobody: files without the right to read are not tried")
+
+    def write(self, name, content, mode=0o644):
+        path = f"{self.room}/{name}"
+        os.makedirs(os.path.dirname(path), exist_ok=True)
+        with open(path, "wb") as file:
+            for piece in [content] if isinstance(content, (str, bytes, bytearray)) else content:
+                file.write(piece.encode() if isinstance(piece, str) else piece)
+        os.chmod(path, mode)
+        return name
+
+    def run(self, program, words, **how):
+        """The exit code, standard output and standard error of a run."""
+        given = {"stdin": subprocess.DEVNULL, "stdout": subprocess.PIPE, "stderr": subprocess.PIPE, **self.as_nobody, **how}
+        try:
+            done = subprocess.run([self.of[program], *words], cwd=self.room, timeout=LIMIT, **given)
+        except subprocess.TimeoutExpired:
+            raise Different(f"{program} {' '.join(os.fsdecode(word) for word in words[:12])} had not ended after {LIMIT} seconds") from None
+        self.count += 1
+        return done.returncode, done.stdout or b"", done.stderr or b""
+
+    def tried(self, program, words, code, out, note="", **how):
+        """Compares a run with the exit code, the output and the note that are wanted."""
+        words = words.split() if isinstance(words, str) else words
+        got = self.run(program, words, **how)
+        title = " ".join([program, *(os.fsdecode(word) for word in words[:12])])
+        same(f"{title}: standard output", out, got[1])
+        same(f"{title}: note", note, got[2])
+        same(f"{title}: exit code", str(code), str(got[0]))
+        return got[1].decode(errors="replace")
+
+
+def as_bytes(text):
+    return text.encode() if isinstance(text, str) else bytes(text)
+
+
+def cut(line, at):
+    """A line around one of its places."""
+    start = max(0, at - 60)
+    said = line[start : start + 160].decode(errors="backslashreplace")
+    return (".." if start else "") + said + (f".. ({len(line)} bytes)" if len(line) > start + 160 else "")
+
+
+def same(title, wanted, got):
+    """Shows the first difference of two texts, and ends there."""
+    wanted, got = as_bytes(wanted), as_bytes(got)
+    if wanted == got:
+        return
+    lines = wanted.split(b"\n"), got.split(b"\n")
+    first = next((at for at, pair in enumerate(zip(*lines)) if pair[0] != pair[1]), min(map(len, lines)))
+    ends = [line[first] if first < len(line) else None for line in lines]
+    at = next((k for k, (a, b) in enumerate(zip(*(end or b"" for end in ends))) if a != b), 0)
+    text = [f"--- {title}: wanted", "+++ what the program gave", f"@@ line {first + 1} @@"]
+    text += [" " + cut(line, 0) for line in lines[0][max(0, first - 3) : first]]
+    text += [mark + cut(end, at) for mark, end in zip("-+", ends) if end is not None]
+    raise Different("\n".join(text))
+
+
+# ---- notes
+
+
+def said(*sentences):
+    """A note of these sentences, a line each."""
+    return "".join(f"note: {sentence}\n" for sentence in sentences)
+
+
+def shown(line):
+    return "".join(chr(byte) if 32 <= byte <= 126 else f"\\x{byte:02x}" for byte in as_bytes(line)[:160])
+
+
+def at_place(path, text, at, sentence, label):
+    """A note on a place of a file: the place, the line, and a caret with a few words behind it."""
+    text = as_bytes(text)
+    start, end = text.rfind(b"\n", 0, at) + 1, text.find(b"\n", at)
+    line = text[start : end if end >= 0 else len(text)]
+    head = f"{path}:{text.count(10, 0, at) + 1}:{at - start + 1}"
+    return said(f"{head}: {sentence}") + f"{shown(line)}\n{' ' * len(shown(line[: at - start]))}^ {label}\n"
+
+
+USAGES = {
+    "run": "usage: backspace run NETLIST SIGNATURE STIMULUS DUMP [--steps L] [--candidates K] [--conflicts B]",
+    "audit": "usage: backspace audit NETLIST SIGNATURE STIMULUS DUMP REPORT",
+    "wave": "usage: backspace wave NETLIST SIGNATURE STIMULUS DUMP REPORT",
+    "dump": "usage: backspace dump NETLIST SIGNATURE STIMULUS RUN CYCLE",
+    "demo": "usage: backspace demo NUMBER",
+    "reach": "usage: backspace reach NETLIST STATE CYCLES [--conflicts B]",
+}
+ALL_USAGES = (
+    "usage: backspace run NETLIST SIGNATURE STIMULUS DUMP [options], audit NETLIST SIGNATURE STIMULUS DUMP REPORT, wave NETLIST SIGNATURE "
+    "STIMULUS DUMP REPORT, dump NETLIST SIGNATURE STIMULUS RUN CYCLE, reach NETLIST STATE CYCLES [--conflicts B], or demo NUMBER"
+)
+HELP = "`backspace_inspect help` tells how the words of each command stand"
+REJECTED = said(
+    "the line names the first part of the report that fails (docs/FORMATS.md, Validity)",
+    "is the report of these very files, in this order, and unchanged?",
+)
+NO_MEMORY = said("memory ran out, and nothing was written: give the program more, or lower --candidates and --conflicts")
+INSPECT_NO_MEMORY = said("memory ran out, and nothing was written: give the program more")
+
+
+def length_note(steps):
+    return said(f"the budget of steps is spent: this many were made: {steps}", "ask for more with --steps L, up to 65536; the trace so far is right")
+
+
+def output_note(lines, reason):
+    return said(
+        f"standard output failed after {lines} whole lines: {reason}",
+        "what went out is the front of the answer; send it to a file with room, or let the reader read on",
+    )
+
+
+# ---- the shift register of two flip-flops, by hand
+
+NETLIST = """module sh(ck, a);
+  input ck, a;
+  dff f0(ck, q0, a);
+  dff f1(ck, q1, q0);
+endmodule
+"""
+SIGNATURE = "bit q1\n"
+STIMULUS = "run a 3\n1\n1\n1\nend\n"
+DUMP = "state 11\nsig 1\nend\n"
+FOUR = ["n.v", "s.txt", "t.txt", "d.txt"]
+STEPS = """step 1
+present 11
+stored 1
+cand 11 input 1
+list finished ID
+hit 1 2 11
+step 2
+present 11
+stored 0
+cand 10 input 1
+list finished ID
+hit 1 1 10
+step 3
+present 10
+stored 0
+cand 00 input 1
+list finished ID
+hit 1 0 00
+stop reset
+trace 3
+state 00
+input 1
+state 10
+input 1
+state 11
+input 1
+state 11
+"""
+
+
+def base_files(it):
+    for name, text in zip(FOUR, (NETLIST, SIGNATURE, STIMULUS, DUMP)):
+        it.write(name, text)
+    with open(f"{ROOT}/examples/shift/report.txt") as file:
+        report = file.read()
+    it.write("r.txt", report)
+    return report
+
+
+def without_ids(report):
+    """A report up to its log, with the number of each finished list taken out."""
+    front, _, _ = report.partition("\nlog ")
+    return "".join(("list finished ID" if line.startswith("list finished ") else line) + "\n" for line in front.split("\n"))
+
+
+def examples(it):
+    """The commands of examples/README.md against the stored texts."""
+    words = [sys.executable, f"{HERE}/examples.py", it.of["backspace"], it.of["backspace_inspect"]]
+    done = subprocess.run(words, cwd=ROOT, stdout=subprocess.PIPE)
+    wrong = "".join(line + "\n" for line in done.stdout.decode().splitlines() if not line.endswith(("as stored", "not stored", "as they should be")))
+    same("tools/examples.py", "0 ", f"{done.returncode} {wrong if done.returncode else ''}")
+
+
+def words(it):
+    """Words that are a job, also nine and more of them, and words that are none."""
+    report = base_files(it)
+    run = ["run", *FOUR]
+    for given, (l, k, b) in [
+        (run, (64, 256, 100_000)),
+        (["run", "--", *FOUR], (64, 256, 100_000)),
+        ([*run, "--steps", "5", "--candidates", "3", "--conflicts", "7"], (5, 3, 7)),
+        (["run", "--conflicts=1099511627776", "n.v", "--steps=65536", "s.txt", "t.txt", "--candidates", "65536", "d.txt"], (65536, 65536, 1 << 40)),
+        ([*run, "--conflicts", "1", "--candidates=2", "--steps=3"], (3, 2, 1)),
+    ]:
+        code, out, note = it.run("backspace", given)
+        same(f"backspace {' '.join(given)}", asked(l, k, b) + STEPS, without_ids(out.decode()))
+        same(f"backspace {' '.join(given)}: code and note", "0 ", f"{code} {note.decode()}")
+        it.write("made.txt", out)
+        it.tried("backspace", ["audit", *FOUR, "made.txt"], 0, "accepted\n")
+    it.tried("backspace", ["audit", *FOUR, "r.txt"], 0, "accepted\n")
+    for steps, trace in ((1, "stop length\ntrace 1\n" + STEPS[-26:]), (2, "stop length\ntrace 2\n" + STEPS[-43:])):
+        wanted = asked(steps, 256, 100_000) + STEPS[: STEPS.index(f"step {steps + 1}")] + trace
+        judged(it, [*run, "--steps", str(steps)], 0, wanted, length_note(steps))
+    value = "wants a number in digits: --steps and --candidates 1 to 65536, --conflicts 1 to 2^40"
+    wrong = [
+        ([], "there are no words", None),
+        (["--help"], "word 1, `--help`, is no command", None),
+        (["-h"], "word 1, `-h`, is no command", None),
+        (["Run", *FOUR], "word 1, `Run`, is no command", None),
+        (["run", "n.v", "s.txt", "t.txt"], "the number of words by position behind the command is 3; a file name with a space in it stands in quotes", "run"),
+        ([*run, *"123456789"], "the number of words by position behind the command is 13; a file name with a space in it stands in quotes", "run"),
+        ([*run, "e", "--steps", "5", "--candidates", "3"], "the number of words by position behind the command is 5; a file name with a space in it stands in quotes", "run"),
+        ([*run, "--step", "5"], "word 6, `--step`, is no option of this command", "run"),
+        ([*run, "--steps", "5", "--candidates", "3", "--conflict", "7"], "word 10, `--conflict`, is no option of this command", "run"),
+        ([*run, "--steps", "0"], f"word 6, `--steps`, {value}", "run"),
+        ([*run, "--steps=65537"], f"word 6, `--steps=65537`, {value}", "run"),
+        ([*run, "--steps", "01"], f"word 6, `--steps`, {value}", "run"),
+        ([*run, "--candidates=65537"], f"word 6, `--candidates=65537`, {value}", "run"),
+        ([*run, "--conflicts=1099511627777"], f"word 6, `--conflicts=1099511627777`, {value}", "run"),
+        ([*run, "--steps", "5", "--steps=6"], "an option is given twice", "run"),
+        (["dump", "n.v", "s.txt", "t.txt", "0", "3"], "RUN lies between 1 and 256 and CYCLE between 0 and 65536, each in digits alone", "dump"),
+        (["dump", "n.v", "s.txt", "t.txt", "257", "3"], "RUN lies between 1 and 256 and CYCLE between 0 and 65536, each in digits alone", "dump"),
+        (["dump", "n.v", "s.txt", "t.txt", "1", "65537"], "RUN lies between 1 and 256 and CYCLE between 0 and 65536, each in digits alone", "dump"),
+        (["audit", *FOUR], "the number of words by position behind the command is 4; a file name with a space in it stands in quotes", "audit"),
+        (["wave", *FOUR, "r.txt", "x"], "the number of words by position behind the command is 6; a file name with a space in it stands in quotes", "wave"),
+        (["reach", "n.v", "11", "1025"], "STATE is one or more characters 0 and 1, CYCLES lies between 0 and 1024, in digits alone, and an option is given once", "reach"),
+        (["demo", "18446744073709551616"], "NUMBER lies below 2^64, in digits alone", "demo"),
+        (["demo", "7", "8"], "the number of words by position behind the command is 2; a file name with a space in it stands in quotes", "demo"),
+    ]
+    for given, sentence, usage in wrong:
+        it.tried("backspace", given, 2, "refused words\n", said(sentence, USAGES.get(usage, ALL_USAGES)))
+    it.tried("backspace", [b"run", b"\xff.v"], 2, "", said("the words of the command line are no text in UTF-8", ALL_USAGES))
+    it.tried("backspace_inspect", [b"flops", b"\xff.v"], 2, "", said("the words of the command line are no text in UTF-8", HELP))
+    return report
+
+
+def codes(it):
+    """Each exit code of `backspace` once, but for those of files and outputs."""
+    report = base_files(it)
+    quiet = "run a 3\n0\n0\n0\nend\n"
+    it.write("quiet.txt", quiet)
+    asked = "backspace 1\nasked 64 candidates 256 conflicts 100000\n"
+    nohit = asked + "step 1\npresent 11\nstored 1\ncand 11 input 1\nlist finished ID\nnohit\nstop nohit\ntrace 0\nstate 11\n"
+    never = said("the dump's state itself was never recorded, nor that state read backwards; this alone is no fault: a crash need not be in a run")
+    record = "record more or longer runs of what the chip did, or choose a signature that tells more states apart"
+    searched = "so many moments of recorded runs were searched, each cycle of each run from 0: 4"
+    first = said("no recorded run comes to a state that is listed in step 1", record, searched)
+    judged(it, ["run", "n.v", "s.txt", "quiet.txt", "d.txt"], 3, nohit, first + never)
+    it.write("z.v", "module z(ck); input ck; and g(d,q,1'b0); dff f(ck,q,d); endmodule\n")
+    it.write("none.txt", "")
+    it.write("zt.txt", "run a 0\nend\n")
+    it.write("zd.txt", "state 1\nsig .\nend\n")
+    empty = said(
+        "no state with the stored signature leads to the dumped state",
+        "look at the dump: its bits are in the order of the netlist's flip-flops, the first on the left; is it of this netlist, and `sig` of this signature?",
+    )
+    wanted = asked + "step 1\npresent 1\nstored .\nlist finished ID\nnohit\nstop empty\ntrace 0\nstate 1\n"
+    judged(it, ["run", "z.v", "none.txt", "zt.txt", "zd.txt"], 4, wanted, empty + never)
+    # a list that is cut: one candidate, 10 or 11, and no recorded moment in either
+    it.write("ed.txt", "state 11\nsig .\nend\n")
+    code, out, note = it.run("backspace", ["run", "n.v", "none.txt", "quiet.txt", "ed.txt", "--candidates", "1"])
+    text = without_ids(out.decode()).replace("cand 10 ", "cand 1? ").replace("cand 11 ", "cand 1? ")
+    wanted = "backspace 1\nasked 64 candidates 1 conflicts 100000\nstep 1\npresent 11\nstored .\ncand 1? input 1\nlist candidates\nnohit\nstop candidates\ntrace 0\nstate 11\n"
+    same("a cut list", wanted, text)
+    it.tried("backspace", ["dump", "n.v", "s.txt", "t.txt", "1", "3"], 0, DUMP)
+    it.tried("backspace", ["dump", "n.v", "s.txt", "t.txt", "1", "0"], 0, "state 00\nsig none\nend\n")
+    moment = "there is no such moment: the stimulus has so many runs: 1"
+    counts = "RUN counts from 1 in the order of the file, and CYCLE from 0 up to the number of cycles"
+    it.tried("backspace", ["dump", "n.v", "s.txt", "t.txt", "1", "4"], 9, "refused dump Range\n", said(moment + "; and this run so many cycles: 3", counts))
+    it.tried("backspace", ["dump", "n.v", "s.txt", "t.txt", "256", "0"], 9, "refused dump Range\n", said(moment, counts))
+    it.tried("backspace", ["demo", "7"], 0, "demo 7 steps 64 finished 64 listed 512 stop length\n")
+    unreached = said(
+        "no execution of so many cycles from reset, or of fewer, ends in this state, whatever the inputs",
+        "ask for more cycles, up to 1024; the state's bits are in the order of the netlist's flip-flops, the first on the left",
+    )
+    code, out, note = it.run("backspace", ["reach", "n.v", "11", "1"])
+    same("a state that is not reached", "15 reach 1\nasked 1 conflicts 100000\nresult unreached\n" + unreached, f"{code} {out.decode().partition('log')[0]}{note.decode()}")
+    it.tried("backspace", ["reach", "n.v", "00", "0"], 0, "reach 1\nasked 0 conflicts 100000\nresult reached 0\nstate 00\nlog 0\nend\n")
+    reached = "reach 1\nasked 5 conflicts 100000\nresult reached 2\nstate 00\ninput 1\nstate 10\ninput 1\nstate 11\n"
+    code, out, note = it.run("backspace", ["reach", "n.v", "11", "5"])
+    same("a state that is reached", "0 " + reached, f"{code} {out.decode().partition('log')[0]}{note.decode()}")
+    width = said(
+        "the state `111`: 3 bits stand here, and 2 are due: one for each flip-flop of the netlist",
+        "the bits stand in the order of the netlist's flip-flops, the first on the left",
+    )
+    it.tried("backspace", ["reach", "n.v", "111", "5"], 9, "refused state Width\n", width)
+    # changed copies of a valid report: rejected, and by the first part that fails
+    for old, new, line in [
+        ("cand 11 input 1\n", "", "step 1 hit"),
+        ("stored 1\n", "stored 0\n", "step 1 stored"),
+        ("present 11\nstored 0", "present 10\nstored 0", "step 2 present"),
+        ("cand 11 input 1", "cand 11 input 0", "step 1 candidate 1"),
+        ("stop reset", "stop length", "stop"),
+        ("trace 3\nstate 00", "trace 3\nstate 01", "trace"),
+    ]:
+        assert report.count(old) >= 1
+        it.write("changed.txt", report.replace(old, new, 1))
+        it.tried("backspace", ["audit", *FOUR, "changed.txt"], 11, f"rejected {line}\n", REJECTED)
+    it.tried("backspace", ["wave", *FOUR, "changed.txt"], 11, "rejected trace\n", REJECTED)
+    with open(f"{ROOT}/examples/shift/waveform.vcd") as file:
+        it.tried("backspace", ["wave", *FOUR, "r.txt"], 0, file.read())
+
+
+def judged(it, words, code, wanted, note):
+    """Compares a report up to its log, and has `audit` judge the whole."""
+    got = it.run("backspace", words)
+    title = "backspace " + " ".join(words)
+    same(title, wanted, without_ids(got[1].decode()))
+    same(f"{title}: note", note, got[2])
+    same(f"{title}: exit code", str(code), str(got[0]))
+    it.write("judged.txt", got[1])
+    it.tried("backspace", ["audit", *words[1:5], "judged.txt"], 0, "accepted\n")
+    return got[1].decode()
+
+
+# ---- files that are refused, and files that do not read
+
+CELL = "cells are dff and dffs (CK, Q, D), dffe (E too), dffr (R too), gates and nand or nor xor xnor buf not: flatten and map to these (docs/FORMATS.md)"
+HERE_NOT = (
+    "what begins here cannot stand here",
+    "is a `;` missing before it? is this RTL or SystemVerilog? synthesize it, as by examples/yosys/synth.sh (docs/FORMATS.md, Netlists)",
+)
+ENDS = (
+    "the text ends before its module does",
+    "is the netlist cut short, or `endmodule` missing? is it empty, as by a shell's `> FILE` of the file that is read?",
+)
+CLOCK = "all flip-flops take one input port bit as their clock, and no gate and no d, e or r reads it: make a gated clock an enable (dffe), negedge posedge, and keep one clock's part"
+TERMINALS = (
+    "this gate or cell has other terminals than it takes",
+    "a gate has its output first; dff and dffs take (CK, Q, D), dffe (CK, Q, D, E), dffr (CK, Q, D, R), or pins of these names",
+)
+CONNECT = ("this does not go with a port of the instanced module", "each connection is of a port of its own, with as many bits, and a constant is of no output")
+LOOSE = ("a space too many: words are parted by one space, and none stands at an end of a line", "take it out")
+
+# a netlist that is refused: the text, the refusal with the text at which it stands, and what is said there
+NETLISTS = [
+    (NETLIST.replace("dff f0(ck", "foo f0(ck"), "Unsupported {} Hierarchy", "foo f0", ("no cell of this name is known", CELL)),
+    (NETLIST.replace("dff f1(ck", "\\not f1(ck"), "Unsupported {} Hierarchy", "\\not f1", (
+        "an escaped name is no gate and no cell: `\\not` is another name than `not`",
+        "map cells to gates and take the `\\` out of their names: examples/yosys/synth.sh does both")),
+    (NETLIST.replace("dff f0(", "always f0("), "Unsupported {} Behaviour", "always", (
+        "behavioural Verilog is left out", "synthesize it, and map it to gates and flip-flops, as examples/yosys/synth.sh does both")),
+    (NETLIST.replace("dff f0(", "dff #(1) f0("), "Unsupported {} Parameter", "#", ("parameters are left out", "let synthesis settle them")),
+    (NETLIST.replace("input ck, a;", "input ck, a; tri z;"), "Unsupported {} NetType", "tri z", (
+        "net types other than wire, supply0 and supply1 are left out", "is this RTL? synthesize and map it, as examples/yosys/synth.sh does; else write wire")),
+    (NETLIST.replace("dff f0(", "pullup f0("), "Unsupported {} Primitive", "pullup", (
+        "tri-state, switch and user primitives are left out", "gates are and nand or nor xor xnor buf not")),
+    (NETLIST.replace("input ck, a;", "input ck, a; inout z;"), "Unsupported {} Direction", "inout", ("inout ports are left out", "split it into an input and an output")),
+    (NETLIST.replace("dff f0(", "and (strong0, strong1) f0("), "Unsupported {} Strength", "strong0", ("drive strengths are left out", "take it out")),
+    (NETLIST.replace("dff f0(", "dff f0[1:0]("), "Unsupported {} Array", "[1:0]", ("arrays of instances are left out", "write each instance")),
+    (NETLIST.replace("q0, a)", "q0, ~a)"), "Unsupported {} Expression", "~a", (
+        "expressions and concatenations are left out", "a net, a bit of a vector or a constant of one bit may stand here; examples/yosys/synth.sh maps the rest to gates")),
+    (NETLIST.replace("input ck, a;", "input ck, a; wire [1:0] v;").replace("q1, q0)", "q1, v)"), "Unsupported {} Width", "v);", (
+        "a whole vector or a part of it is left out", "name one bit, as a[0]")),
+    (NETLIST.replace("q1, q0)", "q1, 2'b01)"), "Unsupported {} Constant", "2'b01", ("a constant here is of one bit", "write 1'b0 or 1'b1")),
+    (NETLIST.replace("  dff f1", "`define x\n  dff f1"), "Unsupported {} Directive", "`define", (
+        "this compiler directive is left out", "take it out, or run a preprocessor first")),
+    (NETLIST.replace("ck, a;", "ck, a"), "Syntax {}", "dff f0", HERE_NOT),
+    (NETLIST.replace("endmodule\n", ""), "Syntax {}", None, ENDS),
+    ("", "Syntax {}", None, ENDS),
+    (b"\xef\xbb\xbf" + NETLIST.encode(), "Syntax {}", b"\xef", (
+        "a byte that is no ASCII character, as a mark at the front of a file", "save the file as plain ASCII without a byte order mark")),
+    (b"\x1f\x8b\x08" + NETLIST.encode(), "Syntax {}", b"\x1f", ("a byte of a file that gzip has packed", "unpack it first, as by `gzip -dc FILE > TEXT`")),
+    (b"\x7fELF", "Syntax {}", b"\x7f", ("a byte that no text has: is this file packed or binary?", "give the text of a structural netlist")),
+    (NETLIST.replace("(ck, a)", "(ck, a, b)"), "Port {}", "b);", (
+        "each name of the header has one direction, and each direction a name of the header", "declare it as input or output once, and name it in the header")),
+    (NETLIST.replace("  dff f0", "  wire w; wire w;\n  dff f0"), "Redeclared {}", "w;\n  dff", (
+        "this name is declared before", "one direction and one type are taken, with equal ranges")),
+    (NETLIST.replace("  dff f0", "  wire [65535:0] v; wire [65535:0] w;\n  dff f0"), "TooManyNets {}", "w;\n", (
+        "there are more than 100000 nets", "split the netlist")),
+    (NETLIST.replace("(ck, q1, q0)", "(ck, q1)"), "Terminals {}", "(ck, q1)", TERMINALS),
+    (NETLIST.replace("  dff f0", "  wire [1:0] v;\n  dff f0").replace("q1, q0)", "q1, v[2])"), "Index {}", "v[2]", (
+        "this index is none of the vector's, or a bound is above 65535", "compare it with the declaration")),
+    (NETLIST.replace("q1, q0)", "q1, qo)"), "Undriven qo", "qo", ("the net `qo` is read and has no driver", "is the name misspelt, or a gate missing?")),
+    (NETLIST.replace("q1, q0)", "q0, a)"), "SecondDriver q0", "q0, a);\n  dff", (
+        "the net `q0` has two drivers", "one input, gate output or flip-flop may drive a net")),
+    (NETLIST.replace("  dff f1", "  or g(x, y, a);\n  not h(y, x);\n  dff f1"), "Loop x y", "x, y", (
+        "gates read one another in a ring, by their output nets: x y", "a flip-flop must stand in every ring; latches are left out")),
+    # a ring of nine, of which the note names eight
+    (NETLIST.replace("  dff f1", "".join(f"  buf ({'rstuvwxyz'[k]}, {'zrstuvwxy'[k]});\n" for k in (0, *range(8, 0, -1))) + "  dff f1"), "Loop r s t u v w x y z", "r, z", (
+        "gates read one another in a ring, by their output nets: r s t u v w x y", "a flip-flop must stand in every ring; latches are left out")),
+    (NETLIST.replace("ck, a", "ck, ck2, a").replace("f1(ck", "f1(ck2"), "ClockMixed ck2", "ck2, a)", ("the net `ck2` is no single clock", CLOCK)),
+]
+# the same on the whole file
+WHOLE = [
+    (NETLIST.replace("dff f0(ck, q0, a);\n  dff f1(ck, q1, q0);", "buf b(z, a);"), "NoFlop", "there is no flip-flop: cells are dff, dffs, dffe and dffr (docs/FORMATS.md, Netlists)"),
+    (NETLIST + NETLIST.replace(" sh(", " other("), "Tops 2", "one module alone, the top, is instanced by none, and so many are: 2"),
+    (NETLIST.replace("  dff f1", f"  and g(z{', a' * 65});\n  dff f1"), "TooMany Terminals 65", "a gate has at most 64 inputs, and one has 65"),
+    (
+        "module one(ck, q); input ck; output q; not (d, q); dff f(ck, q, d); endmodule\nmodule two(ck); input ck; wire \\s.q , o; one s(ck, o); buf b(\\s.q , o); one t(ck, p); endmodule\n".replace(
+            "one(ck, q); input ck; output q; not (d, q); dff f(ck, q, d);", "one(ck, z); input ck; output z; buf (z, q); not (d, q); dff f(ck, q, d);"),
+        "NameClash \\s.q", "two nets of the flat design have the key `\\s.q`: give an instance or a net another name"),
+]
+DESIGN = "module stage(ck, q, a); input ck, a; output q; dff f(ck, q, a); endmodule\nmodule top(ck, a); input ck, a; stage s0(ck, q0, a); stage s1(ck, q1, q0); endmodule\n"
+DESIGNS = [
+    (DESIGN.replace("s1(ck, q1, q0)", "s0(ck, q1, q0)"), "Twice {}", "s0(ck, q1", ("an earlier module, or an earlier instance in this module, has the same name", "give it a name of its own")),
+    (DESIGN.replace("s1(ck, q1, q0)", "s1(ck, q1, q0, a)"), "Connect {}", "a); endmodule\n$", CONNECT),
+    (DESIGN.replace("dff f(", "top t(ck, a); dff f("), "Recursion stage top", "stage(ck, q", ("modules instance one another in a ring: stage top", "no module may stand in itself")),
+]
+
+
+def nearest(*keys):
+    return "the nearest keys of flip-flops: " + " ".join(keys)
+
+
+# the other files: the place of the file, its text, code, refusal, the line and the column of the note from 1, and what is said there
+TEXTS = [
+    (1, "bit q1\r\n", 7, "Line 1", 1, 7, ("a carriage return: lines end with a line feed alone", "take the carriage returns out, as by `tr -d '\\r'`")),
+    (1, "bit\tq1\n", 7, "Line 1", 1, 4, ("a tab: words are parted by one space", "write one space")),
+    (1, "bit  q1\n", 7, "Line 1", 1, 4, LOOSE),
+    (1, "bit q1\n\n", 7, "Line 2", 2, 1, ("a line of a signature is `bit NAME` or `xor NAME NAME ..`", "a name is the key of a flip-flop's output net, without empty lines between")),
+    (1, "# q1\n", 7, "Line 1", 1, 1, ("a signature has no comments", "take the line out")),
+    (1, "bit q0 q1\n", 7, "Line 1", 1, 1, (
+        "`bit` takes one name", "write `xor NAME NAME ..` for the parity of several; an index is a part of the key, as of `[0]\\a.b`: `backspace_inspect keys` tells it")),
+    (1, "bit q1\nxor q0 q2\n", 7, "UnknownFlop 2", 2, 8, ("no flip-flop has the key `q2`, the name of its output net", nearest("q0", "q1"))),
+    (1, "bit q1\n" * 257, 7, "TooMany 257", 257, 1, ("a signature has at most 256 items", "this is the 257th")),
+    (2, "run a 3\n1\n1\n1\n", 8, "Count 5", 5, 1, ("the text ends inside a run", "a run has as many input lines as its CYCLES, and then `end`")),
+    (2, "run a 3\n1\n1\nend\n", 8, "Count 4", 4, 1, (
+        "`end` stands here, and an input line is due", "CYCLES of the run's first line is greater than the number of its input lines")),
+    (2, "run a 2\n1\n1\n1\nend\n", 8, "Count 4", 4, 1, (
+        "an input line stands here, and `end` is due", "CYCLES of the run's first line is less than the number of its input lines, or `end` is missing")),
+    (2, "run a 1\n11\nend\n", 8, "Width 2", 2, 1, (
+        "2 bits stand here, and 1 are due: one for each data input", "data inputs are all input port bits but the clock, in the order of the ports; `.` stands for none")),
+    (2, "run a 1\nx\nend\n", 8, "Line 2", 2, 1, (
+        "a bit of an input is 0 or 1, and x or z stands here", "drive each data input from the first cycle on, or write what the chip had")),
+    (2, "run a\n1\nend\n", 8, "Line 1", 1, 1, ("a run is `run NAME CYCLES`, as many lines of bits, and `end`", "this is none of these where it stands")),
+    (2, f"run {'n' * 65} 1\n1\nend\n", 8, "Line 1", 1, 1, ("a run is `run NAME CYCLES`, as many lines of bits, and `end`", "this is none of these where it stands")),
+    (2, "run a 65537\n", 8, "TooManyCycles 1", 1, 1, ("a run has at most 65536 cycles", "split it, or begin it later")),
+    (2, "run a 0\nend\n" * 257, 8, "TooManyRuns 513", 513, 1, ("a stimulus has at most 256 runs", "this is the 257th")),
+    (3, "state 111\nsig 1\nend\n", 9, "Width 1", 1, 1, (
+        "3 bits stand here, and 2 are due: one for each flip-flop of the netlist", "is the dump of this netlist, with this signature?")),
+    (3, "state 11\nsig 11\nend\n", 9, "Width 2", 2, 1, (
+        "2 bits stand here, and 1 are due: one for each item of the signature", "is the dump of this netlist, with this signature?")),
+    (3, "state 3\nsig 1\nend\n", 9, "Line 1", 1, 1, (
+        "behind the word stand characters 0 and 1 alone, or `sig none`, and this line has something else",
+        "write a number of base 16 bit by bit, as 1010 for a; x and z are no values of a chip: read what it had")),
+    (3, "state 11\nsig 1\n", 9, "Line 3", 3, 1, ("the third line of a dump is `end`", "and nothing follows it")),
+    (3, "state 11\nsig 1\nend\nend\n", 9, "Line 4", 4, 1, ("nothing follows the line `end` of a dump", "take it out")),
+    (3, "state 11\nsig none\nend\n", 9, "NotReset", 1, 1, (
+        "`sig none` goes with the reset state alone, and this is another state",
+        "at reset dffs holds 1 and each other cell 0; in any later state the register holds a signature")),
+]
+KINDS = ["netlist", "signature", "stimulus", "dump", "report"]
+
+
+def refusals(it):
+    """Each refusal of a file with its note."""
+    report = base_files(it)
+    for texts in (NETLISTS, DESIGNS):
+        for text, why, mark, saying in texts:
+            at = len(text) if mark is None else as_bytes(text).rindex(as_bytes(mark[:-1])) if mark.endswith("$" if isinstance(mark, str) else b"$") else as_bytes(text).index(as_bytes(mark))
+            it.write("x.v", text)
+            it.tried("backspace", ["run", "x.v", *FOUR[1:]], 6, f"refused netlist {why.format(at)}\n", at_place("x.v", text, at, *saying))
+            it.tried("backspace_inspect", ["flops", "x.v"], 6, f"refused netlist {why.format(at)}\n", at_place("x.v", text, at, *saying))
+    for text, why, sentence in WHOLE:
+        it.write("x.v", text)
+        it.tried("backspace", ["run", "x.v", *FOUR[1:]], 6, f"refused netlist {why}\n", said("x.v: " + sentence))
+    for place, text, code, why, line, column, saying in TEXTS:
+        name, files = f"x{place}.txt", list(FOUR)
+        it.write(name, text)
+        files[place] = name
+        starts = [0] + [at + 1 for at, byte in enumerate(text) if byte == "\n"]
+        note = at_place(name, text, starts[line - 1] + column - 1, *saying)
+        it.tried("backspace", ["run", *files], code, f"refused {KINDS[place]} {why}\n", note)
+    it.write("x2.txt", "")
+    it.tried("backspace", ["run", "n.v", "s.txt", "x2.txt", "d.txt"], 8, "refused stimulus NoRun\n", said("x2.txt: the file has no run"))
+    it.write("x2.txt", f"run {'n' * 64} 1\n1\nend\n")
+    it.tried("backspace", ["dump", "n.v", "s.txt", "x2.txt", "1", "1"], 0, "state 10\nsig 0\nend\n")
+    it.write("x1.txt", "")
+    label = "the signature file has no line: is it the right one, and was it emptied?"
+    note = at_place("d.txt", DUMP, 9, "1 bits stand here, and 0 are due: one for each item of the signature", label)
+    it.tried("backspace", ["run", "n.v", "x1.txt", "t.txt", "d.txt"], 9, "refused dump Width 2\n", note)
+    cut_short = report[: report.index("step 2") + 6]
+    it.write("rx.txt", cut_short)
+    note = at_place("rx.txt", cut_short, len(cut_short), "the text ends before the line `end` of a report is whole", "was the report cut short, as by a full disk?")
+    it.tried("backspace", ["audit", *FOUR, "rx.txt"], 10, "refused report Short\n", note)
+    it.write("rx.txt", report + "\n")
+    more = said("rx.txt: bytes follow the line `end` of the report: a file holds one report and nothing else")
+    it.tried("backspace", ["audit", *FOUR, "rx.txt"], 10, "refused report Extra\n", more)
+    line = "this line is not of a form that its place in a report allows", "a report is what `run` writes, unchanged (docs/FORMATS.md, Report)"
+    numbers = "asked 64 candidates 256 conflicts 100000"
+    for most in ("asked 65536 candidates 256 conflicts 100000", "asked 64 candidates 65536 conflicts 1099511627776"):
+        it.write("rx.txt", report.replace(numbers, most))
+        it.tried("backspace", ["audit", *FOUR, "rx.txt"], 0, "accepted\n")
+    for wrong in ("asked 0 candidates 256 conflicts 1", "asked 65537 candidates 256 conflicts 1", "asked 64 candidates 65537 conflicts 1", "asked 64 candidates 1 conflicts 1099511627777"):
+        it.write("rx.txt", report.replace(numbers, wrong))
+        it.tried("backspace", ["audit", *FOUR, "rx.txt"], 10, "refused report Line 2\n", at_place("rx.txt", report.replace(numbers, wrong), 12, *line))
+    order = "the files stand in the order NETLIST SIGNATURE STIMULUS DUMP REPORT"
+    note = said(f"s.txt: given as the netlist, this file begins like a signature; {order}")
+    it.tried("backspace", ["run", "s.txt", "n.v", "t.txt", "d.txt"], 6, "refused netlist Syntax 0\n", note)
+    it.write("a.vcd", "$timescale 1ns $end\n")
+    note = said("a.vcd: given as the stimulus, this file begins like a vcd of a simulator; `backspace_inspect stimulus NETLIST VCD --clock NAME` makes a stimulus of one")
+    it.tried("backspace", ["run", "n.v", "s.txt", "a.vcd", "d.txt"], 8, "refused stimulus Line 1\n", note)
+
+
+def files(it):
+    """Files that do not read, each with the system's reason; pipes, which do."""
+    report = base_files(it)
+    os.makedirs(f"{it.room}/folder", exist_ok=True)
+    os.symlink("loop", f"{it.room}/loop")
+    it.write("locked", NETLIST, 0)
+    reasons = [
+        ("gone.v", "No such file or directory (os error 2)"),
+        ("folder", "Is a directory (os error 21)"),
+        ("-", "there is no such file, and standard input is read as /dev/stdin alone"),
+    ]
+    if it.as_nobody or os.geteuid():
+        reasons.append(("locked", "Permission denied (os error 13)"))
+    for name, reason in reasons:
+        note = said(f"{name}: {reason}")
+        for place, kind in enumerate(KINDS):
+            given = [*FOUR, "r.txt"]
+            given[place] = name
+            # what stands behind it is not asked for
+            behind = [name, *["gone"] * (4 - place)]
+            it.tried("backspace", ["audit", "--", *given[:place], *behind], 12, f"refused {kind} ReadFault\n", note)
+        it.tried("backspace_inspect", ["trace", "--", name, "r.txt"], 12, "refused netlist ReadFault\n", note)
+        it.tried("backspace_inspect", ["trace", "--", "n.v", name], 12, "refused report ReadFault\n", note)
+        it.tried("backspace_inspect", ["stimulus", "--clock", "ck", "--", "n.v", name], 12, "refused vcd ReadFault\n", note)
+        it.tried("backspace_inspect", ["signature", "--bits", "1", "--", "n.v", name], 12, "refused stimulus ReadFault\n", note)
+        it.tried("backspace_inspect", ["unscan", "--", "n.v", name, "11"], 12, "refused map ReadFault\n", note)
+    # a folder in which there is nothing to look for, and names that the system refuses
+    for name in ("n.v/x", "loop", "x" * 300):
+        got = it.run("backspace", ["run", name, *FOUR[1:]])
+        same(f"backspace run {name}", "12 refused netlist ReadFault\nnote: " + shown(name) + ": ", f"{got[0]} {got[1].decode()}" + got[2].decode()[: 8 + len(shown(name))])
+        assert len(got[2]) > 10 + len(shown(name))
+    # standard input, a pipe by its number, and one by a name
+    for name in ("/dev/stdin", "/dev/fd/{}"):
+        given, taken = os.pipe()
+        if it.as_nobody:
+            os.fchown(given, NOBODY, NOBODY)
+        os.write(taken, NETLIST.encode())
+        os.close(taken)
+        it.tried("backspace", ["run", name.format(given), *FOUR[1:]], 0, report_of(it), stdin=given, pass_fds=[given])
+        os.close(given)
+    os.mkfifo(f"{it.room}/pipe")
+    os.chmod(f"{it.room}/pipe", 0o644)
+
+    # a writer that gives a few bytes at a time
+    def feed():
+        with open(f"{it.room}/pipe", "wb", buffering=0) as pipe:
+            for at in range(0, len(report), 7):
+                pipe.write(report[at : at + 7].encode())
+
+    writer = threading.Thread(target=feed, daemon=True)
+    writer.start()
+    it.tried("backspace", ["audit", *FOUR, "pipe"], 0, "accepted\n")
+    writer.join(10)
+
+
+def report_of(it):
+    """What `run` writes of the shift register: its front is judged by `words`, and this very text by `audit`."""
+    return it.run("backspace", ["run", *FOUR])[1]
+
+
+def failed_after(title, lines, got):
+    """Compares a run whose output failed after so many lines: the code, and the note but for the reason, which is the system's."""
+    wanted = output_note(lines, "REASON")
+    front, _, behind = wanted.partition("REASON")
+    reason = got[2].decode()[len(front) : -len(behind)]
+    same(title, f"13 {front}{reason or 'some reason'}{behind}", f"{got[0]} {got[2].decode()}")
+
+
+def outputs(it):
+    """Outputs that are full, closed or cut: the front of the answer, and code 13."""
+    base_files(it)
+    whole = report_of(it)
+    jobs = [
+        ("backspace", ["run", *FOUR], whole),
+        ("backspace", ["audit", *FOUR, "gone"], b"refused report ReadFault\n"),
+        ("backspace", ["run"], b"refused words\n"),
+        ("backspace_inspect", ["stats", "n.v"], None),
+        ("backspace_inspect", ["flop", "n.v"], b"refused words\n"),
+    ]
+    for program, given, _ in jobs:
+        with open("/dev/full", "wb") as full:
+            it.tried(program, given, 13, "", output_note(0, "no storage space"), stdout=full)
+        # a closed descriptor
+        got = it.run(program, given, stdout=subprocess.DEVNULL, preexec_fn=lambda: os.close(1))
+        failed_after(f"{' '.join(given)} with a closed output", 0, got)
+        # a closed standard error takes the note and nothing else
+        same(f"{' '.join(given)} with a closed note", str(it.run(program, given)[0]), str(it.run(program, given, stderr=subprocess.DEVNULL, preexec_fn=lambda: os.close(2))[0]))
+    # a reader that has gone
+    read, wrote = os.pipe()
+    os.close(read)
+    got = it.run("backspace", ["run", *FOUR], stdout=wrote, restore_signals=False)
+    os.close(wrote)
+    failed_after("a pipe without a reader", 0, got)
+    # a file that takes so many bytes and no more
+    for room in (1, 15, 16, 17, len(whole) - 1):
+        def limited(room=room):
+            resource.setrlimit(resource.RLIMIT_FSIZE, (room, room))
+
+        with tempfile.TemporaryFile() as file:
+            got = it.run("backspace", ["run", *FOUR], stdout=file, preexec_fn=limited, restore_signals=False)
+            file.seek(0)
+            same(f"an output with room for {room} bytes", whole[:room], file.read())
+        failed_after(f"an output with room for {room} bytes", whole[:room].count(b"\n"), got)
+    with tempfile.TemporaryFile() as file:
+        got = it.run("backspace", ["run", *FOUR], stdout=file)
+        file.seek(0)
+        same("an output into a file", b"0" + whole, b"%d" % got[0] + file.read())
+
+
+# ---- great sizes
+
+SMALL = False
+
+
+def great(size, small):
+    """A great size, or with --small a small one, at which a slow build of the programs shows as much of the texts."""
+    return small if SMALL else size
+
+
+
+def asked(steps, candidates=256, conflicts=100_000, form=1):
+    return f"backspace {form}\nasked {steps} candidates {candidates} conflicts {conflicts}\n"
+
+
+def way_back(run, states, inputs, cycle, steps, stored, end="finished ID"):
+    """The steps of a backtrace of one candidate each along a run, from one of its cycles, and its trace: a report up to its log."""
+    text, last = [], max(0, cycle - steps)
+    for number, at in enumerate(range(cycle, last, -1), 1):
+        text += [f"step {number}", f"present {states[at]}", f"stored {stored(states[at - 1])}", f"cand {states[at - 1]} input {inputs[at - 1]}"]
+        text += [f"list {end}", f"hit {run} {at - 1} {states[at - 1]}"]
+    text += [f"stop {'length' if last else 'reset'}", f"trace {cycle - last}", f"state {states[last]}"]
+    for at in range(last, cycle):
+        text += [f"input {inputs[at]}", f"state {states[at + 1]}"]
+    return "\n".join(text) + "\n"
+
+
+LINKS = 22
+
+
+def long_chip():
+    """A shift register of 4,096 flip-flops with chains of 22 gates between them: 5 MB of text, 94,210 nets."""
+    text = ["module long(ck, a);\n  input ck, a;\n"]
+    turns = []
+    for stage in range(great(4_096, 12)):
+        before, turned = (f"q{stage - 1}" if stage else "a"), False
+        for link in range(LINKS):
+            is_not = (7 * stage + 3 * link) % 5 < 2
+            turned ^= is_not
+            after = f"s{stage:04}_link_of_the_chain_{link:02}"
+            text.append(f"  {'not' if is_not else 'buf'} ({after},{before});\n")
+            before = after
+        text.append(f"  dff f{stage}(ck,q{stage},{before});\n")
+        turns.append(turned)
+    return "".join(text) + "endmodule\n", turns
+
+
+def long_netlist(it):
+    """A netlist of 5 MB, 4,096 flip-flops, and lines of a report of more than 20,000 bytes."""
+    text, turns = long_chip()
+    assert len(text) > great(5 * MIB, 0)
+    it.write("long.v", text)
+    it.write("long.s", f"bit q{len(turns) - 1}\n")
+    draws = random.Random(55)
+    inputs = ["01"[draws.randrange(2)] for _ in range(6)]
+    states = ["0" * len(turns)]
+    for given in inputs:
+        before = given + states[-1][:-1]
+        states.append("".join("01"[(bit == "1") != turned] for bit, turned in zip(before, turns)))
+    it.write("long.t", "run long 6\n" + "\n".join(inputs) + "\nend\n")
+    four = ["long.v", "long.s", "long.t", "long.d"]
+    dump = f"state {states[6]}\nsig {states[5][-1]}\nend\n"
+    it.write("long.d", dump)
+    it.tried("backspace", ["dump", *four[:3], "1", "6"], 0, dump)
+    report = judged(it, ["run", *four], 0, asked(64) + way_back(1, states, inputs, 6, 64, lambda state: state[-1]), "")
+    same("a line of more than 20,000 bytes", "True", str(max(map(len, report.split("\n"))) > great(20_000, 0)))
+    chip, made = models.Netlist(text), models.Report(report)
+    it.write("long.r", report)
+    it.tried("backspace", ["wave", *four, "long.r"], 0, models.wave_text(chip, made))
+    it.tried("backspace_inspect", ["flops", "long.v"], 0, models.flops_text(chip))
+    it.tried("backspace_inspect", ["stats", "long.v"], 0, models.stats_text(chip))
+    it.tried("backspace_inspect", ["trace", "long.v", "long.r"], 0, models.trace_text(chip, made))
+    # a literal of the longest line is gone
+    lines = report.split("\n")
+    block = max(range(len(lines)), key=lambda at: len(lines[at]))
+    lines[block] = lines[block][:-2].rpartition(" ")[0] + " 0"
+    it.write("long.x", "\n".join(lines))
+    code, out, note = it.run("backspace", ["audit", *four, "long.x"])
+    same("a literal less in the longest line", "11 rejected ", f"{code} {out.decode()[:9]}")
+
+
+STAGES = 18
+BUSY = ["module busy(ck, x0, x1, x2);\n  input ck, x0, x1, x2;\n", f"  wire [16:0] c, dc;\n  wire [2:0] p, dp;\n"]
+BUSY += [f"  wire [{STAGES - 1}:0] s{k};\n" for k in range(3)]
+BUSY += ["  not (dc[0], c[0]);\n  xor (dc[1], c[1], c[0]);\n  buf (t1, c[0]);\n"]
+BUSY += [f"  and (t{i}, t{i - 1}, c[{i - 1}]);\n  xor (dc[{i}], c[{i}], t{i});\n" for i in range(2, 17)]
+BUSY += [f"  xor (dp[{k}], p[{k}], x{k});\n  dff (ck, p[{k}], dp[{k}]);\n" for k in range(3)]
+BUSY += [f"  dff (ck, c[{i}], dc[{i}]);\n" for i in range(17)]
+BUSY += [f"  dff (ck, s{k}[{i}], {f's{k}[{i - 1}]' if i else f'x{k}'});\n" for k in range(3) for i in range(STAGES)]
+BUSY = "".join(BUSY) + "endmodule\n"
+BITS = bytes(48 + (byte & 1) for byte in range(256))
+
+
+class Busy:
+    """A run of the netlist above, a cycle counter, three parities and three shift registers: its columns of input bits, and its states."""
+
+    def __init__(self, draws, cycles):
+        self.cycles = cycles
+        self.columns = [draws.randbytes(cycles).translate(BITS) for _ in range(3)]
+
+    def lines(self):
+        text = bytearray(b"000\n" * self.cycles)
+        for k in range(3):
+            text[k::4] = self.columns[k]
+        return text
+
+    def input(self, cycle):
+        return "".join(chr(column[cycle]) for column in self.columns)
+
+    def states(self, first, last):
+        """The states at these cycles, in the order of the flip-flops."""
+        ones = [column.count(b"1", 0, first) for column in self.columns]
+        for cycle in range(first, last + 1):
+            state = "".join("01"[count % 2] for count in ones) + f"{cycle:017b}"[::-1][:17]
+            for column in self.columns:
+                state += (column[max(0, cycle - STAGES) : cycle][::-1].decode()).ljust(STAGES, "0")
+            yield state
+            if cycle < self.cycles:
+                ones = [count + (column[cycle] == 49) for count, column in zip(ones, self.columns)]
+
+
+def stored_busy(state):
+    return "".join(state[20 + STAGES * k + STAGES - 1] for k in range(3))
+
+
+def way_of(it, runs, number, steps):
+    """The way back of so many steps from the end of a run of the stimulus `busy.t`: the report."""
+    run = runs[number - 1]
+    cycles, first = run.cycles, run.cycles - steps
+    states = dict(zip(range(first, cycles + 1), run.states(first, cycles)))
+    dump = f"state {states[cycles]}\nsig {stored_busy(states[cycles - 1])}\nend\n"
+    it.write("busy.d", dump)
+    it.tried("backspace", ["dump", "busy.v", "busy.s", "busy.t", str(number), str(cycles)], 0, dump)
+    inputs = {cycle: run.input(cycle) for cycle in range(first, cycles)}
+    wanted = asked(steps) + way_back(number, states, inputs, cycles, steps, stored_busy)
+    return judged(it, ["run", "busy.v", "busy.s", "busy.t", "busy.d", "--steps", str(steps)], 0, wanted, length_note(steps))
+
+
+def long_report(it):
+    """A report of 4,096 steps, and all that is told of it."""
+    draws, steps = random.Random(4_096), great(4_096, 20)
+    runs = [Busy(draws, great(65_536, 100)) for _ in range(3)]
+    it.write("busy.v", BUSY)
+    it.write("busy.s", "".join(f"bit s{k}[{STAGES - 1}]\n" for k in range(3)))
+    it.write("busy.t", (piece for run in runs for piece in (f"run r {run.cycles}\n", run.lines(), "end\n")))
+    report = way_of(it, runs, 3, steps)
+    it.write("busy.r", report)
+    chip, made = models.Netlist(BUSY), models.Report(report)
+    it.tried("backspace", ["wave", "busy.v", "busy.s", "busy.t", "busy.d", "busy.r"], 0, models.wave_text(chip, made))
+    it.tried("backspace_inspect", ["trace", "busy.v", "busy.r"], 0, models.trace_text(chip, made))
+    it.tried("backspace_inspect", ["trace", "busy.v", "busy.r", "--csv"], 0, models.trace_table(chip, made))
+    it.tried("backspace_inspect", ["steps", "busy.r"], 0, models.steps_text(made))
+    first = runs[2].cycles - steps
+    it.tried("backspace_inspect", ["wave", "busy.v", "busy.r", "--from", str(first)], 0, models.view_text(chip, made, first))
+
+
+def many_runs(it):
+    """A stimulus of 67,108,864 bytes, the most that one may have: 256 runs, most of 65,536 cycles."""
+    draws = random.Random(256)
+    last_run, cycles = great(256, 3), great(65_536, 100)
+    runs = [Busy(draws, great(60_000, 90))] + [Busy(draws, cycles) for _ in range(last_run - 1)]
+    it.write("busy.v", BUSY)
+    it.write("busy.s", "".join(f"bit s{k}[{STAGES - 1}]\n" for k in range(3)))
+    heads = [f"run r{number} {run.cycles}\n" for number, run in enumerate(runs, 1)]
+    size = lambda: sum(map(len, heads)) + sum(4 * run.cycles + 4 for run in runs)
+    # the first run is cut and the names are made longer until the size is that of the limit
+    most = great(67_108_864, size() - 100)
+    runs[0] = Busy(draws, runs[0].cycles - (size() - most) // 4 - 3)
+    heads[0] = f"run r1 {runs[0].cycles}\n"
+    heads[0] = heads[0].replace("r1", "r1" + "_" * (most - size()))
+    assert size() == most and len(heads[0]) < 80
+    it.write("busy.t", (piece for head, run in zip(heads, runs) for piece in (head, run.lines(), "end\n")))
+    four = ["busy.v", "busy.s", "busy.t", "busy.d"]
+    way_of(it, runs, last_run, great(16, 5))
+    for run, cycle in ((1, 1), (last_run - 1, great(12_345, 45))):
+        before, state = ([None] + list(runs[run - 1].states(max(0, cycle - 1), cycle)))[-2:]
+        wanted = f"state {state}\nsig {stored_busy(before) if cycle else 'none'}\nend\n"
+        it.tried("backspace", ["dump", *four[:3], str(run), str(cycle)], 0, wanted)
+    if SMALL:
+        return
+    # one byte more than a stimulus may have
+    with open(f"{it.room}/busy.t", "ab") as file:
+        file.write(b"\n")
+    note = said("busy.t: the file has more bytes than a stimulus may have: 67108864")
+    it.tried("backspace", ["run", *four], 8, "refused stimulus TooLong\n", note)
+    os.remove(f"{it.room}/busy.t")
+
+
+def proposals(it):
+    """A proposed signature over more states than are taken, and more than are compared."""
+    draws = random.Random(7)
+    runs = [Busy(draws, great(40_000, 40)) for _ in range(3)]
+    it.write("busy.v", BUSY)
+    it.write("small.t", (piece for run in runs for piece in (f"run r {run.cycles}\n", run.lines(), "end\n")))
+    chip = models.Netlist(BUSY)
+    states = [list(run.states(0, run.cycles)) for run in runs]
+    lost = [20 + STAGES * k + STAGES - 1 for k in range(3)]
+    # what a state has lost are the last bits of the shift registers: all others of the one before follow from it
+    predecessors = lambda run, cycle, flops: 2 ** (3 - len({*flops} & {*lost}))
+    it.tried("backspace_inspect", ["signature", "busy.v", "small.t", "--bits", "4"], 0, models.signature_text(chip, states, 4, predecessors))
+
+
+def wide_chip(it):
+    """Two stored signatures, 4,096 flip-flops and 4,095 inputs: lines of candidates with 16,403 bytes, and a cut list that has the recorded one."""
+    top = great(4_095, 30)
+    text = f"module wide(ck, x);\n  input ck;\n  input [0:{top - 1}] x;\n  wire [0:{top}] q;\n"
+    text += "".join(f"  dff (ck, q[{i}], x[{i}]);\n" for i in range(top)) + f"  dff (ck, q[{top}], q[0]);\nendmodule\n"
+    it.write("wide.v", text)
+    it.write("wide.s", f"cycles 2\nbit q[{top}]\n")
+    draws = random.Random(2)
+    inputs = [draws.randbytes(top).translate(BITS).decode() for _ in range(3)]
+    states = ["0" * (top + 1)]
+    for given in inputs:
+        states.append(given + states[-1][0])
+    it.write("wide.t", "run wide 3\n" + "\n".join(inputs) + "\nend\n")
+    dump = f"state {states[3]}\nsig {states[2][-1]}\nold {states[1][-1]}\nend\n"
+    it.write("wide.d", dump)
+    four = ["wide.v", "wide.s", "wide.t", "wide.d"]
+    it.tried("backspace", ["dump", *four[:3], "1", "3"], 0, dump)
+    code, out, note = it.run("backspace", ["run", *four, "--candidates", "1"])
+    report, lines = out.decode(), []
+    for line in without_ids(report).split("\n"):
+        words = line.split()
+        if words[:1] == ["cand"] and "from" in words:
+            # a state before the candidate, of the older signature: any, with the input that leads from it
+            before, given = words[5], words[7]
+            assert len(line) > great(16_384, 0)
+            same("the state before a candidate leads to it", words[1], given + before[0])
+            line = " ".join(words[:5] + [f"older {before[-1]}"])
+        lines.append(line)
+    text = ["backspace 2", "asked 64 candidates 1 conflicts 100000"]
+    for number, at in enumerate((3, 2, 1), 1):
+        text += [f"step {number}", f"present {states[at]}", f"stored {states[at - 1][-1]}", f"older {states[at - 2][-1] if at > 1 else 'none'}"]
+        text += [f"cand {states[at - 1]} input {inputs[at - 1]}" + (f" from older {states[at - 2][-1]}" if at > 1 else "")]
+        text += ["list candidates", f"hit 1 {at - 1} {states[at - 1]}"]
+    text += ["stop reset", "trace 3", f"state {states[0]}"]
+    for at in range(3):
+        text += [f"input {inputs[at]}", f"state {states[at + 1]}"]
+    same("a wide chip of two signatures", "\n".join(text) + "\n", "\n".join(lines))
+    same("a wide chip of two signatures: code and note", "0 ", f"{code} {note.decode()}")
+    it.write("wide.r", out)
+    it.tried("backspace", ["audit", *four, "wide.r"], 0, "accepted\n")
+
+
+def shift_register(flops):
+    return "module far(ck, a);\n  input ck, a;\n" + "".join(f"  dff (ck, q{i}, {f'q{i - 1}' if i else 'a'});\n" for i in range(flops)) + "endmodule\n"
+
+
+def far_states(it):
+    """A state that is reached in 1,024 cycles, and not in 1,023; a search that is too large."""
+    far = great(1_024, 20)
+    it.write("far.v", shift_register(far))
+    state = "0" * (far - 1) + "1"
+    code, out, note = it.run("backspace", ["reach", "far.v", state, str(far)])
+    lines = ["reach 1", f"asked {far} conflicts 100000", f"result reached {far}", "state " + "0" * far]
+    for cycle in range(far):
+        lines += [f"input {'0' if cycle else '1'}", "state " + "0" * cycle + "1" + "0" * (far - 1 - cycle)]
+    front, _, log = out.decode().partition("log ")
+    same(f"a state in {far} cycles", "\n".join(lines) + "\n", front)
+    finished(log, far - 1, far)
+    same(f"a state in {far} cycles: code and note", "0 ", f"{code} {note.decode()}")
+    code, out, note = it.run("backspace", ["reach", "far.v", state, str(far - 1)])
+    front, _, log = out.decode().partition("log ")
+    same("a state that is not reached", f"15 reach 1\nasked {far - 1} conflicts 100000\nresult unreached\n", f"{code} {front}")
+    finished(log, far - 1, far - 1)
+    if SMALL:
+        return
+    # one copy has the nets, a next variable for each flip-flop, and no helper
+    for flops in (2_047, 2_048):
+        it.write("large.v", shift_register(flops))
+        copy = 2 + flops + flops
+        if copy * 1_024 > 4_194_304:
+            sentence = f"the search is too large: this netlist takes so many variables for each cycle: {copy}"
+            note = said(sentence, "ask for fewer cycles: there may be 4194304 variables in all")
+            it.tried("backspace", ["reach", "large.v", "1" * flops, "1024"], 6, "refused netlist TooLarge\n", note)
+        else:
+            code, out, note = it.run("backspace", ["reach", "large.v", "0" * (flops - 1) + "1", "1024"])
+            front, _, log = out.decode().partition("log ")
+            same("the largest search", "15 reach 1\nasked 1024 conflicts 100000\nresult unreached\n", f"{code} {front}")
+            finished(log, 1_024, 1_024)
+
+
+def finished(log, refuted, steps):
+    """A log of so many steps, the first ones each with a finish line."""
+    lines = log.split("\n")
+    same("a log's number of lines", str(len(lines) - 3), lines[0])
+    same("a log's end", "end\n", "\n".join(lines[-2:]))
+    ends = [line[0] for line in lines if line[:1] in "er" and line[1:2] == " "]
+    same("a log's ends of steps", "er" * refuted + "r" * (steps - refuted), "".join(ends))
+
+
+def value_changes(it):
+    """A text of value changes with 100 MB and 65,536 edges of the clock, and one edge more."""
+    draws = random.Random(100)
+    edges, noisy = great(65_536, 60), great(1_400, 20)
+    run = Busy(draws, edges)
+    it.write("busy.v", BUSY)
+    it.write("busy.s", "".join(f"bit s{k}[{STAGES - 1}]\n" for k in range(3)))
+    head = "$timescale 1ns $end\n$scope module tb $end\n$var wire NOISY ~ noise [LAST:0] $end\n$scope module dut $end\n$var wire 1 ! ck $end\n"
+    head = head.replace("NOISY", str(noisy)).replace("LAST", str(noisy - 1))
+    head += "".join(f"$var wire 1 {chr(34 + k)} x{k} $end\n" for k in range(3)) + "$var reg 17 % c [16:0] $end\n$var reg 3 & p [2:0] $end\n"
+    head += "".join(f"$var reg {STAGES} {chr(39 + k)} s{k} [{STAGES - 1}:0] $end\n" for k in range(3)) + "$upscope $end\n$upscope $end\n$enddefinitions $end\n"
+    noise = draws.randbytes(noisy * 512).translate(BITS)
+
+    def pieces():
+        yield head
+        yield "#0\n0!\n"
+        for cycle, state in enumerate(run.states(0, edges)):
+            registers = f"b{state[3:20][::-1]} %\nb{state[:3][::-1]} &\n"
+            registers += "".join(f"b{state[20 + STAGES * k : 20 + STAGES * (k + 1)][::-1]} {chr(39 + k)}\n" for k in range(3))
+            if cycle:
+                yield f"#{10 * cycle}\n1!\n"
+            yield registers
+            at = cycle % 512 * noisy
+            yield b"b" + noise[at : at + noisy] + b" ~\n"
+            given = run.input(cycle) if cycle < edges else "000"
+            yield f"#{10 * cycle + 5}\n0!\n" + "".join(f"{bit}{chr(34 + k)}\n" for k, bit in enumerate(given))
+
+    it.write("busy.vcd", pieces())
+    assert os.path.getsize(f"{it.room}/busy.vcd") > great(100_000_000, 0)
+    wanted = f"run busy {edges}\n".encode() + bytes(run.lines()) + b"end\n"
+    it.tried("backspace_inspect", ["stimulus", "busy.v", "busy.vcd", "--clock", "ck", "--scope", "tb.dut"], 0, wanted)
+    for cycle in (0, 1, great(40_000, 40), edges):
+        before, state = ([None] + list(run.states(max(0, cycle - 1), cycle)))[-2:]
+        wanted = f"state {state}\nsig {stored_busy(before) if cycle else 'none'}\nend\n"
+        when = ["--cycle", str(cycle)] if cycle % 3 else ["--time", str(10 * cycle + 4)]
+        it.tried("backspace_inspect", ["dump", "busy.v", "busy.vcd", *when, "--scope", "tb.dut", "--signature", "busy.s"], 0, wanted)
+    if SMALL:
+        return
+    with open(f"{it.room}/busy.vcd", "ab") as file:
+        file.write(b"#700000\n1!\n")
+    note = said("busy.vcd: the clock rises more than 65536 times, the most cycles of a run", "is this the netlist's clock? dump a shorter time")
+    it.tried("backspace_inspect", ["stimulus", "busy.v", "busy.vcd", "--clock", "ck", "--scope", "tb.dut"], 16, "refused vcd TooManyCycles\n", note)
+    os.remove(f"{it.room}/busy.vcd")
+
+
+# ---- the companion, on the examples
+
+def companion_usages():
+    """How the words of each command of the companion stand, by the definition of what `help` writes."""
+    with open(f"{ROOT}/crates/bs_inspect_notes/specs/Usages.antt") as file:
+        return dict(re.findall(r'stands \(codes "(\w+)"\)\s*\(codes "usage: backspace_inspect ([^"]*)"\)', file.read()))
+
+
+COMPANION = companion_usages()
+STAND = (
+    "the words do not stand as this command takes them: its files in this order, and each option that it takes as often as it may stand; "
+    "--only takes every word up to the next option"
+)
+# by hand: the lane's own flip-flop stands before those of its counter, whose nets are joined to those of the top
+HIERARCHY = """0 \\l0.seen 0 \\full[0]
+1 \\at0[0] 0
+2 \\at0[1] 0
+3 \\at0[2] 0
+4 \\at0[3] 0
+5 \\l1.seen 0 \\full[1]
+6 \\at1[0] 0
+7 \\at1[1] 0
+8 \\at1[2] 0
+9 \\at1[3] 0
+"""
+
+
+def every_state(chip):
+    """A function that counts the predecessors of a moment by a look at every state and input."""
+    word = lambda count, number: f"{number:0{count}b}" if count else ""
+    inputs = [word(len(chip.inputs), number) for number in range(1 << len(chip.inputs))]
+    states = [word(len(chip.flops), number) for number in range(1 << len(chip.flops))]
+    behind = {state: {chip.step(state, given) for given in inputs} for state in states}
+
+    def counter(runs):
+        def predecessors(run, cycle, flops):
+            present, before = runs[run - 1][cycle], runs[run - 1][cycle - 1]
+            return sum(present in behind[state] and all(state[flop] == before[flop] for flop in flops) for state in states)
+
+        return predecessors
+
+    return counter
+
+
+def example_files(it):
+    """The files of the examples, and their texts by name."""
+    shutil.copytree(f"{ROOT}/examples", f"{it.room}/ex", dirs_exist_ok=True)
+    text = {}
+    for at, _, names in os.walk(f"{it.room}/ex"):
+        os.chmod(at, 0o755)
+        for name in names:
+            os.chmod(f"{at}/{name}", 0o644)
+            if not name.endswith(".png"):
+                with open(f"{at}/{name}") as file:
+                    text[f"{at[len(it.room) + 1 :]}/{name}"] = file.read()
+    return text
+
+
+SIMULATED = ["--clock", "ck", "--scope", "tb.dut"]
+
+
+def companion(it):
+    """Every request of the companion on the examples."""
+    tell = lambda words, code, out, note="": it.tried("backspace_inspect", words, code, out, note)
+    text = example_files(it)
+    for word in ("help", "-h", "--help"):
+        tell([word], 0, "".join(f"usage: backspace_inspect {usage}\n" for usage in COMPANION.values()))
+    for word in ("version", "-V", "--version"):
+        tell([word], 0, "backspace_inspect 1\n")
+    for name in ("yosys", "counter", "shift", "s27", "toggle"):
+        net, report = f"ex/{name}/netlist.v", f"ex/{name}/report.txt"
+        chip = models.Netlist(text[net])
+        tell(["flops", net], 0, models.flops_text(chip))
+        tell(["inputs", net], 0, models.inputs_text(chip))
+        tell(["stats", net], 0, models.stats_text(chip))
+        if name != "yosys":
+            stimulus = "ex/runs/stimulus.txt" if name == "counter" else f"ex/{name}/stimulus.txt"
+            runs = [models.states_of(chip, inputs) for inputs in models.runs_of(text[stimulus])]
+            for bits in (1, 2, 256):
+                tell(["signature", net, stimulus, "--bits", str(bits)], 0, models.signature_text(chip, runs, bits, every_state(chip)(runs)))
+        if report not in text:
+            continue
+        made = models.Report(text[report])
+        tell(["trace", net, report], 0, models.trace_text(chip, made))
+        tell(["trace", "--all", net, report], 0, models.trace_text(chip, made, True))
+        tell(["trace", net, report, "--csv"], 0, models.trace_table(chip, made))
+        tell(["steps", report], 0, models.steps_text(made))
+        tell(["steps", "--csv", report], 0, models.steps_table(made))
+        tell(["wave", net, report], 0, models.view_text(chip, made))
+        tell(["wave", net, report, "--all", "--from=77"], 0, models.view_text(chip, made, 77, True))
+        four = [f"ex/{name}/{file}.txt" for file in ("signature", "stimulus", "dump")]
+        it.tried("backspace", ["wave", net, *four, report], 0, models.wave_text(chip, made))
+        for run, inputs in enumerate(models.runs_of(text[four[1]]), 1):
+            for cycle in sorted({0, 1, len(inputs) // 2, len(inputs)}):
+                it.tried("backspace", ["dump", net, *four[:2], str(run), str(cycle)], 0, models.dump_of(chip, text[four[0]], inputs, cycle))
+    tell(["flops", "ex/hierarchy/netlist.v"], 0, HIERARCHY)
+    net, report, vcd = "ex/yosys/netlist.v", "ex/yosys/report.txt", "ex/yosys/sim.vcd"
+    chip, made = models.Netlist(text[net]), models.Report(text[report])
+    only = lambda *names: lambda signal: signal[0] in names
+    # nine and more words
+    names = "count head tail take first second seen place tick phase".split()
+    tell(["trace", net, report, "--only", *names], 0, models.trace_text(chip, made, only=only(*names)))
+    tell(["wave", net, report, "--from", "3", "--only", *names], 0, models.view_text(chip, made, 3, only=only(*names)))
+    row = lambda name, bits: "xor" + "".join(f" {name}[{bit}]" for bit in bits) + "\n"
+    wanted = row("count", range(2)) + "xor head\n" + row("first", range(4, 8)) + row("place", [1]) + "xor tail\n"
+    tell(["keys", net, "count", "head", "first[7:4]", "place[1]", "tail", "--", "count", "head", "first[7:4]", "place[1]", "tail"], 0, wanted * 2)
+    stored = text["ex/yosys/stimulus.txt"]
+    tell(["stimulus", net, vcd, *SIMULATED], 0, stored)
+    tell(["stimulus", net, *[vcd] * 256, *SIMULATED], 0, stored * 256)
+    signature = ["--signature", "ex/yosys/signature.txt"]
+    inputs = models.runs_of(stored)[0]
+    for cycle in (0, 1, 44, 88):
+        wanted = models.dump_of(chip, text["ex/yosys/signature.txt"], inputs, cycle)
+        tell(["dump", net, vcd, "--cycle", str(cycle), "--scope", "tb.dut", *signature], 0, wanted)
+        tell(["dump", net, vcd, "--cycle", str(cycle), "--clock", "ck", "--scope", "tb.dut"], 0, wanted[: wanted.index("sig")])
+    # the clock rises at 5, 15, 25 and so on
+    for time_, cycle in ((4, 0), (5, 1), (444, 44), (445, 45)):
+        wanted = models.dump_of(chip, text["ex/yosys/signature.txt"], inputs, cycle)
+        tell(["dump", net, vcd, "--time", str(time_), "--scope", "tb.dut", *signature], 0, wanted)
+    # names that are others in the simulation
+    it.write("renamed.vcd", text[vcd].replace(" line $end", " rxd $end").replace(" count [1:0]", " fill [1:0]"))
+    it.write("map.txt", "line rxd\n")
+    it.write("flops.txt", "count[1] fill[1]\ncount[0] fill[0]\n")
+    tell(["stimulus", net, "renamed.vcd", *SIMULATED, "--map", "map.txt"], 0, stored.replace("run sim", "run renamed"))
+    state = models.states_of(chip, inputs)[20]
+    tell(["dump", net, "renamed.vcd", "--cycle=20", "--scope=tb.dut", "--map=flops.txt"], 0, f"state {state}\n")
+    # a scan pattern whose order is the netlist's from behind
+    it.write("order.txt", "".join(key + "\n" for key in reversed(chip.flop_keys())))
+    tell(["unscan", net, "order.txt", state[::-1]], 0, f"state {state}\n")
+
+    data = said("the clock `line` is a data input of the netlist, and each of its rising edges was taken for a cycle", "the netlist's clock is `ck`")
+    tell(["stimulus", net, vcd, "--clock", "line", "--scope", "tb.dut"], 0, "run sim 6\n" + "00\n" * 6 + "end\n", data)
+
+
+def companion_refusals(it):
+    """What the companion refuses, on the examples."""
+    tell = lambda words, code, out, note="": it.tried("backspace_inspect", words, code, out, note)
+    text = example_files(it)
+    net, report, vcd = "ex/yosys/netlist.v", "ex/yosys/report.txt", "ex/yosys/sim.vcd"
+    chip = models.Netlist(text[net])
+    it.write("renamed.vcd", text[vcd].replace(" line $end", " rxd $end"))
+    it.write("order.txt", "".join(key + "\n" for key in chip.flop_keys()))
+    tell([], 2, "refused words\n", said("there are no words", HELP))
+    tell(["flop", net], 2, "refused words\n", said("word 1, `flop`, is no command; the nearest: `flops`", HELP))
+    tell(["trace", net, report, "--onyl", "q"], 2, "refused words\n", said("word 4, `--onyl`, is no option; the nearest: `--only`", f"usage: backspace_inspect {COMPANION['trace']}"))
+    for given in (["trace", net], ["flops", *[net] * 12], ["signature", net, "ex/yosys/stimulus.txt"], ["signature", net, "t", "--bits", "257"], ["stimulus", net, *[vcd] * 257, "--clock", "ck"]):
+        tell(given, 2, "refused words\n", said(STAND, f"usage: backspace_inspect {COMPANION[given[0]]}"))
+    near = "the nearest: `count[0]` `count[1]`"
+    tell(["trace", net, report, "--only", "head", "cuont"], 18, "refused name Unknown cuont\n", said(
+        f"no flip-flop, data input or vector of these has the name `cuont`; {near}",
+        "`flops` and `inputs` tell the keys, and `keys` the flip-flops that a wire shows; the name of a vector or memory names its bits"))
+    # nets stand in the order of the declaration, from the left bound on
+    tell(["keys", net, "cuont"], 18, "refused name NoNet cuont\n", said(
+        "no net or vector of nets has the name `cuont`; the nearest: `count[1]` `count[0]`",
+        "`flops` and `inputs` tell keys; the name of a vector without an index names its bits"))
+    scopes = "the scopes: `tb` `tb.dut` `tb.send` `tb.take_after`"
+    variables = "the variables there: `ck` `got` `line` `pop` `put` `take` `ready` `data` `at_middle` `count` `first` `head` `phase` `place` `second` `seen` .."
+    clock = f"{vcd}: no variable of one bit in the scope `tb.dut` is the clock `clk`; the nearest: `ck`"
+    tell(["stimulus", net, vcd, "--clock", "clk", "--scope", "tb.dut"], 16, "refused vcd NoClock\n", said(clock, scopes, variables))
+    tell(["stimulus", net, vcd, "--clock", "ck", "--scope", "tb/dut"], 16, "refused vcd NoClock\n", said(f"{vcd}: there is no scope `tb/dut`; the nearest: `tb.dut`", scopes))
+    late = said(f"{vcd}: so often does the clock rise: 89; there is no such cycle", "cycles count from 0, and each edge ends one; is this the netlist's clock?")
+    tell(["dump", net, vcd, "--cycle", "90", "--scope", "tb.dut"], 16, "refused vcd NoCycle 89\n", late)
+    hint = "the design's scope stands behind --scope; where names are others, a file of lines KEY NAME behind --map"
+    missing = "renamed.vcd: no variable in the clock's scope is the data input `line`, by the name `line`; the nearest: "
+    code, out, note = it.run("backspace_inspect", ["stimulus", net, "renamed.vcd", *SIMULATED])
+    same("a data input that is not there", "16 refused vcd NoInput line\nnote: " + missing, f"{code} {out.decode()}{note.decode()[: 6 + len(missing)]}")
+    same("a data input that is not there: what to do", said(hint), note.decode()[-7 - len(hint) :])
+    for given, sentence in (
+        (b"\x1f\x8b\x08", "this is compressed by gzip: unpack it first, as by `gzip -dc FILE > FILE.vcd`"),
+        (b"\0\0\0\0\0\0\0\1I\0", "this is an FST and no VCD: convert it first, as by `fst2vcd FILE > FILE.vcd`"),
+        (b"run a 1\n", "this is no VCD: its first word does not begin with `$`"),
+    ):
+        it.write("other.vcd", given)
+        code, out, note = it.run("backspace_inspect", ["stimulus", net, "other.vcd", *SIMULATED])
+        same("a file that is no VCD", f"16 refused vcd note: other.vcd: {sentence}", f"{code} {out.decode()[:12]}{note.decode()[: 17 + len(sentence)]}")
+    it.write("other.vcd", text[vcd][: text[vcd].index("$enddefinitions")])
+    ended = said("other.vcd: the text ends in its declarations, in a comment or behind a value", "was it cut short? `$enddefinitions $end` stands before the first time")
+    tell(["stimulus", net, "other.vcd", *SIMULATED], 16, "refused vcd Ended\n", ended)
+    it.write("other.vcd", text[vcd].replace("#15\n0$", "#15\nx$"))
+    unknown = said("other.vcd: the data input `line` is neither 0 nor 1 before the rising edge at time 25", "drive each data input before the clock rises first, or begin to dump behind that")
+    tell(["stimulus", net, "other.vcd", *SIMULATED], 16, "refused vcd Unknown line 25\n", unknown)
+    for lines, why, at, sentence, label in (
+        ("line rxd\r\n", "Line 1", 0, "a carriage return: lines end with a line feed alone", "take the carriage returns out, as by `tr -d '\\r'`"),
+        ("take take\nlnie rxd\n", "Unknown 2", 10, "no data input has the key `lnie`; the nearest: `line`", "`inputs` tells the keys"),
+        ("line rxd\nline rxd\n", "Twice 2", 9, "the key of this line has a line already", "take one of them out"),
+    ):
+        it.write("map.txt", lines)
+        tell(["stimulus", net, "renamed.vcd", *SIMULATED, "--map", "map.txt"], 17, f"refused map {why}\n", at_place("map.txt", lines, at, sentence, label))
+    tell(["trace", net, "ex/shift/report.txt"], 10, "refused report TraceState 0\n", said(
+        "ex/shift/report.txt: state 0 of the trace has not one bit for each flip-flop of the netlist", "is it the report of this very netlist?"))
+    code, out, note = it.run("backspace_inspect", ["unscan", net, "order.txt", "01x"])
+    same("a scan pattern with another character", "9 refused state Bits\n", f"{code} {out.decode()}")
+    code, out, note = it.run("backspace_inspect", ["unscan", net, "order.txt", "010"])
+    same("a scan pattern of another width", "9 refused state Width 3\n", f"{code} {out.decode()}")
+    it.write("order.txt", "".join(key + "\n" for key in chip.flop_keys()[:-1]))
+    code, out, note = it.run("backspace_inspect", ["unscan", net, "order.txt", "0" * len(chip.flops)])
+    same("an order that lacks a flip-flop", f"17 refused map Missing {len(chip.flops) - 1}\n", f"{code} {out.decode()}")
+
+
+# ---- limits
+
+
+def memory(it):
+    """Memory that runs out: 14, nothing is written, and the note says so."""
+    base_files(it)
+
+    def limited():
+        resource.setrlimit(resource.RLIMIT_AS, (48 * MIB, 48 * MIB))
+
+    it.write("great.txt", [b"run a 65536\n", *[b"1\n" * 65_536] * 500])
+    it.tried("backspace", ["run", "n.v", "s.txt", "great.txt", "d.txt"], 14, "", NO_MEMORY, preexec_fn=limited)
+    it.tried("backspace_inspect", ["signature", "n.v", "great.txt", "--bits", "1"], 14, "", INSPECT_NO_MEMORY, preexec_fn=limited)
+
+
+def limits(it):
+    """Files of as many bytes as they may have, and of one more."""
+    report = base_files(it)
+    long = lambda name, kind, most: said(f"{name}: the file has more bytes than a {kind} may have: {most}")
+    # a netlist whose text stands at its very end
+    for size in (16 * MIB, 16 * MIB + 1):
+        it.write("x.v", " " * (size - len(NETLIST)) + NETLIST)
+        if size > 16 * MIB:
+            it.tried("backspace", ["run", "x.v", *FOUR[1:]], 6, "refused netlist TooLong\n", long("x.v", "netlist", 16_777_216))
+            it.tried("backspace_inspect", ["flops", "x.v"], 6, "refused netlist TooLong\n", long("x.v", "netlist", 16_777_216))
+        else:
+            it.tried("backspace", ["run", "x.v", *FOUR[1:]], 0, report_of(it))
+            it.tried("backspace_inspect", ["flops", "x.v"], 0, "0 q0 0\n1 q1 0\n")
+    # a signature of one item, with q1 and q0 each an odd number of times: the parity of the two
+    line = "xor" + " q1" * 349_523 + " q0\n"
+    assert len(line) == MIB
+    it.write("x.txt", line)
+    it.write("xd.txt", "state 11\nsig 0\nend\n")
+    it.tried("backspace", ["dump", "n.v", "x.txt", "t.txt", "1", "3"], 0, "state 11\nsig 0\nend\n")
+    it.tried("backspace", ["dump", "n.v", "x.txt", "t.txt", "1", "2"], 0, "state 11\nsig 1\nend\n")
+    wanted = asked(64) + STEPS.replace("stored 0", "stored ?").replace("stored 1", "stored 0", 1).replace("stored ?", "stored 1", 1).replace("stored ?", "stored 0")
+    judged(it, ["run", "n.v", "x.txt", "t.txt", "xd.txt"], 0, wanted, "")
+    it.write("x.txt", line + "\n")
+    it.tried("backspace", ["run", "n.v", "x.txt", "t.txt", "xd.txt"], 7, "refused signature TooLong\n", long("x.txt", "signature", MIB))
+    it.write("x.txt", "bit q1\n" * 256)
+    it.tried("backspace", ["dump", "n.v", "x.txt", "t.txt", "1", "3"], 0, f"state 11\nsig {'1' * 256}\nend\n")
+    it.write("x.txt", "x" * MIB)
+    note = at_place("x.txt", "x" * MIB, 0, "the first line of a dump is `state BITS`", "a bit for each flip-flop, in the order of the netlist")
+    it.tried("backspace", ["run", *FOUR[:3], "x.txt"], 9, "refused dump Line 1\n", note)
+    form = said("x.txt:1:1: a line is `KEY NAME`, two words with one space between") + "x" * 160 + "\n^ a key of the netlist, and its name in the simulation\n"
+    it.write("a.vcd", "$var wire 1 ! ck $end $var wire 1 % a $end $enddefinitions $end #0 0! 0% #5 1!\n")
+    it.tried("backspace_inspect", ["stimulus", "n.v", "a.vcd", "--clock", "ck"], 0, "run a 1\n0\nend\n")
+    it.tried("backspace_inspect", ["stimulus", "n.v", "a.vcd", "--clock", "ck", "--map", "x.txt"], 17, "refused map Line 1\n", form)
+    it.write("x.txt", "x" * (MIB + 1))
+    it.tried("backspace", ["run", *FOUR[:3], "x.txt"], 9, "refused dump TooLong\n", long("x.txt", "dump", MIB))
+    it.tried("backspace_inspect", ["stimulus", "n.v", "a.vcd", "--clock", "ck", "--map", "x.txt"], 17, "refused map TooLong\n", long("x.txt", "map", MIB))
+    # a report, and value changes, of 512 MiB: bytes 0 that take no room on the disk
+    for size in (512 * MIB, 512 * MIB + 1):
+        it.write("great.txt", "")
+        os.truncate(f"{it.room}/great.txt", size)
+        it.write("great.vcd", "$comment ")
+        os.truncate(f"{it.room}/great.vcd", size)
+        if size > 512 * MIB:
+            it.tried("backspace", ["audit", *FOUR, "great.txt"], 10, "refused report TooLong\n", long("great.txt", "report", size - 1))
+            it.tried("backspace_inspect", ["stimulus", "n.v", "great.vcd", "--clock", "ck"], 16, "refused vcd TooLong\n", long("great.vcd", "vcd", size - 1))
+        else:
+            short = f"note: great.txt:1:{size + 1}: the text ends before the line `end` of a report is whole\n"
+            short += "\\x00" * 160 + "\n" + " " * 640 + "^ was the report cut short, as by a full disk?\n"
+            it.tried("backspace", ["audit", *FOUR, "great.txt"], 10, "refused report Short\n", short)
+            ended = said("great.vcd: the text ends in its declarations, in a comment or behind a value", "was it cut short? `$enddefinitions $end` stands before the first time")
+            it.tried("backspace_inspect", ["stimulus", "n.v", "great.vcd", "--clock", "ck"], 16, "refused vcd Ended\n", ended)
+    os.remove(f"{it.room}/great.txt")
+    os.remove(f"{it.room}/great.vcd")
+
+
+def counts(it):
+    """As many nets, flip-flops, input port bits, inputs of a gate and values of a waveform as there may be, and one more; the greatest bound."""
+    count = lambda what, most, number: said(f"x.v: at most {most} {what} are taken, and there are {number}")
+    nets = lambda more: NETLIST.replace("  dff f0", f"  wire [65535:0] v; wire [{99_996 - 65_536 - 1 + more}:0] w;\n  dff f0")
+    flops = lambda number: "module m(ck, a); input ck, a;\n" + "".join(f"dff (ck, q{i}, a);\n" for i in range(number)) + "endmodule\n"
+    inputs = lambda number: f"module m(ck, a); input ck; input [{number - 2}:0] a; dff f(ck, q, a[0]); endmodule\n"
+    terms = lambda number: NETLIST.replace("  dff f1", f"  and g(z{', a' * number});\n  dff f1")
+    bound = lambda number: NETLIST.replace("  dff f0", f"  wire [{number}:{number}] v;\n  dff f0")
+    for text, code, out, note in (
+        (nets(0), 0, "0 a\n", ""),
+        (nets(1), 6, "refused netlist TooManyNets {}\n", ("q1, q0", "there are more than 100000 nets", "split the netlist")),
+        (flops(4_096), 0, "0 a\n", ""),
+        (flops(4_097), 6, "refused netlist TooMany Flops 4097\n", count("flip-flops", 4_096, 4_097)),
+        (inputs(4_096), 0, "".join(f"{4_094 - i} a[{i}]\n" for i in range(4_094, -1, -1)), ""),
+        (inputs(4_097), 6, "refused netlist TooMany Inputs 4097\n", count("input port bits", 4_096, 4_097)),
+        (terms(64), 0, "0 a\n", ""),
+        (terms(65), 6, "refused netlist TooMany Terminals 65\n", said("x.v: a gate has at most 64 inputs, and one has 65")),
+        (bound(65_535), 0, "0 a\n", ""),
+        (bound(65_536), 6, "refused netlist Index {}\n", ("[65536", "this index is none of the vector's, or a bound is above 65535", "compare it with the declaration")),
+    ):
+        it.write("x.v", text)
+        if isinstance(note, tuple):
+            at = text.index(note[0])
+            out, note = out.format(at), at_place("x.v", text, at, *note[1:])
+        it.tried("backspace_inspect", ["inputs", "x.v"], code, out, note)
+    # a waveform of 1,024 nets at 65,536 states, and of one net more
+    for nets in (1_024, 1_025):
+        if SMALL:
+            break
+        it.write("x.v", NETLIST.replace("  dff f0", f"  wire [{nets - 5}:0] v;\n  dff f0"))
+        it.write("x.txt", asked(1) + "stop length\ntrace 65535\nstate 00\n" + "input 0\nstate 00\n" * 65_535 + "log 0\nend\n")
+        drawn = ["$timescale 1ns $end", *(f"$comment {at} state none $end" for at in range(65_535)), "$comment 65535 state dump $end"]
+        drawn += ["$scope module trace $end", "$var wire 1 ! q1 $end", "$upscope $end", "$enddefinitions $end", "#0", "0!", *(f"#{at}" for at in range(1, 65_536))]
+        large = said("x.txt: the waveform of this trace has too many values, one for each net at each state: draw a shorter trace")
+        answer = (0, "\n".join(drawn) + "\n", "") if nets == 1_024 else (10, "refused report TooLarge\n", large)
+        it.tried("backspace_inspect", ["wave", "x.v", "x.txt", "--only", "q1"], *answer)
+
+
+def searches(it):
+    """As many states as a search for a recorded moment may ask about, and one more; as many members as a list of the companion counts."""
+    # each bit is the product of two inputs, so that any state may follow and no state is passed over; u asks for w before it
+    text = "module ask(ck, x, y);\n  input ck;\n  input [13:0] x, y;\n  wire [13:0] q, d;\n"
+    text += "".join(f"  and (d[{i}], x[{i}], y[{i}]{', q[1]' if i == 0 else ''});\n  dff (ck, q[{i}], d[{i}]);\n" for i in range(14)) + "endmodule\n"
+    it.write("ask.v", text)
+    it.write("ask.s", "bit q[2]\n")
+    four = ["ask.v", "ask.s", "ask.t", "ask.d"]
+    # the input bits stand from x[13] on; d is 1 where both are
+    given = lambda state: (state[::-1]) * 2
+    state = lambda u, w, t, number: f"{u}{w}{t}{number:011b}"
+    present = "1" + "1" * 13
+    for asks in (great(1_000, 5), 1_001)[: 1 if SMALL else 2]:
+        states = ["0" * 14] + [state(0, 0, 1, number) for number in range(1, asks)] + [state(0, 1, 1, asks)]
+        it.write("ask.t", f"run ask {len(states) - 1}\n" + "".join(given(it_) + "\n" for it_ in states[1:]) + "end\n")
+        it.write("ask.d", f"state {present}\nsig 1\nend\n")
+        code, out, note = it.run("backspace", ["run", *four, "--candidates", "1", "--steps", "1"])
+        lines = without_ids(out.decode()).split("\n")
+        if asks <= 1_000:
+            wanted = f"cand {states[-1]} input {'1' * 28}|list candidates|hit 1 {asks} {states[-1]}|stop length"
+            same("a search that asks about 1,000 states", f"0 {wanted}", f"{code} " + "|".join(lines[5:9]))
+        else:
+            same("a search that would ask about 1,001", "5 list candidates|nohit|stop candidates", f"{code} " + "|".join(lines[6:9]))
+            cut_search = "the list was cut, and no recorded moment leads to the state in one cycle, or the search for one was cut, in step 1"
+            same("a search that would ask about 1,001: note", said(cut_search), note.decode()[: 7 + len(cut_search)])
+    # ten bits are lost at each cycle: of one bit as signature 512 predecessors, of two 256
+    lost = great(10, 3)
+    text = f"module lost(ck, x);\n  input ck;\n  input [{lost - 1}:0] x;\n  wire [{lost - 1}:0] q;\n" + "".join(f"  dff (ck, q[{i}], x[{i}]);\n" for i in range(lost)) + "endmodule\n"
+    it.write("lost.v", text)
+    draws = random.Random(10)
+    inputs = [f"{draws.randrange(1 << lost):0{lost}b}" for _ in range(great(100, 10))]
+    it.write("lost.t", f"run lost {len(inputs)}\n" + "\n".join(inputs) + "\nend\n")
+    chip = models.Netlist(text)
+    states = [models.states_of(chip, inputs)]
+    for bits in (1, 2, 3):
+        predecessors = lambda run, cycle, flops: 2 ** (lost - len(flops))
+        it.tried("backspace_inspect", ["signature", "lost.v", "lost.t", "--bits", str(bits)], 0, models.signature_text(chip, states, bits, predecessors))
+
+
+GROUPS = [examples, words, codes, refusals, files, outputs, long_netlist, long_report, many_runs, proposals, wide_chip, far_states, value_changes, companion, companion_refusals, memory, limits, counts, searches]
+
+
+def main():
+    global SMALL
+    words, only = sys.argv[1:], []
+    while words[:1] in (["--only"], ["--small"]):
+        if words[0] == "--small":
+            SMALL, words = True, words[1:]
+        else:
+            only, words = [*only, words[1]], words[2:]
+    paths = words
+    if not paths:
+        paths = [f"{ROOT}/crates/{name}/out/{name}" for name in ("backspace", "backspace_inspect")]
+        for path in paths:
+            if not os.path.exists(path):
+                subprocess.run(["rt", "run", "--", "demo", "1"], cwd=os.path.dirname(os.path.dirname(path)), stdout=subprocess.DEVNULL)
+    room = tempfile.mkdtemp(prefix="programs-")
+    started = time.monotonic()
+    try:
+        it = Programs(paths, room)
+        for group in GROUPS:
+            if not only or group.__name__ in only:
+                before, count = time.monotonic(), it.count
+                group(it)
+                print(f"{group.__name__}: {it.count - count} runs, {time.monotonic() - before:.1f} s", flush=True)
+    except Different as difference:
+        print(difference)
+        return 1
+    finally:
+        for at, folders, _ in os.walk(room):
+            os.chmod(at, 0o755)
+        shutil.rmtree(room, ignore_errors=True)
+    print(f"{it.count} runs are as they should be, {time.monotonic() - started:.0f} s")
+    return 0
+
+
+if __name__ == "__main__":
+    sys.exit(main())
