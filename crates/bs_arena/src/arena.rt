@@ -50,7 +50,7 @@ impl Arena {
         }
     }
 
-    /// Makes room for this many more words. It answers want of memory also where there would be more than `WORD_LIMIT`.
+    /// Makes room for this many more words. It answers out of memory also where there would be more than `WORD_LIMIT`.
     pub fn reserve(&mut self, words: usize) -> Result<(), NoMemory>
         ensures room { OnOk result (words ≤ self.new.spare) }
         ensures kept { self.old.spare ≤ self.new.spare }
@@ -91,7 +91,7 @@ impl Arena {
         self.count
     }
 
-    /// Appends a clause, which takes four words and one for each literal. It answers want of memory also where there
+    /// Appends a clause, which takes four words and one for each literal. It answers out of memory also where there
     /// would be more than `WORD_LIMIT` words.
     pub fn add(&mut self, id: u64, lits: &[Lit]) -> Result<Ref, NoMemory>
         ensures clauses { IfOk result (λ r. self.new.clauses ≡ self.old.clauses ++ record { ref = r; id = id; literals = lits.now } ∷ []) }

@@ -1,7 +1,7 @@
 //! Lists of bits and of any type that contracts see as lists, and the lines, words and numbers of a text.
 //!
 //! Modules: `bits` and `bit_text` (bits as a list, their text both ways), `list` (`List<T>`),
-//! `memory` (`NoMemory`, the one want of memory), `lines`, `words`, `numbers` (what all line texts
+//! `memory` (`NoMemory`, the one answer for out of memory), `lines`, `words`, `numbers` (what all line texts
 //! are read by), `writing` (pieces that are appended, cut back where memory runs out). Used above:
 //! a `Bits` is a list of 0 and 1; `Answers` and the step of `specs/Reading`, in whose words every
 //! reader's contract is written. To change the text of bits open `bit_text` and `specs/Text`; a

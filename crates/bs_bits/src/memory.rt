@@ -1,7 +1,7 @@
-//! Want of memory, which is merged with no other answer.
+//! Out of memory, which is merged with no other answer.
 use std::alloc::{AllocError, AllocFailed};
 
-/// Want of memory.
+/// Out of memory.
 #[derive(Clone, Copy, Debug, PartialEq, Eq)]
 pub struct NoMemory;
 

@@ -10,7 +10,7 @@ use std::alloc::{AllocError, AllocFailed};
 pub enum Fault {
     /// The first term or pin that does not go with its port.
     At(u32),
-    /// Want of memory.
+    /// Out of memory.
     NoMemory,
 }
 

@@ -1,9 +1,9 @@
-//! That no text leads to a count for which a reader of designs answers want of memory.
+//! That no text leads to a count for which a reader of designs answers out of memory.
 //!
 //! Laws alone, in `law`; nothing runs, and nothing stands on them. `specs/Texts` (numbers and
 //! connections that are read from the lexemes of a text), `specs/Modules` (what a module has that
 //! was read), `specs/Designs` (paths and nets of a design within the limits). Readers number by
-//! fewer bytes than a count may have, and what is past these is want of memory to them: by these
+//! fewer bytes than a count may have, and what is past these is out of memory to them: by these
 //! laws none comes there with a text of at most `MAX_BYTES`.
 #![tactic(auto)]
 

@@ -53,7 +53,7 @@ fn key_of(
     Ok(key)
 }
 
-/// The first key of a flat net that stands again later: the keys are read from the last one on. None is want of memory, and is
+/// The first key of a flat net that stands again later: the keys are read from the last one on. None is answered as out of memory, and is
 /// not met where a key was met again.
 pub fn first_clash(
     alloc: Global,

@@ -100,7 +100,7 @@ fn push_first(all: &mut List<Const>, constant: Const, repeat: bool) -> Result<()
     Ok(())
 }
 
-/// Adds the flat constant of one on a node's path, if that is no repeat. A net that the block has not is want of memory, and
+/// Adds the flat constant of one on a node's path, if that is no repeat. A net that the block has not is answered as out of memory, and
 /// no design has one.
 fn add_const(
     blocks: &[FlatModule],

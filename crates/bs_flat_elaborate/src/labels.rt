@@ -52,7 +52,7 @@ fn renew(
     Ok(())
 }
 
-/// The key of a flat net. A net that is not there is want of memory, and no numbering has one.
+/// The key of a flat net. A net that is not there is answered as out of memory, and no numbering has one.
 pub fn next_key(
     alloc: Global,
     blocks: &[FlatModule],

@@ -11,7 +11,7 @@ use bs_flat_nets::{FlatModule, Numbering, flat_net};
 use bs_net::{NetId, Terms};
 use std::alloc::Global;
 
-/// The number of the flat net that stands for a net on a node's path. That none does is want of memory, and is never met.
+/// The number of the flat net that stands for a net on a node's path. That none does is answered as out of memory, and is never met.
 pub fn net_of(
     blocks: &[FlatModule],
     nodes: &[Node],

@@ -30,6 +30,6 @@ pub enum FlatFault {
     NameClash(List<u8>),
     /// More than `MAX_TERMINALS` inputs of gates, constants and ports of the top together.
     FlatTerminals,
-    /// Want of memory.
+    /// Out of memory.
     NoMemory,
 }

@@ -22,7 +22,7 @@ pub struct Node {
 }
 
 /// Adds the paths below the node with a number, of at most so many levels more: each instance in file order, and after it all
-/// below it. More paths than `MAX_PATHS` are want of memory.
+/// below it. More paths than `MAX_PATHS` are answered as out of memory.
 pub fn add_below(
     modules: &[Instanced],
     nodes: &mut List<Node>,

@@ -17,7 +17,7 @@ use Rattle.bs_flat_modules.specs.Dealing.{IsDealt}
 use Rattle.bs_flat_modules.specs.Names.{rises, begin, all_apart}
 use Rattle.bs_flat_modules.specs.Owns.{module_and_parts, owns, all_written}
 
--- a refusal of a module's own text, or of an instance statement; want of memory is always the text's
+-- a refusal of a module's own text, or of an instance statement; out of memory is always the text's
 abbrev pub fault_of : VerilogFault → FlatFault
 fault_of out_of_memory = NoMemory
 fault_of fault = Verilog fault

@@ -38,7 +38,7 @@ fn is_numbered(sort: Sort, number: u32) -> bool
     }
 }
 
-/// A lexeme once more. One that no text of 16 MiB has is want of memory.
+/// A lexeme once more. One that no text of 16 MiB has is answered as out of memory.
 fn copied(lexeme: &Lexeme) -> Result<Lexeme, NoMemory>
     ensures { IfOk result (λ l. l ≡ lexeme.now) }
 {

@@ -32,7 +32,7 @@ fn twice_of(fault: VerilogFault) -> FlatFault
     }
 }
 
-/// The text dealt out. Places that do not rise, which no text has, are want of memory.
+/// The text dealt out. Places that do not rise, which no text has, are answered as out of memory.
 fn dealt_out(alloc: Global, ts: &[Lexeme]) -> Result<Dealt, VerilogFault>
     ensures { MatchResult result (λ d. spec.IsDealtOut ts.now d) (λ fault. fault ≡ out_of_memory) }
 {

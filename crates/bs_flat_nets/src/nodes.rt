@@ -33,7 +33,7 @@ fn shapes(alloc: Global, blocks: &[FlatModule]) -> Result<List<Instanced>, NoMem
     Ok(all)
 }
 
-/// The paths of the design as nodes, in the order of the design. More than `MAX_PATHS` are want of memory.
+/// The paths of the design as nodes, in the order of the design. More than `MAX_PATHS` are answered as out of memory.
 pub fn path_nodes(alloc: Global, blocks: &[FlatModule], top: u32) -> Result<List<Node>, NoMemory>
     requires top { top < length blocks.now }
     requires there { AreThere blocks.now }

@@ -88,7 +88,7 @@ fn are_narrow(below: &[List<u32>]) -> bool
 
 /// An order of modules in which each stands after those that it instances; or a ring of them. For each module `below` has the
 /// modules that it instances, in file order. It takes time linear in the instances. More than `MOST`
-/// instances of one, as in no text, are want of memory.
+/// instances of one, as in no text, are answered as out of memory.
 pub fn module_levels(alloc: Global, below: &[List<u32>]) -> Result<Levels, NoMemory>
     requires few { length below.now < 2 ^ 32 }
     requires there { All (λ ns. All (λ n. n < length below.now) ns) below.now }

@@ -15,7 +15,7 @@ fn place_at(table: &[Option<u32>], id: u32) -> Option<u32>
     if id < table.len() { table[id] } else { None }
 }
 
-/// The modules of some instances, by a table of places. A name without a place is want of memory.
+/// The modules of some instances, by a table of places. A name without a place is answered as out of memory.
 fn numbers(alloc: Global, table: &[Option<u32>], written: &[Written]) -> Result<List<u32>, NoMemory>
     ensures { IfOk result (λ ns. map Some ns ≡ map (spec.looked_up table.now) written.now) }
 {
@@ -46,7 +46,7 @@ fn all_numbers(
 }
 
 /// For each module the numbers of the modules that it instances, in file order: `ids` has the number of each module's name, and
-/// `written` the instances that each writes. That one is of no module, as in no text, is want of memory.
+/// `written` the instances that each writes. That one is of no module, as in no text, is answered as out of memory.
 pub fn module_numbers(
     alloc: Global,
     ids: &[Option<u32>],

@@ -57,7 +57,7 @@ impl Keys {
         }
     }
 
-    /// Puts a key at the end where it is not there yet. A key more than 2^32 - 1 is want of memory.
+    /// Puts a key at the end where it is not there yet. A key more than 2^32 - 1 is answered as out of memory.
     pub fn add(&mut self, alloc: Global, key: &str) -> Result<(), NoMemory>
         ensures { OnOk result (self.new ≡ with_key self.old key.now) }
     {
@@ -68,7 +68,7 @@ impl Keys {
         Ok(())
     }
 
-    /// Puts a new key at the end. That it is there, as none in a list of names, is want of memory.
+    /// Puts a new key at the end. That it is there, as none in a list of names, is answered as out of memory.
     pub fn push(&mut self, alloc: Global, key: &str) -> Result<(), NoMemory>
         ensures { OnOk result (self.new ≡ self.old ++ key.now ∷ []) }
     {

@@ -45,7 +45,7 @@ impl Ports {
         self.ids.get_index_of(&id)
     }
 
-    /// Adds a port, whose name has no port yet. That it has one, as in no text, is want of memory.
+    /// Adds a port, whose name has no port yet. That it has one, as in no text, is answered as out of memory.
     fn add(&mut self, id: u32, port: Port) -> Result<(), NoMemory>
         ensures ids { OnOk result (self.new.ids.keys ≡ self.old.ids.keys ++ id ∷ []) }
         ensures ports { OnOk result (self.new.ports ≡ self.old.ports ++ port ∷ []) }
@@ -70,7 +70,7 @@ fn is_output(says: Option<Says>) -> bool
     }
 }
 
-/// The port of a name, whose bits begin here. A net more than 2^32 - 1, as in no text, is want of memory.
+/// The port of a name, whose bits begin here. A net more than 2^32 - 1, as in no text, is answered as out of memory.
 fn port_from(scope: &Scope, name: Name, first: u32) -> Result<Port, NoMemory>
     ensures port { IfOk result (λ p. p ≡ spec.port_from (looked scope.now) first name) }
     ensures few { IfOk result (λ p. p.first + p.width ≤ 4294967295) }

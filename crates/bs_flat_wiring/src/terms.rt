@@ -21,7 +21,7 @@ pub struct Stretch {
     pub width: usize,
 }
 
-/// The net of a key. A key that is not there, as no text has one, is want of memory.
+/// The net of a key. A key that is not there, as no text has one, is answered as out of memory.
 fn key_net(keys: &Keys, key: &str) -> Result<Option<Stretch>, NoMemory>
     ensures { IfOk result (λ s. spec.AreNets keys.now (Some (key.now ∷ [])) s) }
 {
@@ -74,7 +74,7 @@ fn indexed_net(
     }
 }
 
-/// The nets of a declared name. That they do not stand side by side, as in no text, is want of memory.
+/// The nets of a declared name. That they do not stand side by side, as in no text, is answered as out of memory.
 fn whole_nets(range: Option<Range>, span: Option<u32>) -> Result<Option<Stretch>, NoMemory>
     ensures { IfOk result (λ s. spec.IsStretch range span s) }
 {

@@ -118,12 +118,12 @@ pub fn inspect_noted<S: Shelf, K: Sink, N: Sink>(
         (planned (map string_bytes words.now)) (K.written out.old) (K.written out.new) status) }
 
     // Call by call: each file is asked for once, in its order, up to the one that stops it, and then each line of the text is put,
-    // up to and with one whose put fails; after want of memory none is put.
+    // up to and with one whose put fails; once memory ran out none is put.
     ensures calls { IfOk result (λ status. CallByCall CheckSays finishes S.leads shelf.old shelf.new K.leads out.old out.new
         (planned (map string_bytes words.now)) status) }
     ensures calls_wanting { OnErr result (CallsWanting S.leads shelf.old shelf.new out.old out.new (planned (map string_bytes words.now))) }
 
-    // After want of memory nothing was written, and no fault of the sink was counted.
+    // Once memory ran out, nothing was written, and no fault of the sink was counted.
     ensures no_memory { OnErr result (Keeps (K.written out.old) (K.written out.new) × (K.faults out.new ≡ K.faults out.old)) }
 
     // What is said: nothing on work that is done, and else exactly one put, of a note on this answer, and on a file about the very

@@ -13,7 +13,7 @@ use bs_top_files::worded;
 use bs_top_plan::Refusal;
 use std::alloc::Global;
 
-/// The refusal with these words; want of memory stays that.
+/// The refusal with these words; out of memory stays that.
 fn refusal(words: Result<Vec<u8>, NoMemory>) -> Refusal
     ensures why { IfOk words (λ why. HasWords why.items result) }
     ensures want { IfErr words (λ _. result ≡ Want) }

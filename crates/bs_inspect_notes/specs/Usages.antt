@@ -109,6 +109,6 @@ words_text (c ∷ ws) = command_text c (c ∷ ws) (line_among c usages)
 abbrev pub unread_text : List ℕ
 unread_text = pair_text (codes "the words of the command line are no text in UTF-8") hint
 
--- want of memory
+-- out of memory
 abbrev pub memory_text : List ℕ
 memory_text = plain_text (codes "memory ran out, and nothing was written: give the program more")

@@ -1,4 +1,4 @@
--- A walk that both plans follow: want of memory at any place, a file that is fetched and then the rest, and equal plans.
+-- A walk that both plans follow: out of memory at any place, a file that is fetched and then the rest, and equal plans.
 use Rattle.std.proofs.Common.{◌≡◌, ℕ, List, [], Result, Ok, Err, refl, subst, sym, Vec}
 use Rattle.std.specs.Result.{IfErr, IfOk, OnOk}
 use Rattle.std.specs.declared.alloc.Global.{Global}

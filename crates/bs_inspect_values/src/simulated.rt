@@ -79,7 +79,7 @@ fn put_run(
     Ok(())
 }
 
-/// The same, where want of memory stops the walk.
+/// The same, where memory runs out in the walk.
 fn put_or_stop(
     alloc: Global,
     runs: &mut Vec<Run>,

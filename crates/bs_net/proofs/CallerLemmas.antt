@@ -64,7 +64,7 @@ has_order_is gates = has_order_Decides gates
 pub passes_is : (r : Parts) → (passes r ≡ true) ↔ Passes r
 passes_is r = passes_Decides r
 
--- a refusal but want of memory says that the parts do not pass
+-- a refusal but out of memory says that the parts do not pass
 pub refused_fails : (r : Parts) (fault : NetFault) → fault ≢ NoMemory → IsFault r fault → passes r ≡ false
 refused_fails r fault other is = by (passes r) refl
   where

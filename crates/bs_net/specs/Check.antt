@@ -102,7 +102,7 @@ pub record Passes (r : Parts) : Type 0 where
   pub some_flop : r.flops ≢ []
   pub one_clock : mixed_clock r ≡ None
 
--- a fault is told exactly where its test is the first to fail; want of memory is free
+-- a fault is told exactly where its test is the first to fail; out of memory is free
 abbrev pub IsFault : Parts → NetFault → Type 0
 IsFault r (TooMany kind count) = too_many r ≡ Some (kind, count)
 IsFault r (SecondDriver n) = (too_many r ≡ None) × IsLowest (is_shared r) (length r.names) n.0
@@ -113,6 +113,6 @@ IsFault r NoFlop = PassesNets r × HasOrder r.gates × (r.flops ≡ [])
 IsFault r (ClockMixed n) = PassesNets r × HasOrder r.gates × (r.flops ≢ []) × (mixed_clock r ≡ Some n)
 IsFault r NoMemory = Unit {0}
 
--- each refusal but want of memory excludes that the netlist passes
+-- each refusal but out of memory excludes that the netlist passes
 abbrev pub RefusedDoNotPass : Type 0
 RefusedDoNotPass = (r : Parts) (fault : NetFault) → fault ≢ NoMemory → IsFault r fault → Passes r → ⊥

@@ -31,7 +31,7 @@ pub enum NetFault {
     NoFlop,
     /// The net that is no single clock: it is no input port bit, or differs from the first clock, or is read as data.
     ClockMixed(NetId),
-    /// Want of memory.
+    /// Out of memory.
     NoMemory,
 }
 

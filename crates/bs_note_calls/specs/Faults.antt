@@ -31,12 +31,12 @@ pub record IsOutputNote (lines : ℕ) (kind : Option ErrorKind) (note : List ℕ
   pub none : IfNone kind (reason ≡ codes "no reason is known")
   pub written : note ≡ output_text lines reason
 
--- want of memory
+-- out of memory
 abbrev pub memory_text : List ℕ
 memory_text =
     plain_text (codes "memory ran out, and nothing was written: give the program more, or lower --candidates and --conflicts")
 
--- want of memory while the note was made
+-- out of memory while the note was made
 abbrev pub want_text : List ℕ
 want_text = plain_text (codes "memory ran out while this answer was looked at once more")
 

@@ -9,7 +9,7 @@ use Rattle.bs_outside.specs.declared.shelf.Fetch.TheVariants as F
 use Rattle.bs_outside.specs.declared.sink.Put.{Put}
 use Rattle.bs_outside.specs.declared.sink.Put.TheVariants as P
 
--- a file that does not open is answered by want of memory exactly where its error says so, and else by a fault
+-- a file that does not open is answered as out of memory exactly where its error says so, and else by a fault
 pub record AnswersOpening (error : Error) (answer : Fetch) : Type 0 where
   pub memory : error_kind error ≡ OutOfMemory → answer ≡ F.NoMemory
   pub fault : error_kind error ≢ OutOfMemory → answer ≡ F.Failed

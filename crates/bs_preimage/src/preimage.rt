@@ -138,7 +138,7 @@ impl<'a> Preimage<'a> {
     /// Lists the states that agree with the stored signature and the older one, which is none where the register keeps one,
     /// and that lead to the present state, each with an input under which it does, and with a state and an input before it
     /// where there is an older signature: all of them, or `k` of them, or those that are found until a solve has logged `b` lemmas.
-    /// A candidate that is known is among `k` of them. After want of memory every later list answers it and logs nothing.
+    /// A candidate that is known is among `k` of them. Once memory ran out, every later list answers it and logs nothing.
     pub fn list(
         &mut self,
         alloc: Global,

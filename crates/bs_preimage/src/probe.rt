@@ -357,7 +357,7 @@ impl<'a> Probe<'a> {
 
     /// Whether a state agrees with the stored signature and the older one, which is none where the register keeps one, and
     /// leads to the present state. A solve logs at most `b` lemmas. Where the register keeps two signatures and holds one, nothing
-    /// is said: only the reset state may be before. After want of memory every later question answers it.
+    /// is said: only the reset state may be before. Once memory ran out, every later question answers it.
     pub fn ask(
         &mut self,
         alloc: Global,

@@ -33,7 +33,7 @@ use std::alloc::Global;
 use std::marker::Model;
 
 /// A solver. Contracts see its log with what it is about, the number of variables in use, where it stands, and whether
-/// a call has answered want of memory; each later call that can answers it again.
+/// a call has answered out of memory; each later call that can answers it again.
 #[derive(Drop)]
 pub struct Solver {
     book: Recording,
@@ -306,7 +306,7 @@ impl Solver {
     }
 
     /// The log. No line of it is refused for `steps`, its lemmas are lean, and each line has a text. Between two steps
-    /// it is accepted, while no call has answered want of memory.
+    /// it is accepted, while no call has answered out of memory.
     pub fn log(&self) -> &Log
         ensures lines { history_of result.now ≡ self.now.book.history }
         ensures right { NoneRefused self.now.book.problem (history_of result.now) }

@@ -49,7 +49,7 @@ input_fault whole w n c i xs lines text texts f lt e l r =
     ∙ (ap (λ k. with_inputs xs (inputs_from w (n + i) k (text ∷ texts))) d.1
     ∙ ap (λ o. with_inputs xs (o >>= λ input. inputs_from w (n + i + 1) d.0 texts >>= more_of input)) r))
 
--- want of memory, or a refused input
+-- out of memory, or a refused input
 pub input_refused : (whole : Inputs) (w n c i : ℕ) (xs : List (List Bool)) (lines : List (List ℕ)) (text : List ℕ) (texts : List (List ℕ)) (f : StimFault) →
     i < c → whole ≡ with_inputs xs (inputs_from w (n + i) (c - i) lines) → lines ≡ text ∷ texts → (f ≡ NoMemory) ⊎ (input_of w (n + i) text ≡ Err f) →
     (f ≡ NoMemory) ⊎ (whole ≡ Err f)
@@ -239,7 +239,7 @@ run_fault whole w n runs lines text texts f e l r =
     ∙ (ap (with_runs runs) (run_split w n (length runs) text texts)
     ∙ ap (λ o. with_runs runs (behind_run w n (length runs) o)) r))
 
--- want of memory, or a refused run
+-- out of memory, or a refused run
 pub run_refused : (whole : Listed) (w n : ℕ) (runs : List Recorded) (lines : List (List ℕ)) (text : List ℕ) (texts : List (List ℕ)) (f : StimFault) →
     whole ≡ with_runs runs (rest_of w n (length runs) None lines) → lines ≡ text ∷ texts → (f ≡ NoMemory) ⊎ (run_from w n (length runs) text texts ≡ Err f) →
     (f ≡ NoMemory) ⊎ (whole ≡ Err f)

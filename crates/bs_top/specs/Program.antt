@@ -67,7 +67,7 @@ pub record EndsBy {S K N : Type 0} (held : S → Tells) (faults : S → Counts) 
   pub noted_wanting : OnErr answer (PutsText out notes_before notes_now memory_text)
   pub ended : code ≡ exit_code answer
 
--- the code where the words cannot be told: that of want of memory exactly where the fault is one, and else that of words that are no job
+-- the code where the words cannot be told: that of out of memory exactly where the fault is one, and else that of words that are no job
 pub record EndsUnread (kind : ErrorKind) (code : ℕ) : Type 0 where
   pub memory : kind ≡ OutOfMemory → code ≡ NO_MEMORY_CODE
   pub no_text : kind ≢ OutOfMemory → code ≡ code_of Words

@@ -100,7 +100,7 @@ pub fn backspace_noted<S: Shelf, K: Sink, N: Sink>(
         (option_map plan_of (job_of (map string_bytes words.now))) (K.written out.old) (K.written out.new) status) }
 
     // Call by call: each file of the job is asked for once, in its order, up to the one that stops it, and then each line of the
-    // text is put, up to and with one whose put fails; after want of memory none is put.
+    // text is put, up to and with one whose put fails; once memory ran out none is put.
     ensures calls { IfOk result (λ status. CallByCall CheckSays finishes S.leads shelf.old shelf.new K.leads out.old out.new
         (option_map plan_of (job_of (map string_bytes words.now))) status) }
     ensures calls_wanting { OnErr result (CallsWanting S.leads shelf.old shelf.new out.old out.new
@@ -109,7 +109,7 @@ pub fn backspace_noted<S: Shelf, K: Sink, N: Sink>(
     // A netlist of several modules, by which the words above speak of a circuit, is the flat netlist of their design, and means it.
     ensures design { NetlistsMeanDesigns }
 
-    // After want of memory nothing was written, and no fault of the sink was counted.
+    // Once memory ran out, nothing was written, and no fault of the sink was counted.
     ensures no_memory { OnErr result (Keeps (K.written out.old) (K.written out.new) × (K.faults out.new ≡ K.faults out.old)) }
 
     // What is said: nothing on work that calls for no note, and else exactly one put, of a note on this answer, and on a file about the
@@ -170,7 +170,7 @@ pub fn backspace<S: Shelf, K: Sink>(
         (option_map plan_of (job_of (map string_bytes words.now))) (K.written out.old) (K.written out.new) status) }
 
     // Call by call: each file of the job is asked for once, in its order, up to the one that stops it, and then each line of the
-    // text is put, up to and with one whose put fails; after want of memory none is put.
+    // text is put, up to and with one whose put fails; once memory ran out none is put.
     ensures calls { IfOk result (λ status. CallByCall CheckSays finishes S.leads shelf.old shelf.new K.leads out.old out.new
         (option_map plan_of (job_of (map string_bytes words.now))) status) }
     ensures calls_wanting { OnErr result (CallsWanting S.leads shelf.old shelf.new out.old out.new
@@ -179,7 +179,7 @@ pub fn backspace<S: Shelf, K: Sink>(
     // A netlist of several modules, by which the words above speak of a circuit, is the flat netlist of their design, and means it.
     ensures design { NetlistsMeanDesigns }
 
-    // After want of memory nothing was written, and no fault of the sink was counted.
+    // Once memory ran out, nothing was written, and no fault of the sink was counted.
     ensures no_memory { OnErr result (Keeps (K.written out.old) (K.written out.new) × (K.faults out.new ≡ K.faults out.old)) }
 {
     backspace_noted(alloc, words, shelf, out, &mut Deaf)

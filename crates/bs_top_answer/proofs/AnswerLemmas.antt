@@ -199,7 +199,7 @@ noted_words {S = S} {R = R} {W = W} {allows = allows} {finishes = finishes} {hel
 }
 noted_words (Err want) h says = record { reply = prepares_words (Err want) tt; note = tt }
 
--- words that could not be read for want of memory
+-- words that could not be read because memory ran out
 pub noted_nothing : {S R W : Type 0} {allows : R → List ℕ → Type 0} {finishes : W → Status → List ℕ → Type 0}
     {is : List FetchCall → Status → List ℕ → Note → Type 0} {held : S → Tells} {faults : S → Counts} {leads : S → FetchCall → S → Type 0} {before : S}
     {want : NoMemory} (plan : Option (Plan R W)) → PreparedNoted allows finishes is held faults leads before before plan (Err want)

@@ -28,7 +28,7 @@ use Rattle.bs_top_plan.specs.declared.walk.Refusal.{Refusal}
 use Rattle.bs_top_plan.specs.declared.walk.Refusal.TheVariants as Q
 use Rattle.bs_top_plan.specs.Plan.{Reason, exactly, any_of}
 
--- ---- the words of a fault; want of memory is no fault of a file and has none
+-- ---- the words of a fault; out of memory is no fault of a file and has none
 
 -- what a netlist's text has that is left out, and where
 abbrev pub unsupported_words : ℕ → What → List ℕ

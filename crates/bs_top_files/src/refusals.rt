@@ -28,7 +28,7 @@ use std::alloc::Global;
 
 // ---- words of one form
 
-/// The refusal with these words; want of memory stays that.
+/// The refusal with these words; out of memory stays that.
 fn refusal(words: Result<Vec<u8>, NoMemory>) -> Refusal
     ensures why { IfOk words (λ why. HasWords why.items result) }
     ensures want { IfErr words (λ _. result ≡ Want) }

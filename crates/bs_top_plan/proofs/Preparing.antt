@@ -190,7 +190,7 @@ prepares_words {allows = allows} {finishes = finishes} {held = held} {faults = f
     record { answer = words_prepare allows finishes (held before) (faults before) answer h; fetches = []; asked = refl; along = (refl, h) }
 prepares_words (Err want) h = record { answer = tt; fetches = []; asked = refl; along = refl }
 
--- words that could not be read for want of memory
+-- words that could not be read because memory ran out
 pub prepares_nothing : {R W : Type 0} {allows : R → List ℕ → Type 0} {finishes : W → Status → List ℕ → Type 0} {S : Type 0} {held : S →
     Tells} {faults : S → Counts} {leads : S → FetchCall → S → Type 0} {before : S} {want : NoMemory} (plan : Option (Plan R W)) →
     Prepared allows finishes held faults leads before before plan (Err want)

@@ -16,7 +16,7 @@ pub record AsksFor (w : Wanted) (call : FetchCall) : Type 0 where
   pub name : call.name ≡ w.name
   pub limit : call.limit ≡ limit_of w.file
 
--- after a file that came the plan goes on, and any other answer ends it; no outcome stands for want of memory
+-- after a file that came the plan goes on, and any other answer ends it; no outcome stands for out of memory
 abbrev pub AfterFetch : {R V : Type 0} → Wanted → Fetch → List FetchCall → Option (Outcome R V) → (goes_on : Type 0) → Type 0
 AfterFetch w F.Done calls outcome goes_on = goes_on
 AfterFetch w F.TooLong calls outcome goes_on = (calls ≡ []) × IfSome outcome (λ o. o ≡ refused w.file (exactly (codes "TooLong")))

@@ -94,7 +94,7 @@ pub record CallByCall {S K R W : Type 0} (allows : R → List ℕ → Type 0) (f
   pub lines : PutsLines put_leads sink_before sink_now text status
   pub answered : status ≢ WriteFault → status ≡ called_for
 
--- The same after want of memory: the first of those files, and no put.
+-- The same once memory ran out: the first of those files, and no put.
 pub record CallsWanting {S K R W : Type 0} (fetch_leads : S → FetchCall → S → Type 0) (shelf_before shelf_now : S) (sink_before sink_now : K)
     (plan : Option (Plan R W)) : Type 0 where
   pub fetches : List FetchCall

@@ -26,7 +26,7 @@ code_of S.Vcd = 16
 code_of S.Map = 17
 code_of S.Name = 18
 
--- the same of an answer: want of memory has a code of its own
+-- the same of an answer: out of memory has a code of its own
 abbrev pub exit_code : Result Status NoMemory → ℕ
 exit_code (Ok status) = code_of status
 exit_code (Err want) = NO_MEMORY_CODE

@@ -2,7 +2,7 @@
 ghost use Rattle.std.specs.Prelude.{◌≡◌};
 ghost use Rattle.bs_top_plan.specs.Statuses.{code_of};
 
-/// The exit code for want of memory, which has no status.
+/// The exit code for out of memory, which has no status.
 pub const NO_MEMORY_CODE: u8 = 14;
 
 /// How a call ended. A status of the name of a file says that this file is refused.

@@ -84,7 +84,7 @@ pub enum VerilogFault {
     /// A bound above 65,535, or an index that its name has not.
     #[error("the index at byte {0} is out of range")]
     Index(u32),
-    /// Want of memory.
+    /// Out of memory.
     #[error("out of memory")]
     NoMemory,
 }

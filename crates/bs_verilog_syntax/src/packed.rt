@@ -41,7 +41,7 @@ impl Model for Small {
 }
 
 impl Small {
-    /// The number in three bytes. One from 2^24 on is want of memory: no text of 16 MiB has such a place or so many names.
+    /// The number in three bytes. One from 2^24 on is answered as out of memory: no text of 16 MiB has such a place or so many names.
     fn new(number: u32) -> Result<Small, NoMemory>
         ensures { IfOk result (λ n. n ≡ number) }
     {
@@ -144,7 +144,7 @@ fn connection_in(tag: Tag, pin: Name, name: Name, index: u32) -> Connection
 }
 
 impl PackedConnection {
-    /// The connection in sixteen bytes. A place or a number from 2^24 on, which no text of 16 MiB has, is want of memory.
+    /// The connection in sixteen bytes. A place or a number from 2^24 on, which no text of 16 MiB has, is answered as out of memory.
     pub fn new(connection: Connection) -> Result<PackedConnection, NoMemory>
         ensures { IfOk result (λ c. c ≡ connection) }
     {
