@@ -26,7 +26,7 @@ use Rattle.bs_flat_nets.specs.declared.numbers.Numbering.{Numbering}
 use Rattle.bs_flat_elaborate.specs.Keys.{key_of_place}
 use Rattle.bs_flat_elaborate.specs.Laid.{IsLaid}
 use Rattle.bs_flat_elaborate.specs.Naming.{keys_of, bytes_of, added, IsMade, IsSearched}
-use Rattle.bs_flat_elaborate.specs.declared.naming.Made.{Made}
+use Rattle.bs_flat_elaborate.specs.declared.naming.KeyList.{KeyList}
 
 -- ---- names
 
@@ -122,7 +122,7 @@ bytes_first keys i =
     omega (arith, le, all, part)
 
 -- nothing made of no keys
-pub made_none : (m : Made) → m.names ≡ [] → m.bytes ≡ 0 → IsMade [] m
+pub made_none : (m : KeyList) → m.names ≡ [] → m.bytes ≡ 0 → IsMade [] m
 made_none m en eb =
     record {
       bytes = eb;
@@ -132,7 +132,7 @@ made_none m en eb =
       apart = λ _. clash_none;
     }
 
-made_key : (keys : List (List ℕ)) (m : Made) (key : List ℕ) → IsMade keys m → m.bytes + length key ≤ MAX_KEY_BYTES → IsMade (keys ++ key ∷ []) (added m key)
+made_key : (keys : List (List ℕ)) (m : KeyList) (key : List ℕ) → IsMade keys m → m.bytes + length key ≤ MAX_KEY_BYTES → IsMade (keys ++ key ∷ []) (added m key)
 made_key keys m key h le =
     let more = bytes_more keys key in
     let wide = length-append keys (key ∷ []) in
@@ -152,7 +152,7 @@ made_key keys m key h le =
     }
 
 -- one place more
-pub made_more : (f : NetOnPath → List ℕ) (places : List NetOnPath) (i : ℕ) (p : NetOnPath) (key : List ℕ) (m after : Made) → i < length places → key ≡ f (get_or places i p) →
+pub made_more : (f : NetOnPath → List ℕ) (places : List NetOnPath) (i : ℕ) (p : NetOnPath) (key : List ℕ) (m after : KeyList) → i < length places → key ≡ f (get_or places i p) →
     IsMade (map f (take i places)) m → m.bytes + length key ≤ MAX_KEY_BYTES → after ≡ added m key → IsMade (map f (take (i + 1) places)) after
 made_more f places i p key m after lt ek h le ea =
     let at : i < length (map f places) = omega (arith, lt, length-map places f) in
@@ -161,11 +161,11 @@ made_more f places i p key m after lt ek h le ea =
     ∙ (take_more (map f places) i key at
     ∙ (ap (λ (l : List (List ℕ)). l ++ get_or (map f places) i key ∷ []) (take-map f i places)
     ∙ ap (λ (k : List ℕ). map f (take i places) ++ k ∷ []) (get_or-map f places i p key lt ∙ sym ek))) in
-    subst (λ (a : Made). IsMade (map f (take (i + 1) places)) a) (sym ea)
+    subst (λ (a : KeyList). IsMade (map f (take (i + 1) places)) a) (sym ea)
     (subst (λ (l : List (List ℕ)). IsMade l (added m key)) (sym keys) (made_key (map f (take i places)) m key h le))
 
 -- one key is too long
-pub long_is : (f : NetOnPath → List ℕ) (places : List NetOnPath) (i : ℕ) (p : NetOnPath) (key : List ℕ) (m : Made) → i < length places → key ≡ f (get_or places i p) →
+pub long_is : (f : NetOnPath → List ℕ) (places : List NetOnPath) (i : ℕ) (p : NetOnPath) (key : List ℕ) (m : KeyList) → i < length places → key ≡ f (get_or places i p) →
     IsMade (map f (take i places)) m → MAX_KEY_BYTES < m.bytes + length key → MAX_KEY_BYTES < bytes_of (map f places)
 long_is f places i p key m lt ek h gt =
     let at : i < length (map f places) = omega (arith, lt, length-map places f) in
@@ -179,7 +179,7 @@ long_is f places i p key m lt ek h gt =
     omega (arith, first, part, gt, h.bytes)
 
 -- all places
-pub made_all : (f : NetOnPath → List ℕ) (places : List NetOnPath) (i : ℕ) (m : Made) → length places ≤ i → IsMade (map f (take i places)) m → IsMade (map f places) m
+pub made_all : (f : NetOnPath → List ℕ) (places : List NetOnPath) (i : ℕ) (m : KeyList) → length places ≤ i → IsMade (map f (take i places)) m → IsMade (map f places) m
 made_all f places i m ge h = subst (λ (l : List NetOnPath). IsMade (map f l) m) (take_all i places ge) h
 
 -- ---- the keys of a numbering

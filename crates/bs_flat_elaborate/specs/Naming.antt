@@ -12,7 +12,7 @@ use Rattle.bs_flat_meaning.specs.declared.paths.Node.{Node}
 use Rattle.bs_flat_nets.specs.declared.blocks.FlatModule.{FlatModule}
 use Rattle.bs_flat_elaborate.specs.Keys.{IsPathText}
 use Rattle.bs_flat_elaborate.specs.declared.labels.Label.{Label}
-use Rattle.bs_flat_elaborate.specs.declared.naming.Made.{Made}
+use Rattle.bs_flat_elaborate.specs.declared.naming.KeyList.{KeyList}
 use Rattle.bs_flat_elaborate.specs.declared.naming.Named.{Named}
 use Rattle.bs_flat_elaborate.specs.declared.naming.Named.TheVariants.{Apart, Long, Clash}
 
@@ -29,7 +29,7 @@ abbrev pub bytes_of : List (List ℕ) → ℕ
 bytes_of keys = sum (map length keys)
 
 -- what is made after a key more
-abbrev pub added : Made → List ℕ → Made
+abbrev pub added : KeyList → List ℕ → KeyList
 added m key =
     record {
       names = with_key m.names key;
@@ -38,7 +38,7 @@ added m key =
     }
 
 -- what is made of some keys: they are the names as long as none is met again
-pub record IsMade (keys : List (List ℕ)) (m : Made) : Type 0 where
+pub record IsMade (keys : List (List ℕ)) (m : KeyList) : Type 0 where
   pub bytes : m.bytes ≡ bytes_of keys
   pub low : m.bytes ≤ MAX_KEY_BYTES
   pub few : length m.names ≤ length keys

@@ -17,7 +17,7 @@ use std::alloc::Global;
 
 /// What the keys so far have made: the names, the sum of their lengths, and whether one was met again.
 #[derive(Drop)]
-pub struct Made {
+pub struct KeyList {
     pub names: Names,
     pub bytes: usize,
     pub again: bool,
@@ -50,7 +50,7 @@ fn is_long(bytes: usize, key: &str) -> bool
 }
 
 /// Adds a key.
-fn add(alloc: Global, made: &mut Made, key: &str) -> Result<(), NoMemory>
+fn add(alloc: Global, made: &mut KeyList, key: &str) -> Result<(), NoMemory>
     requires room { length made.old.names < MAX_NETS }
     requires short { made.old.bytes + length key.now ≤ most }
     ensures { OnOk result (made.new ≡ spec.added made.old key.now) }
@@ -63,10 +63,10 @@ fn add(alloc: Global, made: &mut Made, key: &str) -> Result<(), NoMemory>
 }
 
 /// Nothing made yet.
-fn nothing(alloc: Global) -> Made
+fn nothing(alloc: Global) -> KeyList
     ensures { spec.IsMade [] result }
 {
-    Made {
+    KeyList {
         names: Names::new(alloc),
         bytes: 0,
         again: false,

@@ -12,13 +12,13 @@ use Rattle.bs_verilog.specs.Building.{has_key}
 use Rattle.bs_verilog.specs.Terminals.{term_of}
 use Rattle.bs_flat_meaning.specs.declared.statements.Written.{Written}
 use Rattle.bs_flat_meaning.specs.Connecting.{with_term, terms_of}
-use Rattle.bs_flat_wiring.specs.declared.growing.Made.{Made}
+use Rattle.bs_flat_wiring.specs.declared.growing.ModuleNets.{ModuleNets}
 
 -- keys and constants as parts of nothing else
 abbrev pub bare_of : List (List ℕ) → List Const → Parts
 bare_of names consts = record { names = names; inputs = []; outputs = []; consts = consts; gates = []; flops = [] }
 
-abbrev pub bare : Made → Parts
+abbrev pub bare : ModuleNets → Parts
 bare made = bare_of made.keys made.consts
 
 -- the parts with a constant

@@ -19,7 +19,7 @@ use std::alloc::Global;
 
 /// The keys of a module and its constants.
 #[derive(Drop)]
-pub struct Made {
+pub struct ModuleNets {
     pub keys: Keys,
     pub consts: List<Const>,
 }
@@ -47,17 +47,17 @@ fn own_consts(alloc: Global, consts: &[Const]) -> Result<List<Const>, NoMemory>
 }
 
 /// A module's own keys and constants.
-pub fn own_made(alloc: Global, names: &Names, consts: &[Const]) -> Result<Made, NoMemory>
+pub fn own_made(alloc: Global, names: &Names, consts: &[Const]) -> Result<ModuleNets, NoMemory>
     ensures keys { IfOk result (λ m. m.keys ≡ names.now) }
     ensures consts { IfOk result (λ m. m.consts ≡ consts.now) }
 {
     let keys = own_keys(alloc, names)?;
     let consts = own_consts(alloc, consts)?;
-    Ok(Made { keys, consts })
+    Ok(ModuleNets { keys, consts })
 }
 
 /// Adds a constant where it is new.
-fn add_constant(alloc: Global, made: &mut Made, bit: bool) -> Result<(), NoMemory>
+fn add_constant(alloc: Global, made: &mut ModuleNets, bit: bool) -> Result<(), NoMemory>
     ensures { OnOk result (growing.bare made.new ≡ growing.with_constant (growing.bare made.old) bit) }
 {
     let key = constant_key(bit);
@@ -70,7 +70,7 @@ fn add_constant(alloc: Global, made: &mut Made, bit: bool) -> Result<(), NoMemor
 }
 
 /// Adds the net of a name that is not declared.
-fn add_name(alloc: Global, made: &mut Made, name: &str) -> Result<(), NoMemory>
+fn add_name(alloc: Global, made: &mut ModuleNets, name: &str) -> Result<(), NoMemory>
     ensures { OnOk result (growing.bare made.new ≡ spec.with_net (growing.bare made.old) (keys_spec.scalar_key name.now)) }
 {
     let key = scalar(alloc, name)?;
@@ -81,7 +81,7 @@ fn add_name(alloc: Global, made: &mut Made, name: &str) -> Result<(), NoMemory>
 /// Adds the net of a term where it is new.
 fn add_term(
     alloc: Global,
-    made: &mut Made,
+    made: &mut ModuleNets,
     table: &Table,
     scope: &Scope,
     term: Term,
@@ -111,7 +111,7 @@ fn term_of(c: Connection) -> Option<Term>
 /// Adds the net of a connection where it is new.
 fn add_connection(
     alloc: Global,
-    made: &mut Made,
+    made: &mut ModuleNets,
     table: &Table,
     scope: &Scope,
     c: &PackedConnection,
@@ -127,7 +127,7 @@ fn add_connection(
 /// Adds the nets of an instance's connections.
 fn add_connections(
     alloc: Global,
-    made: &mut Made,
+    made: &mut ModuleNets,
     table: &Table,
     scope: &Scope,
     cs: &[PackedConnection],
@@ -143,7 +143,7 @@ fn add_connections(
 /// Adds the nets of the connections of all instances.
 pub fn add_instances(
     alloc: Global,
-    made: &mut Made,
+    made: &mut ModuleNets,
     table: &Table,
     scope: &Scope,
     written: &[Written],

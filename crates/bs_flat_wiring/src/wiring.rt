@@ -5,7 +5,7 @@ ghost use Rattle.bs_flat_meaning.specs.Connecting.{with_terms};
 ghost use Rattle.bs_flat_wiring.specs.Growing.{bare, bare_of, terms_in};
 ghost use Rattle.bs_flat_wiring.specs.Wiring as spec;
 
-use crate::growing::{Made, add_instances, own_made};
+use crate::growing::{ModuleNets, add_instances, own_made};
 use crate::naming::said;
 use crate::nets::Keys;
 use crate::spans::{Spans, spans_of};
@@ -34,7 +34,7 @@ fn made(
     own: &Own,
     scope: &Scope,
     written: &[Written],
-) -> Result<Made, NoMemory>
+) -> Result<ModuleNets, NoMemory>
     ensures { IfOk result (λ m. bare m ≡ with_terms table.now (looked scope.now) (bare_of own.now.parts.names own.now.parts.consts) (terms_in written.now)) }
 {
     let mut made = own_made(alloc, &own.parts.names, own.parts.consts.slice())?;
@@ -52,7 +52,7 @@ pub fn wire(
     ensures { IfOk result (λ w. spec.IsWiringOf table.now (spec.read_of own.now written.now) w) }
 {
     let scope = said(alloc, own.says.declared.slice())?;
-    let Made { keys, consts } = made(alloc, table, own, &scope, written)?;
+    let ModuleNets { keys, consts } = made(alloc, table, own, &scope, written)?;
     let spans = spans_of(alloc, table, &keys, &scope, own.says.declared.slice())?;
     Ok(Wiring {
         keys,

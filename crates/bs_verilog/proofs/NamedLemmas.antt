@@ -39,7 +39,7 @@ use Rattle.bs_verilog_scope.specs.Declaring.{declaring_fault, keys_of, known_net
 use Rattle.bs_verilog_scope.specs.Keys.{bit_key, constant_key, index_at, is_plain, keys, scalar_key, text, width}
 use Rattle.bs_verilog_scope.specs.Nets.{net_of, numbered, with_keys}
 use Rattle.bs_verilog.specs.declared.building.Built.{Built}
-use Rattle.bs_verilog.specs.declared.placing.Made.{Made}
+use Rattle.bs_verilog.specs.declared.placing.NetTable.{NetTable}
 use Rattle.bs_verilog.specs.declared.terminals.Pins.{Pins}
 use Rattle.bs_verilog.specs.Terminals.{cell_pins, is_assignment, is_gate, term_of}
 use Rattle.bs_verilog.specs.Building.{connection_nets, constant_net, declared_key, each, has_key, implicit_net, is_full, named_net, term_net, with_connection}
@@ -150,13 +150,13 @@ unfolding each
 each_keeps P step keeps b [] h = h
 each_keeps P step keeps b (x ∷ xs) h = followed P P (step b x) (λ more. each step more xs) (keeps b x h) (λ more on. each_keeps P step keeps more xs on)
 
-abbrev MadeNamed : Made → Type 0
+abbrev MadeNamed : NetTable → Type 0
 MadeNamed made = AreNames made.names
 
-abbrev NetNamed : NetId × Made → Type 0
+abbrev NetNamed : NetId × NetTable → Type 0
 NetNamed placed = MadeNamed placed.1
 
-abbrev NetsNamed : List NetId × Made → Type 0
+abbrev NetsNamed : List NetId × NetTable → Type 0
 NetsNamed placed = MadeNamed placed.1
 
 abbrev BuiltNamed : Built → Type 0
@@ -165,42 +165,42 @@ BuiltNamed b = MadeNamed b.made
 abbrev pub PartsNamed : Parts → Type 0
 PartsNamed raw = AreNames raw.names
 
-abbrev NetHolds : Result (NetId × Made) VerilogFault → Type 0
+abbrev NetHolds : Result (NetId × NetTable) VerilogFault → Type 0
 NetHolds r = IfOk r NetNamed
 
 abbrev BuiltHolds : Result Built VerilogFault → Type 0
 BuiltHolds r = IfOk r BuiltNamed
 
-implicit_named : (key : List ℕ) (n : Name) (index : Option ℕ) (made : Made) → IsNamed key → MadeNamed made → IfOk (implicit_net key n index made) NetNamed
+implicit_named : (key : List ℕ) (n : Name) (index : Option ℕ) (made : NetTable) → IsNamed key → MadeNamed made → IfOk (implicit_net key n index made) NetNamed
 unfolding implicit_net
 implicit_named key n index made k h =
     cond_both (is_full made.names key) _ _ NetHolds (λ _. tt)
     (λ _. cond_both (is_some index) _ _ NetHolds (λ _. tt) (λ _. key_more made.names key h k))
 
-constant_placed : (at : ℕ) (b : Bool) (made : Made) → MadeNamed made → IfOk (constant_net at b made) NetNamed
+constant_placed : (at : ℕ) (b : Bool) (made : NetTable) → MadeNamed made → IfOk (constant_net at b made) NetNamed
 unfolding constant_net
 constant_placed at b made h =
     cond_both (is_full made.names (constant_key b)) _ _ NetHolds (λ _. tt)
     (λ _. cond_both (has_key made.names (constant_key b)) _ _ NetHolds (λ _. h)
     (λ _. key_more made.names (constant_key b) h (constant_named b)))
 
-declared_named : (made : Made) (r : Result (List ℕ) VerilogFault) → MadeNamed made → IfOk (r >>= λ key. Ok (net_of made.names key, made)) NetNamed
+declared_named : (made : NetTable) (r : Result (List ℕ) VerilogFault) → MadeNamed made → IfOk (r >>= λ key. Ok (net_of made.names key, made)) NetNamed
 declared_named made (Ok key) h = h
 declared_named made (Err fault) h = tt
 
-name_named : (name : List ℕ) (says : Option Says) (n : Name) (index : Option ℕ) (made : Made) → IsVisible name → MadeNamed made
+name_named : (name : List ℕ) (says : Option Says) (n : Name) (index : Option ℕ) (made : NetTable) → IsVisible name → MadeNamed made
     → IfOk (named_net name says n index made) NetNamed
 unfolding named_net
 name_named name (Some s) n index made v h = declared_named made (declared_key name s.range n index) h
 name_named name None n index made v h = implicit_named (scalar_key name) n index made (scalar_named name v) h
 
 module _ (table : List (List ℕ)) (scope : ℕ → Option Says) (v : All IsVisible table) where
-  term_named : (t : Term) (made : Made) → MadeNamed made → IfOk (term_net table scope t made) NetNamed
+  term_named : (t : Term) (made : NetTable) → MadeNamed made → IfOk (term_net table scope t made) NetNamed
   unfolding term_net
   term_named (Constant at b) made h = constant_placed at b made h
   term_named (Named n index) made h = name_named (text table n) (scope n.id) n index made (text_visible table n v) h
 
-  connection_named : (before : List NetId × Made) (c : Connection) → NetsNamed before → IfOk (with_connection table scope before c) NetsNamed
+  connection_named : (before : List NetId × NetTable) (c : Connection) → NetsNamed before → IfOk (with_connection table scope before c) NetsNamed
   unfolding with_connection
   connection_named before c h = by (term_of c)
     where
@@ -213,7 +213,7 @@ module _ (table : List (List ℕ)) (scope : ℕ → Option Says) (v : All IsVisi
           (λ placed on. on)
       by None = h
 
-  connections_named : (cs : List Connection) (made : Made) → MadeNamed made → IfOk (connection_nets table scope cs made) NetsNamed
+  connections_named : (cs : List Connection) (made : NetTable) → MadeNamed made → IfOk (connection_nets table scope cs made) NetsNamed
   connections_named cs made h = each_keeps NetsNamed (with_connection table scope) connection_named ([], made) cs h
 
   gates_named : (kind : Kind) (b : Built) (cs : List Connection) → BuiltNamed b → IfOk (with_gates table scope kind b cs) BuiltNamed

@@ -37,7 +37,7 @@ use Rattle.bs_verilog_lexemes.specs.declared.lexeme.Cell.TheVariants.{Dff, Dffs,
 use Rattle.bs_verilog.specs.declared.terminals.Control.{Control}
 use Rattle.bs_verilog.specs.declared.terminals.Control.TheVariants as controls
 use Rattle.bs_verilog.specs.declared.terminals.Pins.{Pins}
-use Rattle.bs_verilog.specs.declared.placing.Made.{Made}
+use Rattle.bs_verilog.specs.declared.placing.NetTable.{NetTable}
 use Rattle.bs_verilog.specs.declared.building.Built.{Built}
 use Rattle.bs_bits.specs.Reading.{◌>>=◌}
 use Rattle.bs_verilog_scope.specs.Keys.{text, scalar_key, constant_key, keys}
@@ -89,11 +89,11 @@ with_key-few names key e few = by (number_of names key) refl e
 -- The nets of terms.
 
 -- what is made so far, where the scope says nothing unless a net is declared
-pub record IsPlacing (scope : ℕ → Option Says) (made : Made) : Type 0 where
+pub record IsPlacing (scope : ℕ → Option Says) (made : NetTable) : Type 0 where
   pub consts_within : ConstsWithin (length made.names) made.consts
   pub declared : (id : ℕ) (s : Says) → scope id ≡ Some s → 0 < length made.names
 
-pub record Goes (scope : ℕ → Option Says) (before after : Made) : Type 0 where
+pub record Goes (scope : ℕ → Option Says) (before after : NetTable) : Type 0 where
   pub grows : length before.names ≤ length after.names
   pub few : length before.names ≤ 100000 → length after.names ≤ 100000
   pub placing : IsPlacing scope after
@@ -104,10 +104,10 @@ consts_more n m cs le all = All-weaker (λ (k : Const). k.net.0 < n) (λ (k : Co
 nets_more : (n m : ℕ) (nets : List NetId) → n ≤ m → AreWithin n nets → AreWithin m nets
 nets_more n m nets le all = All-weaker (λ (k : NetId). k.0 < n) (λ (k : NetId). k.0 < m) (λ k lt. omega (arith, lt, le)) nets all
 
-same : (scope : ℕ → Option Says) (made : Made) → IsPlacing scope made → Goes scope made made
+same : (scope : ℕ → Option Says) (made : NetTable) → IsPlacing scope made → Goes scope made made
 same scope made p = record { grows = omega arith; few = λ h. h; placing = p }
 
-named_more : (scope : ℕ → Option Says) (made : Made) (key : List ℕ) → IsPlacing scope made → is_full made.names key ≡ false
+named_more : (scope : ℕ → Option Says) (made : NetTable) (key : List ℕ) → IsPlacing scope made → is_full made.names key ≡ false
     → Goes scope made (record { names = with_key made.names key; consts = made.consts })
 named_more scope made key p full =
     record {
@@ -120,7 +120,7 @@ named_more scope made key p full =
           };
     }
 
-constant_more : (scope : ℕ → Option Says) (made : Made) (key : List ℕ) (b : Bool) → IsPlacing scope made → is_full made.names key ≡ false
+constant_more : (scope : ℕ → Option Says) (made : NetTable) (key : List ℕ) (b : Bool) → IsPlacing scope made → is_full made.names key ≡ false
     → Goes scope made (record {
       names = with_key made.names key;
       consts = made.consts ++ record { net = net_of (with_key made.names key) key; value = b } ∷ [];
@@ -142,15 +142,15 @@ constant_more scope made key b p full =
     }
 
 -- a net and what was made with it
-pub record IsPlacedNet (scope : ℕ → Option Says) (before : Made) (placed : NetId × Made) : Type 0 where
+pub record IsPlacedNet (scope : ℕ → Option Says) (before : NetTable) (placed : NetId × NetTable) : Type 0 where
   pub goes : Goes scope before placed.1
   pub within : placed.0.0 < length placed.1.names
 
-placed_as : (scope : ℕ → Option Says) (before : Made) (x y : NetId × Made) → ◌≡◌ {A = Result (NetId × Made) VerilogFault} (Ok x) (Ok y)
+placed_as : (scope : ℕ → Option Says) (before : NetTable) (x y : NetId × NetTable) → ◌≡◌ {A = Result (NetId × NetTable) VerilogFault} (Ok x) (Ok y)
     → IsPlacedNet scope before x → IsPlacedNet scope before y
 placed_as scope before x y e p = let same : x ≡ y = cc in rw (← same) p
 
-constant_placed : (scope : ℕ → Option Says) (at : ℕ) (b : Bool) (made : Made) (placed : NetId × Made) → IsPlacing scope made
+constant_placed : (scope : ℕ → Option Says) (at : ℕ) (b : Bool) (made : NetTable) (placed : NetId × NetTable) → IsPlacing scope made
     → constant_net at b made ≡ Ok placed
     → IsPlacedNet scope made placed
 unfolding constant_net
@@ -159,7 +159,7 @@ constant_placed scope at b made placed p e = by (is_full made.names key) (has_ke
     key : List ℕ
     key = constant_key b
 
-    new : NetId × Made
+    new : NetId × NetTable
     new = (
       net_of (with_key made.names key) key,
       record {
@@ -185,12 +185,12 @@ constant_placed scope at b made placed p e = by (is_full made.names key) (has_ke
               (with_key-some made.names key);
         })
 
-implicit_placed : (scope : ℕ → Option Says) (key : List ℕ) (n : Name) (index : Option ℕ) (made : Made) (placed : NetId × Made) → IsPlacing scope made
+implicit_placed : (scope : ℕ → Option Says) (key : List ℕ) (n : Name) (index : Option ℕ) (made : NetTable) (placed : NetId × NetTable) → IsPlacing scope made
     → implicit_net key n index made ≡ Ok placed → IsPlacedNet scope made placed
 unfolding implicit_net
 implicit_placed scope key n index made placed p e = by (is_full made.names key) (is_some index) refl e
   where
-    new : NetId × Made
+    new : NetId × NetTable
     new = (net_of (with_key made.names key) key, record { names = with_key made.names key; consts = made.consts })
 
     by : (full indexed : Bool) → is_full made.names key ≡ full → cond full (Err (TooManyNets n.at)) (cond indexed (Err (Index n.at)) (Ok new)) ≡ Ok placed
@@ -204,21 +204,21 @@ implicit_placed scope key n index made placed p e = by (is_full made.names key) 
               (with_key-some made.names key);
         })
 
-declared_placed : (scope : ℕ → Option Says) (made : Made) (placed : NetId × Made) (r : Result (List ℕ) VerilogFault) → IsPlacing scope made
+declared_placed : (scope : ℕ → Option Says) (made : NetTable) (placed : NetId × NetTable) (r : Result (List ℕ) VerilogFault) → IsPlacing scope made
     → 0 < length made.names
     → (r >>= λ key. Ok (net_of made.names key, made)) ≡ Ok placed → IsPlacedNet scope made placed
 declared_placed scope made placed (Ok key) p some e =
     placed_as scope made (net_of made.names key, made) placed e (record { goes = same scope made p; within = net_within made.names key some })
 declared_placed scope made placed (Err fault) p some e = absurd cc
 
-named_placed : (scope : ℕ → Option Says) (name : List ℕ) (n : Name) (index : Option ℕ) (made : Made) (placed : NetId × Made) (o : Option Says)
+named_placed : (scope : ℕ → Option Says) (name : List ℕ) (n : Name) (index : Option ℕ) (made : NetTable) (placed : NetId × NetTable) (o : Option Says)
     → IsPlacing scope made → scope n.id ≡ o
     → named_net name o n index made ≡ Ok placed → IsPlacedNet scope made placed
 unfolding named_net
 named_placed scope name n index made placed (Some s) p is e = declared_placed scope made placed (declared_key name s.range n index) p (p.declared n.id s is) e
 named_placed scope name n index made placed None p is e = implicit_placed scope (scalar_key name) n index made placed p e
 
-term_placed : (table : List (List ℕ)) (scope : ℕ → Option Says) (t : Term) (made : Made) (placed : NetId × Made) → IsPlacing scope made
+term_placed : (table : List (List ℕ)) (scope : ℕ → Option Says) (t : Term) (made : NetTable) (placed : NetId × NetTable) → IsPlacing scope made
     → term_net table scope t made ≡ Ok placed
     → IsPlacedNet scope made placed
 unfolding term_net
@@ -228,7 +228,7 @@ term_placed table scope (Named n index) made placed p e = named_placed scope (te
 -- The nets of connections.
 
 -- the nets of so many more connections
-pub record ArePlacedNets (scope : ℕ → Option Says) (before after : List NetId × Made) (most least : ℕ) : Type 0 where
+pub record ArePlacedNets (scope : ℕ → Option Says) (before after : List NetId × NetTable) (most least : ℕ) : Type 0 where
   pub goes : Goes scope before.1 after.1
   pub within : AreWithin (length after.1.names) after.0
   pub few : length after.0 ≤ length before.0 + most
@@ -239,16 +239,16 @@ abbrev pub term_count : List Connection → ℕ
 term_count [] = 0
 term_count (c ∷ cs) = cond (has_term c) 1 0 + term_count cs
 
-connection_placed : (table : List (List ℕ)) (scope : ℕ → Option Says) (c : Connection) (before after : List NetId × Made) → IsPlacing scope before.1
+connection_placed : (table : List (List ℕ)) (scope : ℕ → Option Says) (c : Connection) (before after : List NetId × NetTable) → IsPlacing scope before.1
     → AreWithin (length before.1.names) before.0 → with_connection table scope before c ≡ Ok after → ArePlacedNets scope before after 1 (cond (has_term c) 1 0)
 unfolding with_connection
 connection_placed table scope c before after p w e = by (term_of c) e
   where
-    seen_as : (x : List NetId × Made) (least : ℕ) → ◌≡◌ {A = Result (List NetId × Made) VerilogFault} (Ok x) (Ok after) → ArePlacedNets scope before x 1 least
+    seen_as : (x : List NetId × NetTable) (least : ℕ) → ◌≡◌ {A = Result (List NetId × NetTable) VerilogFault} (Ok x) (Ok after) → ArePlacedNets scope before x 1 least
         → ArePlacedNets scope before after 1 least
     seen_as x least s a = let eq : x ≡ after = cc in rw (← eq) a
 
-    on : (t : Term) (r : Result (NetId × Made) VerilogFault) → term_net table scope t before.1 ≡ r
+    on : (t : Term) (r : Result (NetId × NetTable) VerilogFault) → term_net table scope t before.1 ≡ r
         → (r >>= λ placed. Ok (before.0 ++ placed.0 ∷ [], placed.1)) ≡ Ok after
         → ArePlacedNets scope before after 1 1
     on t (Err fault) is x = absurd cc
@@ -266,7 +266,7 @@ connection_placed table scope c before after p w e = by (term_of c) e
         })
 
     by : (o : Option Term)
-        → ◌≡◌ {A = Result (List NetId × Made) VerilogFault} (elim o [
+        → ◌≡◌ {A = Result (List NetId × NetTable) VerilogFault} (elim o [
           | Some t ↦ term_net table scope t before.1 >>= λ placed. Ok
               (before.0 ++ placed.0 ∷ [], placed.1)
           | None ↦ Ok before
@@ -275,10 +275,10 @@ connection_placed table scope c before after p w e = by (term_of c) e
     by (Some t) x = on t (term_net table scope t before.1) refl x
     by None x = seen_as before 0 x (record { goes = same scope before.1 p; within = w; few = omega arith; enough = omega arith })
 
-goes_on : (scope : ℕ → Option Says) (a b c : Made) → Goes scope a b → Goes scope b c → Goes scope a c
+goes_on : (scope : ℕ → Option Says) (a b c : NetTable) → Goes scope a b → Goes scope b c → Goes scope a c
 goes_on scope a b c x y = record { grows = omega (arith, x.grows, y.grows); few = λ h. y.few (x.few h); placing = y.placing }
 
-connections_placed : (table : List (List ℕ)) (scope : ℕ → Option Says) (cs : List Connection) (before after : List NetId × Made) → IsPlacing scope before.1
+connections_placed : (table : List (List ℕ)) (scope : ℕ → Option Says) (cs : List Connection) (before after : List NetId × NetTable) → IsPlacing scope before.1
     → AreWithin (length before.1.names) before.0 → each (with_connection table scope) before cs ≡ Ok after
     → ArePlacedNets scope before after (length cs) (term_count cs)
 unfolding each
@@ -288,9 +288,9 @@ connections_placed table scope [] before after p w e =
 connections_placed table scope (c ∷ cs) before after p w e =
     by (λ mid placing within x. connections_placed table scope cs mid after placing within x) (with_connection table scope before c) refl e
   where
-    by : ((mid : List NetId × Made) → IsPlacing scope mid.1 → AreWithin (length mid.1.names) mid.0 → each (with_connection table scope) mid cs ≡ Ok after
+    by : ((mid : List NetId × NetTable) → IsPlacing scope mid.1 → AreWithin (length mid.1.names) mid.0 → each (with_connection table scope) mid cs ≡ Ok after
         → ArePlacedNets scope mid after (length cs) (term_count cs))
-        → (r : Result (List NetId × Made) VerilogFault) → with_connection table scope before c ≡ r
+        → (r : Result (List NetId × NetTable) VerilogFault) → with_connection table scope before c ≡ r
         → (r >>= λ more. each (with_connection table scope) more cs) ≡ Ok after
         → ArePlacedNets scope before after (suc (length cs)) (cond (has_term c) 1 0 + term_count cs)
     by rest (Err fault) is x = absurd cc
@@ -441,7 +441,7 @@ flops_more n m fs le all =
     )) fs
     all
 
-abbrev no_nets : Made → List NetId × Made
+abbrev no_nets : NetTable → List NetId × NetTable
 no_nets made = ([], made)
 
 with_gates_built : (L : Type 0) (table : List (List ℕ)) (scope : ℕ → Option Says) (kind : Kind) (b after : Built) (cs : List Connection) → IsBuilding L scope b
@@ -453,7 +453,7 @@ with_gates_built L table scope kind b after cs p short shape e = by (connection_
     enough n h (inl two) = let all : term_count cs ≡ length cs = all_terms cs two.1 in inl (omega (arith, h, all, two.0))
     enough n h (inr single) = inr single
 
-    by : (r : Result (List NetId × Made) VerilogFault) → connection_nets table scope cs b.made ≡ r
+    by : (r : Result (List NetId × NetTable) VerilogFault) → connection_nets table scope cs b.made ≡ r
         → (r >>= λ placed. Ok (record { made = placed.1; gates = b.gates ++ gates_of kind placed.0; flops = b.flops })) ≡ Ok after → Builds L scope b after
     by (Err fault) is x = absurd cc
     by (Ok placed) is x =
@@ -480,7 +480,7 @@ with_flop_built : (L : Type 0) (table : List (List ℕ)) (scope : ℕ → Option
     → 0 < length cs → list_all has_term cs ≡ true → with_flop table scope cell pins b cs ≡ Ok after → Builds L scope b after
 with_flop_built L table scope cell pins b after cs p some full e = by (connection_nets table scope cs b.made) refl e
   where
-    by : (r : Result (List NetId × Made) VerilogFault) → connection_nets table scope cs b.made ≡ r
+    by : (r : Result (List NetId × NetTable) VerilogFault) → connection_nets table scope cs b.made ≡ r
         → (r >>= λ placed. Ok (record { made = placed.1; gates = b.gates; flops = b.flops ++ flop_of cell pins placed.0 ∷ [] })) ≡ Ok after
         → Builds L scope b after
     by (Err fault) is x = absurd cc

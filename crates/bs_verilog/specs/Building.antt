@@ -22,7 +22,7 @@ use Rattle.bs_verilog_syntax.specs.declared.tree.Shape.TheVariants as shapes
 use Rattle.bs_verilog.specs.declared.terminals.Control.{Control}
 use Rattle.bs_verilog.specs.declared.terminals.Control.TheVariants as controls
 use Rattle.bs_verilog.specs.declared.terminals.Pins.{Pins}
-use Rattle.bs_verilog.specs.declared.placing.Made.{Made}
+use Rattle.bs_verilog.specs.declared.placing.NetTable.{NetTable}
 use Rattle.bs_verilog.specs.declared.building.Built.{Built}
 use Rattle.bs_verilog_syntax.specs.declared.fault.What.TheVariants as what
 use Rattle.bs_verilog_syntax.specs.declared.fault.VerilogFault.{VerilogFault}
@@ -49,10 +49,10 @@ is_full names key = not (has_key names key) && nat_le MAX_NETS (length names)
 
 -- the net of a term, and what is made with it
 abbrev pub Placed : Type 0
-Placed = Result (NetId × Made) VerilogFault
+Placed = Result (NetId × NetTable) VerilogFault
 
 -- a name that nothing declares is a wire of one bit, which takes the next number at its first use
-unfoldable pub implicit_net : List ℕ → Name → Option ℕ → Made → Placed
+unfoldable pub implicit_net : List ℕ → Name → Option ℕ → NetTable → Placed
 implicit_net key n index made =
     if is_full made.names key then Err (TooManyNets n.at)
     else if is_some index then Err (Index n.at)
@@ -66,7 +66,7 @@ declared_key name (Some r) n (Some i) = if has_index r i then Ok (bit_key name i
 declared_key name (Some r) n None = if r.left == r.right then Ok (bit_key name r.left) else Err (Unsupported n.at what.Width)
 
 -- a constant takes the next number at its first use
-unfoldable pub constant_net : ℕ → Bool → Made → Placed
+unfoldable pub constant_net : ℕ → Bool → NetTable → Placed
 constant_net at b made =
     let key = constant_key b in
     if is_full made.names key then Err (TooManyNets at)
@@ -77,16 +77,16 @@ constant_net at b made =
     Ok (net, record { names = names; consts = made.consts ++ record { net = net; value = b } ∷ [] }))
 
 -- the net of a name with this text, of which the scope may say something
-unfoldable pub named_net : List ℕ → Option Says → Name → Option ℕ → Made → Placed
+unfoldable pub named_net : List ℕ → Option Says → Name → Option ℕ → NetTable → Placed
 named_net name (Some s) n index made = declared_key name s.range n index >>= λ key. Ok (net_of made.names key, made)
 named_net name None n index made = implicit_net (scalar_key name) n index made
 
-unfoldable pub term_net : List (List ℕ) → (ℕ → Option Says) → Term → Made → Placed
+unfoldable pub term_net : List (List ℕ) → (ℕ → Option Says) → Term → NetTable → Placed
 term_net table scope (Constant at b) made = constant_net at b made
 term_net table scope (Named n index) made = named_net (text table n) (scope n.id) n index made
 
 -- the nets so far, and the net of one connection more, where it has a term
-unfoldable pub with_connection : List (List ℕ) → (ℕ → Option Says) → List NetId × Made → Connection → Result (List NetId × Made) VerilogFault
+unfoldable pub with_connection : List (List ℕ) → (ℕ → Option Says) → List NetId × NetTable → Connection → Result (List NetId × NetTable) VerilogFault
 with_connection table scope before c =
     elim (term_of c) [
       | Some t ↦ term_net table scope t before.1 >>= λ placed. Ok (before.0 ++ placed.0 ∷ [], placed.1)
@@ -94,7 +94,7 @@ with_connection table scope before c =
     ]
 
 -- the nets of connections, from left to right
-abbrev pub connection_nets : List (List ℕ) → (ℕ → Option Says) → List Connection → Made → Result (List NetId × Made) VerilogFault
+abbrev pub connection_nets : List (List ℕ) → (ℕ → Option Says) → List Connection → NetTable → Result (List NetId × NetTable) VerilogFault
 connection_nets table scope cs made = each (with_connection table scope) ([], made) cs
 
 -- What is built.

@@ -5,7 +5,7 @@ ghost use Rattle.bs_verilog.specs.Building as spec;
 ghost use Rattle.bs_bits.specs.Reading.{Answers};
 ghost use Rattle.bs_verilog_syntax.specs.declared.fault.VerilogFault.TheVariants.{NoMemory as want};
 
-use crate::placing::{Made, connection_nets};
+use crate::placing::{NetTable, connection_nets};
 use crate::reset::starts_as_one;
 use crate::terminals::{Control, Pins, cell_pins, is_assignment, is_gate, is_single};
 use bs_bits::List;
@@ -18,7 +18,7 @@ use std::alloc::Global;
 /// What the parts so far have built.
 #[derive(Drop)]
 pub struct Built {
-    pub made: Made,
+    pub made: NetTable,
     pub gates: List<Gate>,
     pub flops: List<Flop>,
 }

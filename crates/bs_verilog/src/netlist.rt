@@ -10,7 +10,7 @@ ghost use Rattle.bs_bits.specs.Reading.{Answers};
 ghost use Rattle.bs_verilog_syntax.specs.declared.fault.VerilogFault.TheVariants.{NoMemory as want};
 
 use crate::building::{Built, with_parts};
-use crate::placing::Made;
+use crate::placing::NetTable;
 use crate::ports::{port_nets, supplies};
 use bs_bits::List;
 use bs_net::{NetId, Raw};
@@ -94,7 +94,7 @@ fn start(alloc: Global, table: &Table, top: &Module, nets: &[Known]) -> Result<B
     let names = numbered(alloc, table, nets)?;
     let consts = supplies(alloc, table, &names, top.declared.slice())?;
     Ok(Built {
-        made: Made { names, consts },
+        made: NetTable { names, consts },
         gates: List::new(alloc),
         flops: List::new(alloc),
     })

@@ -16,7 +16,7 @@ use std::alloc::Global;
 
 /// What the terms so far have made: the names in net order, and the constants.
 #[derive(Drop)]
-pub struct Made {
+pub struct NetTable {
     pub names: Names,
     pub consts: List<Const>,
 }
@@ -37,7 +37,7 @@ fn is_full(names: &Names, key: &str) -> bool
 #[tactic(auto, unfolding(crate::specs::Building::implicit_net))]
 fn implicit_net(
     alloc: Global,
-    made: &mut Made,
+    made: &mut NetTable,
     key: &str,
     name: Name,
     index: Option<u32>,
@@ -89,7 +89,12 @@ fn declared_key(
 }
 
 #[tactic(auto, unfolding(crate::specs::Building::constant_net))]
-fn constant_net(alloc: Global, made: &mut Made, at: u32, bit: bool) -> Result<NetId, VerilogFault>
+fn constant_net(
+    alloc: Global,
+    made: &mut NetTable,
+    at: u32,
+    bit: bool,
+) -> Result<NetId, VerilogFault>
     ensures { Answers want (λ net. (net, made.new)) result (spec.constant_net at bit made.old) }
 {
     let key = constant_key(bit);
@@ -107,7 +112,7 @@ fn constant_net(alloc: Global, made: &mut Made, at: u32, bit: bool) -> Result<Ne
 #[tactic(auto, unfolding(crate::specs::Building::named_net))]
 fn named_net(
     alloc: Global,
-    made: &mut Made,
+    made: &mut NetTable,
     text: &str,
     says: Option<Says>,
     name: Name,
@@ -130,7 +135,7 @@ fn named_net(
 #[tactic(auto, unfolding(crate::specs::Building::term_net))]
 fn term_net(
     alloc: Global,
-    made: &mut Made,
+    made: &mut NetTable,
     table: &Table,
     scope: &Scope,
     term: Term,
@@ -150,7 +155,7 @@ fn term_net(
 #[tactic(auto, unfolding(crate::specs::Building::with_connection))]
 fn place(
     alloc: Global,
-    made: &mut Made,
+    made: &mut NetTable,
     nets: &mut Vec<NetId>,
     table: &Table,
     scope: &Scope,
@@ -171,7 +176,7 @@ fn place(
 /// The nets of connections, from left to right.
 pub fn connection_nets(
     alloc: Global,
-    made: &mut Made,
+    made: &mut NetTable,
     table: &Table,
     scope: &Scope,
     cs: &[PackedConnection],
