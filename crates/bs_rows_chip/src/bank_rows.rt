@@ -38,7 +38,7 @@ const FULL: u64 = u64::MAX;
 type Hits<'a> = (&'a [u8], &'a [u64], usize, u64, u64);
 
 /// Banks and their hits.
-const BANKS: [Hits<'static>; 12] = [
+static BANKS: [Hits<'static>; 12] = [
     (&[], &EIGHT, 0, FULL, 0),
     (&[1, 3], &EIGHT, 0, FULL, 0x0a),
     (&[6, 6, 6], &EIGHT, 0, FULL, 0x40),
@@ -53,10 +53,18 @@ const BANKS: [Hits<'static>; 12] = [
     (&[5, 2], &LAST, 2, FULL, 0),
 ];
 
+/// Whether a bank has its hits.
+fn has_hits(
+    alloc: Global,
+    (numbers, planes, word, live, want): &Hits<'_>,
+) -> Result<bool, NoMemory> {
+    Ok(hits(alloc, numbers, planes, *word, *live)? == *want)
+}
+
 #[test]
 fn hits_of_banks_over_planes(rt: HostRuntime) -> Result<(), Fail> {
-    for (numbers, planes, word, live, want) in &BANKS {
-        assert_eq!(rt; hits(rt.alloc(), numbers, planes, *word, *live)?, *want);
+    for row in &BANKS {
+        assert!(rt; has_hits(rt.alloc(), row)?);
     }
     Ok(())
 }

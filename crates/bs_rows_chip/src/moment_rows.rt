@@ -50,7 +50,7 @@ fn first(
 }
 
 /// How many bytes the planes of kept cycles may take.
-const BOUNDS: [usize; 3] = [0, 400, usize::MAX];
+static BOUNDS: [usize; 3] = [0, 400, usize::MAX];
 
 /// Whether this is the first moment of a list, however many cycles are kept.
 fn is_first(
@@ -131,7 +131,7 @@ fn is_first_of(
 
 /// Lists and their first moments: a one comes to the first flip-flop one cycle later, to the second one two, and to the third
 /// one three.
-const MOMENTS: [First<'static>; 15] = [
+static MOMENTS: [First<'static>; 15] = [
     (1, (0, 0), (9, 4), &[2], Some((1, 6))),
     (63, (9, 9), (9, 4), &[2], Some((63, 6))),
     (64, (0, 0), (9, 4), &[4, 2], Some((64, 6))),

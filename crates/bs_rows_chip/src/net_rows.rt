@@ -169,7 +169,7 @@ fn is_chained(alloc: Global, gates: u64, want: &str) -> Result<bool, NoMemory> {
 }
 
 /// Ports and items, and the order of the gates or the refusal.
-const NETLISTS: [(&str, &str, &str); 23] = [
+static NETLISTS: [(&str, &str, &str); 23] = [
     ("ck", "input ck;not g(d,q);dff f(ck,q,d);", "order 0"),
     (
         "ck,a",
@@ -232,10 +232,10 @@ fn netlists_have_an_order_or_a_refusal(rt: HostRuntime) -> Result<(), Fail> {
 }
 
 /// Numbers of inputs of one gate.
-const INPUTS: [(u32, &str); 2] = [(64, "order 0"), (65, "65 terminals")];
+static INPUTS: [(u32, &str); 2] = [(64, "order 0"), (65, "65 terminals")];
 
 /// Numbers of flip-flops.
-const FLOPS: [(u64, &str); 2] = [(4096, "order"), (4097, "4097 flops")];
+static FLOPS: [(u64, &str); 2] = [(4096, "order"), (4097, "4097 flops")];
 
 #[test]
 fn sizes_at_their_limits_pass(rt: HostRuntime) -> Result<(), Fail> {

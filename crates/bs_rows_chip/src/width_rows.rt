@@ -93,7 +93,7 @@ fn is_checked_row(alloc: Global, wide: usize, count: u32, run: u32) -> Result<bo
 }
 
 /// Words of a plane, numbers of runs, and the one among them.
-const WIDTHS: [(usize, u32, u32); 8] = [
+static WIDTHS: [(usize, u32, u32); 8] = [
     (1, 64, 1),
     (1, 64, 63),
     (1, 64, 64),

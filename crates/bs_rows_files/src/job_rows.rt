@@ -75,7 +75,7 @@ fn reply(alloc: Global, read: Result<usize, JobFault>) -> Result<Reply, NoMemory
 type Job<'a> = (File, &'a str, u64, Status, &'a str);
 
 /// Jobs that read one file.
-const JOBS: [Job<'static>; 5] = [
+static JOBS: [Job<'static>; 5] = [
     (File::Netlist, "n", 0, Status::Done, "three\n"),
     (
         File::Netlist,

@@ -11,7 +11,7 @@ use std::test::Fail;
 use std::{fs, io};
 
 /// The names of the files in memory, and their texts: of two of one name the first one counts.
-const FILES: [(&str, &str); 3] = [("a", "abc"), ("a", "x"), ("b", "")];
+static FILES: [(&str, &str); 3] = [("a", "abc"), ("a", "x"), ("b", "")];
 
 /// Puts a file behind others.
 fn push_file(
@@ -110,7 +110,7 @@ impl Write for Narrow {
 type Given = (usize, usize, u64, Fetch, usize, u64);
 
 /// Readers of 20,000 bytes.
-const READERS: [Given; 10] = [
+static READERS: [Given; 10] = [
     (1, 20_000, 20_000, Fetch::Done, 20_000, 0),
     (3, 20_000, u64::MAX, Fetch::Done, 20_000, 0),
     (8_191, 20_000, 20_000, Fetch::Done, 20_000, 0),
@@ -148,7 +148,7 @@ fn are_given(alloc: Global, readers: &[Given]) -> Result<bool, NoMemory> {
 }
 
 /// Why a file cannot be opened, the answer, and the faults that are counted.
-const UNOPENED: [(ErrorKind, Fetch, u64); 3] = [
+static UNOPENED: [(ErrorKind, Fetch, u64); 3] = [
     (ErrorKind::NotFound, Fetch::Failed, 1),
     (ErrorKind::PermissionDenied, Fetch::Failed, 1),
     (ErrorKind::OutOfMemory, Fetch::NoMemory, 0),
@@ -176,7 +176,7 @@ fn readers_give_little_at_a_time_or_fail(rt: HostRuntime) -> Result<(), Fail> {
 type Taken = (usize, usize, Put, u64);
 
 /// Writers of 20,000 bytes.
-const WRITERS: [Taken; 7] = [
+static WRITERS: [Taken; 7] = [
     (1, 20_000, Put::Done, 0),
     (3, 20_000, Put::Done, 0),
     (8_191, 20_000, Put::Done, 0),
@@ -215,7 +215,7 @@ type Fetched<'a> = (&'a str, u64, Fetch, usize);
 
 /// Files that are not what they seem are among them: an empty one, a folder, a name below a file, no name, a name that no file
 /// can have, a file that may only be written, and a device without an end.
-const REAL: [Fetched<'static>; 15] = [
+static REAL: [Fetched<'static>; 15] = [
     ("real.txt", 5, Fetch::Done, 5),
     ("real.txt", 4, Fetch::TooLong, 5),
     ("real.txt", 0, Fetch::TooLong, 1),
@@ -298,7 +298,7 @@ fn pipes(rt: HostRuntime) -> Result<(), Fail> {
 type Stored<'a> = (&'a str, u64, Fetch, Fetch);
 
 /// Fetches from shelves in memory.
-const STORED: [Stored<'static>; 5] = [
+static STORED: [Stored<'static>; 5] = [
     ("a", 3, Fetch::Done, Fetch::Done),
     ("a", 3, Fetch::Failed, Fetch::Done),
     ("a", 2, Fetch::TooLong, Fetch::TooLong),
@@ -347,7 +347,7 @@ fn are_shelves(alloc: Global, want: &str) -> Result<bool, NoMemory> {
 }
 
 /// What is put, and the answers of a sink of six bytes whose second put fails after one.
-const PUTS: [(&str, Put); 5] = [
+static PUTS: [(&str, Put); 5] = [
     ("one", Put::Done),
     ("two", Put::Failed(1)),
     ("", Put::Done),

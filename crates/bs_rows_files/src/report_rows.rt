@@ -134,7 +134,7 @@ type Copied<'a> = (
     Result<bool, ReportFault>,
 );
 
-const COPIES: [Copied<'static>; 14] = [
+static COPIES: [Copied<'static>; 14] = [
     ("64", "7", "", "end\n", Ok(true)),
     ("64", "7", "", "end\n\n", Err(ReportFault::Extra)),
     ("64", "7", "", "end\nx", Err(ReportFault::Extra)),

@@ -92,7 +92,7 @@ fn has_input(
 }
 
 /// Texts, the number of data inputs, and the refusal.
-const TEXTS: [(&str, usize, Option<StimFault>); 19] = [
+static TEXTS: [(&str, usize, Option<StimFault>); 19] = [
     ("", 1, Some(StimFault::NoRun)),
     ("run a 2\n1\nend\n", 1, Some(StimFault::Count(3))),
     ("run a 1\nx\nend\n", 1, Some(StimFault::Line(2))),

@@ -70,7 +70,7 @@ fn shown(alloc: Global, line: &str) -> Result<String, AllocError> {
 }
 
 /// Lines of words, and what is shown of their jobs.
-const LINES: [(&str, &str); 52] = [
+static LINES: [(&str, &str); 52] = [
     ("run n s t d", "run n s t d 64 256 100000"),
     ("run n s t d --conflicts 1", "run n s t d 64 256 1"),
     ("run n s t d --steps 1", "run n s t d 1 256 100000"),

@@ -52,7 +52,7 @@ fn sizes(alloc: Global, text: &[u8]) -> Option<Sizes> {
 type Sizes = (u32, usize, usize);
 
 /// Shift registers.
-const REGISTERS: [(u64, Sizes); 3] = [(1, (4, 3, 0)), (2, (6, 5, 0)), (1_000, (2_002, 2_001, 0))];
+static REGISTERS: [(u64, Sizes); 3] = [(1, (4, 3, 0)), (2, (6, 5, 0)), (1_000, (2_002, 2_001, 0))];
 
 /// Whether the shift register of so many flip-flops is encoded so.
 fn is_encoded(alloc: Global, (count, want): &(u64, Sizes)) -> Result<bool, NoMemory> {

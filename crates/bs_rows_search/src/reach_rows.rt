@@ -18,7 +18,7 @@ const THREE: &str =
 type Search<'a> = (&'a str, &'a str, u32, u64, Seen);
 
 /// Searches.
-const SEARCHES: [Search<'static>; 4] = [
+static SEARCHES: [Search<'static>; 4] = [
     (SHIFT, "11", 5, 100_000, (Outcome::Reached(2), true, true)),
     (SHIFT, "11", 40, 100_000, (Outcome::Reached(2), true, true)),
     (ZERO, "1", 3, 100_000, (Outcome::Unreached, true, false)),

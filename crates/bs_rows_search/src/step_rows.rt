@@ -291,7 +291,7 @@ fn are_of_toggle(alloc: Global, wanted: &[&[i32]]) -> bool {
 }
 
 /// Netlists, signatures, and the numbers of variables and of clauses.
-const SIZES: [(&str, &str, (u32, usize)); 4] = [
+static SIZES: [(&str, &str, (u32, usize)); 4] = [
     (TOGGLE, "", (4, 5)),
     (TOGGLE, "cycles 2\n", (9, 12)),
     (S27, "bit G5\n", (24, 37)),
@@ -299,12 +299,17 @@ const SIZES: [(&str, &str, (u32, usize)); 4] = [
 ];
 
 /// The clauses of the toggle.
-const CLAUSES: [&[i32]; 5] = [&[-2, -3], &[2, 3], &[-1], &[-4, 2], &[4, -2]];
+static CLAUSES: [&[i32]; 5] = [&[-2, -3], &[2, 3], &[-1], &[-4, 2], &[4, -2]];
+
+/// Whether an encoding has these numbers of variables and of clauses.
+fn has_sizes(alloc: Global, (text, items, want): &(&str, &str, (u32, usize))) -> bool {
+    sizes(alloc, text, items) == Some(*want)
+}
 
 #[test]
 fn netlists_are_encoded(rt: HostRuntime) -> Result<(), Fail> {
-    for (text, items, want) in &SIZES {
-        assert_eq!(rt; sizes(rt.alloc(), text, items), Some(*want));
+    for row in &SIZES {
+        assert!(rt; has_sizes(rt.alloc(), row));
     }
     assert!(rt; are_of_toggle(rt.alloc(), &CLAUSES));
     Ok(())

@@ -112,7 +112,7 @@ fn is_filled(
 }
 
 /// Numbers of clauses and of literals in each, and the words that they take.
-const ARENAS: [(u32, usize, usize); 5] = [
+static ARENAS: [(u32, usize, usize); 5] = [
     (0, 3, 0),
     (1, 2, 6),
     (3, 40, 132),

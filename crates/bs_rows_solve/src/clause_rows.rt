@@ -76,26 +76,36 @@ fn pushed_up_to(alloc: Global, last: u32, count: u32) -> Result<usize, NoMemory>
     Ok(count)
 }
 
+/// Whether a clause of so many literals is copied, pushed so often and resolved.
+fn is_whole(alloc: Global, (last, count, _): &(u32, u32, u32)) -> Result<bool, NoMemory> {
+    let want = last.saturating_sub(1) as usize;
+    Ok(
+        is_copied(alloc, *last)?
+            && pushed_up_to(alloc, *last, *count)? == *count as usize
+            && resolved(alloc, *last)? == Some(want),
+    )
+}
+
+/// Whether the last of so many variables is open, and false where it is set.
+fn is_set(alloc: Global, (_, _, variables): &(u32, u32, u32)) -> Result<bool, NoMemory> {
+    Ok(last_values(alloc, *variables)? == Some((None, Some(false))))
+}
+
 /// Numbers of literals, of clauses and of variables.
-const SIZES: [(u32, u32, u32); 4] = [(2, 1, 1), (3, 2, 3), (5, 3, 40), (1_000, 5_000, 1_000_000)];
+static SIZES: [(u32, u32, u32); 4] = [(2, 1, 1), (3, 2, 3), (5, 3, 40), (1_000, 5_000, 1_000_000)];
 
 #[test]
 fn clauses_small_and_great(rt: HostRuntime) -> Result<(), Fail> {
-    let alloc = rt.alloc();
-    for (last, count, _) in &SIZES {
-        assert!(rt; is_copied(alloc, *last)?);
-        assert_eq!(rt; pushed_up_to(alloc, *last, *count)?, *count as usize);
-        let want = last.saturating_sub(1) as usize;
-        assert_eq!(rt; resolved(alloc, *last)?, Some(want));
+    for row in &SIZES {
+        assert!(rt; is_whole(rt.alloc(), row)?);
     }
     Ok(())
 }
 
 #[test]
 fn assignments_small_and_great(rt: HostRuntime) -> Result<(), Fail> {
-    let alloc = rt.alloc();
-    for (_, _, variables) in &SIZES {
-        assert_eq!(rt; last_values(alloc, *variables)?, Some((None, Some(false))));
+    for row in &SIZES {
+        assert!(rt; is_set(rt.alloc(), row)?);
     }
     Ok(())
 }

@@ -17,7 +17,7 @@ pub fn lemma_text(alloc: Global, id: u64, variables: u64) -> Result<Vec<u8>, NoM
 }
 
 /// Texts that are lines.
-const LINES: [&str; 9] = [
+static LINES: [&str; 9] = [
     "s",
     "7 -5 -4 0 4 1 6 0",
     "18446744073709551615 1073741823 0 1 0",
@@ -30,7 +30,7 @@ const LINES: [&str; 9] = [
 ];
 
 /// Texts that are none.
-const OTHERS: [&str; 22] = [
+static OTHERS: [&str; 22] = [
     "",
     "s ",
     " s",
@@ -106,7 +106,7 @@ fn a_log_keeps_its_lines(rt: HostRuntime) -> Result<(), Fail> {
 }
 
 /// Numbers of literals.
-const NUMBERS: [u64; 4] = [0, 4, 5, 20_000];
+static NUMBERS: [u64; 4] = [0, 4, 5, 20_000];
 
 /// Whether the text of a lemma of so many literals is written back.
 fn is_lemma(alloc: Global, variables: u64) -> Result<bool, NoMemory> {

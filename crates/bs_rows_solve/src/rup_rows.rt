@@ -9,7 +9,7 @@ use std::alloc::Global;
 use std::test::Fail;
 
 /// The log of two steps, of which the first is the first seven lines.
-const LINES: [&str; 14] = [
+static LINES: [&str; 14] = [
     "s",
     "b 6 -5 3 0",
     "s",
@@ -27,10 +27,10 @@ const LINES: [&str; 14] = [
 ];
 
 /// Five clauses.
-const CLAUSES: [&[i32]; 5] = [&[-2, -3], &[2, 3], &[-1], &[-4, 2], &[4, -2]];
+static CLAUSES: [&[i32]; 5] = [&[-2, -3], &[2, 3], &[-1], &[-4, 2], &[4, -2]];
 
 /// The assumptions of two steps.
-const STEPS: [&[i32]; 2] = [&[5, 4], &[6, -4]];
+static STEPS: [&[i32]; 2] = [&[5, 4], &[6, -4]];
 
 /// The assumptions of the first step, or of two.
 fn steps_of(alloc: Global, two_steps: bool) -> Result<List<Lits>, NoMemory> {
@@ -123,7 +123,7 @@ fn refused(line: u64, why: Why) -> Verdict {
 }
 
 /// The logs of one step and of two, whole, cut, too long, and with one line changed.
-const LOGS: [Changed<'static>; 19] = [
+static LOGS: [Changed<'static>; 19] = [
     (false, 7, 0, "", None),
     (true, 14, 0, "", None),
     (true, 14, 11, "10 -6 4 0 8 5 2 9 0", None),

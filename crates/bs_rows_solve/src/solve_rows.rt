@@ -330,7 +330,7 @@ const ONE: [&[i32]; 1] = [&[-1, 2]];
 type Ending<'a> = (&'a [&'a [i32]], u32, &'a [i32], u64, (&'a str, usize));
 
 /// Solves, and how they end.
-const ENDINGS: [Ending<'static>; 4] = [
+static ENDINGS: [Ending<'static>; 4] = [
     (&ONE, 2, &[3, 1, -2], 1, ("refuted", 2)),
     (&FOUR, 3, &[4, 1], 1, ("spent", 2)),
     (&FOUR, 3, &[4, 1], 4, ("refuted", 3)),
@@ -347,7 +347,7 @@ type Again<'a> = (
 );
 
 /// Solves, and others behind a block.
-const AGAIN: [Again<'static>; 2] = [
+static AGAIN: [Again<'static>; 2] = [
     (&FOUR, 3, &[4, -1], &[2, 3], (5, "found", 5, 0)),
     (&ONE, 2, &[3, 1], &[-1, -2], (2, "refuted", 6, 0)),
 ];

@@ -41,7 +41,7 @@ const FLOP: &str = "not g(d,q);dff f(ck,q,d);";
 type Tower<'a> = (u64, &'a str, &'a str, &'a str);
 
 /// Designs at their limits, and past them.
-const TOWERS: [Tower<'static>; 10] = [
+static TOWERS: [Tower<'static>; 10] = [
     (256, " u(ck)", FLOP, "read 3 1 1"),
     (257, " u(ck)", FLOP, "FlatDepth"),
     (16, " u(ck),v(ck)", "", "read 1 0 0"),

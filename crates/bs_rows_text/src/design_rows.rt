@@ -24,7 +24,7 @@ fn first_other<'a>(alloc: Global, rows: &[Design<'a>]) -> Result<Option<&'a str>
 }
 
 /// Designs, and their flat netlists.
-const FLAT: [Design<'static>; 9] = [
+static FLAT: [Design<'static>; 9] = [
     // one module
     (
         "module t(ck); input ck; not g(d,q); dff f(ck,q,d); endmodule",
@@ -73,7 +73,7 @@ const FLAT: [Design<'static>; 9] = [
 ];
 
 /// Designs that are refused.
-const REFUSED: [Design<'static>; 14] = [
+static REFUSED: [Design<'static>; 14] = [
     ("module t(ck); input ck; ?", "Syntax 24"),
     (
         "module t(ck); input ck; x u(ck); endmodule",

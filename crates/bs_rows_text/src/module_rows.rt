@@ -73,7 +73,7 @@ fn tower(alloc: Global, modules: u64) -> Result<Vec<u8>, NoMemory> {
 }
 
 /// Texts, and their modules or the refusal.
-const TEXTS: [(&str, &str); 9] = [
+static TEXTS: [(&str, &str); 9] = [
     (
         "module inv(z,a); output z; input a; not g(z,a); endmodule module t(ck); input ck; inv u(d,q); dff f(ck,q,d); endmodule",
         "read 1+0+2:0 0+1+3:1",

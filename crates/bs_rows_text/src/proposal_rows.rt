@@ -48,7 +48,7 @@ const CUT: &str =
     "choice bits\nstates 2 1 1.00\nsteps 1 1 1.00\nbit q\nchoice parities\nstates 2 1 1.00\nsteps 1 1 1.00\nxor q k1 k2 k3 k4 k5 k6 k7 k8 k9\nlists 1 1 256.00 1\nlist 1 1 more\nlists 2 1 256.00 0\nlists 4 1 64.00 0\n";
 
 /// Netlists, runs and numbers of bits, and what is proposed.
-const PROPOSALS: [(&str, &str, usize, &str); 8] = [
+static PROPOSALS: [(&str, &str, usize, &str); 8] = [
     (SHIFT, PULSE, 1, ONE),
     (SHIFT, PULSE, 2, TWO),
     (SHIFT, PULSE, 5, FIVE),

@@ -96,7 +96,7 @@ const SHORT: &str = "$var wire 1 ! ck $end\n$enddefinitions $end\n#5 b01";
 const CUT: &str = "$var wire 1 ! ck $end\n$en";
 
 /// Dumps, and what they give.
-const DUMPS: [Dump<'static>; 13] = [
+static DUMPS: [Dump<'static>; 13] = [
     (ICARUS, None, "", Ok(",,,")),
     (
         ICARUS,
@@ -183,7 +183,7 @@ fn has(alloc: Global, taken: &Taken<'_>) -> Result<bool, NoMemory> {
 }
 
 /// Cycles of dumps: each edge ends one, and the end of the text the last.
-const TAKEN: [Taken<'static>; 9] = [
+static TAKEN: [Taken<'static>; 9] = [
     (
         VERILATED,
         None,

@@ -48,7 +48,7 @@ const ALL: Asked<'static> = Asked {
 };
 
 /// Netlists, states and inputs, what is asked, and the waveform.
-const VIEWS: [(&str, &str, &str, Asked<'static>, &str); 4] = [
+static VIEWS: [(&str, &str, &str, Asked<'static>, &str); 4] = [
     (BELOW, "00 10", "1", NONE, BELOW_TEXT),
     (NAMED, "0 0 1", "10 11", NONE, NAMED_TEXT),
     (BELOW, "00 10", "1", LATER, LATER_TEXT),

@@ -89,22 +89,28 @@ fn is_drawn(
 }
 
 /// Traces with their texts.
-const DRAWN: [(&str, &str, &str, &str, &str); 4] = [
+static DRAWN: [(&str, &str, &str, &str, &str); 4] = [
     (TOGGLE, "0 1", ".", TOGGLED, "0 1 /. "),
     (SHIFT, "11", "", DUMPED, "11 /"),
     (SHIFT, "00 00 00", "0 0", RESTED, "00 00 00 /0 0 "),
     (ONE, "0 1", "1", HELD, "0 1 /1 "),
 ];
 
+/// Whether a trace is drawn so, and read again.
+fn is_drawn_and_read(
+    alloc: Global,
+    (circuit, states, inputs, text, trace): &(&str, &str, &str, &str, &str),
+) -> Result<bool, NoMemory> {
+    Ok(
+        is_drawn(alloc, circuit, (*states, *inputs), text)?
+            && is_read(alloc, circuit, text.as_bytes(), trace)?,
+    )
+}
+
 #[test]
 fn traces_are_drawn_and_read_again(rt: HostRuntime) -> Result<(), Fail> {
-    let alloc = rt.alloc();
-    for (circuit, states, inputs, text, trace) in &DRAWN {
-        assert!(rt;
-            is_drawn(alloc, circuit, (*states, *inputs), text)?,
-            "{states}"
-        );
-        assert!(rt; is_read(alloc, circuit, text.as_bytes(), trace)?, "{trace}");
+    for row in &DRAWN {
+        assert!(rt; is_drawn_and_read(rt.alloc(), row)?);
     }
     Ok(())
 }
@@ -126,7 +132,7 @@ fn refused_line(alloc: Global, text: &str) -> u64 {
 }
 
 /// Changes of a text, and the line at which it is refused then.
-const WRONG: [(&str, &str, u64); 13] = [
+static WRONG: [(&str, &str, u64); 13] = [
     ("module trace", "module top", 2),
     ("! ck", "! c k", 3),
     ("$var wire 1 # q $end\n", "", 10),
@@ -158,7 +164,7 @@ fn wrong_lines_are_named(rt: HostRuntime) -> Result<(), Fail> {
 }
 
 /// Changes of a text, and the trace that is shown then.
-const SHOWN: [(&str, &str, &str, &str, &str); 5] = [
+static SHOWN: [(&str, &str, &str, &str, &str); 5] = [
     (
         TOGGLE,
         TOGGLED,
@@ -224,7 +230,7 @@ fn has(text: &[u8], word: &str) -> bool {
 }
 
 /// Lines of a great text.
-const LINES: [&str; 5] = [
+static LINES: [&str; 5] = [
     "\n$var wire 1 ~ b90 $end\n$var wire 1 !\" b91 $end\n",
     "\n$var wire 1 ~~ b8832 $end\n$var wire 1 !!\" b8833 $end\n",
     "\n1~\n1!\"\n",

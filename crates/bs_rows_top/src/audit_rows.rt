@@ -11,7 +11,7 @@ use std::test::Fail;
 type Change<'a> = (&'a str, &'a str, Status, &'a str);
 
 /// Changes of the report, and what the audit answers.
-const CHANGES: [Change<'static>; 27] = [
+static CHANGES: [Change<'static>; 27] = [
     (
         "4 1 6 0",
         "1 6 0",

@@ -37,7 +37,7 @@ pub fn push_file(
 }
 
 /// The names of the files.
-const NAMES: [&str; 5] = ["n", "s", "t", "d", "r"];
+static NAMES: [&str; 5] = ["n", "s", "t", "d", "r"];
 
 /// The five files.
 fn files(alloc: Global, texts: &Texts<'_>) -> Result<Vec<(String, Vec<u8>)>, NoMemory> {

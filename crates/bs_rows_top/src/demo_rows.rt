@@ -87,7 +87,7 @@ fn is_traced_back(alloc: Global, number: u64) -> Result<bool, NoMemory> {
 }
 
 /// The lines of two jobs.
-const DEMOS: [Row<'static>; 2] = [
+static DEMOS: [Row<'static>; 2] = [
     (
         "demo 7",
         NOTHING,

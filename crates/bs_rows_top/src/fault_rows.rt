@@ -8,7 +8,7 @@ use std::alloc::Global;
 use std::test::Fail;
 
 /// Calls with a fault, and dumps that are refused.
-const FAULTS: [Row<'static>; 16] = [
+static FAULTS: [Row<'static>; 16] = [
     (
         "dump n s t 1 3",
         SHIFTED,

@@ -22,7 +22,7 @@ const OTHERWISE: &str = "run a 2\n11110\n00000\nend\n";
 const BEFORE: &str = "state 000010\nsig .\nend\n";
 
 /// Runs with lists that are cut.
-const CUT: [Run<'static>; 21] = [
+static CUT: [Run<'static>; 21] = [
     // the moment before the hit is the one candidate
     (
         "run n s t d --candidates 1",

@@ -20,7 +20,7 @@ fn line_after(text: &[u8], count: u32) -> Option<&[u8]> {
 }
 
 /// Lines of the netlist, each behind so many others.
-const NETLIST: [(u32, &str); 20] = [
+static NETLIST: [(u32, &str); 20] = [
     (0, "module demo(ck,x0,x1,x2,x3,x4);"),
     (1, "input ck,x0,x1,x2,x3,x4;"),
     (2, "not (dc0,c0);"),
@@ -44,7 +44,7 @@ const NETLIST: [(u32, &str); 20] = [
 ];
 
 /// Lines of the stimulus.
-const STIMULUS: [(u32, &str); 9] = [
+static STIMULUS: [(u32, &str); 9] = [
     (0, "run run1 256"),
     (1, "11101"),
     (2, "11011"),

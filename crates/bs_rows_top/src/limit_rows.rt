@@ -74,7 +74,7 @@ fn first_long<'a>(alloc: Global, rows: &[LongRow<'a>]) -> Result<Option<(&'a str
 }
 
 /// Files at their limits, and past them.
-const LIMITS: [LongRow<'static>; 17] = [
+static LIMITS: [LongRow<'static>; 17] = [
     // signatures and runs
     (
         "dump n s t 1 3",
@@ -287,7 +287,7 @@ module dff(CK,Q,D); always @(posedge CK) Q <= D; endmodule module dffe(E); endmo
 ";
 
 /// Moments of netlists in which many forms stand.
-const READ: [Row<'static>; 3] = [
+static READ: [Row<'static>; 3] = [
     (
         "dump n s t 1 0",
         [

@@ -28,7 +28,7 @@ const STAYS: [&str; 3] = ["00", "10", "11"];
 const EITHER: [&str; 3] = ["0", "1", "1"];
 
 /// Enables and resets that inputs are.
-const MODES: [Run<'static>; 4] = [
+static MODES: [Run<'static>; 4] = [
     (
         "run n s t d",
         [ENABLE, "", STEPS, "state 1\nsig .\nend\n", ""],
@@ -66,7 +66,7 @@ const MODES: [Run<'static>; 4] = [
 ];
 
 /// Enables and resets that are any net.
-const NETS: [Run<'static>; 9] = [
+static NETS: [Run<'static>; 9] = [
     // never enabled: each state leads to itself alone, and no run comes to 1
     (
         "run n s t d",

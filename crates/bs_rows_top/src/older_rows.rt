@@ -9,7 +9,7 @@ use bs_top::Status;
 use std::test::Fail;
 
 /// Runs with a signature of two cycles, and the one with the like of one cycle.
-const RUNS: [Run<'static>; 4] = [
+static RUNS: [Run<'static>; 4] = [
     (
         "run n s t d",
         [
@@ -59,7 +59,7 @@ const RUNS: [Run<'static>; 4] = [
 ];
 
 /// Dumps of two cycles, and an audit.
-const DUMPS: [Row<'static>; 5] = [
+static DUMPS: [Row<'static>; 5] = [
     (
         "run n s t d",
         [

@@ -124,7 +124,7 @@ fn says_why(alloc: Global, (left, kind, want): &Failing) -> Result<bool, NoMemor
 }
 
 /// Outputs that fail in the middle of a line, before the first one, and at the end of one.
-const FAILING: [Failing; 3] = [
+static FAILING: [Failing; 3] = [
     (
         40,
         ErrorKind::StorageFull,

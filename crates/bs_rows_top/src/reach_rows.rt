@@ -13,7 +13,7 @@ const THREE: &str =
     "module h(ck,a,b,c); input ck,a,b,c; xor x(p,a,b); xor y(q,b,c); xor z(r,c,a); and g(d,p,q,r); dff f(ck,s,d); endmodule";
 
 /// Searches, and what is written.
-const SEARCHES: [Row<'static>; 12] = [
+static SEARCHES: [Row<'static>; 12] = [
     (
         "reach n 11 5",
         [SHIFT, "", "", "", ""],

@@ -18,7 +18,7 @@ const PULSE: &str = "run a 1\n1\nend\n";
 const CRASH: &str = "state 11\nsig 1\nend\n";
 
 /// Netlists, and their refusals.
-const NETLISTS: [(&str, &str); 28] = [
+static NETLISTS: [(&str, &str); 28] = [
     (LATCH, "refused netlist Loop a b\n"),
     ("(* x", "refused netlist Syntax 4\n"),
     ("", "refused netlist Syntax 0\n"),
@@ -146,7 +146,7 @@ fn netlists_are_refused(rt: HostRuntime) -> Result<(), Fail> {
 }
 
 /// Signatures and stimuli, and their refusals.
-const FILES: [Row<'static>; 7] = [
+static FILES: [Row<'static>; 7] = [
     (
         "dump n s t 1 0",
         [SHIFT, "bit q9\n", "", "", ""],
@@ -199,7 +199,7 @@ const FILES: [Row<'static>; 7] = [
 ];
 
 /// Empty files, files that are cut in the middle of a line, with line ends of two bytes, and with a byte order mark in front.
-const SEEMING: [Row<'static>; 10] = [
+static SEEMING: [Row<'static>; 10] = [
     (
         "run n s t d",
         ["\u{feff}module m(ck); endmodule", "", PULSE, CRASH, ""],

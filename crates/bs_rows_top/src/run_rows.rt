@@ -17,7 +17,7 @@ const S27: &str =
     "module dff(CK,Q,D);\ninput CK,D;\noutput Q;\nreg Q;\nalways @(posedge CK) Q <= D;\nendmodule\nmodule s27(GND,VDD,CK,G0,G1,G17,G2,G3);\ninput GND,VDD,CK,G0,G1,G2,G3;\noutput G17;\nwire G5,G10,G6,G11,G7,G13,G14,G8,G15,G12,G16,G9;\ndff DFF_0(CK,G5,G10);\ndff DFF_1(CK,G6,G11);\ndff DFF_2(CK,G7,G13);\nnot NOT_0(G14,G0);\nnot NOT_1(G17,G11);\nand AND2_0(G8,G14,G6);\nor OR2_0(G15,G12,G8);\nor OR2_1(G16,G3,G8);\nnand NAND2_0(G9,G16,G15);\nnor NOR2_0(G10,G14,G11);\nnor NOR2_1(G11,G5,G9);\nnor NOR2_2(G12,G1,G7);\nnor NOR2_3(G13,G2,G12);\nendmodule\n";
 
 /// Runs whose lists are worked out by hand.
-const RUNS: [Run<'static>; 19] = [
+static RUNS: [Run<'static>; 19] = [
     (
         "run n s t d",
         [TOGGLE, "", "run a 1\n.\nend\n", "state 1\nsig .\nend\n", ""],

@@ -15,7 +15,7 @@ fn words_of(alloc: Global, line: &str) -> Result<Vec<String>, NoMemory> {
 
 /// The files of a job, by name, and those of a shift register of three flip-flops. The latter's states are 000, 100, 110 and 011, and
 /// its signatures of the first and the last flip-flop, each of the state before: 00, 10 and 10.
-const FILES: [(&str, &str); 7] = [
+static FILES: [(&str, &str); 7] = [
     (
         "n.v",
         "module sh(ck,a); input ck,a; dff f0(ck,q0,a); dff f1(ck,q1,q0); endmodule\n",
@@ -127,7 +127,7 @@ fn first_other<'a>(
 }
 
 /// Calls, and their notes.
-const SAID: [Said<'static>; 26] = [
+static SAID: [Said<'static>; 26] = [
     (
         "run n.v s.txt t.txt d.txt e",
         "",

@@ -18,7 +18,7 @@ const FORGED: &str =
     "backspace 1\nasked 64 candidates 256 conflicts 100000\nstep 1\npresent 1\nstored .\ncand 0 input .\nlist finished 7\nhit 1 0 0\nstop reset\ntrace 1\nstate 1\ninput .\nstate 1\nlog 7\ns\nb 6 -5 3 0\ns\n7 -5 -4 0 4 1 6 0\ne 7\nr 8\nd 6 7 0\nend\n";
 
 /// Waveforms of the toggle.
-const WAVES: [Row<'static>; 7] = [
+static WAVES: [Row<'static>; 7] = [
     (
         "wave n s t d r",
         [TOGGLE, "", STEP, ONE, TOGGLED],

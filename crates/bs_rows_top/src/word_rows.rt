@@ -8,7 +8,7 @@ use std::alloc::Global;
 use std::test::Fail;
 
 /// Words that are no job, and moments of the shift register.
-const WORDS: [Row<'static>; 11] = [
+static WORDS: [Row<'static>; 11] = [
     ("", SHIFTED, SOUND, Status::Words, "refused words\n"),
     (
         "run n s t",
@@ -89,7 +89,7 @@ fn words_and_moments_are_answered(rt: HostRuntime) -> Result<(), Fail> {
 }
 
 /// Budgets of runs on the toggle, and the statuses.
-const BUDGETS: [(&str, Status); 6] = [
+static BUDGETS: [(&str, Status); 6] = [
     ("run n s t d --conflicts 1099511627776", Status::Done),
     ("run n s t d --conflicts 1099511627777", Status::Words),
     ("run n s t d --candidates 65536", Status::Done),
