@@ -1,13 +1,10 @@
-//! Worked rows on simulators, the encoding and lists of predecessors, and on searches for a state, each with ample memory: tests
-//! alone.
+//! Worked rows on simulators and the encoding, and on searches for a state, each with ample memory: tests alone.
 #![tactic(auto)]
 
 #[cfg(test)]
 mod checks;
 #[cfg(test)]
 mod encode_rows;
-#[cfg(test)]
-mod list_rows;
 #[cfg(test)]
 mod netlists;
 #[cfg(test)]
