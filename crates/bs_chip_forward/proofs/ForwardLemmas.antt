@@ -1,8 +1,6 @@
 -- Where all runs lead, cycle by cycle, and what a print that differs says.
-use Rattle.std.proofs.Common.{◌≡◌, ℕ, zero, suc, ◌<◌, ◌≤◌, ◌+◌, ◌-◌, ◌*◌, Bool, true, false, ◌||◌, List, [], ◌∷◌, ◌++◌, length, map, take, get_or, refl}
-use Rattle.std.proofs.Common.{arith, ap, ap₂, sym, subst, ◌∙◌, ◌⊎◌, ⊎_elim, length-append, Some, nat_eq}
-use Rattle.std.specs.Prelude.{◌==◌, slice_get, OnOk, OnErr, Result, Ok, Err}
-use Rattle.std.specs.Prelude.{All}
+use Rattle.std.proofs.Common.{◌≡◌, ℕ, zero, suc, ◌<◌, ◌≤◌, ◌+◌, ◌-◌, ◌*◌, Bool, true, false, ◌||◌, List, [], ◌∷◌, ◌++◌, length, map, take, get_or, refl, arith, ap, ap₂, sym, subst, ◌∙◌, ◌⊎◌, ⊎_elim, length-append, Some, nat_eq}
+use Rattle.std.specs.Prelude.{◌==◌, slice_get, OnOk, OnErr, Result, Ok, Err, All}
 use Rattle.std.specs.List.{AllByRecursion}
 use Rattle.std.proofs.lemmas.Bool.{cases_eq, cases_lt, eqb-false, true≢false}
 use Rattle.std.proofs.lemmas.List.{get_or_past, map_more}
@@ -11,7 +9,7 @@ use Rattle.std.proofs.lemmas.List.FromFn.{map-range_with_len_more}
 use Rattle.bs_net.specs.Circuit.{Circuit, next}
 use Rattle.bs_net.specs.Gate.{is_odd}
 use Rattle.bs_net.specs.Netlist.{circuit}
-use Rattle.bs_net_free.specs.Free.{IsFree}
+use Rattle.bs_chip_forward.specs.Free.{IsFree}
 use Rattle.bs_stim.specs.declared.limits.TheConstants.{MAX_CYCLES}
 use Rattle.bs_stim.specs.Packing.{bit_in, HasPut}
 use Rattle.bs_lanes.specs.Lanes.{LaneTable, IsSameTable, AreStepped}

@@ -1,2 +1,3 @@
+pub mod FreeLemmas
 pub mod ForwardLemmas
 pub mod FirstLemmas

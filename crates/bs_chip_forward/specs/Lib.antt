@@ -2,3 +2,6 @@
 pub mod Groups
 pub mod Forward
 pub mod Firsts
+-- flip-flops that load the same bit under all inputs with one data input's value
+pub mod Free
+pub mod Marked

@@ -1,7 +1,7 @@
 //! Where the recorded states lead, as prints by cycle and run: states that lead elsewhere under every input are passed over.
 ghost use Rattle.std.specs.Prelude.{◌≡◌, ◌⊎◌, ◌<◌, ◌≤◌, ◌+◌, ◌==◌, ◌||◌, false, true, length, slice_index_or, IfOk, IsTrue, OnOk};
 ghost use Rattle.bs_net.specs.Netlist.{circuit};
-ghost use Rattle.bs_net_free.specs.Free.{IsFree};
+ghost use Rattle.bs_chip_forward.specs.Free.{IsFree};
 ghost use Rattle.bs_stim.specs.declared.limits.TheConstants.{MAX_CYCLES};
 ghost use Rattle.bs_scan.specs.Moments.{moment, run_of, state_at, IsMoment};
 ghost use Rattle.bs_lanes.specs.Lanes.{is_wide};
@@ -9,12 +9,13 @@ ghost use Rattle.bs_chip_forward.specs.Forward.{Extended, Holds, IsAim, IsForwar
 ghost use Rattle.bs_chip.specs.Lockstep.{IsSamePass};
 
 use crate::firsts::{Firsts, first_of, note_rows};
+use crate::flops::free_flops;
 use crate::groups::parity_print;
 use crate::held::Held;
+use crate::split::{Split, split_of};
 use bs_bits::{Bits, List, NoMemory};
 use bs_chip::{Chip, Pass, step_to};
 use bs_net::Netlist;
-use bs_net_free::{Split, free_flops, split_of};
 use std::alloc::Global;
 use std::marker::Model;
 

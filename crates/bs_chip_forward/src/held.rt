@@ -1,7 +1,7 @@
 //! Where all lanes lead while one data input is held at a value.
 ghost use Rattle.std.specs.Prelude.{◌≡◌, ◌<◌, ◌≤◌, ◌+◌, ◌*◌, ◌^◌, length, All, IfOk, IsTrue};
 ghost use Rattle.bs_net.specs.Netlist.{circuit};
-ghost use Rattle.bs_net_free.specs.Free.{IsFree};
+ghost use Rattle.bs_chip_forward.specs.Free.{IsFree};
 ghost use Rattle.bs_lanes.specs.Lanes.{is_wide};
 ghost use Rattle.bs_chip_forward.specs.Forward.{Holds, IsHeldIn, TellLeads};
 ghost use Rattle.bs_chip_forward.specs.Groups.{AreFree};

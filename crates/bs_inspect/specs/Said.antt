@@ -17,13 +17,12 @@ use Rattle.bs_inspect_values.specs.Dumped.{dumped_looked}
 use Rattle.bs_inspect_values.specs.Simulated.{Simulated, clock_key, simulated_looked}
 use Rattle.bs_evidence.specs.declared.evidence.Format.TheVariants.{Clauses, Proof}
 use Rattle.bs_inspect_files.specs.Taken.{charted_looked, one_run_looked, exercised_looked, listed_looked, picked_looked}
-use Rattle.bs_inspect_flops.specs.Taken.{named_looked, scanned_looked}
+use Rattle.bs_inspect_files.specs.FlopFiles.{named_looked, scanned_looked}
 use Rattle.bs_inspect_notes.specs.Usages.{words_text}
 use Rattle.bs_inspect_notes.specs.Simulations.{data_clock_text}
 use Rattle.bs_inspect.specs.Asked.{clocked_of, dump_files, page_asked}
 use Rattle.bs_inspect.specs.Sources.{source_of, sources_of}
-use Rattle.bs_inspect.specs.Work.{Work, to_help, to_version, to_flops, to_inputs, to_stats, to_steps, to_trace, to_runs, to_dump, to_wave, to_signature}
-use Rattle.bs_inspect.specs.Work.{to_table, to_steps_table, to_keys, to_state, to_evidence, to_page, to_novel}
+use Rattle.bs_inspect.specs.Work.{Work, to_help, to_version, to_flops, to_inputs, to_stats, to_steps, to_trace, to_runs, to_dump, to_wave, to_signature, to_table, to_steps_table, to_keys, to_state, to_evidence, to_page, to_novel}
 
 -- the plan of a request as the notes see it: the same files and the same work, and the notes on what is refused
 abbrev pub looked_of : Request → Plan NoteCase Work

@@ -11,7 +11,7 @@ use Rattle.bs_evidence.specs.declared.evidence.Format.TheVariants.{Clauses, Proo
 use Rattle.bs_inspect_files.specs.Taken.{OneRun, Traced, Exercised, Listed, picked_of, charted_of, one_run_of, exercised_of, listed_of}
 use Rattle.bs_inspect_values.specs.Dumped.{Dumped, dumped_of}
 use Rattle.bs_inspect_values.specs.Simulated.{Simulated, simulated_of}
-use Rattle.bs_inspect_flops.specs.Taken.{Scanned, named_of, scanned_of}
+use Rattle.bs_inspect_files.specs.FlopFiles.{Scanned, named_of, scanned_of}
 use Rattle.bs_inspect_page.specs.Page.{PageAsked}
 use Rattle.bs_inspect.specs.Asked.{clocked_of, dump_files, page_asked}
 

@@ -11,24 +11,13 @@ ghost use Rattle.bs_inspect.specs.Work.{plan_of, to_runs};
 ghost use Rattle.bs_inspect_notes.specs.Simulations.{data_clock_text};
 ghost use Rattle.bs_inspect_values.specs.Simulated.{simulated_in};
 
-use crate::sources::{
-    chain_sources, dump_sources, evidence_sources, netlist_source, novel_sources, report_source,
-    runs_sources, stop_at, stop_values, traced_sources,
-};
-use crate::telling::{
-    tell_dump, tell_evidence, tell_flops, tell_inputs, tell_keys, tell_novel, tell_page, tell_runs,
-    tell_signature, tell_state, tell_stats, tell_steps, tell_steps_table, tell_table, tell_trace,
-    tell_usage, tell_version, tell_wave,
-};
+use crate::sources::{chain_sources, dump_sources, evidence_sources, netlist_source, novel_sources, report_source, runs_sources, stop_at, stop_values, traced_sources};
+use crate::telling::{tell_dump, tell_evidence, tell_flops, tell_inputs, tell_keys, tell_novel, tell_page, tell_runs, tell_signature, tell_state, tell_stats, tell_steps, tell_steps_table, tell_table, tell_trace, tell_usage, tell_version, tell_wave};
 use bs_evidence::Format;
-use bs_inspect_files::{load_charted, load_exercised, load_listed, load_one_run, load_picked};
-use bs_inspect_flops::{load_named, load_scanned};
+use bs_inspect_files::{load_charted, load_exercised, load_listed, load_named, load_one_run, load_picked, load_scanned};
 use bs_inspect_notes::data_clock_note;
 use bs_inspect_values::{Clocked, DumpFiles, Simulated, clock_key, load_dumped, load_simulated};
-use bs_inspect_words::{
-    DumpRequest, EvidenceRequest, KeysRequest, NovelRequest, PageRequest, Request,
-    SignatureRequest, StimulusRequest, TraceRequest, UnscanRequest, WaveRequest,
-};
+use bs_inspect_words::{DumpRequest, EvidenceRequest, KeysRequest, NovelRequest, PageRequest, Request, SignatureRequest, StimulusRequest, TraceRequest, UnscanRequest, WaveRequest};
 use bs_outside::{NoMemory, Shelf};
 use bs_top_answer::{Answer, Note, note_made};
 use bs_top_files::{load_netlist, load_report};

@@ -6,7 +6,7 @@ ghost use Rattle.bs_inspect_novel.specs.Novel.{TellsNovel};
 ghost use Rattle.bs_inspect_files.specs.Taken.{one_run_in, exercised_in, listed_in, traced_in};
 ghost use Rattle.bs_inspect_values.specs.Dumped.{dumped_in};
 ghost use Rattle.bs_inspect_values.specs.Simulated.{simulated_in};
-ghost use Rattle.bs_inspect_flops.specs.Taken.{scanned_in};
+ghost use Rattle.bs_inspect_files.specs.FlopFiles.{scanned_in};
 ghost use Rattle.bs_inspect_netlist.specs.Dumped.{dump_told};
 ghost use Rattle.bs_inspect_netlist.specs.Order.{state_line};
 ghost use Rattle.bs_inspect_view.specs.View.{IsDrawing};
@@ -17,12 +17,9 @@ ghost use Rattle.bs_inspect.specs.Work.{to_dump, to_evidence, to_flops, to_help,
 
 use crate::usage::{usage_text, version_text};
 use bs_evidence::{Evidence, Flaw, Format, evidence_of, flaw_text};
-use bs_inspect_files::{Exercised, Listed, OneRun, Traced};
-use bs_inspect_flops::Scanned;
+use bs_inspect_files::{Exercised, Listed, OneRun, Scanned, Traced};
 use bs_inspect_lists::signature_text;
-use bs_inspect_netlist::{
-    flops_text, inputs_text, keys_text, last_dump, last_state, state_text, stats_text,
-};
+use bs_inspect_netlist::{flops_text, inputs_text, keys_text, last_dump, last_state, state_text, stats_text};
 use bs_inspect_novel::novel_text;
 use bs_inspect_page::{PageAsked, page_text};
 use bs_inspect_report::{remarks_text, steps_table, steps_text, trace_table, trace_text};

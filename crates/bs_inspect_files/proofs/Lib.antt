@@ -1,1 +1,3 @@
+pub mod CalledLemmas
+pub mod LineLemmas
 pub mod FitLemmas

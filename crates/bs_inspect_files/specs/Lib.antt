@@ -1,3 +1,6 @@
+pub mod FlopWords
+pub mod Readings
+pub mod FlopFiles
 pub mod Taken
 pub mod Words
 pub mod Fits

@@ -13,7 +13,7 @@ use Rattle.bs_top_files.specs.NoteCases.{NoteCase}
 use Rattle.bs_top_files.specs.Noting.{moment_noted, size_noted}
 use Rattle.bs_top_files.specs.Readings.{moment_in, size_in}
 use Rattle.bs_top_files.specs.Refusals.{Case}
-use Rattle.bs_inspect_flops.specs.Readings.{called_in, called_noted}
+use Rattle.bs_inspect_files.specs.Readings.{called_in, called_noted}
 use Rattle.bs_inspect_files.specs.Fits.{fit_in, known_in}
 use Rattle.bs_inspect_files.specs.Saying.{fit_noted, known_noted}
 use Rattle.bs_inspect_files.specs.declared.ready.OneRun.{OneRun as CodeOneRun}

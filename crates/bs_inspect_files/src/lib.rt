@@ -1,18 +1,26 @@
-//! The files of a request about a report or recorded runs: each is fetched, read and checked before the next, up to what they make
-//! ready or the first refusal.
+//! The files of a request about a report, recorded runs or flip-flops: each is fetched, read and checked before the next, up to
+//! what they make ready or the first refusal.
 //!
-//! Modules: `refusals` (the words of a name's refusal), `fits` (whether a trace fits a netlist, and
-//! names are its own, or what is told), `ready` (`Traced`, `Exercised`, `Listed`, `OneRun`), `tracing` (the walks). The
-//! netlist, the report and the stimulus are fetched and read by bs_top_files; a simulation's values by
-//! bs_inspect_values. Used above: `WalksTold CheckSays NoteSays ..` over the two plans of
-//! `specs/Taken`. A refusal: `specs/Words` with `refusals`, its note in `specs/Saying`; a file: its
-//! two plans and a walk.
+//! Modules: `refusals` and `flop_refusals` (the words of a refusal), `lines` (a note on a line), `fits` (whether a trace fits a
+//! netlist, and names are its own, or what is told), `called`, `order` and `pattern` (names, a scan chain's order and a pattern: a
+//! reader each, `*_or_told`), `ready` (`Traced`, `Exercised`, `Listed`, `OneRun`, `Scanned`), `tracing` and `loading` (the walks).
+//! The netlist, the report and the stimulus are fetched and read by bs_top_files; a simulation's values by
+//! bs_inspect_values; what names, an order and a pattern are is said by bs_inspect_netlist. Used above: `WalksTold CheckSays
+//! NoteSays ..` over the two plans of `specs/Taken` and `specs/FlopFiles`. A refusal: `specs/Words` or `specs/FlopWords`, its note in
+//! `specs/Saying` or `specs/Readings`; a file: its two plans and a walk.
 #![tactic(auto)]
 
+mod called;
 mod fits;
+mod flop_refusals;
+mod lines;
+mod loading;
+mod order;
+mod pattern;
 mod ready;
 mod refusals;
 mod tracing;
 
-pub use ready::{Exercised, Listed, OneRun, Traced};
+pub use loading::{load_named, load_scanned};
+pub use ready::{Exercised, Listed, OneRun, Scanned, Traced};
 pub use tracing::{load_charted, load_exercised, load_listed, load_one_run, load_picked};

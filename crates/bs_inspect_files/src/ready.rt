@@ -5,6 +5,7 @@ ghost use Rattle.bs_net.specs.Netlist.{circuit};
 ghost use Rattle.bs_scan.specs.Moments.{IsMoment};
 ghost use Rattle.bs_stim.specs.Runs.{inputs_of};
 
+use bs_bits::Bits;
 use bs_net::Netlist;
 use bs_report::Report;
 use bs_scan::{Choice, Moment};
@@ -44,4 +45,12 @@ pub struct OneRun {
     pub exercised: Exercised,
     pub moment: Moment,
     ghost recorded: { IsMoment (inputs_of exercised.runs) moment },
+}
+
+/// A netlist, the flip-flops of a scan chain in its order, by their numbers from 0, and a pattern in that order.
+#[derive(Drop)]
+pub struct Scanned {
+    pub net: Netlist,
+    pub order: Vec<usize>,
+    pub pattern: Bits,
 }

@@ -4,19 +4,16 @@ ghost use Rattle.bs_net.specs.Netlist.{circuit};
 ghost use Rattle.bs_top_plan.specs.Telling.{WalksTold};
 ghost use Rattle.bs_top_files.specs.NoteCases.{NoteSays};
 ghost use Rattle.bs_top_files.specs.Refusals.{CheckSays};
-ghost use Rattle.bs_inspect_files.specs.Taken.{chart_step, chart_step_looked, charted_looked, charted_of, one_run_in, one_run_looked, one_run_of, drawn_step, drawn_step_looked, exercised_in, exercised_looked, exercised_of, picked_looked, picked_of};
-ghost use Rattle.bs_inspect_files.specs.Taken.{choice_step, choice_step_looked, fit_step, fit_step_looked, listed_in, listed_looked, listed_of, listed_step, listed_step_looked, report_step, report_step_looked, runs_step, runs_step_looked, traced_in, traced_looked, traced_of};
+ghost use Rattle.bs_inspect_files.specs.Taken.{chart_step, chart_step_looked, charted_looked, charted_of, one_run_in, one_run_looked, one_run_of, drawn_step, drawn_step_looked, exercised_in, exercised_looked, exercised_of, picked_looked, picked_of, choice_step, choice_step_looked, fit_step, fit_step_looked, listed_in, listed_looked, listed_of, listed_step, listed_step_looked, report_step, report_step_looked, runs_step, runs_step_looked, traced_in, traced_looked, traced_of};
 
+use crate::called::called_or_told;
 use crate::fits::{fit_or_told, known_or_told};
 use crate::ready::{Exercised, Listed, OneRun, Traced};
-use bs_inspect_flops::called_or_told;
 use bs_net::Netlist;
 use bs_outside::Shelf;
 use bs_report::Report;
 use bs_scan::Choice;
-use bs_top_files::{
-    load_netlist, load_report, load_signature, load_stimulus, moment_or_told, size_or_told,
-};
+use bs_top_files::{load_netlist, load_report, load_signature, load_stimulus, moment_or_told, size_or_told};
 use bs_top_plan::{File, Stop, settle_told};
 use std::alloc::Global;
 

@@ -2,7 +2,7 @@
 use Rattle.std.specs.Prelude.{ℕ, ◌==◌, nat_eq, Bool, false, not, List, [], ◌∷◌, ◌++◌, codes, decimal, slice_index, Option, Some, None, if◌then◌else◌}
 use Rattle.std.specs.List.{list_any, position, starts_with}
 use Rattle.std.specs.Str.{bytes_eq}
-use Rattle.bs_inspect_declared.specs.Tokens.{is_white}
+use Rattle.bs_vcd_header.specs.Tokens.{is_white}
 use Rattle.bs_note_files.specs.Notes.{Saying, saying, file_text, pair_text, plain_text}
 use Rattle.bs_inspect_notes.specs.declared.name.Subject.{Subject}
 use Rattle.bs_inspect_notes.specs.declared.name.Subject.TheVariants.{Inputs, Flops}

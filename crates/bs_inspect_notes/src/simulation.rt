@@ -2,9 +2,8 @@
 ghost use Rattle.std.specs.Prelude.{◌≡◌, ◌<◌, ◌++◌, length, map, not, option_map, IfOk, IfSome, OnOk, codes, decimal};
 ghost use Rattle.std.specs.List.{list_any, position};
 ghost use Rattle.std.specs.Str.{bytes_eq};
-ghost use Rattle.bs_inspect_declared.specs.Tokens.{is_white};
-ghost use Rattle.bs_inspect_notes.specs.Simulations.{any_sentence, begins, clock_piece, clock_sentence, clock_text, cycles_text, data_clock_text, data_sentence, ended_text, foreign, has_scope, input_hint, input_sentence, input_text};
-ghost use Rattle.bs_inspect_notes.specs.Simulations.{own_sentence, path_sentence, scope_sentence, scoped_sentence, short_text, subject_piece, unknown_hint, unknown_sentence, unknown_text};
+ghost use Rattle.bs_vcd_header.specs.Tokens.{is_white};
+ghost use Rattle.bs_inspect_notes.specs.Simulations.{any_sentence, begins, clock_piece, clock_sentence, clock_text, cycles_text, data_clock_text, data_sentence, ended_text, foreign, has_scope, input_hint, input_sentence, input_text, own_sentence, path_sentence, scope_sentence, scoped_sentence, short_text, subject_piece, unknown_hint, unknown_sentence, unknown_text};
 
 use crate::listing::{push_name, push_some_listing, push_some_near};
 use crate::name::{Subject, subject_word};

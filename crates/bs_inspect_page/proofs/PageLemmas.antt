@@ -7,12 +7,11 @@ use Rattle.bs_net.specs.Parts.{Parts}
 use Rattle.bs_report.specs.declared.report.Report.{Report}
 use Rattle.bs_inspect_page.specs.Opens.{opens_of}
 use Rattle.bs_net_names.specs.Signals.{Signal}
-use Rattle.bs_inspect_cells.specs.Rows.{group_text}
-use Rattle.bs_inspect_cells.proofs.PutLemmas.{four_put, three_put}
+use Rattle.bs_inspect_page.specs.Rows.{group_text}
+use Rattle.bs_inspect_page.proofs.PutLemmas.{four_put, three_put}
 use Rattle.bs_inspect_report.specs.Lemmas.{lemmas_logged}
 use Rattle.bs_inspect_page.specs.Front.{front_text}
-use Rattle.bs_inspect_page.specs.Page.{PageAsked, ShowsOpen, ShowsReport, end_text, flops_heading, input_figure, inputs_heading, page_text, state_figure}
-use Rattle.bs_inspect_page.specs.Page.{trace_front, trace_text}
+use Rattle.bs_inspect_page.specs.Page.{PageAsked, ShowsOpen, ShowsReport, end_text, flops_heading, input_figure, inputs_heading, page_text, state_figure, trace_front, trace_text}
 use Rattle.bs_inspect_page.specs.Steps.{steps_front, steps_part, steps_rows}
 
 pub opens_there : (result : Result (Vec ℕ Global) NoMemory) (raw : Parts) (r : Report) (a : PageAsked) (opens : List (List Bool)) →

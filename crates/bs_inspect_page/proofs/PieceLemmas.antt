@@ -7,7 +7,7 @@ use Rattle.bs_report.specs.declared.report.Budgets.{Budgets}
 use Rattle.bs_report.specs.declared.report.Report.{Report}
 use Rattle.bs_report.specs.declared.report.Step.{Step}
 use Rattle.bs_inspect_report.specs.Steps.{list_word}
-use Rattle.bs_inspect_cells.proofs.PutLemmas.{five_put, four_put, three_put, two_put}
+use Rattle.bs_inspect_page.proofs.PutLemmas.{five_put, four_put, three_put, two_put}
 use Rattle.bs_inspect_page.specs.Columns.{columns_text, far_column, moment_text, origin_text}
 use Rattle.bs_inspect_page.specs.Front.{audit_part, budgets_line, chip_line, head_text, lists_words, shown_path, title_text}
 use Rattle.bs_inspect_page.specs.Opens.{step_of}

@@ -1,8 +1,8 @@
 -- A name with marks, and the cells of a bit over four moments.
 use Rattle.std.proofs.Common.{◌≡◌, ℕ, Bool, true, false, List, [], ◌∷◌, refl}
 use Rattle.std.specs.Prelude.{codes}
-use Rattle.bs_inspect_cells.specs.Cells.{Figure, ValueCell, cells_of}
-use Rattle.bs_inspect_cells.specs.Escapes.{html_escaped}
+use Rattle.bs_inspect_page.specs.Cells.{Figure, ValueCell, cells_of}
+use Rattle.bs_inspect_page.specs.Escapes.{html_escaped}
 
 escaped_name : html_escaped (codes "a<b>&'[3:0]") ≡ codes "a&lt;b&gt;&amp;&apos;[3:0]"
 escaped_name = refl

@@ -6,7 +6,7 @@ use Rattle.bs_report.specs.declared.report.Budgets.{Budgets}
 use Rattle.bs_report.specs.declared.report.Report.{Report}
 use Rattle.bs_report.specs.declared.report.Stop.{Stop as StopCause}
 use Rattle.bs_report.specs.declared.report.Stop.TheVariants as stops
-use Rattle.bs_inspect_cells.specs.Escapes.{html_escaped}
+use Rattle.bs_inspect_page.specs.Escapes.{html_escaped}
 use Rattle.bs_inspect_page.specs.Style.{style_text}
 
 abbrev pub stop_text : StopCause → List ℕ

@@ -1,3 +1,8 @@
+pub mod Escapes
+pub mod Cells
+pub mod Figures
+pub mod Rows
+pub mod CellLaw
 pub mod Style
 pub mod Front
 pub mod Opens

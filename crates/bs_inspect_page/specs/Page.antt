@@ -3,8 +3,8 @@ use Rattle.std.specs.Prelude.{◌≡◌, ℕ, ◌==◌, nat_lt, not, ◌&&◌, �
 use Rattle.bs_net.specs.Parts.{Parts}
 use Rattle.bs_net_names.specs.Signals.{AreSignals, Signal}
 use Rattle.bs_report.specs.declared.report.Report.{Report}
-use Rattle.bs_inspect_cells.specs.Cells.{Figure, is_lively}
-use Rattle.bs_inspect_cells.specs.Rows.{group_text}
+use Rattle.bs_inspect_page.specs.Cells.{Figure, is_lively}
+use Rattle.bs_inspect_page.specs.Rows.{group_text}
 use Rattle.bs_inspect_report.specs.Keys.{flop_keys, input_keys}
 use Rattle.bs_inspect_view.specs.Drawn.{is_nameless}
 use Rattle.bs_inspect_page.specs.Columns.{columns_text}

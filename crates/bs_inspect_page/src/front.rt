@@ -3,9 +3,9 @@ ghost use Rattle.std.specs.Prelude.{◌≡◌, ◌++◌, length, OnOk};
 ghost use Rattle.bs_net.specs.Netlist.{circuit_of};
 ghost use Rattle.bs_inspect_page.specs.Front.{audit_part, budgets_line, chip_line, front_text, head_text, lists_words, shown_path, stop_part, stop_text, title_text};
 
+use crate::escape::push_escaped;
 use crate::style::push_style;
 use bs_bits::{NoMemory, push_number, push_piece};
-use bs_inspect_cells::push_escaped;
 use bs_net::Netlist;
 use bs_report::{Budgets, Report, Stop};
 

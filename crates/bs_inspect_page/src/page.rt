@@ -1,17 +1,18 @@
 //! The page of a report.
 ghost use Rattle.std.specs.Prelude.{◌≡◌, ◌<◌, ◌^◌, ◌++◌, length, map, All, IfOk, OnOk};
 ghost use Rattle.bs_net_names.specs.Signals.{signal_in};
-ghost use Rattle.bs_inspect_cells.specs.Rows.{group_text};
+ghost use Rattle.bs_inspect_page.specs.Rows.{group_text};
 ghost use Rattle.bs_inspect_page.specs.Page.{AreDrawnFlops, AreDrawnInputs, ShowsOpen, ShowsReport, asked_in, end_text, flops_heading, inputs_heading, input_figure, page_text, state_figure, trace_front, trace_text};
 
 use crate::asked::PageAsked;
 use crate::columns::push_columns;
 use crate::drawn::{keep_first, keep_first_drawn};
+use crate::figure::Figure;
 use crate::front::push_front;
 use crate::opens::opens_of;
+use crate::rows::push_group;
 use crate::step_table::push_step_table;
 use bs_bits::{Bits, List, NoMemory, push_piece};
-use bs_inspect_cells::{Figure, push_group};
 use bs_inspect_report::{flop_signals, input_signals};
 use bs_net::Netlist;
 use bs_net_names::Signal;

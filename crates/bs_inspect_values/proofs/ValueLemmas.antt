@@ -5,9 +5,9 @@ use Rattle.std.specs.Prelude.{IfOk, nat_lt, if◌then◌else◌}
 use Rattle.std.specs.declared.alloc.Global.{Global}
 use Rattle.bs_bits.specs.declared.memory.NoMemory.{NoMemory}
 use Rattle.bs_stim.specs.declared.limits.TheConstants.{MAX_CYCLES}
-use Rattle.bs_inspect_declared.specs.Header.{Declared}
+use Rattle.bs_vcd_header.specs.Header.{Declared}
 use Rattle.bs_net_names.specs.Keys.{KeyParts, key_parts}
-use Rattle.bs_inspect_declared.specs.Scopes.{declared_of, names_of, scopes_of}
+use Rattle.bs_vcd_header.specs.Scopes.{declared_of, names_of, scopes_of}
 use Rattle.bs_note_files.specs.Notes.{Saying, file_text}
 use Rattle.bs_inspect_notes.specs.declared.name.Subject.{Subject}
 use Rattle.bs_inspect_notes.specs.declared.name.Subject.TheVariants.{Inputs, Flops}
@@ -16,12 +16,12 @@ use Rattle.bs_top_plan.specs.Plan.{Reason, exactly, Says}
 use Rattle.bs_top_files.specs.NoteCases.{HasNote, IsNoteAtLine, NoteCase, NoteSays}
 use Rattle.bs_top_files.specs.Noting.{noted_by}
 use Rattle.bs_inspect_values.specs.Saying.{clock_said, declarations, declared_or, few_noted, foreign_or, input_said, lines_noted, states_noted, vcd_note_reason}
-use Rattle.bs_inspect_declared.specs.declared.fault.VcdFault.{VcdFault}
-use Rattle.bs_inspect_declared.specs.declared.fault.VcdFault.TheVariants.{NoMemory as Want}
-use Rattle.bs_inspect_declared.specs.Sources.{scope_of}
-use Rattle.bs_inspect_vcd.specs.declared.cycles.When.{When}
-use Rattle.bs_inspect_vcd.specs.Cycles.{states_in}
-use Rattle.bs_inspect_vcd.specs.Stimulus.{stimulus_in}
+use Rattle.bs_vcd_header.specs.declared.fault.VcdFault.{VcdFault}
+use Rattle.bs_vcd_header.specs.declared.fault.VcdFault.TheVariants.{NoMemory as Want}
+use Rattle.bs_vcd_header.specs.Sources.{scope_of}
+use Rattle.bs_vcd.specs.declared.cycles.When.{When}
+use Rattle.bs_vcd.specs.Cycles.{states_in}
+use Rattle.bs_vcd.specs.Stimulus.{stimulus_in}
 use Rattle.bs_top_plan.specs.declared.walk.Refusal.{Refusal}
 use Rattle.bs_top_plan.specs.declared.walk.Refusal.TheVariants as Q
 use Rattle.bs_top_plan.specs.Walks.{Reads}

@@ -5,8 +5,8 @@ use Rattle.bs_net.specs.Parts.{Parts}
 use Rattle.bs_scan.specs.Choice.{Chosen, depth_of}
 use Rattle.bs_inspect_notes.specs.declared.name.Subject.TheVariants.{Flops}
 use Rattle.bs_inspect_report.specs.Keys.{flop_keys}
-use Rattle.bs_inspect_vcd.specs.declared.cycles.When.{When}
-use Rattle.bs_inspect_vcd.specs.Cycles.{states_in}
+use Rattle.bs_vcd.specs.declared.cycles.When.{When}
+use Rattle.bs_vcd.specs.Cycles.{states_in}
 use Rattle.bs_top_plan.specs.declared.file.File.TheVariants as files
 use Rattle.bs_top_plan.specs.Plan.{Reason, Plan, ◌>>=◌, end, fetched, read_as}
 use Rattle.bs_top_files.specs.Entry.{netlist_of, signature_of}

@@ -4,14 +4,14 @@ use Rattle.std.specs.List.{list_any}
 use Rattle.bs_net.specs.Parts.{Parts}
 use Rattle.bs_stim.specs.declared.limits.TheConstants.{MAX_CYCLES}
 use Rattle.bs_net_names.specs.Keys.{key_parts}
-use Rattle.bs_inspect_declared.specs.declared.fault.VcdFault.{VcdFault}
-use Rattle.bs_inspect_declared.specs.declared.fault.VcdFault.TheVariants as vcd
-use Rattle.bs_inspect_declared.specs.Header.{Declared, nothing_declared}
-use Rattle.bs_inspect_declared.specs.Scopes.{declared_of, names_of, scopes_of}
-use Rattle.bs_inspect_declared.specs.Sources.{scope_of}
-use Rattle.bs_inspect_vcd.specs.declared.cycles.When.{When}
-use Rattle.bs_inspect_vcd.specs.Cycles.{states_in}
-use Rattle.bs_inspect_vcd.specs.Stimulus.{stimulus_in}
+use Rattle.bs_vcd_header.specs.declared.fault.VcdFault.{VcdFault}
+use Rattle.bs_vcd_header.specs.declared.fault.VcdFault.TheVariants as vcd
+use Rattle.bs_vcd_header.specs.Header.{Declared, nothing_declared}
+use Rattle.bs_vcd_header.specs.Scopes.{declared_of, names_of, scopes_of}
+use Rattle.bs_vcd_header.specs.Sources.{scope_of}
+use Rattle.bs_vcd.specs.declared.cycles.When.{When}
+use Rattle.bs_vcd.specs.Cycles.{states_in}
+use Rattle.bs_vcd.specs.Stimulus.{stimulus_in}
 use Rattle.bs_inspect_report.specs.Keys.{flop_keys, input_keys}
 use Rattle.bs_note_files.specs.Notes.{Saying, saying, file_text}
 use Rattle.bs_inspect_notes.specs.declared.name.Subject.{Subject}

@@ -3,8 +3,8 @@
 use Rattle.std.specs.Prelude.{ℕ, List, [], ◌++◌, codes, decimal, slice_index_or}
 use Rattle.bs_inspect_values.specs.declared.fault.MapFault.{MapFault}
 use Rattle.bs_inspect_values.specs.declared.fault.MapFault.TheVariants as names
-use Rattle.bs_inspect_declared.specs.declared.fault.VcdFault.{VcdFault}
-use Rattle.bs_inspect_declared.specs.declared.fault.VcdFault.TheVariants as vcd
+use Rattle.bs_vcd_header.specs.declared.fault.VcdFault.{VcdFault}
+use Rattle.bs_vcd_header.specs.declared.fault.VcdFault.TheVariants as vcd
 use Rattle.bs_top_plan.specs.Plan.{Reason, exactly}
 use Rattle.bs_top_files.specs.Refusals.{Case}
 

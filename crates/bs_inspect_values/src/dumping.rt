@@ -16,12 +16,12 @@ use crate::ready::{Dumped, Signed, Unsigned};
 use crate::values::{Sampling, states_or_told};
 use bs_bits::{Bits, List};
 use bs_inspect_notes::Subject;
-use bs_inspect_vcd::When;
 use bs_net::{NetId, Netlist};
 use bs_outside::Shelf;
 use bs_scan::Choice;
 use bs_top_files::{load_netlist, load_signature};
 use bs_top_plan::{File, JobFault, Stop, fetch_file, settle_told};
+use bs_vcd::When;
 use std::alloc::Global;
 
 /// The file of values with the name of the clock there and the path of a scope, where one is asked for; the moment, and how many earlier

@@ -1,16 +1,16 @@
 //! The words of a refusal line, for each fault of the readers (docs/FORMATS.md, "Refusal lines").
 ghost use Rattle.std.specs.Prelude.{◌≡◌, ◌++◌, codes, decimal, map, IfOk, IfErr};
 ghost use Rattle.bs_inspect_values.specs.declared.fault.MapFault.TheVariants.{NoMemory as MapWant};
-ghost use Rattle.bs_inspect_declared.specs.declared.fault.VcdFault.TheVariants.{NoMemory as VcdWant};
+ghost use Rattle.bs_vcd_header.specs.declared.fault.VcdFault.TheVariants.{NoMemory as VcdWant};
 ghost use Rattle.bs_top_plan.specs.declared.walk.Refusal.TheVariants.{NoMemory as Want};
 ghost use Rattle.bs_top_files.specs.Refusals.{HasWords};
 ghost use Rattle.bs_inspect_values.specs.Words.{cycles_words, key_at, map_words, vcd_words};
 
 use crate::fault::MapFault;
 use bs_bits::{NoMemory, push_number, push_piece};
-use bs_inspect_declared::VcdFault;
 use bs_top_files::worded;
 use bs_top_plan::Refusal;
+use bs_vcd_header::VcdFault;
 use std::alloc::Global;
 
 // ---- words of one form

@@ -1,11 +1,11 @@
 //! The values of a simulator, or what is told of their text.
 ghost use Rattle.std.specs.Prelude.{◌≡◌, ◌<◌, ◌≤◌, length, map, option_map, All, IfOk, Ok as TheOk};
 ghost use Rattle.bs_bits.specs.Reading.{Answers};
-ghost use Rattle.bs_inspect_declared.specs.declared.fault.VcdFault.TheVariants.{NoMemory as VcdWant};
-ghost use Rattle.bs_inspect_declared.specs.Header.{declared_in};
-ghost use Rattle.bs_inspect_vcd.specs.Cycles.{states_in};
-ghost use Rattle.bs_inspect_vcd.specs.Stimulus.{stimulus_in};
-ghost use Rattle.bs_inspect_notes.specs.Simulations.{word_saying};
+ghost use Rattle.bs_vcd_header.specs.declared.fault.VcdFault.TheVariants.{NoMemory as VcdWant};
+ghost use Rattle.bs_vcd_header.specs.Header.{declared_in};
+ghost use Rattle.bs_vcd.specs.Cycles.{states_in};
+ghost use Rattle.bs_vcd.specs.Stimulus.{stimulus_in};
+ghost use Rattle.bs_inspect_notes.specs.Simulations.{word_saying, cycles_text, unknown_text};
 ghost use Rattle.bs_note_files.specs.Notes.{said};
 ghost use Rattle.bs_top_plan.specs.declared.limits.TheConstants.{MAX_VCD_BYTES};
 ghost use Rattle.bs_top_plan.specs.declared.walk.Refusal.TheVariants.{NoMemory as Want};
@@ -14,7 +14,6 @@ ghost use Rattle.bs_top_plan.specs.Told.{note_refusal, noted, word_refusal, word
 ghost use Rattle.bs_top_plan.specs.Walks.{Reads};
 ghost use Rattle.bs_top_files.specs.NoteCases.{HasNote, IsNoteAtLine, NoteSays};
 ghost use Rattle.bs_top_files.specs.Refusals.{CheckSays, HasWords};
-ghost use Rattle.bs_inspect_notes.specs.Simulations.{cycles_text, unknown_text};
 ghost use Rattle.bs_inspect_values.specs.Saying.{clock_said, declarations, fault_reason, few_noted, input_said, lines_noted, states_noted, vcd_note_reason};
 ghost use Rattle.bs_inspect_values.specs.Dumped.{states_read};
 ghost use Rattle.bs_inspect_values.specs.Simulated.{few_lines, lines_read};
@@ -24,15 +23,13 @@ use crate::keys::maybe_bytes;
 use crate::lines::line_note;
 use crate::refusals::{cycles_refusal, key_at, vcd_refusal};
 use bs_bits::{Bits, List, NoMemory};
-use bs_inspect_declared::{Declared, VcdFault, declared, names_of, scope_of, scopes_of};
-use bs_inspect_notes::{
-    Subject, clock_note, cycles_note, ended_note, foreign, input_note, short_note, unknown_note,
-};
-use bs_inspect_vcd::{When, states, stimulus};
+use bs_inspect_notes::{Subject, clock_note, cycles_note, ended_note, foreign, input_note, short_note, unknown_note};
 use bs_net_names::key_parts;
 use bs_note_files::{Message, file_note};
 use bs_stim::MAX_CYCLES;
 use bs_top_plan::{Unread, both};
+use bs_vcd::{When, states, stimulus};
+use bs_vcd_header::{Declared, VcdFault, declared, names_of, scope_of, scopes_of};
 use std::alloc::Global;
 
 /// The file of a simulator's values, the name of the clock in it, and the path of a scope, where one is asked for.

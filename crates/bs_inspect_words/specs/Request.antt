@@ -10,8 +10,8 @@ use Rattle.bs_inspect_words.specs.declared.paged.TheConstants.{DEFAULT_DRAWN, MA
 use Rattle.bs_top_words.specs.declared.limits.TheConstants.{MAX_BITS}
 use Rattle.bs_top_words.specs.Given.{Setting, Given, read_all, start}
 use Rattle.bs_top_words.specs.Options.{number_between}
-use Rattle.bs_inspect_vcd.specs.declared.cycles.When.{When}
-use Rattle.bs_inspect_vcd.specs.declared.cycles.When.TheVariants as W
+use Rattle.bs_vcd.specs.declared.cycles.When.{When}
+use Rattle.bs_vcd.specs.declared.cycles.When.TheVariants as W
 use Rattle.bs_inspect_words.specs.declared.evidence.TheConstants.{MAX_STEP}
 use Rattle.bs_inspect_words.specs.declared.novel.TheConstants.{MAX_LINES}
 use Rattle.bs_inspect_words.specs.Settings.{fit, is_given, value_of, values_of}

@@ -1,7 +1,7 @@
 //! The requests: a command, its files and its options.
 use crate::paged::PageRequest;
 use crate::proposed::{NovelRequest, SignatureRequest};
-use bs_inspect_vcd::When;
+use bs_vcd::When;
 
 /// `keys`: the name of its file, and one name or more.
 #[derive(Drop)]

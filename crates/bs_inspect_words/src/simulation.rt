@@ -10,9 +10,9 @@ use crate::named::copied;
 use crate::request::{DumpRequest, Request, StimulusRequest};
 use crate::settings::{fit, value_of};
 use bs_bits::{NoMemory, read_number};
-use bs_inspect_vcd::When;
 use bs_stim::{MAX_CYCLES, MAX_RUNS};
 use bs_top_words::{Flag, Given, Setting, number_between};
+use bs_vcd::When;
 use std::alloc::Global;
 
 // ---- runs

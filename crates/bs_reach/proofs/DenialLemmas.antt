@@ -10,9 +10,9 @@ use Rattle.bs_reach_unrolled.specs.Unrolled.{next_at, length_assumes}
 use Rattle.bs_log.specs.Refusal.{has_distinct_variables, denies}
 use Rattle.bs_log.specs.Propagation.{hints_are_unit, last_is_false}
 use Rattle.bs_log.specs.Lean.{IsResolventOf}
-use Rattle.bs_reach_forced.specs.declared.denying.Lemma.{Lemma}
-use Rattle.bs_reach_forced.specs.Rows.{Refutes}
-use Rattle.bs_reach_forced.proofs.NamedLemmas.{rows_named}
+use Rattle.bs_reach_implied.specs.declared.denying.Lemma.{Lemma}
+use Rattle.bs_reach_implied.specs.Rows.{Refutes}
+use Rattle.bs_reach_implied.proofs.NamedLemmas.{rows_named}
 use Rattle.bs_solve.specs.declared.denying.Denial.{Denial}
 use Rattle.bs_solve.specs.Denying.{Denies}
 use Rattle.bs_reach.specs.Denials.{AreDenials}

@@ -1,3 +1,14 @@
+pub mod ShiftLemmas
+pub mod PropagationLemmas
+pub mod ResolventLemmas
+pub mod EntryLemmas
+pub mod AxiomLemmas
+pub mod StateLemmas
+pub mod RefusalLemmas
+pub mod StepLemmas
+pub mod LeanLemmas
+pub mod RoomLemmas
+pub mod LogLemmas
 pub mod DenialLemmas
 pub mod RefutedLemmas
 pub mod SoughtLemmas

@@ -22,11 +22,11 @@ use Rattle.bs_reach_unrolled.specs.Unrolled.{base_of, copy_of, states_at, next_a
 use Rattle.bs_reach_unrolled.specs.Room.{IsUnrollable}
 use Rattle.bs_reach_unrolled.proofs.UnrollLemmas.{copies_fit}
 use Rattle.bs_reach_unrolled.proofs.UnrolledLemmas.{unrolled_range}
-use Rattle.bs_reach_renamed.specs.declared.shift.Shift.{Shift}
-use Rattle.bs_reach_renamed.specs.Renamed.{new_variable, new_literal, new_clause}
-use Rattle.bs_reach_renamed.specs.Widened.{IsNewVariable, IsWidened}
-use Rattle.bs_reach_renamed.proofs.ShiftLemmas.{variable_climbs}
-use Rattle.bs_reach_renamed.proofs.AxiomLemmas.{clause_stays}
+use Rattle.bs_reach.specs.declared.shift.Shift.{Shift}
+use Rattle.bs_reach.specs.Renamed.{new_variable, new_literal, new_clause}
+use Rattle.bs_reach.specs.Widened.{IsNewVariable, IsWidened}
+use Rattle.bs_reach.proofs.ShiftLemmas.{variable_climbs}
+use Rattle.bs_reach.proofs.AxiomLemmas.{clause_stays}
 use Rattle.bs_clause.proofs.Literals.{literal_from_parts}
 use Rattle.bs_reach.specs.Wider.{shift_between}
 

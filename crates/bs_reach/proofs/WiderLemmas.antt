@@ -22,12 +22,12 @@ use Rattle.bs_reach_unrolled.specs.declared.limits.TheConstants.{MAX_COPIES}
 use Rattle.bs_reach_unrolled.specs.Execution.{NotBefore, IsExecution}
 use Rattle.bs_reach_unrolled.specs.Room.{IsUnrollable}
 use Rattle.bs_reach_unrolled.specs.Unrolled.{length_assumes, reach_problem}
-use Rattle.bs_reach_renamed.specs.declared.shift.Shift.{Shift}
-use Rattle.bs_reach_renamed.specs.Renamed.{new_line, HasRoom}
-use Rattle.bs_reach_renamed.specs.Widened.{IsWidened, StaysRight, LogsStayRight, LogsHaveRoom}
-use Rattle.bs_reach_renamed.proofs.EntryLemmas.{new_lines}
-use Rattle.bs_reach_renamed.proofs.LogLemmas.{reversed_lines}
-use Rattle.bs_reach_renamed.proofs.StateLemmas.{listed_all}
+use Rattle.bs_reach.specs.declared.shift.Shift.{Shift}
+use Rattle.bs_reach.specs.Renamed.{new_line, HasRoom}
+use Rattle.bs_reach.specs.Widened.{IsWidened, StaysRight, LogsStayRight, LogsHaveRoom}
+use Rattle.bs_reach.proofs.EntryLemmas.{new_lines}
+use Rattle.bs_reach.proofs.LogLemmas.{reversed_lines}
+use Rattle.bs_reach.proofs.StateLemmas.{listed_all}
 use Rattle.bs_reach.specs.declared.wider.TheConstants.{ID_ROOM}
 use Rattle.bs_reach.specs.declared.reach.Outcome.{Outcome}
 use Rattle.bs_reach.specs.declared.reach.Outcome.TheVariants.{Reached, Unreached, Unknown}

@@ -9,3 +9,6 @@ pub mod Ends
 pub mod Told
 pub mod Sought
 pub mod Wider
+-- a log over few copies, renamed for all
+pub mod Renamed
+pub mod Widened

@@ -23,7 +23,7 @@ use bs_clause::NoMemory;
 use bs_encode::Encoding;
 use bs_log::Log;
 use bs_net::Netlist;
-use bs_reach_forced::Forced;
+use bs_reach_implied::Forced;
 use bs_reach_unrolled::{netlists_unroll, unroll, unrolled_clauses_are_executions};
 use bs_solve::{Denial, Solver};
 use std::alloc::Global;

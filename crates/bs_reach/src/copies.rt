@@ -15,7 +15,7 @@ use bs_bits::Bits;
 use bs_clause::NoMemory;
 use bs_encode::Encoding;
 use bs_net::Netlist;
-use bs_reach_forced::{Forced, forced_from};
+use bs_reach_implied::{Forced, forced_from};
 use std::alloc::Global;
 
 /// Lets the clauses of a cycle go.

@@ -3,14 +3,14 @@ ghost use Rattle.std.specs.Prelude.{◌≡◌, ◌+◌, ◌*◌, ◌<◌, length
 ghost use Rattle.bs_reach_unrolled.specs.Room.{IsUnrollable};
 ghost use Rattle.bs_encode.specs.Assuming.{signed};
 ghost use Rattle.bs_reach_unrolled.specs.Unrolled.{length_assumes, next_at, unrolled};
-ghost use Rattle.bs_reach_forced.specs.Rows.{Refutes};
+ghost use Rattle.bs_reach_implied.specs.Rows.{Refutes};
 ghost use Rattle.bs_solve.specs.Denying.{Denies};
 ghost use Rattle.bs_reach.specs.Denials.{AreDenials};
 
 use bs_bits::Bits;
 use bs_clause::NoMemory;
 use bs_encode::Encoding;
-use bs_reach_forced::{Forced, Lemma, Places, denial};
+use bs_reach_implied::{Forced, Lemma, Places, denial};
 use bs_solve::Denial;
 use std::alloc::Global;
 use std::collections::VecDeque;

@@ -1,12 +1,14 @@
 //! Whether a state is reached from reset in a bounded number of cycles.
 //!
-//! Modules: `copies` (`bounded`, over how many copies), `wider` (few copies first), `answer` (a search over so many
+//! Modules: `copies` (`bounded`, over how many copies), `wider` (few copies first), `renaming` (their log, renamed for all copies),
+//! `shift` (where its ids and variables go), `renaming_law` (a renamed log stays accepted and lean), `answer` (a search over so many
 //! copies), `count` (`size`), `search` (one length after another, over one solver), `length` (a
 //! step of the log), `denials` (the first lengths, by what follows from reset alone), `refuted` (their
 //! log), `shown` (an execution of the length behind them), `telling` (the states and inputs of an
 //! assignment), `reach` (`Reach`, `Outcome`), `text`. Used
 //! above: `IsReach` of `bounded`, and `reach_text` of `Reach::text`. A right answer: `specs/Reach`;
-//! how a length is tried: `length`; a line of the text: `specs/Text`.
+//! how a length is tried: `length`; a line of the text: `specs/Text`; where ids go: `specs/Renamed`; what the list of all copies
+//! is to the list of few: `specs/Widened`.
 #![tactic(auto)]
 
 mod answer;
@@ -16,7 +18,10 @@ mod denials;
 mod length;
 mod reach;
 mod refuted;
+mod renaming;
+mod renaming_law;
 mod search;
+mod shift;
 mod shown;
 mod telling;
 mod text;

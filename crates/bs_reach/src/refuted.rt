@@ -13,7 +13,7 @@ use bs_bits::Bits;
 use bs_clause::NoMemory;
 use bs_encode::Encoding;
 use bs_log::{Line, Log};
-use bs_reach_forced::{Forced, Places};
+use bs_reach_implied::{Forced, Places};
 use bs_solve::Denial;
 use std::alloc::Global;
 

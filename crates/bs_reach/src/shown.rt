@@ -19,7 +19,7 @@ use bs_encode::Encoding;
 use bs_log::{Line, Log};
 use bs_net::Netlist;
 use bs_reach_execution::{Execution, execution_of};
-use bs_reach_forced::Forced;
+use bs_reach_implied::Forced;
 use bs_reach_unrolled::{netlists_unroll, unrolled_clauses_are_executions};
 use std::alloc::Global;
 

@@ -4,7 +4,7 @@ ghost use Rattle.bs_net.specs.Circuit.{reset_state};
 ghost use Rattle.bs_net.specs.Netlist.{circuit};
 ghost use Rattle.bs_encode.specs.Transition.{variables};
 ghost use Rattle.bs_encode.specs.Encoded.{encoding_of};
-ghost use Rattle.bs_reach_renamed.specs.Renamed.{new_line, HasRoom};
+ghost use Rattle.bs_reach.specs.Renamed.{new_line, HasRoom};
 ghost use Rattle.bs_reach_unrolled.specs.declared.limits.TheConstants.{MAX_COPIES, MAX_COPY_VARIABLES};
 ghost use Rattle.bs_reach_unrolled.specs.Room.{IsUnrollable};
 ghost use Rattle.bs_reach.specs.declared.wider.TheConstants.{ID_ROOM};
@@ -13,13 +13,15 @@ ghost use Rattle.bs_reach.specs.Wider.{shift_between, has_small_ids, is_reached,
 
 use crate::answer::look_over;
 use crate::reach::{Outcome, Reach};
+use crate::renaming::renamed;
+use crate::renaming_law::renamed_logs_stay_right;
+use crate::shift::Shift;
 use bs_bits::Bits;
 use bs_clause::NoMemory;
 use bs_encode::Encoding;
 use bs_log::Log;
 use bs_net::Netlist;
-use bs_reach_forced::Forced;
-use bs_reach_renamed::{Shift, renamed, renamed_logs_stay_right};
+use bs_reach_implied::Forced;
 use bs_reach_unrolled::netlists_unroll;
 use std::alloc::Global;
 

@@ -1,8 +1,8 @@
 //! Dumps of iverilog and verilator, and refusals.
 
 use bs_bits::{Bits, NoMemory};
-use bs_inspect_declared::VcdFault;
-use bs_inspect_vcd::{When, states, stimulus};
+use bs_vcd::{When, states, stimulus};
+use bs_vcd_header::VcdFault;
 use std::alloc::Global;
 use std::test::Fail;
 

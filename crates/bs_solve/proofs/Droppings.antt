@@ -1,7 +1,5 @@
 -- The stock after clauses have gone, and after they have moved.
-use Rattle.std.proofs.Common.{◌≡◌, ℕ, zero, suc, ◌+◌, ◌<◌, ◌≤◌, arith, Bool, true}
-use Rattle.std.proofs.Common.{false, not, ◌||◌, cond, List, [], ◌∷◌, map, length, take}
-use Rattle.std.proofs.Common.{refl, sym, ap, subst, ◌∙◌, inl, inr, Option, Some, None, eqb, get_or}
+use Rattle.std.proofs.Common.{◌≡◌, ℕ, zero, suc, ◌+◌, ◌<◌, ◌≤◌, arith, Bool, true, false, not, ◌||◌, cond, List, [], ◌∷◌, map, length, take, refl, sym, ap, subst, ◌∙◌, inl, inr, Option, Some, None, eqb, get_or}
 use Rattle.std.specs.Prelude.{AllPairs, Contains, slice_get, is_some, option_map, unwrap_or, IsPermutation}
 use Rattle.std.specs.List.{filter, list_any, sum}
 use Rattle.std.specs.Cmp.{both_ways}
@@ -29,11 +27,11 @@ use Rattle.bs_solve_reduction.proofs.Removals.{killed_still, first_stay}
 use Rattle.bs_watch.proofs.Gets.{none_is_not_some, same_some, get_from_Contains, Contains_from_get, get_map, get_map_cases, get_take, get_within}
 use Rattle.bs_solve_analysis.proofs.Clauses.{nothing_in, contains_first, cons_contains, contains_cases, filter_cases, filter_from, map_cases, map_contains, all_from}
 use Rattle.bs_solve_recording.proofs.Entries.{found_id}
-use Rattle.bs_solve_search.specs.declared.stock.Stock.{Stock}
-use Rattle.bs_solve_search.specs.Stock.{is_live, id_in, IsStocked}
-use Rattle.bs_solve_search.proofs.Entries.{id_of, id_is_live, rows_permuted}
-use Rattle.bs_solve_search.proofs.Teachings.{held_self}
-use Rattle.bs_solve_search.specs.Ground.{IsGround}
+use Rattle.bs_solve.specs.declared.stock.Stock.{Stock}
+use Rattle.bs_solve.specs.Stock.{is_live, id_in, IsStocked}
+use Rattle.bs_solve.proofs.Entries.{id_of, id_is_live, rows_permuted}
+use Rattle.bs_solve.proofs.Teachings.{held_self}
+use Rattle.bs_solve.specs.Ground.{IsGround}
 use Rattle.bs_solve.specs.Dropping.{AreStaying, without_ids, marked, HasDropped, HasCompacted}
 
 -- ---- lists

@@ -1,7 +1,5 @@
 -- The end of a step.
-use Rattle.std.proofs.Common.{◌≡◌, ℕ, ◌≤◌, arith, Bool, true, false}
-use Rattle.std.proofs.Common.{not, List, [], ◌∷◌, ◌++◌, map, length, take, sym, ap, subst}
-use Rattle.std.proofs.Common.{◌∙◌, inl, inr, Some, None, eqb}
+use Rattle.std.proofs.Common.{◌≡◌, ℕ, ◌≤◌, arith, Bool, true, false, not, List, [], ◌∷◌, ◌++◌, map, length, take, sym, ap, subst, ◌∙◌, inl, inr, Some, None, eqb}
 use Rattle.std.specs.Prelude.{All, Contains, count_by}
 use Rattle.std.specs.List.{filter, list_any}
 use Rattle.std.proofs.lemmas.Bool.{cases_Bool, false≢true}
@@ -27,14 +25,14 @@ use Rattle.bs_solve_recording.specs.Book.{Book, next_id}
 use Rattle.bs_watch.proofs.Gets.{some_at, same_some, Contains_from_get}
 use Rattle.bs_solve_analysis.proofs.Clauses.{all_from, filter_cases, map_cases, map_contains}
 use Rattle.bs_solve_recording.proofs.Entries.{found_stands, found_still}
-use Rattle.bs_solve_search.specs.declared.stock.Stock.{Stock}
-use Rattle.bs_solve_search.specs.Stock.{entries, is_live, id_in, IsStocked}
-use Rattle.bs_solve_search.specs.Ground.{IsGround}
-use Rattle.bs_solve_search.specs.Retiring.{HasRetired}
-use Rattle.bs_solve_search.proofs.Grounds.{ground_low}
+use Rattle.bs_solve.specs.declared.stock.Stock.{Stock}
+use Rattle.bs_solve.specs.Stock.{entries, is_live, id_in, IsStocked}
+use Rattle.bs_solve.specs.Ground.{IsGround}
+use Rattle.bs_solve.specs.Retiring.{HasRetired}
+use Rattle.bs_solve.proofs.Grounds.{ground_low}
 use Rattle.bs_solve.proofs.Droppings.{any_cases}
-use Rattle.bs_solve_search.specs.Teaching.{IsAtRest}
-use Rattle.bs_solve_search.proofs.Entries.{clauses_in, id_of, id_is_live}
+use Rattle.bs_solve.specs.Teaching.{IsAtRest}
+use Rattle.bs_solve.proofs.Entries.{clauses_in, id_of, id_is_live}
 use Rattle.bs_solve.specs.declared.dropping.Known.{Known}
 use Rattle.bs_solve.specs.Dropping.{without_ids, marked, AreKnownIn, AreStaying, HasDropped, HasCompacted}
 use Rattle.bs_solve.specs.Ending.{unit_of, HasPrepared, HasSettled}

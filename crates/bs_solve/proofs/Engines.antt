@@ -1,7 +1,5 @@
 -- A solver with what it knows of its lemmas, from one call to the next.
-use Rattle.std.proofs.Common.{◌≡◌, ℕ, ◌+◌, ◌-◌, ◌*◌, ◌<◌, ◌≤◌, ◌^◌, arith, Bool}
-use Rattle.std.proofs.Common.{true, false, not, ◌&&◌, ◌||◌, List, [], ◌∷◌, ◌++◌, map, length, take}
-use Rattle.std.proofs.Common.{refl, sym, ap, subst, ◌∙◌, inl, inr, ◌⊎◌, Option, Some, None}
+use Rattle.std.proofs.Common.{◌≡◌, ℕ, ◌+◌, ◌-◌, ◌*◌, ◌<◌, ◌≤◌, ◌^◌, arith, Bool, true, false, not, ◌&&◌, ◌||◌, List, [], ◌∷◌, ◌++◌, map, length, take, refl, sym, ap, subst, ◌∙◌, inl, inr, ◌⊎◌, Option, Some, None}
 use Rattle.std.specs.Prelude.{All, Contains, count_by}
 use Rattle.std.specs.List.{filter, list_any, AllByRecursion}
 use Rattle.std.proofs.lemmas.Bool.{true≢false, false≢true, and_parts}
@@ -41,13 +39,13 @@ use Rattle.bs_solve_recording.proofs.Solving.{begun_stands, begun_assumptions, b
 use Rattle.bs_solve_recording.proofs.Leavings.{leaves_begun}
 use Rattle.bs_watch.proofs.Gets.{get_from_Contains, get_map_cases, get_within}
 use Rattle.bs_solve_analysis.proofs.Clauses.{nothing_in, contains_cases, contains_first, all_from, filter_cases, filter_from, map_contains}
-use Rattle.bs_solve_search.specs.declared.stock.Stock.{Stock}
-use Rattle.bs_solve_search.specs.Stock.{entries, IsStocked}
-use Rattle.bs_solve_search.specs.Ground.{IsGround, IsOff, IsOwn}
-use Rattle.bs_solve_search.specs.Teaching.{IsAtRest}
-use Rattle.bs_solve_search.specs.Pausing.{IsKept, IsGrounded}
-use Rattle.bs_solve_search.proofs.Grounds.{ground_literal}
-use Rattle.bs_solve_search.proofs.Entries.{clauses_in}
+use Rattle.bs_solve.specs.declared.stock.Stock.{Stock}
+use Rattle.bs_solve.specs.Stock.{entries, IsStocked}
+use Rattle.bs_solve.specs.Ground.{IsGround, IsOff, IsOwn}
+use Rattle.bs_solve.specs.Teaching.{IsAtRest}
+use Rattle.bs_solve.specs.Pausing.{IsKept, IsGrounded}
+use Rattle.bs_solve.proofs.Grounds.{ground_literal}
+use Rattle.bs_solve.proofs.Entries.{clauses_in}
 use Rattle.bs_solve.specs.declared.dropping.Known.{Known}
 use Rattle.bs_solve.specs.Dropping.{marked, without_ids, is_free, is_free_long, AreKnownIn}
 use Rattle.bs_solve.specs.Ending.{unit_of, HasSettled}

@@ -1,10 +1,8 @@
 -- A solver from one call to the next, over its watch and its arena.
-use Rattle.std.proofs.Common.{◌≡◌, ℕ, zero, suc, ◌+◌, ◌<◌, ◌≤◌, ◌^◌, arith, Bool, true, false}
-use Rattle.std.proofs.Common.{cond, List, [], ◌∷◌, ◌++◌, length, take, refl, sym, ap, subst, ◌∙◌, inl}
-use Rattle.std.proofs.Common.{inr, Option, Some, None}
+use Rattle.std.proofs.Common.{◌≡◌, ℕ, zero, suc, ◌+◌, ◌<◌, ◌≤◌, ◌^◌, arith, Bool, true, false, cond, List, [], ◌∷◌, ◌++◌, length, take, refl, sym, ap, subst, ◌∙◌, inl, inr, Option, Some, None}
 use Rattle.std.specs.Prelude.{All, slice_get, is_some}
 use Rattle.std.specs.List.{filter}
-use Rattle.std.proofs.lemmas.Bool.{false≢true, ne_eqb}
+use Rattle.std.proofs.lemmas.Bool.{false≢true, ne_eqb, true≢false}
 use Rattle.std.proofs.lemmas.List.{length-take-le}
 use Rattle.std.proofs.lemmas.List.Elements.{All-nil, All-cons}
 use Rattle.bs_clause.specs.Literal.{Literal, Clause, negation}
@@ -18,8 +16,7 @@ use Rattle.bs_watch.proofs.Grown.{grown_row}
 use Rattle.bs_solve_recording.specs.Book.{Book, standing}
 use Rattle.bs_solve_recording.specs.declared.answer.Answer.{Answer}
 use Rattle.bs_solve_recording.specs.declared.answer.Answer.TheVariants.{Found, Refuted, Spent}
-use Rattle.bs_solve_recording.specs.Stages.{stage_of}
-use Rattle.std.proofs.lemmas.Bool.{true≢false}
+use Rattle.bs_solve_recording.specs.Stages.{stage_of, is_begun, is_solved, begun_book, IsIdle}
 use Rattle.bs_clause.specs.Range.{IsWithin, HasVariables}
 use Rattle.bs_log.specs.declared.origin.Origin.TheVariants.{Axiom, Blocked as FromBlock}
 use Rattle.bs_log.specs.History.{Problem, Entry, phase_of, live, axioms_from}
@@ -29,28 +26,27 @@ use Rattle.bs_solve_recording.specs.declared.stage.Stage.{Stage}
 use Rattle.bs_solve_recording.specs.declared.stage.Stage.TheVariants.{Idle, Begun, Solved, Blocked, Ended, Stopped}
 use Rattle.bs_solve_recording.specs.Search.{assumed}
 use Rattle.bs_solve_recording.specs.Ending.{SomeLemmas}
-use Rattle.bs_solve_recording.specs.Stages.{is_begun, is_solved, begun_book, IsIdle}
 use Rattle.bs_solve_recording.specs.Solver.{SolverState, IsReady, MaySolve, HasSolved, finished}
 use Rattle.bs_solve_recording.proofs.Lines.{live_with_member}
 use Rattle.bs_watch.proofs.Gets.{none_is_not_some, same_some, get_within}
 use Rattle.bs_solve_analysis.proofs.Clauses.{nothing_in, all_from}
 use Rattle.bs_solve_recording.proofs.Solving.{ready_after_solve, has_solved, begun_stands, begun_assumptions, begun_phase}
-use Rattle.bs_solve_search.specs.Searching.{IsOver}
-use Rattle.bs_solve_search.specs.declared.stock.Stock.{Stock}
-use Rattle.bs_solve_search.specs.Stock.{entries, is_live, IsStocked}
-use Rattle.bs_solve_search.proofs.Entries.{clauses_in}
+use Rattle.bs_solve.specs.Searching.{IsOver}
+use Rattle.bs_solve.specs.declared.stock.Stock.{Stock}
+use Rattle.bs_solve.specs.Stock.{entries, is_live, IsStocked}
+use Rattle.bs_solve.proofs.Entries.{clauses_in}
 use Rattle.bs_solve_reduction.specs.Keeping.{AreHeld}
 use Rattle.bs_solve_reduction.specs.Rows.{AreRowsAmong}
 use Rattle.bs_watch.specs.Trail.{IsTrueOn, IsOpenOn}
 use Rattle.bs_solve_analysis.specs.Marks.{MarkState, IsClear, StaysClear}
 use Rattle.bs_solve_recording.specs.Places.{AreWarranted, logged_literals}
-use Rattle.bs_solve_search.specs.Seen.{seen}
-use Rattle.bs_solve_search.specs.Ground.{HasStocked, IsGround, IsOff}
-use Rattle.bs_solve_search.specs.Teaching.{IsAtRest}
-use Rattle.bs_solve_search.specs.Pausing.{IsKept, IsLeft, GoesToRest}
-use Rattle.bs_solve_search.specs.Blocking.{HasHeld}
+use Rattle.bs_solve.specs.Seen.{seen}
+use Rattle.bs_solve.specs.Ground.{HasStocked, IsGround, IsOff}
+use Rattle.bs_solve.specs.Teaching.{IsAtRest}
+use Rattle.bs_solve.specs.Pausing.{IsKept, IsLeft, GoesToRest}
+use Rattle.bs_solve.specs.Blocking.{HasHeld}
 use Rattle.bs_solve.specs.Starting.{new_variables, IsLeftAt, IsWhole, KeepsRest}
-use Rattle.bs_solve_search.proofs.Seens.{stocked_shuffled}
+use Rattle.bs_solve.proofs.Seens.{stocked_shuffled}
 
 pub stocked_none : (lists : List (List Watcher)) (clauses : List Held) (stock : Stock) → clauses ≡ [] → stock.shorts.items ≡ [] → stock.rows.items ≡ [] →
     IsStocked lists clauses stock []

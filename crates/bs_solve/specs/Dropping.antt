@@ -8,9 +8,9 @@ use Rattle.bs_arena.specs.Arena.{Held, held_at}
 use Rattle.bs_watch.specs.Places.{Place}
 use Rattle.bs_watch.specs.Watch.{WatchState, Serves}
 use Rattle.bs_solve_reduction.specs.Keeping.{over}
-use Rattle.bs_solve_search.specs.declared.stock.Stock.{Stock}
-use Rattle.bs_solve_search.specs.Stock.{id_in, IsStocked}
-use Rattle.bs_solve_search.specs.Ground.{IsGround}
+use Rattle.bs_solve.specs.declared.stock.Stock.{Stock}
+use Rattle.bs_solve.specs.Stock.{id_in, IsStocked}
+use Rattle.bs_solve.specs.Ground.{IsGround}
 
 -- the entries without those of some ids
 abbrev pub without_ids : List ℕ → List Entry → List Entry

@@ -11,9 +11,9 @@ use Rattle.bs_solve_reduction.specs.Keeping.{Ascends}
 use Rattle.bs_solve_reduction.specs.Notes.{GoBy}
 use Rattle.bs_solve_reduction.specs.Rows.{going}
 use Rattle.bs_solve_recording.specs.Book.{Book, next_id}
-use Rattle.bs_solve_search.specs.declared.stock.Stock.{Stock}
-use Rattle.bs_solve_search.specs.Stock.{entries, IsStocked}
-use Rattle.bs_solve_search.specs.Ground.{IsGround}
+use Rattle.bs_solve.specs.declared.stock.Stock.{Stock}
+use Rattle.bs_solve.specs.Stock.{entries, IsStocked}
+use Rattle.bs_solve.specs.Ground.{IsGround}
 use Rattle.bs_solve.specs.declared.dropping.Known.{Known}
 use Rattle.bs_solve.specs.Dropping.{without_ids, marked, is_free_long, AreKnownIn, AreStaying}
 

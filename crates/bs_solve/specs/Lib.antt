@@ -1,3 +1,16 @@
+pub mod Stock
+pub mod Ground
+pub mod Between
+pub mod Seen
+pub mod Begun
+pub mod Running
+pub mod Laying
+pub mod Lesson
+pub mod Teaching
+pub mod Pausing
+pub mod Blocking
+pub mod Searching
+pub mod Retiring
 pub mod Budget
 pub mod Denying
 pub mod Dropping

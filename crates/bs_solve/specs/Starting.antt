@@ -11,11 +11,11 @@ use Rattle.bs_solve_recording.specs.Stages.{is_solved}
 use Rattle.bs_solve_recording.specs.Solver.{SolverState, IsReady}
 use Rattle.bs_solve.specs.declared.dropping.Known.{Known}
 use Rattle.bs_solve.specs.Dropping.{marked, AreKnownIn}
-use Rattle.bs_solve_search.specs.declared.stock.Stock.{Stock}
-use Rattle.bs_solve_search.specs.Stock.{entries, is_live, id_in, IsSpelled, IsClauseOf}
-use Rattle.bs_solve_search.specs.Ground.{IsOwn}
-use Rattle.bs_solve_search.specs.Teaching.{IsAtRest}
-use Rattle.bs_solve_search.specs.Pausing.{IsKept}
+use Rattle.bs_solve.specs.declared.stock.Stock.{Stock}
+use Rattle.bs_solve.specs.Stock.{entries, is_live, id_in, IsSpelled, IsClauseOf}
+use Rattle.bs_solve.specs.Ground.{IsOwn}
+use Rattle.bs_solve.specs.Teaching.{IsAtRest}
+use Rattle.bs_solve.specs.Pausing.{IsKept}
 
 -- the guard of a step that has had no solve has no place in the watch yet
 abbrev pub new_variables : Stage → ℕ

@@ -7,9 +7,9 @@ ghost use Rattle.bs_solve_reduction.specs.Keeping.{AreHeld, Ascends, is_long_row
 ghost use Rattle.bs_solve_reduction.specs.Notes.{GoBy};
 ghost use Rattle.bs_solve.specs.Dropping.{AreStaying, HasDropped, HasCompacted};
 
+use crate::stock::Stock;
 use bs_arena::{Arena, Renaming};
 use bs_solve_reduction::{Guards, Leaving, Row, compact_all, count_long, take_out};
-use bs_solve_search::Stock;
 use bs_watch::Watch;
 
 /// How many of the first rows are of lemmas that name no guard, and how many of these are long. The rest is not known.

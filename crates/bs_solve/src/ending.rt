@@ -6,17 +6,18 @@ ghost use Rattle.bs_arena.specs.Arena.{live_words};
 ghost use Rattle.bs_watch.specs.Watch.{Serves};
 ghost use Rattle.bs_solve_reduction.specs.Keeping.{Ascends};
 ghost use Rattle.bs_solve_reduction.specs.Notes.{GoBy};
-ghost use Rattle.bs_solve_search.specs.Stock.{entries};
-ghost use Rattle.bs_solve_search.specs.Teaching.{IsAtRest};
+ghost use Rattle.bs_solve.specs.Stock.{entries};
+ghost use Rattle.bs_solve.specs.Teaching.{IsAtRest};
 ghost use Rattle.bs_solve.specs.Dropping.{marked, AreKnownIn, AreStaying};
 ghost use Rattle.bs_solve.specs.Ending.{HasPrepared, IsSomeSettling, HasSettled};
 
 use crate::dropping::{Known, compact_where_due, drop_leaving, known_after};
+use crate::retiring::retire;
+use crate::stock::Stock;
 use bs_arena::{Arena, Renaming};
 use bs_clause::{Lit, NoMemory};
 use bs_solve_recording::Recording;
 use bs_solve_reduction::{Guards, Leaving, find_leaving};
-use bs_solve_search::{Stock, retire};
 use bs_watch::Watch;
 use std::alloc::Global;
 

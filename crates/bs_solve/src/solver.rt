@@ -14,20 +14,21 @@ ghost use Rattle.bs_solve.specs.Opening.{HasOpened};
 ghost use Rattle.bs_solve.specs.Denying.{Denies, HasDenied};
 ghost use Rattle.bs_solve.specs.Starting.{HoldsStanding};
 
-use crate::denying::Denial;
+use crate::blocking::add_between;
+use crate::denying::{Denial, end_by};
 use crate::dropping::Known;
 use crate::ending::{prepare, settle};
+use crate::pausing::rest;
 use crate::starting::{filled, grow_to};
+use crate::stock::Stock;
+use crate::turning::search;
 use bs_arena::{Arena, Renaming};
 use bs_bits::List;
 use bs_clause::{Clauses, Lit, Lits, NoMemory, Var};
 use bs_log::Log;
 use bs_solve_analysis::Marks;
-use bs_solve_recording::{
-    Answer, Recording, Stage, begin_solve, finish, guarded, is_begun, stage_after,
-};
+use bs_solve_recording::{Answer, Recording, Stage, begin_solve, finish, guarded, is_begun, stage_after};
 use bs_solve_reduction::Guards;
-use bs_solve_search::{Stock, add_between, end_by, rest, search};
 use bs_watch::Watch;
 use std::alloc::Global;
 use std::marker::Model;

@@ -6,15 +6,15 @@ ghost use Rattle.bs_log.specs.Refusal.{has_distinct_variables};
 ghost use Rattle.bs_arena.specs.Arena.{live_words};
 ghost use Rattle.bs_watch.specs.Watch.{Serves};
 ghost use Rattle.bs_solve_analysis.specs.Marks.{IsClear};
-ghost use Rattle.bs_solve_search.specs.Stock.{IsStocked};
+ghost use Rattle.bs_solve.specs.Stock.{IsStocked};
 ghost use Rattle.bs_solve.specs.Starting.{KeepsRest};
 
 use crate::room::roomy_watch;
+use crate::stock::{Stock, add_clause};
 use bs_arena::Arena;
 use bs_clause::{Lits, NoMemory};
 use bs_log::Origin;
 use bs_solve_analysis::Marks;
-use bs_solve_search::{Stock, add_clause};
 use bs_watch::Watch;
 use std::alloc::Global;
 

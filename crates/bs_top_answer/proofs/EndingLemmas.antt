@@ -1,6 +1,5 @@
 -- The moments of recorded runs, and the notes on work that is done.
-use Rattle.std.proofs.Common.{◌≡◌, ℕ, suc, ◌+◌, ◌<◌, Bool, true, false, cond, List, [], ◌∷◌, ◌++◌, length, take, Option, Some, Result, Ok, Err, Vec}
-use Rattle.std.proofs.Common.{refl, sym, subst, ◌∙◌, ap, get_or, arith}
+use Rattle.std.proofs.Common.{◌≡◌, ℕ, suc, ◌+◌, ◌<◌, Bool, true, false, cond, List, [], ◌∷◌, ◌++◌, length, take, Option, Some, Result, Ok, Err, Vec, refl, sym, subst, ◌∙◌, ap, get_or, arith}
 use Rattle.std.specs.Prelude.{IfOk, option_map, sum_by}
 use Rattle.std.specs.declared.alloc.Global.{Global}
 use Rattle.std.proofs.Math.Seq.{take-suc}
@@ -11,7 +10,7 @@ use Rattle.bs_report.specs.declared.report.Stop.TheVariants as S
 use Rattle.bs_stim.specs.Runs.{Recorded, Stimulus, no_run}
 use Rattle.bs_scan.specs.declared.dump.Dump.{Dump}
 use Rattle.bs_scan.specs.Crash.{Recording}
-use Rattle.bs_note_dump.specs.Looks.{looked_text}
+use Rattle.bs_top_answer.specs.Looks.{looked_text}
 use Rattle.bs_note_calls.specs.Faults.{rejected_text}
 use Rattle.bs_note_calls.specs.Searches.{miss_text}
 use Rattle.bs_note_calls.specs.Stops.{text_of}

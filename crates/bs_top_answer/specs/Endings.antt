@@ -6,7 +6,7 @@ use Rattle.bs_report.specs.declared.report.Stop.TheVariants as S
 use Rattle.bs_scan.specs.declared.dump.Dump.{Dump}
 use Rattle.bs_scan.specs.Crash.{Recording}
 use Rattle.bs_note_files.specs.Notes.{plain_text}
-use Rattle.bs_note_dump.specs.Looks.{looked_text}
+use Rattle.bs_top_answer.specs.Looks.{looked_text}
 use Rattle.bs_note_calls.specs.Faults.{rejected_text}
 use Rattle.bs_note_calls.specs.Stops.{text_of}
 use Rattle.bs_note_calls.specs.Searches.{miss_text}

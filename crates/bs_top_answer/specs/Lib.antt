@@ -1,3 +1,5 @@
+pub mod Fits
+pub mod Looks
 pub mod Note
 pub mod Paths
 pub mod Stops

@@ -1,14 +1,13 @@
 //! The notes on work that is done: on the stop of a run, on a search without an execution, and on a report that is not valid.
 ghost use Rattle.std.specs.Prelude.{◌≡◌, ◌++◌, length, IfOk, OnOk, Some};
-ghost use Rattle.bs_top_answer.specs.Endings.{followed_text, is_looked, is_reset, miss_text_of, moments, rejected_text_if, run_text, searched_text};
-ghost use Rattle.bs_top_answer.specs.Endings.{stopped_text};
+ghost use Rattle.bs_top_answer.specs.Endings.{followed_text, is_looked, is_reset, miss_text_of, moments, rejected_text_if, run_text, searched_text, stopped_text};
 ghost use Rattle.bs_top_answer.specs.Note.{DueText};
 
+use crate::look::looked_note;
 use crate::note::{Note, note_made};
 use bs_bits::{NoMemory, push_number, push_piece};
 use bs_chip::Chip;
 use bs_note_calls::{Miss, miss_note, rejected_note, stop_note};
-use bs_note_dump::looked_note;
 use bs_note_files::plain_note;
 use bs_report::Stop;
 use bs_scan::Dump;

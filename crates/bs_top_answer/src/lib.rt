@@ -1,17 +1,22 @@
 //! The answer of a call: the reply, the note on it for a person, and how both go out.
 //!
 //! Modules: `note` (`Note`: nothing, a text, or that memory ran out), `stopping` (the answer to a
-//! walk that stopped), `ending` (the notes on work that is done), `saying` (the reply goes out, and
-//! then at most one note). Used above: `PreparedNoted` (`specs/Prepared`), that the reply is what
-//! the words call for and the note is on the same fetches; `SaysAfter` (`specs/Said`), what the
-//! sink of the notes gains.
+//! walk that stopped), `ending` (the notes on work that is done), `look` (the first recorded moment in a dump's state, and what is
+//! said of it), `fit` (`Fit`: how the signatures of a moment compare with a dump's), `turned` (bits read backwards), `sentence` (a
+//! moment in words), `saying` (the reply goes out, and then at most one note). Used above: `PreparedNoted` (`specs/Prepared`), that
+//! the reply is what the words call for and the note is on the same fetches; `SaysAfter` (`specs/Said`), what the
+//! sink of the notes gains. The note on a stop in the first step: `looked_text` (`specs/Looks`).
 #![tactic(auto)]
 
 mod ending;
+mod fit;
+mod look;
 mod note;
 mod paths;
 mod saying;
+mod sentence;
 mod stopping;
+mod turned;
 
 pub use ending::{miss_said, rejected_said, run_said};
 pub use note::{Answer, Note, note_made};

@@ -1,5 +1,5 @@
 use Rattle.bs_inspect_values.proofs.ValueLemmas.{input_of_parts}
-use Rattle.bs_inspect_declared.specs.Header.{declared_in}
+use Rattle.bs_vcd_header.specs.Header.{declared_in}
 use Rattle.bs_inspect_values.proofs.values.input_on.Goals as goal
 
 pub returns : goal.returns

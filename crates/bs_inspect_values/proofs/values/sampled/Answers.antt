@@ -1,8 +1,8 @@
 use Rattle.std.proofs.Common.{ℕ, List, Bool, Option, map, subst}
 use Rattle.std.specs.Option.{option_map}
 use Rattle.bs_bits.specs.Reading.{Answers}
-use Rattle.bs_inspect_declared.specs.declared.fault.VcdFault.TheVariants.{NoMemory}
-use Rattle.bs_inspect_vcd.specs.Stimulus.{stimulus_in}
+use Rattle.bs_vcd_header.specs.declared.fault.VcdFault.TheVariants.{NoMemory}
+use Rattle.bs_vcd.specs.Stimulus.{stimulus_in}
 use Rattle.bs_inspect_values.proofs.values.sampled.Goals as goal
 
 pub returns : goal.returns

@@ -2,10 +2,10 @@ use Rattle.std.proofs.Common.{◌≡◌, ◌≤◌, ◌++◌, ◌∷◌, [], len
 use Rattle.std.specs.List.{filter}
 use Rattle.bs_solve_reduction.specs.Keeping.{Ascends, AreKnown, goes}
 use Rattle.bs_solve_reduction.specs.Notes.{IsNoted}
-use Rattle.bs_solve_search.specs.Stock.{entries, IsStocked}
+use Rattle.bs_solve.specs.Stock.{entries, IsStocked}
 use Rattle.bs_solve.specs.Ending.{unit_of}
 use Rattle.bs_watch.specs.Places.{IsUnassigned}
-use Rattle.bs_solve_search.proofs.Grounds.{ground_low}
+use Rattle.bs_solve.proofs.Grounds.{ground_low}
 use Rattle.bs_solve.proofs.Endings.{unit_stocked, unit_stands, prepared_ascends, prepared_known, prepared}
 use Rattle.bs_solve.proofs.ending.prepare.Goals as goal
 

@@ -2,7 +2,7 @@ use Rattle.std.proofs.Common.{◌≡◌, ◌+◌, Some, length, refl, ap, subst,
 use Rattle.std.specs.Prelude.{slice_get}
 use Rattle.std.proofs.lemmas.Option.{slice_get_read}
 use Rattle.bs_log.specs.declared.origin.Origin.TheVariants.{Axiom}
-use Rattle.bs_solve_search.specs.Ground.{HasStocked}
+use Rattle.bs_solve.specs.Ground.{HasStocked}
 use Rattle.bs_watch.specs.Places.{TrailState}
 use Rattle.bs_solve.proofs.Startings.{axiom_added, words_of_first, off_empty}
 use Rattle.bs_solve.proofs.starting.add_all.Goals as goal

@@ -2,7 +2,7 @@ use Rattle.std.proofs.Common.{◌≡◌, take}
 use Rattle.bs_log.specs.History.{axioms_from}
 use Rattle.bs_arena.specs.Arena.{live_words}
 use Rattle.bs_watch.specs.Watch.{Serves}
-use Rattle.bs_solve_search.specs.Stock.{IsStocked}
+use Rattle.bs_solve.specs.Stock.{IsStocked}
 use Rattle.bs_solve.proofs.starting.add_all.Given as goal
 
 abbrev pub invariant-clauses : goal.invariant-clauses

@@ -9,11 +9,11 @@ use Rattle.bs_solve_recording.specs.Solver.{SolverState}
 use Rattle.bs_solve_recording.proofs.Solving.{solved_inside, guard_is_new, block_distinct, block_fits, block_range, ready_blocked, has_blocked}
 use Rattle.bs_solve_recording.proofs.Searching.{have_variables}
 use Rattle.bs_solve_recording.specs.Search.{assumed}
-use Rattle.bs_solve_search.specs.Blocking.{HasHeld}
+use Rattle.bs_solve.specs.Blocking.{HasHeld}
 use Rattle.bs_log.specs.declared.origin.Origin.TheVariants.{Blocked as FromBlock}
 use Rattle.bs_solve_recording.specs.Book.{Book}
-use Rattle.bs_solve_search.proofs.Entries.{stands_grown}
-use Rattle.bs_solve_search.specs.Pausing.{IsGrounded}
+use Rattle.bs_solve.proofs.Entries.{stands_grown}
+use Rattle.bs_solve.specs.Pausing.{IsGrounded}
 use Rattle.bs_solve.proofs.Engines.{engine_more, kept_grounded, block_of_step}
 use Rattle.bs_solve.proofs.Startings.{watch_vars, left_kept, whole_blocked, solved_now}
 use Rattle.bs_solve.proofs.solver.Solver.block.Goals as goal

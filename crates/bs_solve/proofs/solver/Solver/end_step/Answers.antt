@@ -6,7 +6,7 @@ use Rattle.bs_solve_recording.specs.Book.{standing, without}
 use Rattle.bs_solve_recording.specs.Solver.{SolverState, leaving, retired}
 use Rattle.bs_solve_recording.proofs.Solving.{step_facts, ends_step, guard_is_new}
 use Rattle.bs_solve_recording.proofs.StepEnds.{ready_after_end}
-use Rattle.bs_solve_search.specs.Stock.{entries}
+use Rattle.bs_solve.specs.Stock.{entries}
 use Rattle.bs_solve.specs.Dropping.{without_ids, AreKnownIn}
 use Rattle.bs_solve.specs.Ending.{unit_of}
 use Rattle.bs_solve.proofs.Startings.{watch_vars, rested, step_solved, guard_range}

@@ -1,5 +1,5 @@
 use Rattle.std.proofs.Common.{refl, sym, ap, subst}
-use Rattle.bs_solve_search.specs.Ground.{IsOwn}
+use Rattle.bs_solve.specs.Ground.{IsOwn}
 use Rattle.bs_solve_recording.specs.Book.{Book}
 use Rattle.bs_solve.proofs.Startings.{whole_new}
 use Rattle.bs_solve.proofs.Engines.{engine_new}

@@ -13,7 +13,7 @@ use Rattle.bs_solve_recording.proofs.Endings.{no_lemmas, some_and_last}
 use Rattle.bs_solve_recording.proofs.Solving.{follows_lemmas}
 use Rattle.bs_solve_recording.proofs.Standing.{learnt_of_axioms}
 use Rattle.bs_solve_analysis.specs.Marks.{IsClear}
-use Rattle.bs_solve_search.proofs.Refutings.{over_at_once}
+use Rattle.bs_solve.proofs.Refutings.{over_at_once}
 use Rattle.bs_solve.specs.Denying.{Denies}
 use Rattle.bs_solve.specs.Starting.{IsLeftAt}
 use Rattle.bs_solve.proofs.Engines.{engine_solved}

@@ -1,4 +1,0 @@
-pub mod PutLemmas
-pub mod RowLemmas
-pub mod CellLemmas
-pub mod EscapeLemmas

@@ -1,9 +1,0 @@
-use Rattle.std.proofs.Common.{◌≡◌, map, drop}
-use Rattle.bs_inspect_declared.specs.Header.{declared_in}
-use Rattle.bs_inspect_declared.specs.Sources.{inputs_behind}
-use Rattle.bs_inspect_declared.proofs.inputs.take_indexed.Given as goal
-
-abbrev pub invariant-keys : goal.invariant-keys
-invariant-keys l =
-    inputs_behind l.initial.into.items 0 (declared_in l.declared) l.path (map (λ key. key.now) l.keys)
-    ≡ inputs_behind l.into.items l.i (declared_in l.declared) l.path (map (λ key. key.now) (drop l.i l.keys))

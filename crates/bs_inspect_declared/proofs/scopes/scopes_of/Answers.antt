@@ -1,4 +1,0 @@
-use Rattle.bs_inspect_declared.proofs.scopes.scopes_of.Goals as goal
-
-pub returns : goal.returns
-returns c = c.in_ok-scopes.ensures

@@ -1,0 +1,116 @@
+//! The walks over the files: each is fetched and read once, up to the first that stops the walk.
+ghost use Rattle.std.specs.Prelude.{◌≡◌, map};
+ghost use Rattle.bs_top_plan.specs.Telling.{WalksTold};
+ghost use Rattle.bs_top_files.specs.NoteCases.{NoteSays};
+ghost use Rattle.bs_top_files.specs.Refusals.{CheckSays};
+ghost use Rattle.bs_inspect_files.specs.FlopFiles.{chain_step, chain_step_looked, named_looked, named_of, order_looked, order_of, pattern_step, pattern_step_looked, scanned_in, scanned_looked, scanned_of};
+
+use crate::called::called_or_told;
+use crate::order::order_or_told;
+use crate::pattern::pattern_or_told;
+use crate::ready::Scanned;
+use bs_net::Netlist;
+use bs_outside::Shelf;
+use bs_top_files::load_netlist;
+use bs_top_plan::{File, Stop, fetch_file, settle_told};
+use std::alloc::Global;
+
+/// Drops a value, which a walk that stops lets go.
+fn let_go<T: Drop>(_value: T) {}
+
+/// A netlist, where nets of it have these names.
+pub fn load_named<S: Shelf>(
+    alloc: Global,
+    shelf: &mut S,
+    netlist: &str,
+    names: &[&str],
+) -> Result<Netlist, Stop>
+    ensures { WalksTold CheckSays NoteSays S.held S.faults S.leads shelf.old shelf.new
+        (named_of netlist.now (map (λ s. s.now) names.now)) (named_looked netlist.now (map (λ s. s.now) names.now)) (λ net. net.raw) (λ net. net.raw) result }
+{
+    let net = load_netlist(alloc, shelf, netlist)?;
+    let known = called_or_told(alloc, &net, names);
+    match settle_told(File::Name, known) {
+        Ok(()) => Ok(net),
+        Err(stop) => {
+            let_go(net);
+            Err(stop)
+        }
+    }
+}
+
+/// The flip-flops of a netlist's scan chain in its order.
+fn load_order<S: Shelf>(
+    alloc: Global,
+    shelf: &mut S,
+    net: &Netlist,
+    order: &str,
+) -> Result<Vec<usize>, Stop>
+    ensures { WalksTold CheckSays NoteSays S.held S.faults S.leads shelf.old shelf.new
+        (order_of net.now.raw order.now) (order_looked net.now.raw order.now) (λ chain. chain.items) (λ chain. chain.items) result }
+{
+    let bytes = fetch_file(alloc, shelf, File::Map, order)?;
+    settle_told(File::Map, order_or_told(alloc, order, &bytes, net))
+}
+
+/// A netlist with the order of its scan chain, and a pattern.
+fn load_pattern<S: Shelf>(
+    alloc: Global,
+    _shelf: &mut S,
+    net: Netlist,
+    order: Vec<usize>,
+    pattern: &[u8],
+) -> Result<Scanned, Stop>
+    ensures { WalksTold CheckSays NoteSays S.held S.faults S.leads _shelf.old _shelf.new
+        (pattern_step net.raw order.items pattern.now) (pattern_step_looked net.raw order.items pattern.now) scanned_in scanned_in result }
+{
+    match settle_told(File::State, pattern_or_told(alloc, pattern, &net)) {
+        Ok(bits) => Ok(Scanned {
+            net,
+            order,
+            pattern: bits,
+        }),
+        Err(stop) => {
+            let_go(net);
+            let_go(order);
+            Err(stop)
+        }
+    }
+}
+
+/// A netlist with the order of its scan chain out of a file, and a pattern.
+fn load_chain<S: Shelf>(
+    alloc: Global,
+    shelf: &mut S,
+    net: Netlist,
+    order: &str,
+    pattern: &[u8],
+) -> Result<Scanned, Stop>
+    ensures { WalksTold CheckSays NoteSays S.held S.faults S.leads shelf.old shelf.new
+        (chain_step net.raw order.now pattern.now) (chain_step_looked net.raw order.now pattern.now) scanned_in scanned_in result }
+{
+    match load_order(alloc, shelf, &net, order) {
+        Ok(chain) => load_pattern(alloc, shelf, net, chain, pattern),
+        Err(stop) => {
+            let_go(net);
+            Err(stop)
+        }
+    }
+}
+
+/// A netlist, the order of its scan chain, and a pattern in that order.
+pub fn load_scanned<S: Shelf>(
+    alloc: Global,
+    shelf: &mut S,
+    netlist: &str,
+    order: &str,
+    pattern: &[u8],
+) -> Result<Scanned, Stop>
+    ensures { WalksTold CheckSays NoteSays S.held S.faults S.leads shelf.old shelf.new
+        (scanned_of netlist.now order.now pattern.now) (scanned_looked netlist.now order.now pattern.now) scanned_in scanned_in result }
+{
+    match load_netlist(alloc, shelf, netlist) {
+        Ok(net) => load_chain(alloc, shelf, net, order, pattern),
+        Err(stop) => Err(stop),
+    }
+}

@@ -1,0 +1,137 @@
+//! The order of a scan chain, or what is told of its text.
+ghost use Rattle.std.specs.Prelude.{◌≡◌, IfOk};
+ghost use Rattle.bs_note_files.specs.Notes.{said};
+ghost use Rattle.bs_top_plan.specs.declared.walk.Refusal.TheVariants.{NoMemory as Want};
+ghost use Rattle.bs_top_plan.specs.Plan.{Says};
+ghost use Rattle.bs_top_plan.specs.Told.{note_refusal, noted, word_refusal, worded};
+ghost use Rattle.bs_top_plan.specs.Walks.{Reads};
+ghost use Rattle.bs_top_files.specs.NoteCases.{HasNote, IsNoteAtLine, NoteSays};
+ghost use Rattle.bs_top_files.specs.Refusals.{CheckSays, HasWords};
+ghost use Rattle.bs_inspect_netlist.specs.declared.fault.OrderFault.TheVariants.{NoMemory as OrderWant};
+ghost use Rattle.bs_inspect_files.specs.Readings.{form_saying, missing_text, order_note_reason, order_noted, order_read, twice_saying, unknown_saying};
+ghost use Rattle.bs_inspect_files.specs.FlopWords.{order_words};
+
+use crate::flop_refusals::order_refusal;
+use crate::lines::line_note;
+use bs_bits::{NoMemory, push_number, push_piece};
+use bs_inspect_netlist::{OrderFault, read_order};
+use bs_net::Netlist;
+use bs_note_files::{Message, file_note};
+use bs_top_plan::{Unread, both};
+use std::alloc::Global;
+
+/// What is said of a line that is no name.
+fn form_saying() -> Message<'static>
+    ensures { said result ≡ form_saying }
+{
+    Message {
+        sentence: b"a line is one name, of visible characters alone",
+        label: b"the key of a flip-flop, or its name as RTL writes it",
+    }
+}
+
+/// What is said of a name that is that of no flip-flop.
+fn unknown_saying() -> Message<'static>
+    ensures { said result ≡ unknown_saying }
+{
+    Message {
+        sentence: b"no flip-flop has this name",
+        label: b"`flops` tells the keys",
+    }
+}
+
+/// What is said of a flip-flop that has a line already.
+fn twice_saying() -> Message<'static>
+    ensures { said result ≡ twice_saying }
+{
+    Message {
+        sentence: b"the flip-flop of this line has a line already",
+        label: b"take one of them out",
+    }
+}
+
+/// A note on a line that is no name.
+fn form_note(alloc: Global, path: &str, text: &[u8], number: u64) -> Result<Vec<u8>, NoMemory>
+    ensures { IfOk result (λ note. IsNoteAtLine path.now text.now number form_saying note.items) }
+{
+    let message = form_saying();
+    let note = line_note(alloc, path, text, number, message)?;
+    Ok(note)
+}
+
+/// A note on a line whose name is that of no flip-flop.
+fn unknown_note(alloc: Global, path: &str, text: &[u8], number: u64) -> Result<Vec<u8>, NoMemory>
+    ensures { IfOk result (λ note. IsNoteAtLine path.now text.now number unknown_saying note.items) }
+{
+    let message = unknown_saying();
+    let note = line_note(alloc, path, text, number, message)?;
+    Ok(note)
+}
+
+/// A note on a line whose flip-flop has a line already.
+fn twice_note(alloc: Global, path: &str, text: &[u8], number: u64) -> Result<Vec<u8>, NoMemory>
+    ensures { IfOk result (λ note. IsNoteAtLine path.now text.now number twice_saying note.items) }
+{
+    let message = twice_saying();
+    let note = line_note(alloc, path, text, number, message)?;
+    Ok(note)
+}
+
+/// A note on a flip-flop that has no line.
+fn missing_note(alloc: Global, path: &str, flop: u64) -> Result<Vec<u8>, NoMemory>
+    ensures { IfOk result (λ note. note.items ≡ missing_text path.now flop) }
+{
+    let mut said = b"no line names flip-flop ".to_vec(alloc)?;
+    push_number(&mut said, flop)?;
+    push_piece(&mut said, b" of the netlist")?;
+    let mut note = file_note(alloc, path, &said)?;
+    push_piece(&mut note, b"note: `flops` tells its number and its key\n")?;
+    Ok(note)
+}
+
+/// The note on a text that is no order.
+fn order_note(
+    alloc: Global,
+    path: &str,
+    text: &[u8],
+    fault: OrderFault,
+) -> Result<Vec<u8>, NoMemory>
+    ensures { IfOk result (λ note. Says NoteSays (order_note_reason path.now text.now fault) note.items) }
+{
+    match fault {
+        OrderFault::Line(number) => form_note(alloc, path, text, number),
+        OrderFault::Unknown(number) => unknown_note(alloc, path, text, number),
+        OrderFault::Twice(number) => twice_note(alloc, path, text, number),
+        OrderFault::Missing(flop) => missing_note(alloc, path, flop),
+        OrderFault::NoMemory => Err(NoMemory),
+    }
+}
+
+/// What is told of a text that is no order.
+#[tactic(auto, using(bs_top_files::proofs::NotingLemmas::both_words, bs_top_files::proofs::NotingLemmas::both_note, bs_top_files::proofs::NotingLemmas::both_want))]
+fn order_told(alloc: Global, path: &str, text: &[u8], fault: OrderFault) -> Unread
+    ensures words { HasWords (order_words fault) (word_refusal result) }
+    ensures want { fault ≡ OrderWant → word_refusal result ≡ Want }
+    ensures note { HasNote (order_note_reason path.now text.now fault) (note_refusal result) }
+    ensures none { fault ≡ OrderWant → note_refusal result ≡ Want }
+{
+    let words = order_refusal(alloc, fault);
+    let note = order_note(alloc, path, text, fault);
+    both(words, note)
+}
+
+/// The flip-flops of a scan chain in its order, or what is told of their text.
+pub fn order_or_told(
+    alloc: Global,
+    path: &str,
+    text: &[u8],
+    net: &Netlist,
+) -> Result<Vec<usize>, Unread>
+    ensures words { Reads CheckSays (λ order. order.items) (order_read net.now.raw text.now) (worded result) }
+    ensures note { Reads NoteSays (λ order. order.items) (order_noted path.now net.now.raw text.now) (noted result) }
+{
+    match read_order(alloc, net, text) {
+        Ok(order) => Ok(order),
+        Err(fault) => Err(order_told(alloc, path, text, fault)),
+    }
+}

@@ -1,2 +1,0 @@
-pub mod CalledLemmas
-pub mod LineLemmas

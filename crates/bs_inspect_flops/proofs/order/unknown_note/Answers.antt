@@ -1,5 +1,0 @@
-use Rattle.bs_inspect_flops.proofs.LineLemmas.{line_said}
-use Rattle.bs_inspect_flops.proofs.order.unknown_note.Goals as goal
-
-pub returns : goal.returns
-returns c = line_said _ _ _ _ _ _ c.unknown_saying-message.ensures c.in_ok-note.ensures

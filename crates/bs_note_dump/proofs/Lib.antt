@@ -1,2 +1,0 @@
-pub mod TurnedLemmas
-pub mod LookLemmas

@@ -1,2 +1,0 @@
--- what the public contract rests on
-pub mod Chain

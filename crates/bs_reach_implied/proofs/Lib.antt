@@ -1,0 +1,5 @@
+pub mod RowLemmas
+pub mod NamedLemmas
+pub mod DenialLemmas
+pub mod Reading
+pub mod Chains

@@ -1,0 +1,3 @@
+-- what the public contract rests on
+pub mod Rows
+pub mod Chain

@@ -1,6 +1,0 @@
-use Rattle.std.proofs.Common.{◌≡◌, take, map}
-use Rattle.bs_reach_renamed.specs.Renamed.{new_literal}
-use Rattle.bs_reach_renamed.proofs.renaming.new_clause.Given as goal
-
-abbrev pub invariant-literals : goal.invariant-literals
-invariant-literals l = l.new ≡ map (new_literal l.s) (take l.l-index l.clause)

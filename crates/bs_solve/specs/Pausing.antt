@@ -1,0 +1,48 @@
+-- A search that waits between two solves of a step, its literals assigned.
+use Rattle.std.specs.Prelude.{◌≡◌, ◌⊎◌, ℕ, ◌≤◌, List, [], take, length, All, slice_get, Some}
+use Rattle.bs_clause.specs.Literal.{Clause}
+use Rattle.bs_arena.specs.Arena.{Held}
+use Rattle.bs_watch.specs.declared.watch.Level.{Level}
+use Rattle.bs_watch.specs.Trail.{IsTrueOn}
+use Rattle.bs_watch.specs.Watch.{WatchState}
+use Rattle.bs_solve_recording.specs.Places.{AreWarranted, logged_literals}
+use Rattle.bs_solve_recording.specs.Book.{Book, standing}
+use Rattle.bs_solve_recording.specs.Search.{assumed}
+use Rattle.bs_solve_recording.specs.declared.answer.Answer.{Answer}
+use Rattle.bs_solve_recording.specs.declared.answer.Answer.TheVariants.{Found, Refuted, Spent}
+use Rattle.bs_solve.specs.declared.stock.Stock.{Stock}
+use Rattle.bs_solve.specs.Seen.{seen}
+use Rattle.bs_solve.specs.Ground.{IsOff}
+use Rattle.bs_solve.specs.Running.{IsRunning}
+use Rattle.bs_solve.specs.Teaching.{IsAtRest}
+
+-- the trail is sound for the clauses that stand, and the assumptions are true on its first `base` places
+pub record IsPaused (base : ℕ) (book : Book) (w : WatchState) (clauses : List Held) (stock : Stock) : Type 0 where
+  pub running : IsRunning base book w clauses stock
+  pub sound : AreWarranted (standing book) base (assumed book) (seen w.trail.places)
+  pub given : All (IsTrueOn (logged_literals (take base (seen w.trail.places)))) (assumed book)
+  pub low : base ≤ length w.trail.places
+
+-- whatever the length of the first level
+abbrev pub IsSomePause : Book → WatchState → List Held → Stock → Type 0
+IsSomePause book w clauses stock = (base : ℕ) × IsPaused base book w clauses stock
+
+-- nothing is assigned, or the search waits
+abbrev pub IsKept : Book → WatchState → List Held → Stock → Type 0
+IsKept book w clauses stock = IsAtRest book w clauses stock ⊎ IsSomePause book w clauses stock
+
+-- how a search leaves its trail: where values were found, for the next solve of the step
+abbrev pub IsLeft : Answer → Book → WatchState → List Held → Stock → Type 0
+IsLeft (Found values) book w clauses stock = IsKept book w clauses stock
+IsLeft (Refuted id) book w clauses stock = IsAtRest book w clauses stock
+IsLeft Spent book w clauses stock = IsAtRest book w clauses stock
+
+-- no variable of the clause stands for good
+pub record IsGrounded (w : WatchState) (c : Clause) : Type 0 where
+  pub none : w.levels ≡ [] → IsOff w.trail.places c
+  pub first : (v : Level) → slice_get w.levels 0 ≡ Some v → IsOff (take v.start w.trail.places) c
+
+-- what was kept is at rest, and the variables are the same
+pub record GoesToRest (old new : WatchState) : Type 0 where
+  pub vars : new.trail.vars ≡ old.trail.vars
+  pub keeps : (book : Book) (clauses : List Held) (stock : Stock) → IsKept book old clauses stock → IsAtRest book new clauses stock

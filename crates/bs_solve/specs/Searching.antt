@@ -1,0 +1,96 @@
+-- A search from its first level to its end.
+use Rattle.std.specs.Prelude.{◌≡◌, ℕ, ◌≤◌, Bool, true, false, List, [], ◌∷◌, length, Some, None, All, slice_get, take, Contains}
+use Rattle.bs_clause.specs.Literal.{Literal, negation}
+use Rattle.bs_clause.specs.Range.{HasVariables}
+use Rattle.bs_log.specs.Refusal.{has_distinct_variables}
+use Rattle.bs_arena.specs.Arena.{Held}
+use Rattle.bs_watch.specs.declared.visit.Outcome.{Outcome}
+use Rattle.bs_watch.specs.declared.watch.Level.{Level}
+use Rattle.bs_watch.specs.Places.{Place, IsUnassigned, AreApart, literals_of}
+use Rattle.bs_watch.specs.Scene.{Advances, Propagated}
+use Rattle.bs_watch.specs.Watch.{WatchState, Serves, KeepsService, decided, assigned, scene}
+use Rattle.bs_solve_analysis.specs.Reasons.{IsReasoned, IsConflictAt}
+use Rattle.bs_solve_recording.specs.Places.{AreWarranted}
+use Rattle.bs_solve_recording.specs.Point.{AreForced}
+use Rattle.bs_solve_recording.specs.Book.{Book, standing}
+use Rattle.bs_solve_recording.specs.declared.answer.Answer.{Answer}
+use Rattle.bs_solve_recording.specs.Search.{assumed, HasRefuted}
+use Rattle.bs_solve_recording.specs.Ending.{Ends}
+use Rattle.bs_solve_recording.specs.Values.{AreAssigned}
+use Rattle.bs_solve.specs.Stock.{IsStocked, entries}
+use Rattle.bs_solve.specs.Ground.{IsGround}
+use Rattle.bs_solve.specs.declared.stock.Stock.{Stock}
+use Rattle.bs_solve.specs.Seen.{seen}
+use Rattle.bs_solve.specs.Running.{InTurn}
+use Rattle.bs_solve.specs.Teaching.{IsAtRest}
+use Rattle.bs_solve.specs.Pausing.{IsLeft}
+
+-- a trail of one level that makes a clause false
+pub record IsFirstConflict (base : ℕ) (book : Book) (w : WatchState) (clauses : List Held) (stock : Stock) (conflict : ℕ) : Type 0 where
+  pub stocked : IsStocked w.lists clauses stock (entries book)
+  pub serves : Serves w clauses
+  pub reasoned : IsReasoned clauses w.trail.places
+  pub sound : AreWarranted (standing book) base (assumed book) (seen w.trail.places)
+  pub forced : AreForced (seen w.trail.places) base
+  pub range : All (HasVariables w.trail.vars) (standing book)
+  pub distinct : All (λ c. has_distinct_variables c ≡ true) (standing book)
+  pub clash : IsConflictAt clauses (literals_of w.trail.places) conflict
+  pub some : 1 ≤ length w.levels
+  pub ground : (v : Level) → slice_get w.levels 0 ≡ Some v → IsGround (entries book) stock.shorts.items clauses (take v.start w.trail.places)
+
+-- an assumption whose negation stands for good
+pub record IsDenial (book : Book) (w : WatchState) (clauses : List Held) (stock : Stock) (denied : Literal) : Type 0 where
+  pub stocked : IsStocked w.lists clauses stock (entries book)
+  pub serves : Serves w clauses
+  pub level : Level
+  pub levels : w.levels ≡ level ∷ []
+  pub ground : IsGround (entries book) stock.shorts.items clauses (take level.start w.trail.places)
+  pub at : ℕ
+  pub place : Place
+  pub there : slice_get (take level.start w.trail.places) at ≡ Some place
+  pub is : place.literal ≡ negation denied
+  pub assumes : Contains (assumed book) denied
+  pub range : All (HasVariables w.trail.vars) (standing book)
+
+-- whatever the length of the first level
+abbrev pub IsSomeFirstConflict : Book → WatchState → List Held → Stock → ℕ → Type 0
+IsSomeFirstConflict book w clauses stock conflict = (base : ℕ) × IsFirstConflict base book w clauses stock conflict
+
+abbrev pub IsSomeTurn : Book → ℕ → ℕ → ℕ → Book → WatchState → List Held → Stock → Outcome → Type 0
+IsSomeTurn old vars conflicts limit book w clauses stock outcome =
+    (base : ℕ) × InTurn old vars base conflicts limit book w clauses stock outcome
+
+-- an open literal was assumed on a new level
+pub record HasDecided (old new : WatchState) : Type 0 where
+  pub literal : Literal
+  pub free : IsUnassigned old.trail literal
+  pub is : new ≡ assigned (decided old) literal None
+  pub serves : KeepsService old new
+
+-- or each variable has a value
+abbrev pub Decides : WatchState → WatchState → Bool → Type 0
+Decides old new true = HasDecided old new
+Decides old new false = (new ≡ old) × AreAssigned (literals_of old.trail.places) old.trail.vars
+
+-- what was forced has been assigned, until no clause is unit, or one is false
+pub record HasPropagated (old new : WatchState) (before after : List Held) (outcome : Outcome) : Type 0 where
+  pub advances : Advances (length old.levels) (scene old before) (scene new after)
+  pub levels : new.levels ≡ old.levels
+  pub serves : Serves new after
+  pub apart : AreApart new.trail.places
+  pub room : length new.trail.places ≤ new.trail.vars
+  pub ends : Propagated (scene new after) outcome
+
+-- the search has ended, and its trail stays where it found values
+pub record IsOver (old new : Book) (vars limit : ℕ) (w : WatchState) (clauses : List Held) (stock : Stock) (answer : Answer) : Type 0 where
+  pub ends : Ends old new vars limit answer
+  pub left : IsLeft answer new w clauses stock
+  pub vars_is : w.trail.vars ≡ vars
+  pub range : All (HasVariables vars) (standing new)
+  pub distinct : All (λ c. has_distinct_variables c ≡ true) (standing new)
+
+-- the lemma of the id ends the step, and nothing is assigned
+pub record HasEndedBy (old new : Book) (vars : ℕ) (w : WatchState) (clauses : List Held) (stock : Stock) (id : ℕ) : Type 0 where
+  pub refuted : HasRefuted old new id
+  pub rest : IsAtRest new w clauses stock
+  pub vars_is : w.trail.vars ≡ vars

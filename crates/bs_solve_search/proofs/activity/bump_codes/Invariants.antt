@@ -1,5 +1,0 @@
-use Rattle.std.proofs.Common.{◌≡◌}
-use Rattle.bs_solve_search.proofs.activity.bump_codes.Given as goal
-
-abbrev pub invariant-places : goal.invariant-places
-invariant-places l = l.watch ≡ l.initial.watch

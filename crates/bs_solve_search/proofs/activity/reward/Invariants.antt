@@ -1,5 +1,0 @@
-use Rattle.std.proofs.Common.{◌≡◌}
-use Rattle.bs_solve_search.proofs.activity.reward.Given as goal
-
-abbrev pub invariant-hints : goal.invariant-hints
-invariant-hints l = l.watch ≡ l.initial.watch

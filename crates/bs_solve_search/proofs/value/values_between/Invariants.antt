@@ -1,6 +1,0 @@
-use Rattle.std.proofs.Common.{◌≤◌}
-use Rattle.bs_solve_search.specs.Between.{AreBetween}
-use Rattle.bs_solve_search.proofs.value.values_between.Given as goal
-
-abbrev pub invariant-numbers : goal.invariant-numbers
-invariant-numbers l = record { values : AreBetween l.trues l.first l.number l.values.items; order : l.first ≤ l.number }

@@ -1,0 +1,236 @@
+-- The lines of a cycle and of those before it.
+use Rattle.std.proofs.Common.{◌≡◌, ℕ, zero, suc, ◌<◌, ◌≤◌, ◌+◌, ◌-◌, Bool, true, false, cond, nat_lt, nat_le, List, [], ◌∷◌, ◌++◌, length, map, take, drop, slice_get, Option, Some, None, Result, Ok, Err, refl, arith, subst, ap, sym, ◌∙◌}
+use Rattle.std.specs.Borrow.{Bor}
+use Rattle.std.specs.List.{All, position}
+use Rattle.std.proofs.lemmas.Bool.{le-leb, le-ltb, lt-ltb, ltb-true, and_from}
+use Rattle.std.proofs.lemmas.List.{drop_all, drop-append-le, length-drop, length-map, length-take, length-take-le, take_more}
+use Rattle.std.proofs.lemmas.List.Elements.{All-cons, All-nil}
+use Rattle.std.proofs.lemmas.Option.{get_or_from_slice_get, slice_get_within}
+use Rattle.bs_bits.specs.Reading.{◌>>=◌}
+use Rattle.bs_net_names.specs.Keys.{key_parts}
+use Rattle.bs_vcd_header.specs.declared.fault.VcdFault.{VcdFault}
+use Rattle.bs_vcd_header.specs.declared.fault.VcdFault.TheVariants.{NoClock, NoCycle}
+use Rattle.bs_vcd_header.specs.declared.sources.Source.{Source}
+use Rattle.bs_vcd_header.specs.Header.{Declared, header_of}
+use Rattle.bs_vcd_header.specs.Sources.{input_at, inputs_from, or_fault, scope_of, source_in}
+use Rattle.bs_vcd_header.specs.Tokens.{tokens_from}
+use Rattle.bs_vcd.specs.declared.cycles.When.{When}
+use Rattle.bs_vcd.specs.History.{History, history_of}
+use Rattle.bs_vcd.specs.Levels.{Known, is_bit, is_unknown, known_by, level}
+use Rattle.bs_vcd.specs.Sampled.{Asked, Cut, is_within, line_at, line_or, lines_asked, numbered_lines, stops_of, wanted, or_fault as or_end}
+use Rattle.bs_vcd.specs.Stimulus.{Sampling, sampling_of}
+use Rattle.bs_vcd.specs.Cycles.{cycle_ends, cycle_in, states_at, states_in, states_of, states_when, window}
+
+abbrev Lines : Type 0
+Lines = List (List Bool)
+
+-- ---- a copy of some lines
+
+pub between_none : (lines : Lines) (first : ℕ) → [] ≡ drop first (take first lines)
+between_none lines first = sym (drop_all first (take first lines) (omega (arith, length-take first lines)))
+
+pub between_more : (lines own : Lines) (line : List Bool) (first i : ℕ) → first ≤ i → own ≡ drop first (take i lines) → slice_get lines i ≡ Some line →
+    own ++ line ∷ [] ≡ drop first (take (i + 1) lines)
+between_more lines own line first i le e is =
+    let within : i < length lines = slice_get_within lines i line is in
+    ap (λ (xs : Lines). xs ++ line ∷ []) e
+    ∙ (sym (drop-append-le first (take i lines) (line ∷ []) (omega (arith, le, within, length-take-le i lines (omega (arith, within)))))
+    ∙ (ap (λ (x : List Bool). drop first (take i lines ++ x ∷ [])) (sym (get_or_from_slice_get lines i line line is))
+    ∙ ap (drop first) (sym (take_more lines i line within))))
+
+-- the lines of a cycle, where there are that many
+pub window_there : (cycle back first behind : ℕ) (lines own : Lines) → cycle < length lines → first ≡ cycle - back → behind ≡ cycle + 1 →
+    own ≡ drop first (take behind lines) → window cycle back lines ≡ Ok own
+window_there cycle back first behind lines own lt one two e =
+    ap (λ (b : Bool). cond b (Ok (drop (cycle - back) (take (cycle + 1) lines))) (Err (NoCycle (length lines - 1)))) (lt-ltb cycle (length lines) lt)
+    ∙ ap Ok (sym (e ∙ (λ i. drop (one i) (take (two i) lines))))
+
+pub window_short : (cycle back count : ℕ) (lines : Lines) → length lines ≤ cycle → count ≡ length lines - 1 → window cycle back lines ≡ Err (NoCycle count)
+window_short cycle back count lines le e =
+    ap (λ (b : Bool). cond b (Ok (drop (cycle - back) (take (cycle + 1) lines))) (Err (NoCycle (length lines - 1)))) (le-ltb cycle (length lines) le)
+    ∙ ap (λ n. Err (NoCycle n)) (sym e)
+
+-- ---- what a value keeps
+
+-- the value, if there is one, keeps this
+pub record Gives {A : Type 0} (P : A → Type 0) (r : Result A VcdFault) : Type 0 where
+  pub is : (x : A) → r ≡ Ok x → P x
+
+gives_ok : {A : Type 0} (P : A → Type 0) (x : A) → P x → Gives P (Ok x)
+gives_ok P x p = record { is = λ y e. let same : x ≡ y = cc in subst P same p }
+
+gives_err : {A : Type 0} (P : A → Type 0) (fault : VcdFault) → Gives P (Err fault)
+gives_err P fault = record { is = λ x e. absurd cc }
+
+gives_then : {A B : Type 0} (P : A → Type 0) (R : B → Type 0) (r : Result A VcdFault) (f : A → Result B VcdFault) → Gives P r →
+    ((x : A) → P x → Gives R (f x)) → Gives R (r >>= f)
+gives_then P R (Ok x) f g h = h x (g.is x refl)
+gives_then P R (Err fault) f g h = gives_err R fault
+
+gives_any : {A : Type 0} (r : Result A VcdFault) → Gives (λ _. Unit {0}) r
+gives_any r = record { is = λ x e. tt }
+
+-- ---- what the states are
+
+-- a list of so many
+abbrev IsLong : {A : Type 0} → ℕ → List A → Type 0
+IsLong n xs = length xs ≡ n
+
+-- states of so many bits, one at least
+abbrev AreStates : ℕ → Lines → Type 0
+AreStates width lines = (0 < length lines) × All (λ s. length s ≡ width) lines
+
+-- a line has a bit for each source
+line_wide : (time : ℕ) (known : Known) (inputs : List Source) (o : Option ℕ) → Gives (IsLong (length inputs)) (line_or time known inputs o)
+line_wide time known inputs (Some k) = gives_err (IsLong (length inputs)) _
+line_wide time known inputs None = gives_ok (IsLong (length inputs)) _ (length-map inputs (λ s. is_bit true (level known s)))
+
+line_at_wide : (inputs : List Source) (c : Cut) → Gives (IsLong (length inputs)) (line_at inputs c)
+line_at_wide inputs c = line_wide c.moment.time (known_by c.earlier) inputs (position (is_unknown (known_by c.earlier)) inputs)
+
+-- lines from one number on up to another
+abbrev WideIn : ℕ → ℕ → ℕ → Lines → Type 0
+WideIn width first behind lines = All (λ s. length s ≡ width) (drop first (take behind lines))
+
+-- the numbers of these lie in the span
+record Within (a : Asked) (n first behind : ℕ) : Type 0 where
+  is : (j : ℕ) → first ≤ j → j < behind → is_within a.span (n + j) ≡ true
+
+here_wide : (a : Asked) (n : ℕ) (c : Cut) → is_within a.span n ≡ true → Gives (IsLong (length a.inputs)) (line_at (wanted a n) c)
+here_wide a n c e =
+    subst (λ (b : Bool). Gives (IsLong (length a.inputs)) (line_at (cond b a.inputs []) c)) (sym e) (line_at_wide a.inputs c)
+
+none_wide : (width first behind : ℕ) → WideIn width first behind []
+none_wide width zero zero = All-nil (λ (s : List Bool). length s ≡ width)
+none_wide width zero (suc behind) = All-nil (λ (s : List Bool). length s ≡ width)
+none_wide width (suc first) zero = All-nil (λ (s : List Bool). length s ≡ width)
+none_wide width (suc first) (suc behind) = All-nil (λ (s : List Bool). length s ≡ width)
+
+up_to_none : (width first : ℕ) (lines : Lines) → WideIn width first zero lines
+up_to_none width zero lines = All-nil (λ (s : List Bool). length s ≡ width)
+up_to_none width (suc first) lines = All-nil (λ (s : List Bool). length s ≡ width)
+
+-- the same one line on
+next_within : (a : Asked) (n first behind : ℕ) → Within a n (suc first) (suc behind) → Within a (n + 1) first behind
+next_within a n first behind w = record {
+  is = λ j le lt. subst (λ (k : ℕ). is_within a.span k ≡ true) (omega arith) (w.is (suc j) (omega (arith, le)) (omega (arith, lt)));
+}
+
+after_within : (a : Asked) (n behind : ℕ) → Within a n zero (suc behind) → Within a (n + 1) zero behind
+after_within a n behind w = record {
+  is = λ j le lt. subst (λ (k : ℕ). is_within a.span k ≡ true) (omega arith) (w.is (suc j) (omega arith) (omega (arith, lt)));
+}
+
+abbrev later : Asked → ℕ → List Cut → List Bool → Result Lines VcdFault
+later a n cs x = numbered_lines a (n + 1) cs >>= λ xs. Ok (x ∷ xs)
+
+lines_wide : (a : Asked) (cuts : List Cut) (n first behind : ℕ) → Within a n first behind →
+    Gives (WideIn (length a.inputs) first behind) (numbered_lines a n cuts)
+lines_wide a [] n first behind w = gives_ok (WideIn (length a.inputs) first behind) [] (none_wide (length a.inputs) first behind)
+lines_wide a (c ∷ cs) n first zero w =
+    let P = WideIn (length a.inputs) first zero in
+    gives_then (λ _. Unit {0}) P (line_at (wanted a n) c) (later a n cs) (gives_any (line_at (wanted a n) c))
+    (λ x u.
+    gives_then (λ _. Unit {0}) P (numbered_lines a (n + 1) cs) (λ xs. Ok (x ∷ xs)) (gives_any (numbered_lines a (n + 1) cs))
+    (λ xs v. gives_ok P (x ∷ xs) (up_to_none (length a.inputs) first (x ∷ xs))))
+lines_wide a (c ∷ cs) n zero (suc behind) w =
+    let width : ℕ = length a.inputs in
+    let here : is_within a.span n ≡ true = subst (λ (k : ℕ). is_within a.span k ≡ true) (omega arith) (w.is 0 (omega arith) (omega arith)) in
+    gives_then (IsLong width) (WideIn width zero (suc behind)) (line_at (wanted a n) c) (later a n cs) (here_wide a n c here)
+    (λ x one.
+    gives_then (WideIn width zero behind) (WideIn width zero (suc behind)) (numbered_lines a (n + 1) cs) (λ xs. Ok (x ∷ xs))
+    (lines_wide a cs (n + 1) zero behind (after_within a n behind w))
+    (λ xs all. gives_ok (WideIn width zero (suc behind)) (x ∷ xs) (All-cons (λ (s : List Bool). length s ≡ width) x (take behind xs) one all)))
+lines_wide a (c ∷ cs) n (suc first) (suc behind) w =
+    let width : ℕ = length a.inputs in
+    gives_then (λ _. Unit {0}) (WideIn width (suc first) (suc behind)) (line_at (wanted a n) c) (later a n cs) (gives_any (line_at (wanted a n) c))
+    (λ x u.
+    gives_then (WideIn width first behind) (WideIn width (suc first) (suc behind)) (numbered_lines a (n + 1) cs) (λ xs. Ok (x ∷ xs))
+    (lines_wide a cs (n + 1) first behind (next_within a n first behind w))
+    (λ xs all. gives_ok (WideIn width (suc first) (suc behind)) (x ∷ xs) all))
+
+end_wide : (P : Lines → Type 0) (fault : Option VcdFault) (lines : Lines) → P lines → Gives P (or_end fault lines)
+end_wide P None lines p = gives_ok P lines p
+end_wide P (Some fault) lines p = gives_err P fault
+
+-- the lines of a cycle and of so many before it
+asked_wide : (s : Sampling) (h : History) (cycle back : ℕ) →
+    Gives (WideIn (length s.inputs) (cycle - back) (cycle + 1)) (lines_asked (cycle_ends s cycle back) h)
+asked_wide s h cycle back =
+    let a : Asked = cycle_ends s cycle back in
+    let P = WideIn (length s.inputs) (cycle - back) (cycle + 1) in
+    let cuts : List Cut = stops_of a [] 0 h in
+    gives_then P P (numbered_lines a 0 cuts) (λ lines. or_end h.fault lines)
+    (lines_wide a cuts 0 (cycle - back) (cycle + 1)
+    (record {
+      is = λ j le lt.
+          and_from (nat_le (cycle - back) (0 + j)) (nat_le (0 + j) cycle) (le-leb (cycle - back) (0 + j) (omega (arith, le)))
+          (le-leb (0 + j) cycle (omega (arith, lt)));
+    }))
+    (λ lines all. end_wide P h.fault lines all)
+
+window_wide : (width cycle back : ℕ) (lines : Lines) → WideIn width (cycle - back) (cycle + 1) lines → Gives (AreStates width) (window cycle back lines)
+window_wide width cycle back lines all = by (nat_lt cycle (length lines)) refl
+  where
+    by : (b : Bool) → nat_lt cycle (length lines) ≡ b
+        → Gives (AreStates width) (cond b (Ok (drop (cycle - back) (take (cycle + 1) lines))) (Err (NoCycle (length lines - 1))))
+    by true e =
+        let there : cycle < length lines = ltb-true cycle (length lines) e in
+        gives_ok (AreStates width) (drop (cycle - back) (take (cycle + 1) lines))
+        (omega (arith, length-drop (cycle - back) (take (cycle + 1) lines), length-take-le (cycle + 1) lines (omega (arith, there))), all)
+    by false e = gives_err (AreStates width) (NoCycle (length lines - 1))
+
+when_wide : (s : Sampling) (h : History) (at : When) (back : ℕ) → Gives (AreStates (length s.inputs)) (states_when s h at back)
+when_wide s h at back =
+    let R = AreStates (length s.inputs) in
+    gives_then (λ _. Unit {0}) R (cycle_in s.clock h at) (λ cycle. states_at s h back cycle) (gives_any (cycle_in s.clock h at))
+    (λ cycle u.
+    gives_then (WideIn (length s.inputs) (cycle - back) (cycle + 1)) R (lines_asked (cycle_ends s cycle back) h) (λ lines. window cycle back lines)
+    (asked_wide s h cycle back)
+    (λ lines all. window_wide (length s.inputs) cycle back lines all))
+
+-- a source for each name
+abbrev more_sources : ℕ → Declared → List ℕ → List (List ℕ) → Source → Result (List Source) VcdFault
+more_sources k d path keys s = inputs_from (k + 1) d path keys >>= λ more. Ok (s ∷ more)
+
+sources_each : (k : ℕ) (d : Declared) (path : List ℕ) (keys : List (List ℕ)) → Gives (IsLong (length keys)) (inputs_from k d path keys)
+sources_each k d path [] = gives_ok (IsLong 0) [] refl
+sources_each k d path (key ∷ keys) =
+    let R : List Source → Type 0 = λ (sources : List Source). length sources ≡ suc (length keys) in
+    gives_then (λ _. Unit {0}) R (input_at k d path key) (more_sources k d path keys) (gives_any (input_at k d path key))
+    (λ s u.
+    gives_then (IsLong (length keys)) R (inputs_from (k + 1) d path keys) (λ more. Ok (s ∷ more)) (sources_each (k + 1) d path keys)
+    (λ more e. gives_ok R (s ∷ more) (ap suc e)))
+
+sampling_each : (d : Declared) (scope : Option (List ℕ)) (clock : List ℕ) (keys : List (List ℕ)) →
+    Gives (λ (s : Sampling). length s.inputs ≡ length keys) (sampling_of d scope clock keys)
+sampling_each d scope clock keys =
+    let R : Sampling → Type 0 = λ (s : Sampling). length s.inputs ≡ length keys in
+    gives_then (λ _. Unit {0}) R (or_fault NoClock (scope_of scope (key_parts clock) d)) _ (gives_any (or_fault NoClock (scope_of scope (key_parts clock) d)))
+    (λ path u.
+    gives_then (λ _. Unit {0}) R (or_fault NoClock (source_in d.paths path (key_parts clock) d.variables)) _
+    (gives_any (or_fault NoClock (source_in d.paths path (key_parts clock) d.variables)))
+    (λ source v.
+    gives_then (IsLong (length keys)) R (inputs_from 0 d path keys) _ (sources_each 0 d path keys)
+    (λ inputs e. gives_ok R (record { clock = source; inputs = inputs }) e)))
+
+states_are : (text : List ℕ) (scope : Option (List ℕ)) (clock : List ℕ) (keys : List (List ℕ)) (at : When) (back : ℕ) →
+    Gives (AreStates (length keys)) (states_in text scope clock keys at back)
+states_are text scope clock keys at back =
+    let R = AreStates (length keys) in
+    gives_then (λ _. Unit {0}) R (header_of (tokens_from 1 text)) (λ h. states_of h scope clock keys at back) (gives_any (header_of (tokens_from 1 text)))
+    (λ h u.
+    gives_then (λ (s : Sampling). length s.inputs ≡ length keys) R (sampling_of h.declared scope clock keys) (λ s. states_when s (history_of h.rest) at back)
+    (sampling_each h.declared scope clock keys)
+    (λ s e. subst (λ (n : ℕ). Gives (AreStates n) (states_when s (history_of h.rest) at back)) e (when_wide s (history_of h.rest) at back)))
+
+pub states_some : (text : List ℕ) (scope : Option (List ℕ)) (clock : List ℕ) (keys : List (List ℕ)) (at : When) (back : ℕ) (states : List (List Bool)) →
+    states_in text scope clock keys at back ≡ Ok states → 0 < length states
+states_some text scope clock keys at back states e = ((states_are text scope clock keys at back).is states e).0
+
+pub states_wide : (text : List ℕ) (scope : Option (List ℕ)) (clock : List ℕ) (keys : List (Bor (List ℕ))) (at : When) (back : ℕ)
+    (states : List (List Bool)) → states_in text scope clock (map (λ key. key.now) keys) at back ≡ Ok states → All (λ s. length s ≡ length keys) states
+states_wide text scope clock keys at back states e =
+    let shown : List (List ℕ) = map (λ key. key.now) keys in
+    subst (λ (n : ℕ). All (λ s. length s ≡ n) states) (length-map keys (λ (key : Bor (List ℕ)). key.now))
+    ((states_are text scope clock shown at back).is states e).1

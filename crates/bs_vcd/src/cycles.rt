@@ -1,0 +1,235 @@
+//! The states of a cycle and of those before it, out of the text of a VCD.
+ghost use Rattle.std.specs.Prelude.{◌≡◌, ◌<◌, ◌≤◌, ◌+◌, ◌^◌, ◌∷◌, ◌++◌, [], drop, length, map, option_map, take, All, IfOk, OnOk};
+ghost use Rattle.bs_bits.specs.Reading.{Answers};
+ghost use Rattle.bs_vcd_header.specs.declared.fault.VcdFault.TheVariants.{NoMemory as Want};
+ghost use Rattle.bs_vcd_header.specs.Header.{begun_in, header_in};
+ghost use Rattle.bs_vcd_header.specs.Tokens.{tokens_from};
+ghost use Rattle.bs_vcd.specs.Cycles.{cycle_ends, cycle_in, edges_until, states_at, states_from, states_in, states_of, states_when, window};
+ghost use Rattle.bs_vcd.specs.History.{history_of};
+ghost use Rattle.bs_vcd.specs.Sampled.{lines_asked};
+ghost use Rattle.bs_vcd.specs.Stimulus.{sampling_in};
+
+use crate::edges::{Sampling, sampling_of};
+use crate::watch::{Asked, Span, watch_lines};
+use bs_bits::{Bits, List, NoMemory};
+use bs_vcd_header::{Begun, Behind, Declared, Source, VcdFault, nothing, take_words};
+use std::alloc::Global;
+
+/// When a state is taken: in the cycle under way at a time, or in the cycle with a number, from 0.
+#[derive(Clone, Copy)]
+pub enum When {
+    Time(u64),
+    Cycle(u64),
+}
+
+/// The edges of a clock up to a time.
+fn edges_until(
+    alloc: Global,
+    clock: Source,
+    time: u64,
+    behind: Behind<'_>,
+) -> Result<List<Bits>, VcdFault>
+    requires { behind.line + length behind.rest.now < 2 ^ 64 }
+    ensures { Answers Want (λ lines. lines) result (lines_asked (edges_until clock time) (history_of (tokens_from behind.entry.line behind.entry.rest.now))) }
+{
+    let asked = Asked {
+        clock,
+        inputs: &[],
+        span: None,
+        until: Some(time),
+        tail: false,
+    };
+    let lines = watch_lines(alloc, &asked, behind.line, behind.rest)?;
+    Ok(lines)
+}
+
+/// The number of the cycle.
+fn cycle_in(alloc: Global, clock: Source, behind: Behind<'_>, at: When) -> Result<u64, VcdFault>
+    requires { behind.line + length behind.rest.now < 2 ^ 64 }
+    ensures { Answers Want (λ cycle. cycle) result (cycle_in clock (history_of (tokens_from behind.entry.line behind.entry.rest.now)) at) }
+{
+    match at {
+        When::Cycle(cycle) => Ok(cycle),
+        When::Time(time) => {
+            let lines = edges_until(alloc, clock, time, behind)?;
+            Ok(lines.len() as u64)
+        }
+    }
+}
+
+/// The end of each cycle, with bits at those of a cycle and of so many before it.
+fn cycle_ends(
+    alloc: Global,
+    sampling: &Sampling,
+    behind: Behind<'_>,
+    back: u64,
+    cycle: u64,
+) -> Result<List<Bits>, VcdFault>
+    requires { behind.line + length behind.rest.now < 2 ^ 64 }
+    ensures { Answers Want (λ lines. lines) result (lines_asked (cycle_ends (sampling_in sampling.now) cycle back) (history_of (tokens_from behind.entry.line behind.entry.rest.now))) }
+{
+    let asked = Asked {
+        clock: sampling.clock,
+        inputs: sampling.inputs.as_slice(),
+        span: Some(Span {
+            first: cycle.saturating_sub(back),
+            last: cycle,
+        }),
+        until: None,
+        tail: true,
+    };
+    let lines = watch_lines(alloc, &asked, behind.line, behind.rest)?;
+    Ok(lines)
+}
+
+/// Puts a line at the end.
+fn put_line(lines: &mut List<Bits>, line: &Bits) -> Result<(), NoMemory>
+    ensures { OnOk result (lines.new ≡ lines.old ++ line.now ∷ []) }
+{
+    let own = line.copy()?;
+    lines.push(own)?;
+    Ok(())
+}
+
+/// The lines between two places, of which the second is not in.
+#[tactic(auto, using(crate::proofs::CycleLemmas::between_none, crate::proofs::CycleLemmas::between_more))]
+fn between(
+    alloc: Global,
+    lines: &List<Bits>,
+    first: usize,
+    behind: usize,
+) -> Result<List<Bits>, NoMemory>
+    requires some { first ≤ behind }
+    requires there { behind ≤ length lines.now }
+    ensures { IfOk result (λ own. own ≡ drop first (take behind lines.now)) }
+{
+    let mut own = List::new(alloc);
+    'lines: for i in first..behind {
+        put_line(&mut own, lines.get(i))?;
+    }
+    Ok(own)
+}
+
+/// The lines of a cycle and of so many before it, where there are that many.
+#[tactic(auto, using(crate::proofs::CycleLemmas::window_there, crate::proofs::CycleLemmas::window_short))]
+fn window(alloc: Global, lines: &List<Bits>, back: u64, cycle: u64) -> Result<List<Bits>, VcdFault>
+    ensures { Answers Want (λ own. own) result (window cycle back lines.now) }
+{
+    let count = lines.len() as u64;
+    if cycle >= count {
+        return Err(VcdFault::NoCycle(count.saturating_sub(1)));
+    }
+    let first = cycle.saturating_sub(back);
+    let own = between(alloc, lines, first as usize, cycle as usize + 1)?;
+    Ok(own)
+}
+
+/// The states of a cycle and of so many before it.
+fn states_at(
+    alloc: Global,
+    sampling: &Sampling,
+    behind: Behind<'_>,
+    back: u64,
+    cycle: u64,
+) -> Result<List<Bits>, VcdFault>
+    requires { behind.line + length behind.rest.now < 2 ^ 64 }
+    ensures { Answers Want (λ states. states) result (states_at (sampling_in sampling.now) (history_of (tokens_from behind.entry.line behind.entry.rest.now)) back cycle) }
+{
+    let lines = cycle_ends(alloc, sampling, behind, back, cycle)?;
+    let states = window(alloc, &lines, back, cycle)?;
+    Ok(states)
+}
+
+/// The same by when it is.
+fn states_when(
+    alloc: Global,
+    sampling: &Sampling,
+    behind: Behind<'_>,
+    at: When,
+    back: u64,
+) -> Result<List<Bits>, VcdFault>
+    requires { behind.line + length behind.rest.now < 2 ^ 64 }
+    ensures { Answers Want (λ states. states) result (states_when (sampling_in sampling.now) (history_of (tokens_from behind.entry.line behind.entry.rest.now)) at back) }
+{
+    let cycle = cycle_in(alloc, sampling.clock, behind, at)?;
+    let states = states_at(alloc, sampling, behind, back, cycle)?;
+    Ok(states)
+}
+
+/// The same by what is declared and the text behind that.
+fn states_of(
+    alloc: Global,
+    declared: &Declared<'_>,
+    behind: Behind<'_>,
+    scope: Option<&[u8]>,
+    clock: &[u8],
+    keys: &[&[u8]],
+    at: When,
+    back: u64,
+) -> Result<List<Bits>, VcdFault>
+    requires { behind.line + length behind.rest.now < 2 ^ 64 }
+    ensures { Answers Want (λ states. states) result (states_of (header_in behind.entry declared.now) (option_map (λ path. path.now) scope.entry) clock.now (map (λ key. key.now) keys.now) at back) }
+{
+    let sampling = sampling_of(alloc, declared, scope, clock, keys)?;
+    let states = states_when(alloc, &sampling, behind, at, back)?;
+    Ok(states)
+}
+
+/// The same, where so much is read of the declarations.
+fn states_from<'a>(
+    alloc: Global,
+    text: &'a [u8],
+    scope: Option<&[u8]>,
+    clock: &[u8],
+    keys: &[&[u8]],
+    at: When,
+    back: u64,
+    begun: &mut Begun<'a>,
+) -> Result<List<Bits>, VcdFault>
+    requires { length text.now < 2 ^ 63 }
+    ensures { Answers Want (λ states. states) result (states_from (begun_in begun.old) (tokens_from 1 text.now) (option_map (λ path. path.now) scope.entry) clock.now (map (λ key. key.now) keys.now) at back) }
+{
+    let behind = take_words(alloc, 1, text, begun)?;
+    let states = states_of(alloc, &begun.declared, behind, scope, clock, keys, at, back)?;
+    Ok(states)
+}
+
+/// The states of a cycle and of so many before it, out of a text.
+fn read_states(
+    alloc: Global,
+    text: &[u8],
+    scope: Option<&[u8]>,
+    clock: &[u8],
+    keys: &[&[u8]],
+    at: When,
+    back: u64,
+) -> Result<List<Bits>, VcdFault>
+    requires { length text.now < 2 ^ 63 }
+    ensures { Answers Want (λ states. states) result (states_in text.now (option_map (λ path. path.now) scope.entry) clock.now (map (λ key. key.now) keys.now) at back) }
+{
+    let mut begun = nothing(alloc)?;
+    let states = states_from(alloc, text, scope, clock, keys, at, back, &mut begun)?;
+    Ok(states)
+}
+
+/// The bits of these names at the end of a cycle of the text of a VCD, and before them those of so many cycles before it, or of as many
+/// as there are, in the scope with this path or else in that of the first variable that has the clock (docs/FORMATS.md, "Value changes
+/// (VCD)"). The names are keys. It takes one pass over the text, and for a time two.
+#[tactic(auto, using(crate::proofs::CycleLemmas::states_some, crate::proofs::CycleLemmas::states_wide))]
+pub fn states(
+    alloc: Global,
+    text: &[u8],
+    scope: Option<&[u8]>,
+    clock: &[u8],
+    keys: &[&[u8]],
+    at: When,
+    back: u64,
+) -> Result<List<Bits>, VcdFault>
+    requires { length text.now < 2 ^ 63 }
+    ensures is { Answers Want (λ states. states) result (states_in text.now (option_map (λ path. path.now) scope.entry) clock.now (map (λ key. key.now) keys.now) at back) }
+    ensures some { IfOk result (λ states. 0 < length states) }
+    ensures wide { IfOk result (λ states. All (λ s. length s ≡ length keys.now) states) }
+{
+    let states = read_states(alloc, text, scope, clock, keys, at, back)?;
+    Ok(states)
+}
